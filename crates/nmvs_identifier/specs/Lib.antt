@@ -1,0 +1,9 @@
+pub mod Texts
+pub mod Characters
+pub mod Serial
+pub mod Batch
+pub mod ProductCode
+pub mod Expiry
+pub mod Name
+pub mod Moment
+pub mod Pack

@@ -1,0 +1,26 @@
+-- A product code, application identifier 01: a GTIN-14.
+use Rattle.std.specs.Prelude.{ℕ, Bool, List, [], ◌∷◌, length, ◌+◌, ◌*◌, ◌%◌, ◌&&◌, ◌==◌, if◌then◌else◌}
+use Rattle.std.specs.List.{list_all}
+use Rattle.std.specs.Char.{is_ascii_digit, digit_value}
+use Rattle.nmvs_identifier.specs.Texts.{Text}
+
+-- what a clause sees of one
+abbrev pub ProductCode : Type 0
+ProductCode = Text
+
+-- the weight of a place, counted from 0 at the left: 3 and 1 in turn
+abbrev pub weight : ℕ → ℕ
+weight i = if i % 2 == 0 then 3 else 1
+
+-- each digit times the weight of its place, added up, where the first stands at place i
+abbrev pub weighted_sum : ℕ → List ℕ → ℕ
+weighted_sum i [] = 0
+weighted_sum i (d ∷ ds) = weight i * digit_value d + weighted_sum (i + 1) ds
+
+-- whether the last digit checks the others
+abbrev pub is_checked : List ℕ → Bool
+is_checked t = weighted_sum 0 t % 10 == 0
+
+-- whether a text is a product code
+abbrev pub is_product_code : List ℕ → Bool
+is_product_code t = (length t == 14) && list_all is_ascii_digit t && is_checked t

@@ -1,0 +1,5 @@
+pub mod Questions
+pub mod Replies
+pub mod Trail
+pub mod Rules
+pub mod Facts

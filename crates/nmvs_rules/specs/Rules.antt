@@ -1,0 +1,198 @@
+-- The reply that the rules give to a question on a trail.
+use Rattle.std.specs.Prelude.{ℕ, ◌+◌, ◌≡◌, pos, int_lt, nat_le, Bool, true, false, not, ◌&&◌, List, [], ◌∷◌, ◌++◌, Option, Some, None, is_some, if◌then◌else◌}
+use Rattle.nmvs_identifier.specs.Name.{Name}
+use Rattle.nmvs_identifier.specs.Expiry.{Expiry, expiry_day}
+use Rattle.nmvs_identifier.specs.Moment.{day_of}
+use Rattle.nmvs_identifier.specs.declared.pack.Pack.{Pack}
+use Rattle.nmvs_identifier.specs.Texts.{same_text}
+use Rattle.nmvs_rules.specs.declared.actor.Actor.{Actor}
+use Rattle.nmvs_rules.specs.declared.question.Question.{Question}
+use Rattle.nmvs_rules.specs.declared.question.Question.TheVariants.{Upload, Verify, Status, Decommission, Revert, Recall, Withdraw, Theft, Audit}
+use Rattle.nmvs_rules.specs.declared.reply.Reply.{Reply}
+use Rattle.nmvs_rules.specs.declared.reply.Reply.TheVariants as reply
+use Rattle.nmvs_rules.specs.declared.refusal.Refusal.TheVariants as refusal
+use Rattle.nmvs_rules.specs.declared.cause.Cause.{Cause}
+use Rattle.nmvs_rules.specs.declared.cause.Cause.TheVariants as cause
+use Rattle.nmvs_rules.specs.declared.onward.Onward.{Onward}
+use Rattle.nmvs_rules.specs.declared.onward.Onward.TheVariants as onward
+use Rattle.nmvs_rules.specs.declared.own.Own.{Own}
+use Rattle.nmvs_rules.specs.declared.own.Own.TheVariants as own
+use Rattle.nmvs_rules.specs.declared.batch_lock.BatchLock.{BatchLock}
+use Rattle.nmvs_rules.specs.declared.batch_lock.BatchLock.TheVariants as lock
+use Rattle.nmvs_rules.specs.declared.entry.Entry.{Entry}
+use Rattle.nmvs_rules.specs.declared.facts.Mark.{Mark}
+use Rattle.nmvs_rules.specs.declared.facts.Known.{Known}
+use Rattle.nmvs_rules.specs.Questions.{Put, may_ask}
+use Rattle.nmvs_rules.specs.Trail.{known, lock_of, holder_of, alerts_of, about_of, count_of, is_known_batch}
+
+-- an expiry date is past at a moment
+abbrev pub is_past : Expiry → ℕ → Bool
+is_past x moment = int_lt (expiry_day x.bytes) (pos (day_of moment))
+
+abbrev pub is_free : BatchLock → Bool
+is_free lock.Free = true
+is_free _ = false
+
+abbrev pub is_active : Own → Bool
+is_active own.Active = true
+is_active _ = false
+
+abbrev pub is_destroyed : Own → Bool
+is_destroyed own.Destroyed = true
+is_destroyed _ = false
+
+abbrev pub is_stolen : Own → Bool
+is_stolen own.Stolen = true
+is_stolen _ = false
+
+abbrev pub is_supplied : Own → Bool
+is_supplied own.Supplied = true
+is_supplied _ = false
+
+-- why a known pack is not authentic: its lock where not free, else its own status
+abbrev pub cause_by_own : Own → Cause
+cause_by_own own.Active = cause.Unknown
+cause_by_own own.Held = cause.Held
+cause_by_own own.Supplied = cause.Supplied
+cause_by_own own.Exported = cause.Exported
+cause_by_own own.Sampled = cause.Sampled
+cause_by_own own.Destroyed = cause.Destroyed
+cause_by_own own.Stolen = cause.Stolen
+
+abbrev pub cause_of : Own → BatchLock → Cause
+cause_of o lock.Free = cause_by_own o
+cause_of o lock.Recalled = cause.Recalled
+cause_of o lock.Withdrawn = cause.Withdrawn
+
+-- an alert on a known pack is flagged unless the batch is locked or the pack destroyed
+abbrev pub is_flagged : Own → BatchLock → Bool
+is_flagged o k = is_free k && not (is_destroyed o)
+
+abbrev pub onward_by_own : Own → Onward
+onward_by_own own.Active = onward.Stock
+onward_by_own own.Held = onward.Supply
+onward_by_own own.Supplied = onward.Nowhere
+onward_by_own own.Exported = onward.Export
+onward_by_own own.Sampled = onward.Authorities
+onward_by_own own.Destroyed = onward.Disposal
+onward_by_own own.Stolen = onward.Disposal
+
+abbrev pub onward_by : Own → BatchLock → Onward
+onward_by o lock.Free = onward_by_own o
+onward_by o _ = onward.Disposal
+
+abbrev pub is_authentic : Own → BatchLock → Bool
+is_authentic o k = is_active o && is_free k
+
+-- the actor has the authorisation and the premises of the mark's actor
+abbrev pub is_same_place : Actor → Mark → Bool
+is_same_place a m = same_text a.authorisation m.authorisation && same_text a.premises m.premises
+
+-- not more than ten days after the mark
+abbrev pub is_in_time : ℕ → Mark → Bool
+is_in_time moment m = nat_le (day_of moment) (day_of m.moment + 10)
+
+-- the code has another holder than this authorisation
+abbrev pub has_other_holder : Option Name → Name → Bool
+has_other_holder None n = false
+has_other_holder (Some h) n = not (same_text h n)
+
+abbrev pub is_held_by : Option Name → Name → Bool
+is_held_by None n = false
+is_held_by (Some h) n = same_text h n
+
+-- the replies to an admitted question, k the known pack, l the lock of its batch, n the alerts so far
+abbrev pub alert_on : Known → BatchLock → ℕ → Reply
+alert_on k l n = reply.Alert (cause_of k.own l) (is_flagged k.own l) (n + 1)
+
+abbrev pub alert_unknown : ℕ → Reply
+alert_unknown n = reply.Alert cause.Unknown true (n + 1)
+
+abbrev pub verify_reply : ℕ → Known → BatchLock → ℕ → Reply
+verify_reply moment k l n =
+    if is_authentic k.own l then reply.Authentic k.batch k.expiry (is_past k.expiry moment) else alert_on k l n
+
+abbrev pub status_reply : Known → BatchLock → Reply
+status_reply k l = reply.StatusIs k.own l (onward_by k.own l) k.batch k.expiry
+
+abbrev pub decommission_reply : Known → BatchLock → ℕ → Reply
+decommission_reply k l n = if is_authentic k.own l then reply.Decommissioned else alert_on k l n
+
+abbrev pub revert_reply : ℕ → Actor → Known → BatchLock → Reply
+revert_reply moment a k l =
+    if not (is_free l) then reply.Refused refusal.Locked
+    else (if is_active k.own then reply.Refused refusal.StillActive
+    else (if is_stolen k.own then reply.Refused refusal.IsStolen
+    else (if is_destroyed k.own then reply.Refused refusal.IsDestroyed
+    else (if is_supplied k.own then reply.Refused refusal.WasSupplied
+    else (if not (is_same_place a k.mark) then reply.Refused refusal.Other
+    else (if not (is_in_time moment k.mark) then reply.Refused refusal.Late
+    else (if is_past k.expiry moment then reply.Refused refusal.Expired
+    else reply.Reverted)))))))
+
+abbrev pub theft_reply : Actor → Option Name → Known → Reply
+theft_reply a holder k =
+    if not (is_held_by holder a.authorisation) then reply.Refused refusal.NotHolder
+    else (if is_stolen k.own then reply.Refused refusal.Already
+    else reply.MarkedStolen)
+
+abbrev pub lock_reply : Actor → Bool → Option Name → BatchLock → ℕ → Reply
+lock_reply a is_known holder l active =
+    if not is_known then reply.Refused refusal.UnknownBatch
+    else (if not (is_held_by holder a.authorisation) then reply.Refused refusal.NotHolder
+    else (if not (is_free l) then reply.Refused refusal.Already
+    else reply.LockedNow active))
+
+abbrev pub upload_reply : Actor → Option Name → Option Known → Reply
+upload_reply a holder k =
+    if has_other_holder holder a.authorisation then reply.Refused refusal.NotHolder
+    else (if is_some k then reply.Refused refusal.Duplicate
+    else reply.Uploaded)
+
+-- the lock of a known pack is that of its code and batch
+abbrev pub lock_on : List Entry → Pack → Known → BatchLock
+lock_on t p k = lock_of t p.code k.batch
+
+-- a reply where the pack is unknown, and one where it is known
+abbrev pub on_pack : Option Known → Reply → (Known → Reply) → Reply
+on_pack None unknown f = unknown
+on_pack (Some k) unknown f = f k
+
+-- the reply to an admitted question, the first line that applies
+abbrev pub reply_to : List Entry → ℕ → Actor → Question → Reply
+reply_to t moment a (Upload p b x) = upload_reply a (holder_of t p.code) (known t p)
+reply_to t moment a (Verify p) =
+    on_pack (known t p) (alert_unknown (alerts_of t p.code)) (λ k. verify_reply moment k (lock_on t p k) (alerts_of t p.code))
+reply_to t moment a (Status p) = on_pack (known t p) reply.NoPack (λ k. status_reply k (lock_on t p k))
+reply_to t moment a (Decommission p r) =
+    on_pack (known t p) (alert_unknown (alerts_of t p.code)) (λ k. decommission_reply k (lock_on t p k) (alerts_of t p.code))
+reply_to t moment a (Revert p) =
+    on_pack (known t p) (reply.Refused refusal.Unknown) (λ k. revert_reply moment a k (lock_on t p k))
+reply_to t moment a (Recall c b) =
+    lock_reply a (is_known_batch t c b) (holder_of t c) (lock_of t c b) (count_of t c b own.Active)
+reply_to t moment a (Withdraw c b) =
+    lock_reply a (is_known_batch t c b) (holder_of t c) (lock_of t c b) (count_of t c b own.Active)
+reply_to t moment a (Theft p) =
+    on_pack (known t p) (reply.Refused refusal.Unknown) (λ k. theft_reply a (holder_of t p.code) k)
+reply_to t moment a (Audit p) = reply.Shown (about_of t p)
+
+-- the reply of the rules
+abbrev pub reply_of : List Entry → Put → Reply
+reply_of t q =
+    if may_ask q.actor.role q.question then reply_to t q.moment q.actor q.question else reply.Refused refusal.Role
+
+-- the question of an entry, and the entry of a question with its reply
+abbrev pub put_of : Entry → Put
+put_of e = record { moment = e.moment; user = e.user; actor = e.actor; question = e.question }
+
+abbrev pub answered : Put → Reply → Entry
+answered q r = record { moment = q.moment; user = q.user; actor = q.actor; question = q.question; reply = r }
+
+-- each entry of es, which follow the entries u, has the reply of the rules on all entries before it
+abbrev pub IsLawfulAfter : List Entry → List Entry → Type 0
+IsLawfulAfter u [] = Unit {0}
+IsLawfulAfter u (e ∷ es) = (e.reply ≡ reply_of u (put_of e)) × IsLawfulAfter (u ++ e ∷ []) es
+
+-- each entry has the reply of the rules on the entries before it
+abbrev pub IsLawful : List Entry → Type 0
+IsLawful t = IsLawfulAfter [] t

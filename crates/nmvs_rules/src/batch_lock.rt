@@ -1,0 +1,7 @@
+/// Whether a batch was recalled or withdrawn (Article 40).
+#[derive(Clone, Copy, Debug, PartialEq, Eq)]
+pub enum BatchLock {
+    Free,
+    Recalled,
+    Withdrawn,
+}

@@ -1,0 +1,14 @@
+/// Why authenticity is not confirmed (Article 36).
+#[derive(Clone, Copy, Debug, PartialEq, Eq)]
+pub enum Cause {
+    /// The repository has no such pack.
+    Unknown,
+    Recalled,
+    Withdrawn,
+    Held,
+    Supplied,
+    Exported,
+    Sampled,
+    Destroyed,
+    Stolen,
+}

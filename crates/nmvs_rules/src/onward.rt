@@ -1,0 +1,10 @@
+/// Where a pack may go from here (Article 12; the words are own).
+#[derive(Clone, Copy, Debug, PartialEq, Eq)]
+pub enum Onward {
+    Stock,
+    Supply,
+    Export,
+    Disposal,
+    Authorities,
+    Nowhere,
+}

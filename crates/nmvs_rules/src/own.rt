@@ -1,0 +1,12 @@
+/// The status that a pack has by its own last accepted operation, whatever its batch (Articles 22, 25 and 40).
+#[derive(Clone, Copy, Debug, PartialEq, Eq)]
+pub enum Own {
+    Active,
+    /// Decommissioned for supply, still in possession.
+    Held,
+    Supplied,
+    Exported,
+    Sampled,
+    Destroyed,
+    Stolen,
+}
