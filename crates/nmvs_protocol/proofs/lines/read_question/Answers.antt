@@ -1,5 +1,4 @@
 use Rattle.std.proofs.Common.{◌≡◌, sym, ◌∙◌, ap, ◌+◌, length, [], ◌∷◌}
-use Rattle.nmvs_words.specs.declared.question_kind.QuestionKind.{QuestionKind}
 use Rattle.nmvs_protocol.specs.Fields.{fields_in}
 use Rattle.nmvs_protocol.specs.Lines.{grammars}
 use Rattle.nmvs_protocol.proofs.LineLemmas.{last_two, last_four}
@@ -9,8 +8,8 @@ pub returns-in_ok-expiry-in-Upload-clause-texts : goal.returns-in_ok-expiry-in-U
 returns-in_ok-expiry-in-Upload-clause-texts c =
     let six : length (fields_in c.args.text.now) ≡ 6 = c.requires.count ∙ ap (λ k. 2 + length (grammars k)) c.in-Upload.is in
     (λ i.
-        c.in_ok-code.ensures.kept i ∷ c.in_ok-serial-in-Upload.ensures.kept i ∷ c.in_ok-batch-in-Upload.ensures.kept i
-        ∷ c.in_ok-expiry-in-Upload.ensures.kept i ∷ [])
+    c.in_ok-code.ensures.kept i ∷ c.in_ok-serial-in-Upload.ensures.kept i ∷ c.in_ok-batch-in-Upload.ensures.kept i
+    ∷ c.in_ok-expiry-in-Upload.ensures.kept i ∷ [])
     ∙ sym (last_four (fields_in c.args.text.now) six)
 
 pub returns-in_ok-serial-in-OfPack-clause-texts : goal.returns-in_ok-serial-in-OfPack-clause-texts
