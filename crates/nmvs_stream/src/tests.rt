@@ -41,6 +41,7 @@ fn a_sink_takes_the_bytes(rt: HostRuntime) {
     assert_eq!(rt; sink.write(b"BYE"), Ok(3));
     assert_eq!(rt; sink.write(b"\n"), Ok(1));
     assert_eq!(rt; sink.flush(), Ok(()));
+    drop(sink);
     assert_eq!(rt; bytes.as_slice(), b"BYE\n".as_slice());
 }
 
