@@ -1,1 +1,4 @@
 pub mod FactsLemmas
+pub mod FindLemmas
+pub mod PushLemmas
+pub mod TextLemmas
