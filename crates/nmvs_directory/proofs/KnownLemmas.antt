@@ -25,6 +25,6 @@ pub actor_of-add : (xs ys : List Change) (c : Change) (user : Name) (before afte
     → before ≡ actor_of xs user → after ≡ cond (same_text c.user user) (Some c.actor) before → after ≡ actor_of ys user
 actor_of-add xs ys c user before after more was now =
     now ∙ (ap (cond (same_text c.user user) (Some c.actor)) was
-      ∙ (sym (found (same_text c.user user) c (last_change xs user))
-      ∙ (ap (option_map (λ change. change.actor)) (sym (last_change-add xs c user))
-      ∙ ap (λ zs. actor_of zs user) (sym more))))
+    ∙ (sym (found (same_text c.user user) c (last_change xs user))
+    ∙ (ap (option_map (λ change. change.actor)) (sym (last_change-add xs c user))
+    ∙ ap (λ zs. actor_of zs user) (sym more))))

@@ -10,6 +10,8 @@ mod look;
 mod naming;
 mod notice;
 mod registrar;
+#[cfg(test)]
+mod tests;
 mod users;
 mod window;
 

@@ -28,10 +28,7 @@ impl<J: Naming, A: Allocator> Model for Window<J, A> {
 }
 
 impl<J: Naming, A: Allocator> Window<J, A> {
-    pub(crate) fn new(
-        handle: ReadHandle<Users<J, A>, A>,
-        seen: History<J>,
-    ) -> Window<J, A>
+    pub(crate) fn new(handle: ReadHandle<Users<J, A>, A>, seen: History<J>) -> Window<J, A>
         ensures { result ≡ seen }
     {
         Window { handle, seen }
