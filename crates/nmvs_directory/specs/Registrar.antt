@@ -1,7 +1,8 @@
 -- The two parts of a directory's one list of changes.
-use Rattle.std.specs.Prelude.{List, length, drop}
+use Rattle.std.specs.Prelude.{List}
 use Rattle.left_right.specs.Handles
 use Rattle.left_right.specs.declared.Absorb
+use Rattle.nmvs_directory.specs.Changes.{pending_changes}
 use Rattle.nmvs_directory.specs.declared.change.Change.{Change}
 use Rattle.nmvs_directory.specs.declared.history.History.{History}
 use Rattle.nmvs_directory.specs.declared.naming.Naming.{Ghosts}
@@ -15,4 +16,4 @@ module _ {J R A : Type 0} {g : Ghosts J} {a : Absorb.Ghosts (Users J A) (History
 
   -- the changes that the next publication adds (own)
   abbrev pub pending : Registrar J R A g a → List Change
-  pending r = drop (length (published r)) r.changes.all
+  pending r = pending_changes r.changes

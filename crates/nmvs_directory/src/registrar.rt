@@ -1,5 +1,5 @@
 //! Who changes the users.
-ghost use Rattle.std.specs.Prelude.{◌≡◌, ◌++◌, [], fold, drop, length, MatchResult, IfOk};
+ghost use Rattle.std.specs.Prelude.{◌≡◌, ◌++◌, [], fold, MatchResult, IfOk};
 ghost use Rattle.left_right.specs.Handles;
 
 use crate::history::{History, Tail};
@@ -18,12 +18,13 @@ where
     /// Where users are enrolled and suspended, which waits for nobody.
     pub changes: Changes<J, A>,
     writer: WriteHandle<Users<J, A>, History<J>, R, A>,
-    ghost begins: { changes.all ≡ Handles.published writer ++ drop (length (Handles.published writer)) changes.all },
-    ghost ends: { fold (λ changes longer. longer) (Handles.published writer) (Handles.pending writer ++ changes.waiting.items) ≡ changes.all },
+    ghost shown: { Handles.published writer ≡ changes.published },
+    ghost handed: { fold (λ changes longer. longer) (Handles.published writer) (Handles.pending writer) ≡ changes.handed },
 }
 
 impl<J: Naming, R: Wait + Drop, A: Allocator> Registrar<J, R, A> {
     ghost use Rattle.nmvs_directory.specs.Registrar.{published, pending};
+    ghost use Rattle.nmvs_directory.specs.Changes.{IsSameList};
 
     pub(crate) fn new(
         tail: Tail<J>,
@@ -44,15 +45,14 @@ impl<J: Naming, R: Wait + Drop, A: Allocator> Registrar<J, R, A> {
     /// Hands the pending changes to the writer, which may have no memory for them.
     fn hand_over(&mut self) -> Result<(), AllocError>
         ensures published { published self.new ≡ published self.old }
-        ensures pending { pending self.new ≡ pending self.old }
-        ensures all { self.new.changes.all ≡ self.old.changes.all }
+        ensures list { IsSameList self.old.changes self.new.changes }
         ensures waiting { IfOk result (λ _. self.new.changes.waiting.items ≡ []) }
     {
-        while let Some(history) = self.changes.waiting.pop_front() {
-            if let Err(history) = self.writer.append(history) {
-                self.changes.waiting.push_front_reserved(history);
+        while let Some(first) = self.changes.first_waiting() {
+            if self.writer.append(first.again()).is_err() {
                 return Err(AllocError);
             }
+            self.changes.hand_first(first);
         }
         Ok(())
     }
@@ -65,6 +65,7 @@ impl<J: Naming, R: Wait + Drop, A: Allocator> Registrar<J, R, A> {
     {
         self.hand_over()?;
         self.writer.publish()?;
+        self.changes.publish();
         Ok(Notice::new(self.changes.all.again()))
     }
 

@@ -1,9 +1,10 @@
 use Rattle.std.proofs.Common.{◌≡◌, deque_len}
+use Rattle.nmvs_directory.specs.Changes.{IsSameList}
 use Rattle.nmvs_directory.specs.Registrar.{published}
 use Rattle.nmvs_directory.proofs.registrar.Registrar.hand_over.Given as goal
 
-abbrev pub invariant-loop-history : goal.invariant-loop-history
-invariant-loop-history g l = (published l.self ≡ published l.fn.self) × (l.self.changes.all ≡ l.fn.self.changes.all)
+abbrev pub invariant-loop-first : goal.invariant-loop-first
+invariant-loop-first g l = (published l.self ≡ published l.fn.self) × IsSameList l.fn.self.changes l.self.changes
 
-abbrev pub decreases-loop-history : goal.decreases-loop-history
-decreases-loop-history g l = deque_len l.self.changes.waiting
+abbrev pub decreases-loop-first : goal.decreases-loop-first
+decreases-loop-first g l = deque_len l.self.changes.waiting
