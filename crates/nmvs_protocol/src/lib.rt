@@ -8,6 +8,8 @@ mod commands;
 mod fields;
 mod laws;
 mod line_fault;
+#[cfg(test)]
+mod line_tests;
 mod lines;
 
 pub use ask::Ask;
