@@ -9,3 +9,6 @@ pub mod BirthLemmas
 pub mod MarkLemmas
 pub mod ReversionLemmas
 pub mod VerificationLemmas
+pub mod CourseLemmas
+pub mod RecallLemmas
+pub mod AlertLemmas
