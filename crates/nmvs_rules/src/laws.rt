@@ -8,12 +8,12 @@ ghost use Rattle.nmvs_rules.specs.declared.entry.Entry.{Entry};
 ghost use Rattle.nmvs_rules.specs.declared.question.Question.TheVariants.{Verify, Revert};
 ghost use Rattle.nmvs_rules.specs.declared.reply.Reply.TheVariants as reply;
 ghost use Rattle.nmvs_rules.specs.declared.facts.Known.{Known};
-ghost use Rattle.std.specs.List.{list_any};
+ghost use Rattle.std.specs.List.{list_any, range_with_len};
 ghost use Rattle.nmvs_rules.specs.declared.batch_lock.BatchLock.TheVariants as lock;
 ghost use Rattle.nmvs_rules.specs.Questions.{Put, code_of, may_ask};
 ghost use Rattle.nmvs_rules.specs.Rules.{reply_of, is_past, IsLawful};
-ghost use Rattle.nmvs_rules.specs.Trail.{known, own_by, is_mark, lock_of, locks_batch, is_accepted};
-ghost use Rattle.nmvs_rules.specs.Laws.{part_of, kept, placed_at, uploads, IsUploadedWith, IsInCirculation, IsRevertible, may_become, decommissions, supplies, reverts, confirms, IsOfBatch};
+ghost use Rattle.nmvs_rules.specs.Trail.{known, own_by, is_mark, lock_of, locks_batch, is_accepted, alerts_of};
+ghost use Rattle.nmvs_rules.specs.Laws.{alert_numbers, part_of, kept, placed_at, uploads, IsUploadedWith, IsInCirculation, IsRevertible, may_become, decommissions, supplies, reverts, confirms, IsOfBatch};
 
 /// Locality: the reply to a question rests on the entries with its product code alone.
 pub fn locality()
@@ -84,4 +84,10 @@ pub fn recall_binds()
         IsTrue (locks_batch c b recall.question && is_accepted recall) →
         IsOfBatch (before ++ recall ∷ between ++ later ∷ after) p c b →
         IsFalse (decommissions p later) × IsFalse (reverts p later) × IsFalse (confirms p later) }
+{}
+
+/// Alerts: in a lawful trail the alerts on a product code have the numbers 1, 2, 3 and so on, in order (Article 36).
+pub fn alerts()
+    ensures { (t : List Entry) (c : ProductCode) → IsLawful t →
+        alert_numbers t c ≡ range_with_len 1 (alerts_of t c) }
 {}
