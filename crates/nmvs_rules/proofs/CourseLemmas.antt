@@ -75,9 +75,6 @@ course t e p k lawful is marks = by e.question refl
     by q h =
         let none : false ≡ true = second_so (names p (pack_of q)) (accepts q e.reply) (sym (ap (λ q. names p (pack_of q) && accepts q e.reply) h) ∙ marks) in cc
 
-pub course-in : (before after : List Entry) (e : Entry) (p : Pack) (k : Known) → IsLawful (before ++ e ∷ after) → known before p ≡ Some k → is_mark p e ≡ true → may_become k.own (own_by e.question) ≡ true
-course-in before after e p k lawful = course before e p k (IsLawful-rest before (e ∷ after) lawful).0
-
 -- what is known of a pack after an accepted operation on it
 known-after-mark : (t : List Entry) (e : Entry) (p : Pack) (k : Known) → known t p ≡ Some k → is_mark p e ≡ true → known (t ++ e ∷ []) p ≡ Some (record k { own = own_by e.question; mark = mark_after (length t) e })
 known-after-mark t e p k is marks =
@@ -87,6 +84,11 @@ known-after-mark t e p k is marks =
 
 known-after-other : (t : List Entry) (e : Entry) (p : Pack) → is_mark p e ≡ false → known (t ++ e ∷ []) p ≡ known t p
 known-after-other t e p other = known-push t e p ∙ ap (λ b. cond b (marked_by (length t) e (known t p)) (known t p)) other
+
+pub course-in : (before after : List Entry) (e : Entry) (p : Pack) (k : Known) → IsLawful (before ++ e ∷ after) → known before p ≡ Some k → (is_mark p e ≡ false → known (before ++ e ∷ []) p ≡ Some k) × (is_mark p e ≡ true → may_become k.own (own_by e.question) ≡ true)
+course-in before after e p k lawful is = (
+    λ other. known-after-other before e p other ∙ is,
+    λ marks. course before e p k (IsLawful-rest before (e ∷ after) lawful).0 is marks)
 
 -- the pack is known, and its own status passes a test
 abbrev pub Stands : (Own → Bool) → List Entry → Pack → Type 0

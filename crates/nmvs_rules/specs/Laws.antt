@@ -1,5 +1,6 @@
 -- What the laws over the rules speak of.
-use Rattle.std.specs.Prelude.{ℕ, ◌≡◌, ◌≢◌, ◌+◌, ◌≤◌, ◌==◌, pos, ◌≤ℤ◌, Bool, true, false, ◌&&◌, ◌||◌, IsTrue, List, filter, filter_map, Option, Some, None, IsSomeAnd}
+use Rattle.std.specs.Prelude.{ℕ, ◌≡◌, ◌≢◌, ◌+◌, ◌≤◌, ◌==◌, pos, ◌≤ℤ◌, Bool, true, false, ◌&&◌, ◌||◌, IsTrue, if◌then◌else◌, List, [], ◌∷◌, length, filter, filter_map, Option, Some, None, IsSomeAnd}
+use Rattle.std.specs.List.{list_any}
 use Rattle.nmvs_identifier.specs.Batch.{Batch}
 use Rattle.nmvs_identifier.specs.Expiry.{Expiry, expiry_day}
 use Rattle.nmvs_identifier.specs.Moment.{day_of}
@@ -15,7 +16,7 @@ use Rattle.nmvs_rules.specs.declared.reply.Reply.{Reply}
 use Rattle.nmvs_rules.specs.declared.reply.Reply.TheVariants as reply
 use Rattle.nmvs_rules.specs.declared.entry.Entry.{Entry}
 use Rattle.nmvs_rules.specs.Questions.{Put, code_of}
-use Rattle.nmvs_rules.specs.Trail.{has_code, uploads_batch, is_upload, is_about, is_accepted, is_mark, born, mark, own_of, lock_of}
+use Rattle.nmvs_rules.specs.Trail.{has_code, uploads_batch, locks_batch, is_upload, is_about, is_accepted, is_mark, born, mark, own_of, lock_of}
 
 -- the entries with a product code, in order (own)
 abbrev pub part_of : List Entry → ProductCode → List Entry
@@ -28,6 +29,21 @@ kept keep t = filter (λ e. keep (code_of e.question).bytes) t
 -- the entries whose product code has a place by its text, in order (own)
 abbrev pub placed_at : (List ℕ → ℕ) → ℕ → List Entry → List Entry
 placed_at place i t = kept (λ c. place c == i) t
+
+-- the entries of one owner, in order, where the owners are listed beside the entries (own)
+abbrev pub owned : List ℕ → List Entry → ℕ → List Entry
+owned (o ∷ owners) (e ∷ t) i = if o == i then e ∷ owned owners t i else owned owners t i
+owned owners t i = []
+
+-- a merging of lists: each entry belongs to one list, each entry of each list is used, and each list keeps its order (own)
+abbrev pub IsMerging : (ℕ → List Entry) → List Entry → Type 0
+IsMerging lists t = (owners : List ℕ) × (length owners ≡ length t) × ((i : ℕ) → owned owners t i ≡ lists i)
+
+-- no product code stands in two of the lists (own)
+abbrev pub IsApart : (ℕ → List Entry) → Type 0
+IsApart lists =
+    (c : ProductCode) (i j : ℕ) →
+    IsTrue (list_any (has_code c) (lists i)) → IsTrue (list_any (has_code c) (lists j)) → i ≡ j
 
 abbrev pub is_decommissioning : Question → Bool
 is_decommissioning (Decommission _ _) = true
@@ -65,6 +81,10 @@ reverts p e = is_mark p e && is_reversion e.question
 -- a verification of the pack that is answered Authentic (Article 11)
 abbrev pub confirms : Pack → Entry → Bool
 confirms p e = is_about p e && is_confirmed e.question e.reply
+
+-- whether the entry is an accepted recall or withdrawal of the batch (Article 40)
+abbrev pub binds : ProductCode → Batch → Entry → Bool
+binds c b e = locks_batch c b e.question && is_accepted e
 
 -- the trail has an accepted upload of the pack, with this batch and this expiry date (Article 4)
 abbrev pub IsUploadedWith : List Entry → Pack → Batch → Expiry → Type 0
