@@ -1,13 +1,12 @@
 -- Births of packs: known packs, and one accepted upload for each.
-use Rattle.std.proofs.Common.{◌≡◌, ℕ, ◌+◌, ◌≤◌, Bool, true, false, ◌&&◌, cond, List, [], ◌∷◌, ◌++◌, Option, Some, None, refl, sym, ap, subst, ◌∙◌, arith}
-use Rattle.std.specs.Cmp.{first_so, second_so}
-use Rattle.std.specs.List.{find, count_by}
+use Rattle.std.proofs.Common.{◌≡◌, ℕ, ◌+◌, ◌≤◌, Bool, true, false, cond, List, [], ◌∷◌, ◌++◌, Option, Some, None, refl, sym, ap, subst, ◌∙◌, arith}
+use Rattle.std.specs.Cmp.{first_so}
+use Rattle.std.specs.List.{count_by}
 use Rattle.std.specs.Option.{is_some, option_or, unwrap_or}
 use Rattle.nmvs_identifier.specs.declared.pack.Pack.{Pack}
 use Rattle.nmvs_rules.specs.declared.question.Question.{Question}
 use Rattle.nmvs_rules.specs.declared.question.Question.TheVariants.{Upload}
 use Rattle.nmvs_rules.specs.declared.entry.Entry.{Entry}
-use Rattle.nmvs_rules.specs.declared.facts.Known.{Known}
 use Rattle.nmvs_rules.specs.Trail.{born, mark, known, known_from, known_at, is_upload}
 use Rattle.nmvs_rules.specs.Rules.{reply_of, put_of, IsLawful}
 use Rattle.nmvs_rules.specs.Laws.{uploads}

@@ -2,6 +2,7 @@
 use Rattle.std.proofs.Common.{◌≡◌, ◌-◌, true, not, ◌&&◌, List, Option, Some, None, count_by, length, reverse, refl, sym, ap, ◌∙◌}
 use Rattle.std.specs.Str.{bytes_eq}
 use Rattle.std.specs.Cmp.{first_so, second_so}
+use Rattle.std.specs.Cmp.Derive.{both_true}
 use Rattle.std.specs.List.{find, list_any, suffix_len}
 use Rattle.std.specs.Option.{unwrap_or, option_map, option_map_or}
 use Rattle.std.proofs.lemmas.Slice.Eq.{bytes_eq-Decides}
@@ -42,7 +43,7 @@ pub same_pack-serial : (p q : Pack) → same_pack p q ≡ true → same_text p.s
 same_pack-serial p q same = second_so (same_text p.code q.code) _ same
 
 pub same_pack-from_texts : (p q : Pack) → same_text p.code q.code ≡ true → same_text p.serial q.serial ≡ true → same_pack p q ≡ true
-same_pack-from_texts p q code serial = ap (λ b. b && same_text p.serial q.serial) code ∙ serial
+same_pack-from_texts p q code serial = both_true code serial
 
 pub same_pack-refl : (p : Pack) → same_pack p p ≡ true
 same_pack-refl p = same_pack-from_texts p p (same_text-refl p.code) (same_text-refl p.serial)

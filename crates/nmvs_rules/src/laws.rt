@@ -52,15 +52,15 @@ pub fn verification()
     ensures { (t : List Entry) (q : Put) (p : Pack) (b : Batch) (x : Expiry) (expired : Bool) →
         q.question ≡ Verify p →
         (reply_of t q ≡ reply.Authentic b x expired) ↔
-            (IsTrue (may_ask q.actor.role q.question) × IsUploadedWith t p b x × IsInCirculation t p
-                × (lock_of t p.code b ≡ lock.Free) × (expired ≡ is_past x q.moment)) }
+        (IsTrue (may_ask q.actor.role q.question) × IsUploadedWith t p b x × IsInCirculation t p
+        × (lock_of t p.code b ≡ lock.Free) × (expired ≡ is_past x q.moment)) }
 {}
 
 /// A reversion is accepted exactly where the role may revert and all that Article 13(1) asks for is met.
 pub fn reversion()
     ensures { (t : List Entry) (q : Put) (p : Pack) → q.question ≡ Revert p →
         (reply_of t q ≡ reply.Reverted) ↔
-            (IsTrue (may_ask q.actor.role q.question) × IsRevertible t p q) }
+        (IsTrue (may_ask q.actor.role q.question) × IsRevertible t p q) }
 {}
 
 /// In a lawful trail the own status of a known pack changes by accepted entries about it alone, each of which takes it to a
@@ -69,7 +69,7 @@ pub fn course()
     ensures { (before after : List Entry) (e : Entry) (p : Pack) (k : Known) →
         IsLawful (before ++ e ∷ after) → known before p ≡ Some k →
         (IsFalse (is_mark p e) → known (before ++ e ∷ []) p ≡ Some k)
-            × (IsTrue (is_mark p e) → IsTrue (may_become k.own (own_by e.question))) }
+        × (IsTrue (is_mark p e) → IsTrue (may_become k.own (own_by e.question))) }
 {}
 
 /// Between two accepted decommissionings of a pack stands an accepted reversion (Articles 12 and 13).
