@@ -125,9 +125,6 @@ pub on_pack-forget : (o : Option Known) (u : Reply) (f : Known → Reply) → ((
 on_pack-forget None u f h = refl
 on_pack-forget (Some k) u f h = h k
 
-pub revert-forget : (n : ℕ) (a : Actor) (l : BatchLock) (k : Known) → revert_reply n a (forget k) l ≡ revert_reply n a k l
-revert-forget n a l k = refl
-
 pub locks-code : (c : ProductCode) (b : Batch) (q : Question) → locks_batch c b q ≡ true → same_text c (code_of q) ≡ true
 locks-code c b (Recall d e) h = first_so _ _ h
 locks-code c b (Withdraw d e) h = first_so _ _ h
