@@ -39,7 +39,7 @@ reply_to-numbered t n a (Theft p) = on_pack-numbered _ (known t p) _ _ (λ m is.
 reply_to-numbered t n a (Audit p) = λ m is. grind arith
 
 -- an alert has the number after the alerts on its product code so far
-pub alert-numbered : (t : List Entry) (q : Put) → IsNumbered (alerts_of t (code_of q.question) + 1) (reply_of t q)
+alert-numbered : (t : List Entry) (q : Put) → IsNumbered (alerts_of t (code_of q.question) + 1) (reply_of t q)
 alert-numbered t q = by (may_ask q.actor.role q.question)
   where
     by : (b : Bool) → IsNumbered (alerts_of t (code_of q.question) + 1) (cond b (reply_to t q.moment q.actor q.question) (reply.Refused refusal.Role))

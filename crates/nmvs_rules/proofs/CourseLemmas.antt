@@ -93,7 +93,7 @@ abbrev pub Stands : (Own → Bool) → List Entry → Pack → Type 0
 Stands passes t p = KnownAnd t p (λ k. passes k.own ≡ true)
 
 -- a test on own statuses that holds along the course holds of a pack for ever
-pub Stands-push : (passes : Own → Bool) → ((o w : Own) → passes o ≡ true → may_become o w ≡ true → passes w ≡ true) → (t : List Entry) (e : Entry) (p : Pack) → Stands passes t p → e.reply ≡ reply_of t (put_of e) → Stands passes (t ++ e ∷ []) p
+Stands-push : (passes : Own → Bool) → ((o w : Own) → passes o ≡ true → may_become o w ≡ true → passes w ≡ true) → (t : List Entry) (e : Entry) (p : Pack) → Stands passes t p → e.reply ≡ reply_of t (put_of e) → Stands passes (t ++ e ∷ []) p
 Stands-push passes keeps t e p h lawful = by (is_mark p e) refl
   where
     by : (b : Bool) → is_mark p e ≡ b → Stands passes (t ++ e ∷ []) p

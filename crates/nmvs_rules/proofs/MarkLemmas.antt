@@ -24,7 +24,7 @@ some-or (Some y) true x = refl
 some-or (Some y) false x = refl
 
 -- a list has a last element that passes where it has one that passes
-pub is_some-find-reverse : {X : Type 0} (p : X → Bool) (xs : List X) → is_some (find p (reverse xs)) ≡ list_any p xs
+is_some-find-reverse : {X : Type 0} (p : X → Bool) (xs : List X) → is_some (find p (reverse xs)) ≡ list_any p xs
 is_some-find-reverse p [] = refl
 is_some-find-reverse {X} p (x ∷ xs) =
     ap (λ z. is_some (find p z)) (reverse-append {A = X} (x ∷ []) xs)
@@ -37,7 +37,7 @@ is-some None h = cc
 is-some (Some x) h = (x, refl)
 
 -- a pack that was uploaded has a mark
-pub mark-of-born : (t : List Entry) (p : Pack) (u : Entry) → born t p ≡ Some u → (m : Entry) × (mark t p ≡ Some m)
+mark-of-born : (t : List Entry) (p : Pack) (u : Entry) → born t p ≡ Some u → (m : Entry) × (mark t p ≡ Some m)
 mark-of-born t p u h =
     let passes : uploads p u ≡ true = find-passes (uploads p) t u h in
     let about = second_so (is_upload u.question) _ (first_so _ _ passes) in
