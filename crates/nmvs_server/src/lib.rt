@@ -1,0 +1,4 @@
+//! trial
+#![tactic(auto)]
+mod roster;
+pub use roster::actor_of;
