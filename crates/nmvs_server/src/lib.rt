@@ -1,4 +1,0 @@
-//! trial
-#![tactic(auto)]
-mod roster;
-pub use roster::actor_of;
