@@ -82,7 +82,7 @@ abbrev pub is_holder : Role → Bool
 is_holder role.Holder = true
 is_holder _ = false
 
--- a competent authority, which is shown the record of operations (Article 35)
+-- a competent authority, which is shown the record of operations (Articles 35 and 39)
 abbrev pub is_authority : Role → Bool
 is_authority role.Authority = true
 is_authority _ = false

@@ -11,6 +11,7 @@ mod decision;
 mod entry;
 mod facts;
 mod holding;
+pub mod laws;
 mod onward;
 mod own;
 mod question;
@@ -19,6 +20,8 @@ mod refusal;
 mod reply;
 mod reversion;
 mod role;
+#[cfg(test)]
+mod tests;
 
 pub use actor::Actor;
 pub use admission::may;
