@@ -2,3 +2,4 @@ pub mod FieldLemmas
 pub mod LineLemmas
 pub mod PlainLemmas
 pub mod SpellingLemmas
+pub mod CommandLemmas
