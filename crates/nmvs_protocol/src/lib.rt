@@ -1,11 +1,23 @@
-//! The lines of users and registrars.
+//! The lines of users and registrars, the replies, and sessions.
 #![tactic(auto)]
 
+mod answer;
 mod ask;
+mod desk;
+mod end;
 mod fields;
+mod limits;
 mod line_fault;
 mod lines;
+mod replies;
+mod turn;
 
+pub use answer::Answer;
 pub use ask::Ask;
+pub use desk::Desk;
+pub use end::End;
+pub use limits::Limits;
 pub use line_fault::LineFault;
 pub use lines::read_line;
+pub use replies::reply_text;
+pub use turn::Turn;

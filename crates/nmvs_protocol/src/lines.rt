@@ -71,7 +71,11 @@ fn read_question(text: &str, kind: QuestionKind) -> Result<Question, LineFault>
             let batch = batch_at(text, 4)?;
             let expiry = expiry_at(text, 5)?;
             let pack = Pack { code, serial };
-            Ok(Question::Upload { pack, batch, expiry })
+            Ok(Question::Upload {
+                pack,
+                batch,
+                expiry,
+            })
         }
         QuestionKind::OfPack(asked) => {
             let serial = serial_at(text, 3)?;
