@@ -12,7 +12,7 @@ pub(crate) fn printable_text(bytes: &[u8]) -> Option<&str>
     if !are_printable(bytes) {
         return None;
     }
-    str::from_utf8(bytes).ok()
+    Some(str::from_utf8(bytes).unwrap())
 }
 
 fn are_printable(bytes: &[u8]) -> bool

@@ -103,7 +103,7 @@ fn user_at(text: &str, k: usize) -> Result<Name, LineFault>
     ensures kept { IfOk result (λ user. user.bytes ≡ field text.now k) }
     ensures fault { IfErr result (λ fault. (fault ≡ LineFault.User) × (is_name (field text.now k) ≡ false)) }
 {
-    Name::read(field_at(text, k)).map_err(|_| LineFault::User)
+    Name::read(field_at(text, k)).or(Err(LineFault::User))
 }
 
 fn code_at(text: &str, k: usize) -> Result<ProductCode, LineFault>
@@ -111,7 +111,7 @@ fn code_at(text: &str, k: usize) -> Result<ProductCode, LineFault>
     ensures kept { IfOk result (λ code. code.bytes ≡ field text.now k) }
     ensures fault { IfErr result (λ fault. (fault ≡ LineFault.Code) × (is_product_code (field text.now k) ≡ false)) }
 {
-    ProductCode::read(field_at(text, k)).map_err(|_| LineFault::Code)
+    ProductCode::read(field_at(text, k)).or(Err(LineFault::Code))
 }
 
 fn serial_at(text: &str, k: usize) -> Result<Serial, LineFault>
@@ -119,7 +119,7 @@ fn serial_at(text: &str, k: usize) -> Result<Serial, LineFault>
     ensures kept { IfOk result (λ serial. serial.bytes ≡ field text.now k) }
     ensures fault { IfErr result (λ fault. (fault ≡ LineFault.Serial) × (is_serial (field text.now k) ≡ false)) }
 {
-    Serial::read(field_at(text, k)).map_err(|_| LineFault::Serial)
+    Serial::read(field_at(text, k)).or(Err(LineFault::Serial))
 }
 
 fn batch_at(text: &str, k: usize) -> Result<Batch, LineFault>
@@ -127,7 +127,7 @@ fn batch_at(text: &str, k: usize) -> Result<Batch, LineFault>
     ensures kept { IfOk result (λ batch. batch.bytes ≡ field text.now k) }
     ensures fault { IfErr result (λ fault. (fault ≡ LineFault.Batch) × (is_batch (field text.now k) ≡ false)) }
 {
-    Batch::read(field_at(text, k)).map_err(|_| LineFault::Batch)
+    Batch::read(field_at(text, k)).or(Err(LineFault::Batch))
 }
 
 fn expiry_at(text: &str, k: usize) -> Result<Expiry, LineFault>
@@ -135,5 +135,5 @@ fn expiry_at(text: &str, k: usize) -> Result<Expiry, LineFault>
     ensures kept { IfOk result (λ expiry. expiry.bytes ≡ field text.now k) }
     ensures fault { IfErr result (λ fault. (fault ≡ LineFault.Expiry) × (is_expiry (field text.now k) ≡ false)) }
 {
-    Expiry::read(field_at(text, k)).map_err(|_| LineFault::Expiry)
+    Expiry::read(field_at(text, k)).or(Err(LineFault::Expiry))
 }
