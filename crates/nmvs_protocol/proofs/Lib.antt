@@ -1,2 +1,6 @@
 pub mod FieldLemmas
 pub mod LineLemmas
+pub mod KeptLines
+pub mod LinesOfPieces
+pub mod QuitLines
+pub mod SessionSteps

@@ -9,7 +9,10 @@ mod fields;
 mod limits;
 mod line_fault;
 mod lines;
+mod pending_line;
+mod put;
 mod replies;
+mod session;
 mod turn;
 
 pub use answer::Answer;
@@ -20,4 +23,5 @@ pub use limits::Limits;
 pub use line_fault::LineFault;
 pub use lines::read_line;
 pub use replies::reply_text;
+pub use session::serve;
 pub use turn::Turn;

@@ -1,22 +1,28 @@
-ghost use Rattle.std.specs.Prelude.{◌≡◌, ◌++◌, ◌∷◌, [], ℕ, List, take};
+ghost use Rattle.std.specs.Prelude.{◌≡◌, ◌++◌, ◌∷◌, []};
+ghost use Rattle.nmvs_protocol.specs.Progress.{kept};
+ghost use Rattle.nmvs_protocol.specs.Session.{Reads};
 
 use crate::{Ask, LineFault, read_line};
 use arrayvec::ArrayVec;
 use std::marker::Model;
 
-/// A line whose LF has not come. Of a line of more than 200 bytes it keeps the first 201, which are
-/// enough to judge it.
+/// A line whose LF hasn't come. Of a long line it keeps as much as is needed to judge it.
 #[derive(Drop)]
 pub(crate) struct PendingLine {
     bytes: ArrayVec<u8, 201>,
 }
 
-impl PendingLine {
-    ghost use Rattle.nmvs_protocol.specs.PendingLine.{Holds};
-    ghost use Rattle.nmvs_protocol.specs.Session.{Reads};
+impl Model for PendingLine {
+    ghost use Rattle.std.specs.Prelude.{ℕ, List};
 
+    ghost Value = { List ℕ };
+
+    ghost view = { λ p. p.bytes.items };
+}
+
+impl PendingLine {
     pub(crate) fn new() -> PendingLine
-        ensures { Holds result [] }
+        ensures { result ≡ [] }
     {
         PendingLine {
             bytes: ArrayVec::new(),
@@ -24,7 +30,7 @@ impl PendingLine {
     }
 
     pub(crate) fn push(&mut self, byte: u8)
-        ensures { (cur : List ℕ) → Holds self.old cur → Holds self.new (cur ++ byte ∷ []) }
+        ensures { self.new ≡ kept (self.old ++ byte ∷ []) }
     {
         if !self.bytes.is_full() {
             self.bytes.push(byte);
@@ -33,7 +39,7 @@ impl PendingLine {
 
     /// Reads the line as if it were whole.
     pub(crate) fn read(&self) -> Result<Ask, LineFault>
-        ensures { (cur : List ℕ) → Holds self.now cur → Reads cur result }
+        ensures { Reads self.now result }
     {
         read_line(&self.bytes)
     }

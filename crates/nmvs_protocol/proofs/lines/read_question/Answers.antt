@@ -9,8 +9,8 @@ pub returns-in_ok-expiry-in-Upload-clause-texts : goal.returns-in_ok-expiry-in-U
 returns-in_ok-expiry-in-Upload-clause-texts c =
     let six : length (fields_in c.args.text.now) ≡ 6 = c.requires.count ∙ ap (λ k. 2 + length (grammars k)) c.in-Upload.is in
     (λ i.
-        c.in_ok-code.ensures.kept i ∷ c.in_ok-serial-in-Upload.ensures.kept i ∷ c.in_ok-batch-in-Upload.ensures.kept i
-        ∷ c.in_ok-expiry-in-Upload.ensures.kept i ∷ [])
+    c.in_ok-code.ensures.kept i ∷ c.in_ok-serial-in-Upload.ensures.kept i ∷ c.in_ok-batch-in-Upload.ensures.kept i
+    ∷ c.in_ok-expiry-in-Upload.ensures.kept i ∷ [])
     ∙ sym (last_four (fields_in c.args.text.now) six)
 
 pub returns-in_ok-serial-in-OfPack-clause-texts : goal.returns-in_ok-serial-in-OfPack-clause-texts
