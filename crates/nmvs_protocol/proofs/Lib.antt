@@ -4,3 +4,5 @@ pub mod KeptLines
 pub mod LinesOfPieces
 pub mod QuitLines
 pub mod SessionSteps
+pub mod PlainLemmas
+pub mod SpellingLemmas

@@ -1,5 +1,5 @@
 -- The one line of each ask, and the first fault of a line (own).
-use Rattle.std.specs.Prelude.{ℕ, Bool, true, false, List, [], ◌∷◌, length, ◌+◌, ◌==◌, ◌&&◌, nat_lt, not, codes, Option, Some, None, if◌then◌else◌, ◌≡◌, ⊤}
+use Rattle.std.specs.Prelude.{ℕ, Bool, true, false, List, [], ◌∷◌, length, ◌+◌, ◌==◌, ◌&&◌, nat_lt, not, codes, Option, Some, None, if◌then◌else◌, ◌≡◌, ◌≤◌, ⊤, IsTrue}
 use Rattle.std.specs.List.{list_all, list_any}
 use Rattle.std.specs.Str.{bytes_eq}
 use Rattle.nmvs_identifier.specs.Name.{is_name}
@@ -7,6 +7,7 @@ use Rattle.nmvs_identifier.specs.ProductCode.{is_product_code}
 use Rattle.nmvs_identifier.specs.Serial.{is_serial}
 use Rattle.nmvs_identifier.specs.Batch.{is_batch}
 use Rattle.nmvs_identifier.specs.Expiry.{is_expiry}
+use Rattle.nmvs_rules.specs.declared.question.Question.TheVariants as question
 use Rattle.nmvs_words.specs.declared.pack_question.PackQuestion.TheVariants.{Audit}
 use Rattle.nmvs_words.specs.declared.question_kind.QuestionKind.{QuestionKind}
 use Rattle.nmvs_words.specs.declared.question_kind.QuestionKind.TheVariants.{Upload, OfPack, OfBatch}
@@ -67,3 +68,32 @@ first_fault x =
     else if list_any is_empty (fields_in x) then Some fault.Fields
     else if length (fields_in x) == 1 then (if bytes_eq x (codes "QUIT") then None else Some fault.Fields)
     else question_fault x (kind_put (field x 1))
+
+-- whether the texts of an ask are in their grammars
+abbrev pub all_read : List Grammar → List (List ℕ) → Bool
+all_read [] [] = true
+all_read (g ∷ gs) (t ∷ ts) = g.0 t && all_read gs ts
+all_read _ _ = false
+
+abbrev pub is_ask : Ask → Bool
+is_ask (Put user q) = is_name user.bytes && all_read (grammars (kind_of q)) (texts_of q)
+is_ask Quit = true
+
+-- whether the line of an ask can be read: as yet that of no audit
+abbrev pub is_readable : Ask → Bool
+is_readable (Put user (question.Audit p)) = false
+is_readable a = is_ask a
+
+-- two asks are the same: the same user's question of the same kind, with the same texts
+abbrev pub IsSameAsk : Ask → Ask → Type 0
+IsSameAsk (Put user q) (Put user' q') = (user.bytes ≡ user'.bytes) × (kind_of q ≡ kind_of q') × (texts_of q ≡ texts_of q')
+IsSameAsk Quit Quit = ⊤
+IsSameAsk _ _ = ⊥
+
+-- different asks have different lines
+abbrev pub OneSpelling : Type 0
+OneSpelling = (a b : Ask) → IsTrue (is_ask a) → IsTrue (is_ask b) → line a ≡ line b → IsSameAsk a b
+
+-- no line is too long
+abbrev pub ShortLines : Type 0
+ShortLines = (a : Ask) → IsTrue (is_ask a) → length (line a) ≤ 200

@@ -1,5 +1,5 @@
 //! The lines of asks.
-ghost use Rattle.std.specs.Prelude.{◌≡◌, ◌↔◌, ◌+◌, ◌∷◌, length, IsTrue, true, false, IsOk, IfOk, IfErr, None, Some, drop};
+ghost use Rattle.std.specs.Prelude.{◌≡◌, ◌↔◌, ◌+◌, ◌∷◌, length, IsTrue, true, false, IsOk, IfOk, IfErr, IsOkAnd, string_bytes, None, Some, drop};
 ghost use Rattle.nmvs_identifier.specs.Name.{is_name};
 ghost use Rattle.nmvs_identifier.specs.ProductCode.{is_product_code};
 ghost use Rattle.nmvs_identifier.specs.Serial.{is_serial};
@@ -7,21 +7,36 @@ ghost use Rattle.nmvs_identifier.specs.Batch.{is_batch};
 ghost use Rattle.nmvs_identifier.specs.Expiry.{is_expiry};
 ghost use Rattle.nmvs_words.specs.Kinds.{kind_of, texts_of};
 ghost use Rattle.nmvs_protocol.specs.Fields.{fields_in, field};
-ghost use Rattle.nmvs_protocol.specs.Lines.{line, first_fault, first_misread, grammars, kind_put};
+ghost use Rattle.nmvs_protocol.specs.declared.ask.Ask.{Ask as AnAsk};
+ghost use Rattle.nmvs_protocol.specs.declared.ask.Ask.TheVariants.{Put};
+ghost use Rattle.nmvs_protocol.specs.Lines.{line, is_readable, IsSameAsk, first_fault, first_misread, grammars, kind_put};
 
 use crate::fields::{field_at, field_count, has_empty_field, printable_text};
 use crate::{Ask, LineFault};
 use nmvs_identifier::{Batch, Expiry, Name, Pack, ProductCode, Serial};
 use nmvs_rules::Question;
 use nmvs_words::{PackQuestion, QuestionKind};
+use std::alloc::{AllocError, Global};
 
 /// The most bytes that a line may have, its LF not among them (own).
 const LONGEST_LINE: usize = 200;
 
-/// Reads a line, given without its LF, or tells its first fault.
-#[tactic(auto, unfolding(crate::specs::Lines::first_fault))]
+/// Reads a line, given without its LF: it is the line of the ask that is read, and the line of every readable ask is
+/// read as that ask. Any other line is answered by the first fault that it has.
 pub fn read_line(bytes: &[u8]) -> Result<Ask, LineFault>
     ensures line { IfOk result (λ ask. bytes.now ≡ line ask) }
+    ensures readable { IfOk result (λ ask. IsTrue (is_readable ask)) }
+    ensures complete { (ask : AnAsk) → IsTrue (is_readable ask) → bytes.now ≡ line ask → IsOkAnd result (λ read. IsSameAsk read ask) }
+    ensures accepts { IsOk result ↔ (first_fault bytes.now ≡ None) }
+    ensures fault { IfErr result (λ fault. first_fault bytes.now ≡ Some fault) }
+{
+    read_ask(bytes)
+}
+
+#[tactic(auto, unfolding(crate::specs::Lines::first_fault))]
+fn read_ask(bytes: &[u8]) -> Result<Ask, LineFault>
+    ensures line { IfOk result (λ ask. bytes.now ≡ line ask) }
+    ensures readable { IfOk result (λ ask. IsTrue (is_readable ask)) }
     ensures accepts { IsOk result ↔ (first_fault bytes.now ≡ None) }
     ensures fault { IfErr result (λ fault. first_fault bytes.now ≡ Some fault) }
 {
@@ -45,6 +60,48 @@ pub fn read_line(bytes: &[u8]) -> Result<Ask, LineFault>
     let user = user_at(text, 0)?;
     let question = read_question(text, kind)?;
     Ok(Ask::Put(user, question))
+}
+
+/// The line of an ask, without LF. Its only fault is want of memory.
+pub fn ask_line(alloc: Global, ask: &Ask) -> Result<String, AllocError>
+    ensures { IfOk result (λ text. string_bytes text ≡ line ask.now) }
+{
+    match ask {
+        Ask::Put(user, question) => question_line(alloc, user, question),
+        Ask::Quit => format!(in alloc; "QUIT"),
+    }
+}
+
+fn question_line(alloc: Global, user: &Name, question: &Question) -> Result<String, AllocError>
+    ensures { IfOk result (λ text. string_bytes text ≡ line (Put user.now question.now)) }
+{
+    let user = user.text();
+    let word = QuestionKind::of(question).word();
+    let code = question.code();
+    let code = code.text();
+    match question {
+        Question::Upload {
+            pack,
+            batch,
+            expiry,
+        } => {
+            format!(in alloc;
+                "{user} {word} {code} {} {} {}",
+                pack.serial.text(),
+                batch.text(),
+                expiry.text()
+            )
+        }
+        Question::Recall(_, batch) | Question::Withdraw(_, batch) => {
+            format!(in alloc; "{user} {word} {code} {}", batch.text())
+        }
+        Question::Verify(pack)
+        | Question::Status(pack)
+        | Question::Decommission(pack, _)
+        | Question::Revert(pack)
+        | Question::Theft(pack)
+        | Question::Audit(pack) => format!(in alloc; "{user} {word} {code} {}", pack.serial.text()),
+    }
 }
 
 fn field_count_of(kind: QuestionKind) -> usize

@@ -1,7 +1,6 @@
 use Rattle.std.proofs.Common.{sym}
 use Rattle.nmvs_identifier.specs.Expiry.{is_expiry}
 use Rattle.nmvs_protocol.specs.declared.line_fault.LineFault.TheVariants as fault
-use Rattle.nmvs_protocol.specs.Fields.{field}
 use Rattle.nmvs_protocol.proofs.LineLemmas.{refused}
 use Rattle.nmvs_protocol.proofs.lines.expiry_at.Goals as goal
 

@@ -1,5 +1,4 @@
 use Rattle.std.proofs.Common.{◌≡◌, sym, ◌∙◌, ap, ◌+◌, length, [], ◌∷◌}
-use Rattle.nmvs_words.specs.declared.question_kind.QuestionKind.{QuestionKind}
 use Rattle.nmvs_protocol.specs.Fields.{fields_in}
 use Rattle.nmvs_protocol.specs.Lines.{grammars}
 use Rattle.nmvs_protocol.proofs.LineLemmas.{last_two, last_four}
