@@ -6,3 +6,4 @@ pub mod QuitLines
 pub mod SessionSteps
 pub mod PlainLemmas
 pub mod SpellingLemmas
+pub mod CommandLemmas

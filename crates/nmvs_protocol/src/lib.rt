@@ -3,6 +3,9 @@
 
 mod answer;
 mod ask;
+mod command;
+mod command_fault;
+mod commands;
 mod desk;
 mod end;
 mod fields;
@@ -18,6 +21,9 @@ mod turn;
 
 pub use answer::Answer;
 pub use ask::Ask;
+pub use command::Command;
+pub use command_fault::CommandFault;
+pub use commands::read_command;
 pub use desk::Desk;
 pub use end::End;
 pub use laws::one_spelling;
