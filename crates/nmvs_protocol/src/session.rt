@@ -1,4 +1,4 @@
-ghost use Rattle.std.specs.Prelude.{◌≡◌, ◌++◌, ◌∷◌, ◌+◌, ◌<◌, ◌↔◌, [], ℕ, List, Some, None, Ok, false, IsTrue};
+ghost use Rattle.std.specs.Prelude.{◌≡◌, ◌++◌, ◌∷◌, ◌+◌, ◌<◌, ◌↔◌, [], ℕ, List, None, Ok, false, IsTrue, IfNone};
 ghost use Rattle.nmvs_stream.specs.Sink.{Taken};
 ghost use Rattle.nmvs_protocol.specs.InputLines.{lines_after, rest_after};
 ghost use Rattle.nmvs_protocol.specs.Session.{Answers, Session};
@@ -9,6 +9,9 @@ use crate::put::put;
 use crate::{Answer, Ask, Desk, End, Limits, LineFault, reply_text};
 use nmvs_stream::{Failed, Sink, Source};
 use std::alloc::Global;
+
+#[cfg(test)]
+mod tests;
 
 /// How far a session has come.
 #[derive(Drop)]
@@ -65,7 +68,7 @@ fn serve_chunk<W: Sink, D: Desk>(
     ensures { (first : D) (start : Taken) (lines : List (List ℕ)) (begun : List ℕ) → progress.old.line ≡ kept begun
         → Answered D.takes limit first start desk.old (W.taken sink.old) progress.old.answered lines None
         → Answered D.takes limit first start desk.new (W.taken sink.new) progress.new.answered (lines ++ lines_after begun chunk.now) result
-        × (result ≡ None → progress.new.line ≡ kept (rest_after begun chunk.now)) }
+        × IfNone result (progress.new.line ≡ kept (rest_after begun chunk.now)) }
 {
     for byte in chunk {
         if *byte == b'\n' {

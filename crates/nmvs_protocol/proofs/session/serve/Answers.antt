@@ -54,7 +54,7 @@ loop-preserved g c =
       inv.0 ++ chunk,
       gives.bytes ∙ ap (λ (t : List ℕ). t ++ chunk) inv.1 ∙ append_assoc (g.R.Source.told c.args.source.now).bytes inv.0 chunk,
       same_lines g.D.Desk.takes (sym (lines_after-append [] inv.0 chunk)) served.0,
-      rw (rest_after-append [] inv.0 chunk) (served.1 refl),
+      rw (rest_after-append [] inv.0 chunk) served.1,
       omega (arith, gives.reads, inv.4),
       gives.ended ∙ ap (λ (t : Bool). t || (c.in-Ok.count == 0)) inv.5 ∙ ne_eqb c.in-Ok.count 0 c.in-Ok.count-test.1,
       gives.failed ∙ inv.6,

@@ -29,7 +29,7 @@ returns-then-progress-limit g c first start lines begun is so_far =
     let more = lines_after [] (drop (suc i) chunk) in (
       same_lines g.D.Desk.takes (regroup lines before line more (lines_after begun chunk) (lines_at_lf begun chunk i c.loop-byte-test.true c.if-byte-eq10.true))
           (at_limit g.D.Desk.takes line more inv.0 c.if-progress-limit.true),
-      λ e. absurd (cc e),
+      tt,
     )
 
 pub returns-in-Some : goal.returns-in-Some
@@ -43,7 +43,7 @@ returns-in-Some g c first start lines begun is so_far =
       same_lines g.D.Desk.takes (regroup_two lines before line more (lines_after begun chunk) (lines_at_lf begun chunk i c.loop-byte-test.true c.if-byte-eq10.true))
           (extended g.D.Desk.takes c.in-Some.end more
           (c.in-Some.ensures c.args.limit c.loop-byte.progress.answered first start (lines ++ before) line c.if-progress-limit.false inv.1 inv.0)),
-      λ e. absurd (cc e),
+      tt,
     )
 
 pub loop-byte-preserved : goal.loop-byte-preserved
@@ -74,5 +74,5 @@ returns g c first start lines begun is so_far =
     let inv = c.loop-byte.invariant first start lines begun is so_far in
     let whole = take_all c.loop-byte.byte-index c.args.chunk.now c.loop-byte-test.false in (
       same_lines g.D.Desk.takes (ap (λ (t : List ℕ). lines ++ lines_after begun t) whole) inv.0,
-      λ _. subst (λ (t : List ℕ). c.loop-byte.progress.line ≡ kept (rest_after begun t)) whole inv.1,
+      subst (λ (t : List ℕ). c.loop-byte.progress.line ≡ kept (rest_after begun t)) whole inv.1,
     )
