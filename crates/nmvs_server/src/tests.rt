@@ -3,6 +3,7 @@ use crate::rehearsal::rehearse;
 use nmvs_identifier::Moment;
 use nmvs_protocol::End;
 use nmvs_stream::Device;
+use std::alloc::Global;
 use std::rt::HostRuntime;
 use std::test::*;
 
@@ -274,7 +275,7 @@ fn the_worked_examples_get_their_replies(rt: HostRuntime) -> Result<(), Fail> {
             push_line(&mut input, line)?;
             push_line(&mut wanted, reply)?;
         }
-        let (output, end) = rehearsed(&rt, example.moments, &input)?;
+        let (output, end) = rehearsed(rt.alloc(), example.moments, &input)?;
         assert_eq!(rt; output.as_slice(), wanted.as_slice(), "{}", example.shows);
         let quits = example.lines.iter().any(|(line, _)| *line == "QUIT");
         assert!(rt; end == if quits { End::Quit } else { End::Ended });
@@ -289,14 +290,17 @@ fn push_line(bytes: &mut Vec<u8>, line: &str) -> Result<(), Fail> {
 }
 
 /// What a rehearsal over these bytes writes, and how it ends.
-fn rehearsed(rt: &HostRuntime, seconds: &[i64], input: &[u8]) -> Result<(Vec<u8>, End), Fail> {
-    let mut moments = Vec::new(rt.alloc());
+fn rehearsed(alloc: Global, seconds: &[i64], input: &[u8]) -> Result<(Vec<u8>, End), Fail> {
+    let mut moments = Vec::new(alloc);
     for second in seconds {
-        moments.push(Moment::new(*second).expect(rt, "a moment"))?;
+        moments.push(Moment::new(*second).ok_or("a moment")?)?;
     }
-    let mut output = Vec::new(rt.alloc());
+    if moments.is_empty() {
+        return Err(Fail::new("no moment"));
+    }
+    let mut output = Vec::new(alloc);
     let end = rehearse(
-        rt.alloc(),
+        alloc,
         &mut Device::new(input),
         &mut Device::new(&mut output),
         &moments,
@@ -310,11 +314,11 @@ fn a_session_has_at_most_10_000_lines(rt: HostRuntime) -> Result<(), Fail> {
     for _ in 0..10_000 {
         push_line(&mut input, "ph1 STATUS 09506000134352 SN1")?;
     }
-    let (output, end) = rehearsed(&rt, &[NEW_YEAR], &input)?;
+    let (output, end) = rehearsed(rt.alloc(), &[NEW_YEAR], &input)?;
     assert!(rt; output.len() == 70_000);
     assert!(rt; end == End::Ended);
     push_line(&mut input, "QUIT")?;
-    let (output, end) = rehearsed(&rt, &[NEW_YEAR], &input)?;
+    let (output, end) = rehearsed(rt.alloc(), &[NEW_YEAR], &input)?;
     assert!(rt; output.len() == 70_000);
     assert!(rt; end == End::Limit);
     Ok(())
@@ -322,7 +326,11 @@ fn a_session_has_at_most_10_000_lines(rt: HostRuntime) -> Result<(), Fail> {
 
 #[test]
 fn bytes_without_an_end_of_line_get_no_reply(rt: HostRuntime) -> Result<(), Fail> {
-    let (output, end) = rehearsed(&rt, &[NEW_YEAR], b"ph1 STATUS 09506000134352 SN1\nQUIT")?;
+    let (output, end) = rehearsed(
+        rt.alloc(),
+        &[NEW_YEAR],
+        b"ph1 STATUS 09506000134352 SN1\nQUIT",
+    )?;
     assert_eq!(rt; output.as_slice(), b"NOPACK\n".as_slice());
     assert!(rt; end == End::Ended);
 
@@ -330,7 +338,7 @@ fn bytes_without_an_end_of_line_get_no_reply(rt: HostRuntime) -> Result<(), Fail
     for _ in 0..1_000_000 {
         letters.push(b'A')?;
     }
-    let (output, end) = rehearsed(&rt, &[NEW_YEAR], &letters)?;
+    let (output, end) = rehearsed(rt.alloc(), &[NEW_YEAR], &letters)?;
     assert!(rt; output.is_empty());
     assert!(rt; end == End::Ended);
     Ok(())
