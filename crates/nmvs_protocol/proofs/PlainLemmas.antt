@@ -1,5 +1,5 @@
 -- Plain fields, and the lines that they make.
-use Rattle.std.proofs.Common.{◌≡◌, ◌≤◌, ◌*◌, ◌&&◌, ◌||◌, ◌==◌, ℕ, Bool, true, false, nat_eq, nat_le, List, [], ◌∷◌, length, refl, ap, ◌∙◌, inl, inr, lit≤, codes, arith, length-append}
+use Rattle.std.proofs.Common.{◌≡◌, ◌≤◌, ◌*◌, ◌&&◌, ◌||◌, ◌==◌, ℕ, Bool, true, false, nat_eq, nat_le, nat_lt, List, [], ◌∷◌, length, refl, ap, ◌∙◌, inl, inr, lit≤, codes, arith, length-append}
 use Rattle.std.specs.List.{list_all, list_any, AllByRecursion}
 use Rattle.std.specs.Char.{is_ascii_graphic, is_ascii_digit, is_ascii_alphanumeric}
 use Rattle.std.proofs.lemmas.Bool.{and_parts, or_cases, eqb-true}
@@ -133,3 +133,6 @@ length-joined (f ∷ g ∷ fs) plain =
     let rest = length-joined (g ∷ fs) plain.1 in
     let whole = length-append f (32 ∷ joined (g ∷ fs)) in
     omega (arith, short, rest, whole)
+
+pub not_long : (n : ℕ) → n ≤ 200 → nat_lt 200 n ≡ false
+not_long n short = grind (arith, nat_tests)

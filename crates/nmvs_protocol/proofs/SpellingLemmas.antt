@@ -1,5 +1,5 @@
 -- The line of an ask is read, and is the line of no other.
-use Rattle.std.proofs.Common.{◌≡◌, ◌≤◌, ◌+◌, ◌==◌, not, ℕ, true, false, nat_lt, suc, List, [], ◌∷◌, length, drop, get_or, Some, None, refl, sym, ap, ◌∙◌, lit≤, codes, cond, slice_index_or, arith, add-zero, Result, Ok, Err}
+use Rattle.std.proofs.Common.{◌≡◌, ◌≤◌, ◌+◌, ◌==◌, not, ℕ, true, false, suc, List, [], ◌∷◌, length, drop, get_or, Some, None, refl, sym, ap, ◌∙◌, lit≤, codes, cond, slice_index_or, arith, add-zero, Result, Ok, Err}
 use Rattle.std.specs.Prelude.{IsOk, IfOk, IsOkAnd, IsTrue, ◌↔◌}
 use Rattle.std.specs.Str.{bytes_eq}
 use Rattle.std.specs.List.{list_any, AllByRecursion}
@@ -22,7 +22,7 @@ use Rattle.nmvs_protocol.specs.declared.line_fault.LineFault.TheVariants as faul
 use Rattle.nmvs_protocol.specs.declared.line_fault.LineFault.{LineFault}
 use Rattle.nmvs_protocol.specs.Fields.{is_empty, fields_in, field}
 use Rattle.nmvs_protocol.specs.Lines.{fields, line, Grammar, grammars, all_read, first_misread, first_fault, question_fault, kind_put, without_audit, is_ask, is_readable, IsSameAsk, OneSpelling, ShortLines}
-use Rattle.nmvs_protocol.proofs.PlainLemmas.{IsPlain, plain_name, plain_code, plain_serial, plain_batch, plain_expiry, fields_in-joined, none_empty, printable-joined, length-joined}
+use Rattle.nmvs_protocol.proofs.PlainLemmas.{IsPlain, plain_name, plain_code, plain_serial, plain_batch, plain_expiry, fields_in-joined, none_empty, printable-joined, length-joined, not_long}
 
 -- each text that a grammar accepts is plain
 abbrev AcceptsPlain : Grammar → Type 0
@@ -141,9 +141,6 @@ all_read-none x k (g ∷ gs) (t ∷ ts) here e =
     (λ i. cond (g.0 (this i)) (first_misread x (k + 1) gs) (Some g.1))
     ∙ (λ i. cond (parts.0 i) (first_misread x (k + 1) gs) (Some g.1))
     ∙ all_read-none x (k + 1) gs ts later parts.1
-
-not_long : (n : ℕ) → n ≤ 200 → nat_lt 200 n ≡ false
-not_long n short = grind (arith, nat_tests)
 
 not_one : (n : ℕ) → (suc (suc n) == 1) ≡ false
 not_one n = grind (arith, nat_tests)

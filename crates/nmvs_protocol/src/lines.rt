@@ -11,15 +11,12 @@ ghost use Rattle.nmvs_protocol.specs.declared.ask.Ask.{Ask as AnAsk};
 ghost use Rattle.nmvs_protocol.specs.declared.ask.Ask.TheVariants.{Put};
 ghost use Rattle.nmvs_protocol.specs.Lines.{line, is_readable, IsSameAsk, first_fault, first_misread, grammars, kind_put};
 
-use crate::fields::{field_at, field_count, has_empty_field, printable_text};
+use crate::fields::{LONGEST_LINE, field_at, field_count, has_empty_field, printable_text};
 use crate::{Ask, LineFault};
 use nmvs_identifier::{Batch, Expiry, Name, Pack, ProductCode, Serial};
 use nmvs_rules::Question;
 use nmvs_words::{PackQuestion, QuestionKind};
 use std::alloc::{AllocError, Global};
-
-/// The most bytes that a line may have, its LF not among them (own).
-const LONGEST_LINE: usize = 200;
 
 /// Reads a line, given without its LF: it is the line of the ask that is read, and the line of every readable ask is
 /// read as that ask. Any other line is answered by the first fault that it has.
