@@ -8,7 +8,7 @@ use nmvs_rules::Actor;
 use std::alloc::{AllocError, Allocator};
 use std::collections::VecDeque;
 
-/// Longer than any list of changes becomes.
+/// More changes than any memory holds.
 const MOST: u64 = 1 << 60;
 
 /// All changes of a directory, the pending ones too.
