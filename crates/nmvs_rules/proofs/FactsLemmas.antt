@@ -1,11 +1,9 @@
 -- The reply of the rules rests on the facts alone.
-use Rattle.std.proofs.Common.{◌≡◌, ℕ, Bool, true, false, ◌&&◌, cond, List, [], ◌∷◌, Option, Some, None, refl, sym, ap, subst, arith}
-use Rattle.std.specs.List.{find, list_any}
+use Rattle.std.proofs.Common.{◌≡◌, ℕ, Bool, true, false, ◌&&◌, cond, List, Option, Some, None, refl, sym, ap, subst}
 use Rattle.std.specs.Option.{is_some, unwrap_or}
 use Rattle.std.specs.Cmp.{first_so, second_so}
 use Rattle.std.specs.Cmp.Derive.{both_true}
-use Rattle.std.proofs.lemmas.Slice.Eq.{bytes_eq-Decides}
-use Rattle.nmvs_identifier.specs.Texts.{Text, same_text}
+use Rattle.nmvs_identifier.specs.Texts.{same_text}
 use Rattle.nmvs_identifier.specs.ProductCode.{ProductCode}
 use Rattle.nmvs_identifier.specs.Batch.{Batch}
 use Rattle.nmvs_identifier.specs.Name.{Name}
@@ -21,31 +19,12 @@ use Rattle.nmvs_rules.specs.declared.entry.Entry.{Entry}
 use Rattle.nmvs_rules.specs.declared.facts.Known.{Known}
 use Rattle.nmvs_rules.specs.declared.facts.BatchRecord.{BatchRecord}
 use Rattle.nmvs_rules.specs.declared.facts.Facts.{Facts}
+use Rattle.nmvs_rules.proofs.FindLemmas.{find-passes, find-any}
+use Rattle.nmvs_rules.proofs.TextLemmas.{same_text-refl}
 use Rattle.nmvs_rules.specs.Questions.{Put, pack_of, names, may_ask}
 use Rattle.nmvs_rules.specs.Trail.{born, mark, known, known_from, known_at, is_upload, is_about, is_accepted, uploads_batch, is_birth_in, is_known_batch, lock_of, batch_record, alerts_of, holder_of, counts_of}
 use Rattle.nmvs_rules.specs.Rules.{reply_of, reply_to, on_pack, lock_on, lock_reply, verify_reply, status_reply, decommission_reply, revert_reply}
 use Rattle.nmvs_rules.specs.Facts.{facts_of, reply_by, reply_to_by, lock_in, active_in, batch_by_known}
-
--- what `find` gives passes
-pub find-passes : {X : Type 0} (p : X → Bool) → (xs : List X) (x : X) → find p xs ≡ Some x → p x ≡ true
-find-passes p [] x e = cc
-find-passes p (y ∷ ys) x e =
-    elim (p y) as (λ b. p y ≡ b → cond b (Some y) (find p ys) ≡ Some x → p x ≡ true) [
-      | true ↦ λ here is. let same : y ≡ x = cc in subst (λ z. p z ≡ true) same here
-      | false ↦ λ here is. find-passes p ys x is
-    ] refl e
-
--- where `find` gives an element that passes another test, some element passes it
-pub find-any : {X : Type 0} (p q : X → Bool) → (xs : List X) (x : X) → find p xs ≡ Some x → q x ≡ true → list_any q xs ≡ true
-find-any p q [] x e h = cc
-find-any p q (y ∷ ys) x e h =
-    elim (p y) as (λ b. cond b (Some y) (find p ys) ≡ Some x → list_any q (y ∷ ys) ≡ true) [
-      | true ↦ λ is. let same : y ≡ x = cc in rw (same, h) refl
-      | false ↦ λ is. grind (arith, find-any p q ys x is h)
-    ] e
-
-pub same_text-refl : (s : Text) → same_text s s ≡ true
-same_text-refl s = (bytes_eq-Decides s.bytes s.bytes).1 refl
 
 -- the question that made a pack known uploads the batch that the pack is known by
 pub known_at-batch : (t : List Entry) (p : Pack) (m : Entry) (q : Question) (k : Known) → known_at t p m q ≡ Some k → names p (pack_of q) ≡ true → uploads_batch p.code k.batch q ≡ true

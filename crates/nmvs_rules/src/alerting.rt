@@ -1,23 +1,23 @@
 //! Alerts, where authenticity is not confirmed (Article 36).
 ghost use Rattle.std.specs.Prelude.{◌≡◌, ◌+◌, ◌<◌, ◌^◌};
-ghost use Rattle.nmvs_rules.specs.Rules.{cause_of, is_flagged, alert_on, alert_unknown};
+ghost use Rattle.nmvs_rules.specs.Rules.{alert_on, alert_unknown, cause_of, is_flagged};
 
 use crate::{BatchLock, Cause, Known, Own, Reply};
 
-/// The alert on a known pack.
-pub(crate) fn alert(known: &Known, lock: BatchLock, alerts: u64) -> Reply
+/// The alert on a known pack, `alerts` being those of its product code so far.
+pub(crate) fn alert_on(known: &Known, lock: BatchLock, alerts: u64) -> Reply
     requires { alerts + 1 < 2 ^ 64 }
     ensures { result ≡ alert_on known.now lock alerts }
 {
     Reply::Alert {
-        cause: cause(known.own, lock),
-        flagged: suggests_falsification(known.own, lock),
+        cause: cause_of(known.own, lock),
+        flagged: is_flagged(known.own, lock),
         number: alerts + 1,
     }
 }
 
-/// The alert on an unknown pack.
-pub(crate) fn unknown_alert(alerts: u64) -> Reply
+/// The alert on an unknown pack, `alerts` being those of its product code so far.
+pub(crate) fn alert_unknown(alerts: u64) -> Reply
     requires { alerts + 1 < 2 ^ 64 }
     ensures { result ≡ alert_unknown alerts }
 {
@@ -28,7 +28,7 @@ pub(crate) fn unknown_alert(alerts: u64) -> Reply
     }
 }
 
-fn cause(own: Own, lock: BatchLock) -> Cause
+fn cause_of(own: Own, lock: BatchLock) -> Cause
     ensures { result ≡ cause_of own lock }
 {
     match (lock, own) {
@@ -44,7 +44,7 @@ fn cause(own: Own, lock: BatchLock) -> Cause
     }
 }
 
-fn suggests_falsification(own: Own, lock: BatchLock) -> bool
+fn is_flagged(own: Own, lock: BatchLock) -> bool
     ensures { result ≡ is_flagged own lock }
 {
     matches!(lock, BatchLock::Free) && !matches!(own, Own::Destroyed)

@@ -19,6 +19,8 @@ mod refusal;
 mod reply;
 mod reversion;
 mod role;
+#[cfg(test)]
+mod tests;
 
 pub use actor::Actor;
 pub use admission::may;
