@@ -6,6 +6,7 @@ mod batch_lock;
 mod cause;
 mod entry;
 mod facts;
+pub mod laws;
 mod onward;
 mod own;
 mod question;

@@ -1,0 +1,22 @@
+//! What follows from the rules, whatever the trail. Each function here does nothing: its contract is the law.
+ghost use Rattle.std.specs.Prelude.{◌≡◌, ℕ, Bool, List};
+ghost use Rattle.nmvs_rules.specs.declared.entry.Entry.{Entry};
+ghost use Rattle.nmvs_rules.specs.Questions.{Put, code_of};
+ghost use Rattle.nmvs_rules.specs.Rules.{reply_of, IsLawful};
+ghost use Rattle.nmvs_rules.specs.Laws.{part_of, kept, placed_at};
+
+/// Locality: the reply to a question rests on the entries with its product code alone.
+pub fn locality()
+    ensures { (t : List Entry) (q : Put) → reply_of (part_of t (code_of q.question)) q ≡ reply_of t q }
+{}
+
+/// Merging: a trail is lawful where its parts are, whatever the places that the product codes were dealt to.
+pub fn merging()
+    ensures { (place : List ℕ → ℕ) (t : List Entry) →
+        ((i : ℕ) → IsLawful (placed_at place i t)) → IsLawful t }
+{}
+
+/// Parts: what is left of a lawful trail is lawful, where each product code is kept or dropped whole.
+pub fn parts()
+    ensures { (keep : List ℕ → Bool) (t : List Entry) → IsLawful t → IsLawful (kept keep t) }
+{}
