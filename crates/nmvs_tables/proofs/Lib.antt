@@ -1,1 +1,2 @@
 pub mod CodesLemmas
+pub mod PacksLemmas

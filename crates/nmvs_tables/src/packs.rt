@@ -33,6 +33,16 @@ pub(crate) fn record_of<A: Allocator>(packs: &Packs<A>, pack: &Pack) -> Option<P
     packs.get(pack).copied()
 }
 
+/// What is known of a pack by its record.
+fn known_of(old: &Option<PackRecord>) -> Option<Known>
+    ensures { result ≡ known_in old.now }
+{
+    match old {
+        Some(record) => record.known,
+        None => None,
+    }
+}
+
 /// What is known of a pack after an accepted entry at a place about it.
 fn marked(place: u64, entry: &Entry, known: Option<Known>) -> Option<Known>
     ensures { result ≡ trails.marked_by place entry.now known }
@@ -60,11 +70,11 @@ fn marked(place: u64, entry: &Entry, known: Option<Known>) -> Option<Known>
 }
 
 /// The record of a pack after an entry at a place about it.
-fn noted(place: u64, entry: &Entry, record: Option<PackRecord>) -> PackRecord
-    requires { about_in record + 1 < 2 ^ 64 }
-    ensures { (p : Pack) → trails.is_about p entry.now ≡ true → Some result ≡ pack_after p place entry.now record }
+fn noted(place: u64, entry: &Entry, old: Option<PackRecord>) -> PackRecord
+    requires { about_in old + 1 < 2 ^ 64 }
+    ensures { (p : Pack) → trails.is_about p entry.now ≡ true → Some result ≡ pack_after p place entry.now old }
 {
-    let (about, known) = match record {
+    let (about, known) = match old {
         Some(record) => (record.about, record.known),
         None => (0, None),
     };
@@ -87,6 +97,7 @@ pub(crate) fn note<A: Allocator>(packs: &mut Packs<A>, place: u64, entry: &Entry
 {
     let pack = entry.question.pack()?;
     let record = record_of(packs, &pack);
+    let known = known_of(&record);
     put(packs, pack, noted(place, entry, record));
-    record?.known
+    known
 }
