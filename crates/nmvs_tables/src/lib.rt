@@ -2,7 +2,9 @@
 #![tactic(auto)]
 
 mod accepted;
+mod batches;
 mod codes;
+mod counts;
 mod packs;
 mod writes;
 
