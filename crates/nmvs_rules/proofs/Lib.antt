@@ -4,3 +4,6 @@ pub mod PushLemmas
 pub mod LawfulLemmas
 pub mod CodeLemmas
 pub mod MergeLemmas
+pub mod ReplyLemmas
+pub mod BirthLemmas
+pub mod MarkLemmas

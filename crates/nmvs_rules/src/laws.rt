@@ -1,9 +1,11 @@
 //! What follows from the rules, whatever the trail. Each function here does nothing: its contract is the law.
-ghost use Rattle.std.specs.Prelude.{◌≡◌, ℕ, Bool, List};
+ghost use Rattle.std.specs.Prelude.{◌≡◌, ℕ, Bool, List, count_by, is_some, if◌then◌else◌};
+ghost use Rattle.nmvs_identifier.specs.declared.pack.Pack.{Pack};
 ghost use Rattle.nmvs_rules.specs.declared.entry.Entry.{Entry};
 ghost use Rattle.nmvs_rules.specs.Questions.{Put, code_of};
 ghost use Rattle.nmvs_rules.specs.Rules.{reply_of, IsLawful};
-ghost use Rattle.nmvs_rules.specs.Laws.{part_of, kept, placed_at};
+ghost use Rattle.nmvs_rules.specs.Trail.{known};
+ghost use Rattle.nmvs_rules.specs.Laws.{part_of, kept, placed_at, uploads};
 
 /// Locality: the reply to a question rests on the entries with its product code alone.
 pub fn locality()
@@ -19,4 +21,11 @@ pub fn merging()
 /// Parts: what is left of a lawful trail is lawful, where each product code is kept or dropped whole.
 pub fn parts()
     ensures { (keep : List ℕ → Bool) (t : List Entry) → IsLawful t → IsLawful (kept keep t) }
+{}
+
+/// One birth: in a lawful trail a pack has one accepted upload where it is known, and else none (Article 33).
+/// So the counts of a batch are numbers of packs.
+pub fn one_birth()
+    ensures { (t : List Entry) (p : Pack) → IsLawful t →
+        count_by (uploads p) t ≡ (if is_some (known t p) then 1 else 0) }
 {}
