@@ -1,2 +1,5 @@
 pub mod CodesLemmas
 pub mod PacksLemmas
+pub mod BatchTableLemmas
+pub mod CountLemmas
+pub mod OwnLemmas

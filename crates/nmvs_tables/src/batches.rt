@@ -73,17 +73,35 @@ fn lock_after(question: &Question, lock: BatchLock) -> BatchLock
     }
 }
 
+/// The own status that a pack has, where it is known.
+fn own_before(known: &Option<Known>) -> Option<Own>
+    ensures { result ≡ own_before known.now }
+{
+    match known {
+        Some(known) => Some(known.own),
+        None => None,
+    }
+}
+
+/// The own status that an accepted question gives the pack that it names.
+fn own_left(question: &Question) -> Option<Own>
+    ensures { result ≡ own_left question.now }
+{
+    match question.pack() {
+        Some(_) => Some(own_after(question)),
+        None => None,
+    }
+}
+
 /// The record of a batch after an accepted question that changes it, about a pack that is known or not.
 fn noted(old: &BatchRecord, question: &Question, known: &Option<Known>) -> BatchRecord
     requires from { ForSome (own_before known.now) (λ own. 1 ≤ count_in old.now.counts own) }
     requires to { ForSome (own_left question.now) (λ own. count_in old.now.counts own + 1 < 2 ^ 64) }
     ensures { NotesBatch question.now known.now old.now result }
 {
-    let from = known.map(|known| known.own);
-    let to = question.pack().map(|_| own_after(question));
     BatchRecord {
         lock: lock_after(question, old.lock),
-        counts: moved(&old.counts, from, to),
+        counts: moved(&old.counts, own_before(known), own_left(question)),
     }
 }
 
