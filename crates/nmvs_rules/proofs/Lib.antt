@@ -7,3 +7,5 @@ pub mod MergeLemmas
 pub mod ReplyLemmas
 pub mod BirthLemmas
 pub mod MarkLemmas
+pub mod ReversionLemmas
+pub mod VerificationLemmas

@@ -49,7 +49,7 @@ lock_on-same : (t : List Entry) (p q : Pack) (k : Known) → same_pack p q ≡ t
 lock_on-same t p q k same = lock_of-same t p.code q.code k.batch k.batch (same_pack-code p q same) (same_text-refl k.batch)
 
 -- the rules' reply to a question
-abbrev IsReply : List Entry → ℕ → Actor → Question → Reply → Type 0
+abbrev pub IsReply : List Entry → ℕ → Actor → Question → Reply → Type 0
 IsReply t n a q r = r ≡ cond (may_ask a.role q) (reply_to t n a q) (reply.Refused refusal.Role)
 
 -- the pack may be moved on
@@ -87,7 +87,7 @@ not-false : (b : Bool) → not b ≡ false → b ≡ true
 not-false true h = refl
 not-false false h = sym h
 
-verify-tells : (t : List Entry) (n : ℕ) (a : Actor) (p : Pack) (b : Batch) (x : Expiry) (late : Bool) → IsReply t n a (Verify p) (reply.Authentic b x late) → KnownAnd t p (λ k. IsAuthentic t p k × (reply.Authentic k.batch k.expiry (is_past k.expiry n) ≡ reply.Authentic b x late))
+pub verify-tells : (t : List Entry) (n : ℕ) (a : Actor) (p : Pack) (b : Batch) (x : Expiry) (late : Bool) → IsReply t n a (Verify p) (reply.Authentic b x late) → KnownAnd t p (λ k. IsAuthentic t p k × (reply.Authentic k.batch k.expiry (is_past k.expiry n) ≡ reply.Authentic b x late))
 verify-tells t n a p b x late h =
     let admitted = cond-then (may_ask a.role (Verify p)) _ _ _ (λ e. cc) (sym h) in
     let pack = on_pack-known t p _ _ _ (λ e. cc) admitted.1 in
@@ -101,7 +101,7 @@ decommission-tells t n a p w h =
     let authentic = cond-then (is_authentic pack.0.own (lock_on t p pack.0)) _ _ _ (λ e. cc) pack.2 in
     (pack.0, pack.1, record { active = first_so _ _ authentic.0; free = second_so (is_active pack.0.own) _ authentic.0 })
 
-revert-tells : (t : List Entry) (n : ℕ) (a : Actor) (p : Pack) → IsReply t n a (Revert p) reply.Reverted → KnownAnd t p (IsReversible t n a p)
+pub revert-tells : (t : List Entry) (n : ℕ) (a : Actor) (p : Pack) → IsReply t n a (Revert p) reply.Reverted → KnownAnd t p (IsReversible t n a p)
 revert-tells t n a p h =
     let admitted = cond-then (may_ask a.role (Revert p)) _ _ _ (λ e. cc) (sym h) in
     let pack = on_pack-known t p _ _ _ (λ e. cc) admitted.1 in
@@ -189,3 +189,10 @@ uploads-tells t e p lawful h = by e.question e.reply lawful h
         ap is_some (known-same t p s (first_so _ _ c)) ∙ upload-tells t e.moment e.actor s b x is
     by (Upload s b x) r is c = let none : false ≡ true = second_so (same_pack p s) false c in cc
     by q r is c = let none : false ≡ true = first_so (is_upload q) (names p (pack_of q)) (first_so (is_upload q && names p (pack_of q)) (accepts q r) c) in cc
+
+pub reply-question : (t : List Entry) (q : Put) (n : Question) → q.question ≡ n → reply_of t q ≡ cond (may_ask q.actor.role n) (reply_to t q.moment q.actor n) (reply.Refused refusal.Role)
+reply-question t q n is = ap (λ z. cond (may_ask q.actor.role z) (reply_to t q.moment q.actor z) (reply.Refused refusal.Role)) is
+
+-- what is not refused for its role was asked by one that may
+pub may-tells : (t : List Entry) (n : ℕ) (a : Actor) (q : Question) (r : Reply) → (reply.Refused refusal.Role ≡ r → ⊥) → IsReply t n a q r → may_ask a.role q ≡ true
+may-tells t n a q r other h = (cond-then (may_ask a.role q) _ _ _ other (sym h)).0

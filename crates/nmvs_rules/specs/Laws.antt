@@ -1,15 +1,20 @@
 -- What the laws over the rules speak of.
-use Rattle.std.specs.Prelude.{ℕ, ◌==◌, Bool, true, false, ◌&&◌, List, filter}
+use Rattle.std.specs.Prelude.{ℕ, ◌≡◌, ◌≢◌, ◌+◌, ◌≤◌, ◌==◌, pos, ◌≤ℤ◌, Bool, true, false, ◌&&◌, ◌||◌, IsTrue, List, filter, Some, IsSomeAnd}
+use Rattle.nmvs_identifier.specs.Batch.{Batch}
+use Rattle.nmvs_identifier.specs.Expiry.{Expiry, expiry_day}
+use Rattle.nmvs_identifier.specs.Moment.{day_of}
+use Rattle.nmvs_rules.specs.declared.own.Own.TheVariants as own
+use Rattle.nmvs_rules.specs.declared.batch_lock.BatchLock.TheVariants as lock
 use Rattle.nmvs_identifier.specs.ProductCode.{ProductCode}
 use Rattle.nmvs_identifier.specs.declared.pack.Pack.{Pack}
 use Rattle.nmvs_rules.specs.declared.reason.Reason.TheVariants as reason
 use Rattle.nmvs_rules.specs.declared.question.Question.{Question}
-use Rattle.nmvs_rules.specs.declared.question.Question.TheVariants.{Verify, Decommission, Revert}
+use Rattle.nmvs_rules.specs.declared.question.Question.TheVariants.{Upload, Verify, Decommission, Revert}
 use Rattle.nmvs_rules.specs.declared.reply.Reply.{Reply}
 use Rattle.nmvs_rules.specs.declared.reply.Reply.TheVariants as reply
 use Rattle.nmvs_rules.specs.declared.entry.Entry.{Entry}
-use Rattle.nmvs_rules.specs.Questions.{code_of}
-use Rattle.nmvs_rules.specs.Trail.{has_code, is_upload, is_about, is_accepted, is_mark}
+use Rattle.nmvs_rules.specs.Questions.{Put, code_of}
+use Rattle.nmvs_rules.specs.Trail.{has_code, is_upload, is_about, is_accepted, is_mark, born, mark, own_of, lock_of}
 
 -- the entries with a product code, in order (own)
 abbrev pub part_of : List Entry → ProductCode → List Entry
@@ -59,3 +64,34 @@ reverts p e = is_mark p e && is_reversion e.question
 -- a verification of the pack that is answered Authentic (Article 11)
 abbrev pub confirms : Pack → Entry → Bool
 confirms p e = is_about p e && is_confirmed e.question e.reply
+
+-- the trail has an accepted upload of the pack, with this batch and this expiry date (Article 4)
+abbrev pub IsUploadedWith : List Entry → Pack → Batch → Expiry → Type 0
+IsUploadedWith t p b x = IsSomeAnd (born t p) (λ u. (r : Pack) × (u.question ≡ Upload r b x))
+
+-- its last accepted entry is an upload or a reversion (Article 11)
+abbrev pub IsInCirculation : List Entry → Pack → Type 0
+IsInCirculation t p = IsSomeAnd (mark t p) (λ m. IsTrue (is_upload m.question || is_reversion m.question))
+
+-- all that Article 13(1) asks of a reversion q of the pack p
+pub record IsRevertible (t : List Entry) (p : Pack) (q : Put) : Type 0 where
+  pub batch : Batch
+  pub expiry : Expiry
+  pub uploaded : IsUploadedWith t p batch expiry
+  -- the last accepted operation on the pack decommissioned it
+  pub last : Entry
+  pub marked : mark t p ≡ Some last
+  pub decommissioned : IsTrue (is_decommissioning last.question)
+  -- (a) the same authorisation or entitlement, and the same premises
+  pub same_authorisation : q.actor.authorisation.bytes ≡ last.actor.authorisation.bytes
+  pub same_premises : q.actor.premises.bytes ≡ last.actor.premises.bytes
+  -- (b) not more than ten days after the decommissioning
+  pub within_ten_days : day_of q.moment ≤ day_of last.moment + 10
+  -- (c) the pack has not expired
+  pub not_expired : pos (day_of q.moment) ≤ℤ expiry_day expiry.bytes
+  -- (d) neither recalled nor withdrawn, nor intended for destruction, nor stolen
+  pub free : lock_of t p.code batch ≡ lock.Free
+  pub not_destroyed : own_of t p ≢ Some own.Destroyed
+  pub not_stolen : own_of t p ≢ Some own.Stolen
+  -- (e) not supplied to the public
+  pub not_supplied : own_of t p ≢ Some own.Supplied

@@ -1,11 +1,16 @@
 //! What follows from the rules, whatever the trail. Each function here does nothing: its contract is the law.
-ghost use Rattle.std.specs.Prelude.{◌≡◌, ℕ, Bool, List, count_by, is_some, if◌then◌else◌};
+ghost use Rattle.std.specs.Prelude.{◌≡◌, ◌↔◌, ℕ, Bool, IsTrue, List, count_by, is_some, if◌then◌else◌};
+ghost use Rattle.nmvs_identifier.specs.Batch.{Batch};
+ghost use Rattle.nmvs_identifier.specs.Expiry.{Expiry};
 ghost use Rattle.nmvs_identifier.specs.declared.pack.Pack.{Pack};
 ghost use Rattle.nmvs_rules.specs.declared.entry.Entry.{Entry};
-ghost use Rattle.nmvs_rules.specs.Questions.{Put, code_of};
-ghost use Rattle.nmvs_rules.specs.Rules.{reply_of, IsLawful};
-ghost use Rattle.nmvs_rules.specs.Trail.{known};
-ghost use Rattle.nmvs_rules.specs.Laws.{part_of, kept, placed_at, uploads};
+ghost use Rattle.nmvs_rules.specs.declared.question.Question.TheVariants.{Verify, Revert};
+ghost use Rattle.nmvs_rules.specs.declared.reply.Reply.TheVariants as reply;
+ghost use Rattle.nmvs_rules.specs.declared.batch_lock.BatchLock.TheVariants as lock;
+ghost use Rattle.nmvs_rules.specs.Questions.{Put, code_of, may_ask};
+ghost use Rattle.nmvs_rules.specs.Rules.{reply_of, is_past, IsLawful};
+ghost use Rattle.nmvs_rules.specs.Trail.{known, lock_of};
+ghost use Rattle.nmvs_rules.specs.Laws.{part_of, kept, placed_at, uploads, IsUploadedWith, IsInCirculation, IsRevertible};
 
 /// Locality: the reply to a question rests on the entries with its product code alone.
 pub fn locality()
@@ -29,3 +34,25 @@ pub fn one_birth()
     ensures { (t : List Entry) (p : Pack) → IsLawful t →
         count_by (uploads p) t ≡ (if is_some (known t p) then 1 else 0) }
 {}
+
+/// Verification: a pack is answered Authentic exactly where the role may ask, the repository has an accepted upload
+/// of that product code and serial with the batch and expiry date of the answer, the last accepted operation on the
+/// pack is an upload or a reversion, and its batch is free (Article 11).
+pub fn verification()
+    ensures {
+        (t : List Entry) (q : Put) (p : Pack) (b : Batch) (x : Expiry) (expired : Bool) → q.question ≡ Verify p →
+        (reply_of t q ≡ reply.Authentic b x expired) ↔
+            (IsTrue (may_ask q.actor.role q.question) × IsUploadedWith t p b x × IsInCirculation t p
+                × (lock_of t p.code b ≡ lock.Free) × (expired ≡ is_past x q.moment))
+    }
+{
+}
+
+/// Reversion: a decommissioned pack is made active again exactly where the role may ask and all of Article 13(1) holds.
+pub fn reversion()
+    ensures {
+        (t : List Entry) (q : Put) (p : Pack) → q.question ≡ Revert p →
+        (reply_of t q ≡ reply.Reverted) ↔ (IsTrue (may_ask q.actor.role q.question) × IsRevertible t p q)
+    }
+{
+}
