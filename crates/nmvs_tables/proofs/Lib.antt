@@ -3,3 +3,4 @@ pub mod PacksLemmas
 pub mod BatchTableLemmas
 pub mod CountLemmas
 pub mod OwnLemmas
+pub mod BatchesLemmas
