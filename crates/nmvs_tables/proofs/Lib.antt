@@ -4,3 +4,4 @@ pub mod BatchTableLemmas
 pub mod CountLemmas
 pub mod OwnLemmas
 pub mod BatchesLemmas
+pub mod BatchStepLemmas
