@@ -5,3 +5,4 @@ pub mod CountLemmas
 pub mod OwnLemmas
 pub mod BatchesLemmas
 pub mod BatchStepLemmas
+pub mod BatchRecordLemmas
