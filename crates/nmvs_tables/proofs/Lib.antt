@@ -6,3 +6,4 @@ pub mod OwnLemmas
 pub mod BatchesLemmas
 pub mod BatchStepLemmas
 pub mod BatchRecordLemmas
+pub mod TablesLemmas

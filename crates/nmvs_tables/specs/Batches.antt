@@ -4,6 +4,8 @@ use Rattle.std.specs.HashMap.{HashMap, get, keys}
 use Rattle.std.specs.List.{filter_map}
 use Rattle.std.specs.Option.{option_map, option_map_or}
 use Rattle.indexmap.specs.IndexSet.{insert_key}
+use Rattle.nmvs_identifier.specs.ProductCode.{ProductCode}
+use Rattle.nmvs_identifier.specs.Batch.{Batch}
 use Rattle.nmvs_identifier.specs.Texts.{same_text}
 use Rattle.nmvs_rules.specs.declared.question.Question.{Question}
 use Rattle.nmvs_rules.specs.declared.question.Question.TheVariants.{Upload, Recall, Withdraw}
@@ -103,3 +105,9 @@ batch_in m b = unwrap_or (get same_batch m b) no_packs
 pub record AreBatchesOf {S : Type 0} (m : HashMap BatchKey BatchRecord S) (t : List Entry) : Type 0 where
   pub records : (b : BatchKey) → get same_batch m b ≡ batch_record t b.code b.batch
   pub order : keys m ≡ batches_of t
+
+-- the batch of a known pack, or the one that a recall or withdrawal names, by a table
+abbrev pub batch_asked : {S : Type 0} → HashMap BatchKey BatchRecord S → ProductCode → Option Batch → Option Known → Option BatchRecord
+batch_asked m c (Some b) k = get same_batch m (record { code = c; batch = b })
+batch_asked m c None (Some k) = get same_batch m (record { code = c; batch = k.batch })
+batch_asked m c None None = None

@@ -30,6 +30,11 @@ abbrev pub pack_after : Pack → ℕ → Entry → Option PackRecord → Option 
 pack_after p place e r =
     if is_about p e then Some (record_with (about_in r + 1) (known_after p place e (known_in r))) else r
 
+-- how many entries, by a table, are about the pack that a question names
+abbrev pub about_by : {S : Type 0} → HashMap Pack PackRecord S → Option Pack → ℕ
+about_by m None = 0
+about_by m (Some p) = about_in (get same_pack m p)
+
 -- what is known, by a table, of the pack that a question names
 abbrev pub known_by : {S : Type 0} → HashMap Pack PackRecord S → Option Pack → Option Known
 known_by m None = None

@@ -4,8 +4,8 @@ ghost use Rattle.indexmap.specs.IndexMap.{get, keys, spare, insert_entry, Update
 ghost use Rattle.std.specs.Option.{ForSome};
 ghost use Rattle.nmvs_rules.specs.declared.own.Own.{Own};
 ghost use Rattle.nmvs_tables.specs.declared.batches.BatchKey.{BatchKey};
-ghost use Rattle.nmvs_rules.specs.Trail as trails;
-ghost use Rattle.nmvs_tables.specs.Batches.{same_batch, batch_in, batch_meant, batch_changed, batches_after, changes_batch, count_in, own_before, own_after as own_left, no_packs, NotesBatch, lock_after};
+ghost use Rattle.nmvs_rules.specs.Questions.{code_of, locked_batch};
+ghost use Rattle.nmvs_tables.specs.Batches.{same_batch, batch_asked, batch_in, batch_meant, batch_changed, batches_after, changes_batch, count_in, own_before, own_after as own_left, no_packs, NotesBatch, lock_after};
 
 use crate::accepted::{is_accepted, own_after};
 use crate::counts::moved;
@@ -30,6 +30,36 @@ pub(crate) fn record_of<A: Allocator>(batches: &Batches<A>, key: &BatchKey) -> O
     ensures { result ≡ get same_batch batches.now key.now }
 {
     batches.get(key).copied()
+}
+
+/// The batch that a recall or withdrawal names.
+fn locked_batch(question: &Question) -> Option<Batch>
+    ensures { result ≡ locked_batch question.now }
+{
+    match question {
+        Question::Recall(_, batch) | Question::Withdraw(_, batch) => Some(*batch),
+        _ => None,
+    }
+}
+
+/// The record of the batch that a recall or withdrawal names, or else that of the known pack.
+pub(crate) fn asked<A: Allocator>(
+    batches: &Batches<A>,
+    question: &Question,
+    known: &Option<Known>,
+) -> Option<BatchRecord>
+    ensures { result ≡ batch_asked batches.now (code_of question.now) (locked_batch question.now) known.now }
+{
+    let batch = match (locked_batch(question), known) {
+        (Some(batch), _) => batch,
+        (None, Some(known)) => known.batch,
+        (None, None) => return None,
+    };
+    let key = BatchKey {
+        code: question.code(),
+        batch,
+    };
+    record_of(batches, &key)
 }
 
 /// The batch that an accepted question changes, of a pack that is known or not.

@@ -6,6 +6,8 @@ mod batches;
 mod codes;
 mod counts;
 mod packs;
+mod tables;
 mod writes;
 
 pub use packs::PackRecord;
+pub use tables::Tables;

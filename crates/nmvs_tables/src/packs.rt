@@ -6,7 +6,7 @@ ghost use Rattle.nmvs_identifier.specs.declared.pack.Pack.{Pack};
 ghost use Rattle.nmvs_identifier.specs.Pack.{same_pack};
 ghost use Rattle.nmvs_rules.specs.Questions.{pack_of};
 ghost use Rattle.nmvs_rules.specs.Trail as trails;
-ghost use Rattle.nmvs_tables.specs.Packs.{about_in, known_in, known_by, pack_after};
+ghost use Rattle.nmvs_tables.specs.Packs.{about_in, known_in, about_by, known_by, pack_after};
 
 use crate::accepted::{is_accepted, own_after};
 use crate::writes::put;
@@ -41,6 +41,21 @@ fn known_of(old: &Option<PackRecord>) -> Option<Known>
         Some(record) => record.known,
         None => None,
     }
+}
+
+/// The record of the pack that a question names, or one of no entries.
+pub(crate) fn asked<A: Allocator>(packs: &Packs<A>, question: &Question) -> PackRecord
+    ensures about { result.about ≡ about_by packs.now (pack_of question.now) }
+    ensures known { result.known ≡ known_by packs.now (pack_of question.now) }
+{
+    let old = match question.pack() {
+        Some(pack) => record_of(packs, &pack),
+        None => None,
+    };
+    old.unwrap_or(PackRecord {
+        about: 0,
+        known: None,
+    })
 }
 
 /// What is known of a pack after an accepted entry at a place about it.
