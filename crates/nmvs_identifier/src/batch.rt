@@ -1,4 +1,4 @@
-//! Batch numbers.
+//! Batch numbers: application identifier 10 (GS1 General Specifications, section 3.4.1).
 ghost use Rattle.std.specs.Prelude.{◌≡◌, ℕ, ◌<◌, ◌≤◌, ◌↔◌, IsTrue, IsOk, IfOk, IsErrOf, length, false};
 ghost use Rattle.std.specs.List.{list_all};
 ghost use Rattle.nmvs_identifier.specs.Characters.{is_in_set_82};
@@ -9,7 +9,7 @@ use arrayvec::ArrayString;
 use std::marker::Model;
 use thiserror::Error;
 
-/// Why a text is no batch number.
+/// Why a text is no batch number: the first of these that holds.
 #[derive(Clone, Copy, Debug, PartialEq, Eq, Error)]
 pub enum BatchFault {
     #[error("the batch number is empty")]
@@ -20,7 +20,9 @@ pub enum BatchFault {
     Character,
 }
 
-/// A batch number.
+/// The number of a batch: 1 to 20 characters of the GS1 character set 82 (section 7.11; Article 4 of the Regulation).
+///
+/// Order, equality and hash are those of its text.
 #[derive(Clone, Copy, Debug, PartialEq, Eq, PartialOrd, Ord, Hash)]
 pub struct Batch {
     text: ArrayString<20>,
@@ -41,7 +43,8 @@ impl Model for Batch {
 }
 
 impl Batch {
-    /// Reads a batch number, or tells the first fault.
+    /// Reads a batch number. It is refused by the first fault that holds: no byte at all, more than 20 bytes, a character outside of
+    /// set 82.
     pub fn read(text: &str) -> Result<Batch, BatchFault>
         ensures accepts { IsOk result ↔ IsTrue (is_batch text.now) }
         ensures kept { IfOk result (λ batch. batch.bytes ≡ text.now) }
@@ -64,14 +67,7 @@ impl Batch {
         })
     }
 
-    /// Tells a proof that the text is in its grammar. It does nothing.
-    pub fn in_grammar(&self)
-        ensures { IsTrue (is_batch self.now.bytes) }
-    {
-        let _text = &self.text;
-    }
-
-    /// The text.
+    /// The characters as read.
     pub fn text(&self) -> &str
         ensures text { result.now ≡ self.now.bytes }
         ensures grammar { IsTrue (is_batch self.now.bytes) }

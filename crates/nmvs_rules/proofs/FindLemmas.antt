@@ -13,9 +13,9 @@ find-passes p (y ∷ ys) x found =
 
 -- where `find` gives an element that passes another test, some element passes it
 pub find-any : {X : Type 0} (p q : X → Bool) → (xs : List X) (x : X) → find p xs ≡ Some x → q x ≡ true → list_any q xs ≡ true
-find-any p q [] x found h = cc
-find-any p q (y ∷ ys) x found h =
+find-any p q [] x e h = cc
+find-any p q (y ∷ ys) x e h =
     elim (p y) as (λ b. cond b (Some y) (find p ys) ≡ Some x → list_any q (y ∷ ys) ≡ true) [
       | true ↦ λ is. let same : y ≡ x = cc in rw (same, h) refl
       | false ↦ λ is. grind (arith, find-any p q ys x is h)
-    ] found
+    ] e

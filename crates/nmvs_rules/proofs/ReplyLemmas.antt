@@ -1,5 +1,5 @@
 -- What a reply tells of the trail that it was given on.
-use Rattle.std.proofs.Common.{◌≡◌, ℕ, Bool, true, false, not, ◌&&◌, cond, List, Option, Some, None, refl, sym, ap, ◌∙◌}
+use Rattle.std.proofs.Common.{◌≡◌, ℕ, Bool, true, false, not, ◌&&◌, cond, List, Option, Some, None, refl, sym, ap, subst, ◌∙◌}
 use Rattle.std.specs.Cmp.{first_so, second_so}
 use Rattle.std.specs.Option.{is_some}
 use Rattle.nmvs_identifier.specs.Batch.{Batch}
@@ -21,6 +21,11 @@ use Rattle.nmvs_rules.specs.Trail.{known, accepts, is_about, is_accepted, is_mar
 use Rattle.nmvs_rules.specs.Rules.{on_pack, lock_on, is_active, is_free, is_stolen, is_destroyed, is_supplied, is_authentic, is_past, is_same_place, is_in_time, is_held_by, has_other_holder, alert_on, alert_unknown, verify_reply, decommission_reply, revert_reply, theft_reply, upload_reply, reply_to, reply_of, put_of}
 use Rattle.nmvs_rules.specs.Laws.{is_decommissioning, is_reversion, is_confirmed, uploads, decommissions, reverts, confirms}
 use Rattle.nmvs_rules.proofs.TextLemmas.{same_pack-code, same_text-refl, known-same, lock_of-same}
+
+-- a question that reports a theft
+abbrev pub is_theft : Question → Bool
+is_theft (Theft _) = true
+is_theft _ = false
 
 -- the pack is known, and this holds of what is known of it
 abbrev pub KnownAnd : List Entry → Pack → (Known → Type 0) → Type 0
@@ -196,3 +201,20 @@ reply-question t q n is = ap (λ z. cond (may_ask q.actor.role z) (reply_to t q.
 -- what is not refused for its role was asked by one that may
 pub may-tells : (t : List Entry) (n : ℕ) (a : Actor) (q : Question) (r : Reply) → (reply.Refused refusal.Role ≡ r → ⊥) → IsReply t n a q r → may_ask a.role q ≡ true
 may-tells t n a q r other h = (cond-then (may_ask a.role q) _ _ _ other (sym h)).0
+
+-- a pack is reported as stolen only once
+pub thefts-tells : (t : List Entry) (e : Entry) (p : Pack) → e.reply ≡ reply_of t (put_of e) → (is_mark p e && is_theft e.question) ≡ true → KnownAnd t p (λ k. is_stolen k.own ≡ false)
+thefts-tells t e p lawful h = by e.question e.reply lawful h
+  where
+    by : (q : Question) (r : Reply) → IsReply t e.moment e.actor q r → ((names p (pack_of q) && accepts q r) && is_theft q) ≡ true → KnownAnd t p (λ k. is_stolen k.own ≡ false)
+    by (Theft s) reply.MarkedStolen is c =
+        KnownAnd-same t p s _ (first_so (same_pack p s) _ (first_so _ _ c)) (theft-tells t e.moment e.actor s is)
+    by (Theft s) r is c = let none : false ≡ true = second_so (same_pack p s) false (first_so (same_pack p s && false) true c) in cc
+    by q r is c = let none : false ≡ true = second_so (names p (pack_of q) && accepts q r) (is_theft q) c in cc
+
+-- what holds of the pack that is known, at a name of its own
+pub known-holds : (t : List Entry) (p : Pack) (k : Known) (P : Known → Type 0) → known t p ≡ Some k → KnownAnd t p P → P k
+known-holds t p k P is h = let same : h.0 ≡ k = some-same h.0 k (sym h.1 ∙ is) in subst P same h.2
+  where
+    some-same : (x y : Known) → Some x ≡ Some y → x ≡ y
+    some-same x y same = cc

@@ -31,6 +31,7 @@ use Rattle.nmvs_rules.specs.Rules.{is_free, is_active, is_stolen, is_destroyed, 
 use Rattle.nmvs_rules.specs.Laws.{IsUploadedWith, IsRevertible, is_decommissioning}
 use Rattle.nmvs_rules.proofs.TextLemmas.{same_text-bytes, same_text-from_bytes}
 use Rattle.nmvs_rules.proofs.ReplyLemmas.{KnownAnd, IsReply, IsReversible, revert-tells, may-tells, reply-question}
+use Rattle.nmvs_rules.proofs.CourseLemmas.{decommissioned-not_active}
 use Rattle.nmvs_rules.proofs.MarkLemmas.{KnownBy, known-by, known-made}
 
 not_past : (d : ℤ) (n : ℕ) → int_lt d (pos n) ≡ false → pos n ≤ℤ d
@@ -59,14 +60,6 @@ decommissioned-last : (q : Question) → is_active (own_by q) ≡ false → is_s
 decommissioned-last (Decommission p w) active stolen = refl
 decommissioned-last (Theft p) active stolen = sym stolen
 decommissioned-last q active stolen = sym active
-
-pub decommissioned-not_active : (q : Question) → is_decommissioning q ≡ true → is_active (own_by q) ≡ false
-decommissioned-not_active (Decommission p reason.Supply) h = refl
-decommissioned-not_active (Decommission p reason.Hold) h = refl
-decommissioned-not_active (Decommission p reason.Export) h = refl
-decommissioned-not_active (Decommission p reason.Sample) h = refl
-decommissioned-not_active (Decommission p reason.Destroy) h = refl
-decommissioned-not_active q h = cc
 
 not-own : (is : Own → Bool) (o : Own) (w : Own) (s : Option Own) → s ≡ Some o → is o ≡ false → is w ≡ true → s ≢ Some w
 not-own is o w s now fails passes h = let same : Some o ≡ Some w = sym now ∙ h in let e : o ≡ w = cc in let b : false ≡ true = sym fails ∙ ap is e ∙ passes in cc
@@ -133,17 +126,17 @@ reversion t p q may h =
     let is : known t p ≡ Some k = known-made t p upload.2.0 upload.0 h.last h.batch h.expiry upload.1 upload.2.1 h.marked in
     let now : own_of t p ≡ Some k.own = ap (option_map (λ m. own_by m.question)) h.marked in
     let place : is_same_place q.actor k.mark ≡ true =
-        ap (λ b. b && same_text q.actor.premises h.last.actor.premises) (same_text-from_bytes q.actor.authorisation h.last.actor.authorisation h.same_authorisation)
-        ∙ same_text-from_bytes q.actor.premises h.last.actor.premises h.same_premises in
+    ap (λ b. b && same_text q.actor.premises h.last.actor.premises) (same_text-from_bytes q.actor.authorisation h.last.actor.authorisation h.same_authorisation)
+    ∙ same_text-from_bytes q.actor.premises h.last.actor.premises h.same_premises in
     ap (λ b. cond b (reply_to t q.moment q.actor (Revert p)) (reply.Refused refusal.Role)) may
     ∙ ap (λ o. on_pack o (reply.Refused refusal.Unknown) (λ k. revert_reply q.moment q.actor k (lock_on t p k))) is
     ∙ reverted q.moment q.actor k (lock_on t p k)
-      (ap is_free h.free)
-      (decommissioned-not_active h.last.question h.decommissioned)
-      (own-not k.own own.Stolen _ is_stolen only-stolen now h.not_stolen)
-      (own-not k.own own.Destroyed _ is_destroyed only-destroyed now h.not_destroyed)
-      (own-not k.own own.Supplied _ is_supplied only-supplied now h.not_supplied)
-      place (time_in _ _ h.within_ten_days) (past_not _ _ h.not_expired)
+    (ap is_free h.free)
+    (decommissioned-not_active h.last.question h.decommissioned)
+    (own-not k.own own.Stolen _ is_stolen only-stolen now h.not_stolen)
+    (own-not k.own own.Destroyed _ is_destroyed only-destroyed now h.not_destroyed)
+    (own-not k.own own.Supplied _ is_supplied only-supplied now h.not_supplied)
+    place (time_in _ _ h.within_ten_days) (past_not _ _ h.not_expired)
 
 pub reversion-exact : (t : List Entry) (q : Put) (p : Pack) → q.question ≡ Revert p → (reply_of t q ≡ reply.Reverted) ↔ (IsTrue (may_ask q.actor.role q.question) × IsRevertible t p q)
 reversion-exact t q p is = (forward, backward)
@@ -151,9 +144,10 @@ reversion-exact t q p is = (forward, backward)
     forward : reply_of t q ≡ reply.Reverted → IsTrue (may_ask q.actor.role q.question) × IsRevertible t p q
     forward h =
         let given : IsReply t q.moment q.actor (Revert p) reply.Reverted = sym h ∙ reply-question t q (Revert p) is in
-        let pack = revert-tells t q.moment q.actor p given in
-        (ap (may_ask q.actor.role) is ∙ may-tells t q.moment q.actor (Revert p) _ (λ e. cc) given,
-         revertible t p q pack.0 (known-by t p pack.0 pack.1) pack.2)
+        let pack = revert-tells t q.moment q.actor p given in (
+          ap (may_ask q.actor.role) is ∙ may-tells t q.moment q.actor (Revert p) _ (λ e. cc) given,
+          revertible t p q pack.0 (known-by t p pack.0 pack.1) pack.2,
+        )
 
     backward : IsTrue (may_ask q.actor.role q.question) × IsRevertible t p q → reply_of t q ≡ reply.Reverted
     backward h = reply-question t q (Revert p) is ∙ reversion t p q (sym (ap (may_ask q.actor.role) is) ∙ h.0) h.1

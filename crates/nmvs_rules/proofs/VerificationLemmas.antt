@@ -20,7 +20,8 @@ use Rattle.nmvs_rules.specs.Laws.{IsUploadedWith, IsInCirculation, is_reversion}
 use Rattle.nmvs_rules.proofs.FindLemmas.{find-passes}
 use Rattle.nmvs_rules.proofs.ReplyLemmas.{KnownAnd, IsReply, IsAuthentic, verify-tells, may-tells, reply-question}
 use Rattle.nmvs_rules.proofs.MarkLemmas.{KnownBy, known-by, known-made}
-use Rattle.nmvs_rules.proofs.ReversionLemmas.{free-lock, from-some, uploaded-with, decommissioned-not_active}
+use Rattle.nmvs_rules.proofs.CourseLemmas.{decommissioned-not_active}
+use Rattle.nmvs_rules.proofs.ReversionLemmas.{free-lock, from-some, uploaded-with}
 
 -- the last accepted entry about an active pack is an upload or a reversion
 active-last : (p : Pack) (q : Question) (r : Reply) → (names p (pack_of q) && accepts q r) ≡ true → is_active (own_by q) ≡ true → (is_upload q || is_reversion q) ≡ true
@@ -71,9 +72,13 @@ verification-exact t q p b x late is = (forward, backward)
         let expiry : k.expiry ≡ x = cc in
         let past : is_past k.expiry q.moment ≡ late = cc in
         let uploaded : IsUploadedWith t p b x = subst (λ z. IsUploadedWith t p b z) expiry (subst (λ z. IsUploadedWith t p z k.expiry) batch (uploaded-with t p k by)) in
-        let free : lock_of t p.code b ≡ lock.Free = ap (lock_of t p.code) (sym batch) ∙ free-lock (lock_of t p.code k.batch) pack.2.0.free in
-        (ap (may_ask q.actor.role) is ∙ may-tells t q.moment q.actor (Verify p) _ (λ e. cc) given,
-         uploaded, in-circulation t p k by pack.2.0.active, free, sym past ∙ ap (λ z. is_past z q.moment) expiry)
+        let free : lock_of t p.code b ≡ lock.Free = ap (lock_of t p.code) (sym batch) ∙ free-lock (lock_of t p.code k.batch) pack.2.0.free in (
+          ap (may_ask q.actor.role) is ∙ may-tells t q.moment q.actor (Verify p) _ (λ e. cc) given,
+          uploaded,
+          in-circulation t p k by pack.2.0.active,
+          free,
+          sym past ∙ ap (λ z. is_past z q.moment) expiry,
+        )
 
     backward : IsTrue (may_ask q.actor.role q.question) × IsUploadedWith t p b x × IsInCirculation t p × (lock_of t p.code b ≡ lock.Free) × (late ≡ is_past x q.moment) → reply_of t q ≡ reply.Authentic b x late
     backward h =

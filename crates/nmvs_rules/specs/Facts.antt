@@ -1,4 +1,4 @@
--- What a reply rests on, and the reply by it.
+-- The few facts of a trail that a reply rests on, and the reply by them. All of this is own.
 use Rattle.std.specs.Prelude.{ℕ, List, Option, Some, None, is_some, if◌then◌else◌}
 use Rattle.nmvs_identifier.specs.ProductCode.{ProductCode}
 use Rattle.nmvs_identifier.specs.Batch.{Batch}
@@ -19,26 +19,31 @@ use Rattle.nmvs_rules.specs.Questions.{pack_of, code_of, locked_batch, may_ask}
 use Rattle.nmvs_rules.specs.Trail.{known, batch_record, holder_of, alerts_of, about_of}
 use Rattle.nmvs_rules.specs.Rules.{on_pack, upload_reply, alert_unknown, verify_reply, status_reply, decommission_reply, revert_reply, lock_reply, theft_reply}
 
--- what the reply rests on
+-- what is known of the pack that a question names
 abbrev pub pack_fact : List Entry → Option Pack → Option Known
 pack_fact t None = None
 pack_fact t (Some p) = known t p
 
+-- how many entries are about the pack that a question names
 abbrev pub about_fact : List Entry → Option Pack → ℕ
 about_fact t None = 0
 about_fact t (Some p) = about_of t p
 
+-- the record of a known pack's batch
 abbrev pub batch_by_known : List Entry → ProductCode → Option Known → Option BatchRecord
 batch_by_known t c None = None
 batch_by_known t c (Some k) = batch_record t c k.batch
 
+-- the record of the batch that a question names, else of the known pack's
 abbrev pub batch_named : List Entry → ProductCode → Option Batch → Option Known → Option BatchRecord
 batch_named t c None k = batch_by_known t c k
 batch_named t c (Some b) k = batch_record t c b
 
+-- the record of the batch that a question is about, where it is known
 abbrev pub batch_fact : List Entry → Question → Option BatchRecord
 batch_fact t q = batch_named t (code_of q) (locked_batch q) (pack_fact t (pack_of q))
 
+-- the facts of a trail that the reply to a question rests on
 abbrev pub facts_of : List Entry → Question → Facts
 facts_of t q = record {
   pack = pack_fact t (pack_of q);
@@ -48,15 +53,17 @@ facts_of t q = record {
   alerts = alerts_of t (code_of q);
 }
 
--- the reply by what it rests on
+-- the lock in a batch's record; a batch without a record is free
 abbrev pub lock_in : Option BatchRecord → BatchLock
 lock_in None = lock.Free
 lock_in (Some r) = r.lock
 
+-- how many packs of a batch are active, by its record
 abbrev pub active_in : Option BatchRecord → ℕ
 active_in None = 0
 active_in (Some r) = r.counts.active
 
+-- the reply to an admitted question by the facts: the lines of `reply_to`, with each look at the trail replaced by a fact
 abbrev pub reply_to_by : Facts → ℕ → Actor → Question → Reply
 reply_to_by f moment a (Upload p b x) = upload_reply a f.holder f.pack
 reply_to_by f moment a (Verify p) =
@@ -74,5 +81,6 @@ reply_to_by f moment a (Theft p) =
     on_pack f.pack (reply.Refused refusal.Unknown) (λ k. theft_reply a f.holder k)
 reply_to_by f moment a (Audit p) = reply.Shown f.about
 
+-- the reply of the rules by the facts
 abbrev pub reply_by : Facts → ℕ → Actor → Question → Reply
 reply_by f moment a q = if may_ask a.role q then reply_to_by f moment a q else reply.Refused refusal.Role

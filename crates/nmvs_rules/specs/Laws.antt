@@ -1,8 +1,9 @@
 -- What the laws over the rules speak of.
-use Rattle.std.specs.Prelude.{ℕ, ◌≡◌, ◌≢◌, ◌+◌, ◌≤◌, ◌==◌, pos, ◌≤ℤ◌, Bool, true, false, ◌&&◌, ◌||◌, IsTrue, List, filter, Some, IsSomeAnd}
+use Rattle.std.specs.Prelude.{ℕ, ◌≡◌, ◌≢◌, ◌+◌, ◌≤◌, ◌==◌, pos, ◌≤ℤ◌, Bool, true, false, ◌&&◌, ◌||◌, IsTrue, List, filter, filter_map, Option, Some, None, IsSomeAnd}
 use Rattle.nmvs_identifier.specs.Batch.{Batch}
 use Rattle.nmvs_identifier.specs.Expiry.{Expiry, expiry_day}
 use Rattle.nmvs_identifier.specs.Moment.{day_of}
+use Rattle.nmvs_rules.specs.declared.own.Own.{Own}
 use Rattle.nmvs_rules.specs.declared.own.Own.TheVariants as own
 use Rattle.nmvs_rules.specs.declared.batch_lock.BatchLock.TheVariants as lock
 use Rattle.nmvs_identifier.specs.ProductCode.{ProductCode}
@@ -14,7 +15,7 @@ use Rattle.nmvs_rules.specs.declared.reply.Reply.{Reply}
 use Rattle.nmvs_rules.specs.declared.reply.Reply.TheVariants as reply
 use Rattle.nmvs_rules.specs.declared.entry.Entry.{Entry}
 use Rattle.nmvs_rules.specs.Questions.{Put, code_of}
-use Rattle.nmvs_rules.specs.Trail.{has_code, is_upload, is_about, is_accepted, is_mark, born, mark, own_of, lock_of}
+use Rattle.nmvs_rules.specs.Trail.{has_code, uploads_batch, is_upload, is_about, is_accepted, is_mark, born, mark, own_of, lock_of}
 
 -- the entries with a product code, in order (own)
 abbrev pub part_of : List Entry → ProductCode → List Entry
@@ -72,6 +73,30 @@ IsUploadedWith t p b x = IsSomeAnd (born t p) (λ u. (r : Pack) × (u.question �
 -- its last accepted entry is an upload or a reversion (Article 11)
 abbrev pub IsInCirculation : List Entry → Pack → Type 0
 IsInCirculation t p = IsSomeAnd (mark t p) (λ m. IsTrue (is_upload m.question || is_reversion m.question))
+
+-- the pack was uploaded in this batch (Article 4)
+abbrev pub IsOfBatch : List Entry → Pack → ProductCode → Batch → Type 0
+IsOfBatch t p c b = IsSomeAnd (born t p) (λ u. IsTrue (uploads_batch c b u.question))
+
+-- the own status that an accepted operation may make of an own status (Articles 12, 13, 22, 25 and 40)
+abbrev pub may_become : Own → Own → Bool
+may_become own.Active own.Active = false
+may_become own.Active _ = true
+may_become own.Held own.Active = true
+may_become own.Exported own.Active = true
+may_become own.Sampled own.Active = true
+may_become own.Stolen _ = false
+may_become _ own.Stolen = true
+may_become _ _ = false
+
+-- the number of an alert
+abbrev pub alert_number : Reply → Option ℕ
+alert_number (reply.Alert _ _ n) = Some n
+alert_number _ = None
+
+-- the numbers of the alerts on a product code, in order (own)
+abbrev pub alert_numbers : List Entry → ProductCode → List ℕ
+alert_numbers t c = filter_map (λ e. alert_number e.reply) (part_of t c)
 
 -- all that Article 13(1) asks of a reversion q of the pack p
 pub record IsRevertible (t : List Entry) (p : Pack) (q : Put) : Type 0 where

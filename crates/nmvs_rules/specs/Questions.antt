@@ -1,4 +1,4 @@
--- What a question is about, and who may ask it.
+-- What a question names, and who may ask it.
 use Rattle.std.specs.Prelude.{ℕ, Bool, true, false, Option, Some, None}
 use Rattle.nmvs_identifier.specs.ProductCode.{ProductCode}
 use Rattle.nmvs_identifier.specs.Batch.{Batch}
@@ -13,14 +13,14 @@ use Rattle.nmvs_rules.specs.declared.reason.Reason.TheVariants as reason
 use Rattle.nmvs_rules.specs.declared.question.Question.{Question}
 use Rattle.nmvs_rules.specs.declared.question.Question.TheVariants.{Upload, Verify, Status, Decommission, Revert, Recall, Withdraw, Theft, Audit}
 
--- a question with the moment, the user and the actor that put it
+-- a question put: with its moment, its user, and in what capacity the user asks (Article 35: users and nature of each operation)
 pub record Put : Type 0 where
   pub moment : ℕ
   pub user : Name
   pub actor : Actor
   pub question : Question
 
--- the pack that a question names; a recall or withdrawal names none
+-- the pack that a question names; a recall or withdrawal names none, for it binds a whole batch (Article 40)
 abbrev pub pack_of : Question → Option Pack
 pack_of (Upload p b x) = Some p
 pack_of (Verify p) = Some p
@@ -32,7 +32,7 @@ pack_of (Withdraw c b) = None
 pack_of (Theft p) = Some p
 pack_of (Audit p) = Some p
 
--- the product code that a question names
+-- the product code that a question names, by itself or in a pack (Articles 4 and 40)
 abbrev pub code_of : Question → ProductCode
 code_of (Upload p b x) = p.code
 code_of (Verify p) = p.code
@@ -44,18 +44,18 @@ code_of (Withdraw c b) = c
 code_of (Theft p) = p.code
 code_of (Audit p) = p.code
 
--- the batch that a recall or withdrawal names
+-- the batch that a recall or withdrawal names, with its product code (Article 40)
 abbrev pub locked_batch : Question → Option Batch
 locked_batch (Recall c b) = Some b
 locked_batch (Withdraw c b) = Some b
 locked_batch _ = None
 
--- the pack is the one that the question names
+-- whether the pack that is named, if any, is p (own)
 abbrev pub names : Pack → Option Pack → Bool
 names p None = false
 names p (Some r) = same_pack p r
 
--- who may decommission for a reason
+-- who may decommission for which reason (own, after Articles 22 and 25)
 abbrev pub may_decommission : Role → Reason → Bool
 may_decommission role.Manufacturer reason.Export = true
 may_decommission role.Manufacturer reason.Sample = true
@@ -70,22 +70,24 @@ may_decommission role.Pharmacy reason.Hold = true
 may_decommission role.Pharmacy reason.Supply = true
 may_decommission _ _ = false
 
--- who handles packs
+-- who handles packs: manufacturers, wholesalers and those who supply to the public (own, after Articles 10 to 13)
 abbrev pub is_handler : Role → Bool
 is_handler role.Manufacturer = true
 is_handler role.Wholesaler = true
 is_handler role.Pharmacy = true
 is_handler _ = false
 
+-- a marketing authorisation holder (Article 40)
 abbrev pub is_holder : Role → Bool
 is_holder role.Holder = true
 is_holder _ = false
 
+-- a competent authority, which is shown the record of operations (Articles 35 and 39)
 abbrev pub is_authority : Role → Bool
 is_authority role.Authority = true
 is_authority _ = false
 
--- who may ask a question
+-- who may ask what; the status may be read by all (own, after Articles 22, 25, 36 and 40)
 abbrev pub may_ask : Role → Question → Bool
 may_ask r (Upload _ _ _) = is_holder r
 may_ask r (Recall _ _) = is_holder r

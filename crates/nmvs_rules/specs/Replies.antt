@@ -1,9 +1,9 @@
--- What replies are.
+-- The numbers of refusals.
 use Rattle.std.specs.Prelude.{ℕ}
 use Rattle.nmvs_rules.specs.declared.refusal.Refusal.{Refusal}
 use Rattle.nmvs_rules.specs.declared.refusal.Refusal.TheVariants as refusal
 
--- the number of a refusal
+-- the number by which a refusal is told (own)
 abbrev pub refusal_number : Refusal → ℕ
 refusal_number refusal.Role = 1
 refusal_number refusal.Unknown = 2

@@ -1,4 +1,5 @@
--- The reply that the rules give to a question on a trail.
+-- The reply that the rules give to a question on a trail. Of the conditions on a question the first that fails decides; their
+-- order is own.
 use Rattle.std.specs.Prelude.{ℕ, ◌+◌, ◌≡◌, pos, int_lt, nat_le, Bool, true, false, not, ◌&&◌, List, [], ◌∷◌, ◌++◌, Option, Some, None, is_some, if◌then◌else◌}
 use Rattle.nmvs_identifier.specs.Name.{Name}
 use Rattle.nmvs_identifier.specs.Expiry.{Expiry, expiry_day}
@@ -25,31 +26,36 @@ use Rattle.nmvs_rules.specs.declared.facts.Known.{Known}
 use Rattle.nmvs_rules.specs.Questions.{Put, may_ask}
 use Rattle.nmvs_rules.specs.Trail.{known, lock_of, holder_of, alerts_of, about_of, count_of, is_known_batch}
 
--- an expiry date is past at a moment
+-- whether the expiry date is past: the day of the moment, by UTC, comes after it (Article 13(1)(c); days of UTC are own)
 abbrev pub is_past : Expiry → ℕ → Bool
 is_past x moment = int_lt (expiry_day x.bytes) (pos (day_of moment))
 
+-- whether the batch is neither recalled nor withdrawn (Article 40)
 abbrev pub is_free : BatchLock → Bool
 is_free lock.Free = true
 is_free _ = false
 
+-- whether the pack is active: neither decommissioned nor reported stolen (Article 11)
 abbrev pub is_active : Own → Bool
 is_active own.Active = true
 is_active _ = false
 
+-- whether the pack was decommissioned for destruction (Articles 13(1)(d), 22 and 25)
 abbrev pub is_destroyed : Own → Bool
 is_destroyed own.Destroyed = true
 is_destroyed _ = false
 
+-- whether the pack was reported stolen (Articles 13(1)(d) and 40)
 abbrev pub is_stolen : Own → Bool
 is_stolen own.Stolen = true
 is_stolen _ = false
 
+-- whether the pack was supplied to the public (Articles 13(1)(e) and 25)
 abbrev pub is_supplied : Own → Bool
 is_supplied own.Supplied = true
 is_supplied _ = false
 
--- why a known pack is not authentic: its lock where not free, else its own status
+-- why a pack of a free batch is not authentic: its own status. An active one is authentic and has no alert (after Article 36)
 abbrev pub cause_by_own : Own → Cause
 cause_by_own own.Active = cause.Unknown
 cause_by_own own.Held = cause.Held
@@ -59,15 +65,18 @@ cause_by_own own.Sampled = cause.Sampled
 cause_by_own own.Destroyed = cause.Destroyed
 cause_by_own own.Stolen = cause.Stolen
 
+-- why a known pack is not authentic: its batch's lock where that is not free, else its own status (after Article 36)
 abbrev pub cause_of : Own → BatchLock → Cause
 cause_of o lock.Free = cause_by_own o
 cause_of o lock.Recalled = cause.Recalled
 cause_of o lock.Withdrawn = cause.Withdrawn
 
--- an alert on a known pack is flagged unless the batch is locked or the pack destroyed
+-- whether an alert on a known pack is flagged as a potential falsification: not where the pack is recalled, withdrawn or
+-- decommissioned for destruction (after Article 36)
 abbrev pub is_flagged : Own → BatchLock → Bool
-is_flagged o k = is_free k && not (is_destroyed o)
+is_flagged o l = is_free l && not (is_destroyed o)
 
+-- where a pack of a free batch may go (Article 12; the words, and what a held and a supplied pack give, are own)
 abbrev pub onward_by_own : Own → Onward
 onward_by_own own.Active = onward.Stock
 onward_by_own own.Held = onward.Supply
@@ -77,47 +86,55 @@ onward_by_own own.Sampled = onward.Authorities
 onward_by_own own.Destroyed = onward.Disposal
 onward_by_own own.Stolen = onward.Disposal
 
+-- where a pack may go: one of a recalled or withdrawn batch only to disposal (Articles 12 and 40)
 abbrev pub onward_by : Own → BatchLock → Onward
 onward_by o lock.Free = onward_by_own o
 onward_by o _ = onward.Disposal
 
+-- whether a known pack is authentic: its identifier is active, and its batch neither recalled nor withdrawn (Articles 11 and 40)
 abbrev pub is_authentic : Own → BatchLock → Bool
-is_authentic o k = is_active o && is_free k
+is_authentic o l = is_active o && is_free l
 
--- the actor has the authorisation and the premises of the mark's actor
+-- whether the actor is covered by the same authorisation and operates in the same premises as the mark's (Article 13(1)(a))
 abbrev pub is_same_place : Actor → Mark → Bool
 is_same_place a m = same_text a.authorisation m.authorisation && same_text a.premises m.premises
 
--- not more than ten days after the mark
+-- whether the moment is not more than 10 days after the mark (Article 13(1)(b)); it may be before it, and days are of UTC (own)
 abbrev pub is_in_time : ℕ → Mark → Bool
 is_in_time moment m = nat_le (day_of moment) (day_of m.moment + 10)
 
--- the code has another holder than this authorisation
+-- whether the product code has a holder, and another one than this authorisation (own)
 abbrev pub has_other_holder : Option Name → Name → Bool
 has_other_holder None n = false
 has_other_holder (Some h) n = not (same_text h n)
 
+-- whether this authorisation is the product code's holder (Article 40: the marketing authorisation holder)
 abbrev pub is_held_by : Option Name → Name → Bool
 is_held_by None n = false
 is_held_by (Some h) n = same_text h n
 
--- the replies to an admitted question, k the known pack, l the lock of its batch, n the alerts so far
+-- the alert on a known pack k whose batch has the lock l, after n alerts on its product code (Article 36; the number is own)
 abbrev pub alert_on : Known → BatchLock → ℕ → Reply
 alert_on k l n = reply.Alert (cause_of k.own l) (is_flagged k.own l) (n + 1)
 
+-- the alert on an unknown pack, after n alerts on its product code: always flagged (Article 36)
 abbrev pub alert_unknown : ℕ → Reply
 alert_unknown n = reply.Alert cause.Unknown true (n + 1)
 
+-- the reply to a verification of a known pack (Articles 11 and 36)
 abbrev pub verify_reply : ℕ → Known → BatchLock → ℕ → Reply
 verify_reply moment k l n =
     if is_authentic k.own l then reply.Authentic k.batch k.expiry (is_past k.expiry moment) else alert_on k l n
 
+-- the status of a known pack, told without an alert (Article 36)
 abbrev pub status_reply : Known → BatchLock → Reply
 status_reply k l = reply.StatusIs k.own l (onward_by k.own l) k.batch k.expiry
 
+-- the reply to a decommissioning of a known pack, an expired one too: it has to be authentic (Articles 22, 25 and 36)
 abbrev pub decommission_reply : Known → BatchLock → ℕ → Reply
 decommission_reply k l n = if is_authentic k.own l then reply.Decommissioned else alert_on k l n
 
+-- the reply to a reversion of a known pack: the conditions of Article 13(1)
 abbrev pub revert_reply : ℕ → Actor → Known → BatchLock → Reply
 revert_reply moment a k l =
     if not (is_free l) then reply.Refused refusal.Locked
@@ -130,12 +147,14 @@ revert_reply moment a k l =
     else (if is_past k.expiry moment then reply.Refused refusal.Expired
     else reply.Reverted)))))))
 
+-- the reply to a report that a known pack was stolen, whatever its own status (Article 40; who may report it is own)
 abbrev pub theft_reply : Actor → Option Name → Known → Reply
 theft_reply a holder k =
     if not (is_held_by holder a.authorisation) then reply.Refused refusal.NotHolder
     else (if is_stolen k.own then reply.Refused refusal.Already
     else reply.MarkedStolen)
 
+-- the reply to a recall or withdrawal, with the batch's active packs (Article 40; the first lock stays, which is own)
 abbrev pub lock_reply : Actor → Bool → Option Name → BatchLock → ℕ → Reply
 lock_reply a is_known holder l active =
     if not is_known then reply.Refused refusal.UnknownBatch
@@ -143,22 +162,23 @@ lock_reply a is_known holder l active =
     else (if not (is_free l) then reply.Refused refusal.Already
     else reply.LockedNow active))
 
+-- the reply to an upload: each pack once, and each product code by its holder alone (own)
 abbrev pub upload_reply : Actor → Option Name → Option Known → Reply
 upload_reply a holder k =
     if has_other_holder holder a.authorisation then reply.Refused refusal.NotHolder
     else (if is_some k then reply.Refused refusal.Duplicate
     else reply.Uploaded)
 
--- the lock of a known pack is that of its code and batch
+-- the lock of a known pack: that of its product code and batch (Article 40)
 abbrev pub lock_on : List Entry → Pack → Known → BatchLock
 lock_on t p k = lock_of t p.code k.batch
 
--- a reply where the pack is unknown, and one where it is known
+-- one reply where the pack is unknown, another where it is known
 abbrev pub on_pack : Option Known → Reply → (Known → Reply) → Reply
 on_pack None unknown f = unknown
 on_pack (Some k) unknown f = f k
 
--- the reply to an admitted question, the first line that applies
+-- the reply to an admitted question
 abbrev pub reply_to : List Entry → ℕ → Actor → Question → Reply
 reply_to t moment a (Upload p b x) = upload_reply a (holder_of t p.code) (known t p)
 reply_to t moment a (Verify p) =
@@ -176,23 +196,24 @@ reply_to t moment a (Theft p) =
     on_pack (known t p) (reply.Refused refusal.Unknown) (λ k. theft_reply a (holder_of t p.code) k)
 reply_to t moment a (Audit p) = reply.Shown (about_of t p)
 
--- the reply of the rules
+-- the reply of the rules: who may not ask is refused before all else (own)
 abbrev pub reply_of : List Entry → Put → Reply
 reply_of t q =
     if may_ask q.actor.role q.question then reply_to t q.moment q.actor q.question else reply.Refused refusal.Role
 
--- the question of an entry, and the entry of a question with its reply
+-- an entry's question as it was put
 abbrev pub put_of : Entry → Put
 put_of e = record { moment = e.moment; user = e.user; actor = e.actor; question = e.question }
 
+-- the entry that records a question as it was put, with its reply (Article 35)
 abbrev pub answered : Put → Reply → Entry
 answered q r = record { moment = q.moment; user = q.user; actor = q.actor; question = q.question; reply = r }
 
--- each entry of es, which follow the entries u, has the reply of the rules on all entries before it
+-- each of the entries es, which follow the entries u, has the reply of the rules on all entries before it
 abbrev pub IsLawfulAfter : List Entry → List Entry → Type 0
 IsLawfulAfter u [] = Unit {0}
 IsLawfulAfter u (e ∷ es) = (e.reply ≡ reply_of u (put_of e)) × IsLawfulAfter (u ++ e ∷ []) es
 
--- each entry has the reply of the rules on the entries before it
+-- a lawful trail: each entry has the reply of the rules on the entries before it (own)
 abbrev pub IsLawful : List Entry → Type 0
 IsLawful t = IsLawfulAfter [] t

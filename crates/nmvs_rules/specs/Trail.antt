@@ -1,4 +1,5 @@
--- What a trail, oldest entry first, says of packs, batches and product codes.
+-- What a trail says of packs, batches and product codes. A trail is the complete record of all operations, oldest entry first
+-- (Article 35). Nothing is kept beside it: each definition looks back over the whole list.
 use Rattle.std.specs.Prelude.{ℕ, ◌-◌, Bool, true, false, not, ◌&&◌, List, reverse, length, find, count_by, Option, Some, None, unwrap_or, if◌then◌else◌}
 use Rattle.std.specs.List.{list_any, suffix_len}
 use Rattle.std.specs.Option.{option_map, option_map_or}
@@ -24,11 +25,11 @@ use Rattle.nmvs_rules.specs.declared.facts.Counts.{Counts}
 use Rattle.nmvs_rules.specs.declared.facts.BatchRecord.{BatchRecord}
 use Rattle.nmvs_rules.specs.Questions.{pack_of, code_of, names}
 
--- the first entry that passes is `find`; this is the last one
+-- the last entry that passes a test (the first one is `find`)
 abbrev pub last : (Entry → Bool) → List Entry → Option Entry
 last p t = find p (reverse t)
 
--- a question was accepted, not refused, alerted or merely answered
+-- whether the reply accepts the question; a refusal, an alert and mere information do not (own)
 abbrev pub accepts : Question → Reply → Bool
 accepts (Upload _ _ _) reply.Uploaded = true
 accepts (Decommission _ _) reply.Decommissioned = true
@@ -38,49 +39,56 @@ accepts (Withdraw _ _) (reply.LockedNow _) = true
 accepts (Theft _) reply.MarkedStolen = true
 accepts _ _ = false
 
+-- whether the entry's question was accepted
 abbrev pub is_accepted : Entry → Bool
 is_accepted e = accepts e.question e.reply
 
+-- whether the entry is about the pack: its question names it
 abbrev pub is_about : Pack → Entry → Bool
 is_about p e = names p (pack_of e.question)
 
+-- whether the entry is about the product code
 abbrev pub has_code : ProductCode → Entry → Bool
 has_code c e = same_text c (code_of e.question)
 
+-- whether the question uploads a pack
 abbrev pub is_upload : Question → Bool
 is_upload (Upload _ _ _) = true
 is_upload _ = false
 
--- an upload of this batch
+-- whether the question uploads a pack of this product code and batch
 abbrev pub uploads_batch : ProductCode → Batch → Question → Bool
 uploads_batch c b (Upload p d _) = same_text c p.code && same_text b d
 uploads_batch c b _ = false
 
--- a recall or withdrawal of this batch
+-- whether the question recalls or withdraws this batch of this product code (Article 40)
 abbrev pub locks_batch : ProductCode → Batch → Question → Bool
 locks_batch c b (Recall d e) = same_text c d && same_text b e
 locks_batch c b (Withdraw d e) = same_text c d && same_text b e
 locks_batch c b _ = false
 
+-- whether the reply is an alert (Article 36)
 abbrev pub is_alert : Reply → Bool
 is_alert (reply.Alert _ _ _) = true
 is_alert _ = false
 
--- the accepted upload that made a pack known
+-- the first accepted upload of a pack, which makes it known and gives its batch and expiry (Article 4)
 abbrev pub born : List Entry → Pack → Option Entry
 born t p = find (λ e. (is_upload e.question && is_about p e) && is_accepted e) t
 
--- the last accepted entry about a pack
+-- whether the entry is accepted and about the pack
 abbrev pub is_mark : Pack → Entry → Bool
 is_mark p e = is_about p e && is_accepted e
 
+-- the last accepted entry about a pack, which gives its own status (own)
 abbrev pub mark : List Entry → Pack → Option Entry
 mark t p = last (is_mark p) t
 
--- how many entries stand before the mark: all but the mark and those after it
+-- how many entries stand before the mark: all but the mark itself and the run of other entries at the end (own)
 abbrev pub mark_place : List Entry → Pack → ℕ
 mark_place t p = length t - suffix_len (λ e. not (is_mark p e)) t - 1
 
+-- the own status that a decommissioning for this reason gives (own, after Articles 22 and 25)
 abbrev pub own_by_reason : Reason → Own
 own_by_reason reason.Supply = own.Supplied
 own_by_reason reason.Hold = own.Held
@@ -88,45 +96,45 @@ own_by_reason reason.Export = own.Exported
 own_by_reason reason.Sample = own.Sampled
 own_by_reason reason.Destroy = own.Destroyed
 
--- the own status after an accepted question
+-- the own status that an accepted question gives: active by an upload or a reversion (Articles 11, 13 and 40)
 abbrev pub own_by : Question → Own
 own_by (Decommission _ r) = own_by_reason r
 own_by (Theft _) = own.Stolen
 own_by _ = own.Active
 
+-- a pack's own status, where it has a mark (Articles 22, 25 and 40)
 abbrev pub own_of : List Entry → Pack → Option Own
 own_of t p = option_map (λ m. own_by m.question) (mark t p)
 
+-- the lock that a recall or withdrawal puts on its batch (Article 40)
 abbrev pub lock_by : Question → BatchLock
 lock_by (Recall _ _) = lock.Recalled
 lock_by (Withdraw _ _) = lock.Withdrawn
 lock_by _ = lock.Free
 
--- the kind of the first accepted recall or withdrawal of the batch
+-- the lock of a batch: its first accepted recall or withdrawal, which stays and binds packs uploaded later too (Article 40)
 abbrev pub lock_of : List Entry → ProductCode → Batch → BatchLock
 lock_of t c b = option_map_or (λ e. lock_by e.question) (find (λ e. locks_batch c b e.question && is_accepted e) t) lock.Free
 
--- whose authorisation uploaded the product code first
+-- the holder of a product code: the authorisation of its first accepted upload (own)
 abbrev pub holder_of : List Entry → ProductCode → Option Name
 holder_of t c =
     option_map (λ e. e.actor.authorisation) (find (λ e. (is_upload e.question && has_code c e) && is_accepted e) t)
 
+-- how many alerts a product code has had (own)
 abbrev pub alerts_of : List Entry → ProductCode → ℕ
 alerts_of t c = count_by (λ e. has_code c e && is_alert e.reply) t
 
+-- how many entries are about a pack (Article 35)
 abbrev pub about_of : List Entry → Pack → ℕ
 about_of t p = count_by (is_about p) t
 
-abbrev pub batch_in : Question → Batch → Batch
-batch_in (Upload _ b _) d = b
-batch_in _ d = d
-
--- the mark that an entry at a place is
+-- what is kept of an entry as a mark: its place, its moment, and by which authorisation and at which premises (Article 13(1))
 abbrev pub mark_after : ℕ → Entry → Mark
 mark_after place e =
     record { place = place; moment = e.moment; authorisation = e.actor.authorisation; premises = e.actor.premises }
 
--- a known pack: batch and expiry from the accepted upload, the rest from the mark
+-- what is known by an accepted upload and a mark m: batch and expiry from the upload, the rest from m
 abbrev pub known_at : List Entry → Pack → Entry → Question → Option Known
 known_at t p m (Upload _ b x) =
     Some (record {
@@ -137,31 +145,38 @@ known_at t p m (Upload _ b x) =
     })
 known_at t p m _ = None
 
+-- what is known by the accepted upload u, and the mark: as u is accepted there is one, so `unwrap_or` never falls back on u
 abbrev pub known_from : List Entry → Pack → Option Entry → Option Known
 known_from t p None = None
 known_from t p (Some u) = known_at t p (unwrap_or (mark t p) u) u.question
 
+-- what is known of a pack: nothing before its accepted upload (Articles 4 and 11)
 abbrev pub known : List Entry → Pack → Option Known
 known t p = known_from t p (born t p)
 
+-- what an accepted question at a place makes known of a pack that was unknown: an upload all, another nothing
 abbrev pub born_by : ℕ → Entry → Question → Option Known
 born_by place e (Upload _ b x) = Some (record { batch = b; expiry = x; own = own.Active; mark = mark_after place e })
 born_by place e _ = None
 
+-- what is known of a pack after one more accepted entry about it
 abbrev pub marked_by : ℕ → Entry → Option Known → Option Known
 marked_by place e None = born_by place e e.question
 marked_by place e (Some k) = Some (record k { own = own_by e.question; mark = mark_after place e })
 
+-- what is known of a pack after one more entry
 abbrev pub known_after : Pack → ℕ → Entry → Option Known → Option Known
 known_after p place e k = if is_mark p e then marked_by place e k else k
 
--- a batch is known from its first accepted upload
+-- whether the entry is an accepted upload of a pack of the batch
 abbrev pub is_birth_in : ProductCode → Batch → Entry → Bool
 is_birth_in c b e = uploads_batch c b e.question && is_accepted e
 
+-- whether a pack of the batch is known
 abbrev pub is_known_batch : List Entry → ProductCode → Batch → Bool
 is_known_batch t c b = list_any (is_birth_in c b) t
 
+-- whether two own statuses are the same
 abbrev pub same_own : Own → Own → Bool
 same_own own.Active own.Active = true
 same_own own.Held own.Held = true
@@ -172,19 +187,21 @@ same_own own.Destroyed own.Destroyed = true
 same_own own.Stolen own.Stolen = true
 same_own _ _ = false
 
+-- whether the own status, if there is one, is s
 abbrev pub is_own : Own → Option Own → Bool
 is_own s None = false
 is_own s (Some o) = same_own s o
 
--- the pack that a question names has this own status now
+-- whether the pack that is named, if any, has the own status s now
 abbrev pub stands_at : List Entry → Own → Option Pack → Bool
 stands_at t s None = false
 stands_at t s (Some p) = is_own s (own_of t p)
 
--- how many packs of the batch have this own status now: a lawful trail has one accepted upload for each
+-- how many packs of the batch have the own status s now: a lawful trail has one accepted upload for each known pack
 abbrev pub count_of : List Entry → ProductCode → Batch → Own → ℕ
 count_of t c b s = count_by (λ e. is_birth_in c b e && stands_at t s (pack_of e.question)) t
 
+-- how many packs of the batch have each own status now
 abbrev pub counts_of : List Entry → ProductCode → Batch → Counts
 counts_of t c b = record {
   active = count_of t c b own.Active;
@@ -196,6 +213,7 @@ counts_of t c b = record {
   stolen = count_of t c b own.Stolen;
 }
 
+-- what is kept of a batch, where it is known
 abbrev pub batch_record : List Entry → ProductCode → Batch → Option BatchRecord
 batch_record t c b =
     if is_known_batch t c b then Some (record { lock = lock_of t c b; counts = counts_of t c b }) else None

@@ -1,16 +1,19 @@
 //! What follows from the rules, whatever the trail. Each function here does nothing: its contract is the law.
-ghost use Rattle.std.specs.Prelude.{◌≡◌, ◌↔◌, ℕ, Bool, IsTrue, List, count_by, is_some, if◌then◌else◌};
+ghost use Rattle.std.specs.Prelude.{◌≡◌, ◌↔◌, ℕ, Bool, IsTrue, IsFalse, ◌&&◌, List, ◌∷◌, ◌++◌, Some, count_by, is_some, if◌then◌else◌};
 ghost use Rattle.nmvs_identifier.specs.Batch.{Batch};
 ghost use Rattle.nmvs_identifier.specs.Expiry.{Expiry};
+ghost use Rattle.nmvs_identifier.specs.ProductCode.{ProductCode};
 ghost use Rattle.nmvs_identifier.specs.declared.pack.Pack.{Pack};
 ghost use Rattle.nmvs_rules.specs.declared.entry.Entry.{Entry};
 ghost use Rattle.nmvs_rules.specs.declared.question.Question.TheVariants.{Verify, Revert};
 ghost use Rattle.nmvs_rules.specs.declared.reply.Reply.TheVariants as reply;
+ghost use Rattle.nmvs_rules.specs.declared.facts.Known.{Known};
+ghost use Rattle.std.specs.List.{list_any, range_with_len};
 ghost use Rattle.nmvs_rules.specs.declared.batch_lock.BatchLock.TheVariants as lock;
 ghost use Rattle.nmvs_rules.specs.Questions.{Put, code_of, may_ask};
 ghost use Rattle.nmvs_rules.specs.Rules.{reply_of, is_past, IsLawful};
-ghost use Rattle.nmvs_rules.specs.Trail.{known, lock_of};
-ghost use Rattle.nmvs_rules.specs.Laws.{part_of, kept, placed_at, uploads, IsUploadedWith, IsInCirculation, IsRevertible};
+ghost use Rattle.nmvs_rules.specs.Trail.{known, own_by, is_mark, lock_of, locks_batch, is_accepted, alerts_of};
+ghost use Rattle.nmvs_rules.specs.Laws.{alert_numbers, part_of, kept, placed_at, uploads, IsUploadedWith, IsInCirculation, IsRevertible, may_become, decommissions, supplies, reverts, confirms, IsOfBatch};
 
 /// Locality: the reply to a question rests on the entries with its product code alone.
 pub fn locality()
@@ -39,20 +42,52 @@ pub fn one_birth()
 /// of that product code and serial with the batch and expiry date of the answer, the last accepted operation on the
 /// pack is an upload or a reversion, and its batch is free (Article 11).
 pub fn verification()
-    ensures {
-        (t : List Entry) (q : Put) (p : Pack) (b : Batch) (x : Expiry) (expired : Bool) → q.question ≡ Verify p →
+    ensures { (t : List Entry) (q : Put) (p : Pack) (b : Batch) (x : Expiry) (expired : Bool) → q.question ≡ Verify p →
         (reply_of t q ≡ reply.Authentic b x expired) ↔
-            (IsTrue (may_ask q.actor.role q.question) × IsUploadedWith t p b x × IsInCirculation t p
-                × (lock_of t p.code b ≡ lock.Free) × (expired ≡ is_past x q.moment))
-    }
-{
-}
+        (IsTrue (may_ask q.actor.role q.question) × IsUploadedWith t p b x × IsInCirculation t p
+        × (lock_of t p.code b ≡ lock.Free) × (expired ≡ is_past x q.moment)) }
+{}
 
 /// Reversion: a decommissioned pack is made active again exactly where the role may ask and all of Article 13(1) holds.
 pub fn reversion()
-    ensures {
-        (t : List Entry) (q : Put) (p : Pack) → q.question ≡ Revert p →
-        (reply_of t q ≡ reply.Reverted) ↔ (IsTrue (may_ask q.actor.role q.question) × IsRevertible t p q)
-    }
-{
-}
+    ensures { (t : List Entry) (q : Put) (p : Pack) → q.question ≡ Revert p →
+        (reply_of t q ≡ reply.Reverted) ↔ (IsTrue (may_ask q.actor.role q.question) × IsRevertible t p q) }
+{}
+
+/// Course: an accepted operation on a known pack moves its own status on as the Regulation lets it
+/// (Articles 12, 13, 22, 25 and 40).
+pub fn course()
+    ensures { (before after : List Entry) (e : Entry) (p : Pack) (k : Known) → IsLawful (before ++ e ∷ after) →
+        known before p ≡ Some k → IsTrue (is_mark p e) → IsTrue (may_become k.own (own_by e.question)) }
+{}
+
+/// Supplied once: behind the accepted supply of a pack to the public, it is never decommissioned again, never reverted,
+/// and never confirmed as authentic (Articles 11, 13 and 25).
+pub fn supplied_once()
+    ensures { (before between after : List Entry) (supply later : Entry) (p : Pack) →
+        IsLawful (before ++ supply ∷ between ++ later ∷ after) → IsTrue (supplies p supply) →
+        IsFalse (decommissions p later) × IsFalse (reverts p later) × IsFalse (confirms p later) }
+{}
+
+/// Decommissioned once: between two accepted decommissionings of a pack stands an accepted reversion (Articles 12 and 13).
+pub fn decommissioned_once()
+    ensures { (before between after : List Entry) (first second : Entry) (p : Pack) →
+        IsLawful (before ++ first ∷ between ++ second ∷ after) → IsTrue (decommissions p first) →
+        IsTrue (decommissions p second) → IsTrue (list_any (reverts p) between) }
+{}
+
+/// Recall: behind an accepted recall or withdrawal no pack of its batch, uploaded before it or later, is decommissioned,
+/// reverted or confirmed as authentic (Article 40).
+pub fn recall_binds()
+    ensures { (before between after : List Entry) (recall later : Entry) (c : ProductCode) (b : Batch) (p : Pack) →
+        IsLawful (before ++ recall ∷ between ++ later ∷ after) →
+        IsTrue (locks_batch c b recall.question && is_accepted recall) →
+        IsOfBatch (before ++ recall ∷ between ++ later ∷ after) p c b →
+        IsFalse (decommissions p later) × IsFalse (reverts p later) × IsFalse (confirms p later) }
+{}
+
+/// Alerts: in a lawful trail the alerts on a product code have the numbers 1, 2, 3 and so on, in order (Article 36).
+pub fn alerts()
+    ensures { (t : List Entry) (c : ProductCode) → IsLawful t →
+        alert_numbers t c ≡ range_with_len 1 (alerts_of t c) }
+{}

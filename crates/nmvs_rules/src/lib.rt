@@ -2,10 +2,15 @@
 #![tactic(auto)]
 
 mod actor;
+mod admission;
+mod alerting;
 mod batch_lock;
 mod cause;
+mod circulation;
+mod decision;
 mod entry;
 mod facts;
+mod holding;
 pub mod laws;
 mod onward;
 mod own;
@@ -13,11 +18,17 @@ mod question;
 mod reason;
 mod refusal;
 mod reply;
+mod reversion;
 mod role;
+#[cfg(test)]
+mod tests;
 
 pub use actor::Actor;
+pub use admission::may;
 pub use batch_lock::BatchLock;
 pub use cause::Cause;
+pub use circulation::onward_of;
+pub use decision::decide;
 pub use entry::Entry;
 pub use facts::{BatchRecord, Counts, Facts, Known, Mark};
 pub use onward::Onward;

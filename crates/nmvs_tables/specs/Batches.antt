@@ -1,9 +1,8 @@
 -- What is kept of a batch.
-use Rattle.std.specs.Prelude.{ℕ, ◌≡◌, ◌+◌, Bool, false, ◌&&◌, List, [], fold, Option, Some, None, unwrap_or, if◌then◌else◌}
+use Rattle.std.specs.Prelude.{ℕ, ◌≡◌, ◌+◌, Bool, false, ◌&&◌, List, [], ◌∷◌, ◌++◌, fold, Option, Some, None, unwrap_or, if◌then◌else◌}
 use Rattle.std.specs.HashMap.{HashMap, get, keys}
-use Rattle.std.specs.List.{filter_map}
+use Rattle.std.specs.List.{filter_map, list_any}
 use Rattle.std.specs.Option.{option_map, option_map_or}
-use Rattle.indexmap.specs.IndexSet.{insert_key}
 use Rattle.nmvs_identifier.specs.ProductCode.{ProductCode}
 use Rattle.nmvs_identifier.specs.Batch.{Batch}
 use Rattle.nmvs_identifier.specs.Texts.{same_text}
@@ -34,9 +33,13 @@ uploaded_batch _ = None
 abbrev pub batch_born : Entry → Option BatchKey
 batch_born e = if is_accepted e then uploaded_batch e.question else None
 
+-- the batches with one more, unless it is among them
+abbrev pub with_batch : List BatchKey → BatchKey → List BatchKey
+with_batch bs b = if list_any (same_batch b) bs then bs else bs ++ b ∷ []
+
 -- the batches of the accepted uploads, each once, in the order of the first ones
 abbrev pub batches_of : List Entry → List BatchKey
-batches_of t = fold (insert_key same_batch) [] (filter_map batch_born t)
+batches_of t = fold with_batch [] (filter_map batch_born t)
 
 -- how many packs have an own status, by the counts
 abbrev pub count_in : Counts → Own → ℕ
@@ -95,7 +98,7 @@ pub record NotesBatch (q : Question) (k : Option Known) (old new : BatchRecord) 
 -- the batches after an entry: a batch that it changes is among them
 abbrev pub batches_after : List BatchKey → Option BatchKey → List BatchKey
 batches_after bs None = bs
-batches_after bs (Some b) = insert_key same_batch bs b
+batches_after bs (Some b) = with_batch bs b
 
 -- the record of a batch in a table, or that of a batch without packs
 abbrev pub batch_in : {S : Type 0} → HashMap BatchKey BatchRecord S → BatchKey → BatchRecord

@@ -1,0 +1,18 @@
+-- What a window's reading tells.
+use Rattle.std.specs.Prelude.{◌≡◌, ◌⊎◌, List, []}
+use mathlib.Core.List.{IsPrefix}
+use Rattle.nmvs_identifier.specs.Name.{Name}
+use Rattle.nmvs_directory.specs.Known.{known}
+use Rattle.nmvs_directory.specs.declared.change.Change.{Change}
+use Rattle.nmvs_directory.specs.declared.look.Look.{Look}
+use Rattle.nmvs_directory.specs.declared.look.Look.TheVariants.{Closed}
+
+-- a window that had seen one list of changes looked up a user: it then has a list that begins with the former, by which the
+-- directory answers; or the users couldn't be entered, and it has what it had (own)
+abbrev pub Reads : List Change → List Change → Name → Look → Type 0
+Reads before after user look =
+    (IsPrefix before after × (look ≡ known after user)) ⊎ ((look ≡ Closed) × (after ≡ before))
+
+-- a window that saw nothing and was told nothing (own)
+abbrev pub IsFresh : List Change → Type 0
+IsFresh seen = seen ≡ []

@@ -1,0 +1,83 @@
+//! The making of a directory.
+ghost use Rattle.std.specs.Prelude.{◌≡◌, ◌≤◌, [], IfOk, All, vec_len};
+ghost use Rattle.nmvs_directory.specs.Registrar.{published, pending};
+ghost use Rattle.nmvs_directory.specs.Window.{IsFresh};
+
+use crate::history::{History, Opened};
+use crate::users::Users;
+use crate::{Naming, Registrar, Window};
+use left_right::WriteHandle;
+use std::alloc::Allocator;
+use std::sync::Wait;
+use thiserror::Error;
+
+/// Why a directory couldn't be opened.
+#[derive(Clone, Copy, Debug, PartialEq, Eq, Error)]
+pub enum DirectoryFault {
+    #[error("there is no memory for the directory")]
+    Memory,
+    #[error("a window was refused its place")]
+    Window,
+}
+
+/// A directory before it has its name.
+#[derive(Drop)]
+pub struct Directory {
+    opened: Opened,
+}
+
+impl Directory {
+    ghost use Rattle.nmvs_directory.specs.Directory.{directory_book};
+
+    /// It takes no memory.
+    pub fn new() -> Directory {
+        Directory {
+            opened: Opened::new(),
+        }
+    }
+
+    /// An empty directory under its name: its registrar, and so many windows. Where one is refused, the end of the others may wait.
+    pub fn open<J: Naming, R: Wait + Drop, A: Allocator + Copy>(
+        self,
+        rt: R,
+        alloc: A,
+        windows: usize,
+    ) -> Result<(Registrar<J, R, A>, Vec<Window<J, A>, A>), DirectoryFault>
+        requires name { directory_book self ≡ J.book }
+        requires windows { (1 ≤ windows) × (windows ≤ 8) }
+        ensures published { IfOk result (λ opened. published opened.0 ≡ []) }
+        ensures pending { IfOk result (λ opened. pending opened.0 ≡ []) }
+        ensures windows { IfOk result (λ opened. vec_len opened.1 ≡ windows) }
+        ensures fresh { IfOk result (λ opened. All IsFresh opened.1.items) }
+    {
+        let (tail, history) = self.opened.named::<J>();
+        let first = Users::new(alloc, history.again());
+        let second = Users::new(alloc, history.again());
+        let Ok(writer) = WriteHandle::new(alloc, rt, first, second, windows) else {
+            return Err(DirectoryFault::Memory);
+        };
+        let made = windows_over(&writer, &history, alloc, windows)?;
+        Ok((Registrar::new(tail, alloc, writer, history), made))
+    }
+}
+
+/// So many windows that have seen nothing.
+fn windows_over<J: Naming, R: Wait + Drop, A: Allocator + Copy>(
+    writer: &WriteHandle<Users<J, A>, History<J>, R, A>,
+    history: &History<J>,
+    alloc: A,
+    count: usize,
+) -> Result<Vec<Window<J, A>, A>, DirectoryFault>
+    requires { history.now ≡ [] }
+    ensures count { IfOk result (λ windows. vec_len windows ≡ count) }
+    ensures fresh { IfOk result (λ windows. All IsFresh windows.items) }
+{
+    let mut windows = Vec::with_capacity(alloc, count).map_err(|_| DirectoryFault::Memory)?;
+    for _made in 0..count {
+        let handle = writer.handle().map_err(|_| DirectoryFault::Window)?;
+        windows
+            .push(Window::new(handle, history.again()))
+            .map_err(|_| DirectoryFault::Memory)?;
+    }
+    Ok(windows)
+}

@@ -1,0 +1,14 @@
+use nmvs_rules::Actor;
+
+/// What a window answers about a user.
+#[derive(Clone, Copy, Debug, PartialEq, Eq)]
+pub enum Look {
+    /// No change named the user.
+    Nobody,
+    /// The last change that named the user suspended it.
+    Suspended,
+    /// The last change that named the user enrolled it.
+    Known(Actor),
+    /// The published users couldn't be entered.
+    Closed,
+}

@@ -1,0 +1,12 @@
+use std::marker::Brand;
+
+/// The name of a directory. A type parameter with this bound tells which directory a registrar, a window and a notice come from; a call picks it with `Brand`.
+pub trait Naming {
+    ghost use Rattle.logbook.specs.Pages.{Book};
+
+    ghost book: { Book };
+}
+
+impl Naming for Brand {
+    ghost book = { record { number = 0; log_name = 0; cells_name = 0 } };
+}

@@ -1,0 +1,99 @@
+-- The one line of each ask, and the first fault of a line (own).
+use Rattle.std.specs.Prelude.{ℕ, Bool, true, false, List, [], ◌∷◌, length, ◌+◌, ◌==◌, ◌&&◌, nat_lt, not, codes, Option, Some, None, if◌then◌else◌, ◌≡◌, ◌≤◌, ⊤, IsTrue}
+use Rattle.std.specs.List.{list_all, list_any}
+use Rattle.std.specs.Str.{bytes_eq}
+use Rattle.nmvs_identifier.specs.Name.{is_name}
+use Rattle.nmvs_identifier.specs.ProductCode.{is_product_code}
+use Rattle.nmvs_identifier.specs.Serial.{is_serial}
+use Rattle.nmvs_identifier.specs.Batch.{is_batch}
+use Rattle.nmvs_identifier.specs.Expiry.{is_expiry}
+use Rattle.nmvs_rules.specs.declared.question.Question.TheVariants as question
+use Rattle.nmvs_words.specs.declared.pack_question.PackQuestion.TheVariants.{Audit}
+use Rattle.nmvs_words.specs.declared.question_kind.QuestionKind.{QuestionKind}
+use Rattle.nmvs_words.specs.declared.question_kind.QuestionKind.TheVariants.{Upload, OfPack, OfBatch}
+use Rattle.nmvs_words.specs.Kinds.{kind_of, kind_word, kind_named, texts_of}
+use Rattle.nmvs_protocol.specs.declared.ask.Ask.{Ask}
+use Rattle.nmvs_protocol.specs.declared.ask.Ask.TheVariants.{Put, Quit}
+use Rattle.nmvs_protocol.specs.declared.line_fault.LineFault.{LineFault}
+use Rattle.nmvs_protocol.specs.declared.line_fault.LineFault.TheVariants as fault
+use Rattle.nmvs_protocol.specs.Fields.{is_printable, is_empty, fields_in, field, joined}
+
+-- the fields of an ask: the user, the question's word, and the texts of what it names
+abbrev pub fields : Ask → List (List ℕ)
+fields (Put user q) = user.bytes ∷ kind_word (kind_of q) ∷ texts_of q
+fields Quit = codes "QUIT" ∷ []
+
+-- the line of an ask, without LF
+abbrev pub line : Ask → List ℕ
+line a = joined (fields a)
+
+-- a field's grammar, and the fault where a text is not in it
+abbrev pub Grammar : Type 0
+Grammar = (List ℕ → Bool) × LineFault
+
+-- the fields that follow the word of a kind
+abbrev pub grammars : QuestionKind → List Grammar
+grammars Upload =
+    (is_product_code, fault.Code) ∷ (is_serial, fault.Serial) ∷ (is_batch, fault.Batch) ∷ (is_expiry, fault.Expiry) ∷ []
+grammars (OfPack _) = (is_product_code, fault.Code) ∷ (is_serial, fault.Serial) ∷ []
+grammars (OfBatch _) = (is_product_code, fault.Code) ∷ (is_batch, fault.Batch) ∷ []
+
+-- the fault of the first field, from field k on, that is not in its grammar
+abbrev pub first_misread : List ℕ → ℕ → List Grammar → Option LineFault
+first_misread x k [] = None
+first_misread x k (g ∷ gs) = if g.0 (field x k) then first_misread x (k + 1) gs else Some g.1
+
+-- the kinds that lines may put: as yet no audit
+abbrev pub without_audit : Option QuestionKind → Option QuestionKind
+without_audit (Some (OfPack Audit)) = None
+without_audit kind = kind
+
+-- the kind of question that a line puts by this word
+abbrev pub kind_put : List ℕ → Option QuestionKind
+kind_put w = without_audit (kind_named w)
+
+-- the first fault of a line that is to put a question whose word is of this kind
+abbrev pub question_fault : List ℕ → Option QuestionKind → Option LineFault
+question_fault x None = Some fault.Word
+question_fault x (Some kind) =
+    if not (length (fields_in x) == 2 + length (grammars kind)) then Some fault.Fields
+    else if not (is_name (field x 0)) then Some fault.User
+    else first_misread x 2 (grammars kind)
+
+-- the first fault of a line
+unfoldable pub first_fault : List ℕ → Option LineFault
+first_fault x =
+    if nat_lt 200 (length x) then Some fault.Long
+    else if not (list_all is_printable x) then Some fault.Bytes
+    else if list_any is_empty (fields_in x) then Some fault.Fields
+    else if length (fields_in x) == 1 then (if bytes_eq x (codes "QUIT") then None else Some fault.Fields)
+    else question_fault x (kind_put (field x 1))
+
+-- whether the texts of an ask are in their grammars
+abbrev pub all_read : List Grammar → List (List ℕ) → Bool
+all_read [] [] = true
+all_read (g ∷ gs) (t ∷ ts) = g.0 t && all_read gs ts
+all_read _ _ = false
+
+abbrev pub is_ask : Ask → Bool
+is_ask (Put user q) = is_name user.bytes && all_read (grammars (kind_of q)) (texts_of q)
+is_ask Quit = true
+
+-- whether the line of an ask can be read: as yet that of no audit
+abbrev pub is_readable : Ask → Bool
+is_readable (Put user (question.Audit p)) = false
+is_readable a = is_ask a
+
+-- two asks are the same: the same user's question of the same kind, with the same texts
+abbrev pub IsSameAsk : Ask → Ask → Type 0
+IsSameAsk (Put user q) (Put user' q') = (user.bytes ≡ user'.bytes) × (kind_of q ≡ kind_of q') × (texts_of q ≡ texts_of q')
+IsSameAsk Quit Quit = ⊤
+IsSameAsk _ _ = ⊥
+
+-- different asks have different lines
+abbrev pub OneSpelling : Type 0
+OneSpelling = (a b : Ask) → IsTrue (is_ask a) → IsTrue (is_ask b) → line a ≡ line b → IsSameAsk a b
+
+-- no line is too long
+abbrev pub ShortLines : Type 0
+ShortLines = (a : Ask) → IsTrue (is_ask a) → length (line a) ≤ 200

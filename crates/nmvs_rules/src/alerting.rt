@@ -1,0 +1,51 @@
+//! Alerts, where authenticity is not confirmed (Article 36).
+ghost use Rattle.std.specs.Prelude.{◌≡◌, ◌+◌, ◌<◌, ◌^◌};
+ghost use Rattle.nmvs_rules.specs.Rules.{alert_on, alert_unknown, cause_of, is_flagged};
+
+use crate::{BatchLock, Cause, Known, Own, Reply};
+
+/// The alert on a known pack, `alerts` being those of its product code so far.
+pub(crate) fn alert_on(known: &Known, lock: BatchLock, alerts: u64) -> Reply
+    requires { alerts + 1 < 2 ^ 64 }
+    ensures { result ≡ alert_on known.now lock alerts }
+{
+    Reply::Alert {
+        cause: cause_of(known.own, lock),
+        flagged: is_flagged(known.own, lock),
+        number: alerts + 1,
+    }
+}
+
+/// The alert on an unknown pack, `alerts` being those of its product code so far.
+pub(crate) fn alert_unknown(alerts: u64) -> Reply
+    requires { alerts + 1 < 2 ^ 64 }
+    ensures { result ≡ alert_unknown alerts }
+{
+    Reply::Alert {
+        cause: Cause::Unknown,
+        flagged: true,
+        number: alerts + 1,
+    }
+}
+
+fn cause_of(own: Own, lock: BatchLock) -> Cause
+    ensures { result ≡ cause_of own lock }
+{
+    match (lock, own) {
+        (BatchLock::Recalled, _) => Cause::Recalled,
+        (BatchLock::Withdrawn, _) => Cause::Withdrawn,
+        (BatchLock::Free, Own::Active) => Cause::Unknown,
+        (BatchLock::Free, Own::Held) => Cause::Held,
+        (BatchLock::Free, Own::Supplied) => Cause::Supplied,
+        (BatchLock::Free, Own::Exported) => Cause::Exported,
+        (BatchLock::Free, Own::Sampled) => Cause::Sampled,
+        (BatchLock::Free, Own::Destroyed) => Cause::Destroyed,
+        (BatchLock::Free, Own::Stolen) => Cause::Stolen,
+    }
+}
+
+fn is_flagged(own: Own, lock: BatchLock) -> bool
+    ensures { result ≡ is_flagged own lock }
+{
+    matches!(lock, BatchLock::Free) && !matches!(own, Own::Destroyed)
+}

@@ -1,0 +1,48 @@
+//! Reverting a decommissioned pack to active (Article 13).
+ghost use Rattle.std.specs.Prelude.{◌≡◌};
+ghost use Rattle.nmvs_rules.specs.Rules.{revert_reply, is_same_place, is_in_time};
+
+use crate::circulation::is_past;
+use crate::{Actor, BatchLock, Known, Mark, Own, Refusal, Reply};
+use nmvs_identifier::Moment;
+
+/// The days after a decommissioning within which it may be reverted (Article 13(1)(b)).
+const REVERSION_DAYS: i32 = 10;
+
+/// The reply to a reversion of a known pack.
+pub(crate) fn revert_reply(moment: Moment, actor: &Actor, known: &Known, lock: BatchLock) -> Reply
+    ensures { result ≡ revert_reply moment actor.now known.now lock }
+{
+    if !matches!(lock, BatchLock::Free) {
+        return Reply::Refused(Refusal::Locked);
+    }
+    match known.own {
+        Own::Active => return Reply::Refused(Refusal::StillActive),
+        Own::Stolen => return Reply::Refused(Refusal::IsStolen),
+        Own::Destroyed => return Reply::Refused(Refusal::IsDestroyed),
+        Own::Supplied => return Reply::Refused(Refusal::WasSupplied),
+        Own::Held | Own::Exported | Own::Sampled => {}
+    }
+    if !is_same_place(actor, &known.mark) {
+        return Reply::Refused(Refusal::Other);
+    }
+    if !is_in_time(moment, &known.mark) {
+        return Reply::Refused(Refusal::Late);
+    }
+    if is_past(&known.expiry, moment) {
+        return Reply::Refused(Refusal::Expired);
+    }
+    Reply::Reverted
+}
+
+fn is_same_place(actor: &Actor, mark: &Mark) -> bool
+    ensures { result ≡ is_same_place actor.now mark.now }
+{
+    actor.authorisation == mark.authorisation && actor.premises == mark.premises
+}
+
+fn is_in_time(moment: Moment, mark: &Mark) -> bool
+    ensures { result ≡ is_in_time moment mark.now }
+{
+    moment.day() - mark.moment.day() <= REVERSION_DAYS
+}

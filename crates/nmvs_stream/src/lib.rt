@@ -1,0 +1,15 @@
+//! Sources and sinks of bytes, which tell contracts what they gave and what they took.
+#![tactic(auto)]
+
+mod device;
+mod failed;
+mod sink;
+mod source;
+mod tape;
+#[cfg(test)]
+mod tests;
+
+pub use device::Device;
+pub use failed::Failed;
+pub use sink::Sink;
+pub use source::Source;

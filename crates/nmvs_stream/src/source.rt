@@ -1,0 +1,20 @@
+ghost use Rattle.std.specs.Prelude.{◌<◌, length, IfOk, OnErr};
+ghost use Rattle.nmvs_stream.specs.Source.{Told, Gives, FailsToGive};
+
+use crate::failed::Failed;
+
+/// Gives bytes. It tells contracts which bytes it gave, how many reads were made of it, whether its
+/// end was read, and whether a read failed.
+pub trait Source {
+    ghost told: { Self → Told };
+
+    /// Reads some bytes into the front of the buffer, and tells how many. None is the end.
+    ///
+    /// # Errors
+    ///
+    /// The read failed or was interrupted, and no byte was given.
+    fn read(&mut self, buffer: &mut [u8]) -> Result<usize, Failed>
+        requires { 0 < length buffer.old }
+        ensures ok { IfOk result (Gives (told self.old) (told self.new) buffer.new) }
+        ensures err { OnErr result (FailsToGive (told self.old) (told self.new)) };
+}

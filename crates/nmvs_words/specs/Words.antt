@@ -1,0 +1,95 @@
+-- The words of the formats (own): the names in capitals.
+use Rattle.std.specs.Prelude.{ℕ, List, [], ◌∷◌, codes, find, Option}
+use Rattle.std.specs.Str.{bytes_eq}
+use Rattle.nmvs_rules.specs.declared.role.Role.{Role}
+use Rattle.nmvs_rules.specs.declared.role.Role.TheVariants as role
+use Rattle.nmvs_rules.specs.declared.reason.Reason.{Reason}
+use Rattle.nmvs_rules.specs.declared.reason.Reason.TheVariants as reason
+use Rattle.nmvs_rules.specs.declared.own.Own.{Own}
+use Rattle.nmvs_rules.specs.declared.own.Own.TheVariants as own
+use Rattle.nmvs_rules.specs.declared.batch_lock.BatchLock.{BatchLock}
+use Rattle.nmvs_rules.specs.declared.batch_lock.BatchLock.TheVariants as lock
+use Rattle.nmvs_rules.specs.declared.onward.Onward.{Onward}
+use Rattle.nmvs_rules.specs.declared.onward.Onward.TheVariants as onward
+use Rattle.nmvs_rules.specs.declared.cause.Cause.{Cause}
+use Rattle.nmvs_rules.specs.declared.cause.Cause.TheVariants as cause
+use Rattle.nmvs_rules.specs.declared.refusal.Refusal.{Refusal}
+use Rattle.nmvs_rules.specs.declared.refusal.Refusal.TheVariants as refusal
+
+-- the word of a role
+abbrev pub role_word : Role → List ℕ
+role_word role.Holder = codes "HOLDER"
+role_word role.Manufacturer = codes "MANUFACTURER"
+role_word role.Wholesaler = codes "WHOLESALER"
+role_word role.Pharmacy = codes "PHARMACY"
+role_word role.Authority = codes "AUTHORITY"
+
+-- all roles
+abbrev pub roles : List Role
+roles = role.Holder ∷ role.Manufacturer ∷ role.Wholesaler ∷ role.Pharmacy ∷ role.Authority ∷ []
+
+-- the role that has a word
+abbrev pub role_named : List ℕ → Option Role
+role_named w = find (λ r. bytes_eq w (role_word r)) roles
+
+-- the word of a decommissioning for a reason
+abbrev pub reason_word : Reason → List ℕ
+reason_word reason.Supply = codes "SUPPLY"
+reason_word reason.Hold = codes "HOLD"
+reason_word reason.Export = codes "EXPORT"
+reason_word reason.Sample = codes "SAMPLE"
+reason_word reason.Destroy = codes "DESTROY"
+
+-- the word of an own status
+abbrev pub own_word : Own → List ℕ
+own_word own.Active = codes "ACTIVE"
+own_word own.Held = codes "HELD"
+own_word own.Supplied = codes "SUPPLIED"
+own_word own.Exported = codes "EXPORTED"
+own_word own.Sampled = codes "SAMPLED"
+own_word own.Destroyed = codes "DESTROYED"
+own_word own.Stolen = codes "STOLEN"
+
+-- the word of a batch lock
+abbrev pub lock_word : BatchLock → List ℕ
+lock_word lock.Free = codes "FREE"
+lock_word lock.Recalled = codes "RECALLED"
+lock_word lock.Withdrawn = codes "WITHDRAWN"
+
+-- the word of where a pack may go
+abbrev pub onward_word : Onward → List ℕ
+onward_word onward.Stock = codes "STOCK"
+onward_word onward.Supply = codes "SUPPLY"
+onward_word onward.Export = codes "EXPORT"
+onward_word onward.Disposal = codes "DISPOSAL"
+onward_word onward.Authorities = codes "AUTHORITIES"
+onward_word onward.Nowhere = codes "NOWHERE"
+
+-- the word of an alert's cause
+abbrev pub cause_word : Cause → List ℕ
+cause_word cause.Unknown = codes "UNKNOWN"
+cause_word cause.Recalled = codes "RECALLED"
+cause_word cause.Withdrawn = codes "WITHDRAWN"
+cause_word cause.Held = codes "HELD"
+cause_word cause.Supplied = codes "SUPPLIED"
+cause_word cause.Exported = codes "EXPORTED"
+cause_word cause.Sampled = codes "SAMPLED"
+cause_word cause.Destroyed = codes "DESTROYED"
+cause_word cause.Stolen = codes "STOLEN"
+
+-- the word of a refusal
+abbrev pub refusal_word : Refusal → List ℕ
+refusal_word refusal.Role = codes "ROLE"
+refusal_word refusal.Unknown = codes "UNKNOWN"
+refusal_word refusal.UnknownBatch = codes "UNKNOWN_BATCH"
+refusal_word refusal.NotHolder = codes "NOT_HOLDER"
+refusal_word refusal.Duplicate = codes "DUPLICATE"
+refusal_word refusal.Already = codes "ALREADY"
+refusal_word refusal.Locked = codes "LOCKED"
+refusal_word refusal.StillActive = codes "STILL_ACTIVE"
+refusal_word refusal.IsStolen = codes "IS_STOLEN"
+refusal_word refusal.IsDestroyed = codes "IS_DESTROYED"
+refusal_word refusal.WasSupplied = codes "WAS_SUPPLIED"
+refusal_word refusal.Other = codes "OTHER"
+refusal_word refusal.Late = codes "LATE"
+refusal_word refusal.Expired = codes "EXPIRED"

@@ -1,0 +1,37 @@
+//! Questions that name a pack.
+ghost use Rattle.std.specs.Prelude.{◌≡◌, [], ◌∷◌};
+ghost use Rattle.nmvs_rules.specs.Questions.{pack_of};
+ghost use Rattle.nmvs_words.specs.Kinds.{kind_of, texts_of};
+ghost use Rattle.nmvs_words.specs.declared.question_kind.QuestionKind.TheVariants.{OfPack};
+
+use nmvs_identifier::Pack;
+use nmvs_rules::{Question, Reason};
+
+/// What is asked of a pack, without the pack.
+#[derive(Clone, Copy, Debug, PartialEq, Eq)]
+pub enum PackQuestion {
+    Verify,
+    Status,
+    Decommission(Reason),
+    Revert,
+    Theft,
+    Audit,
+}
+
+impl PackQuestion {
+    /// The question that names this pack.
+    pub fn naming(self, pack: Pack) -> Question
+        ensures kind { kind_of result ≡ OfPack self }
+        ensures pack { pack_of result ≡ Some pack }
+        ensures texts { texts_of result ≡ pack.code.bytes ∷ pack.serial.bytes ∷ [] }
+    {
+        match self {
+            PackQuestion::Verify => Question::Verify(pack),
+            PackQuestion::Status => Question::Status(pack),
+            PackQuestion::Decommission(reason) => Question::Decommission(pack, reason),
+            PackQuestion::Revert => Question::Revert(pack),
+            PackQuestion::Theft => Question::Theft(pack),
+            PackQuestion::Audit => Question::Audit(pack),
+        }
+    }
+}
