@@ -12,6 +12,8 @@ mod fields;
 mod laws;
 mod limits;
 mod line_fault;
+#[cfg(test)]
+mod line_tests;
 mod lines;
 mod pending_line;
 mod put;
