@@ -3,3 +3,4 @@ pub mod Replies
 pub mod Trail
 pub mod Rules
 pub mod Facts
+pub mod Laws

@@ -11,6 +11,7 @@ mod decision;
 mod entry;
 mod facts;
 mod holding;
+pub mod laws;
 mod onward;
 mod own;
 mod question;

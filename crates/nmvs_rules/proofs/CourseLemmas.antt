@@ -1,0 +1,244 @@
+-- The course of a pack through its own statuses.
+use Rattle.std.proofs.Common.{◌≡◌, ℕ, Bool, true, false, not, ◌&&◌, ◌||◌, cond, List, [], ◌∷◌, ◌++◌, length, Option, Some, None, IsTrue, refl, sym, ap, subst, ◌∙◌, append-nil, append_assoc, arith}
+use Rattle.std.specs.Cmp.{first_so, second_so}
+use Rattle.std.specs.List.{list_any}
+use Rattle.std.specs.Option.{is_some}
+use Rattle.nmvs_identifier.specs.declared.pack.Pack.{Pack}
+use Rattle.nmvs_rules.specs.declared.reason.Reason.{Reason}
+use Rattle.nmvs_rules.specs.declared.reason.Reason.TheVariants as reason
+use Rattle.nmvs_rules.specs.declared.question.Question.{Question}
+use Rattle.nmvs_rules.specs.declared.question.Question.TheVariants.{Upload, Decommission, Revert, Recall, Withdraw, Theft}
+use Rattle.nmvs_rules.specs.declared.own.Own.{Own}
+use Rattle.nmvs_rules.specs.declared.own.Own.TheVariants as own
+use Rattle.nmvs_rules.specs.declared.reply.Reply.{Reply}
+use Rattle.nmvs_rules.specs.declared.entry.Entry.{Entry}
+use Rattle.nmvs_rules.specs.declared.facts.Known.{Known}
+use Rattle.nmvs_rules.specs.Questions.{pack_of, names}
+use Rattle.nmvs_rules.specs.Trail.{known, known_after, marked_by, mark_after, accepts, is_accepted, is_about, is_mark, is_upload, own_by, own_by_reason}
+use Rattle.nmvs_rules.specs.Rules.{is_active, is_stolen, is_destroyed, is_supplied, reply_of, put_of, IsLawfulAfter, IsLawful}
+use Rattle.nmvs_rules.specs.Laws.{uploads, decommissions, supplies, reverts, confirms, is_decommissioning, is_supply, is_reversion, may_become}
+use Rattle.nmvs_rules.proofs.PushLemmas.{known-push}
+use Rattle.nmvs_rules.proofs.LawfulLemmas.{IsLawful-rest, IsLawfulAfter-rest, IsLawfulAfter-first, IsLawfulAfter-keeps}
+use Rattle.nmvs_rules.proofs.ReplyLemmas.{KnownAnd, IsAuthentic, IsReversible, known-holds, is_theft, uploads-tells, decommissions-tells, reverts-tells, confirms-tells, thefts-tells}
+
+and-both : (a b : Bool) → a ≡ true → b ≡ true → (a && b) ≡ true
+and-both a b first second = ap (λ z. z && b) first ∙ second
+
+-- a decommissioned pack is not active
+pub decommissioned-not_active : (q : Question) → is_decommissioning q ≡ true → is_active (own_by q) ≡ false
+decommissioned-not_active (Decommission p reason.Supply) h = refl
+decommissioned-not_active (Decommission p reason.Hold) h = refl
+decommissioned-not_active (Decommission p reason.Export) h = refl
+decommissioned-not_active (Decommission p reason.Sample) h = refl
+decommissioned-not_active (Decommission p reason.Destroy) h = refl
+decommissioned-not_active q h = cc
+
+decommissioned : (o : Own) (w : Reason) → is_active o ≡ true → may_become o (own_by_reason w) ≡ true
+decommissioned own.Active reason.Supply h = refl
+decommissioned own.Active reason.Hold h = refl
+decommissioned own.Active reason.Export h = refl
+decommissioned own.Active reason.Sample h = refl
+decommissioned own.Active reason.Destroy h = refl
+decommissioned o w h = cc
+
+reverted : (o : Own) → is_active o ≡ false → is_stolen o ≡ false → is_destroyed o ≡ false → is_supplied o ≡ false → may_become o own.Active ≡ true
+reverted own.Active active stolen destroyed supplied = sym active
+reverted own.Held active stolen destroyed supplied = refl
+reverted own.Supplied active stolen destroyed supplied = sym supplied
+reverted own.Exported active stolen destroyed supplied = refl
+reverted own.Sampled active stolen destroyed supplied = refl
+reverted own.Destroyed active stolen destroyed supplied = sym destroyed
+reverted own.Stolen active stolen destroyed supplied = sym stolen
+
+stolen : (o : Own) → is_stolen o ≡ false → may_become o own.Stolen ≡ true
+stolen own.Stolen h = sym h
+stolen own.Active h = refl
+stolen o h = refl
+
+-- an accepted operation on a known pack moves it on along its course
+course : (t : List Entry) (e : Entry) (p : Pack) (k : Known) → e.reply ≡ reply_of t (put_of e) → known t p ≡ Some k → is_mark p e ≡ true → may_become k.own (own_by e.question) ≡ true
+course t e p k lawful is marks = by e.question refl
+  where
+    by : (q : Question) → e.question ≡ q → may_become k.own (own_by q) ≡ true
+    by (Upload s b x) h =
+        let born : uploads p e ≡ true = and-both _ _ (and-both _ _ (ap is_upload h) (first_so _ _ marks)) (second_so (is_about p e) _ marks) in
+        let none : true ≡ false = sym (ap is_some is) ∙ uploads-tells t e p lawful born in cc
+    by (Decommission s w) h =
+        decommissioned k.own w (known-holds t p k _ is (decommissions-tells t e p lawful (and-both _ _ marks (ap is_decommissioning h)))).active
+    by (Revert s) h =
+        let tells = known-holds t p k _ is (reverts-tells t e p lawful (and-both _ _ marks (ap is_reversion h))) in
+        reverted k.own tells.not_active tells.not_stolen tells.not_destroyed tells.not_supplied
+    by (Theft s) h =
+        stolen k.own (known-holds t p k _ is (thefts-tells t e p lawful (and-both _ _ marks (ap is_theft h))))
+    by (Recall c b) h = let none : false ≡ true = sym (ap (λ q. names p (pack_of q) && accepts q e.reply) h) ∙ marks in cc
+    by (Withdraw c b) h = let none : false ≡ true = sym (ap (λ q. names p (pack_of q) && accepts q e.reply) h) ∙ marks in cc
+    by q h =
+        let none : false ≡ true = second_so (names p (pack_of q)) (accepts q e.reply) (sym (ap (λ q. names p (pack_of q) && accepts q e.reply) h) ∙ marks) in cc
+
+pub course-in : (before after : List Entry) (e : Entry) (p : Pack) (k : Known) → IsLawful (before ++ e ∷ after) → known before p ≡ Some k → is_mark p e ≡ true → may_become k.own (own_by e.question) ≡ true
+course-in before after e p k lawful = course before e p k (IsLawful-rest before (e ∷ after) lawful).0
+
+-- what is known of a pack after an accepted operation on it
+known-after-mark : (t : List Entry) (e : Entry) (p : Pack) (k : Known) → known t p ≡ Some k → is_mark p e ≡ true → known (t ++ e ∷ []) p ≡ Some (record k { own = own_by e.question; mark = mark_after (length t) e })
+known-after-mark t e p k is marks =
+    known-push t e p
+    ∙ ap (λ b. cond b (marked_by (length t) e (known t p)) (known t p)) marks
+    ∙ ap (marked_by (length t) e) is
+
+known-after-other : (t : List Entry) (e : Entry) (p : Pack) → is_mark p e ≡ false → known (t ++ e ∷ []) p ≡ known t p
+known-after-other t e p other = known-push t e p ∙ ap (λ b. cond b (marked_by (length t) e (known t p)) (known t p)) other
+
+-- the pack is known, and its own status passes a test
+abbrev pub Stands : (Own → Bool) → List Entry → Pack → Type 0
+Stands passes t p = KnownAnd t p (λ k. passes k.own ≡ true)
+
+-- a test on own statuses that holds along the course holds of a pack for ever
+pub Stands-push : (passes : Own → Bool) → ((o w : Own) → passes o ≡ true → may_become o w ≡ true → passes w ≡ true) → (t : List Entry) (e : Entry) (p : Pack) → Stands passes t p → e.reply ≡ reply_of t (put_of e) → Stands passes (t ++ e ∷ []) p
+Stands-push passes keeps t e p h lawful = by (is_mark p e) refl
+  where
+    by : (b : Bool) → is_mark p e ≡ b → Stands passes (t ++ e ∷ []) p
+    by true marks = (
+      record h.0 { own = own_by e.question; mark = mark_after (length t) e },
+      known-after-mark t e p h.0 h.1 marks,
+      keeps h.0.own (own_by e.question) h.2 (course t e p h.0 lawful h.1 marks),
+    )
+    by false other = (h.0, known-after-other t e p other ∙ h.1, h.2)
+
+-- a pack that was supplied: it is Supplied, or else Stolen
+abbrev is_gone : Own → Bool
+is_gone o = is_supplied o || is_stolen o
+
+gone-keeps : (o w : Own) → is_gone o ≡ true → may_become o w ≡ true → is_gone w ≡ true
+gone-keeps own.Supplied own.Active h m = m
+gone-keeps own.Supplied own.Held h m = m
+gone-keeps own.Supplied own.Supplied h m = refl
+gone-keeps own.Supplied own.Exported h m = m
+gone-keeps own.Supplied own.Sampled h m = m
+gone-keeps own.Supplied own.Destroyed h m = m
+gone-keeps own.Supplied own.Stolen h m = refl
+gone-keeps own.Stolen w h m = let none : false ≡ true = m in cc
+gone-keeps o w h m = let none : false ≡ true = h in cc
+
+supply-gone : (q : Question) → is_supply q ≡ true → (is_decommissioning q ≡ true) × (is_gone (own_by q) ≡ true)
+supply-gone (Decommission s reason.Supply) h = (refl, refl)
+supply-gone q h = let none : false ≡ true = h in (cc, cc)
+
+gone-not_active : (o : Own) → is_gone o ≡ true → is_active o ≡ true → true ≡ false
+gone-not_active own.Active gone active = sym gone
+gone-not_active o gone active = sym active
+
+gone-not_reversible : (o : Own) → is_gone o ≡ true → is_supplied o ≡ false → is_stolen o ≡ false → true ≡ false
+gone-not_reversible own.Supplied gone supplied robbed = supplied
+gone-not_reversible own.Stolen gone supplied robbed = robbed
+gone-not_reversible o gone supplied robbed = sym gone
+
+pub never : (b : Bool) → (b ≡ true → true ≡ false) → b ≡ false
+never true h = h refl
+never false h = refl
+
+-- what a lawful trail tells of an entry d that stands behind an entry e
+pub record Behind (u v : List Entry) (e d : Entry) : Type 0 where
+  pub first : e.reply ≡ reply_of u (put_of e)
+  pub between : IsLawfulAfter (u ++ e ∷ []) v
+  pub later : d.reply ≡ reply_of (u ++ e ∷ v) (put_of d)
+
+pub behind : (before between after : List Entry) (e later : Entry) → IsLawful (before ++ e ∷ between ++ later ∷ after) → Behind before between e later
+behind before between after e later lawful =
+    let at_e = IsLawful-rest before (e ∷ between) (IsLawfulAfter-first [] (before ++ e ∷ between) (later ∷ after) lawful) in
+    record { first = at_e.0; between = at_e.1; later = (IsLawful-rest (before ++ e ∷ between) (later ∷ after) lawful).0 }
+
+-- what an entry makes true, and what each lawful entry behind it keeps, is true behind it
+pub behind-keeps : (P : List Entry → Type 0) → ((t : List Entry) (e : Entry) → P t → e.reply ≡ reply_of t (put_of e) → P (t ++ e ∷ [])) → (u v : List Entry) (e : Entry) → P (u ++ e ∷ []) → IsLawfulAfter (u ++ e ∷ []) v → P (u ++ e ∷ v)
+behind-keeps P step u v e h lawful = subst P (append_assoc u (e ∷ []) v) (IsLawfulAfter-keeps P step (u ++ e ∷ []) v h lawful)
+
+-- behind an accepted supply of a pack it is neither decommissioned nor reverted nor confirmed
+pub supplied-once : (before between after : List Entry) (supply later : Entry) (p : Pack) → IsLawful (before ++ supply ∷ between ++ later ∷ after) → supplies p supply ≡ true → (decommissions p later ≡ false) × (reverts p later ≡ false) × (confirms p later ≡ false)
+supplied-once before between after supply later p lawful h = (
+  never _ (λ d. let a = known-holds t p gone.0 _ gone.1 (decommissions-tells t later p at.later d) in gone-not_active gone.0.own gone.2 a.active),
+  never _ (λ r. let a = known-holds t p gone.0 _ gone.1 (reverts-tells t later p at.later r) in gone-not_reversible gone.0.own gone.2 a.not_supplied a.not_stolen),
+  never _ (λ c. let a = known-holds t p gone.0 _ gone.1 (confirms-tells t later p at.later c) in gone-not_active gone.0.own gone.2 a.active),
+)
+  where
+    t : List Entry
+    t = before ++ supply ∷ between
+
+    at : Behind before between supply later
+    at = behind before between after supply later lawful
+
+    marks : is_mark p supply ≡ true
+    marks = first_so (is_mark p supply) _ h
+
+    kind : (is_decommissioning supply.question ≡ true) × (is_gone (own_by supply.question) ≡ true)
+    kind = supply-gone supply.question (second_so (is_mark p supply) _ h)
+
+    supplied : Stands is_gone (before ++ supply ∷ []) p
+    supplied =
+        let k = decommissions-tells before supply p at.first (and-both _ _ marks kind.0) in
+        (record k.0 { own = own_by supply.question; mark = mark_after (length before) supply }, known-after-mark before supply p k.0 k.1 marks, kind.1)
+
+    gone : Stands is_gone t p
+    gone = behind-keeps (λ z. Stands is_gone z p) (λ z e k l. Stands-push is_gone gone-keeps z e p k l) before between supply supplied at.between
+
+-- an accepted operation other than a reversion leaves a known pack out of circulation
+abbrev is_out : Own → Bool
+is_out o = not (is_active o)
+
+out-keeps : (t : List Entry) (e : Entry) (p : Pack) → Stands is_out t p → e.reply ≡ reply_of t (put_of e) → reverts p e ≡ false → Stands is_out (t ++ e ∷ []) p
+out-keeps t e p h lawful unreverted = by (is_mark p e) refl
+  where
+    out : (q : Question) → e.question ≡ q → is_mark p e ≡ true → is_out (own_by q) ≡ true
+    out (Decommission s w) is marks = ap not (decommissioned-not_active (Decommission s w) refl)
+    out (Theft s) is marks = refl
+    out (Revert s) is marks = let none : false ≡ true = sym unreverted ∙ and-both _ _ marks (ap is_reversion is) in cc
+    out (Upload s b x) is marks =
+        let born : uploads p e ≡ true = and-both _ _ (and-both _ _ (ap is_upload is) (first_so _ _ marks)) (second_so (is_about p e) _ marks) in
+        let none : true ≡ false = sym (ap is_some h.1) ∙ uploads-tells t e p lawful born in cc
+    out (Recall c b) is marks = let none : false ≡ true = sym (ap (λ q. names p (pack_of q) && accepts q e.reply) is) ∙ marks in cc
+    out (Withdraw c b) is marks = let none : false ≡ true = sym (ap (λ q. names p (pack_of q) && accepts q e.reply) is) ∙ marks in cc
+    out q is marks =
+        let none : false ≡ true = second_so (names p (pack_of q)) (accepts q e.reply) (sym (ap (λ q. names p (pack_of q) && accepts q e.reply) is) ∙ marks) in cc
+
+    by : (b : Bool) → is_mark p e ≡ b → Stands is_out (t ++ e ∷ []) p
+    by true marks =
+        (record h.0 { own = own_by e.question; mark = mark_after (length t) e }, known-after-mark t e p h.0 h.1 marks, out e.question refl marks)
+    by false other = (h.0, known-after-other t e p other ∙ h.1, h.2)
+
+-- where no entry reverts a pack that is out of circulation, it stays out
+stays-out : (u es : List Entry) (p : Pack) → Stands is_out u p → IsLawfulAfter u es → list_any (reverts p) es ≡ false → Stands is_out (u ++ es) p
+stays-out u [] p h lawful unreverted = let P : List Entry → Type 0 = λ t. Stands is_out t p in subst P (sym (append-nil u)) h
+stays-out u (e ∷ es) p h lawful unreverted =
+    let P : List Entry → Type 0 = λ t. Stands is_out t p in
+    subst P (append_assoc u (e ∷ []) es)
+    (stays-out (u ++ e ∷ []) es p (out-keeps u e p h lawful.0 (neither-left (reverts p e) _ unreverted)) lawful.1 (neither-right (reverts p e) _ unreverted))
+  where
+    neither-left : (a b : Bool) → (a || b) ≡ false → a ≡ false
+    neither-left true b h = h
+    neither-left false b h = refl
+
+    neither-right : (a b : Bool) → (a || b) ≡ false → b ≡ false
+    neither-right true b h = let none : true ≡ false = h in cc
+    neither-right false b h = h
+
+-- between two accepted decommissionings of a pack stands an accepted reversion
+pub reverted-between : (before between after : List Entry) (first second : Entry) (p : Pack) → IsLawful (before ++ first ∷ between ++ second ∷ after) → decommissions p first ≡ true → decommissions p second ≡ true → list_any (reverts p) between ≡ true
+reverted-between before between after first second p lawful h k = by (list_any (reverts p) between) refl
+  where
+    at : Behind before between first second
+    at = behind before between after first second lawful
+
+    out : Stands is_out (before ++ first ∷ []) p
+    out =
+        let pack = decommissions-tells before first p at.first h in (
+          record pack.0 { own = own_by first.question; mark = mark_after (length before) first },
+          known-after-mark before first p pack.0 pack.1 (first_so (is_mark p first) _ h),
+          ap not (decommissioned-not_active first.question (second_so (is_mark p first) _ h)),
+        )
+
+    by : (b : Bool) → list_any (reverts p) between ≡ b → b ≡ true
+    by true is = refl
+    by false is =
+        let P : List Entry → Type 0 = λ t. Stands is_out t p in
+        let pack : Stands is_out (before ++ first ∷ between) p =
+        subst P (append_assoc before (first ∷ []) between) (stays-out (before ++ first ∷ []) between p out at.between is) in
+        let authentic = known-holds (before ++ first ∷ between) p pack.0 _ pack.1 (decommissions-tells (before ++ first ∷ between) second p at.later k) in
+        sym (ap not authentic.active) ∙ pack.2

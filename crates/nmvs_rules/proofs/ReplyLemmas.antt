@@ -1,0 +1,220 @@
+-- What a reply tells of the trail that it was given on.
+use Rattle.std.proofs.Common.{◌≡◌, ℕ, Bool, true, false, not, ◌&&◌, cond, List, Option, Some, None, refl, sym, ap, subst, ◌∙◌}
+use Rattle.std.specs.Cmp.{first_so, second_so}
+use Rattle.std.specs.Option.{is_some}
+use Rattle.nmvs_identifier.specs.Batch.{Batch}
+use Rattle.nmvs_identifier.specs.Expiry.{Expiry}
+use Rattle.nmvs_identifier.specs.Pack.{same_pack}
+use Rattle.nmvs_rules.specs.declared.reason.Reason.{Reason}
+use Rattle.nmvs_identifier.specs.declared.pack.Pack.{Pack}
+use Rattle.nmvs_rules.specs.declared.actor.Actor.{Actor}
+use Rattle.nmvs_rules.specs.declared.question.Question.{Question}
+use Rattle.nmvs_rules.specs.declared.question.Question.TheVariants.{Upload, Verify, Status, Decommission, Revert, Recall, Withdraw, Theft, Audit}
+use Rattle.nmvs_rules.specs.declared.entry.Entry.{Entry}
+use Rattle.nmvs_rules.specs.declared.facts.Known.{Known}
+use Rattle.nmvs_rules.specs.declared.reply.Reply.{Reply}
+use Rattle.nmvs_rules.specs.declared.reply.Reply.TheVariants as reply
+use Rattle.nmvs_rules.specs.declared.refusal.Refusal.TheVariants as refusal
+use Rattle.nmvs_rules.specs.declared.batch_lock.BatchLock.{BatchLock}
+use Rattle.nmvs_rules.specs.Questions.{Put, may_ask, pack_of, names}
+use Rattle.nmvs_rules.specs.Trail.{known, accepts, is_about, is_accepted, is_mark, is_upload, lock_of, holder_of, alerts_of}
+use Rattle.nmvs_rules.specs.Rules.{on_pack, lock_on, is_active, is_free, is_stolen, is_destroyed, is_supplied, is_authentic, is_past, is_same_place, is_in_time, is_held_by, has_other_holder, alert_on, alert_unknown, verify_reply, decommission_reply, revert_reply, theft_reply, upload_reply, reply_to, reply_of, put_of}
+use Rattle.nmvs_rules.specs.Laws.{is_decommissioning, is_reversion, is_confirmed, uploads, decommissions, reverts, confirms}
+use Rattle.nmvs_rules.proofs.TextLemmas.{same_pack-code, same_text-refl, known-same, lock_of-same}
+
+-- a question that reports a theft
+abbrev pub is_theft : Question → Bool
+is_theft (Theft _) = true
+is_theft _ = false
+
+-- the pack is known, and this holds of what is known of it
+abbrev pub KnownAnd : List Entry → Pack → (Known → Type 0) → Type 0
+KnownAnd t p P = (k : Known) × (known t p ≡ Some k) × P k
+
+-- a reply that isn't the first branch's comes from the second
+cond-else : (b : Bool) (x y z : Reply) → (x ≡ z → ⊥) → cond b x y ≡ z → (b ≡ false) × (y ≡ z)
+cond-else true x y z other e = absurd (other e)
+cond-else false x y z other e = (refl, e)
+
+cond-then : (b : Bool) (x y z : Reply) → (y ≡ z → ⊥) → cond b x y ≡ z → (b ≡ true) × (x ≡ z)
+cond-then true x y z other e = (refl, e)
+cond-then false x y z other e = absurd (other e)
+
+on_pack-known : (t : List Entry) (p : Pack) (x z : Reply) (f : Known → Reply) → (x ≡ z → ⊥) → on_pack (known t p) x f ≡ z → KnownAnd t p (λ k. f k ≡ z)
+on_pack-known t p x z f other e = by (known t p) refl e
+  where
+    by : (o : Option Known) → known t p ≡ o → on_pack o x f ≡ z → KnownAnd t p (λ k. f k ≡ z)
+    by None is h = absurd (other h)
+    by (Some k) is h = (k, is, h)
+
+KnownAnd-same : (t : List Entry) (p q : Pack) (P : Known → Type 0) → same_pack p q ≡ true → KnownAnd t q P → KnownAnd t p P
+KnownAnd-same t p q P same h = (h.0, known-same t p q same ∙ h.1, h.2)
+
+lock_on-same : (t : List Entry) (p q : Pack) (k : Known) → same_pack p q ≡ true → lock_on t p k ≡ lock_on t q k
+lock_on-same t p q k same = lock_of-same t p.code q.code k.batch k.batch (same_pack-code p q same) (same_text-refl k.batch)
+
+-- the rules' reply to a question
+abbrev pub IsReply : List Entry → ℕ → Actor → Question → Reply → Type 0
+IsReply t n a q r = r ≡ cond (may_ask a.role q) (reply_to t n a q) (reply.Refused refusal.Role)
+
+-- the pack may be moved on
+pub record IsAuthentic (t : List Entry) (p : Pack) (k : Known) : Type 0 where
+  pub active : is_active k.own ≡ true
+  pub free : is_free (lock_on t p k) ≡ true
+
+IsAuthentic-same : (t : List Entry) (p q : Pack) (k : Known) → same_pack p q ≡ true → IsAuthentic t q k → IsAuthentic t p k
+IsAuthentic-same t p q k same h = record { active = h.active; free = ap is_free (lock_on-same t p q k same) ∙ h.free }
+
+-- what a reversion that is accepted tells
+pub record IsReversible (t : List Entry) (n : ℕ) (a : Actor) (p : Pack) (k : Known) : Type 0 where
+  pub free : is_free (lock_on t p k) ≡ true
+  pub not_active : is_active k.own ≡ false
+  pub not_stolen : is_stolen k.own ≡ false
+  pub not_destroyed : is_destroyed k.own ≡ false
+  pub not_supplied : is_supplied k.own ≡ false
+  pub same_place : is_same_place a k.mark ≡ true
+  pub in_time : is_in_time n k.mark ≡ true
+  pub not_expired : is_past k.expiry n ≡ false
+
+IsReversible-same : (t : List Entry) (n : ℕ) (a : Actor) (p q : Pack) (k : Known) → same_pack p q ≡ true → IsReversible t n a q k → IsReversible t n a p k
+IsReversible-same t n a p q k same h = record {
+  free = ap is_free (lock_on-same t p q k same) ∙ h.free;
+  not_active = h.not_active;
+  not_stolen = h.not_stolen;
+  not_destroyed = h.not_destroyed;
+  not_supplied = h.not_supplied;
+  same_place = h.same_place;
+  in_time = h.in_time;
+  not_expired = h.not_expired;
+}
+
+not-false : (b : Bool) → not b ≡ false → b ≡ true
+not-false true h = refl
+not-false false h = sym h
+
+pub verify-tells : (t : List Entry) (n : ℕ) (a : Actor) (p : Pack) (b : Batch) (x : Expiry) (late : Bool) → IsReply t n a (Verify p) (reply.Authentic b x late) → KnownAnd t p (λ k. IsAuthentic t p k × (reply.Authentic k.batch k.expiry (is_past k.expiry n) ≡ reply.Authentic b x late))
+verify-tells t n a p b x late h =
+    let admitted = cond-then (may_ask a.role (Verify p)) _ _ _ (λ e. cc) (sym h) in
+    let pack = on_pack-known t p _ _ _ (λ e. cc) admitted.1 in
+    let authentic = cond-then (is_authentic pack.0.own (lock_on t p pack.0)) _ _ _ (λ e. cc) pack.2 in
+    (pack.0, pack.1, (record { active = first_so _ _ authentic.0; free = second_so (is_active pack.0.own) _ authentic.0 }, authentic.1))
+
+decommission-tells : (t : List Entry) (n : ℕ) (a : Actor) (p : Pack) (w : Reason) → IsReply t n a (Decommission p w) reply.Decommissioned → KnownAnd t p (IsAuthentic t p)
+decommission-tells t n a p w h =
+    let admitted = cond-then (may_ask a.role (Decommission p w)) _ _ _ (λ e. cc) (sym h) in
+    let pack = on_pack-known t p _ _ _ (λ e. cc) admitted.1 in
+    let authentic = cond-then (is_authentic pack.0.own (lock_on t p pack.0)) _ _ _ (λ e. cc) pack.2 in
+    (pack.0, pack.1, record { active = first_so _ _ authentic.0; free = second_so (is_active pack.0.own) _ authentic.0 })
+
+pub revert-tells : (t : List Entry) (n : ℕ) (a : Actor) (p : Pack) → IsReply t n a (Revert p) reply.Reverted → KnownAnd t p (IsReversible t n a p)
+revert-tells t n a p h =
+    let admitted = cond-then (may_ask a.role (Revert p)) _ _ _ (λ e. cc) (sym h) in
+    let pack = on_pack-known t p _ _ _ (λ e. cc) admitted.1 in
+    let k = pack.0 in
+    let free = cond-else (not (is_free (lock_on t p k))) _ _ _ (λ e. cc) pack.2 in
+    let active = cond-else (is_active k.own) _ _ _ (λ e. cc) free.1 in
+    let stolen = cond-else (is_stolen k.own) _ _ _ (λ e. cc) active.1 in
+    let destroyed = cond-else (is_destroyed k.own) _ _ _ (λ e. cc) stolen.1 in
+    let supplied = cond-else (is_supplied k.own) _ _ _ (λ e. cc) destroyed.1 in
+    let place = cond-else (not (is_same_place a k.mark)) _ _ _ (λ e. cc) supplied.1 in
+    let time = cond-else (not (is_in_time n k.mark)) _ _ _ (λ e. cc) place.1 in
+    let expired = cond-else (is_past k.expiry n) _ _ _ (λ e. cc) time.1 in (
+      k,
+      pack.1,
+      record {
+        free = not-false _ free.0;
+        not_active = active.0;
+        not_stolen = stolen.0;
+        not_destroyed = destroyed.0;
+        not_supplied = supplied.0;
+        same_place = not-false _ place.0;
+        in_time = not-false _ time.0;
+        not_expired = expired.0;
+      },
+    )
+
+theft-tells : (t : List Entry) (n : ℕ) (a : Actor) (p : Pack) → IsReply t n a (Theft p) reply.MarkedStolen → KnownAnd t p (λ k. is_stolen k.own ≡ false)
+theft-tells t n a p h =
+    let admitted = cond-then (may_ask a.role (Theft p)) _ _ _ (λ e. cc) (sym h) in
+    let pack = on_pack-known t p _ _ _ (λ e. cc) admitted.1 in
+    let held = cond-else (not (is_held_by (holder_of t p.code) a.authorisation)) _ _ _ (λ e. cc) pack.2 in
+    let stolen = cond-else (is_stolen pack.0.own) _ _ _ (λ e. cc) held.1 in
+    (pack.0, pack.1, stolen.0)
+
+upload-tells : (t : List Entry) (n : ℕ) (a : Actor) (p : Pack) (b : Batch) (x : Expiry) → IsReply t n a (Upload p b x) reply.Uploaded → is_some (known t p) ≡ false
+upload-tells t n a p b x h =
+    let admitted = cond-then (may_ask a.role (Upload p b x)) _ _ _ (λ e. cc) (sym h) in
+    let held = cond-else (has_other_holder (holder_of t p.code) a.authorisation) _ _ _ (λ e. cc) admitted.1 in
+    (cond-else (is_some (known t p)) _ _ _ (λ e. cc) held.1).0
+
+KnownAnd-map : (t : List Entry) (p : Pack) (P Q : Known → Type 0) → ((k : Known) → P k → Q k) → KnownAnd t p P → KnownAnd t p Q
+KnownAnd-map t p P Q f h = (h.0, h.1, f h.0 h.2)
+
+-- a pack is confirmed only where it is authentic
+pub confirms-tells : (t : List Entry) (e : Entry) (p : Pack) → e.reply ≡ reply_of t (put_of e) → confirms p e ≡ true → KnownAnd t p (IsAuthentic t p)
+confirms-tells t e p lawful h = by e.question e.reply lawful h
+  where
+    by : (q : Question) (r : Reply) → IsReply t e.moment e.actor q r → (names p (pack_of q) && is_confirmed q r) ≡ true → KnownAnd t p (IsAuthentic t p)
+    by (Verify s) (reply.Authentic b x late) is c =
+        let same = first_so (same_pack p s) _ c in
+        KnownAnd-same t p s _ same
+        (KnownAnd-map t s _ _ (λ k tells. IsAuthentic-same t p s k same tells.0) (verify-tells t e.moment e.actor s b x late is))
+    by q r is c = let none : false ≡ true = second_so (names p (pack_of q)) (is_confirmed q r) c in cc
+
+-- a pack is decommissioned only where it is authentic
+pub decommissions-tells : (t : List Entry) (e : Entry) (p : Pack) → e.reply ≡ reply_of t (put_of e) → decommissions p e ≡ true → KnownAnd t p (IsAuthentic t p)
+decommissions-tells t e p lawful h = by e.question e.reply lawful h
+  where
+    by : (q : Question) (r : Reply) → IsReply t e.moment e.actor q r → ((names p (pack_of q) && accepts q r) && is_decommissioning q) ≡ true → KnownAnd t p (IsAuthentic t p)
+    by (Decommission s w) reply.Decommissioned is c =
+        let same = first_so (same_pack p s) _ (first_so _ _ c) in
+        KnownAnd-same t p s _ same
+        (KnownAnd-map t s _ _ (λ k tells. IsAuthentic-same t p s k same tells) (decommission-tells t e.moment e.actor s w is))
+    by (Decommission s w) r is c = let none : false ≡ true = second_so (same_pack p s) false (first_so (same_pack p s && false) true c) in cc
+    by q r is c = let none : false ≡ true = second_so (names p (pack_of q) && accepts q r) (is_decommissioning q) c in cc
+
+-- a pack is reverted only where Article 13 lets it be
+pub reverts-tells : (t : List Entry) (e : Entry) (p : Pack) → e.reply ≡ reply_of t (put_of e) → reverts p e ≡ true → KnownAnd t p (IsReversible t e.moment e.actor p)
+reverts-tells t e p lawful h = by e.question e.reply lawful h
+  where
+    by : (q : Question) (r : Reply) → IsReply t e.moment e.actor q r → ((names p (pack_of q) && accepts q r) && is_reversion q) ≡ true → KnownAnd t p (IsReversible t e.moment e.actor p)
+    by (Revert s) reply.Reverted is c =
+        let same = first_so (same_pack p s) _ (first_so _ _ c) in
+        KnownAnd-same t p s _ same
+        (KnownAnd-map t s _ _ (λ k tells. IsReversible-same t e.moment e.actor p s k same tells) (revert-tells t e.moment e.actor s is))
+    by (Revert s) r is c = let none : false ≡ true = second_so (same_pack p s) false (first_so (same_pack p s && false) true c) in cc
+    by q r is c = let none : false ≡ true = second_so (names p (pack_of q) && accepts q r) (is_reversion q) c in cc
+
+-- a pack is uploaded only where it is not known
+pub uploads-tells : (t : List Entry) (e : Entry) (p : Pack) → e.reply ≡ reply_of t (put_of e) → uploads p e ≡ true → is_some (known t p) ≡ false
+uploads-tells t e p lawful h = by e.question e.reply lawful h
+  where
+    by : (q : Question) (r : Reply) → IsReply t e.moment e.actor q r → ((is_upload q && names p (pack_of q)) && accepts q r) ≡ true → is_some (known t p) ≡ false
+    by (Upload s b x) reply.Uploaded is c =
+        ap is_some (known-same t p s (first_so _ _ c)) ∙ upload-tells t e.moment e.actor s b x is
+    by (Upload s b x) r is c = let none : false ≡ true = second_so (same_pack p s) false c in cc
+    by q r is c = let none : false ≡ true = first_so (is_upload q) (names p (pack_of q)) (first_so (is_upload q && names p (pack_of q)) (accepts q r) c) in cc
+
+pub reply-question : (t : List Entry) (q : Put) (n : Question) → q.question ≡ n → reply_of t q ≡ cond (may_ask q.actor.role n) (reply_to t q.moment q.actor n) (reply.Refused refusal.Role)
+reply-question t q n is = ap (λ z. cond (may_ask q.actor.role z) (reply_to t q.moment q.actor z) (reply.Refused refusal.Role)) is
+
+-- what is not refused for its role was asked by one that may
+pub may-tells : (t : List Entry) (n : ℕ) (a : Actor) (q : Question) (r : Reply) → (reply.Refused refusal.Role ≡ r → ⊥) → IsReply t n a q r → may_ask a.role q ≡ true
+may-tells t n a q r other h = (cond-then (may_ask a.role q) _ _ _ other (sym h)).0
+
+-- a pack is reported as stolen only once
+pub thefts-tells : (t : List Entry) (e : Entry) (p : Pack) → e.reply ≡ reply_of t (put_of e) → (is_mark p e && is_theft e.question) ≡ true → KnownAnd t p (λ k. is_stolen k.own ≡ false)
+thefts-tells t e p lawful h = by e.question e.reply lawful h
+  where
+    by : (q : Question) (r : Reply) → IsReply t e.moment e.actor q r → ((names p (pack_of q) && accepts q r) && is_theft q) ≡ true → KnownAnd t p (λ k. is_stolen k.own ≡ false)
+    by (Theft s) reply.MarkedStolen is c =
+        KnownAnd-same t p s _ (first_so (same_pack p s) _ (first_so _ _ c)) (theft-tells t e.moment e.actor s is)
+    by (Theft s) r is c = let none : false ≡ true = second_so (same_pack p s) false (first_so (same_pack p s && false) true c) in cc
+    by q r is c = let none : false ≡ true = second_so (names p (pack_of q) && accepts q r) (is_theft q) c in cc
+
+-- what holds of the pack that is known, at a name of its own
+pub known-holds : (t : List Entry) (p : Pack) (k : Known) (P : Known → Type 0) → known t p ≡ Some k → KnownAnd t p P → P k
+known-holds t p k P is h = let same : h.0 ≡ k = some-same h.0 k (sym h.1 ∙ is) in subst P same h.2
+  where
+    some-same : (x y : Known) → Some x ≡ Some y → x ≡ y
+    some-same x y same = cc
