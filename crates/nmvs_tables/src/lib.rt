@@ -7,6 +7,8 @@ mod codes;
 mod counts;
 mod packs;
 mod tables;
+#[cfg(test)]
+mod tests;
 mod writes;
 
 pub use packs::PackRecord;
