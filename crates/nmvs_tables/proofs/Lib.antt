@@ -1,3 +1,4 @@
+pub mod BoolLemmas
 pub mod CodesLemmas
 pub mod PacksLemmas
 pub mod BatchTableLemmas
