@@ -1,5 +1,5 @@
 -- The record of a product code after one more entry.
-use Rattle.std.proofs.Common.{◌≡◌, ℕ, ◌+◌, Bool, true, false, ◌&&◌, cond, List, [], ◌∷◌, ◌++◌, count_by, Option, Some, None, unwrap_or, refl, sym, ap, ◌∙◌, arith, add-zero}
+use Rattle.std.proofs.Common.{◌≡◌, ◌+◌, Bool, true, false, ◌&&◌, cond, List, [], ◌∷◌, ◌++◌, Option, Some, None, unwrap_or, refl, sym, ap, ◌∙◌, add-zero}
 use Rattle.std.specs.HashMap.{HashMap, get}
 use Rattle.std.specs.Map.{lookup}
 use Rattle.std.specs.Option.{option_or}
@@ -11,7 +11,7 @@ use Rattle.nmvs_rules.specs.Trail.{has_code, is_alert, is_upload, is_accepted}
 use Rattle.nmvs_rules.proofs.TextLemmas.{same_text-sym, same_text-same}
 use Rattle.nmvs_rules.proofs.PushLemmas.{holder_of-push, alerts_of-push, count_by-push}
 use Rattle.nmvs_tables.specs.declared.codes.CodeRecord.{CodeRecord}
-use Rattle.nmvs_tables.specs.Codes.{code_in, code_noted, code_after, code_record, no_code, uploader, is_flagged_alert, one_if}
+use Rattle.nmvs_tables.specs.Codes.{code_in, code_noted, code_after, code_record, no_code, is_flagged_alert, one_if}
 use Rattle.nmvs_tables.proofs.BoolLemmas.{not-so}
 
 -- a table is asked by the text of a product code alone

@@ -17,7 +17,7 @@ use Rattle.nmvs_rules.specs.declared.facts.Known.{Known}
 use Rattle.nmvs_rules.specs.declared.facts.Counts.{Counts}
 use Rattle.nmvs_rules.specs.declared.facts.BatchRecord.{BatchRecord}
 use Rattle.nmvs_rules.specs.Questions.{code_of, pack_of}
-use Rattle.nmvs_rules.specs.Trail.{is_accepted, own_by, is_own, lock_by, batch_record}
+use Rattle.nmvs_rules.specs.Trail.{is_accepted, own_by, is_own, batch_record}
 use Rattle.nmvs_tables.specs.declared.batches.BatchKey.{BatchKey}
 use Rattle.nmvs_tables.specs.Codes.{one_if}
 

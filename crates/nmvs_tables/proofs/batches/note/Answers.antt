@@ -1,4 +1,4 @@
-use Rattle.std.proofs.Common.{◌≡◌, ◌∙◌, sym, ap, Some, unwrap_or, subst}
+use Rattle.std.proofs.Common.{◌≡◌, ◌∙◌, sym, ap, unwrap_or, subst}
 use Rattle.nmvs_rules.specs.declared.facts.BatchRecord.{BatchRecord}
 use Rattle.nmvs_tables.specs.Batches.{batch_in, no_packs, NotesBatch}
 use Rattle.nmvs_tables.proofs.BatchTableLemmas.{changed-by, get_batch-changed, get_batch-others, keys-changed}

@@ -1,5 +1,5 @@
-use Rattle.std.proofs.Common.{◌≡◌, ◌∙◌, sym, ap, unwrap_or}
-use Rattle.nmvs_tables.specs.Codes.{code_in, code_noted}
+use Rattle.std.proofs.Common.{◌∙◌, sym, ap}
+use Rattle.nmvs_tables.specs.Codes.{code_noted}
 use Rattle.nmvs_tables.proofs.CodesLemmas.{code_in-noted, code_in-kept}
 use Rattle.nmvs_tables.proofs.codes.note.Goals as goal
 

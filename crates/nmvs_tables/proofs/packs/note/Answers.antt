@@ -1,4 +1,4 @@
-use Rattle.std.proofs.Common.{◌≡◌, ◌∙◌, sym, ap}
+use Rattle.std.proofs.Common.{◌∙◌, sym, ap}
 use Rattle.nmvs_tables.specs.Packs.{pack_after}
 use Rattle.nmvs_tables.proofs.PacksLemmas.{get-noted}
 use Rattle.nmvs_tables.proofs.packs.note.Goals as goal
