@@ -15,8 +15,11 @@ use Rattle.nmvs_rules.proofs.FindLemmas.{find-passes}
 use Rattle.nmvs_rules.proofs.TextLemmas.{same_pack-sym, same_pack-same}
 use Rattle.nmvs_rules.proofs.PushLemmas.{known-push, about_of-push, count_by-cons}
 use Rattle.nmvs_tables.specs.declared.packs.PackRecord.{PackRecord}
-use Rattle.nmvs_tables.specs.Packs.{record_with, pack_record, about_in, known_in, pack_after}
+use Rattle.nmvs_tables.specs.Packs.{pack_record, about_in, known_in, pack_after}
 use Rattle.nmvs_tables.proofs.BoolLemmas.{not-so}
+
+abbrev record_with : ℕ → Option Known → PackRecord
+record_with n k = record { about = n; known = k }
 
 -- a table is asked by the texts of a pack alone
 pub get-same : {S : Type 0} (m : HashMap Pack PackRecord S) (p q : Pack) → same_pack p q ≡ true → get same_pack m p ≡ get same_pack m q
