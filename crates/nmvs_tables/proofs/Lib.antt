@@ -8,3 +8,4 @@ pub mod BatchesLemmas
 pub mod BatchStepLemmas
 pub mod BatchRecordLemmas
 pub mod TablesLemmas
+pub mod EntryLemmas
