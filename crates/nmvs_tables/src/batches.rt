@@ -1,11 +1,11 @@
 //! The table of batches.
-ghost use Rattle.std.specs.Prelude.{◌≡◌, ℕ, ◌+◌, ◌<◌, ◌≤◌, ◌^◌, true, false, IsSomeAnd};
-ghost use Rattle.indexmap.specs.IndexMap.{get, keys, spare, insert_entry, Updates};
+ghost use Rattle.std.specs.Prelude.{◌≡◌, ◌+◌, ◌<◌, ◌≤◌, ◌^◌, true, false, IsSomeAnd};
+ghost use Rattle.indexmap.specs.IndexMap.{get, keys, spare};
 ghost use Rattle.std.specs.Option.{ForSome};
 ghost use Rattle.nmvs_rules.specs.declared.own.Own.{Own};
 ghost use Rattle.nmvs_tables.specs.declared.batches.BatchKey.{BatchKey};
 ghost use Rattle.nmvs_rules.specs.Questions.{code_of, locked_batch};
-ghost use Rattle.nmvs_tables.specs.Batches.{same_batch, batch_asked, batch_in, batch_meant, batch_changed, batches_after, changes_batch, count_in, own_before, own_after as own_left, no_packs, NotesBatch, lock_after};
+ghost use Rattle.nmvs_tables.specs.Batches.{same_batch, batch_asked, batch_in, batch_meant, batch_changed, batches_after, changes_batch, count_in, own_before, own_after as own_left, NotesBatch, lock_after};
 
 use crate::accepted::{is_accepted, own_after};
 use crate::counts::moved;

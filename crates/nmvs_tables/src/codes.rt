@@ -1,8 +1,8 @@
 //! The table of product codes.
-ghost use Rattle.std.specs.Prelude.{◌≡◌, ℕ, ◌+◌, ◌<◌, ◌^◌, unwrap_or};
+ghost use Rattle.std.specs.Prelude.{◌≡◌, ◌+◌, ◌<◌, ◌^◌, unwrap_or};
 ghost use Rattle.indexmap.specs.IndexMap.{spare};
 ghost use Rattle.nmvs_identifier.specs.ProductCode.{ProductCode};
-ghost use Rattle.nmvs_tables.specs.Codes.{code_in, code_noted, code_after, no_code};
+ghost use Rattle.nmvs_tables.specs.Codes.{code_in, code_noted, code_after};
 
 use crate::writes::{find, put};
 use indexmap::IndexMap;

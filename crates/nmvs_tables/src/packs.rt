@@ -1,6 +1,5 @@
 //! The table of packs.
-ghost use Rattle.std.specs.Prelude.{◌≡◌, ℕ, ◌+◌, ◌<◌, ◌^◌, Option, Some, true};
-ghost use Rattle.std.specs.Option.{option_copied};
+ghost use Rattle.std.specs.Prelude.{◌≡◌, ◌+◌, ◌<◌, ◌^◌, Some, true};
 ghost use Rattle.indexmap.specs.IndexMap.{get, spare};
 ghost use Rattle.nmvs_identifier.specs.declared.pack.Pack.{Pack};
 ghost use Rattle.nmvs_identifier.specs.Pack.{same_pack};

@@ -1,5 +1,5 @@
 //! A key's value found, and written where it was found.
-ghost use Rattle.std.specs.Prelude.{◌≡◌, ℕ, ◌<◌, Some, cond};
+ghost use Rattle.std.specs.Prelude.{◌≡◌, ◌<◌, Some, cond};
 ghost use Rattle.indexmap.specs.IndexMap.{get, index_of, insert_entry, spare};
 
 use indexmap::IndexMap;
