@@ -1,5 +1,5 @@
 //! The changes of a directory.
-ghost use Rattle.std.specs.Prelude.{◌≡◌, ◌++◌, [], ◌∷◌, fold, drop, length, Some, None, MatchResult, MatchOption};
+ghost use Rattle.std.specs.Prelude.{◌≡◌, ◌++◌, [], ◌∷◌, fold, drop, length, Some, None, OnOk, OnErr, MatchOption};
 
 use crate::history::{History, Tail};
 use crate::{Change, Naming};
@@ -8,13 +8,14 @@ use nmvs_rules::Actor;
 use std::alloc::{AllocError, Allocator};
 use std::collections::VecDeque;
 
-/// Longer than any list of changes becomes.
+/// More changes than any memory holds.
 const MOST: u64 = 1 << 60;
 
 /// All changes of a directory, the pending ones too.
 #[derive(Drop)]
 pub struct Changes<J: Naming, A: Allocator> {
     tail: Tail<J>,
+    /// The list up to the last change that is published.
     pub(crate) published: History<J>,
     /// The list up to the last change that the writer has.
     pub(crate) handed: History<J>,
@@ -45,7 +46,8 @@ impl<J: Naming, A: Allocator> Changes<J, A> {
 
     fn add(&mut self, change: Change) -> Result<(), AllocError>
         ensures published { KeepsPublished self.old self.new }
-        ensures pending { MatchResult result (λ _. pending_changes self.new ≡ pending_changes self.old ++ change ∷ []) (λ _. pending_changes self.new ≡ pending_changes self.old) }
+        ensures ok { OnOk result (pending_changes self.new ≡ pending_changes self.old ++ change ∷ []) }
+        ensures err { OnErr result (pending_changes self.new ≡ pending_changes self.old) }
     {
         self.waiting.reserve(1)?;
         if self.all.len() >= MOST {
@@ -62,7 +64,8 @@ impl<J: Naming, A: Allocator> Changes<J, A> {
     /// It answers `AllocError` where there is no memory for the change.
     pub fn enrol(&mut self, user: Name, actor: Actor) -> Result<(), AllocError>
         ensures published { KeepsPublished self.old self.new }
-        ensures pending { MatchResult result (λ _. pending_changes self.new ≡ pending_changes self.old ++ record { user = user; actor = Some actor } ∷ []) (λ _. pending_changes self.new ≡ pending_changes self.old) }
+        ensures ok { OnOk result (pending_changes self.new ≡ pending_changes self.old ++ record { user = user; actor = Some actor } ∷ []) }
+        ensures err { OnErr result (pending_changes self.new ≡ pending_changes self.old) }
     {
         self.add(Change {
             user,
@@ -75,7 +78,8 @@ impl<J: Naming, A: Allocator> Changes<J, A> {
     /// It answers `AllocError` where there is no memory for the change.
     pub fn suspend(&mut self, user: Name) -> Result<(), AllocError>
         ensures published { KeepsPublished self.old self.new }
-        ensures pending { MatchResult result (λ _. pending_changes self.new ≡ pending_changes self.old ++ record { user = user; actor = None } ∷ []) (λ _. pending_changes self.new ≡ pending_changes self.old) }
+        ensures ok { OnOk result (pending_changes self.new ≡ pending_changes self.old ++ record { user = user; actor = None } ∷ []) }
+        ensures err { OnErr result (pending_changes self.new ≡ pending_changes self.old) }
     {
         self.add(Change { user, actor: None })
     }

@@ -20,7 +20,7 @@ pub enum DirectoryFault {
     Window,
 }
 
-/// A directory before it has its name.
+/// An empty directory that has no name yet. Its name is picked with `Brand` where `open` is called.
 #[derive(Drop)]
 pub struct Directory {
     opened: Opened,
@@ -29,14 +29,16 @@ pub struct Directory {
 impl Directory {
     ghost use Rattle.nmvs_directory.specs.Directory.{directory_book};
 
-    /// It takes no memory.
+    /// Makes one. It takes no memory.
     pub fn new() -> Directory {
         Directory {
             opened: Opened::new(),
         }
     }
 
-    /// An empty directory under its name: its registrar, and so many windows. Where one is refused, the end of the others may wait.
+    /// Gives the directory its name, and its registrar and so many windows.
+    ///
+    /// It answers `Memory` where there is no memory for them, and `Window` where a window was refused its place.
     pub fn open<J: Naming, R: Wait + Drop, A: Allocator + Copy>(
         self,
         rt: R,

@@ -7,7 +7,7 @@ use std::marker::Model;
 /// What a publication tells. Contracts see the changes that were published, oldest first.
 #[derive(Drop)]
 pub struct Notice<J: Naming> {
-    pub(crate) told: History<J>,
+    told: History<J>,
 }
 
 impl<J: Naming> Model for Notice<J> {

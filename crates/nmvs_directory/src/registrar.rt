@@ -57,7 +57,9 @@ impl<J: Naming, R: Wait + Drop, A: Allocator> Registrar<J, R, A> {
         Ok(())
     }
 
-    /// Publishes all pending changes at once; at `Err` none is, and they stay pending. It waits for windows that are looking.
+    /// Publishes all pending changes at once. It waits for windows that are looking.
+    ///
+    /// It answers `AllocError` where there is no memory to publish them; then none is published, and they stay pending.
     pub fn publish(&mut self) -> Result<Notice<J>, AllocError>
         ensures published { MatchResult result (λ _. published self.new ≡ published self.old ++ pending self.old) (λ _. published self.new ≡ published self.old) }
         ensures pending { MatchResult result (λ _. pending self.new ≡ []) (λ _. pending self.new ≡ pending self.old) }

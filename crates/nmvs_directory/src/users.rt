@@ -21,18 +21,17 @@ pub struct Users<J: Naming, A: Allocator> {
 
 impl<J: Naming, A: Allocator> Model for Users<J, A> {
     ghost use Rattle.std.specs.Prelude.{◌≡◌, List};
-    ghost use Rattle.std.specs.Option.{option_map};
     ghost use Rattle.indexmap.specs.IndexMap.{get};
     ghost use Rattle.nmvs_identifier.specs.Name.{Name};
     ghost use Rattle.nmvs_identifier.specs.Texts.{same_text};
-    ghost use Rattle.nmvs_directory.specs.Known.{last_change};
+    ghost use Rattle.nmvs_directory.specs.Known.{last_actor};
     ghost use Rattle.nmvs_directory.specs.declared.change.Change.{Change};
 
     ghost Value = { List Change };
 
     ghost view = { λ u. u.history };
 
-    ghost invariant = { λ u. (user : Name) → get same_text u.actors user ≡ option_map (λ change. change.actor) (last_change u.history user) };
+    ghost invariant = { λ u. (user : Name) → get same_text u.actors user ≡ last_actor u.history user };
 }
 
 impl<J: Naming, A: Allocator + Copy> Users<J, A> {

@@ -15,11 +15,18 @@ use Rattle.nmvs_protocol.specs.declared.line_fault.LineFault.{LineFault}
 use Rattle.nmvs_protocol.specs.Fields.{fields_in, field, joined}
 use Rattle.nmvs_protocol.specs.Lines.{line, grammars, kind_put, without_audit}
 
-two : (xs : List (List ℕ)) → length xs ≡ 2 → xs ≡ get_or xs 0 [] ∷ get_or xs 1 [] ∷ []
+-- the fields of a line that has so many
+pub two : (xs : List (List ℕ)) → length xs ≡ 2 → xs ≡ get_or xs 0 [] ∷ get_or xs 1 [] ∷ []
 two [] e = absurd (omega arith)
 two (a ∷ []) e = absurd (omega arith)
 two (a ∷ b ∷ []) e = refl
 two (a ∷ b ∷ c ∷ xs) e = absurd (omega arith)
+
+pub five : (xs : List (List ℕ)) → length xs ≡ 5 → xs ≡ get_or xs 0 [] ∷ get_or xs 1 [] ∷ get_or xs 2 [] ∷ get_or xs 3 [] ∷ get_or xs 4 [] ∷ []
+five [] e = absurd (omega arith)
+five (a ∷ []) e = absurd (omega arith)
+five (a ∷ b ∷ []) e = absurd (omega arith)
+five (a ∷ b ∷ c ∷ xs) e = ap (λ (t : List (List ℕ)). a ∷ b ∷ c ∷ t) (two xs (omega arith))
 
 -- the last two of four fields
 pub last_two : (xs : List (List ℕ)) → length xs ≡ 4 → drop 2 xs ≡ get_or xs 2 [] ∷ get_or xs 3 [] ∷ []

@@ -1,2 +1,8 @@
 pub mod Fields
 pub mod Lines
+pub mod Commands
+pub mod Texts
+pub mod InputLines
+pub mod Session
+pub mod Progress
+pub mod Put

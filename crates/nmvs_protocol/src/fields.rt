@@ -4,6 +4,9 @@ ghost use Rattle.std.specs.List.{list_any, list_all, slice_get};
 ghost use Rattle.std.specs.Option.{option_map};
 ghost use Rattle.nmvs_protocol.specs.Fields.{is_printable, is_empty, fields_in, field};
 
+/// The most bytes that a line may have, its LF not among them (own).
+pub(crate) const LONGEST_LINE: usize = 200;
+
 /// The line as a text, where each byte is a printable ASCII character.
 pub(crate) fn printable_text(bytes: &[u8]) -> Option<&str>
     ensures printable { IsSome result ↔ IsTrue (list_all is_printable bytes.now) }

@@ -1,13 +1,10 @@
 -- The alerts of a product code are numbered in order.
-use Rattle.std.proofs.Common.{◌≡◌, ℕ, zero, suc, ◌+◌, Bool, true, false, ◌&&◌, cond, List, [], ◌∷◌, ◌++◌, Option, Some, None, filter_map, refl, sym, ap, subst, ◌∙◌, arith, add-zero, add-one, append-nil}
+use Rattle.std.proofs.Common.{◌≡◌, ℕ, zero, suc, ◌+◌, Bool, true, false, ◌&&◌, cond, List, [], ◌∷◌, ◌++◌, Option, Some, None, filter_map, refl, sym, ap, ◌∙◌, arith, add-zero, add-one, append-nil}
 use Rattle.std.proofs.lemmas.List.Elements.{filter-append, filter_map-append}
 use Rattle.std.specs.List.{range_with_len, cons_option}
 use Rattle.nmvs_identifier.specs.ProductCode.{ProductCode}
-use Rattle.nmvs_identifier.specs.Name.{Name}
 use Rattle.nmvs_rules.specs.declared.refusal.Refusal.TheVariants as refusal
-use Rattle.nmvs_rules.specs.declared.batch_lock.BatchLock.{BatchLock}
 use Rattle.nmvs_rules.specs.declared.actor.Actor.{Actor}
-use Rattle.nmvs_rules.specs.declared.cause.Cause.{Cause}
 use Rattle.nmvs_rules.specs.declared.question.Question.{Question}
 use Rattle.nmvs_rules.specs.declared.question.Question.TheVariants.{Upload, Verify, Status, Decommission, Revert, Recall, Withdraw, Theft, Audit}
 use Rattle.nmvs_rules.specs.declared.entry.Entry.{Entry}
@@ -16,7 +13,7 @@ use Rattle.nmvs_rules.specs.declared.reply.Reply.{Reply}
 use Rattle.nmvs_rules.specs.declared.reply.Reply.TheVariants as reply
 use Rattle.nmvs_rules.specs.Questions.{Put, may_ask, code_of}
 use Rattle.nmvs_rules.specs.Trail.{known, has_code, is_alert, alerts_of}
-use Rattle.nmvs_rules.specs.Rules.{on_pack, revert_reply, lock_reply, verify_reply, reply_to, reply_of, put_of, IsLawful}
+use Rattle.nmvs_rules.specs.Rules.{on_pack, reply_to, reply_of, put_of, IsLawful}
 use Rattle.nmvs_rules.specs.Laws.{part_of, alert_number, alert_numbers}
 use Rattle.nmvs_rules.proofs.TextLemmas.{alerts_of-same}
 use Rattle.nmvs_rules.proofs.PushLemmas.{alerts_of-push}
@@ -42,7 +39,7 @@ reply_to-numbered t n a (Theft p) = on_pack-numbered _ (known t p) _ _ (λ m is.
 reply_to-numbered t n a (Audit p) = λ m is. grind arith
 
 -- an alert has the number after the alerts on its product code so far
-pub alert-numbered : (t : List Entry) (q : Put) → IsNumbered (alerts_of t (code_of q.question) + 1) (reply_of t q)
+alert-numbered : (t : List Entry) (q : Put) → IsNumbered (alerts_of t (code_of q.question) + 1) (reply_of t q)
 alert-numbered t q = by (may_ask q.actor.role q.question)
   where
     by : (b : Bool) → IsNumbered (alerts_of t (code_of q.question) + 1) (cond b (reply_to t q.moment q.actor q.question) (reply.Refused refusal.Role))

@@ -1,13 +1,12 @@
 -- Births of packs: known packs, and one accepted upload for each.
-use Rattle.std.proofs.Common.{◌≡◌, ℕ, ◌+◌, ◌≤◌, Bool, true, false, ◌&&◌, cond, List, [], ◌∷◌, ◌++◌, Option, Some, None, refl, sym, ap, subst, ◌∙◌, arith}
-use Rattle.std.specs.Cmp.{first_so, second_so}
-use Rattle.std.specs.List.{find, count_by}
+use Rattle.std.proofs.Common.{◌≡◌, ℕ, ◌+◌, Bool, true, false, cond, List, [], ◌∷◌, ◌++◌, Option, Some, None, refl, sym, ap, ◌∙◌, arith}
+use Rattle.std.specs.Cmp.{first_so}
+use Rattle.std.specs.List.{count_by}
 use Rattle.std.specs.Option.{is_some, option_or, unwrap_or}
 use Rattle.nmvs_identifier.specs.declared.pack.Pack.{Pack}
 use Rattle.nmvs_rules.specs.declared.question.Question.{Question}
 use Rattle.nmvs_rules.specs.declared.question.Question.TheVariants.{Upload}
 use Rattle.nmvs_rules.specs.declared.entry.Entry.{Entry}
-use Rattle.nmvs_rules.specs.declared.facts.Known.{Known}
 use Rattle.nmvs_rules.specs.Trail.{born, mark, known, known_from, known_at, is_upload}
 use Rattle.nmvs_rules.specs.Rules.{reply_of, put_of, IsLawful}
 use Rattle.nmvs_rules.specs.Laws.{uploads}
@@ -26,7 +25,7 @@ is_some-known_from t p (Some u) h =
     is_some-known_at t p (unwrap_or (mark t p) u) u.question (first_so _ _ (first_so _ _ (find-passes (uploads p) t u h)))
 
 -- a pack is known where it was uploaded
-pub is_some-known : (t : List Entry) (p : Pack) → is_some (known t p) ≡ is_some (born t p)
+is_some-known : (t : List Entry) (p : Pack) → is_some (known t p) ≡ is_some (born t p)
 is_some-known t p = is_some-known_from t p (born t p) refl
 
 births-more : (o : Option Entry) (b : Bool) (e : Entry) (n m : ℕ) → (b ≡ true → is_some o ≡ false) → n ≡ cond (is_some o) 1 0 → m ≡ n + cond b 1 0 → m ≡ cond (is_some (option_or o (cond b (Some e) None))) 1 0
@@ -35,8 +34,8 @@ births-more None false e n m fresh h k = omega arith
 births-more (Some u) true e n m fresh h k = let wrong = fresh refl in cc
 births-more (Some u) false e n m fresh h k = omega arith
 
--- in a lawful trail a pack has one accepted upload where it is known, and else none
-pub births-exact : (t : List Entry) (p : Pack) → IsLawful t → count_by (uploads p) t ≡ cond (is_some (born t p)) 1 0
+-- in a lawful trail a pack has one accepted upload where there is a first one
+births-exact : (t : List Entry) (p : Pack) → IsLawful t → count_by (uploads p) t ≡ cond (is_some (born t p)) 1 0
 births-exact t p lawful = IsLawful-keeps P step refl t lawful
   where
     P : List Entry → Type 0
@@ -47,12 +46,6 @@ births-exact t p lawful = IsLawful-keeps P step refl t lawful
         births-more (born u p) (uploads p e) e _ _ (λ b. sym (is_some-known u p) ∙ uploads-tells u e p is b) h (count_by-push (uploads p) u e)
         ∙ ap (λ o. cond (is_some o) 1 0) (sym (born-push u e p))
 
-at_most_one : (b : Bool) → cond b 1 0 ≤ 1
-at_most_one true = omega arith
-at_most_one false = omega arith
-
-pub one_birth : (t : List Entry) (p : Pack) → IsLawful t → count_by (uploads p) t ≤ 1
-one_birth t p lawful = subst (λ n. n ≤ 1) (sym (births-exact t p lawful)) (at_most_one (is_some (born t p)))
-
+-- in a lawful trail a pack has one accepted upload where it is known, and else none
 pub births-known : (t : List Entry) (p : Pack) → IsLawful t → count_by (uploads p) t ≡ cond (is_some (known t p)) 1 0
 births-known t p lawful = births-exact t p lawful ∙ ap (λ b. cond b 1 0) (sym (is_some-known t p))

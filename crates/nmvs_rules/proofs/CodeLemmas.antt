@@ -29,7 +29,7 @@ use Rattle.nmvs_rules.proofs.PushLemmas.{count_by-cons}
 use Rattle.nmvs_rules.proofs.TextLemmas.{has_code-same}
 
 module _ {X : Type 0} (p c : X → Bool) (within : (x : X) → p x ≡ true → c x ≡ true) where
-  pub find-filter : (xs : List X) → find p (filter c xs) ≡ find p xs
+  find-filter : (xs : List X) → find p (filter c xs) ≡ find p xs
   find-filter [] = refl
   find-filter (x ∷ xs) = by (p x) (c x) refl refl (find-filter xs)
     where
@@ -38,7 +38,7 @@ module _ {X : Type 0} (p c : X → Bool) (within : (x : X) → p x ≡ true → 
       by true false h k rest = let both : true ≡ false = sym (within x h) ∙ k in cc
       by false false h k rest = rw (k, h) rest
 
-  pub list_any-filter : (xs : List X) → list_any p (filter c xs) ≡ list_any p xs
+  list_any-filter : (xs : List X) → list_any p (filter c xs) ≡ list_any p xs
   list_any-filter [] = refl
   list_any-filter (x ∷ xs) = by (p x) (c x) refl refl (list_any-filter xs)
     where
@@ -47,7 +47,7 @@ module _ {X : Type 0} (p c : X → Bool) (within : (x : X) → p x ≡ true → 
       by true false h k rest = let both : true ≡ false = sym (within x h) ∙ k in cc
       by false false h k rest = rw (k, h) rest
 
-  pub count_by-filter : (xs : List X) → count_by p (filter c xs) ≡ count_by p xs
+  count_by-filter : (xs : List X) → count_by p (filter c xs) ≡ count_by p xs
   count_by-filter [] = refl
   count_by-filter (x ∷ xs) = by (p x) (c x) refl refl (count_by-filter xs)
     where
@@ -60,7 +60,7 @@ reverse_one : {X : Type 0} (c : X → Bool) (x : X) (b : Bool) → reverse {A = 
 reverse_one c x true = refl
 reverse_one c x false = refl
 
-pub reverse-filter : {X : Type 0} (c : X → Bool) (xs : List X) → reverse (filter c xs) ≡ filter c (reverse xs)
+reverse-filter : {X : Type 0} (c : X → Bool) (xs : List X) → reverse (filter c xs) ≡ filter c (reverse xs)
 reverse-filter c [] = refl
 reverse-filter {X} c (x ∷ xs) =
     ap reverse (filter-append {X = X} c (x ∷ []) xs)
@@ -71,7 +71,7 @@ reverse-filter {X} c (x ∷ xs) =
     ∙ ap (filter c) (sym (reverse-append {A = X} (x ∷ []) xs))
 
 -- an entry about a pack has its code
-pub about-code : (p : Pack) (e : Entry) → is_about p e ≡ true → has_code p.code e ≡ true
+about-code : (p : Pack) (e : Entry) → is_about p e ≡ true → has_code p.code e ≡ true
 about-code p e h = by e.question h
   where
     by : (q : Question) → names p (pack_of q) ≡ true → same_text p.code (code_of q) ≡ true
@@ -85,25 +85,25 @@ about-code p e h = by e.question h
     by (Theft r) n = first_so _ _ n
     by (Audit r) n = first_so _ _ n
 
-pub born-code : (t : List Entry) (p : Pack) → born (part_of t p.code) p ≡ born t p
+born-code : (t : List Entry) (p : Pack) → born (part_of t p.code) p ≡ born t p
 born-code t p = find-filter _ (has_code p.code) (λ e h. about-code p e (second_so _ _ (first_so _ _ h))) t
 
-pub mark-code : (t : List Entry) (p : Pack) → mark (part_of t p.code) p ≡ mark t p
+mark-code : (t : List Entry) (p : Pack) → mark (part_of t p.code) p ≡ mark t p
 mark-code t p =
     ap (find (is_mark p)) (reverse-filter (has_code p.code) t)
     ∙ find-filter (is_mark p) (has_code p.code) (λ e h. about-code p e (first_so _ _ h)) (reverse t)
 
-pub alerts-code : (t : List Entry) (c : ProductCode) → alerts_of (part_of t c) c ≡ alerts_of t c
+alerts-code : (t : List Entry) (c : ProductCode) → alerts_of (part_of t c) c ≡ alerts_of t c
 alerts-code t c = count_by-filter _ (has_code c) (λ e h. first_so _ _ h) t
 
-pub about-filter : (t : List Entry) (p : Pack) → about_of (part_of t p.code) p ≡ about_of t p
+about-filter : (t : List Entry) (p : Pack) → about_of (part_of t p.code) p ≡ about_of t p
 about-filter t p = count_by-filter (is_about p) (has_code p.code) (λ e h. about-code p e h) t
 
-pub holder-code : (t : List Entry) (c : ProductCode) → holder_of (part_of t c) c ≡ holder_of t c
+holder-code : (t : List Entry) (c : ProductCode) → holder_of (part_of t c) c ≡ holder_of t c
 holder-code t c = ap (option_map (λ e. e.actor.authorisation)) (find-filter _ (has_code c) (λ e h. second_so _ _ (first_so _ _ h)) t)
 
 -- what is known of a pack, but for the place of its mark
-abbrev pub forget : Known → Known
+abbrev forget : Known → Known
 forget k = record k { mark = record k.mark { place = 0 } }
 
 forget_at : (t u : List Entry) (p : Pack) (m : Entry) (q : Question) → option_map forget (known_at u p m q) ≡ option_map forget (known_at t p m q)
@@ -115,33 +115,30 @@ forget_from t u p None m = refl
 forget_from t u p (Some first) m =
     ap (λ k. option_map forget (known_at u p (unwrap_or k first) first.question)) m ∙ forget_at t u p (unwrap_or (mark t p) first) first.question
 
-pub known-code : (t : List Entry) (p : Pack) → option_map forget (known (part_of t p.code) p) ≡ option_map forget (known t p)
+known-code : (t : List Entry) (p : Pack) → option_map forget (known (part_of t p.code) p) ≡ option_map forget (known t p)
 known-code t p =
     ap (λ o. option_map forget (known_from (part_of t p.code) p o)) (born-code t p)
     ∙ forget_from t (part_of t p.code) p (born t p) (mark-code t p)
 
 -- a reply that does not read the place of the mark
-pub on_pack-forget : (o : Option Known) (u : Reply) (f : Known → Reply) → ((k : Known) → f (forget k) ≡ f k) → on_pack (option_map forget o) u f ≡ on_pack o u f
+on_pack-forget : (o : Option Known) (u : Reply) (f : Known → Reply) → ((k : Known) → f (forget k) ≡ f k) → on_pack (option_map forget o) u f ≡ on_pack o u f
 on_pack-forget None u f h = refl
 on_pack-forget (Some k) u f h = h k
 
-pub revert-forget : (n : ℕ) (a : Actor) (l : BatchLock) (k : Known) → revert_reply n a (forget k) l ≡ revert_reply n a k l
-revert-forget n a l k = refl
-
-pub locks-code : (c : ProductCode) (b : Batch) (q : Question) → locks_batch c b q ≡ true → same_text c (code_of q) ≡ true
+locks-code : (c : ProductCode) (b : Batch) (q : Question) → locks_batch c b q ≡ true → same_text c (code_of q) ≡ true
 locks-code c b (Recall d e) h = first_so _ _ h
 locks-code c b (Withdraw d e) h = first_so _ _ h
 locks-code c b q h = cc
 
-pub uploads-code : (c : ProductCode) (b : Batch) (q : Question) → uploads_batch c b q ≡ true → same_text c (code_of q) ≡ true
+uploads-code : (c : ProductCode) (b : Batch) (q : Question) → uploads_batch c b q ≡ true → same_text c (code_of q) ≡ true
 uploads-code c b (Upload p d x) h = first_so _ _ h
 uploads-code c b q h = cc
 
-pub lock-code : (t : List Entry) (c : ProductCode) (b : Batch) → lock_of (part_of t c) c b ≡ lock_of t c b
+lock-code : (t : List Entry) (c : ProductCode) (b : Batch) → lock_of (part_of t c) c b ≡ lock_of t c b
 lock-code t c b =
     ap (λ o. option_map_or (λ e. lock_by e.question) o lock.Free) (find-filter (λ e. locks_batch c b e.question && is_accepted e) (has_code c) (λ e h. locks-code c b e.question (first_so _ _ h)) t)
 
-pub known_batch-code : (t : List Entry) (c : ProductCode) (b : Batch) → is_known_batch (part_of t c) c b ≡ is_known_batch t c b
+known_batch-code : (t : List Entry) (c : ProductCode) (b : Batch) → is_known_batch (part_of t c) c b ≡ is_known_batch t c b
 known_batch-code t c b = list_any-filter (is_birth_in c b) (has_code c) (λ e h. uploads-code c b e.question (first_so _ _ h)) t
 
 -- an entry counts alike on the trail and on the code's part of it
@@ -153,12 +150,12 @@ stands-code t c b s (Upload p d x) a = by (same_text c p.code) refl
     by false h = rw h refl
 stands-code t c b s q a = refl
 
-pub count-code : (t : List Entry) (c : ProductCode) (b : Batch) (s : Own) → count_of (part_of t c) c b s ≡ count_of t c b s
+count-code : (t : List Entry) (c : ProductCode) (b : Batch) (s : Own) → count_of (part_of t c) c b s ≡ count_of t c b s
 count-code t c b s =
     (λ j. count_by (λ e. stands-code t c b s e.question (is_accepted e) j) (part_of t c))
     ∙ count_by-filter (λ e. is_birth_in c b e && stands_at t s (pack_of e.question)) (has_code c) (λ e h. uploads-code c b e.question (first_so _ _ (first_so _ _ h))) t
 
-pub on_pack-code : (t u : List Entry) (p : Pack) (un : Reply) (f : Known → BatchLock → Reply) → option_map forget (known u p) ≡ option_map forget (known t p) → ((b : Batch) → lock_of u p.code b ≡ lock_of t p.code b) → ((k : Known) (l : BatchLock) → f (forget k) l ≡ f k l) → on_pack (known u p) un (λ k. f k (lock_on u p k)) ≡ on_pack (known t p) un (λ k. f k (lock_on t p k))
+on_pack-code : (t u : List Entry) (p : Pack) (un : Reply) (f : Known → BatchLock → Reply) → option_map forget (known u p) ≡ option_map forget (known t p) → ((b : Batch) → lock_of u p.code b ≡ lock_of t p.code b) → ((k : Known) (l : BatchLock) → f (forget k) l ≡ f k l) → on_pack (known u p) un (λ k. f k (lock_on u p k)) ≡ on_pack (known t p) un (λ k. f k (lock_on t p k))
 on_pack-code t u p un f same locks h =
     (λ j. on_pack (known u p) un (λ k. f k (locks k.batch j)))
     ∙ sym (on_pack-forget (known u p) un (λ k. f k (lock_on t p k)) (λ k. h k (lock_on t p k)))
@@ -169,7 +166,7 @@ is_some-forget : (o : Option Known) → is_some (option_map forget o) ≡ is_som
 is_some-forget None = refl
 is_some-forget (Some k) = refl
 
-pub reply_to-code : (t : List Entry) (n : ℕ) (a : Actor) (q : Question) → reply_to (part_of t (code_of q)) n a q ≡ reply_to t n a q
+reply_to-code : (t : List Entry) (n : ℕ) (a : Actor) (q : Question) → reply_to (part_of t (code_of q)) n a q ≡ reply_to t n a q
 reply_to-code t n a (Upload p b x) =
     ap (λ h. upload_reply a h (known (part_of t p.code) p)) (holder-code t p.code)
     ∙ ap (λ s. cond (has_other_holder (holder_of t p.code) a.authorisation) (reply.Refused refusal.NotHolder) (cond s (reply.Refused refusal.Duplicate) reply.Uploaded)) (sym (is_some-forget (known (part_of t p.code) p)) ∙ ap is_some (known-code t p) ∙ is_some-forget (known t p))

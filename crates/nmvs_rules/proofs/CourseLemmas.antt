@@ -1,6 +1,7 @@
 -- The course of a pack through its own statuses.
-use Rattle.std.proofs.Common.{◌≡◌, ℕ, Bool, true, false, not, ◌&&◌, ◌||◌, cond, List, [], ◌∷◌, ◌++◌, length, Option, Some, None, IsTrue, refl, sym, ap, subst, ◌∙◌, append-nil, append_assoc, arith}
+use Rattle.std.proofs.Common.{◌≡◌, Bool, true, false, not, ◌&&◌, ◌||◌, cond, List, [], ◌∷◌, ◌++◌, length, Some, refl, sym, ap, subst, ◌∙◌, append-nil, append_assoc}
 use Rattle.std.specs.Cmp.{first_so, second_so}
+use Rattle.std.specs.Cmp.Derive.{both_true}
 use Rattle.std.specs.List.{list_any}
 use Rattle.std.specs.Option.{is_some}
 use Rattle.nmvs_identifier.specs.declared.pack.Pack.{Pack}
@@ -10,19 +11,15 @@ use Rattle.nmvs_rules.specs.declared.question.Question.{Question}
 use Rattle.nmvs_rules.specs.declared.question.Question.TheVariants.{Upload, Decommission, Revert, Recall, Withdraw, Theft}
 use Rattle.nmvs_rules.specs.declared.own.Own.{Own}
 use Rattle.nmvs_rules.specs.declared.own.Own.TheVariants as own
-use Rattle.nmvs_rules.specs.declared.reply.Reply.{Reply}
 use Rattle.nmvs_rules.specs.declared.entry.Entry.{Entry}
 use Rattle.nmvs_rules.specs.declared.facts.Known.{Known}
 use Rattle.nmvs_rules.specs.Questions.{pack_of, names}
-use Rattle.nmvs_rules.specs.Trail.{known, known_after, marked_by, mark_after, accepts, is_accepted, is_about, is_mark, is_upload, own_by, own_by_reason}
+use Rattle.nmvs_rules.specs.Trail.{known, marked_by, mark_after, accepts, is_about, is_mark, is_upload, own_by, own_by_reason}
 use Rattle.nmvs_rules.specs.Rules.{is_active, is_stolen, is_destroyed, is_supplied, reply_of, put_of, IsLawfulAfter, IsLawful}
 use Rattle.nmvs_rules.specs.Laws.{uploads, decommissions, supplies, reverts, confirms, is_decommissioning, is_supply, is_reversion, may_become}
 use Rattle.nmvs_rules.proofs.PushLemmas.{known-push}
-use Rattle.nmvs_rules.proofs.LawfulLemmas.{IsLawful-rest, IsLawfulAfter-rest, IsLawfulAfter-first, IsLawfulAfter-keeps}
-use Rattle.nmvs_rules.proofs.ReplyLemmas.{KnownAnd, IsAuthentic, IsReversible, known-holds, is_theft, uploads-tells, decommissions-tells, reverts-tells, confirms-tells, thefts-tells}
-
-and-both : (a b : Bool) → a ≡ true → b ≡ true → (a && b) ≡ true
-and-both a b first second = ap (λ z. z && b) first ∙ second
+use Rattle.nmvs_rules.proofs.LawfulLemmas.{IsLawful-rest, IsLawfulAfter-first, IsLawfulAfter-keeps}
+use Rattle.nmvs_rules.proofs.ReplyLemmas.{KnownAnd, known-holds, is_theft, uploads-tells, decommissions-tells, reverts-tells, confirms-tells, thefts-tells}
 
 -- a decommissioned pack is not active
 pub decommissioned-not_active : (q : Question) → is_decommissioning q ≡ true → is_active (own_by q) ≡ false
@@ -61,22 +58,19 @@ course t e p k lawful is marks = by e.question refl
   where
     by : (q : Question) → e.question ≡ q → may_become k.own (own_by q) ≡ true
     by (Upload s b x) h =
-        let born : uploads p e ≡ true = and-both _ _ (and-both _ _ (ap is_upload h) (first_so _ _ marks)) (second_so (is_about p e) _ marks) in
+        let born : uploads p e ≡ true = both_true (both_true (ap is_upload h) (first_so _ _ marks)) (second_so (is_about p e) _ marks) in
         let none : true ≡ false = sym (ap is_some is) ∙ uploads-tells t e p lawful born in cc
     by (Decommission s w) h =
-        decommissioned k.own w (known-holds t p k _ is (decommissions-tells t e p lawful (and-both _ _ marks (ap is_decommissioning h)))).active
+        decommissioned k.own w (known-holds t p k _ is (decommissions-tells t e p lawful (both_true marks (ap is_decommissioning h)))).active
     by (Revert s) h =
-        let tells = known-holds t p k _ is (reverts-tells t e p lawful (and-both _ _ marks (ap is_reversion h))) in
+        let tells = known-holds t p k _ is (reverts-tells t e p lawful (both_true marks (ap is_reversion h))) in
         reverted k.own tells.not_active tells.not_stolen tells.not_destroyed tells.not_supplied
     by (Theft s) h =
-        stolen k.own (known-holds t p k _ is (thefts-tells t e p lawful (and-both _ _ marks (ap is_theft h))))
+        stolen k.own (known-holds t p k _ is (thefts-tells t e p lawful (both_true marks (ap is_theft h))))
     by (Recall c b) h = let none : false ≡ true = sym (ap (λ q. names p (pack_of q) && accepts q e.reply) h) ∙ marks in cc
     by (Withdraw c b) h = let none : false ≡ true = sym (ap (λ q. names p (pack_of q) && accepts q e.reply) h) ∙ marks in cc
     by q h =
         let none : false ≡ true = second_so (names p (pack_of q)) (accepts q e.reply) (sym (ap (λ q. names p (pack_of q) && accepts q e.reply) h) ∙ marks) in cc
-
-pub course-in : (before after : List Entry) (e : Entry) (p : Pack) (k : Known) → IsLawful (before ++ e ∷ after) → known before p ≡ Some k → is_mark p e ≡ true → may_become k.own (own_by e.question) ≡ true
-course-in before after e p k lawful = course before e p k (IsLawful-rest before (e ∷ after) lawful).0
 
 -- what is known of a pack after an accepted operation on it
 known-after-mark : (t : List Entry) (e : Entry) (p : Pack) (k : Known) → known t p ≡ Some k → is_mark p e ≡ true → known (t ++ e ∷ []) p ≡ Some (record k { own = own_by e.question; mark = mark_after (length t) e })
@@ -88,12 +82,18 @@ known-after-mark t e p k is marks =
 known-after-other : (t : List Entry) (e : Entry) (p : Pack) → is_mark p e ≡ false → known (t ++ e ∷ []) p ≡ known t p
 known-after-other t e p other = known-push t e p ∙ ap (λ b. cond b (marked_by (length t) e (known t p)) (known t p)) other
 
+pub course-in : (before after : List Entry) (e : Entry) (p : Pack) (k : Known) → IsLawful (before ++ e ∷ after) → known before p ≡ Some k → (is_mark p e ≡ false → known (before ++ e ∷ []) p ≡ Some k) × (is_mark p e ≡ true → may_become k.own (own_by e.question) ≡ true)
+course-in before after e p k lawful is = (
+  λ other. known-after-other before e p other ∙ is,
+  λ marks. course before e p k (IsLawful-rest before (e ∷ after) lawful).0 is marks,
+)
+
 -- the pack is known, and its own status passes a test
 abbrev pub Stands : (Own → Bool) → List Entry → Pack → Type 0
 Stands passes t p = KnownAnd t p (λ k. passes k.own ≡ true)
 
 -- a test on own statuses that holds along the course holds of a pack for ever
-pub Stands-push : (passes : Own → Bool) → ((o w : Own) → passes o ≡ true → may_become o w ≡ true → passes w ≡ true) → (t : List Entry) (e : Entry) (p : Pack) → Stands passes t p → e.reply ≡ reply_of t (put_of e) → Stands passes (t ++ e ∷ []) p
+Stands-push : (passes : Own → Bool) → ((o w : Own) → passes o ≡ true → may_become o w ≡ true → passes w ≡ true) → (t : List Entry) (e : Entry) (p : Pack) → Stands passes t p → e.reply ≡ reply_of t (put_of e) → Stands passes (t ++ e ∷ []) p
 Stands-push passes keeps t e p h lawful = by (is_mark p e) refl
   where
     by : (b : Bool) → is_mark p e ≡ b → Stands passes (t ++ e ∷ []) p
@@ -173,7 +173,7 @@ supplied-once before between after supply later p lawful h = (
 
     supplied : Stands is_gone (before ++ supply ∷ []) p
     supplied =
-        let k = decommissions-tells before supply p at.first (and-both _ _ marks kind.0) in
+        let k = decommissions-tells before supply p at.first (both_true marks kind.0) in
         (record k.0 { own = own_by supply.question; mark = mark_after (length before) supply }, known-after-mark before supply p k.0 k.1 marks, kind.1)
 
     gone : Stands is_gone t p
@@ -189,9 +189,9 @@ out-keeps t e p h lawful unreverted = by (is_mark p e) refl
     out : (q : Question) → e.question ≡ q → is_mark p e ≡ true → is_out (own_by q) ≡ true
     out (Decommission s w) is marks = ap not (decommissioned-not_active (Decommission s w) refl)
     out (Theft s) is marks = refl
-    out (Revert s) is marks = let none : false ≡ true = sym unreverted ∙ and-both _ _ marks (ap is_reversion is) in cc
+    out (Revert s) is marks = let none : false ≡ true = sym unreverted ∙ both_true marks (ap is_reversion is) in cc
     out (Upload s b x) is marks =
-        let born : uploads p e ≡ true = and-both _ _ (and-both _ _ (ap is_upload is) (first_so _ _ marks)) (second_so (is_about p e) _ marks) in
+        let born : uploads p e ≡ true = both_true (both_true (ap is_upload is) (first_so _ _ marks)) (second_so (is_about p e) _ marks) in
         let none : true ≡ false = sym (ap is_some h.1) ∙ uploads-tells t e p lawful born in cc
     out (Recall c b) is marks = let none : false ≡ true = sym (ap (λ q. names p (pack_of q) && accepts q e.reply) is) ∙ marks in cc
     out (Withdraw c b) is marks = let none : false ≡ true = sym (ap (λ q. names p (pack_of q) && accepts q e.reply) is) ∙ marks in cc

@@ -14,3 +14,4 @@ pub mod VerificationLemmas
 pub mod RecallLemmas
 pub mod AlertLemmas
 mod WorkedExample
+mod LawsExample

@@ -1,8 +1,9 @@
 -- The mark of a known pack.
-use Rattle.std.proofs.Common.{◌≡◌, ℕ, Bool, true, false, ◌&&◌, ◌||◌, cond, List, [], ◌∷◌, ◌++◌, reverse, Option, Some, None, refl, sym, ap, subst, ◌∙◌, arith}
+use Rattle.std.proofs.Common.{◌≡◌, Bool, true, false, ◌&&◌, ◌||◌, cond, List, [], ◌∷◌, reverse, Option, Some, None, refl, sym, ap, subst, ◌∙◌}
 use Rattle.std.proofs.lemmas.List.{reverse-append}
 use Rattle.std.proofs.lemmas.List.Folds.{find-append}
 use Rattle.std.specs.Cmp.{first_so, second_so}
+use Rattle.std.specs.Cmp.Derive.{both_true}
 use Rattle.std.specs.List.{find, list_any}
 use Rattle.std.specs.Option.{is_some, option_or, unwrap_or}
 use Rattle.nmvs_identifier.specs.Batch.{Batch}
@@ -12,7 +13,7 @@ use Rattle.nmvs_rules.specs.declared.question.Question.{Question}
 use Rattle.nmvs_rules.specs.declared.question.Question.TheVariants.{Upload}
 use Rattle.nmvs_rules.specs.declared.entry.Entry.{Entry}
 use Rattle.nmvs_rules.specs.declared.facts.Known.{Known}
-use Rattle.nmvs_rules.specs.Trail.{born, mark, mark_place, mark_after, known, known_from, known_at, is_mark, is_about, is_accepted, is_upload, own_by}
+use Rattle.nmvs_rules.specs.Trail.{born, mark, mark_place, mark_after, known, known_from, known_at, is_mark, is_about, is_upload, own_by}
 use Rattle.nmvs_rules.specs.Laws.{uploads}
 use Rattle.nmvs_rules.proofs.FindLemmas.{find-passes, find-any}
 
@@ -23,7 +24,7 @@ some-or (Some y) true x = refl
 some-or (Some y) false x = refl
 
 -- a list has a last element that passes where it has one that passes
-pub is_some-find-reverse : {X : Type 0} (p : X → Bool) (xs : List X) → is_some (find p (reverse xs)) ≡ list_any p xs
+is_some-find-reverse : {X : Type 0} (p : X → Bool) (xs : List X) → is_some (find p (reverse xs)) ≡ list_any p xs
 is_some-find-reverse p [] = refl
 is_some-find-reverse {X} p (x ∷ xs) =
     ap (λ z. is_some (find p z)) (reverse-append {A = X} (x ∷ []) xs)
@@ -36,11 +37,11 @@ is-some None h = cc
 is-some (Some x) h = (x, refl)
 
 -- a pack that was uploaded has a mark
-pub mark-of-born : (t : List Entry) (p : Pack) (u : Entry) → born t p ≡ Some u → (m : Entry) × (mark t p ≡ Some m)
+mark-of-born : (t : List Entry) (p : Pack) (u : Entry) → born t p ≡ Some u → (m : Entry) × (mark t p ≡ Some m)
 mark-of-born t p u h =
     let passes : uploads p u ≡ true = find-passes (uploads p) t u h in
     let about = second_so (is_upload u.question) _ (first_so _ _ passes) in
-    let marks : is_mark p u ≡ true = ap (λ b. b && is_accepted u) about ∙ second_so (is_upload u.question && is_about p u) _ passes in
+    let marks : is_mark p u ≡ true = both_true about (second_so (is_upload u.question && is_about p u) _ passes) in
     is-some (mark t p) (is_some-find-reverse (is_mark p) t ∙ find-any (uploads p) (is_mark p) t u h marks)
 
 -- the entries that a known pack is known by

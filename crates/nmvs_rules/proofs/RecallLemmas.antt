@@ -1,7 +1,6 @@
 -- A recall or withdrawal binds its batch for ever.
-use Rattle.std.proofs.Common.{◌≡◌, Bool, true, false, ◌&&◌, cond, List, [], ◌∷◌, ◌++◌, Option, Some, None, IsSomeAnd, refl, sym, ap, subst, ◌∙◌}
+use Rattle.std.proofs.Common.{◌≡◌, true, false, ◌&&◌, cond, List, [], ◌∷◌, ◌++◌, Option, Some, IsSomeAnd, refl, sym, ap, subst, ◌∙◌}
 use Rattle.std.specs.Cmp.{first_so, second_so}
-use Rattle.std.specs.List.{find}
 use Rattle.std.specs.Option.{option_or}
 use Rattle.std.proofs.lemmas.List.Folds.{find-append}
 use Rattle.nmvs_identifier.specs.ProductCode.{ProductCode}
@@ -9,21 +8,20 @@ use Rattle.nmvs_identifier.specs.Batch.{Batch}
 use Rattle.nmvs_identifier.specs.Pack.{same_pack}
 use Rattle.nmvs_identifier.specs.Texts.{same_text}
 use Rattle.nmvs_identifier.specs.declared.pack.Pack.{Pack}
-use Rattle.nmvs_rules.specs.declared.question.Question.TheVariants.{Upload}
 use Rattle.nmvs_rules.specs.declared.batch_lock.BatchLock.{BatchLock}
 use Rattle.nmvs_rules.specs.declared.batch_lock.BatchLock.TheVariants as lock
 use Rattle.nmvs_rules.specs.declared.entry.Entry.{Entry}
 use Rattle.nmvs_rules.specs.declared.facts.Known.{Known}
 use Rattle.nmvs_rules.specs.Questions.{pack_of, names}
-use Rattle.nmvs_rules.specs.Trail.{born, known, is_about, is_accepted, is_upload, locks_batch, uploads_batch, lock_by, lock_of}
-use Rattle.nmvs_rules.specs.Rules.{is_free, lock_on, reply_of, put_of, IsLawful}
+use Rattle.nmvs_rules.specs.Trail.{born, known, is_accepted, is_upload, locks_batch, uploads_batch, lock_by, lock_of}
+use Rattle.nmvs_rules.specs.Rules.{is_free, lock_on, IsLawful}
 use Rattle.nmvs_rules.specs.Laws.{uploads, decommissions, reverts, confirms, IsOfBatch}
 use Rattle.nmvs_rules.proofs.FindLemmas.{find-passes}
 use Rattle.nmvs_rules.proofs.TextLemmas.{same_text-sym, same_text-trans, same_pack-code, lock_of-same}
 use Rattle.nmvs_rules.proofs.PushLemmas.{lock_of-push, locks_batch-binds}
-use Rattle.nmvs_rules.proofs.MarkLemmas.{KnownBy, known-by}
+use Rattle.nmvs_rules.proofs.MarkLemmas.{known-by}
 use Rattle.nmvs_rules.proofs.CourseLemmas.{Behind, behind, behind-keeps, never}
-use Rattle.nmvs_rules.proofs.ReplyLemmas.{KnownAnd, decommissions-tells, reverts-tells, confirms-tells}
+use Rattle.nmvs_rules.proofs.ReplyLemmas.{decommissions-tells, reverts-tells, confirms-tells}
 
 bound-keeps : (l m : BatchLock) → is_free l ≡ false → is_free (cond (is_free l) m l) ≡ false
 bound-keeps lock.Free m h = cc
@@ -62,9 +60,10 @@ of-batch t v p c b k is h =
 -- behind an accepted recall or withdrawal no pack of the batch is decommissioned, reverted or confirmed
 pub recall-binds : (before between after : List Entry) (recall later : Entry) (c : ProductCode) (b : Batch) (p : Pack) → IsLawful (before ++ recall ∷ between ++ later ∷ after) → (locks_batch c b recall.question && is_accepted recall) ≡ true → IsOfBatch (before ++ recall ∷ between ++ later ∷ after) p c b → (decommissions p later ≡ false) × (reverts p later ≡ false) × (confirms p later ≡ false)
 recall-binds before between after recall later c b p lawful h batch = (
-    never _ (λ d. let k = decommissions-tells t later p at.later d in free k.0 k.1 k.2.free),
-    never _ (λ r. let k = reverts-tells t later p at.later r in free k.0 k.1 k.2.free),
-    never _ (λ s. let k = confirms-tells t later p at.later s in free k.0 k.1 k.2.free))
+  never _ (λ d. let k = decommissions-tells t later p at.later d in free k.0 k.1 k.2.free),
+  never _ (λ r. let k = reverts-tells t later p at.later r in free k.0 k.1 k.2.free),
+  never _ (λ s. let k = confirms-tells t later p at.later s in free k.0 k.1 k.2.free),
+)
   where
     t : List Entry
     t = before ++ recall ∷ between

@@ -9,16 +9,15 @@ use Rattle.nmvs_rules.specs.declared.reason.Reason.{Reason}
 use Rattle.nmvs_identifier.specs.declared.pack.Pack.{Pack}
 use Rattle.nmvs_rules.specs.declared.actor.Actor.{Actor}
 use Rattle.nmvs_rules.specs.declared.question.Question.{Question}
-use Rattle.nmvs_rules.specs.declared.question.Question.TheVariants.{Upload, Verify, Status, Decommission, Revert, Recall, Withdraw, Theft, Audit}
+use Rattle.nmvs_rules.specs.declared.question.Question.TheVariants.{Upload, Verify, Decommission, Revert, Theft}
 use Rattle.nmvs_rules.specs.declared.entry.Entry.{Entry}
 use Rattle.nmvs_rules.specs.declared.facts.Known.{Known}
 use Rattle.nmvs_rules.specs.declared.reply.Reply.{Reply}
 use Rattle.nmvs_rules.specs.declared.reply.Reply.TheVariants as reply
 use Rattle.nmvs_rules.specs.declared.refusal.Refusal.TheVariants as refusal
-use Rattle.nmvs_rules.specs.declared.batch_lock.BatchLock.{BatchLock}
 use Rattle.nmvs_rules.specs.Questions.{Put, may_ask, pack_of, names}
-use Rattle.nmvs_rules.specs.Trail.{known, accepts, is_about, is_accepted, is_mark, is_upload, lock_of, holder_of, alerts_of}
-use Rattle.nmvs_rules.specs.Rules.{on_pack, lock_on, is_active, is_free, is_stolen, is_destroyed, is_supplied, is_authentic, is_past, is_same_place, is_in_time, is_held_by, has_other_holder, alert_on, alert_unknown, verify_reply, decommission_reply, revert_reply, theft_reply, upload_reply, reply_to, reply_of, put_of}
+use Rattle.nmvs_rules.specs.Trail.{known, accepts, is_mark, is_upload, holder_of}
+use Rattle.nmvs_rules.specs.Rules.{on_pack, lock_on, is_active, is_free, is_stolen, is_destroyed, is_supplied, is_authentic, is_past, is_same_place, is_in_time, is_held_by, has_other_holder, reply_to, reply_of, put_of}
 use Rattle.nmvs_rules.specs.Laws.{is_decommissioning, is_reversion, is_confirmed, uploads, decommissions, reverts, confirms}
 use Rattle.nmvs_rules.proofs.TextLemmas.{same_pack-code, same_text-refl, known-same, lock_of-same}
 

@@ -1,13 +1,10 @@
 -- A reversion is accepted exactly where Article 13(1) lets it be.
 use Rattle.std.specs.Prelude.{int_lt}
-use Rattle.std.proofs.Common.{◌≡◌, ◌≢◌, ◌↔◌, ℕ, ◌+◌, ◌≤◌, ℤ, pos, ◌≤ℤ◌, Bool, true, false, not, ◌&&◌, cond, List, Option, Some, None, IsTrue, IsSomeAnd, nat_le, refl, sym, ap, subst, ◌∙◌, arith}
+use Rattle.std.proofs.Common.{◌≡◌, ◌≢◌, ◌↔◌, ℕ, ◌≤◌, ℤ, pos, ◌≤ℤ◌, Bool, true, false, ◌&&◌, cond, List, Option, Some, None, IsTrue, IsSomeAnd, nat_le, refl, sym, ap, subst, ◌∙◌, arith}
 use Rattle.std.proofs.lemmas.Int.{ints}
 use Rattle.std.proofs.lemmas.Bool.Decides.{nat_tests}
 use Rattle.std.specs.Cmp.{first_so, second_so}
 use Rattle.std.specs.Option.{option_map}
-use Rattle.nmvs_identifier.specs.Batch.{Batch}
-use Rattle.nmvs_identifier.specs.Expiry.{Expiry, expiry_day}
-use Rattle.nmvs_identifier.specs.Moment.{day_of}
 use Rattle.nmvs_identifier.specs.Texts.{same_text}
 use Rattle.nmvs_identifier.specs.declared.pack.Pack.{Pack}
 use Rattle.nmvs_rules.specs.declared.actor.Actor.{Actor}
@@ -15,22 +12,18 @@ use Rattle.nmvs_rules.specs.declared.question.Question.{Question}
 use Rattle.nmvs_rules.specs.declared.question.Question.TheVariants.{Upload, Decommission, Revert, Theft}
 use Rattle.nmvs_rules.specs.declared.own.Own.{Own}
 use Rattle.nmvs_rules.specs.declared.own.Own.TheVariants as own
-use Rattle.nmvs_rules.specs.declared.reason.Reason.{Reason}
-use Rattle.nmvs_rules.specs.declared.reason.Reason.TheVariants as reason
 use Rattle.nmvs_rules.specs.declared.batch_lock.BatchLock.{BatchLock}
 use Rattle.nmvs_rules.specs.declared.batch_lock.BatchLock.TheVariants as lock
 use Rattle.nmvs_rules.specs.declared.entry.Entry.{Entry}
 use Rattle.nmvs_rules.specs.declared.facts.Known.{Known}
-use Rattle.nmvs_rules.specs.declared.facts.Mark.{Mark}
-use Rattle.nmvs_rules.specs.declared.reply.Reply.{Reply}
 use Rattle.nmvs_rules.specs.declared.reply.Reply.TheVariants as reply
 use Rattle.nmvs_rules.specs.declared.refusal.Refusal.TheVariants as refusal
 use Rattle.nmvs_rules.specs.Questions.{Put, may_ask}
-use Rattle.nmvs_rules.specs.Trail.{born, mark, mark_place, mark_after, known, own_by, own_of, lock_of}
+use Rattle.nmvs_rules.specs.Trail.{born, mark_place, mark_after, known, own_by, own_of}
 use Rattle.nmvs_rules.specs.Rules.{is_free, is_active, is_stolen, is_destroyed, is_supplied, is_past, is_same_place, is_in_time, lock_on, on_pack, revert_reply, reply_of, reply_to}
 use Rattle.nmvs_rules.specs.Laws.{IsUploadedWith, IsRevertible, is_decommissioning}
 use Rattle.nmvs_rules.proofs.TextLemmas.{same_text-bytes, same_text-from_bytes}
-use Rattle.nmvs_rules.proofs.ReplyLemmas.{KnownAnd, IsReply, IsReversible, revert-tells, may-tells, reply-question}
+use Rattle.nmvs_rules.proofs.ReplyLemmas.{IsReply, IsReversible, revert-tells, may-tells, reply-question}
 use Rattle.nmvs_rules.proofs.CourseLemmas.{decommissioned-not_active}
 use Rattle.nmvs_rules.proofs.MarkLemmas.{KnownBy, known-by, known-made}
 

@@ -2,8 +2,9 @@
 use Rattle.std.proofs.Common.{◌≡◌, ◌-◌, true, not, ◌&&◌, List, Option, Some, None, count_by, length, reverse, refl, sym, ap, ◌∙◌}
 use Rattle.std.specs.Str.{bytes_eq}
 use Rattle.std.specs.Cmp.{first_so, second_so}
+use Rattle.std.specs.Cmp.Derive.{both_true}
 use Rattle.std.specs.List.{find, list_any, suffix_len}
-use Rattle.std.specs.Option.{unwrap_or, option_map, option_map_or}
+use Rattle.std.specs.Option.{unwrap_or, option_map_or}
 use Rattle.std.proofs.lemmas.Slice.Eq.{bytes_eq-Decides}
 use Rattle.nmvs_identifier.specs.Texts.{Text, same_text}
 use Rattle.nmvs_identifier.specs.Pack.{same_pack}
@@ -14,7 +15,7 @@ use Rattle.nmvs_rules.specs.declared.own.Own.{Own}
 use Rattle.nmvs_rules.specs.declared.entry.Entry.{Entry}
 use Rattle.nmvs_rules.specs.Questions.{pack_of, code_of, names}
 use Rattle.nmvs_rules.specs.declared.batch_lock.BatchLock.TheVariants as lock
-use Rattle.nmvs_rules.specs.Trail.{is_about, has_code, is_mark, is_accepted, is_alert, is_upload, uploads_batch, locks_batch, is_birth_in, born, mark, mark_place, mark_after, known, known_from, known_at, about_of, own_by, lock_by, lock_of, holder_of, alerts_of, is_known_batch, count_of, stands_at}
+use Rattle.nmvs_rules.specs.Trail.{is_about, has_code, is_mark, is_accepted, is_alert, is_upload, uploads_batch, locks_batch, is_birth_in, born, mark, mark_place, mark_after, known, known_from, known_at, own_by, lock_by, lock_of, alerts_of, is_known_batch, count_of, stands_at}
 
 pub same_text-bytes : (s t : Text) → same_text s t ≡ true → s.bytes ≡ t.bytes
 same_text-bytes s t same = (bytes_eq-Decides s.bytes t.bytes).0 same
@@ -42,7 +43,7 @@ pub same_pack-serial : (p q : Pack) → same_pack p q ≡ true → same_text p.s
 same_pack-serial p q same = second_so (same_text p.code q.code) _ same
 
 pub same_pack-from_texts : (p q : Pack) → same_text p.code q.code ≡ true → same_text p.serial q.serial ≡ true → same_pack p q ≡ true
-same_pack-from_texts p q code serial = ap (λ b. b && same_text p.serial q.serial) code ∙ serial
+same_pack-from_texts p q code serial = both_true code serial
 
 pub same_pack-refl : (p : Pack) → same_pack p p ≡ true
 same_pack-refl p = same_pack-from_texts p p (same_text-refl p.code) (same_text-refl p.serial)
@@ -50,12 +51,6 @@ same_pack-refl p = same_pack-from_texts p p (same_text-refl p.code) (same_text-r
 pub same_pack-sym : (p q : Pack) → same_pack p q ≡ true → same_pack q p ≡ true
 same_pack-sym p q same =
     same_pack-from_texts q p (same_text-sym p.code q.code (same_pack-code p q same)) (same_text-sym p.serial q.serial (same_pack-serial p q same))
-
-pub same_pack-trans : (p q r : Pack) → same_pack p q ≡ true → same_pack q r ≡ true → same_pack p r ≡ true
-same_pack-trans p q r first second =
-    same_pack-from_texts p r
-    (same_text-trans p.code q.code r.code (same_pack-code p q first) (same_pack-code q r second))
-    (same_text-trans p.serial q.serial r.serial (same_pack-serial p q first) (same_pack-serial q r second))
 
 -- a pack is compared by its texts alone
 pub same_pack-same : (p q : Pack) → same_pack p q ≡ true → same_pack p ≡ same_pack q
@@ -75,9 +70,6 @@ is_mark-same p q same = λ i e. is_about-same p q same i e && is_accepted e
 pub mark-same : (t : List Entry) (p q : Pack) → same_pack p q ≡ true → mark t p ≡ mark t q
 mark-same t p q same = ap (λ f. find f (reverse t)) (is_mark-same p q same)
 
-pub about_of-same : (t : List Entry) (p q : Pack) → same_pack p q ≡ true → about_of t p ≡ about_of t q
-about_of-same t p q same = ap (λ f. count_by f t) (is_about-same p q same)
-
 pub born-same : (t : List Entry) (p q : Pack) → same_pack p q ≡ true → born t p ≡ born t q
 born-same t p q same = λ i. find (λ e. (is_upload e.question && is_about-same p q same i e) && is_accepted e) t
 
@@ -87,9 +79,6 @@ has_code-same c d same = λ i e. same_text-same c d same i (code_of e.question)
 
 pub alerts_of-same : (t : List Entry) (c d : Text) → same_text c d ≡ true → alerts_of t c ≡ alerts_of t d
 alerts_of-same t c d same = λ i. count_by (λ e. has_code-same c d same i e && is_alert e.reply) t
-
-pub holder_of-same : (t : List Entry) (c d : Text) → same_text c d ≡ true → holder_of t c ≡ holder_of t d
-holder_of-same t c d same = λ i. option_map (λ e. e.actor.authorisation) (find (λ e. (is_upload e.question && has_code-same c d same i e) && is_accepted e) t)
 
 mark_place-same : (t : List Entry) (p q : Pack) → same_pack p q ≡ true → mark_place t p ≡ mark_place t q
 mark_place-same t p q same = λ i. length t - suffix_len (λ e. not (is_mark-same p q same i e)) t - 1

@@ -1,6 +1,6 @@
 -- A pack is confirmed exactly where it is authentic.
-use Rattle.std.proofs.Common.{◌≡◌, ◌↔◌, ℕ, Bool, true, false, ◌&&◌, ◌||◌, cond, List, reverse, Option, Some, None, IsTrue, IsSomeAnd, refl, sym, ap, subst, ◌∙◌}
-use Rattle.std.specs.Cmp.{first_so, second_so}
+use Rattle.std.proofs.Common.{◌≡◌, ◌↔◌, ℕ, Bool, true, ◌&&◌, ◌||◌, cond, List, reverse, Option, Some, IsTrue, IsSomeAnd, refl, sym, ap, subst, ◌∙◌}
+use Rattle.std.specs.Cmp.{second_so}
 use Rattle.nmvs_identifier.specs.Batch.{Batch}
 use Rattle.nmvs_identifier.specs.Expiry.{Expiry}
 use Rattle.nmvs_identifier.specs.declared.pack.Pack.{Pack}
@@ -14,11 +14,11 @@ use Rattle.nmvs_rules.specs.declared.reply.Reply.{Reply}
 use Rattle.nmvs_rules.specs.declared.reply.Reply.TheVariants as reply
 use Rattle.nmvs_rules.specs.declared.refusal.Refusal.TheVariants as refusal
 use Rattle.nmvs_rules.specs.Questions.{Put, may_ask, pack_of, names}
-use Rattle.nmvs_rules.specs.Trail.{born, mark, mark_place, mark_after, known, accepts, is_accepted, is_mark, is_upload, own_by, lock_of, alerts_of}
+use Rattle.nmvs_rules.specs.Trail.{born, mark, mark_place, mark_after, known, accepts, is_mark, is_upload, own_by, lock_of, alerts_of}
 use Rattle.nmvs_rules.specs.Rules.{is_free, is_active, is_past, lock_on, on_pack, alert_unknown, verify_reply, reply_of, reply_to}
 use Rattle.nmvs_rules.specs.Laws.{IsUploadedWith, IsInCirculation, is_reversion}
 use Rattle.nmvs_rules.proofs.FindLemmas.{find-passes}
-use Rattle.nmvs_rules.proofs.ReplyLemmas.{KnownAnd, IsReply, IsAuthentic, verify-tells, may-tells, reply-question}
+use Rattle.nmvs_rules.proofs.ReplyLemmas.{IsReply, verify-tells, may-tells, reply-question}
 use Rattle.nmvs_rules.proofs.MarkLemmas.{KnownBy, known-by, known-made}
 use Rattle.nmvs_rules.proofs.CourseLemmas.{decommissioned-not_active}
 use Rattle.nmvs_rules.proofs.ReversionLemmas.{free-lock, from-some, uploaded-with}

@@ -1,4 +1,5 @@
-//! Packs in circulation: verifying them, reading their status, and decommissioning them (Articles 11, 12, 22, 25 and 36).
+//! Packs in circulation: verifying them, reading their status, and decommissioning them (Articles
+//! 11, 12, 22, 25 and 36).
 ghost use Rattle.std.specs.Prelude.{◌≡◌, ◌+◌, ◌<◌, ◌^◌};
 ghost use Rattle.nmvs_rules.specs.Rules.{onward_by, verify_reply, status_reply, decommission_reply, is_past, is_authentic};
 

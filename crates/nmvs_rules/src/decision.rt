@@ -12,13 +12,18 @@ use crate::reversion::revert_reply;
 use crate::{Actor, BatchLock, BatchRecord, Facts, Question, Refusal, Reply, may};
 use nmvs_identifier::Moment;
 
-/// The reply of the rules to a question, by the facts that it rests on.
+/// The reply of the rules to a question that is put at this moment, by the facts that it rests on
+/// (Articles 11 to 13, 22, 25, 35, 36 and 40).
+///
+/// Of the conditions on a question the first that fails decides; a refusal is a reply, and so is an
+/// alert. The user's name plays no part in it.
 pub fn decide(facts: &Facts, moment: Moment, actor: &Actor, question: &Question) -> Reply
     requires { facts.now.alerts + 1 < 2 ^ 64 }
     ensures by_facts { result ≡ reply_by facts.now moment actor.now question.now }
 
     // It is the reply on every trail that has these facts, whoever the user is.
-    ensures by_trail { (t : List Entry) (q : Put) → q.moment ≡ moment → q.actor ≡ actor.now → q.question ≡ question.now →
+    ensures by_trail { (t : List Entry) (q : Put) →
+        q.moment ≡ moment → q.actor ≡ actor.now → q.question ≡ question.now →
         facts_of t q.question ≡ facts.now → result ≡ reply_of t q }
 {
     reply_by(facts, moment, actor, question)

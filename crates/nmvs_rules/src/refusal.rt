@@ -2,7 +2,7 @@
 ghost use Rattle.std.specs.Prelude.{◌≡◌};
 ghost use Rattle.nmvs_rules.specs.Replies.{refusal_number};
 
-/// Why a question is refused (own).
+/// Why a question is refused (after Articles 13 and 40; the names, numbers and order are own).
 #[derive(Clone, Copy, Debug, PartialEq, Eq)]
 pub enum Refusal {
     /// The role may not ask this.
@@ -19,13 +19,17 @@ pub enum Refusal {
     Already,
     /// The pack's batch is recalled or withdrawn.
     Locked,
+    /// The pack is active, so there is nothing to revert.
     StillActive,
+    /// The pack was reported stolen.
     IsStolen,
+    /// The pack was decommissioned for destruction.
     IsDestroyed,
+    /// The pack was supplied to the public.
     WasSupplied,
     /// Another authorisation or other premises decommissioned the pack.
     Other,
-    /// More than 10 days have passed since the decommissioning.
+    /// More than 10 days have passed since the decommissioning, by days of UTC.
     Late,
     /// The pack is expired.
     Expired,

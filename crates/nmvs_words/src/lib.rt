@@ -4,6 +4,8 @@
 mod batch_question;
 mod pack_question;
 mod question_kind;
+#[cfg(test)]
+mod tests;
 mod words;
 
 pub use batch_question::BatchQuestion;

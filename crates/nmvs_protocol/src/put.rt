@@ -1,0 +1,17 @@
+ghost use Rattle.std.specs.Prelude.{◌≡◌, OnOk, OnErr};
+ghost use Rattle.nmvs_protocol.specs.Put.{Puts, PutsPart};
+
+use nmvs_stream::{Failed, Sink};
+
+/// Writes all of the text, and flushes it.
+pub(crate) fn put<W: Sink>(sink: &mut W, text: &[u8]) -> Result<(), Failed>
+    ensures ok { OnOk result (Puts (W.taken sink.old) (W.taken sink.new) text.now) }
+    ensures err { OnErr result (PutsPart (W.taken sink.old) (W.taken sink.new) text.now) }
+{
+    let mut rest = text;
+    while !rest.is_empty() {
+        let count = sink.write(rest)?;
+        rest = &rest[count..];
+    }
+    sink.flush()
+}

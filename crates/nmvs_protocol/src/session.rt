@@ -1,0 +1,135 @@
+ghost use Rattle.std.specs.Prelude.{◌≡◌, ◌++◌, ◌∷◌, ◌+◌, ◌<◌, ◌↔◌, [], ℕ, List, None, Ok, false, IsTrue, IfNone};
+ghost use Rattle.nmvs_stream.specs.Sink.{Taken};
+ghost use Rattle.nmvs_protocol.specs.InputLines.{lines_after, rest_after};
+ghost use Rattle.nmvs_protocol.specs.Session.{Answers, Session};
+ghost use Rattle.nmvs_protocol.specs.Progress.{Answered, kept};
+
+use crate::pending_line::PendingLine;
+use crate::put::put;
+use crate::{Answer, Ask, Desk, End, Limits, LineFault, reply_text};
+use nmvs_stream::{Failed, Sink, Source};
+use std::alloc::Global;
+
+#[cfg(test)]
+mod tests;
+
+/// How far a session has come: the line that was begun, and how many lines were answered.
+#[derive(Drop)]
+struct Progress {
+    line: PendingLine,
+    answered: u64,
+}
+
+/// Serves a session: answers the lines of the source one by one, each answer written to the sink
+/// and flushed before the next line is served and before more is read (own).
+///
+/// A line of more than 200 bytes is answered once, at its LF, and takes no memory. Bytes after the
+/// last LF get no answer. QUIT ends the session. Memory is taken for the text of one answer at a
+/// time.
+pub fn serve<R: Source, W: Sink, D: Desk>(
+    alloc: Global,
+    source: &mut R,
+    sink: &mut W,
+    desk: &mut D,
+    limits: Limits,
+) -> End
+    requires source_sound { (R.told source.old).failed ≡ false }
+    requires source_open { (R.told source.old).ended ≡ false }
+    requires sink_sound { (W.taken sink.old).failed ≡ false }
+    ensures { Session D.takes limits desk.old (R.told source.old) (W.taken sink.old) desk.new (R.told source.new) (W.taken sink.new) result }
+{
+    let mut progress = Progress {
+        line: PendingLine::new(),
+        answered: 0,
+    };
+    let mut buffer = [0; 4096];
+    for _ in 0..limits.reads {
+        match source.read(&mut buffer) {
+            Err(Failed) => return End::ReadFault,
+            Ok(0) => return End::Ended,
+            Ok(count) => {
+                let chunk = &buffer[..count];
+                match serve_chunk(alloc, &mut progress, limits.lines, chunk, sink, desk) {
+                    Some(end) => return end,
+                    None => {}
+                }
+            }
+        }
+    }
+    End::Limit
+}
+
+/// Goes on with the bytes of one read. `None` is to read more.
+fn serve_chunk<W: Sink, D: Desk>(
+    alloc: Global,
+    progress: &mut Progress,
+    limit: u64,
+    chunk: &[u8],
+    sink: &mut W,
+    desk: &mut D,
+) -> Option<End>
+    ensures { (first : D) (start : Taken) (lines : List (List ℕ)) (begun : List ℕ) → progress.old.line ≡ kept begun
+        → Answered D.takes limit first start desk.old (W.taken sink.old) progress.old.answered lines None
+        → Answered D.takes limit first start desk.new (W.taken sink.new) progress.new.answered (lines ++ lines_after begun chunk.now) result
+        × IfNone result (progress.new.line ≡ kept (rest_after begun chunk.now)) }
+{
+    for byte in chunk {
+        if *byte == b'\n' {
+            if progress.answered >= limit {
+                return Some(End::Limit);
+            }
+            match serve_line(alloc, &progress.line, sink, desk) {
+                Some(end) => return Some(end),
+                None => {}
+            }
+            progress.answered += 1;
+            progress.line = PendingLine::new();
+        } else {
+            progress.line.push(*byte);
+        }
+    }
+    None
+}
+
+/// Answers one line. `None` is to go on.
+fn serve_line<W: Sink, D: Desk>(
+    alloc: Global,
+    line: &PendingLine,
+    sink: &mut W,
+    desk: &mut D,
+) -> Option<End>
+    ensures { (limit count : ℕ) (first : D) (start : Taken) (lines : List (List ℕ)) (x : List ℕ) → count < limit → line.now ≡ kept x
+        → Answered D.takes limit first start desk.old (W.taken sink.old) count lines None
+        → Answered D.takes limit first start desk.new (W.taken sink.new) (count + 1) (lines ++ x ∷ []) result }
+{
+    let reading = line.read();
+    let said = answer(&reading, desk);
+    match reply_text(alloc, &said) {
+        Err(_) => Some(End::Memory),
+        Ok(text) => match put(sink, text.as_bytes()) {
+            Err(Failed) => Some(End::WriteFault),
+            Ok(()) => if is_quit(&reading) {
+                Some(End::Quit)
+            } else {
+                None
+            },
+        },
+    }
+}
+
+/// The answer to what was read. The desk is asked all but QUIT.
+fn answer<D: Desk>(reading: &Result<Ask, LineFault>, desk: &mut D) -> Answer
+    ensures { Answers D.takes desk.old reading.now result desk.new }
+{
+    match reading {
+        Err(fault) => Answer::Unread(*fault),
+        Ok(Ask::Quit) => Answer::Bye,
+        Ok(ask) => desk.take(ask),
+    }
+}
+
+fn is_quit(reading: &Result<Ask, LineFault>) -> bool
+    ensures { IsTrue result ↔ (reading.now ≡ Ok Ask.Quit) }
+{
+    matches!(reading, Ok(Ask::Quit))
+}

@@ -1,0 +1,261 @@
+use crate::{Answer, Ask, Desk, End, Limits, serve};
+use nmvs_identifier::{Batch, Expiry};
+use nmvs_rules::{Question, Reply};
+use nmvs_stream::Device;
+use std::alloc::Global;
+use std::cell::Cell;
+use std::io;
+use std::io::{ErrorKind, Read, Write};
+use std::test::*;
+
+const INPUT: &[u8] =
+    b"mah1 UPLOAD 09506000134352 SN1 B1 280200\nph1 VERIFY 09506000134352 SN1\nph1 VERIFY 09506000134352 SN1\nQUIT\n";
+
+const OUTPUT: &[u8] = b"UPLOADED\nAUTHENTIC B1 280200 VALID\nAUTHENTIC B1 280200 VALID\nBYE\n";
+
+const AMPLE: Limits = Limits {
+    lines: 1_000,
+    reads: 1_000,
+};
+
+/// Knows the batch and expiry that were uploaded last, and takes every pack for one of them.
+#[derive(Clone, Copy)]
+struct Shelf {
+    uploaded: Option<(Batch, Expiry)>,
+}
+
+impl Desk for Shelf {
+    ghost takes = { λ _ _ _ _. Unit {0} };
+
+    fn take(&mut self, ask: &Ask) -> Answer {
+        if let Ask::Put(_, Question::Upload { batch, expiry, .. }) = ask {
+            self.uploaded = Some((*batch, *expiry));
+            return Answer::Replied(Reply::Uploaded);
+        }
+        match self.uploaded {
+            Some((batch, expiry)) => Answer::Replied(Reply::Authentic {
+                batch,
+                expiry,
+                expired: false,
+            }),
+            None => Answer::Replied(Reply::NoPack),
+        }
+    }
+}
+
+/// Gives or takes so many bytes a call, for so many calls, and is then interrupted.
+#[derive(Drop)]
+struct Pieces<D> {
+    inner: D,
+    piece: usize,
+    calls: usize,
+}
+
+impl<D> Pieces<D> {
+    fn admit(&mut self) -> io::Result<()> {
+        if self.calls == 0 {
+            return Err(io::Error::from(ErrorKind::Interrupted));
+        }
+        self.calls -= 1;
+        Ok(())
+    }
+}
+
+impl<D: Read> Read for Pieces<D> {
+    fn read(&mut self, buffer: &mut [u8]) -> io::Result<usize> {
+        self.admit()?;
+        let count = self.piece.min(buffer.len());
+        self.inner.read(&mut buffer[..count])
+    }
+}
+
+impl<D: Write> Write for Pieces<D> {
+    fn write(&mut self, buffer: &[u8]) -> io::Result<usize> {
+        self.admit()?;
+        let count = self.piece.min(buffer.len());
+        self.inner.write(&buffer[..count])
+    }
+
+    fn flush(&mut self) -> io::Result<()> {
+        self.inner.flush()
+    }
+}
+
+/// Gives one line a call, and fails where a reply isn't flushed.
+#[derive(Drop)]
+struct LineByLine<'a> {
+    input: &'a [u8],
+    unflushed: &'a Cell<bool>,
+}
+
+impl<'a> Read for LineByLine<'a> {
+    fn read(&mut self, buffer: &mut [u8]) -> io::Result<usize> {
+        if self.unflushed.get() {
+            return Err(io::Error::from(ErrorKind::Other));
+        }
+        let line = match self.input.iter().position(|byte| *byte == b'\n') {
+            Some(place) => place + 1,
+            None => self.input.len(),
+        };
+        let count = line.min(buffer.len());
+        self.input.read(&mut buffer[..count])
+    }
+}
+
+/// Takes bytes, and tells whether they are flushed.
+#[derive(Drop)]
+struct Flushing<'a> {
+    inner: &'a mut Vec<u8>,
+    unflushed: &'a Cell<bool>,
+}
+
+impl<'a> Write for Flushing<'a> {
+    fn write(&mut self, buffer: &[u8]) -> io::Result<usize> {
+        self.unflushed.set(true);
+        self.inner.write(buffer)
+    }
+
+    fn flush(&mut self) -> io::Result<()> {
+        self.unflushed.set(false);
+        Ok(())
+    }
+}
+
+fn run<R: Read + Drop, W: Write + Drop>(
+    alloc: Global,
+    reader: R,
+    writer: W,
+    limits: Limits,
+) -> End {
+    let mut source = Device::new(reader);
+    let mut sink = Device::new(writer);
+    let mut desk = Shelf { uploaded: None };
+    serve(alloc, &mut source, &mut sink, &mut desk, limits)
+}
+
+/// The answers to the whole lines in so many bytes of the input.
+fn answers_to(bytes: usize) -> &'static [u8] {
+    match bytes {
+        0..41 => b"",
+        41..71 => &OUTPUT[..9],
+        71..101 => &OUTPUT[..35],
+        101..106 => &OUTPUT[..61],
+        _ => OUTPUT,
+    }
+}
+
+#[test]
+fn lines_are_answered_in_order(rt: HostRuntime) {
+    let mut long = [b'A'; 403];
+    long[201] = b'\n';
+    long[402] = b'\n';
+    let two_lines = Limits { lines: 2, ..AMPLE };
+    let no_line = Limits { lines: 0, ..AMPLE };
+    let cases: [(&[u8], Limits, &[u8], End); 8] = [
+        (INPUT, AMPLE, OUTPUT, End::Quit),
+        (
+            b"ph1 verify P SN1\n\nQUIT\nQUIT\n",
+            AMPLE,
+            b"FAULT WORD\nFAULT FIELDS\nBYE\n",
+            End::Quit,
+        ),
+        (&long, AMPLE, b"FAULT LONG\nFAULT FIELDS\n", End::Ended),
+        (
+            b"\xc8\n\t\n",
+            AMPLE,
+            b"FAULT BYTES\nFAULT BYTES\n",
+            End::Ended,
+        ),
+        (b"\nQUIT", AMPLE, b"FAULT FIELDS\n", End::Ended),
+        (INPUT, two_lines, &OUTPUT[..35], End::Limit),
+        (b"", no_line, b"", End::Ended),
+        (b"\n", no_line, b"", End::Limit),
+    ];
+    for (input, limits, output, end) in cases {
+        let mut taken = Vec::new(rt.alloc());
+        assert_eq!(rt; run(rt.alloc(), input, &mut taken, limits), end);
+        assert_eq!(rt; taken.as_slice(), output);
+    }
+}
+
+#[test]
+fn a_failed_read_ends_after_the_whole_lines(rt: HostRuntime) {
+    for calls in 0..=106 {
+        let reader = Pieces {
+            inner: INPUT,
+            piece: 1,
+            calls,
+        };
+        let mut taken = Vec::new(rt.alloc());
+        let end = run(rt.alloc(), reader, &mut taken, AMPLE);
+        assert_eq!(rt;
+            end,
+            if calls < 106 {
+                End::ReadFault
+            } else {
+                End::Quit
+            },
+            "{calls}"
+        );
+        assert_eq!(rt; taken.as_slice(), answers_to(calls), "{calls}");
+    }
+}
+
+#[test]
+fn a_failed_write_ends_with_a_prefix(rt: HostRuntime) {
+    for calls in 0..65 {
+        let mut taken = Vec::new(rt.alloc());
+        let writer = Pieces {
+            inner: &mut taken,
+            piece: 1,
+            calls,
+        };
+        assert_eq!(rt;
+            run(rt.alloc(), INPUT, writer, AMPLE),
+            End::WriteFault,
+            "{calls}"
+        );
+        assert_eq!(rt; taken.as_slice(), &OUTPUT[..calls], "{calls}");
+    }
+}
+
+#[test]
+fn reads_are_counted(rt: HostRuntime) {
+    for (reads, end) in [(105, End::Limit), (106, End::Quit)] {
+        let reader = Pieces {
+            inner: INPUT,
+            piece: 1,
+            calls: 1_000,
+        };
+        let mut taken = Vec::new(rt.alloc());
+        assert_eq!(rt;
+            run(rt.alloc(), reader, &mut taken, Limits { lines: 4, reads }),
+            end
+        );
+        assert_eq!(rt; taken.as_slice(), answers_to(reads as usize));
+    }
+}
+
+#[test]
+fn an_endless_line_takes_no_memory(rt: HostRuntime) {
+    let reader = io::repeat(b'A').take(1_000_000);
+    let mut taken = Vec::new(rt.alloc());
+    assert_eq!(rt; run(rt.alloc(), reader, &mut taken, AMPLE), End::Ended);
+    assert!(rt; taken.is_empty());
+}
+
+#[test]
+fn each_reply_is_flushed_before_more_is_read(rt: HostRuntime) {
+    let unflushed = Cell::new(false);
+    let reader = LineByLine {
+        input: INPUT,
+        unflushed: &unflushed,
+    };
+    let mut taken = Vec::new(rt.alloc());
+    let writer = Flushing {
+        inner: &mut taken,
+        unflushed: &unflushed,
+    };
+    assert_eq!(rt; run(rt.alloc(), reader, writer, AMPLE), End::Quit);
+    assert_eq!(rt; taken.as_slice(), OUTPUT);
+}

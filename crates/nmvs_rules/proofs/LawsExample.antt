@@ -1,0 +1,105 @@
+-- The words of the laws on a worked trail.
+use Rattle.std.proofs.Common.{◌≡◌, ℕ, true, false, List, [], ◌∷◌, refl}
+use Rattle.std.specs.Prelude.{codes, filter}
+use Rattle.nmvs_identifier.specs.Texts.{Text}
+use Rattle.nmvs_identifier.specs.declared.pack.Pack.{Pack}
+use Rattle.nmvs_rules.specs.declared.actor.Actor.{Actor}
+use Rattle.nmvs_rules.specs.declared.role.Role.TheVariants as role
+use Rattle.nmvs_rules.specs.declared.reason.Reason.TheVariants as reason
+use Rattle.nmvs_rules.specs.declared.question.Question.{Question}
+use Rattle.nmvs_rules.specs.declared.question.Question.TheVariants.{Upload, Verify, Decommission, Revert, Recall}
+use Rattle.nmvs_rules.specs.declared.reply.Reply.{Reply}
+use Rattle.nmvs_rules.specs.declared.reply.Reply.TheVariants as reply
+use Rattle.nmvs_rules.specs.declared.refusal.Refusal.TheVariants as refusal
+use Rattle.nmvs_rules.specs.declared.cause.Cause.TheVariants as cause
+use Rattle.nmvs_rules.specs.declared.entry.Entry.{Entry}
+use Rattle.nmvs_rules.specs.Laws.{part_of, owned, uploads, decommissions, supplies, reverts, confirms, binds, alert_numbers}
+
+abbrev text : List ℕ → Text
+text s = record { bytes = s; spare = [] }
+
+abbrev pack : List ℕ → Pack
+pack code = record { code = text code; serial = text (codes "SN1") }
+
+abbrev first : Pack
+first = pack (codes "09506000134352")
+
+abbrev other : Pack
+other = pack (codes "04012345678901")
+
+abbrev pharmacy : Actor
+pharmacy = record { role = role.Pharmacy; authorisation = text (codes "PH-1"); premises = text (codes "P1") }
+
+abbrev entry : Question → Reply → Entry
+entry q r = record { moment = 0; user = text (codes "user"); actor = pharmacy; question = q; reply = r }
+
+abbrev batch : Text
+batch = text (codes "B1")
+
+abbrev upload : Entry
+upload = entry (Upload first batch (text (codes "280200"))) reply.Uploaded
+
+abbrev confirmation : Entry
+confirmation = entry (Verify first) (reply.Authentic batch (text (codes "280200")) false)
+
+abbrev hold : Entry
+hold = entry (Decommission first reason.Hold) reply.Decommissioned
+
+abbrev revert : Entry
+revert = entry (Revert first) reply.Reverted
+
+abbrev supply : Entry
+supply = entry (Decommission first reason.Supply) reply.Decommissioned
+
+abbrev alert : ℕ → Entry
+alert n = entry (Verify first) (reply.Alert cause.Supplied true n)
+
+abbrev refused : Entry
+refused = entry (Revert first) (reply.Refused refusal.WasSupplied)
+
+abbrev recall : Entry
+recall = entry (Recall (text (codes "09506000134352")) batch) (reply.LockedNow 0)
+
+abbrev other_alert : Entry
+other_alert = entry (Verify other) (reply.Alert cause.Unknown true 1)
+
+abbrev trail : List Entry
+trail = upload ∷ confirmation ∷ other_alert ∷ hold ∷ revert ∷ supply ∷ alert 1 ∷ refused ∷ alert 2 ∷ recall ∷ []
+
+-- each word holds of its own entries and of no others
+uploads-trail : filter (uploads first) trail ≡ upload ∷ []
+uploads-trail = refl
+
+confirms-trail : filter (confirms first) trail ≡ confirmation ∷ []
+confirms-trail = refl
+
+decommissions-trail : filter (decommissions first) trail ≡ hold ∷ supply ∷ []
+decommissions-trail = refl
+
+supplies-trail : filter (supplies first) trail ≡ supply ∷ []
+supplies-trail = refl
+
+reverts-trail : filter (reverts first) trail ≡ revert ∷ []
+reverts-trail = refl
+
+binds-trail : filter (binds first.code batch) trail ≡ recall ∷ []
+binds-trail = refl
+
+decommissions-other : filter (decommissions other) trail ≡ []
+decommissions-other = refl
+
+part-other : part_of trail other.code ≡ other_alert ∷ []
+part-other = refl
+
+numbers-first : alert_numbers trail first.code ≡ 1 ∷ 2 ∷ []
+numbers-first = refl
+
+numbers-other : alert_numbers trail other.code ≡ 1 ∷ []
+numbers-other = refl
+
+-- two lists merged: the third entry belongs to list 1, the others to list 0
+owned-0 : owned (0 ∷ 0 ∷ 1 ∷ 0 ∷ []) (upload ∷ confirmation ∷ other_alert ∷ hold ∷ []) 0 ≡ upload ∷ confirmation ∷ hold ∷ []
+owned-0 = refl
+
+owned-1 : owned (0 ∷ 0 ∷ 1 ∷ 0 ∷ []) (upload ∷ confirmation ∷ other_alert ∷ hold ∷ []) 1 ≡ other_alert ∷ []
+owned-1 = refl

@@ -1,0 +1,103 @@
+//! The rehearsal: a session to learn the repository by, whose every answer is proved.
+ghost use Rattle.std.specs.Prelude.{◌≡◌, ◌<◌, [], false, length};
+ghost use Rattle.nmvs_protocol.specs.Session.{Session};
+ghost use Rattle.nmvs_server.specs.Rehearsal.{Rehearsal, Judges};
+
+use crate::roster::actor_of;
+use nmvs_identifier::{Moment, Name};
+use nmvs_protocol::{Answer, Ask, Desk, End, Limits, Turn, serve};
+use nmvs_rules::Question;
+use nmvs_shard::Shard;
+use nmvs_stream::{Sink, Source};
+use std::alloc::Global;
+use std::marker::Model;
+
+/// How far one session may go (own).
+pub const LIMITS: Limits = Limits {
+    lines: 10_000,
+    reads: 4_000_000,
+};
+
+/// One session over one empty shard, with eight users of its own (own).
+///
+/// The first line that reaches the desk is judged at the first moment, the next at the second and so on, and all later
+/// ones at the last. At most 10,000 lines are answered and 4,000,000 reads made.
+pub fn rehearse<R: Source, W: Sink>(
+    alloc: Global,
+    source: &mut R,
+    sink: &mut W,
+    moments: &[Moment],
+) -> End
+    requires moments { 0 < length moments.now }
+    requires source_works { (R.told source.old).failed ≡ false }
+    requires source_open { (R.told source.old).ended ≡ false }
+    requires sink_works { (W.taken sink.old).failed ≡ false }
+    ensures { (last : Rehearsal) × Session Judges (record { lines = 10_000; reads = 4_000_000 })
+        (record { trail = []; moments = moments.now }) (R.told source.old) (W.taken sink.old)
+        last (R.told source.new) (W.taken sink.new) result }
+{
+    let mut desk = RehearsalDesk {
+        shard: Shard::new(alloc),
+        moments,
+    };
+    serve(alloc, source, sink, &mut desk, LIMITS)
+}
+
+/// Answers by the rules on one shard.
+#[derive(Drop)]
+struct RehearsalDesk<'a> {
+    shard: Shard<Global>,
+    moments: &'a [Moment],
+}
+
+impl<'a> Model for RehearsalDesk<'a> {
+    ghost use Rattle.std.specs.Prelude.{◌<◌, length};
+    ghost use Rattle.nmvs_server.specs.Rehearsal.{Rehearsal};
+
+    ghost Value = { Rehearsal };
+
+    ghost view = { λ desk. record { trail = desk.shard; moments = desk.moments.now } };
+
+    ghost invariant = { λ desk. 0 < length desk.moments.now };
+}
+
+impl<'a> RehearsalDesk<'a> {
+    ghost use Rattle.std.specs.Prelude.{◌≡◌};
+    ghost use Rattle.nmvs_server.specs.Rehearsal.{now, later};
+
+    /// The moment of the next line, which counts as having reached the desk.
+    fn next_moment(&mut self) -> Moment
+        ensures moment { result ≡ now self.old.moments }
+        ensures moments { self.new.moments ≡ later self.old.moments }
+        ensures trail { self.new.trail ≡ self.old.trail }
+    {
+        match self.moments {
+            [last] => *last,
+            [moment, later @ ..] => {
+                self.moments = later;
+                *moment
+            }
+            [] => unreachable!(),
+        }
+    }
+}
+
+impl<'a> Desk for RehearsalDesk<'a> {
+    ghost use Rattle.nmvs_server.specs.Rehearsal.{Judges};
+
+    ghost takes = { Judges };
+
+    fn take(&mut self, ask: &Ask) -> Answer {
+        let Ask::Put(user, question) = ask else {
+            return Answer::Bye;
+        };
+        let moment = self.next_moment();
+        let Some(actor) = actor_of(user) else {
+            return Answer::Turned(Turn::Nobody);
+        };
+        match self.shard.step(moment, user, &actor, question) {
+            Ok(reply) => Answer::Replied(reply),
+            Err(_) => Answer::Turned(Turn::Memory),
+        }
+    }
+}
