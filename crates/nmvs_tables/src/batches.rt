@@ -1,15 +1,15 @@
 //! The table of batches.
-ghost use Rattle.std.specs.Prelude.{◌≡◌, ℕ, ◌+◌, ◌<◌, ◌≤◌, ◌^◌, true, false, IsSomeAnd};
-ghost use Rattle.indexmap.specs.IndexMap.{get, keys, spare, insert_entry, Updates};
+ghost use Rattle.std.specs.Prelude.{◌≡◌, ◌+◌, ◌<◌, ◌≤◌, ◌^◌, true, false, IsSomeAnd};
+ghost use Rattle.indexmap.specs.IndexMap.{get, keys, spare};
 ghost use Rattle.std.specs.Option.{ForSome};
 ghost use Rattle.nmvs_rules.specs.declared.own.Own.{Own};
 ghost use Rattle.nmvs_tables.specs.declared.batches.BatchKey.{BatchKey};
 ghost use Rattle.nmvs_rules.specs.Questions.{code_of, locked_batch};
-ghost use Rattle.nmvs_tables.specs.Batches.{same_batch, batch_asked, batch_in, batch_meant, batch_changed, batches_after, changes_batch, count_in, own_before, own_after as own_left, no_packs, NotesBatch, lock_after};
+ghost use Rattle.nmvs_tables.specs.Batches.{same_batch, batch_asked, batch_in, batch_meant, batch_changed, batches_after, changes_batch, count_in, own_before, own_after as own_left, NotesBatch, lock_after};
 
 use crate::accepted::{is_accepted, own_after};
 use crate::counts::moved;
-use crate::writes::put;
+use crate::writes::{find, put};
 use indexmap::IndexMap;
 use nmvs_identifier::{Batch, ProductCode};
 use nmvs_rules::{BatchLock, BatchRecord, Counts, Entry, Known, Own, Question};
@@ -153,6 +153,7 @@ pub(crate) fn note<A: Allocator>(batches: &mut Batches<A>, entry: &Entry, known:
     let Some(key) = batch_meant(&entry.question, &known) else {
         return;
     };
-    let old = record_of(batches, &key).unwrap_or(NO_PACKS);
-    put(batches, key, noted(&old, &entry.question, &known));
+    let (index, old) = find(batches, &key);
+    let old = old.unwrap_or(NO_PACKS);
+    put(batches, index, key, noted(&old, &entry.question, &known));
 }
