@@ -1,0 +1,4 @@
+pub mod Codes
+pub mod Packs
+pub mod Batches
+pub mod Tables

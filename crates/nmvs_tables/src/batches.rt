@@ -1,0 +1,158 @@
+//! The table of batches.
+ghost use Rattle.std.specs.Prelude.{◌≡◌, ℕ, ◌+◌, ◌<◌, ◌≤◌, ◌^◌, true, false, IsSomeAnd};
+ghost use Rattle.indexmap.specs.IndexMap.{get, keys, spare, insert_entry, Updates};
+ghost use Rattle.std.specs.Option.{ForSome};
+ghost use Rattle.nmvs_rules.specs.declared.own.Own.{Own};
+ghost use Rattle.nmvs_tables.specs.declared.batches.BatchKey.{BatchKey};
+ghost use Rattle.nmvs_rules.specs.Questions.{code_of, locked_batch};
+ghost use Rattle.nmvs_tables.specs.Batches.{same_batch, batch_asked, batch_in, batch_meant, batch_changed, batches_after, changes_batch, count_in, own_before, own_after as own_left, no_packs, NotesBatch, lock_after};
+
+use crate::accepted::{is_accepted, own_after};
+use crate::counts::moved;
+use crate::writes::put;
+use indexmap::IndexMap;
+use nmvs_identifier::{Batch, ProductCode};
+use nmvs_rules::{BatchLock, BatchRecord, Counts, Entry, Known, Own, Question};
+use std::alloc::Allocator;
+use std::hash::{BuildHasherDefault, FoldHasher};
+
+/// A batch of a product.
+#[derive(Clone, Copy, PartialEq, Eq, Hash)]
+pub(crate) struct BatchKey {
+    pub code: ProductCode,
+    pub batch: Batch,
+}
+
+pub(crate) type Batches<A> = IndexMap<BatchKey, BatchRecord, BuildHasherDefault<FoldHasher>, A>;
+
+/// The record of a batch.
+pub(crate) fn record_of<A: Allocator>(batches: &Batches<A>, key: &BatchKey) -> Option<BatchRecord>
+    ensures { result ≡ get same_batch batches.now key.now }
+{
+    batches.get(key).copied()
+}
+
+/// The batch that a recall or withdrawal names.
+fn locked_batch(question: &Question) -> Option<Batch>
+    ensures { result ≡ locked_batch question.now }
+{
+    match question {
+        Question::Recall(_, batch) | Question::Withdraw(_, batch) => Some(*batch),
+        _ => None,
+    }
+}
+
+/// The record of the batch that a recall or withdrawal names, or else that of the known pack.
+pub(crate) fn asked<A: Allocator>(
+    batches: &Batches<A>,
+    question: &Question,
+    known: &Option<Known>,
+) -> Option<BatchRecord>
+    ensures { result ≡ batch_asked batches.now (code_of question.now) (locked_batch question.now) known.now }
+{
+    let batch = match (locked_batch(question), known) {
+        (Some(batch), _) => batch,
+        (None, Some(known)) => known.batch,
+        (None, None) => return None,
+    };
+    let key = BatchKey {
+        code: question.code(),
+        batch,
+    };
+    record_of(batches, &key)
+}
+
+/// The batch that an accepted question changes, of a pack that is known or not.
+fn batch_meant(question: &Question, known: &Option<Known>) -> Option<BatchKey>
+    ensures { result ≡ batch_meant question.now known.now }
+{
+    let batch = match (known, question) {
+        (Some(known), _) => known.batch,
+        (None, Question::Upload { batch, .. }) => *batch,
+        (None, Question::Recall(_, batch) | Question::Withdraw(_, batch)) => *batch,
+        (None, _) => return None,
+    };
+    Some(BatchKey {
+        code: question.code(),
+        batch,
+    })
+}
+
+/// The record of a batch that has no packs yet.
+const NO_PACKS: BatchRecord = BatchRecord {
+    lock: BatchLock::Free,
+    counts: Counts {
+        active: 0,
+        held: 0,
+        supplied: 0,
+        exported: 0,
+        sampled: 0,
+        destroyed: 0,
+        stolen: 0,
+    },
+};
+
+/// The lock of a batch after an accepted question that changes it (Article 40).
+fn lock_after(question: &Question, lock: BatchLock) -> BatchLock
+    ensures { result ≡ lock_after question.now lock }
+{
+    match question {
+        Question::Recall(_, _) => BatchLock::Recalled,
+        Question::Withdraw(_, _) => BatchLock::Withdrawn,
+        _ => lock,
+    }
+}
+
+/// The own status that a pack has, where it is known.
+fn own_before(known: &Option<Known>) -> Option<Own>
+    ensures { result ≡ own_before known.now }
+{
+    match known {
+        Some(known) => Some(known.own),
+        None => None,
+    }
+}
+
+/// The own status that an accepted question gives the pack that it names.
+fn own_left(question: &Question) -> Option<Own>
+    ensures { result ≡ own_left question.now }
+{
+    match question.pack() {
+        Some(_) => Some(own_after(question)),
+        None => None,
+    }
+}
+
+/// The record of a batch after an accepted question that changes it, about a pack that is known or not.
+fn noted(old: &BatchRecord, question: &Question, known: &Option<Known>) -> BatchRecord
+    requires from { ForSome (own_before known.now) (λ own. 1 ≤ count_in old.now.counts own) }
+    requires to { ForSome (own_left question.now) (λ own. count_in old.now.counts own + 1 < 2 ^ 64) }
+    ensures { NotesBatch question.now known.now old.now result }
+{
+    BatchRecord {
+        lock: lock_after(question, old.lock),
+        counts: moved(&old.counts, own_before(known), own_left(question)),
+    }
+}
+
+/// Notes an entry, for whose batch room was made, about a pack that is known before it or not.
+pub(crate) fn note<A: Allocator>(batches: &mut Batches<A>, entry: &Entry, known: Option<Known>)
+    requires room { 0 < spare batches.old }
+    requires from { (b : BatchKey) → changes_batch b entry.now known ≡ true →
+        ForSome (own_before known) (λ own. 1 ≤ count_in (batch_in batches.old b).counts own) }
+    requires to { (b : BatchKey) → (own : Own) → count_in (batch_in batches.old b).counts own + 1 < 2 ^ 64 }
+    ensures changed { (b : BatchKey) → changes_batch b entry.now known ≡ true →
+        IsSomeAnd (get same_batch batches.new b) (λ r. NotesBatch entry.now.question known (batch_in batches.old b) r) }
+    ensures others { (b : BatchKey) → changes_batch b entry.now known ≡ false →
+        get same_batch batches.new b ≡ get same_batch batches.old b }
+    ensures order { keys batches.new ≡ batches_after (keys batches.old) (batch_changed entry.now known) }
+{
+    if !is_accepted(entry) {
+        return;
+    }
+    let Some(key) = batch_meant(&entry.question, &known) else {
+        return;
+    };
+    let old = record_of(batches, &key).unwrap_or(NO_PACKS);
+    put(batches, key, noted(&old, &entry.question, &known));
+}

@@ -1,0 +1,80 @@
+//! The table of product codes.
+ghost use Rattle.std.specs.Prelude.{◌≡◌, ℕ, ◌+◌, ◌<◌, ◌^◌, unwrap_or};
+ghost use Rattle.indexmap.specs.IndexMap.{spare};
+ghost use Rattle.nmvs_identifier.specs.ProductCode.{ProductCode};
+ghost use Rattle.nmvs_tables.specs.Codes.{code_in, code_noted, code_after, no_code};
+
+use crate::writes::put;
+use indexmap::IndexMap;
+use nmvs_identifier::{Name, ProductCode};
+use nmvs_rules::{Entry, Question, Reply};
+use std::alloc::Allocator;
+use std::hash::{BuildHasherDefault, FoldHasher};
+
+/// What is kept of a product code.
+#[derive(Clone, Copy)]
+pub(crate) struct CodeRecord {
+    /// The authorisation of the first accepted upload.
+    pub holder: Option<Name>,
+    pub alerts: u64,
+    /// How many of the alerts were flagged as a potential falsification.
+    pub flagged: u64,
+}
+
+pub(crate) type Codes<A> = IndexMap<ProductCode, CodeRecord, BuildHasherDefault<FoldHasher>, A>;
+
+/// The record of a product code.
+pub(crate) fn record_of<A: Allocator>(codes: &Codes<A>, code: &ProductCode) -> CodeRecord
+    ensures { result ≡ code_in codes.now code.now }
+{
+    match codes.get(code) {
+        Some(record) => *record,
+        None => CodeRecord {
+            holder: None,
+            alerts: 0,
+            flagged: 0,
+        },
+    }
+}
+
+impl CodeRecord {
+    /// The record after an entry that names the product code, or None where the entry leaves it as it is.
+    fn noted(&self, entry: &Entry) -> Option<CodeRecord>
+        requires alerts { self.now.alerts + 1 < 2 ^ 64 }
+        requires flagged { self.now.flagged + 1 < 2 ^ 64 }
+        ensures { unwrap_or result self.now ≡ code_noted entry.now self.now }
+    {
+        match (&entry.question, &entry.reply) {
+            (_, Reply::Alert { flagged, .. }) => Some(CodeRecord {
+                alerts: self.alerts + 1,
+                flagged: if *flagged {
+                    self.flagged + 1
+                } else {
+                    self.flagged
+                },
+                ..*self
+            }),
+            (Question::Upload { .. }, Reply::Uploaded) if self.holder.is_none() => Some(
+                CodeRecord {
+                    holder: Some(entry.actor.authorisation),
+                    ..*self
+                },
+            ),
+            _ => None,
+        }
+    }
+}
+
+/// Notes an entry, for whose product code room was made.
+pub(crate) fn note<A: Allocator>(codes: &mut Codes<A>, entry: &Entry)
+    requires room { 0 < spare codes.old }
+    requires alerts { (c : ProductCode) → (code_in codes.old c).alerts + 1 < 2 ^ 64 }
+    requires flagged { (c : ProductCode) → (code_in codes.old c).flagged + 1 < 2 ^ 64 }
+    ensures { (c : ProductCode) → code_in codes.new c ≡ code_after c entry.now (code_in codes.old c) }
+{
+    let code = entry.question.code();
+    let Some(record) = record_of(codes, &code).noted(entry) else {
+        return;
+    };
+    put(codes, code, record);
+}
