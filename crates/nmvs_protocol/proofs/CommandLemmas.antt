@@ -1,8 +1,8 @@
 -- The line of a command is read, and is the line of no other.
-use Rattle.std.proofs.Common.{◌≡◌, ◌≤◌, ◌&&◌, ◌==◌, not, ℕ, true, false, cond, List, [], ◌∷◌, length, get_or, drop, slice_index_or, Some, None, Result, Ok, Err, refl, sym, ap, ◌∙◌, lit≤, codes, arith}
+use Rattle.std.proofs.Common.{◌≡◌, ◌&&◌, ◌==◌, not, ℕ, true, false, cond, List, [], ◌∷◌, length, get_or, drop, slice_index_or, Some, None, Result, Ok, Err, refl, sym, ap, ◌∙◌, lit≤, codes}
 use Rattle.std.specs.Prelude.{IsOk, IfOk, IsOkAnd, IsTrue, ◌↔◌, is_none}
 use Rattle.std.specs.Str.{bytes_eq}
-use Rattle.std.specs.List.{list_any, AllByRecursion}
+use Rattle.std.specs.List.{AllByRecursion}
 use Rattle.std.proofs.lemmas.Bool.{and_parts}
 use Rattle.std.proofs.lemmas.List.Splits.{join_with_byte-slice_split}
 use Rattle.nmvs_identifier.specs.Name.{Name, is_name}
@@ -10,14 +10,14 @@ use Rattle.nmvs_rules.specs.declared.actor.Actor.{Actor}
 use Rattle.nmvs_rules.specs.declared.role.Role.{Role}
 use Rattle.nmvs_rules.specs.declared.role.Role.TheVariants as role
 use Rattle.nmvs_words.specs.Words.{role_word, role_named}
-use Rattle.nmvs_words.proofs.WordLemmas.{role_named-word, role_named-of_word}
+use Rattle.nmvs_words.proofs.WordLemmas.{role_named-word, role_named-of_word, role_word-one}
 use Rattle.nmvs_protocol.specs.declared.command.Command.{Command}
 use Rattle.nmvs_protocol.specs.declared.command.Command.TheVariants.{Enrol, Suspend}
 use Rattle.nmvs_protocol.specs.declared.command_fault.CommandFault.{CommandFault}
 use Rattle.nmvs_protocol.specs.declared.command_fault.CommandFault.TheVariants as fault
-use Rattle.nmvs_protocol.specs.Fields.{is_empty, fields_in, field, joined}
+use Rattle.nmvs_protocol.specs.Fields.{fields_in, field, joined}
 use Rattle.nmvs_protocol.specs.Commands.{command_fields, command_line, enrol_fault, suspend_fault, first_command_fault, is_command, IsSameCommand}
-use Rattle.nmvs_protocol.proofs.PlainLemmas.{IsPlain, plain_name, fields_in-joined, none_empty, printable-joined, length-joined, not_long}
+use Rattle.nmvs_protocol.proofs.PlainLemmas.{IsPlain, plain_name, IsPlainLine, plain_line, not_long}
 use Rattle.nmvs_protocol.proofs.LineLemmas.{two, five}
 
 -- a line whose fields are those of an enrolment is its line
@@ -58,33 +58,15 @@ fields_plain (Enrol user actor) e =
     )
 fields_plain (Suspend user) e = ((lit≤ tt, lit≤ tt, refl), (plain_name user.bytes e, tt))
 
-some_field : (c : Command) → 1 ≤ length (command_fields c)
-some_field (Enrol user actor) = lit≤ tt
-some_field (Suspend user) = lit≤ tt
-
-few_fields : (c : Command) → length (command_fields c) ≤ 5
-few_fields (Enrol user actor) = lit≤ tt
-few_fields (Suspend user) = lit≤ tt
-
-fields_in-line : (c : Command) → is_command c ≡ true → fields_in (command_line c) ≡ command_fields c
-fields_in-line c e = fields_in-joined (command_fields c) (some_field c) (fields_plain c e)
-
-short_line : (c : Command) → is_command c ≡ true → length (command_line c) ≤ 200
-short_line c e =
-    let few = few_fields c in
-    let whole = length-joined (command_fields c) (fields_plain c e) in
-    omega (arith, few, whole)
-
-some_is : (r r' : Role) → Some r ≡ Some r' → r ≡ r'
-some_is r r' e = cc
-
-role_one : (r r' : Role) → role_word r ≡ role_word r' → r ≡ r'
-role_one r r' e = some_is r r' (sym (role_named-of_word r) ∙ ap role_named e ∙ role_named-of_word r')
+-- the line of a command is made of plain fields
+plain_command : (c : Command) → is_command c ≡ true → IsPlainLine (command_fields c)
+plain_command (Enrol user actor) e = plain_line (command_fields (Enrol user actor)) (lit≤ tt) (lit≤ tt) (fields_plain (Enrol user actor) e)
+plain_command (Suspend user) e = plain_line (command_fields (Suspend user)) (lit≤ tt) (lit≤ tt) (fields_plain (Suspend user) e)
 
 same_fields : (c d : Command) → command_fields c ≡ command_fields d → IsSameCommand c d
 same_fields (Enrol user a) (Enrol user' b) e = (
   ap (λ fs. get_or fs 1 []) e,
-  role_one a.role b.role (ap (λ fs. get_or fs 2 []) e),
+  role_word-one a.role b.role (ap (λ fs. get_or fs 2 []) e),
   ap (λ fs. get_or fs 3 []) e,
   ap (λ fs. get_or fs 4 []) e,
 )
@@ -94,41 +76,35 @@ same_fields (Suspend user) (Enrol user' b) e = let shorter = ap (λ fs. drop 2 f
 
 -- different commands have different lines
 same_command : (c d : Command) → is_command c ≡ true → is_command d ≡ true → command_line c ≡ command_line d → IsSameCommand c d
-same_command c d is_c is_d e = same_fields c d (sym (fields_in-line c is_c) ∙ ap fields_in e ∙ fields_in-line d is_d)
+same_command c d is_c is_d e = same_fields c d (sym (plain_command c is_c).fields ∙ ap fields_in e ∙ (plain_command d is_d).fields)
 
 -- the line of a command has no fault
 first_fault-line : (c : Command) → is_command c ≡ true → first_command_fault (command_line c) ≡ None
 unfolding first_command_fault
 first_fault-line (Enrol user actor) e =
-    let c = Enrol user actor in
-    let x = command_line c in
-    let own = fields_in-line c e in
-    let plain = fields_plain c e in
-    let short = not_long (length x) (short_line c e) in
-    let printable = printable-joined (command_fields c) plain in
-    let filled = ap (list_any is_empty) own ∙ none_empty (command_fields c) plain in
+    let x = command_line (Enrol user actor) in
+    let plain = plain_command (Enrol user actor) e in
+    let own = plain.fields in
+    let short = not_long (length x) plain.short in
     let word = ap (λ fs. bytes_eq (slice_index_or fs 0 []) (codes "ENROL")) own in
     let count = ap (λ fs. length fs == 5) own in
     let named = ap (λ fs. is_none (role_named (slice_index_or fs 2 []))) own ∙ ap is_none (role_named-of_word actor.role) in
     let names =
     ap (λ fs. is_name (slice_index_or fs 1 []) && is_name (slice_index_or fs 3 []) && is_name (slice_index_or fs 4 [])) own ∙ e
     in
-    (λ i. cond (short i) (Some fault.Long) (cond (not (printable i)) (Some fault.Bytes) (cond (filled i) (Some fault.Fields)
+    (λ i. cond (short i) (Some fault.Long) (cond (not (plain.printable i)) (Some fault.Bytes) (cond (plain.filled i) (Some fault.Fields)
     (cond (word i) (enrol_fault x) (cond (bytes_eq (field x 0) (codes "SUSPEND")) (suspend_fault x) (Some fault.Word))))))
     ∙ (λ i. cond (not (count i)) (Some fault.Fields) (cond (named i) (Some fault.Role) (cond (not (names i)) (Some fault.Name) None)))
 first_fault-line (Suspend user) e =
-    let c = Suspend user in
-    let x = command_line c in
-    let own = fields_in-line c e in
-    let plain = fields_plain c e in
-    let short = not_long (length x) (short_line c e) in
-    let printable = printable-joined (command_fields c) plain in
-    let filled = ap (list_any is_empty) own ∙ none_empty (command_fields c) plain in
+    let x = command_line (Suspend user) in
+    let plain = plain_command (Suspend user) e in
+    let own = plain.fields in
+    let short = not_long (length x) plain.short in
     let other = ap (λ fs. bytes_eq (slice_index_or fs 0 []) (codes "ENROL")) own in
     let word = ap (λ fs. bytes_eq (slice_index_or fs 0 []) (codes "SUSPEND")) own in
     let count = ap (λ fs. length fs == 2) own in
     let name = ap (λ fs. is_name (slice_index_or fs 1 [])) own ∙ e in
-    (λ i. cond (short i) (Some fault.Long) (cond (not (printable i)) (Some fault.Bytes) (cond (filled i) (Some fault.Fields)
+    (λ i. cond (short i) (Some fault.Long) (cond (not (plain.printable i)) (Some fault.Bytes) (cond (plain.filled i) (Some fault.Fields)
     (cond (other i) (enrol_fault x) (cond (word i) (suspend_fault x) (Some fault.Word))))))
     ∙ (λ i. cond (not (count i)) (Some fault.Fields) (cond (not (name i)) (Some fault.Name) None))
 

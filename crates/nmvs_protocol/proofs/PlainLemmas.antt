@@ -107,25 +107,25 @@ all_printable : (t : List ℕ) → list_all is_ascii_graphic t ≡ true → list
 all_printable t e = all_weaker is_ascii_graphic is_printable graphic_printable t e
 
 -- the fields of a line that is made of plain fields
-pub fields_in-joined : (fs : List (List ℕ)) → 1 ≤ length fs → AllByRecursion IsPlain fs → fields_in (joined fs) ≡ fs
+fields_in-joined : (fs : List (List ℕ)) → 1 ≤ length fs → AllByRecursion IsPlain fs → fields_in (joined fs) ≡ fs
 fields_in-joined [] some plain = absurd (omega arith)
 fields_in-joined (f ∷ []) some plain = slice_split_none is_space f (All-from_recursion _ f (no_space f plain.0.2))
 fields_in-joined (f ∷ g ∷ fs) some plain =
     slice_split_at is_space f 32 (joined (g ∷ fs)) (All-from_recursion _ f (no_space f plain.0.2)) refl
     ∙ ap (λ (rest : List (List ℕ)). f ∷ rest) (fields_in-joined (g ∷ fs) (omega arith) plain.1)
 
-pub none_empty : (fs : List (List ℕ)) → AllByRecursion IsPlain fs → list_any is_empty fs ≡ false
+none_empty : (fs : List (List ℕ)) → AllByRecursion IsPlain fs → list_any is_empty fs ≡ false
 none_empty [] plain = refl
 none_empty (f ∷ fs) plain = λ i. not_empty (length f) plain.0.0 i || none_empty fs plain.1 i
 
-pub printable-joined : (fs : List (List ℕ)) → AllByRecursion IsPlain fs → list_all is_printable (joined fs) ≡ true
+printable-joined : (fs : List (List ℕ)) → AllByRecursion IsPlain fs → list_all is_printable (joined fs) ≡ true
 printable-joined [] plain = refl
 printable-joined (f ∷ []) plain = all_printable f plain.0.2
 printable-joined (f ∷ g ∷ fs) plain =
     list_all-append is_printable f (32 ∷ joined (g ∷ fs))
     ∙ (λ i. all_printable f plain.0.2 i && printable-joined (g ∷ fs) plain.1 i)
 
-pub length-joined : (fs : List (List ℕ)) → AllByRecursion IsPlain fs → length (joined fs) ≤ 21 * length fs
+length-joined : (fs : List (List ℕ)) → AllByRecursion IsPlain fs → length (joined fs) ≤ 21 * length fs
 length-joined [] plain = lit≤ tt
 length-joined (f ∷ []) plain = let short = plain.0.1 in omega (arith, short)
 length-joined (f ∷ g ∷ fs) plain =
@@ -136,3 +136,21 @@ length-joined (f ∷ g ∷ fs) plain =
 
 pub not_long : (n : ℕ) → n ≤ 200 → nat_lt 200 n ≡ false
 not_long n short = grind (arith, nat_tests)
+
+-- a line of one to nine plain fields is short, printable, and has these fields, none of them empty
+pub record IsPlainLine (fs : List (List ℕ)) : Type 0 where
+  pub short : length (joined fs) ≤ 200
+  pub printable : list_all is_printable (joined fs) ≡ true
+  pub fields : fields_in (joined fs) ≡ fs
+  pub filled : list_any is_empty (fields_in (joined fs)) ≡ false
+
+pub plain_line : (fs : List (List ℕ)) → 1 ≤ length fs → length fs ≤ 9 → AllByRecursion IsPlain fs → IsPlainLine fs
+plain_line fs some few plain =
+    let own = fields_in-joined fs some plain in
+    let bound = length-joined fs plain in
+    record {
+      short = omega (arith, few, bound);
+      printable = printable-joined fs plain;
+      fields = own;
+      filled = ap (list_any is_empty) own ∙ none_empty fs plain;
+    }

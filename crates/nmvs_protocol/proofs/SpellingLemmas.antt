@@ -2,7 +2,7 @@
 use Rattle.std.proofs.Common.{◌≡◌, ◌≤◌, ◌+◌, ◌==◌, not, ℕ, true, false, suc, List, [], ◌∷◌, length, drop, get_or, Some, None, refl, sym, ap, ◌∙◌, lit≤, codes, cond, slice_index_or, arith, add-zero, Result, Ok, Err}
 use Rattle.std.specs.Prelude.{IsOk, IfOk, IsOkAnd, IsTrue, ◌↔◌}
 use Rattle.std.specs.Str.{bytes_eq}
-use Rattle.std.specs.List.{list_any, AllByRecursion}
+use Rattle.std.specs.List.{AllByRecursion}
 use Rattle.std.proofs.lemmas.Bool.{and_parts}
 use Rattle.std.proofs.lemmas.List.{get_or-drop, drop-drop}
 use Rattle.std.proofs.lemmas.Bool.Decides.{nat_tests}
@@ -14,15 +14,15 @@ use Rattle.nmvs_words.specs.declared.pack_question.PackQuestion.TheVariants.{Ver
 use Rattle.nmvs_words.specs.declared.batch_question.BatchQuestion.TheVariants.{Recall, Withdraw}
 use Rattle.nmvs_words.specs.declared.question_kind.QuestionKind.{QuestionKind}
 use Rattle.nmvs_words.specs.declared.question_kind.QuestionKind.TheVariants.{Upload, OfPack, OfBatch}
-use Rattle.nmvs_words.specs.Kinds.{kind_of, kind_word, kind_named, texts_of}
-use Rattle.nmvs_words.proofs.WordLemmas.{kind_named-of_word}
+use Rattle.nmvs_words.specs.Kinds.{kind_of, kind_word, texts_of}
+use Rattle.nmvs_words.proofs.WordLemmas.{kind_named-of_word, kind_word-one}
 use Rattle.nmvs_protocol.specs.declared.ask.Ask.{Ask}
 use Rattle.nmvs_protocol.specs.declared.ask.Ask.TheVariants.{Put, Quit}
 use Rattle.nmvs_protocol.specs.declared.line_fault.LineFault.TheVariants as fault
 use Rattle.nmvs_protocol.specs.declared.line_fault.LineFault.{LineFault}
-use Rattle.nmvs_protocol.specs.Fields.{is_empty, fields_in, field}
+use Rattle.nmvs_protocol.specs.Fields.{fields_in, field}
 use Rattle.nmvs_protocol.specs.Lines.{fields, line, Grammar, grammars, all_read, first_misread, first_fault, question_fault, kind_put, without_audit, is_ask, is_readable, IsSameAsk, OneSpelling, ShortLines}
-use Rattle.nmvs_protocol.proofs.PlainLemmas.{IsPlain, plain_name, plain_code, plain_serial, plain_batch, plain_expiry, fields_in-joined, none_empty, printable-joined, length-joined, not_long}
+use Rattle.nmvs_protocol.proofs.PlainLemmas.{IsPlain, plain_name, plain_code, plain_serial, plain_batch, plain_expiry, IsPlainLine, plain_line, not_long}
 
 -- each text that a grammar accepts is plain
 abbrev AcceptsPlain : Grammar → Type 0
@@ -70,23 +70,22 @@ fields_plain (Put user q) e =
     (plain_name user.bytes parts.0, (word_plain (kind_of q), all_read-plain (grammars (kind_of q)) (texts_of q) (grammars_plain (kind_of q)) parts.1))
 fields_plain Quit e = ((lit≤ tt, lit≤ tt, refl), tt)
 
-some_field : (a : Ask) → 1 ≤ length (fields a)
-some_field (Put user q) = omega arith
-some_field Quit = lit≤ tt
+few_grammars : (kind : QuestionKind) → length (grammars kind) ≤ 4
+few_grammars Upload = lit≤ tt
+few_grammars (OfPack _) = lit≤ tt
+few_grammars (OfBatch _) = lit≤ tt
 
--- the fields of an ask's line are the ask's
-fields_in-line : (a : Ask) → is_ask a ≡ true → fields_in (line a) ≡ fields a
-fields_in-line a e = fields_in-joined (fields a) (some_field a) (fields_plain a e)
+-- the line of an ask is made of plain fields
+plain_ask : (a : Ask) → is_ask a ≡ true → IsPlainLine (fields a)
+plain_ask (Put user q) e =
+    let parts = and_parts (is_name user.bytes) (all_read (grammars (kind_of q)) (texts_of q)) e in
+    let count = all_read-length (grammars (kind_of q)) (texts_of q) parts.1 in
+    let few = few_grammars (kind_of q) in
+    plain_line (fields (Put user q)) (omega arith) (omega (arith, count, few)) (fields_plain (Put user q) e)
+plain_ask Quit e = plain_line (fields Quit) (lit≤ tt) (lit≤ tt) (fields_plain Quit e)
 
 same_fields : (a b : Ask) → is_ask a ≡ true → is_ask b ≡ true → line a ≡ line b → fields a ≡ fields b
-same_fields a b is_a is_b e = sym (fields_in-line a is_a) ∙ ap fields_in e ∙ fields_in-line b is_b
-
-some_is : (k k' : QuestionKind) → Some k ≡ Some k' → k ≡ k'
-some_is k k' e = cc
-
--- different kinds have different words
-word_one : (k k' : QuestionKind) → kind_word k ≡ kind_word k' → k ≡ k'
-word_one k k' e = some_is k k' (sym (kind_named-of_word k) ∙ ap kind_named e ∙ kind_named-of_word k')
+same_fields a b is_a is_b e = sym (plain_ask a is_a).fields ∙ ap fields_in e ∙ (plain_ask b is_b).fields
 
 put_or_quit : (user : Name) (q : Question) → fields (Put user q) ≡ fields Quit → ⊥
 put_or_quit user q e = let empty = ap (λ fs. drop 1 fs) e in cc
@@ -94,24 +93,13 @@ put_or_quit user q e = let empty = ap (λ fs. drop 1 fs) e in cc
 pub one_spelling : OneSpelling
 one_spelling (Put user q) (Put user' q') is_a is_b e =
     let same = same_fields (Put user q) (Put user' q') is_a is_b e in
-    (ap (λ fs. get_or fs 0 []) same, word_one (kind_of q) (kind_of q') (ap (λ fs. get_or fs 1 []) same), ap (λ fs. drop 2 fs) same)
+    (ap (λ fs. get_or fs 0 []) same, kind_word-one (kind_of q) (kind_of q') (ap (λ fs. get_or fs 1 []) same), ap (λ fs. drop 2 fs) same)
 one_spelling (Put user q) Quit is_a is_b e = absurd (put_or_quit user q (same_fields (Put user q) Quit is_a is_b e))
 one_spelling Quit (Put user q) is_a is_b e = absurd (put_or_quit user q (sym (same_fields Quit (Put user q) is_a is_b e)))
 one_spelling Quit Quit is_a is_b e = tt
 
-few_grammars : (kind : QuestionKind) → length (grammars kind) ≤ 4
-few_grammars Upload = lit≤ tt
-few_grammars (OfPack _) = lit≤ tt
-few_grammars (OfBatch _) = lit≤ tt
-
 pub short_lines : ShortLines
-short_lines Quit e = lit≤ tt
-short_lines (Put user q) e =
-    let parts = and_parts (is_name user.bytes) (all_read (grammars (kind_of q)) (texts_of q)) e in
-    let count = all_read-length (grammars (kind_of q)) (texts_of q) parts.1 in
-    let few = few_grammars (kind_of q) in
-    let whole = length-joined (fields (Put user q)) (fields_plain (Put user q) e) in
-    omega (arith, count, few, whole)
+short_lines a e = (plain_ask a e).short
 
 -- what a readable question put is
 readable_put : (user : Name) (q : Question) → is_readable (Put user q) ≡ true
@@ -153,24 +141,22 @@ pub first_fault-line : (a : Ask) → is_readable a ≡ true → first_fault (lin
 unfolding first_fault
 first_fault-line Quit e = refl
 first_fault-line (Put user q) e =
-    let a = Put user q in
+    let x = line (Put user q) in
     let kind = kind_of q in
     let readable = readable_put user q e in
-    let own = fields_in-line a readable.0 in
-    let plain = fields_plain a readable.0 in
+    let plain = plain_ask (Put user q) readable.0 in
+    let own = plain.fields in
     let parts = and_parts (is_name user.bytes) (all_read (grammars kind) (texts_of q)) readable.0 in
     let count = all_read-length (grammars kind) (texts_of q) parts.1 in
-    let short = not_long (length (line a)) (short_lines a readable.0) in
-    let printable = printable-joined (fields a) plain in
-    let filled = ap (list_any is_empty) own ∙ none_empty (fields a) plain in
+    let short = not_long (length x) plain.short in
     let several = ap (λ fs. length fs == 1) own ∙ not_one (length (texts_of q)) in
     let named = ap (λ fs. kind_put (slice_index_or fs 1 [])) own ∙ ap without_audit (kind_named-of_word kind) ∙ readable.1 in
     let whole = ap (λ fs. length fs == 2 + length (grammars kind)) own ∙ two_more (length (texts_of q)) (length (grammars kind)) count in
     let name = ap (λ fs. is_name (slice_index_or fs 0 [])) own ∙ parts.0 in
-    (λ i. cond (short i) (Some fault.Long) (cond (not (printable i)) (Some fault.Bytes) (cond (filled i) (Some fault.Fields)
-    (cond (several i) (cond (bytes_eq (line a) (codes "QUIT")) None (Some fault.Fields)) (question_fault (line a) (named i))))))
-    ∙ (λ i. cond (not (whole i)) (Some fault.Fields) (cond (not (name i)) (Some fault.User) (first_misread (line a) 2 (grammars kind))))
-    ∙ all_read-none (line a) 2 (grammars kind) (texts_of q) (ap (λ fs. drop 2 fs) own) parts.1
+    (λ i. cond (short i) (Some fault.Long) (cond (not (plain.printable i)) (Some fault.Bytes) (cond (plain.filled i) (Some fault.Fields)
+    (cond (several i) (cond (bytes_eq x (codes "QUIT")) None (Some fault.Fields)) (question_fault x (named i))))))
+    ∙ (λ i. cond (not (whole i)) (Some fault.Fields) (cond (not (name i)) (Some fault.User) (first_misread x 2 (grammars kind))))
+    ∙ all_read-none x 2 (grammars kind) (texts_of q) (ap (λ fs. drop 2 fs) own) parts.1
 
 -- a line that is read exactly is read as the ask whose line it is
 pub read_complete : (x : List ℕ) (r : Result Ask LineFault) → IfOk r (λ a. x ≡ line a) → IfOk r (λ a. IsTrue (is_readable a))

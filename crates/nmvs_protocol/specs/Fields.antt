@@ -6,6 +6,7 @@ use Rattle.std.specs.List.{slice_split, join_with_byte}
 abbrev pub is_printable : ℕ → Bool
 is_printable b = nat_le 32 b && nat_le b 126
 
+-- the space, which parts the fields
 abbrev pub is_space : ℕ → Bool
 is_space b = b == 32
 
@@ -21,5 +22,6 @@ field x k = slice_index_or (fields_in x) k []
 abbrev pub joined : List (List ℕ) → List ℕ
 joined fs = join_with_byte 32 fs
 
+-- a field of no bytes
 abbrev pub is_empty : List ℕ → Bool
 is_empty f = length f == 0

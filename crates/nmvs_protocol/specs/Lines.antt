@@ -69,12 +69,13 @@ first_fault x =
     else if length (fields_in x) == 1 then (if bytes_eq x (codes "QUIT") then None else Some fault.Fields)
     else question_fault x (kind_put (field x 1))
 
--- whether the texts of an ask are in their grammars
+-- whether each text is in the grammar that stands at its place
 abbrev pub all_read : List Grammar → List (List ℕ) → Bool
 all_read [] [] = true
 all_read (g ∷ gs) (t ∷ ts) = g.0 t && all_read gs ts
 all_read _ _ = false
 
+-- whether the texts of an ask are in their grammars
 abbrev pub is_ask : Ask → Bool
 is_ask (Put user q) = is_name user.bytes && all_read (grammars (kind_of q)) (texts_of q)
 is_ask Quit = true

@@ -24,6 +24,7 @@ pub fn read_command(bytes: &[u8]) -> Result<Command, CommandFault>
     read_exactly(bytes)
 }
 
+/// As `read_command`, whose converse follows from these clauses.
 #[tactic(auto, unfolding(crate::specs::Commands::first_command_fault))]
 fn read_exactly(bytes: &[u8]) -> Result<Command, CommandFault>
     ensures line { IfOk result (λ command. bytes.now ≡ command_line command) }

@@ -51,7 +51,10 @@ fn faults_of_lines(rt: HostRuntime) {
             LineFault::Serial,
         ),
         ("mah1 RECALL 09506000134352 #", LineFault::Batch),
-        ("mah1 UPLOAD 09506000134352 SN1 B1 281300", LineFault::Expiry),
+        (
+            "mah1 UPLOAD 09506000134352 SN1 B1 281300",
+            LineFault::Expiry,
+        ),
     ] {
         assert!(rt; read_line(line.as_bytes()) == Err(fault), "{line}");
     }

@@ -1,5 +1,5 @@
 //! The lines of asks.
-ghost use Rattle.std.specs.Prelude.{◌≡◌, ◌↔◌, ◌+◌, ◌∷◌, length, IsTrue, true, false, IsOk, IfOk, IfErr, IsOkAnd, string_bytes, None, Some, drop};
+ghost use Rattle.std.specs.Prelude.{◌≡◌, ◌↔◌, ◌+◌, length, IsTrue, false, IsOk, IfOk, IfErr, IsOkAnd, string_bytes, None, Some, drop};
 ghost use Rattle.nmvs_identifier.specs.Name.{is_name};
 ghost use Rattle.nmvs_identifier.specs.ProductCode.{is_product_code};
 ghost use Rattle.nmvs_identifier.specs.Serial.{is_serial};
@@ -9,7 +9,7 @@ ghost use Rattle.nmvs_words.specs.Kinds.{kind_of, texts_of};
 ghost use Rattle.nmvs_protocol.specs.Fields.{fields_in, field};
 ghost use Rattle.nmvs_protocol.specs.declared.ask.Ask.{Ask as AnAsk};
 ghost use Rattle.nmvs_protocol.specs.declared.ask.Ask.TheVariants.{Put};
-ghost use Rattle.nmvs_protocol.specs.Lines.{line, is_readable, IsSameAsk, first_fault, first_misread, grammars, kind_put};
+ghost use Rattle.nmvs_protocol.specs.Lines.{line, is_ask, is_readable, IsSameAsk, first_fault, first_misread, grammars, kind_put};
 
 use crate::fields::{LONGEST_LINE, field_at, field_count, has_empty_field, printable_text};
 use crate::{Ask, LineFault};
@@ -27,11 +27,12 @@ pub fn read_line(bytes: &[u8]) -> Result<Ask, LineFault>
     ensures accepts { IsOk result ↔ (first_fault bytes.now ≡ None) }
     ensures fault { IfErr result (λ fault. first_fault bytes.now ≡ Some fault) }
 {
-    read_ask(bytes)
+    read_exactly(bytes)
 }
 
+/// As `read_line`, whose converse follows from these clauses.
 #[tactic(auto, unfolding(crate::specs::Lines::first_fault))]
-fn read_ask(bytes: &[u8]) -> Result<Ask, LineFault>
+fn read_exactly(bytes: &[u8]) -> Result<Ask, LineFault>
     ensures line { IfOk result (λ ask. bytes.now ≡ line ask) }
     ensures readable { IfOk result (λ ask. IsTrue (is_readable ask)) }
     ensures accepts { IsOk result ↔ (first_fault bytes.now ≡ None) }
@@ -61,7 +62,8 @@ fn read_ask(bytes: &[u8]) -> Result<Ask, LineFault>
 
 /// The line of an ask, without LF. Its only fault is want of memory.
 pub fn ask_line(alloc: Global, ask: &Ask) -> Result<String, AllocError>
-    ensures { IfOk result (λ text. string_bytes text ≡ line ask.now) }
+    ensures line { IfOk result (λ text. string_bytes text ≡ line ask.now) }
+    ensures grammar { IsTrue (is_ask ask.now) }
 {
     match ask {
         Ask::Put(user, question) => question_line(alloc, user, question),
@@ -70,7 +72,8 @@ pub fn ask_line(alloc: Global, ask: &Ask) -> Result<String, AllocError>
 }
 
 fn question_line(alloc: Global, user: &Name, question: &Question) -> Result<String, AllocError>
-    ensures { IfOk result (λ text. string_bytes text ≡ line (Put user.now question.now)) }
+    ensures line { IfOk result (λ text. string_bytes text ≡ line (Put user.now question.now)) }
+    ensures grammar { IsTrue (is_ask (Put user.now question.now)) }
 {
     let user = user.text();
     let word = QuestionKind::of(question).word();
@@ -101,6 +104,7 @@ fn question_line(alloc: Global, user: &Name, question: &Question) -> Result<Stri
     }
 }
 
+/// How many fields a line of this kind has.
 fn field_count_of(kind: QuestionKind) -> usize
     ensures { result ≡ 2 + length (grammars kind) }
 {

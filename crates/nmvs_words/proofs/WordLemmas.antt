@@ -46,6 +46,10 @@ kind_named-of_word (OfPack Audit) = refl
 kind_named-of_word (OfBatch Recall) = refl
 kind_named-of_word (OfBatch Withdraw) = refl
 
+-- different kinds have different words
+pub kind_word-one : (k k' : QuestionKind) → kind_word k ≡ kind_word k' → k ≡ k'
+kind_word-one k k' e = some_is k k' (sym (kind_named-of_word k) ∙ ap kind_named e ∙ kind_named-of_word k')
+
 -- a role is found by its word alone
 pub role_named-word : (w : List ℕ) (r : Role) → role_named w ≡ Some r → w ≡ role_word r
 role_named-word w r e = (bytes_eq-Decides w (role_word r)).0 (found (λ k. bytes_eq w (role_word k)) roles r e)
@@ -57,3 +61,7 @@ role_named-of_word role.Manufacturer = refl
 role_named-of_word role.Wholesaler = refl
 role_named-of_word role.Pharmacy = refl
 role_named-of_word role.Authority = refl
+
+-- different roles have different words
+pub role_word-one : (r r' : Role) → role_word r ≡ role_word r' → r ≡ r'
+role_word-one r r' e = some_is r r' (sym (role_named-of_word r) ∙ ap role_named e ∙ role_named-of_word r')

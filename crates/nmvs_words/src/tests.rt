@@ -28,20 +28,19 @@ fn words_of_questions(rt: HostRuntime) {
     let code = ProductCode::read("09506000134352").expect(&rt, "a code");
     let serial = Serial::read("SN1").expect(&rt, "a serial number");
     let batch = Batch::read("B1").expect(&rt, "a batch number");
-    let pack = Pack { code, serial };
 
     let Some(QuestionKind::OfPack(hold)) = QuestionKind::named("HOLD") else {
         panic!(rt; "a word of packs");
     };
-    let question = hold.naming(pack);
-    assert!(rt; question == Question::Decommission(pack, Reason::Hold));
+    let question = Question::Decommission(Pack { code, serial }, Reason::Hold);
+    assert!(rt; hold.naming(Pack { code, serial }) == question);
     assert!(rt; QuestionKind::of(&question).word() == "HOLD");
 
     let Some(QuestionKind::OfBatch(withdraw)) = QuestionKind::named("WITHDRAW") else {
         panic!(rt; "a word of batches");
     };
-    let question = withdraw.naming(code, batch);
-    assert!(rt; question == Question::Withdraw(code, batch));
+    let question = Question::Withdraw(code, batch);
+    assert!(rt; withdraw.naming(code, batch) == question);
     assert!(rt; QuestionKind::of(&question).word() == "WITHDRAW");
     assert!(rt; QuestionKind::named("QUIT") == None);
 }

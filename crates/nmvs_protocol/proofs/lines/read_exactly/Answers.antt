@@ -1,6 +1,6 @@
 use Rattle.std.proofs.Common.{◌≡◌, sym, ◌∙◌, rules}
 use Rattle.nmvs_protocol.proofs.LineLemmas.{line_put}
-use Rattle.nmvs_protocol.proofs.lines.read_ask.Goals as goal
+use Rattle.nmvs_protocol.proofs.lines.read_exactly.Goals as goal
 
 pub returns-clause-line : goal.returns-clause-line
 returns-clause-line c =
