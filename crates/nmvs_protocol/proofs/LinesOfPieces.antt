@@ -1,7 +1,6 @@
 -- Lines of bytes that come in pieces.
-use Rattle.std.proofs.Common.{◌≡◌, ◌==◌, ℕ, Bool, true, false, List, [], ◌∷◌, ◌++◌, refl, sym, ap, ◌∙◌, cond, ◌<◌, ◌+◌, suc, length, take, drop, get_or, add-one, drop-cons, rules, arith}
+use Rattle.std.proofs.Common.{◌≡◌, ◌==◌, ℕ, true, false, List, [], ◌∷◌, ◌++◌, refl, sym, ap, ◌∙◌, cond, ◌<◌, ◌+◌, suc, length, take, drop, get_or, drop-cons}
 use Rattle.std.proofs.lemmas.List.{take_more, append-nil, take-append-drop}
-use Rattle.std.proofs.lemmas.Grind.{common_steps}
 use Rattle.nmvs_protocol.specs.InputLines.{lines_after, rest_after}
 
 pub lines_after-append : (cur xs ys : List ℕ) → lines_after cur (xs ++ ys) ≡ lines_after cur xs ++ lines_after (rest_after cur xs) ys

@@ -1,5 +1,5 @@
 -- How a session goes on by one line.
-use Rattle.std.proofs.Common.{◌≡◌, ◌≢◌, ◌+◌, ◌<◌, ◌≤◌, ℕ, true, false, List, [], ◌∷◌, ◌++◌, length, All, Option, Some, None, Result, Ok, refl, sym, ap, ◌∙◌, subst, inl, arith, lit<}
+use Rattle.std.proofs.Common.{◌≡◌, ◌≢◌, ◌+◌, ◌<◌, ◌≤◌, ℕ, false, List, [], ◌∷◌, ◌++◌, Option, Some, None, Result, refl, sym, ap, ◌∙◌, subst, inl, arith}
 use Rattle.std.proofs.lemmas.List.{flat_map_more, append-nil, length_push, length-append, append_assoc}
 use Rattle.std.proofs.lemmas.List.Elements.{All-append, All-cons, All-nil}
 use Rattle.nmvs_stream.specs.Source.{Told}
@@ -15,7 +15,7 @@ use Rattle.nmvs_protocol.specs.Lines.{line}
 use Rattle.nmvs_protocol.specs.Texts.{text}
 use Rattle.nmvs_protocol.specs.InputLines.{input_lines}
 use Rattle.nmvs_protocol.specs.Put.{Puts, PutsPart}
-use Rattle.nmvs_protocol.specs.Session.{Reads, Answers, AnswersLine, AnswersLines, AnswersAll, NoQuit, Delivers, BreaksOff, LineLimit, Closes, Session, session_text, is_input_end, is_read_fault, is_write_fault}
+use Rattle.nmvs_protocol.specs.Session.{Reads, Answers, AnswersLine, AnswersLines, NoQuit, Delivers, BreaksOff, Closes, Session, is_input_end, is_read_fault}
 use Rattle.nmvs_protocol.specs.Progress.{Stands, Answered, kept, has_write_fault}
 use Rattle.nmvs_protocol.proofs.KeptLines.{kept_reads}
 

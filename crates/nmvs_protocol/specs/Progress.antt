@@ -1,5 +1,5 @@
 -- How a session stands between its lines and between its reads (own).
-use Rattle.std.specs.Prelude.{◌≡◌, ◌≤◌, ◌∷◌, ℕ, Bool, false, List, [], ◌++◌, length, take, Option, Some, None}
+use Rattle.std.specs.Prelude.{◌≡◌, ◌≤◌, ℕ, Bool, false, List, ◌++◌, length, take, Option, Some, None}
 use Rattle.nmvs_stream.specs.Sink.{Taken}
 use Rattle.nmvs_protocol.specs.declared.ask.Ask.{Ask}
 use Rattle.nmvs_protocol.specs.declared.answer.Answer.{Answer}
@@ -7,7 +7,7 @@ use Rattle.nmvs_protocol.specs.declared.end.End.{End}
 use Rattle.nmvs_protocol.specs.declared.end.End.TheVariants as ends
 use Rattle.nmvs_protocol.specs.Session.{AnswersLines, AnswersAll, NoQuit, EndsWithQuit, NoQuitBeforeLast, Delivers, BreaksOff, LacksLast, LineLimit, is_write_fault}
 
--- what is kept of a line: enough to judge it
+-- what is kept of a line: enough to judge it, since a line of more than 200 bytes can't be read
 abbrev pub kept : List ℕ → List ℕ
 kept x = take 201 x
 

@@ -6,7 +6,8 @@ use crate::{Ask, LineFault, read_line};
 use arrayvec::ArrayVec;
 use std::marker::Model;
 
-/// A line whose LF hasn't come. Of a long line it keeps as much as is needed to judge it.
+/// A line whose LF hasn't come. It keeps the first 201 bytes, which are enough to judge it, since a
+/// line of more than 200 bytes can't be read.
 #[derive(Drop)]
 pub(crate) struct PendingLine {
     bytes: ArrayVec<u8, 201>,

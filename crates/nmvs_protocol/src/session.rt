@@ -13,7 +13,7 @@ use std::alloc::Global;
 #[cfg(test)]
 mod tests;
 
-/// How far a session has come.
+/// How far a session has come: the line that was begun, and how many lines were answered.
 #[derive(Drop)]
 struct Progress {
     line: PendingLine,
@@ -21,8 +21,11 @@ struct Progress {
 }
 
 /// Serves a session: answers the lines of the source one by one, each answer written to the sink
-/// and flushed before the next line is served and before more is read. A line of more than 200
-/// bytes is answered once, at its LF. Bytes after the last LF get no answer.
+/// and flushed before the next line is served and before more is read (own).
+///
+/// A line of more than 200 bytes is answered once, at its LF, and takes no memory. Bytes after the
+/// last LF get no answer. QUIT ends the session. Memory is taken for the text of one answer at a
+/// time.
 pub fn serve<R: Source, W: Sink, D: Desk>(
     alloc: Global,
     source: &mut R,
@@ -114,6 +117,7 @@ fn serve_line<W: Sink, D: Desk>(
     }
 }
 
+/// The answer to what was read. The desk is asked all but QUIT.
 fn answer<D: Desk>(reading: &Result<Ask, LineFault>, desk: &mut D) -> Answer
     ensures { Answers D.takes desk.old reading.now result desk.new }
 {

@@ -1,9 +1,7 @@
-use Rattle.std.proofs.Common.{◌≡◌, ◌+◌, ◌≤◌, ◌==◌, ◌||◌, ◌++◌, [], List, ℕ, Bool, Some, None, take, refl, sym, ap, ◌∙◌, arith}
+use Rattle.std.proofs.Common.{◌==◌, ◌||◌, ◌++◌, [], List, ℕ, Bool, take, refl, sym, ap, ◌∙◌, arith}
 use Rattle.std.proofs.lemmas.List.{append-nil, append_assoc}
 use Rattle.std.proofs.lemmas.Bool.{ne_eqb}
 use Rattle.std.proofs.lemmas.List.Elements.{All-nil}
-use Rattle.nmvs_protocol.specs.declared.ask.Ask.TheVariants as asks
-use Rattle.nmvs_protocol.specs.Lines.{line}
 use Rattle.nmvs_protocol.specs.InputLines.{input_lines, unfinished_line, lines_after, rest_after}
 use Rattle.nmvs_protocol.proofs.LinesOfPieces.{lines_after-append, rest_after-append}
 use Rattle.nmvs_protocol.proofs.SessionSteps.{same_lines, closed}

@@ -1,4 +1,4 @@
-use Rattle.std.proofs.Common.{◌≡◌, ◌+◌, ◌++◌, ◌∷◌, [], List, ℕ, Some, None, take, drop, suc, get_or, refl, sym, ap, ◌∙◌, subst}
+use Rattle.std.proofs.Common.{◌≡◌, ◌++◌, ◌∷◌, [], List, ℕ, take, drop, suc, get_or, sym, ap, ◌∙◌, subst}
 use Rattle.std.proofs.lemmas.List.{append-nil, append_assoc, take_all}
 use Rattle.std.proofs.lemmas.Bool.{ne_eqb}
 use Rattle.nmvs_protocol.specs.InputLines.{lines_after, rest_after}
@@ -27,7 +27,7 @@ returns-then-progress-limit g c first start lines begun is so_far =
     let before = lines_after begun (take i chunk) in
     let line = rest_after begun (take i chunk) in
     let more = lines_after [] (drop (suc i) chunk) in (
-      same_lines g.D.Desk.takes (regroup lines before line more (lines_after begun chunk) (lines_at_lf begun chunk i c.loop-byte-test.true c.if-byte-eq10.true))
+      same_lines g.D.Desk.takes {count = c.loop-byte.progress.answered} (regroup lines before line more (lines_after begun chunk) (lines_at_lf begun chunk i c.loop-byte-test.true c.if-byte-eq10.true))
           (at_limit g.D.Desk.takes line more inv.0 c.if-progress-limit.true),
       tt,
     )
@@ -40,7 +40,7 @@ returns-in-Some g c first start lines begun is so_far =
     let before = lines_after begun (take i chunk) in
     let line = rest_after begun (take i chunk) in
     let more = lines_after [] (drop (suc i) chunk) in (
-      same_lines g.D.Desk.takes (regroup_two lines before line more (lines_after begun chunk) (lines_at_lf begun chunk i c.loop-byte-test.true c.if-byte-eq10.true))
+      same_lines g.D.Desk.takes {count = c.loop-byte.progress.answered} (regroup_two lines before line more (lines_after begun chunk) (lines_at_lf begun chunk i c.loop-byte-test.true c.if-byte-eq10.true))
           (extended g.D.Desk.takes c.in-Some.end more
           (c.in-Some.ensures c.args.limit c.loop-byte.progress.answered first start (lines ++ before) line c.if-progress-limit.false inv.1 inv.0)),
       tt,
