@@ -1,5 +1,5 @@
 -- The record of a product code after one more entry.
-use Rattle.std.proofs.Common.{◌≡◌, ℕ, ◌+◌, Bool, true, false, ◌&&◌, cond, List, [], ◌∷◌, ◌++◌, count_by, Option, Some, None, unwrap_or, refl, sym, ap, ◌∙◌, arith, add-zero}
+use Rattle.std.proofs.Common.{◌≡◌, ◌+◌, Bool, true, false, ◌&&◌, cond, List, [], ◌∷◌, ◌++◌, Option, Some, None, unwrap_or, refl, sym, ap, ◌∙◌, add-zero}
 use Rattle.std.specs.HashMap.{HashMap, get}
 use Rattle.std.specs.Map.{lookup}
 use Rattle.std.specs.Option.{option_or}
@@ -11,15 +11,12 @@ use Rattle.nmvs_rules.specs.Trail.{has_code, is_alert, is_upload, is_accepted}
 use Rattle.nmvs_rules.proofs.TextLemmas.{same_text-sym, same_text-same}
 use Rattle.nmvs_rules.proofs.PushLemmas.{holder_of-push, alerts_of-push, count_by-push}
 use Rattle.nmvs_tables.specs.declared.codes.CodeRecord.{CodeRecord}
-use Rattle.nmvs_tables.specs.Codes.{code_in, code_noted, code_after, code_record, no_code, uploader, is_flagged_alert, one_if}
+use Rattle.nmvs_tables.specs.Codes.{code_in, code_noted, code_after, code_record, no_code, is_flagged_alert, one_if}
+use Rattle.nmvs_tables.proofs.BoolLemmas.{not-so}
 
 -- a table is asked by the text of a product code alone
 pub code_in-same : {S : Type 0} (m : HashMap ProductCode CodeRecord S) (c d : ProductCode) → same_text c d ≡ true → code_in m c ≡ code_in m d
 code_in-same m c d same = λ i. unwrap_or (lookup (same_text-same c d same i) m.entries) no_code
-
-not_true : (b : Bool) → (b ≡ true → false ≡ true) → b ≡ false
-not_true true h = sym (h refl)
-not_true false h = refl
 
 -- a table that has the new record of the entry's product code, and all others as before, notes the entry
 pub code_in-noted : {S : Type 0} (m n : HashMap ProductCode CodeRecord S) (k : ProductCode) (w : CodeRecord) (e : Entry) → k ≡ code_of e.question → ((c : ProductCode) → get same_text n c ≡ cond (same_text k c) (Some w) (get same_text m c)) → w ≡ code_noted e (code_in m k) → (c : ProductCode) → code_in n c ≡ code_after c e (code_in m c)
@@ -34,7 +31,7 @@ code_in-noted m n k w e named updates noted c = ap (λ o. unwrap_or o no_code) (
         ∙ ap (λ b. cond b (code_noted e (code_in m c)) (code_in m c)) (sym h)
     by false h =
         let other : same_text c k ≡ false = ap (same_text c) named ∙ h in
-        ap (λ b. unwrap_or (cond b (Some w) (get same_text m c)) no_code) (not_true (same_text k c) (λ t. sym other ∙ same_text-sym k c t))
+        ap (λ b. unwrap_or (cond b (Some w) (get same_text m c)) no_code) (not-so (same_text k c) (λ t. sym other ∙ same_text-sym k c t))
         ∙ ap (λ b. cond b (code_noted e (code_in m c)) (code_in m c)) (sym h)
 
 -- an entry that leaves its product code's record leaves every record

@@ -1,3 +1,4 @@
+pub mod BoolLemmas
 pub mod CodesLemmas
 pub mod PacksLemmas
 pub mod BatchTableLemmas
@@ -7,3 +8,4 @@ pub mod BatchesLemmas
 pub mod BatchStepLemmas
 pub mod BatchRecordLemmas
 pub mod TablesLemmas
+pub mod EntryLemmas

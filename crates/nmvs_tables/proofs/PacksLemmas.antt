@@ -1,5 +1,5 @@
 -- The record of a pack after one more entry.
-use Rattle.std.proofs.Common.{◌≡◌, ℕ, ◌+◌, ◌==◌, Bool, true, false, not, ◌&&◌, cond, List, [], ◌∷◌, ◌++◌, length, Option, Some, None, refl, sym, ap, subst, ◌∙◌, arith, zero-add, add-zero, add-one, true≢false, suc, zero}
+use Rattle.std.proofs.Common.{◌≡◌, ℕ, ◌+◌, ◌==◌, Bool, true, false, ◌&&◌, cond, List, [], ◌∷◌, ◌++◌, length, Option, Some, None, refl, sym, ap, ◌∙◌, arith, add-zero, true≢false, suc, zero}
 use Rattle.std.proofs.lemmas.Bool.Decides.{nat_tests}
 use Rattle.std.specs.Cmp.{first_so, second_so}
 use Rattle.std.specs.List.{find, count_by}
@@ -15,15 +15,15 @@ use Rattle.nmvs_rules.proofs.FindLemmas.{find-passes}
 use Rattle.nmvs_rules.proofs.TextLemmas.{same_pack-sym, same_pack-same}
 use Rattle.nmvs_rules.proofs.PushLemmas.{known-push, about_of-push, count_by-cons}
 use Rattle.nmvs_tables.specs.declared.packs.PackRecord.{PackRecord}
-use Rattle.nmvs_tables.specs.Packs.{record_with, pack_record, about_in, known_in, pack_after}
+use Rattle.nmvs_tables.specs.Packs.{pack_record, about_in, known_in, pack_after}
+use Rattle.nmvs_tables.proofs.BoolLemmas.{not-so}
+
+abbrev record_with : ℕ → Option Known → PackRecord
+record_with n k = record { about = n; known = k }
 
 -- a table is asked by the texts of a pack alone
 pub get-same : {S : Type 0} (m : HashMap Pack PackRecord S) (p q : Pack) → same_pack p q ≡ true → get same_pack m p ≡ get same_pack m q
 get-same m p q same = ap (λ f. lookup f m.entries) (same_pack-same p q same)
-
-not_true : (b : Bool) → (b ≡ true → false ≡ true) → b ≡ false
-not_true true h = sym (h refl)
-not_true false h = refl
 
 -- a table that has the new record of the entry's pack, and all others as before, notes the entry
 pub get-noted : {S : Type 0} (m n : HashMap Pack PackRecord S) (pack : Pack) (w : PackRecord) (e : Entry) (place : ℕ) → pack_of e.question ≡ Some pack → ((q : Pack) → get same_pack n q ≡ cond (same_pack pack q) (Some w) (get same_pack m q)) → ((p : Pack) → is_about p e ≡ true → Some w ≡ pack_after p place e (get same_pack m pack)) → (p : Pack) → get same_pack n p ≡ pack_after p place e (get same_pack m p)
@@ -37,7 +37,7 @@ get-noted m n pack w e place named updates noted p = updates p ∙ by (is_about 
         ∙ ap (pack_after p place e) (sym (get-same m p pack here))
     by false h =
         let other : same_pack p pack ≡ false = sym (ap (names p) named) ∙ h in
-        ap (λ b. cond b (Some w) (get same_pack m p)) (not_true (same_pack pack p) (λ t. sym other ∙ same_pack-sym pack p t))
+        ap (λ b. cond b (Some w) (get same_pack m p)) (not-so (same_pack pack p) (λ t. sym other ∙ same_pack-sym pack p t))
         ∙ sym (ap (λ b. cond b (Some (record_with (about_in (get same_pack m p) + 1) (known_after p place e (known_in (get same_pack m p))))) (get same_pack m p)) h)
 
 -- where `find` gives an element that passes another test, that test counts some

@@ -17,7 +17,7 @@ use Rattle.nmvs_rules.specs.declared.facts.Known.{Known}
 use Rattle.nmvs_rules.specs.declared.facts.Counts.{Counts}
 use Rattle.nmvs_rules.specs.declared.facts.BatchRecord.{BatchRecord}
 use Rattle.nmvs_rules.specs.Questions.{code_of, pack_of}
-use Rattle.nmvs_rules.specs.Trail.{is_accepted, own_by, is_own, lock_by, batch_record}
+use Rattle.nmvs_rules.specs.Trail.{is_accepted, own_by, is_own, batch_record}
 use Rattle.nmvs_tables.specs.declared.batches.BatchKey.{BatchKey}
 use Rattle.nmvs_tables.specs.Codes.{one_if}
 
@@ -25,6 +25,7 @@ use Rattle.nmvs_tables.specs.Codes.{one_if}
 abbrev pub same_batch : BatchKey → BatchKey → Bool
 same_batch a b = same_text a.code b.code && same_text a.batch b.batch
 
+-- the batch that a question uploads a pack of
 abbrev pub uploaded_batch : Question → Option BatchKey
 uploaded_batch (Upload p b x) = Some (record { code = p.code; batch = b })
 uploaded_batch _ = None
@@ -37,9 +38,14 @@ batch_born e = if is_accepted e then uploaded_batch e.question else None
 abbrev pub with_batch : List BatchKey → BatchKey → List BatchKey
 with_batch bs b = if list_any (same_batch b) bs then bs else bs ++ b ∷ []
 
--- the batches of the accepted uploads, each once, in the order of the first ones
+-- the batches of the accepted uploads, each once, in the order of the first ones (own)
 abbrev pub batches_of : List Entry → List BatchKey
 batches_of t = fold with_batch [] (filter_map batch_born t)
+
+-- the table has the record of each batch, in the order of their first accepted uploads
+pub record AreBatchesOf {S : Type 0} (m : HashMap BatchKey BatchRecord S) (t : List Entry) : Type 0 where
+  pub records : (b : BatchKey) → get same_batch m b ≡ batch_record t b.code b.batch
+  pub order : keys m ≡ batches_of t
 
 -- how many packs have an own status, by the counts
 abbrev pub count_in : Counts → Own → ℕ
@@ -59,26 +65,29 @@ batch_meant (Recall c b) None = Some (record { code = c; batch = b })
 batch_meant (Withdraw c b) None = Some (record { code = c; batch = b })
 batch_meant _ None = None
 
+-- the batch that an entry changes: none where the question was not accepted
 abbrev pub batch_changed : Entry → Option Known → Option BatchKey
 batch_changed e k = if is_accepted e then batch_meant e.question k else None
 
--- the own status that the pack has before and after an accepted question, where it has one
+-- the own status that a pack has before an accepted question, where it is known
 abbrev pub own_before : Option Known → Option Own
 own_before k = option_map (λ x. x.own) k
 
+-- the own status that an accepted question gives the pack that it names, if it names one
 abbrev pub own_after : Question → Option Own
 own_after q = option_map (λ _. own_by q) (pack_of q)
 
--- the lock after an accepted question
+-- the lock of a batch after an accepted question that changes the batch (Article 40)
 abbrev pub lock_after : Question → BatchLock → BatchLock
 lock_after (Recall c b) l = lock.Recalled
 lock_after (Withdraw c b) l = lock.Withdrawn
 lock_after q l = l
 
--- a batch without packs
+-- the counts of a batch without packs
 abbrev pub no_counts : Counts
 no_counts = record { active = 0; held = 0; supplied = 0; exported = 0; sampled = 0; destroyed = 0; stolen = 0 }
 
+-- the record of a batch without packs
 abbrev pub no_packs : BatchRecord
 no_packs = record { lock = lock.Free; counts = no_counts }
 
@@ -86,7 +95,7 @@ no_packs = record { lock = lock.Free; counts = no_counts }
 abbrev pub Moves : Counts → Option Own → Option Own → Counts → Type 0
 Moves old from to new = (s : Own) → count_in new s + one_if (is_own s from) ≡ count_in old s + one_if (is_own s to)
 
--- the entry changes the batch
+-- whether an entry changes the batch
 abbrev pub changes_batch : BatchKey → Entry → Option Known → Bool
 changes_batch b e k = option_map_or (same_batch b) (batch_changed e k) false
 
@@ -103,11 +112,6 @@ batches_after bs (Some b) = with_batch bs b
 -- the record of a batch in a table, or that of a batch without packs
 abbrev pub batch_in : {S : Type 0} → HashMap BatchKey BatchRecord S → BatchKey → BatchRecord
 batch_in m b = unwrap_or (get same_batch m b) no_packs
-
--- the table has the record of each batch, in the order of their first accepted uploads
-pub record AreBatchesOf {S : Type 0} (m : HashMap BatchKey BatchRecord S) (t : List Entry) : Type 0 where
-  pub records : (b : BatchKey) → get same_batch m b ≡ batch_record t b.code b.batch
-  pub order : keys m ≡ batches_of t
 
 -- the batch of a known pack, or the one that a recall or withdrawal names, by a table
 abbrev pub batch_asked : {S : Type 0} → HashMap BatchKey BatchRecord S → ProductCode → Option Batch → Option Known → Option BatchRecord

@@ -1,5 +1,5 @@
 -- What is kept of a product code.
-use Rattle.std.specs.Prelude.{ℕ, ◌≡◌, ◌+◌, Bool, true, false, ◌&&◌, List, count_by, Option, Some, None, unwrap_or, if◌then◌else◌}
+use Rattle.std.specs.Prelude.{ℕ, ◌≡◌, ◌+◌, Bool, false, ◌&&◌, List, count_by, Option, Some, None, unwrap_or, if◌then◌else◌}
 use Rattle.std.specs.HashMap.{HashMap, get}
 use Rattle.std.specs.Option.{option_or}
 use Rattle.nmvs_identifier.specs.ProductCode.{ProductCode}
@@ -20,7 +20,7 @@ is_flagged_alert _ = false
 abbrev pub flagged_alerts_of : List Entry → ProductCode → ℕ
 flagged_alerts_of t c = count_by (λ e. has_code c e && is_flagged_alert e.reply) t
 
--- holder, alerts and flagged alerts of the product code
+-- the product code's holder, and how many alerts and flagged alerts it has had
 abbrev pub code_record : List Entry → ProductCode → CodeRecord
 code_record t c = record { holder = holder_of t c; alerts = alerts_of t c; flagged = flagged_alerts_of t c }
 
@@ -28,11 +28,19 @@ code_record t c = record { holder = holder_of t c; alerts = alerts_of t c; flagg
 abbrev pub no_code : CodeRecord
 no_code = record { holder = None; alerts = 0; flagged = 0 }
 
--- one more, where the test passes
+-- the record of a product code in a table
+abbrev pub code_in : {S : Type 0} → HashMap ProductCode CodeRecord S → ProductCode → CodeRecord
+code_in m c = unwrap_or (get same_text m c) no_code
+
+-- the table has the record of each product code
+abbrev pub AreCodesOf : {S : Type 0} → HashMap ProductCode CodeRecord S → List Entry → Type 0
+AreCodesOf m t = (c : ProductCode) → code_in m c ≡ code_record t c
+
+-- one where the test passes, else none
 abbrev pub one_if : Bool → ℕ
 one_if b = if b then 1 else 0
 
--- the authorisation that an accepted upload makes holder
+-- the authorisation that an accepted upload makes holder, where there is none yet (own)
 abbrev pub uploader : Entry → Option Name
 uploader e = if is_upload e.question && is_accepted e then Some e.actor.authorisation else None
 
@@ -47,11 +55,3 @@ code_noted e r = record {
 -- the record of any product code, after an entry
 abbrev pub code_after : ProductCode → Entry → CodeRecord → CodeRecord
 code_after c e r = if has_code c e then code_noted e r else r
-
--- the record in a table
-abbrev pub code_in : {S : Type 0} → HashMap ProductCode CodeRecord S → ProductCode → CodeRecord
-code_in m c = unwrap_or (get same_text m c) no_code
-
--- the table has the record of each product code
-abbrev pub AreCodesOf : {S : Type 0} → HashMap ProductCode CodeRecord S → List Entry → Type 0
-AreCodesOf m t = (c : ProductCode) → code_in m c ≡ code_record t c

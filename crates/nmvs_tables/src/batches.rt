@@ -9,7 +9,7 @@ ghost use Rattle.nmvs_tables.specs.Batches.{same_batch, batch_asked, batch_in, b
 
 use crate::accepted::{is_accepted, own_after};
 use crate::counts::moved;
-use crate::writes::put;
+use crate::writes::{find, put};
 use indexmap::IndexMap;
 use nmvs_identifier::{Batch, ProductCode};
 use nmvs_rules::{BatchLock, BatchRecord, Counts, Entry, Known, Own, Question};
@@ -153,6 +153,7 @@ pub(crate) fn note<A: Allocator>(batches: &mut Batches<A>, entry: &Entry, known:
     let Some(key) = batch_meant(&entry.question, &known) else {
         return;
     };
-    let old = record_of(batches, &key).unwrap_or(NO_PACKS);
-    put(batches, key, noted(&old, &entry.question, &known));
+    let (index, old) = find(batches, &key);
+    let old = old.unwrap_or(NO_PACKS);
+    put(batches, index, key, noted(&old, &entry.question, &known));
 }

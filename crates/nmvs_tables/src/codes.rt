@@ -4,7 +4,7 @@ ghost use Rattle.indexmap.specs.IndexMap.{spare};
 ghost use Rattle.nmvs_identifier.specs.ProductCode.{ProductCode};
 ghost use Rattle.nmvs_tables.specs.Codes.{code_in, code_noted, code_after, no_code};
 
-use crate::writes::put;
+use crate::writes::{find, put};
 use indexmap::IndexMap;
 use nmvs_identifier::{Name, ProductCode};
 use nmvs_rules::{Entry, Question, Reply};
@@ -23,18 +23,18 @@ pub(crate) struct CodeRecord {
 
 pub(crate) type Codes<A> = IndexMap<ProductCode, CodeRecord, BuildHasherDefault<FoldHasher>, A>;
 
+/// The record of a product code that no entry changed.
+const NO_CODE: CodeRecord = CodeRecord {
+    holder: None,
+    alerts: 0,
+    flagged: 0,
+};
+
 /// The record of a product code.
 pub(crate) fn record_of<A: Allocator>(codes: &Codes<A>, code: &ProductCode) -> CodeRecord
     ensures { result ≡ code_in codes.now code.now }
 {
-    match codes.get(code) {
-        Some(record) => *record,
-        None => CodeRecord {
-            holder: None,
-            alerts: 0,
-            flagged: 0,
-        },
-    }
+    codes.get(code).copied().unwrap_or(NO_CODE)
 }
 
 impl CodeRecord {
@@ -73,8 +73,9 @@ pub(crate) fn note<A: Allocator>(codes: &mut Codes<A>, entry: &Entry)
     ensures { (c : ProductCode) → code_in codes.new c ≡ code_after c entry.now (code_in codes.old c) }
 {
     let code = entry.question.code();
-    let Some(record) = record_of(codes, &code).noted(entry) else {
-        return;
-    };
-    put(codes, code, record);
+    let (index, old) = find(codes, &code);
+    let old = old.unwrap_or(NO_CODE);
+    if let Some(record) = old.noted(entry) {
+        put(codes, index, code, record);
+    }
 }

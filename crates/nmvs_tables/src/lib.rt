@@ -1,4 +1,7 @@
 //! The current records of packs, batches and product codes, kept in step with an audit trail.
+//!
+//! The rules of the repository look back over the whole trail. [`Tables`] keeps what they would find there, so that
+//! no answer has to: three maps in the order of insertion, each entry noted once.
 #![tactic(auto)]
 
 mod accepted;
@@ -7,6 +10,8 @@ mod codes;
 mod counts;
 mod packs;
 mod tables;
+#[cfg(test)]
+mod tests;
 mod writes;
 
 pub use packs::PackRecord;

@@ -9,14 +9,14 @@ ghost use Rattle.nmvs_rules.specs.Trail as trails;
 ghost use Rattle.nmvs_tables.specs.Packs.{about_in, known_in, about_by, known_by, pack_after};
 
 use crate::accepted::{is_accepted, own_after};
-use crate::writes::put;
+use crate::writes::{find, put};
 use indexmap::IndexMap;
 use nmvs_identifier::Pack;
 use nmvs_rules::{Entry, Known, Mark, Own, Question};
 use std::alloc::Allocator;
 use std::hash::{BuildHasherDefault, FoldHasher};
 
-/// What is kept of a pack that some entry is about (Article 35).
+/// What is kept of a pack that some entry is about (Article 35): some 150 bytes, beside the 56 of the pack itself.
 #[derive(Clone, Copy, Debug, PartialEq, Eq)]
 pub struct PackRecord {
     /// How many entries are about the pack.
@@ -111,8 +111,8 @@ pub(crate) fn note<A: Allocator>(packs: &mut Packs<A>, place: u64, entry: &Entry
     ensures before { result ≡ known_by packs.old (pack_of entry.now.question) }
 {
     let pack = entry.question.pack()?;
-    let record = record_of(packs, &pack);
-    let known = known_of(&record);
-    put(packs, pack, noted(place, entry, record));
+    let (index, old) = find(packs, &pack);
+    let known = known_of(&old);
+    put(packs, index, pack, noted(place, entry, old));
     known
 }

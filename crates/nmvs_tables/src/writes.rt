@@ -1,20 +1,41 @@
-//! Writes to a table for which room was made.
-ghost use Rattle.std.specs.Prelude.{◌≡◌, ◌<◌, ◌≤◌, ◌+◌, Some};
-ghost use Rattle.indexmap.specs.IndexMap.{spare, insert_entry, Updates};
+//! A key's value found, and written where it was found.
+ghost use Rattle.std.specs.Prelude.{◌≡◌, ℕ, ◌<◌, Some, cond};
+ghost use Rattle.indexmap.specs.IndexMap.{get, index_of, insert_entry, spare};
 
 use indexmap::IndexMap;
 use std::alloc::Allocator;
 use std::hash::{BuildHasher, Hash};
 
-/// Gives a key its value. A new key goes last.
+/// The index and the value of a key.
+pub(crate) fn find<K: Eq + Hash, V: Copy, S: BuildHasher, A: Allocator>(
+    table: &IndexMap<K, V, S, A>,
+    key: &K,
+) -> (Option<usize>, Option<V>)
+    ensures index { result.0 ≡ index_of K.eq table.now key.now }
+    ensures value { result.1 ≡ get K.eq table.now key.now }
+{
+    match table.get_full(key) {
+        Some((index, _, value)) => (Some(index), Some(*value)),
+        None => (None, None),
+    }
+}
+
+/// Gives a key its value, at the index where it was found. A new key, for which room was made, goes last.
 pub(crate) fn put<K: Eq + Hash + Copy, V: Copy, S: BuildHasher, A: Allocator>(
     table: &mut IndexMap<K, V, S, A>,
+    index: Option<usize>,
     key: K,
     value: V,
 )
-    requires { 0 < spare table.old }
-    ensures updates { Updates K.eq table.old table.new key (Some value) }
+    requires room { 0 < spare table.old }
+    requires found { index ≡ index_of K.eq table.old key }
+    ensures updates { (q : K) → get K.eq table.new q ≡ cond (K.eq key q) (Some value) (get K.eq table.old q) }
     ensures entries { table.new.entries ≡ insert_entry K.eq table.old.entries key value }
 {
-    table.insert(key, value).unwrap();
+    match index {
+        Some(index) => table[index] = value,
+        None => {
+            table.insert(key, value).unwrap();
+        }
+    }
 }
