@@ -13,7 +13,7 @@ use std::alloc::Global;
 use std::marker::Model;
 
 /// How far one session may go (own).
-pub const LIMITS: Limits = Limits {
+const LIMITS: Limits = Limits {
     lines: 10_000,
     reads: 4_000_000,
 };
@@ -29,9 +29,9 @@ pub fn rehearse<R: Source, W: Sink>(
     moments: &[Moment],
 ) -> End
     requires moments { 0 < length moments.now }
-    requires source_works { (R.told source.old).failed ≡ false }
+    requires source_sound { (R.told source.old).failed ≡ false }
     requires source_open { (R.told source.old).ended ≡ false }
-    requires sink_works { (W.taken sink.old).failed ≡ false }
+    requires sink_sound { (W.taken sink.old).failed ≡ false }
     ensures { (last : Rehearsal) × Session Judges (record { lines = 10_000; reads = 4_000_000 })
         (record { trail = []; moments = moments.now }) (R.told source.old) (W.taken sink.old)
         last (R.told source.new) (W.taken sink.new) result }
