@@ -1,6 +1,8 @@
 //! The program of the repository: a session over standard input and output.
 #![tactic(auto)]
 
+ghost use Rattle.std.specs.Prelude.{◌≡◌, ◌⊎◌, ◌↔◌, IsNone};
+
 mod rehearsal;
 mod roster;
 #[cfg(test)]
@@ -10,7 +12,6 @@ use nmvs_identifier::Moment;
 use nmvs_protocol::End;
 use nmvs_stream::Device;
 use rehearsal::rehearse;
-use std::io;
 use std::process::ExitCode;
 
 /// 1 January 2026, 00:00:00 UTC, in seconds: the one moment of the rehearsal (own).
@@ -33,7 +34,9 @@ fn main(rt: HostRuntime) -> ExitCode {
 }
 
 /// What is told of a session that neither QUIT nor the end of the input ended.
-fn fault_of(end: End) -> Option<&'static str> {
+fn fault_of(end: End) -> Option<&'static str>
+    ensures { IsNone result ↔ ((end ≡ End.Quit) ⊎ (end ≡ End.Ended)) }
+{
     match end {
         End::Quit | End::Ended => None,
         End::ReadFault => Some("session read fault"),
