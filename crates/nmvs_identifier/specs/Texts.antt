@@ -1,7 +1,10 @@
--- Texts of at most so many bytes, of which the unused bytes mean nothing.
-use Rattle.std.specs.Prelude.{Bool}
+-- Texts.
+use Rattle.std.specs.Prelude.{Bool, ℕ, List}
 use Rattle.std.specs.Str.{bytes_eq}
-pub use Rattle.arrayvec.specs.ArrayString.{ArrayString as Text}
+
+-- what a clause sees of a text
+pub record Text : Type 0 where
+  pub bytes : List ℕ
 
 -- whether two texts are the same
 abbrev pub same_text : Text → Text → Bool

@@ -5,7 +5,7 @@ ghost use Rattle.nmvs_identifier.specs.Characters.{is_in_set_82};
 ghost use Rattle.nmvs_identifier.specs.Batch.{is_batch};
 
 use crate::characters::are_in_set_82;
-use arrayvec::ArrayString;
+use crate::short_text::ShortText;
 use std::marker::Model;
 use thiserror::Error;
 
@@ -25,12 +25,12 @@ pub enum BatchFault {
 /// Order, equality and hash are those of its text.
 #[derive(Clone, Copy, Debug, PartialEq, Eq, PartialOrd, Ord, Hash)]
 pub struct Batch {
-    text: ArrayString<20>,
+    text: ShortText<20>,
 }
 
 impl Model for Batch {
     ghost use Rattle.std.specs.Prelude.{IsTrue};
-    ghost use Rattle.arrayvec.specs.ArrayString.{ArrayString as Text};
+    ghost use Rattle.nmvs_identifier.specs.Texts.{Text};
     ghost use Rattle.nmvs_identifier.specs.Batch.{is_batch};
 
     ghost Value = { Text };
@@ -63,7 +63,7 @@ impl Batch {
             return Err(BatchFault::Character);
         }
         Ok(Batch {
-            text: ArrayString::from(text).unwrap(),
+            text: ShortText::from(text),
         })
     }
 

@@ -16,7 +16,7 @@ use Rattle.nmvs_rules.specs.declared.entry.Entry.{Entry}
 use Rattle.nmvs_rules.specs.Laws.{part_of, owned, uploads, decommissions, supplies, reverts, confirms, binds, alert_numbers}
 
 abbrev text : List ℕ → Text
-text s = record { bytes = s; spare = [] }
+text s = record { bytes = s }
 
 abbrev pack : List ℕ → Pack
 pack code = record { code = text code; serial = text (codes "SN1") }

@@ -27,7 +27,7 @@ use Rattle.nmvs_rules.specs.Rules.{reply_of, answered, IsLawful}
 use Rattle.nmvs_rules.specs.Facts.{facts_of}
 
 abbrev text : List ℕ → Text
-text s = record { bytes = s; spare = [] }
+text s = record { bytes = s }
 
 -- the GS1 example of a GTIN-14, a serial number, a batch, and the last day of February 2028
 abbrev code : Text
