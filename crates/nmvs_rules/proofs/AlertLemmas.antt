@@ -15,7 +15,7 @@ use Rattle.nmvs_rules.specs.Questions.{Put, may_ask, code_of}
 use Rattle.nmvs_rules.specs.Trail.{known, has_code, is_alert, alerts_of}
 use Rattle.nmvs_rules.specs.Rules.{on_pack, reply_to, reply_of, put_of, IsLawful}
 use Rattle.nmvs_rules.specs.Laws.{part_of, alert_number, alert_numbers}
-use Rattle.nmvs_rules.proofs.TextLemmas.{alerts_of-same}
+use Rattle.nmvs_rules.proofs.TextLemmas.{same_text-equal}
 use Rattle.nmvs_rules.proofs.PushLemmas.{alerts_of-push}
 use Rattle.nmvs_rules.proofs.LawfulLemmas.{IsLawful-keeps}
 
@@ -71,7 +71,7 @@ alerts-numbered t c lawful = IsLawful-keeps P step refl t lawful
         ap (filter_map (λ x. alert_number x.reply)) (filter-append (has_code c) u (e ∷ []))
         ∙ filter_map-append (λ x. alert_number x.reply) (part_of u c) (part_of (e ∷ []) c)
         ∙ ap (λ ns. alert_numbers u c ++ ns) (one (has_code c e))
-        ∙ numbers-more (alert_numbers u c) (has_code c e) e.reply (alerts_of u c) h (λ code m a. alert-numbered u (put_of e) m (sym (ap alert_number is) ∙ a) ∙ ap (λ n. n + 1) (sym (alerts_of-same u c (code_of e.question) code)))
+        ∙ numbers-more (alert_numbers u c) (has_code c e) e.reply (alerts_of u c) h (λ code m a. alert-numbered u (put_of e) m (sym (ap alert_number is) ∙ a) ∙ ap (λ n. n + 1) (sym (ap (alerts_of u) (same_text-equal c (code_of e.question) code))))
         ∙ ap (range_with_len 1) (sym (alerts_of-push u e c))
       where
         one : (b : Bool) → filter_map (λ x. alert_number x.reply) (cond b (e ∷ []) []) ≡ cond b (cons_option (alert_number e.reply) []) []

@@ -26,7 +26,7 @@ use Rattle.nmvs_rules.specs.Trail.{born, mark, known, known_from, known_at, is_m
 use Rattle.nmvs_rules.specs.Rules.{on_pack, lock_on, revert_reply, verify_reply, status_reply, decommission_reply, theft_reply, lock_reply, upload_reply, alert_unknown, has_other_holder, reply_to, reply_of}
 use Rattle.nmvs_rules.specs.Laws.{part_of}
 use Rattle.nmvs_rules.proofs.PushLemmas.{count_by-cons}
-use Rattle.nmvs_rules.proofs.TextLemmas.{has_code-same}
+use Rattle.nmvs_rules.proofs.TextLemmas.{same_text-equal}
 
 module _ {X : Type 0} (p c : X → Bool) (within : (x : X) → p x ≡ true → c x ≡ true) where
   find-filter : (xs : List X) → find p (filter c xs) ≡ find p xs
@@ -146,7 +146,7 @@ stands-code : (t : List Entry) (c : ProductCode) (b : Batch) (s : Own) (q : Ques
 stands-code t c b s (Upload p d x) a = by (same_text c p.code) refl
   where
     by : (v : Bool) → same_text c p.code ≡ v → ((same_text c p.code && same_text b d) && a && stands_at (part_of t c) s (Some p)) ≡ ((same_text c p.code && same_text b d) && a && stands_at t s (Some p))
-    by true h = ap (λ o. (same_text c p.code && same_text b d) && a && is_own s (option_map (λ m. own_by m.question) o)) (ap (λ f. mark (filter f t) p) (has_code-same c p.code h) ∙ mark-code t p)
+    by true h = ap (λ o. (same_text c p.code && same_text b d) && a && is_own s (option_map (λ m. own_by m.question) o)) (ap (λ f. mark (filter f t) p) (ap has_code (same_text-equal c p.code h)) ∙ mark-code t p)
     by false h = rw h refl
 stands-code t c b s q a = refl
 

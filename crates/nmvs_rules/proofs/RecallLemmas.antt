@@ -17,7 +17,7 @@ use Rattle.nmvs_rules.specs.Trail.{born, known, is_accepted, is_upload, locks_ba
 use Rattle.nmvs_rules.specs.Rules.{is_free, lock_on, IsLawful}
 use Rattle.nmvs_rules.specs.Laws.{uploads, decommissions, reverts, confirms, IsOfBatch}
 use Rattle.nmvs_rules.proofs.FindLemmas.{find-passes}
-use Rattle.nmvs_rules.proofs.TextLemmas.{same_text-sym, same_text-trans, same_pack-code, lock_of-same}
+use Rattle.nmvs_rules.proofs.TextLemmas.{same_text-equal, same_pack-equal}
 use Rattle.nmvs_rules.proofs.PushLemmas.{lock_of-push, locks_batch-binds}
 use Rattle.nmvs_rules.proofs.MarkLemmas.{known-by}
 use Rattle.nmvs_rules.proofs.CourseLemmas.{Behind, behind, behind-keeps, never}
@@ -54,8 +54,9 @@ of-batch t v p c b k is h =
     let same : (same_text c by.pack.code && same_text b k.batch) ≡ true = sym (ap (uploads_batch c b) by.question) ∙ here in
     let passes : uploads p by.upload ≡ true = find-passes (uploads p) t by.upload by.born in
     let about : same_pack p by.pack ≡ true = sym (ap (λ q. names p (pack_of q)) by.question) ∙ second_so (is_upload by.upload.question) _ (first_so _ _ passes) in
-    let code : same_text c p.code ≡ true = same_text-trans c by.pack.code p.code (first_so _ _ same) (same_text-sym p.code by.pack.code (same_pack-code p by.pack about)) in
-    lock_of-same t c p.code b k.batch code (second_so (same_text c by.pack.code) _ same)
+    let code : c ≡ p.code = same_text-equal c by.pack.code (first_so _ _ same) ∙ ap (λ r. r.code) (sym (same_pack-equal p by.pack about)) in
+    let batch : b ≡ k.batch = same_text-equal b k.batch (second_so (same_text c by.pack.code) _ same) in
+    λ i. lock_of t (code i) (batch i)
 
 -- behind an accepted recall or withdrawal no pack of the batch is decommissioned, reverted or confirmed
 pub recall-binds : (before between after : List Entry) (recall later : Entry) (c : ProductCode) (b : Batch) (p : Pack) → IsLawful (before ++ recall ∷ between ++ later ∷ after) → (locks_batch c b recall.question && is_accepted recall) ≡ true → IsOfBatch (before ++ recall ∷ between ++ later ∷ after) p c b → (decommissions p later ≡ false) × (reverts p later ≡ false) × (confirms p later ≡ false)

@@ -19,7 +19,7 @@ use Rattle.nmvs_rules.specs.Questions.{Put, may_ask, pack_of, names}
 use Rattle.nmvs_rules.specs.Trail.{known, accepts, is_mark, is_upload, holder_of}
 use Rattle.nmvs_rules.specs.Rules.{on_pack, lock_on, is_active, is_free, is_stolen, is_destroyed, is_supplied, is_authentic, is_past, is_same_place, is_in_time, is_held_by, has_other_holder, reply_to, reply_of, put_of}
 use Rattle.nmvs_rules.specs.Laws.{is_decommissioning, is_reversion, is_confirmed, uploads, decommissions, reverts, confirms}
-use Rattle.nmvs_rules.proofs.TextLemmas.{same_pack-code, same_text-refl, known-same, lock_of-same}
+use Rattle.nmvs_rules.proofs.TextLemmas.{same_pack-equal}
 
 -- a question that reports a theft
 abbrev pub is_theft : Question → Bool
@@ -46,12 +46,6 @@ on_pack-known t p x z f other e = by (known t p) refl e
     by None is h = absurd (other h)
     by (Some k) is h = (k, is, h)
 
-KnownAnd-same : (t : List Entry) (p q : Pack) (P : Known → Type 0) → same_pack p q ≡ true → KnownAnd t q P → KnownAnd t p P
-KnownAnd-same t p q P same h = (h.0, known-same t p q same ∙ h.1, h.2)
-
-lock_on-same : (t : List Entry) (p q : Pack) (k : Known) → same_pack p q ≡ true → lock_on t p k ≡ lock_on t q k
-lock_on-same t p q k same = lock_of-same t p.code q.code k.batch k.batch (same_pack-code p q same) (same_text-refl k.batch)
-
 -- the rules' reply to a question
 abbrev pub IsReply : List Entry → ℕ → Actor → Question → Reply → Type 0
 IsReply t n a q r = r ≡ cond (may_ask a.role q) (reply_to t n a q) (reply.Refused refusal.Role)
@@ -60,9 +54,6 @@ IsReply t n a q r = r ≡ cond (may_ask a.role q) (reply_to t n a q) (reply.Refu
 pub record IsAuthentic (t : List Entry) (p : Pack) (k : Known) : Type 0 where
   pub active : is_active k.own ≡ true
   pub free : is_free (lock_on t p k) ≡ true
-
-IsAuthentic-same : (t : List Entry) (p q : Pack) (k : Known) → same_pack p q ≡ true → IsAuthentic t q k → IsAuthentic t p k
-IsAuthentic-same t p q k same h = record { active = h.active; free = ap is_free (lock_on-same t p q k same) ∙ h.free }
 
 -- what a reversion that is accepted tells
 pub record IsReversible (t : List Entry) (n : ℕ) (a : Actor) (p : Pack) (k : Known) : Type 0 where
@@ -74,18 +65,6 @@ pub record IsReversible (t : List Entry) (n : ℕ) (a : Actor) (p : Pack) (k : K
   pub same_place : is_same_place a k.mark ≡ true
   pub in_time : is_in_time n k.mark ≡ true
   pub not_expired : is_past k.expiry n ≡ false
-
-IsReversible-same : (t : List Entry) (n : ℕ) (a : Actor) (p q : Pack) (k : Known) → same_pack p q ≡ true → IsReversible t n a q k → IsReversible t n a p k
-IsReversible-same t n a p q k same h = record {
-  free = ap is_free (lock_on-same t p q k same) ∙ h.free;
-  not_active = h.not_active;
-  not_stolen = h.not_stolen;
-  not_destroyed = h.not_destroyed;
-  not_supplied = h.not_supplied;
-  same_place = h.same_place;
-  in_time = h.in_time;
-  not_expired = h.not_expired;
-}
 
 not-false : (b : Bool) → not b ≡ false → b ≡ true
 not-false true h = refl
@@ -155,9 +134,9 @@ confirms-tells t e p lawful h = by e.question e.reply lawful h
   where
     by : (q : Question) (r : Reply) → IsReply t e.moment e.actor q r → (names p (pack_of q) && is_confirmed q r) ≡ true → KnownAnd t p (IsAuthentic t p)
     by (Verify s) (reply.Authentic b x late) is c =
-        let same = first_so (same_pack p s) _ c in
-        KnownAnd-same t p s _ same
-        (KnownAnd-map t s _ _ (λ k tells. IsAuthentic-same t p s k same tells.0) (verify-tells t e.moment e.actor s b x late is))
+        let same : s ≡ p = sym (same_pack-equal p s (first_so _ _ c)) in
+        subst (λ r. KnownAnd t r (IsAuthentic t r)) same
+        (KnownAnd-map t s _ _ (λ k tells. tells.0) (verify-tells t e.moment e.actor s b x late is))
     by q r is c = let none : false ≡ true = second_so (names p (pack_of q)) (is_confirmed q r) c in cc
 
 -- a pack is decommissioned only where it is authentic
@@ -166,9 +145,8 @@ decommissions-tells t e p lawful h = by e.question e.reply lawful h
   where
     by : (q : Question) (r : Reply) → IsReply t e.moment e.actor q r → ((names p (pack_of q) && accepts q r) && is_decommissioning q) ≡ true → KnownAnd t p (IsAuthentic t p)
     by (Decommission s w) reply.Decommissioned is c =
-        let same = first_so (same_pack p s) _ (first_so _ _ c) in
-        KnownAnd-same t p s _ same
-        (KnownAnd-map t s _ _ (λ k tells. IsAuthentic-same t p s k same tells) (decommission-tells t e.moment e.actor s w is))
+        let same : s ≡ p = sym (same_pack-equal p s (first_so _ _ (first_so _ _ c))) in
+        subst (λ r. KnownAnd t r (IsAuthentic t r)) same (decommission-tells t e.moment e.actor s w is)
     by (Decommission s w) r is c = let none : false ≡ true = second_so (same_pack p s) false (first_so (same_pack p s && false) true c) in cc
     by q r is c = let none : false ≡ true = second_so (names p (pack_of q) && accepts q r) (is_decommissioning q) c in cc
 
@@ -178,9 +156,8 @@ reverts-tells t e p lawful h = by e.question e.reply lawful h
   where
     by : (q : Question) (r : Reply) → IsReply t e.moment e.actor q r → ((names p (pack_of q) && accepts q r) && is_reversion q) ≡ true → KnownAnd t p (IsReversible t e.moment e.actor p)
     by (Revert s) reply.Reverted is c =
-        let same = first_so (same_pack p s) _ (first_so _ _ c) in
-        KnownAnd-same t p s _ same
-        (KnownAnd-map t s _ _ (λ k tells. IsReversible-same t e.moment e.actor p s k same tells) (revert-tells t e.moment e.actor s is))
+        let same : s ≡ p = sym (same_pack-equal p s (first_so _ _ (first_so _ _ c))) in
+        subst (λ r. KnownAnd t r (IsReversible t e.moment e.actor r)) same (revert-tells t e.moment e.actor s is)
     by (Revert s) r is c = let none : false ≡ true = second_so (same_pack p s) false (first_so (same_pack p s && false) true c) in cc
     by q r is c = let none : false ≡ true = second_so (names p (pack_of q) && accepts q r) (is_reversion q) c in cc
 
@@ -190,7 +167,7 @@ uploads-tells t e p lawful h = by e.question e.reply lawful h
   where
     by : (q : Question) (r : Reply) → IsReply t e.moment e.actor q r → ((is_upload q && names p (pack_of q)) && accepts q r) ≡ true → is_some (known t p) ≡ false
     by (Upload s b x) reply.Uploaded is c =
-        ap is_some (known-same t p s (first_so _ _ c)) ∙ upload-tells t e.moment e.actor s b x is
+        ap (λ r. is_some (known t r)) (same_pack-equal p s (first_so _ _ c)) ∙ upload-tells t e.moment e.actor s b x is
     by (Upload s b x) r is c = let none : false ≡ true = second_so (same_pack p s) false c in cc
     by q r is c = let none : false ≡ true = first_so (is_upload q) (names p (pack_of q)) (first_so (is_upload q && names p (pack_of q)) (accepts q r) c) in cc
 
@@ -207,7 +184,8 @@ thefts-tells t e p lawful h = by e.question e.reply lawful h
   where
     by : (q : Question) (r : Reply) → IsReply t e.moment e.actor q r → ((names p (pack_of q) && accepts q r) && is_theft q) ≡ true → KnownAnd t p (λ k. is_stolen k.own ≡ false)
     by (Theft s) reply.MarkedStolen is c =
-        KnownAnd-same t p s _ (first_so (same_pack p s) _ (first_so _ _ c)) (theft-tells t e.moment e.actor s is)
+        let same : s ≡ p = sym (same_pack-equal p s (first_so _ _ (first_so _ _ c))) in
+        subst (λ r. KnownAnd t r (λ k. is_stolen k.own ≡ false)) same (theft-tells t e.moment e.actor s is)
     by (Theft s) r is c = let none : false ≡ true = second_so (same_pack p s) false (first_so (same_pack p s && false) true c) in cc
     by q r is c = let none : false ≡ true = second_so (names p (pack_of q) && accepts q r) (is_theft q) c in cc
 

@@ -1,22 +1,17 @@
 -- The record of a product code after one more entry.
 use Rattle.std.proofs.Common.{◌≡◌, ◌+◌, Bool, true, false, ◌&&◌, cond, List, [], ◌∷◌, ◌++◌, Option, Some, None, unwrap_or, refl, sym, ap, ◌∙◌, add-zero}
 use Rattle.std.specs.HashMap.{HashMap, get}
-use Rattle.std.specs.Map.{lookup}
 use Rattle.std.specs.Option.{option_or}
 use Rattle.nmvs_identifier.specs.ProductCode.{ProductCode}
 use Rattle.nmvs_identifier.specs.Texts.{same_text}
 use Rattle.nmvs_rules.specs.declared.entry.Entry.{Entry}
 use Rattle.nmvs_rules.specs.Questions.{code_of}
 use Rattle.nmvs_rules.specs.Trail.{has_code, is_alert, is_upload, is_accepted}
-use Rattle.nmvs_rules.proofs.TextLemmas.{same_text-sym, same_text-same}
+use Rattle.nmvs_rules.proofs.TextLemmas.{same_text-sym, same_text-equal}
 use Rattle.nmvs_rules.proofs.PushLemmas.{holder_of-push, alerts_of-push, count_by-push}
 use Rattle.nmvs_tables.specs.declared.codes.CodeRecord.{CodeRecord}
 use Rattle.nmvs_tables.specs.Codes.{code_in, code_noted, code_after, code_record, no_code, is_flagged_alert, one_if}
 use Rattle.nmvs_tables.proofs.BoolLemmas.{not-so}
-
--- a table is asked by the text of a product code alone
-pub code_in-same : {S : Type 0} (m : HashMap ProductCode CodeRecord S) (c d : ProductCode) → same_text c d ≡ true → code_in m c ≡ code_in m d
-code_in-same m c d same = λ i. unwrap_or (lookup (same_text-same c d same i) m.entries) no_code
 
 -- a table that has the new record of the entry's product code, and all others as before, notes the entry
 pub code_in-noted : {S : Type 0} (m n : HashMap ProductCode CodeRecord S) (k : ProductCode) (w : CodeRecord) (e : Entry) → k ≡ code_of e.question → ((c : ProductCode) → get same_text n c ≡ cond (same_text k c) (Some w) (get same_text m c)) → w ≡ code_noted e (code_in m k) → (c : ProductCode) → code_in n c ≡ code_after c e (code_in m c)
@@ -27,7 +22,7 @@ code_in-noted m n k w e named updates noted c = ap (λ o. unwrap_or o no_code) (
         let here : same_text c k ≡ true = ap (same_text c) named ∙ h in
         ap (λ b. unwrap_or (cond b (Some w) (get same_text m c)) no_code) (same_text-sym c k here)
         ∙ noted
-        ∙ ap (code_noted e) (sym (code_in-same m c k here))
+        ∙ ap (λ d. code_noted e (code_in m d)) (sym (same_text-equal c k here))
         ∙ ap (λ b. cond b (code_noted e (code_in m c)) (code_in m c)) (sym h)
     by false h =
         let other : same_text c k ≡ false = ap (same_text c) named ∙ h in
@@ -40,7 +35,7 @@ code_in-kept m k e named kept c = by (has_code c e) refl
   where
     by : (b : Bool) → has_code c e ≡ b → code_in m c ≡ code_after c e (code_in m c)
     by true h =
-        let same : code_in m c ≡ code_in m k = code_in-same m c k (ap (same_text c) named ∙ h) in
+        let same : code_in m c ≡ code_in m k = ap (code_in m) (same_text-equal c k (ap (same_text c) named ∙ h)) in
         same ∙ kept ∙ ap (code_noted e) (sym same) ∙ ap (λ b. cond b (code_noted e (code_in m c)) (code_in m c)) (sym h)
     by false h = ap (λ b. cond b (code_noted e (code_in m c)) (code_in m c)) (sym h)
 

@@ -4,7 +4,6 @@ use Rattle.std.proofs.lemmas.Bool.Decides.{nat_tests}
 use Rattle.std.specs.Cmp.{first_so, second_so}
 use Rattle.std.specs.List.{find, count_by}
 use Rattle.std.specs.HashMap.{HashMap, get}
-use Rattle.std.specs.Map.{lookup}
 use Rattle.nmvs_identifier.specs.declared.pack.Pack.{Pack}
 use Rattle.nmvs_identifier.specs.Pack.{same_pack}
 use Rattle.nmvs_rules.specs.declared.entry.Entry.{Entry}
@@ -12,7 +11,7 @@ use Rattle.nmvs_rules.specs.declared.facts.Known.{Known}
 use Rattle.nmvs_rules.specs.Questions.{pack_of, names}
 use Rattle.nmvs_rules.specs.Trail.{born, known, known_from, is_upload, is_about, is_accepted, about_of, known_after, marked_by}
 use Rattle.nmvs_rules.proofs.FindLemmas.{find-passes}
-use Rattle.nmvs_rules.proofs.TextLemmas.{same_pack-sym, same_pack-same}
+use Rattle.nmvs_rules.proofs.TextLemmas.{same_pack-sym, same_pack-equal}
 use Rattle.nmvs_rules.proofs.PushLemmas.{known-push, about_of-push, count_by-cons}
 use Rattle.nmvs_tables.specs.declared.packs.PackRecord.{PackRecord}
 use Rattle.nmvs_tables.specs.Packs.{pack_record, about_in, known_in, pack_after}
@@ -20,10 +19,6 @@ use Rattle.nmvs_tables.proofs.BoolLemmas.{not-so}
 
 abbrev record_with : ℕ → Option Known → PackRecord
 record_with n k = record { about = n; known = k }
-
--- a table is asked by the texts of a pack alone
-pub get-same : {S : Type 0} (m : HashMap Pack PackRecord S) (p q : Pack) → same_pack p q ≡ true → get same_pack m p ≡ get same_pack m q
-get-same m p q same = ap (λ f. lookup f m.entries) (same_pack-same p q same)
 
 -- a table that has the new record of the entry's pack, and all others as before, notes the entry
 pub get-noted : {S : Type 0} (m n : HashMap Pack PackRecord S) (pack : Pack) (w : PackRecord) (e : Entry) (place : ℕ) → pack_of e.question ≡ Some pack → ((q : Pack) → get same_pack n q ≡ cond (same_pack pack q) (Some w) (get same_pack m q)) → ((p : Pack) → is_about p e ≡ true → Some w ≡ pack_after p place e (get same_pack m pack)) → (p : Pack) → get same_pack n p ≡ pack_after p place e (get same_pack m p)
@@ -34,7 +29,7 @@ get-noted m n pack w e place named updates noted p = updates p ∙ by (is_about 
         let here : same_pack p pack ≡ true = sym (ap (names p) named) ∙ h in
         ap (λ b. cond b (Some w) (get same_pack m p)) (same_pack-sym p pack here)
         ∙ noted p h
-        ∙ ap (pack_after p place e) (sym (get-same m p pack here))
+        ∙ ap (λ q. pack_after p place e (get same_pack m q)) (sym (same_pack-equal p pack here))
     by false h =
         let other : same_pack p pack ≡ false = sym (ap (names p) named) ∙ h in
         ap (λ b. cond b (Some w) (get same_pack m p)) (not-so (same_pack pack p) (λ t. sym other ∙ same_pack-sym pack p t))

@@ -15,7 +15,7 @@ use nmvs_rules::{Entry, Known, Mark, Own, Question};
 use std::alloc::Allocator;
 use std::hash::{BuildHasherDefault, FoldHasher};
 
-/// What is kept of a pack that some entry is about (Article 35): some 150 bytes, beside the 56 of the pack itself.
+/// What is kept of a pack that some entry is about (Article 35): some 100 bytes, beside the 38 of the pack itself.
 #[derive(Clone, Copy, Debug, PartialEq, Eq)]
 pub struct PackRecord {
     /// How many entries are about the pack.
