@@ -58,12 +58,14 @@ impl<const CAP: usize> ShortText<CAP> {
         }
     }
 
+    /// The bytes of the text.
     pub fn as_bytes(&self) -> &[u8]
         ensures { result.now ≡ self.now.bytes }
     {
         &self.cells[..self.len as usize]
     }
 
+    /// The text.
     pub fn as_str(&self) -> &str
         ensures { result.now ≡ self.now.bytes }
     {
@@ -77,6 +79,7 @@ impl<const CAP: usize> PartialEq for ShortText<CAP> {
     ghost laws = { on_per (λ s. s.bytes) (partial_equiv_from_equiv nat_list_eq_equiv) };
 
     fn eq(&self, other: &Self) -> bool {
+        // All cells, since zeros lie behind both texts: a fixed number is compared faster.
         self.len == other.len && self.cells == other.cells
     }
 }
@@ -114,6 +117,7 @@ impl<const CAP: usize> Hash for ShortText<CAP> {
 
     ghost respects_eq = { Prim.search (hashing, rules) };
 
+    // As a `str` is hashed.
     fn hash<H: Hasher>(&self, state: &mut H) {
         state.write(self.as_bytes());
         state.write_u8(0xff);
