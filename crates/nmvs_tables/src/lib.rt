@@ -8,6 +8,7 @@ mod accepted;
 mod batches;
 mod codes;
 mod counts;
+mod listing;
 mod packs;
 mod tables;
 #[cfg(test)]
