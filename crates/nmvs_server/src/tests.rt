@@ -1,5 +1,5 @@
 //! The worked examples of the rules, as lines and their replies.
-use crate::rehearsal::rehearse;
+use crate::rehearse;
 use nmvs_identifier::Moment;
 use nmvs_protocol::End;
 use nmvs_stream::Device;
