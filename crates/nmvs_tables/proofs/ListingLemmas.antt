@@ -30,7 +30,6 @@ of_code-push c bs b =
     by true = refl
     by false = refl
 
-
 zero_not : (n : ℕ) → (0 == suc n) ≡ false
 zero_not n = grind (arith, nat_tests)
 
