@@ -37,6 +37,7 @@ breaks_off start now new said a d p = record {
   unwritten = p.unwritten;
   cut = p.cut;
   bytes = p.bytes ∙ ap (λ (t : List ℕ). t ++ p.written) d.bytes;
+  flushed = λ none some. p.flushed none ∙ d.flushed some;
 }
 
 kept_on : (end : End) (limit count count' : ℕ) (answered left : List (List ℕ)) (said : List Answer) (start now : Taken) (more : List (List ℕ))

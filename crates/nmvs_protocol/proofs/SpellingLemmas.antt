@@ -101,7 +101,7 @@ readable_put user (question.Withdraw c b) e = (e, refl)
 readable_put user (question.Theft p) e = (e, refl)
 readable_put user (question.Audit p) e = absurd cc
 
-is_ask_readable : (a : Ask) → is_readable a ≡ true → is_ask a ≡ true
+pub is_ask_readable : (a : Ask) → is_readable a ≡ true → is_ask a ≡ true
 is_ask_readable (Put user q) e = (readable_put user q e).0
 is_ask_readable Quit e = refl
 

@@ -1,5 +1,5 @@
 -- Writing a text to a sink (own).
-use Rattle.std.specs.Prelude.{◌≡◌, ℕ, List, ◌++◌, true}
+use Rattle.std.specs.Prelude.{◌≡◌, ℕ, List, [], ◌++◌, true}
 use Rattle.nmvs_stream.specs.Sink.{Taken}
 
 -- the sink took the text and flushed it
@@ -14,4 +14,5 @@ pub record PutsPart (old new : Taken) (text : List ℕ) : Type 0 where
   pub unwritten : List ℕ
   pub cut : text ≡ written ++ unwritten
   pub bytes : new.bytes ≡ old.bytes ++ written
+  pub flushed : written ≡ [] → new.flushed ≡ old.flushed
   pub failed : new.failed ≡ true

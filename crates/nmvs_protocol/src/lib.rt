@@ -28,7 +28,7 @@ pub use command_fault::CommandFault;
 pub use commands::read_command;
 pub use desk::Desk;
 pub use end::End;
-pub use laws::one_spelling;
+pub use laws::{one_reading, one_spelling};
 pub use limits::Limits;
 pub use line_fault::LineFault;
 pub use lines::{ask_line, read_line};
