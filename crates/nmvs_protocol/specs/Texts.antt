@@ -1,10 +1,10 @@
 -- The text of each answer: words and values joined by single spaces, then LF (own).
-use Rattle.std.specs.Prelude.{ℕ, List, [], ◌∷◌, ◌++◌, codes}
+use Rattle.std.specs.Prelude.{ℕ, List, [], ◌∷◌, codes}
 use Rattle.std.specs.Fmt.{decimal}
 use Rattle.nmvs_rules.specs.declared.reply.Reply.{Reply}
 use Rattle.nmvs_rules.specs.declared.reply.Reply.TheVariants as replies
 use Rattle.nmvs_rules.specs.Replies.{refusal_number}
-use Rattle.nmvs_words.specs.Words.{own_word, lock_word, onward_word, cause_word, validity_word, flag_word, refusal_word}
+use Rattle.nmvs_words.specs.Words.{own_word, lock_word, onward_word, cause_word, validity_word, flag_word, refusal_word, spaced}
 use Rattle.nmvs_words.specs.declared.reply_kind.ReplyKind.TheVariants as kinds
 use Rattle.nmvs_words.specs.ReplyKinds.{reply_word}
 use Rattle.nmvs_protocol.specs.declared.line_fault.LineFault.{LineFault}
@@ -34,12 +34,6 @@ fault_word faults.Serial = codes "SERIAL"
 fault_word faults.Batch = codes "BATCH"
 fault_word faults.Expiry = codes "EXPIRY"
 fault_word faults.User = codes "USER"
-
--- words with a space between each two, and LF after the last
-abbrev pub spaced : List (List ℕ) → List ℕ
-spaced [] = codes "\n"
-spaced (w ∷ []) = w ++ codes "\n"
-spaced (w ∷ v ∷ ws) = w ++ (codes " " ++ spaced (v ∷ ws))
 
 -- the words of a reply
 abbrev pub reply_words : Reply → List (List ℕ)

@@ -1,5 +1,6 @@
 ghost use Rattle.std.specs.Prelude.{◌≡◌, IfOk, string_bytes};
-ghost use Rattle.nmvs_protocol.specs.Texts.{text, spaced, reply_words, turn_word, fault_word};
+ghost use Rattle.nmvs_protocol.specs.Texts.{text, reply_words, turn_word, fault_word};
+ghost use Rattle.nmvs_words.specs.Words.{spaced};
 
 use crate::{Answer, LineFault, Turn};
 use nmvs_identifier::{Batch, Expiry};

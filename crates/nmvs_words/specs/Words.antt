@@ -1,5 +1,5 @@
 -- The words of the formats (own): the names in capitals.
-use Rattle.std.specs.Prelude.{ℕ, Bool, true, false, List, [], ◌∷◌, codes, find, Option, ◌==◌, if◌then◌else◌}
+use Rattle.std.specs.Prelude.{ℕ, Bool, true, false, List, [], ◌∷◌, ◌++◌, codes, find, Option, ◌==◌, if◌then◌else◌}
 use Rattle.std.specs.Str.{bytes_eq}
 use Rattle.nmvs_rules.specs.Replies.{refusal_number}
 use Rattle.nmvs_rules.specs.declared.role.Role.{Role}
@@ -155,3 +155,9 @@ refusals =
 -- the refusal that has a number
 abbrev pub refusal_numbered : ℕ → Option Refusal
 refusal_numbered n = find (λ r. n == refusal_number r) refusals
+
+-- words with a space between each two, and LF after the last
+abbrev pub spaced : List (List ℕ) → List ℕ
+spaced [] = codes "\n"
+spaced (w ∷ []) = w ++ codes "\n"
+spaced (w ∷ v ∷ ws) = w ++ (codes " " ++ spaced (v ∷ ws))
