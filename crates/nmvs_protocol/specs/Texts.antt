@@ -41,11 +41,15 @@ fault_word faults.Batch = codes "BATCH"
 fault_word faults.Expiry = codes "EXPIRY"
 fault_word faults.User = codes "USER"
 
+-- words with a space before each, and LF after the last
+abbrev pub followed : List (List ℕ) → List ℕ
+followed [] = codes "\n"
+followed (w ∷ ws) = codes " " ++ (w ++ followed ws)
+
 -- words with a space between each two, and LF after the last
 abbrev pub spaced : List (List ℕ) → List ℕ
 spaced [] = codes "\n"
-spaced (w ∷ []) = w ++ codes "\n"
-spaced (w ∷ v ∷ ws) = w ++ (codes " " ++ spaced (v ∷ ws))
+spaced (w ∷ ws) = w ++ followed ws
 
 -- the words of a reply
 abbrev pub reply_words : Reply → List (List ℕ)
