@@ -1,14 +1,17 @@
 //! The texts of answers.
 ghost use Rattle.std.specs.Prelude.{◌≡◌, ◌≤◌, [], ◌∷◌, length, map, IfOk, string_bytes};
 ghost use Rattle.std.specs.Fmt.{decimal};
-ghost use Rattle.nmvs_protocol.specs.Texts.{text, spaced, reply_words, validity_word, flag_word, turn_word, fault_word};
+ghost use Rattle.nmvs_words.specs.Words.{spaced};
+ghost use Rattle.nmvs_protocol.specs.Texts.{text, reply_words, turn_word, fault_word};
 
 use crate::{Answer, LineFault, Turn};
 use arrayvec::ArrayString;
 use itoa::Buffer;
 use nmvs_identifier::{Batch, Expiry};
 use nmvs_rules::{BatchLock, Cause, Onward, Own, Refusal, Reply};
-use nmvs_words::{cause_word, lock_word, onward_word, own_word, refusal_word};
+use nmvs_words::{
+    cause_word, flag_word, lock_word, onward_word, own_word, refusal_word, validity_word,
+};
 use std::alloc::{AllocError, Global};
 
 /// The most bytes that the text of a reply has: those of a status with the longest words and values, and LF.
@@ -76,7 +79,7 @@ fn authentic(batch: Batch, expiry: Expiry, expired: bool) -> ArrayString<LONGEST
     let expiry = expiry.text();
     in_words(
         "AUTHENTIC",
-        &[batch.text(), expiry.as_str(), word_of_validity(expired)],
+        &[batch.text(), expiry.as_str(), validity_word(expired)],
     )
 }
 
@@ -88,7 +91,7 @@ fn alert(cause: Cause, flagged: bool, number: u64) -> ArrayString<LONGEST_REPLY>
         "ALERT",
         &[
             cause_word(cause),
-            word_of_flag(flagged),
+            flag_word(flagged),
             digits.format(number),
         ],
     )
@@ -149,18 +152,6 @@ fn in_words(first: &str, others: &[&str]) -> ArrayString<LONGEST_REPLY>
     }
     text.push_str("\n");
     text
-}
-
-fn word_of_validity(expired: bool) -> &'static str
-    ensures { result.now ≡ validity_word expired }
-{
-    if expired { "EXPIRED" } else { "VALID" }
-}
-
-fn word_of_flag(flagged: bool) -> &'static str
-    ensures { result.now ≡ flag_word flagged }
-{
-    if flagged { "FLAGGED" } else { "UNFLAGGED" }
 }
 
 fn word_of_turn(turn: Turn) -> &'static str

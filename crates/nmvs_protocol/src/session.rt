@@ -5,10 +5,9 @@ ghost use Rattle.nmvs_protocol.specs.Session.{Answers, Session};
 ghost use Rattle.nmvs_protocol.specs.Progress.{Answered, kept};
 
 use crate::pending_line::PendingLine;
-use crate::put::put;
 use crate::replies::short_text;
 use crate::{Answer, Ask, Desk, End, Limits, LineFault};
-use nmvs_stream::{Failed, Sink, Source};
+use nmvs_stream::{Failed, Sink, Source, put};
 use std::alloc::Global;
 
 #[cfg(test)]

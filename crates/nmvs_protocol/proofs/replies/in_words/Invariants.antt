@@ -1,5 +1,5 @@
 use Rattle.std.proofs.Common.{◌≡◌, ◌++◌, ◌∷◌, ℕ, length, map}
-use Rattle.nmvs_protocol.specs.Texts.{spaced, followed}
+use Rattle.nmvs_words.specs.Words.{spaced, followed}
 use Rattle.nmvs_protocol.proofs.replies.in_words.Given as goal
 
 abbrev pub invariant-loop-rest : goal.invariant-loop-rest

@@ -1,10 +1,16 @@
+//! Texts put to sinks.
 ghost use Rattle.std.specs.Prelude.{◌≡◌, OnOk, OnErr};
-ghost use Rattle.nmvs_protocol.specs.Put.{Puts, PutsPart};
+ghost use Rattle.nmvs_stream.specs.Put.{Puts, PutsPart};
 
-use nmvs_stream::{Failed, Sink};
+use crate::failed::Failed;
+use crate::sink::Sink;
 
 /// Writes all of the text, and flushes it.
-pub(crate) fn put<W: Sink>(sink: &mut W, text: &[u8]) -> Result<(), Failed>
+///
+/// # Errors
+///
+/// A write or the flush failed. Some of the text may have been taken, from the front.
+pub fn put<W: Sink>(sink: &mut W, text: &[u8]) -> Result<(), Failed>
     ensures ok { OnOk result (Puts (W.taken sink.old) (W.taken sink.new) text.now) }
     ensures err { OnErr result (PutsPart (W.taken sink.old) (W.taken sink.new) text.now) }
 {
