@@ -4,10 +4,10 @@
 //! no answer has to: three maps in the order of insertion, each entry noted once.
 #![tactic(auto)]
 
-mod accepted;
 mod batches;
 mod codes;
 mod counts;
+mod listing;
 mod packs;
 mod tables;
 #[cfg(test)]
