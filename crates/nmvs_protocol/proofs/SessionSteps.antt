@@ -14,7 +14,7 @@ use Rattle.nmvs_protocol.specs.declared.end.End.TheVariants as ends
 use Rattle.nmvs_protocol.specs.Lines.{line}
 use Rattle.nmvs_protocol.specs.Texts.{text}
 use Rattle.nmvs_protocol.specs.InputLines.{input_lines}
-use Rattle.nmvs_protocol.specs.Put.{Puts, PutsPart}
+use Rattle.nmvs_stream.specs.Put.{Puts, PutsPart}
 use Rattle.nmvs_protocol.specs.Session.{Reads, Answers, AnswersLine, AnswersLines, NoQuit, Delivers, BreaksOff, Closes, Session, is_input_end, is_read_fault}
 use Rattle.nmvs_protocol.specs.Progress.{Stands, Answered, kept, has_write_fault}
 use Rattle.nmvs_protocol.proofs.KeptLines.{kept_reads}

@@ -16,7 +16,6 @@ mod line_fault;
 mod line_tests;
 mod lines;
 mod pending_line;
-mod put;
 mod replies;
 mod session;
 mod turn;
