@@ -1,5 +1,5 @@
 -- Plain fields, and the lines that they make.
-use Rattle.std.proofs.Common.{◌≡◌, ◌≤◌, ◌*◌, ◌&&◌, ◌||◌, ◌==◌, ℕ, Bool, true, false, nat_eq, nat_le, nat_lt, List, [], ◌∷◌, length, refl, ap, ◌∙◌, inl, inr, lit≤, codes, arith, length-append}
+use Rattle.std.proofs.Common.{◌≡◌, ◌≤◌, ◌*◌, ◌&&◌, ◌||◌, ◌==◌, not, cond, ℕ, Bool, true, false, nat_eq, nat_le, nat_lt, Option, Some, List, [], ◌∷◌, length, refl, ap, ◌∙◌, inl, inr, lit≤, codes, arith, length-append}
 use Rattle.std.specs.List.{list_all, list_any, AllByRecursion}
 use Rattle.std.specs.Char.{is_ascii_graphic, is_ascii_digit, is_ascii_alphanumeric}
 use Rattle.std.proofs.lemmas.Bool.{and_parts, or_cases, eqb-true}
@@ -13,7 +13,7 @@ use Rattle.nmvs_identifier.specs.ProductCode.{is_product_code, is_checked}
 use Rattle.nmvs_identifier.specs.Serial.{is_serial}
 use Rattle.nmvs_identifier.specs.Batch.{is_batch}
 use Rattle.nmvs_identifier.specs.Expiry.{is_expiry, has_month, has_day}
-use Rattle.nmvs_protocol.specs.Fields.{is_printable, is_space, is_empty, fields_in, joined}
+use Rattle.nmvs_protocol.specs.Fields.{longest_line, is_printable, is_space, is_empty, fields_in, joined, line_fault}
 
 -- a field of 1 to 20 characters, of which none is a space
 abbrev pub IsPlain : List ℕ → Type 0
@@ -134,12 +134,12 @@ length-joined (f ∷ g ∷ fs) plain =
     let whole = length-append f (32 ∷ joined (g ∷ fs)) in
     omega (arith, short, rest, whole)
 
-pub not_long : (n : ℕ) → n ≤ 200 → nat_lt 200 n ≡ false
+not_long : (n : ℕ) → n ≤ longest_line → nat_lt longest_line n ≡ false
 not_long n short = grind (arith, nat_tests)
 
 -- a line of one to nine plain fields is short, printable, and has these fields, none of them empty
 pub record IsPlainLine (fs : List (List ℕ)) : Type 0 where
-  pub short : length (joined fs) ≤ 200
+  pub short : length (joined fs) ≤ longest_line
   pub printable : list_all is_printable (joined fs) ≡ true
   pub fields : fields_in (joined fs) ≡ fs
   pub filled : list_any is_empty (fields_in (joined fs)) ≡ false
@@ -154,3 +154,10 @@ plain_line fs some few plain =
       fields = own;
       filled = ap (list_any is_empty) own ∙ none_empty fs plain;
     }
+
+-- it has no fault but that of its fields
+pub line_fault-plain : {F : Type 0} (long bytes empty : F) (of_fields : List (List ℕ) → Option F) (fs : List (List ℕ)) → IsPlainLine fs
+    → line_fault long bytes empty of_fields (joined fs) ≡ of_fields fs
+line_fault-plain long bytes empty of_fields fs plain =
+    let short = not_long (length (joined fs)) plain.short in
+    λ i. cond (short i) (Some long) (cond (not (plain.printable i)) (Some bytes) (cond (plain.filled i) (Some empty) (of_fields (plain.fields i))))
