@@ -1,5 +1,5 @@
 //! The changes of a directory.
-ghost use Rattle.std.specs.Prelude.{◌≡◌, ◌++◌, [], ◌∷◌, fold, drop, length, Some, None, OnOk, OnErr, MatchOption};
+ghost use Rattle.std.specs.Prelude.{◌≡◌, ◌<◌, ◌++◌, [], ◌∷◌, fold, drop, length, Some, None, OnOk, OnErr, MatchBool, MatchOption};
 
 use crate::history::{History, Tail};
 use crate::{Change, Naming};
@@ -82,6 +82,13 @@ impl<J: Naming, A: Allocator> Changes<J, A> {
         ensures err { OnErr result (pending_changes self.new ≡ pending_changes self.old) }
     {
         self.add(Change { user, actor: None })
+    }
+
+    /// Whether a change is not published yet.
+    pub(crate) fn has_pending(&self) -> bool
+        ensures { MatchBool result (0 < length (pending_changes self.now)) (pending_changes self.now ≡ []) }
+    {
+        self.published.len() < self.all.len()
     }
 
     /// The list up to the first change that the writer does not have.

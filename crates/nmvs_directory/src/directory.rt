@@ -11,11 +11,12 @@ use std::alloc::Allocator;
 use std::sync::Wait;
 use thiserror::Error;
 
-/// Why a directory couldn't be opened.
+/// Why a directory was not opened.
 #[derive(Clone, Copy, Debug, PartialEq, Eq, Error)]
 pub enum DirectoryFault {
     #[error("there is no memory for the directory")]
     Memory,
+    /// A window's place takes no memory and there is one for each, so no run has met this; no clause excludes it.
     #[error("a window was refused its place")]
     Window,
 }
@@ -29,14 +30,15 @@ pub struct Directory {
 impl Directory {
     ghost use Rattle.nmvs_directory.specs.Directory.{directory_book};
 
-    /// Makes one. It takes no memory.
+    /// Makes one. It takes no memory: it has no allocator to take it from.
     pub fn new() -> Directory {
         Directory {
             opened: Opened::new(),
         }
     }
 
-    /// Gives the directory its name, and its registrar and so many windows.
+    /// Gives the directory its name, and its registrar and so many windows: 1 to 8, since a publication visits the place
+    /// of each.
     ///
     /// It answers `Memory` where there is no memory for them, and `Window` where a window was refused its place.
     pub fn open<J: Naming, R: Wait + Drop, A: Allocator + Copy>(

@@ -1,4 +1,21 @@
-//! The users of a repository, by the changes that a registrar publishes. A window looks a user up with no lock and no wait.
+//! The users of a repository: one registrar enrols and suspends them, and windows look them up, each in a thread of its
+//! own if need be, with no lock and no wait.
+//!
+//! A [`Directory`] is made, gets its name and is opened, which gives the [`Registrar`] and the [`Window`]s. What the
+//! registrar changes is pending until it publishes. A publication gives a [`Notice`]; a window that learns of it answers
+//! by that publication or a later one from then on.
+//!
+//! ```text
+//! let (mut registrar, mut windows) = directory.open::<J, _, _>(rt, alloc, 2)?;
+//! registrar.changes.enrol(user, actor)?;
+//! let notice = registrar.publish()?;
+//! for window in windows.iter_mut() {
+//!     window.learn(&notice);
+//!     assert_eq!(rt; window.look(&user), Look::Known(actor));
+//! }
+//! ```
+//!
+//! It judges no question, has no list of its users, and keeps nothing beyond the end of the process.
 #![tactic(auto)]
 
 mod change;

@@ -9,6 +9,7 @@ pub enum Look {
     Suspended,
     /// The last change that named the user enrolled it.
     Known(Actor),
-    /// The published users couldn't be entered.
+    /// The published users were not entered, since the registrar is gone; or they lacked a change that the window had
+    /// seen or was told of, which no clause excludes and no run has met.
     Closed,
 }

@@ -1,5 +1,5 @@
 //! Who changes the users.
-ghost use Rattle.std.specs.Prelude.{◌≡◌, ◌++◌, [], fold, MatchResult, IfOk};
+ghost use Rattle.std.specs.Prelude.{◌≡◌, ◌++◌, [], fold, MatchResult, IfOk, IsOk};
 ghost use Rattle.left_right.specs.Handles;
 
 use crate::history::{History, Tail};
@@ -57,21 +57,26 @@ impl<J: Naming, R: Wait + Drop, A: Allocator> Registrar<J, R, A> {
         Ok(())
     }
 
-    /// Publishes all pending changes at once. It waits for windows that are looking.
+    /// Publishes all pending changes at once, and waits for windows that are looking. Where none is pending it does
+    /// nothing, and the notice tells what was published before.
     ///
     /// It answers `AllocError` where there is no memory to publish them; then none is published, and they stay pending.
     pub fn publish(&mut self) -> Result<Notice<J>, AllocError>
         ensures published { MatchResult result (λ _. published self.new ≡ published self.old ++ pending self.old) (λ _. published self.new ≡ published self.old) }
         ensures pending { MatchResult result (λ _. pending self.new ≡ []) (λ _. pending self.new ≡ pending self.old) }
         ensures told { IfOk result (λ notice. notice ≡ published self.new) }
+        ensures succeeds { pending self.old ≡ [] → IsOk result }
     {
-        self.hand_over()?;
-        self.writer.publish()?;
-        self.changes.publish();
-        Ok(Notice::new(self.changes.all.again()))
+        if self.changes.has_pending() {
+            self.hand_over()?;
+            self.writer.publish()?;
+            self.changes.publish();
+        }
+        Ok(Notice::new(self.changes.published.again()))
     }
 
-    /// Ends the directory. Pending changes are lost, and what its windows answer afterwards is left open. It waits for windows that are looking.
+    /// Ends the directory. Pending changes are lost, and what its windows answer afterwards is left open. It waits for
+    /// windows that are looking.
     pub fn close(self) {
         let Registrar { writer, .. } = self;
         drop(writer.take());

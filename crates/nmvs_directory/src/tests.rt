@@ -75,6 +75,69 @@ fn a_notice_brings_a_change_to_a_window(rt: HostRuntime) -> Result<(), Fail> {
     changes_reach::<Brand, _>(&rt, rt.alloc(), Directory::new())
 }
 
+/// Enrols `u0` to `u999`, each with an authorisation of its own, and publishes them at once.
+fn publish_a_thousand<J: Naming, R: Wait + Drop>(
+    registrar: &mut Registrar<J, R, Global>,
+    alloc: Global,
+) -> Result<(Notice<J>, Vec<(Name, Actor)>), Fail> {
+    let mut users = Vec::new(alloc);
+    for number in 0..1_000u64 {
+        let text = format!(in alloc; "u{number}")?;
+        users.push((Name::read(&text)?, pharmacy(&text)?))?;
+    }
+    for (user, actor) in users.iter() {
+        registrar.changes.enrol(*user, *actor)?;
+    }
+    Ok((registrar.publish()?, users))
+}
+
+/// Publishes nothing, then many changes at once; at the end one change is pending.
+fn many_changes_reach<J: Naming, R: Wait + Abort + Sync>(
+    rt: &R,
+    alloc: Global,
+    directory: Directory,
+) -> Result<(), Fail>
+    requires { directory_book directory ≡ J.book }
+{
+    let (mut registrar, mut windows) = directory.open::<J, _, _>(rt, alloc, 8)?;
+    let nothing = registrar.publish()?;
+    let (all, users) = publish_a_thousand(&mut registrar, alloc)?;
+    for window in windows.iter_mut() {
+        window.learn(&all);
+        // An older notice takes nothing back.
+        window.learn(&nothing);
+        for (user, actor) in users.iter() {
+            assert_eq!(rt; window.look(user), Look::Known(*actor));
+        }
+    }
+    let zed = Name::read("zed")?;
+    registrar.changes.enrol(zed, pharmacy("PH-1")?)?;
+    registrar.close();
+    for window in windows.iter_mut() {
+        assert_eq!(rt; window.look(&zed), Look::Closed);
+    }
+    Ok(())
+}
+
+#[test]
+fn a_thousand_changes_reach_eight_windows(rt: HostRuntime) -> Result<(), Fail> {
+    many_changes_reach::<Brand, _>(&rt, rt.alloc(), Directory::new())
+}
+
+#[test]
+fn faults_have_their_texts(rt: HostRuntime) -> Result<(), Fail> {
+    for (fault, text) in [
+        (
+            DirectoryFault::Memory,
+            "there is no memory for the directory",
+        ),
+        (DirectoryFault::Window, "a window was refused its place"),
+    ] {
+        assert_eq!(rt; format!(in rt.alloc(); "{fault}")?.as_str(), text);
+    }
+    Ok(())
+}
+
 /// The number of the last authorisation `A-1` to `A-100` that a look gave, 0 before the first.
 fn number_of(look: Look) -> Option<u64> {
     match look {
@@ -127,7 +190,7 @@ fn look_all<J: Naming>(
     (window, rising)
 }
 
-/// The last notice lies behind a lock.
+/// A lock holds the last notice.
 fn look_while_publishing<J: Naming + Send + Sync, R: Threads + Wait + Abort + Sync>(
     rt: &R,
     alloc: Global,

@@ -11,7 +11,8 @@ use nmvs_identifier::Name;
 use std::alloc::Allocator;
 use std::marker::Model;
 
-/// It shows the published users, by no fewer changes than it saw before or was told of. Contracts see those changes, oldest first.
+/// It shows the published users, by no fewer changes than it saw before or was told of. Contracts see those changes,
+/// oldest first.
 #[derive(Drop)]
 pub struct Window<J: Naming, A: Allocator> {
     handle: ReadHandle<Users<J, A>, A>,
@@ -45,13 +46,15 @@ impl<J: Naming, A: Allocator> Window<J, A> {
         }
     }
 
-    /// The last change that names the user decides, by a list that begins with all that the window saw or was told. It waits for nobody.
+    /// The last change that names the user decides, by a list that begins with all that the window saw or was told; or
+    /// the answer is `Closed`, and the window has seen no more than before. It waits for nobody.
     pub fn look(&mut self, user: &Name) -> Look
         ensures { Reads self.old self.new user.now result }
     {
         let Some(users) = self.handle.enter() else {
             return Look::Closed;
         };
+        // Each published copy begins with all that was published before, but the guard does not tell a proof so.
         if !users.history().covers(&self.seen) {
             return Look::Closed;
         }

@@ -17,7 +17,8 @@ use Rattle.nmvs_protocol.specs.declared.command_fault.CommandFault.{CommandFault
 use Rattle.nmvs_protocol.specs.declared.command_fault.CommandFault.TheVariants as fault
 use Rattle.nmvs_protocol.specs.Fields.{fields_in}
 use Rattle.nmvs_protocol.specs.Commands.{command_fields, command_line, enrol_fault, suspend_fault, fields_fault, first_command_fault, is_command, IsSameCommand}
-use Rattle.nmvs_protocol.proofs.PlainLemmas.{IsPlain, plain_name, IsPlainLine, plain_line, line_fault-plain}
+use Rattle.nmvs_identifier.proofs.PlainTexts.{IsPlain, plain_name}
+use Rattle.nmvs_protocol.proofs.PlainLemmas.{IsPlainLine, plain_line, line_fault-plain}
 use Rattle.nmvs_protocol.proofs.FieldLemmas.{line_of_kept}
 
 role_plain : (r : Role) → IsPlain (role_word r)

@@ -14,7 +14,7 @@ use Rattle.nmvs_protocol.specs.declared.end.End.TheVariants as ends
 use Rattle.nmvs_protocol.specs.Lines.{line}
 use Rattle.nmvs_protocol.specs.Texts.{text}
 use Rattle.nmvs_protocol.specs.InputLines.{input_lines}
-use Rattle.nmvs_protocol.specs.Put.{Puts, PutsPart}
+use Rattle.nmvs_stream.specs.Put.{Puts, PutsPart}
 use Rattle.nmvs_protocol.specs.Session.{Reads, Answers, AnswersLine, AnswersLines, NoQuit, Delivers, BreaksOff, Closes, Session, is_input_end, is_read_fault}
 use Rattle.nmvs_protocol.specs.Progress.{Stands, Answered, kept, has_write_fault}
 use Rattle.nmvs_protocol.proofs.KeptLines.{kept_reads}
@@ -37,6 +37,7 @@ breaks_off start now new said a d p = record {
   unwritten = p.unwritten;
   cut = p.cut;
   bytes = p.bytes ∙ ap (λ (t : List ℕ). t ++ p.written) d.bytes;
+  flushed = λ none some. p.flushed none ∙ d.flushed some;
 }
 
 kept_on : (end : End) (limit count count' : ℕ) (answered left : List (List ℕ)) (said : List Answer) (start now : Taken) (more : List (List ℕ))

@@ -9,13 +9,11 @@ use Rattle.std.specs.Str.{bytes_eq}
 use Rattle.std.proofs.lemmas.List.{take_all, length-take}
 use Rattle.std.proofs.lemmas.Bool.Decides.{nat_tests}
 use Rattle.nmvs_identifier.specs.Name.{Name, is_name}
-use Rattle.nmvs_rules.specs.declared.reason.Reason.TheVariants as reason
 use Rattle.nmvs_rules.specs.declared.question.Question.{Question}
 use Rattle.nmvs_rules.specs.declared.question.Question.TheVariants as question
-use Rattle.nmvs_words.specs.declared.pack_question.PackQuestion.TheVariants.{Verify, Status, Decommission, Revert, Theft, Audit}
-use Rattle.nmvs_words.specs.declared.batch_question.BatchQuestion.TheVariants.{Recall, Withdraw}
 use Rattle.nmvs_words.specs.declared.question_kind.QuestionKind.{QuestionKind}
 use Rattle.nmvs_words.specs.declared.question_kind.QuestionKind.TheVariants.{Upload, OfPack, OfBatch}
+use Rattle.nmvs_words.specs.declared.pack_question.PackQuestion.TheVariants.{Verify, Status, Decommission, Revert, Theft, Audit}
 use Rattle.nmvs_words.specs.Kinds.{kind_of, kind_word, kind_named, texts_of}
 use Rattle.nmvs_words.proofs.WordLemmas.{kind_named-word, kind_named-of_word, kind_word-one}
 use Rattle.nmvs_protocol.specs.declared.ask.Ask.{Ask}
@@ -24,7 +22,9 @@ use Rattle.nmvs_protocol.specs.declared.line_fault.LineFault.TheVariants as faul
 use Rattle.nmvs_protocol.specs.declared.line_fault.LineFault.{LineFault}
 use Rattle.nmvs_protocol.specs.Fields.{fields_in}
 use Rattle.nmvs_protocol.specs.Lines.{fields, line, Grammar, grammars, all_read, first_misread, put_fault, fields_fault, first_fault, kind_put, without_audit, is_ask, is_readable, IsSameAsk, OneSpelling, ShortLines}
-use Rattle.nmvs_protocol.proofs.PlainLemmas.{IsPlain, plain_name, plain_code, plain_serial, plain_batch, plain_expiry, IsPlainLine, plain_line, line_fault-plain}
+use Rattle.nmvs_identifier.proofs.PlainTexts.{IsPlain, plain_name, plain_code, plain_serial, plain_batch, plain_expiry}
+use Rattle.nmvs_words.proofs.PlainWords.{word_plain}
+use Rattle.nmvs_protocol.proofs.PlainLemmas.{IsPlainLine, plain_line, line_fault-plain}
 use Rattle.nmvs_protocol.proofs.FieldLemmas.{line_of_kept, one}
 
 -- each text that a grammar accepts is plain
@@ -51,21 +51,6 @@ all_read-length (g ∷ gs) [] e = absurd cc
 all_read-length (g ∷ gs) (t ∷ ts) e =
     let parts = and_parts (g.0 t) (all_read gs ts) e in
     let rest = all_read-length gs ts parts.1 in omega (arith, rest)
-
-word_plain : (kind : QuestionKind) → IsPlain (kind_word kind)
-word_plain Upload = (lit≤ tt, lit≤ tt, refl)
-word_plain (OfPack Verify) = (lit≤ tt, lit≤ tt, refl)
-word_plain (OfPack Status) = (lit≤ tt, lit≤ tt, refl)
-word_plain (OfPack (Decommission reason.Supply)) = (lit≤ tt, lit≤ tt, refl)
-word_plain (OfPack (Decommission reason.Hold)) = (lit≤ tt, lit≤ tt, refl)
-word_plain (OfPack (Decommission reason.Export)) = (lit≤ tt, lit≤ tt, refl)
-word_plain (OfPack (Decommission reason.Sample)) = (lit≤ tt, lit≤ tt, refl)
-word_plain (OfPack (Decommission reason.Destroy)) = (lit≤ tt, lit≤ tt, refl)
-word_plain (OfPack Revert) = (lit≤ tt, lit≤ tt, refl)
-word_plain (OfPack Theft) = (lit≤ tt, lit≤ tt, refl)
-word_plain (OfPack Audit) = (lit≤ tt, lit≤ tt, refl)
-word_plain (OfBatch Recall) = (lit≤ tt, lit≤ tt, refl)
-word_plain (OfBatch Withdraw) = (lit≤ tt, lit≤ tt, refl)
 
 fields_plain : (a : Ask) → is_ask a ≡ true → AllByRecursion IsPlain (fields a)
 fields_plain (Put user q) e =
@@ -117,7 +102,7 @@ readable_put user (question.Withdraw c b) e = (e, refl)
 readable_put user (question.Theft p) e = (e, refl)
 readable_put user (question.Audit p) e = absurd cc
 
-is_ask_readable : (a : Ask) → is_readable a ≡ true → is_ask a ≡ true
+pub is_ask_readable : (a : Ask) → is_readable a ≡ true → is_ask a ≡ true
 is_ask_readable (Put user q) e = (readable_put user q e).0
 is_ask_readable Quit e = refl
 
@@ -182,8 +167,8 @@ put_fault-take user None texts = refl
 put_fault-take user (Some kind) texts = elim (cases_lt 5 (length texts)) [
   | inr short ↦ ap (put_fault user (Some kind)) (take_all 5 texts short)
   | inl long ↦
-    let kept = length-take 5 texts in
-    wrong_count user kind (take 5 texts) (omega arith) ∙ sym (wrong_count user kind texts (omega arith))
+      let kept = length-take 5 texts in
+      wrong_count user kind (take 5 texts) (omega arith) ∙ sym (wrong_count user kind texts (omega arith))
 ]
 
 -- what is kept of a line's fields tells their fault

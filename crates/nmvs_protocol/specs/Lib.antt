@@ -5,4 +5,3 @@ pub mod Texts
 pub mod InputLines
 pub mod Session
 pub mod Progress
-pub mod Put

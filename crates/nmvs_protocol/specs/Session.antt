@@ -1,5 +1,5 @@
 -- Sessions: which lines were answered and how, what was written, and what each end means (own).
-use Rattle.std.specs.Prelude.{◌≡◌, ◌≢◌, ◌<◌, ◌≤◌, ◌+◌, ◌⊎◌, ℕ, Bool, true, false, List, [], ◌∷◌, ◌++◌, length, All, Some, None, Result, Ok, Err}
+use Rattle.std.specs.Prelude.{◌≡◌, ◌≢◌, ◌<◌, ◌≤◌, ◌+◌, ◌⊎◌, ℕ, Bool, true, false, List, [], ◌∷◌, ◌++◌, length, All, Some, None, Result, Ok, Err, IsTrue}
 use Rattle.std.specs.List.{flat_map}
 use Rattle.nmvs_stream.specs.Source.{Told}
 use Rattle.nmvs_stream.specs.Sink.{Taken}
@@ -11,14 +11,18 @@ use Rattle.nmvs_protocol.specs.declared.answer.Answer.TheVariants as answers
 use Rattle.nmvs_protocol.specs.declared.limits.Limits.{Limits}
 use Rattle.nmvs_protocol.specs.declared.end.End.{End}
 use Rattle.nmvs_protocol.specs.declared.end.End.TheVariants as ends
-use Rattle.nmvs_protocol.specs.Lines.{line, first_fault}
+use Rattle.nmvs_protocol.specs.Lines.{line, first_fault, is_readable}
 use Rattle.nmvs_protocol.specs.Texts.{text}
 use Rattle.nmvs_protocol.specs.InputLines.{input_lines}
 
--- a line is read as the ask whose line it is, else with its first fault
+-- a line is read as the readable ask whose line it is, else with its first fault
 abbrev pub Reads : List ℕ → Result Ask LineFault → Type 0
-Reads x (Ok ask) = (x ≡ line ask) × (first_fault x ≡ None)
+Reads x (Ok ask) = (x ≡ line ask) × (first_fault x ≡ None) × IsTrue (is_readable ask)
 Reads x (Err fault) = first_fault x ≡ Some fault
+
+-- a line is read in one way only
+abbrev pub OneReading : Type 0
+OneReading = (x : List ℕ) (r s : Result Ask LineFault) → Reads x r → Reads x s → r ≡ s
 
 -- what may be answered where a line is read so, the desk going from old to new: it is asked whatever isn't QUIT
 abbrev pub Answers : {D : Type 0} → (D → Ask → Answer → D → Type 0) → D → Result Ask LineFault → Answer → D → Type 0
@@ -74,6 +78,8 @@ pub record BreaksOff (old new : Taken) (said : List Answer) : Type 0 where
   pub unwritten : List ℕ
   pub cut : text last ≡ written ++ unwritten
   pub bytes : new.bytes ≡ old.bytes ++ session_text before ++ written
+  -- and the texts before it were flushed
+  pub flushed : written ≡ [] → 0 < length before → new.flushed ≡ true
 
 -- the sink took the text of all these answers but the last, which has none
 pub record LacksLast (old new : Taken) (said : List Answer) : Type 0 where

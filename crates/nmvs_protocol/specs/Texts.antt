@@ -1,24 +1,18 @@
 -- The text of each answer: words and values joined by single spaces, then LF (own).
-use Rattle.std.specs.Prelude.{ℕ, List, [], ◌∷◌, ◌++◌, Bool, codes, if◌then◌else◌}
+use Rattle.std.specs.Prelude.{ℕ, List, [], ◌∷◌, codes}
 use Rattle.std.specs.Fmt.{decimal}
 use Rattle.nmvs_rules.specs.declared.reply.Reply.{Reply}
 use Rattle.nmvs_rules.specs.declared.reply.Reply.TheVariants as replies
 use Rattle.nmvs_rules.specs.Replies.{refusal_number}
-use Rattle.nmvs_words.specs.Words.{own_word, lock_word, onward_word, cause_word, refusal_word}
+use Rattle.nmvs_words.specs.Words.{own_word, lock_word, onward_word, cause_word, validity_word, flag_word, refusal_word, spaced}
+use Rattle.nmvs_words.specs.declared.reply_kind.ReplyKind.TheVariants as kinds
+use Rattle.nmvs_words.specs.ReplyKinds.{reply_word}
 use Rattle.nmvs_protocol.specs.declared.line_fault.LineFault.{LineFault}
 use Rattle.nmvs_protocol.specs.declared.line_fault.LineFault.TheVariants as faults
 use Rattle.nmvs_protocol.specs.declared.turn.Turn.{Turn}
 use Rattle.nmvs_protocol.specs.declared.turn.Turn.TheVariants as turns
 use Rattle.nmvs_protocol.specs.declared.answer.Answer.{Answer}
 use Rattle.nmvs_protocol.specs.declared.answer.Answer.TheVariants as answers
-
--- whether an expiry date is past
-abbrev pub validity_word : Bool → List ℕ
-validity_word expired = if expired then codes "EXPIRED" else codes "VALID"
-
--- whether an alert is flagged as a potential falsification
-abbrev pub flag_word : Bool → List ℕ
-flag_word flagged = if flagged then codes "FLAGGED" else codes "UNFLAGGED"
 
 -- why the desk turned a line away
 abbrev pub turn_word : Turn → List ℕ
@@ -41,26 +35,20 @@ fault_word faults.Batch = codes "BATCH"
 fault_word faults.Expiry = codes "EXPIRY"
 fault_word faults.User = codes "USER"
 
--- words with a space between each two, and LF after the last
-abbrev pub spaced : List (List ℕ) → List ℕ
-spaced [] = codes "\n"
-spaced (w ∷ []) = w ++ codes "\n"
-spaced (w ∷ v ∷ ws) = w ++ (codes " " ++ spaced (v ∷ ws))
-
 -- the words of a reply
 abbrev pub reply_words : Reply → List (List ℕ)
-reply_words replies.Uploaded = codes "UPLOADED" ∷ []
-reply_words (replies.Authentic b x expired) = codes "AUTHENTIC" ∷ b.bytes ∷ x.bytes ∷ validity_word expired ∷ []
-reply_words (replies.Alert cause flagged n) = codes "ALERT" ∷ cause_word cause ∷ flag_word flagged ∷ decimal n ∷ []
+reply_words replies.Uploaded = reply_word kinds.Uploaded ∷ []
+reply_words (replies.Authentic b x expired) = reply_word kinds.Authentic ∷ b.bytes ∷ x.bytes ∷ validity_word expired ∷ []
+reply_words (replies.Alert cause flagged n) = reply_word kinds.Alert ∷ cause_word cause ∷ flag_word flagged ∷ decimal n ∷ []
 reply_words (replies.StatusIs own lock onward b x) =
-    codes "STATUS" ∷ own_word own ∷ lock_word lock ∷ onward_word onward ∷ b.bytes ∷ x.bytes ∷ []
-reply_words replies.NoPack = codes "NOPACK" ∷ []
-reply_words replies.Decommissioned = codes "DECOMMISSIONED" ∷ []
-reply_words replies.Reverted = codes "REVERTED" ∷ []
-reply_words (replies.LockedNow n) = codes "LOCKED" ∷ decimal n ∷ []
-reply_words replies.MarkedStolen = codes "STOLEN" ∷ []
-reply_words (replies.Shown n) = codes "SHOWN" ∷ decimal n ∷ []
-reply_words (replies.Refused r) = codes "REFUSED" ∷ decimal (refusal_number r) ∷ refusal_word r ∷ []
+    reply_word kinds.Status ∷ own_word own ∷ lock_word lock ∷ onward_word onward ∷ b.bytes ∷ x.bytes ∷ []
+reply_words replies.NoPack = reply_word kinds.NoPack ∷ []
+reply_words replies.Decommissioned = reply_word kinds.Decommissioned ∷ []
+reply_words replies.Reverted = reply_word kinds.Reverted ∷ []
+reply_words (replies.LockedNow n) = reply_word kinds.Locked ∷ decimal n ∷ []
+reply_words replies.MarkedStolen = reply_word kinds.Stolen ∷ []
+reply_words (replies.Shown n) = reply_word kinds.Shown ∷ decimal n ∷ []
+reply_words (replies.Refused r) = reply_word kinds.Refused ∷ decimal (refusal_number r) ∷ refusal_word r ∷ []
 
 -- the words of an answer
 abbrev pub words : Answer → List (List ℕ)

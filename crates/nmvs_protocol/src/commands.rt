@@ -31,7 +31,12 @@ fn read_exactly(bytes: &[u8]) -> Result<Command, CommandFault>
     ensures valid { IfOk result (λ command. IsTrue (is_command command)) }
     ensures fault { result_err result ≡ first_command_fault bytes.now }
 {
-    let fields = fields_of(bytes, CommandFault::Long, CommandFault::Bytes, CommandFault::Fields)?;
+    let fields = fields_of(
+        bytes,
+        CommandFault::Long,
+        CommandFault::Bytes,
+        CommandFault::Fields,
+    )?;
     read_fields(&fields)
 }
 
@@ -59,7 +64,7 @@ fn read_enrol(texts: &[&str]) -> Result<Command, CommandFault>
     if texts.len() != 4 {
         return Err(CommandFault::Fields);
     }
-    read_actor(texts[0], texts[1], texts[2], texts[3])
+    read_enrolment(texts[0], texts[1], texts[2], texts[3])
 }
 
 fn read_suspend(texts: &[&str]) -> Result<Command, CommandFault>
@@ -73,7 +78,12 @@ fn read_suspend(texts: &[&str]) -> Result<Command, CommandFault>
     Ok(Command::Suspend(read_name(user)?))
 }
 
-fn read_actor(user: &str, role: &str, authorisation: &str, premises: &str) -> Result<Command, CommandFault>
+fn read_enrolment(
+    user: &str,
+    role: &str,
+    authorisation: &str,
+    premises: &str,
+) -> Result<Command, CommandFault>
     ensures fields { IfOk result (λ command. command_fields command ≡ codes "ENROL" ∷ user.now ∷ role.now ∷ authorisation.now ∷ premises.now ∷ []) }
     ensures valid { IfOk result (λ command. IsTrue (is_command command)) }
     ensures fault { result_err result ≡ enrol_fault (user.now ∷ role.now ∷ authorisation.now ∷ premises.now ∷ []) }

@@ -16,12 +16,7 @@ pub(crate) type Fields<'a> = ArrayVec<&'a str, KEPT_FIELDS>;
 
 /// The fields of a line. Else the first of these that holds: it is too `long`, it has `bytes` that are no printable ASCII
 /// characters, it has an `empty` field.
-pub(crate) fn fields_of<F: Copy>(
-    line: &[u8],
-    long: F,
-    bytes: F,
-    empty: F,
-) -> Result<Fields<'_>, F>
+pub(crate) fn fields_of<F: Copy>(line: &[u8], long: F, bytes: F, empty: F) -> Result<Fields<'_>, F>
     ensures fields { IfOk result (λ fields. map (λ f. f.now) fields.items ≡ take 7 (fields_in line.now)) }
     ensures fault { (of_fields : List (List ℕ) → Option F) → MatchResult result
         (λ fields. line_fault long bytes empty of_fields line.now ≡ of_fields (fields_in line.now))

@@ -1,10 +1,13 @@
 ghost use Rattle.std.specs.Prelude.{◌≡◌, IfOk, string_bytes};
-ghost use Rattle.nmvs_protocol.specs.Texts.{text, spaced, reply_words, validity_word, flag_word, turn_word, fault_word};
+ghost use Rattle.nmvs_protocol.specs.Texts.{text, reply_words, turn_word, fault_word};
+ghost use Rattle.nmvs_words.specs.Words.{spaced};
 
 use crate::{Answer, LineFault, Turn};
 use nmvs_identifier::{Batch, Expiry};
 use nmvs_rules::{BatchLock, Cause, Onward, Own, Refusal, Reply};
-use nmvs_words::{cause_word, lock_word, onward_word, own_word, refusal_word};
+use nmvs_words::{
+    cause_word, flag_word, lock_word, onward_word, own_word, refusal_word, validity_word,
+};
 use std::alloc::{AllocError, Global};
 
 /// The text of an answer, with the LF that ends it.
@@ -72,7 +75,7 @@ fn authentic(
 {
     let batch = batch.text();
     let expiry = expiry.text();
-    let validity = word_of_validity(expired);
+    let validity = validity_word(expired);
     format!(in alloc; "AUTHENTIC {batch} {expiry} {validity}\n")
 }
 
@@ -80,7 +83,7 @@ fn alert(alloc: Global, cause: Cause, flagged: bool, number: u64) -> Result<Stri
     ensures { IfOk result (λ t. string_bytes t ≡ spaced (reply_words (Reply.Alert cause flagged number))) }
 {
     let cause = cause_word(cause);
-    let flag = word_of_flag(flagged);
+    let flag = flag_word(flagged);
     format!(in alloc; "ALERT {cause} {flag} {number}\n")
 }
 
@@ -108,18 +111,6 @@ fn refused(alloc: Global, refusal: Refusal) -> Result<String, AllocError>
     let number = refusal.number();
     let word = refusal_word(refusal);
     format!(in alloc; "REFUSED {number} {word}\n")
-}
-
-fn word_of_validity(expired: bool) -> &'static str
-    ensures { result.now ≡ validity_word expired }
-{
-    if expired { "EXPIRED" } else { "VALID" }
-}
-
-fn word_of_flag(flagged: bool) -> &'static str
-    ensures { result.now ≡ flag_word flagged }
-{
-    if flagged { "FLAGGED" } else { "UNFLAGGED" }
 }
 
 fn word_of_turn(turn: Turn) -> &'static str

@@ -5,9 +5,8 @@ ghost use Rattle.nmvs_protocol.specs.Session.{Answers, Session};
 ghost use Rattle.nmvs_protocol.specs.Progress.{Answered, kept};
 
 use crate::pending_line::PendingLine;
-use crate::put::put;
 use crate::{Answer, Ask, Desk, End, Limits, LineFault, reply_text};
-use nmvs_stream::{Failed, Sink, Source};
+use nmvs_stream::{Failed, Sink, Source, put};
 use std::alloc::Global;
 
 #[cfg(test)]

@@ -13,7 +13,7 @@ use Rattle.nmvs_rules.specs.declared.reply.Reply.{Reply}
 use Rattle.nmvs_rules.specs.declared.reply.Reply.TheVariants as reply
 use Rattle.nmvs_rules.specs.Questions.{Put, may_ask, code_of}
 use Rattle.nmvs_rules.specs.Trail.{known, has_code, is_alert, alerts_of}
-use Rattle.nmvs_rules.specs.Rules.{on_pack, reply_to, reply_of, put_of, IsLawful}
+use Rattle.nmvs_rules.specs.Rules.{on_pack, admitted_reply, reply_of, put_of, IsLawful}
 use Rattle.nmvs_rules.specs.Laws.{part_of, alert_number, alert_numbers}
 use Rattle.nmvs_rules.proofs.TextLemmas.{same_text-equal}
 use Rattle.nmvs_rules.proofs.PushLemmas.{alerts_of-push}
@@ -27,23 +27,23 @@ on_pack-numbered : (n : ℕ) (o : Option Known) (x : Reply) (f : Known → Reply
 on_pack-numbered n None x f unknown known = unknown
 on_pack-numbered n (Some k) x f unknown known = known k
 
-reply_to-numbered : (t : List Entry) (n : ℕ) (a : Actor) (q : Question) → IsNumbered (alerts_of t (code_of q) + 1) (reply_to t n a q)
-reply_to-numbered t n a (Upload p b x) = λ m is. grind arith
-reply_to-numbered t n a (Verify p) = on_pack-numbered _ (known t p) _ _ (λ m is. grind arith) (λ k m is. grind arith)
-reply_to-numbered t n a (Status p) = on_pack-numbered _ (known t p) _ _ (λ m is. grind arith) (λ k m is. grind arith)
-reply_to-numbered t n a (Decommission p w) = on_pack-numbered _ (known t p) _ _ (λ m is. grind arith) (λ k m is. grind arith)
-reply_to-numbered t n a (Revert p) = on_pack-numbered _ (known t p) _ _ (λ m is. grind arith) (λ k m is. grind arith)
-reply_to-numbered t n a (Recall c b) = λ m is. grind arith
-reply_to-numbered t n a (Withdraw c b) = λ m is. grind arith
-reply_to-numbered t n a (Theft p) = on_pack-numbered _ (known t p) _ _ (λ m is. grind arith) (λ k m is. grind arith)
-reply_to-numbered t n a (Audit p) = λ m is. grind arith
+admitted_reply-numbered : (t : List Entry) (n : ℕ) (a : Actor) (q : Question) → IsNumbered (alerts_of t (code_of q) + 1) (admitted_reply t n a q)
+admitted_reply-numbered t n a (Upload p b x) = λ m is. grind arith
+admitted_reply-numbered t n a (Verify p) = on_pack-numbered _ (known t p) _ _ (λ m is. grind arith) (λ k m is. grind arith)
+admitted_reply-numbered t n a (Status p) = on_pack-numbered _ (known t p) _ _ (λ m is. grind arith) (λ k m is. grind arith)
+admitted_reply-numbered t n a (Decommission p w) = on_pack-numbered _ (known t p) _ _ (λ m is. grind arith) (λ k m is. grind arith)
+admitted_reply-numbered t n a (Revert p) = on_pack-numbered _ (known t p) _ _ (λ m is. grind arith) (λ k m is. grind arith)
+admitted_reply-numbered t n a (Recall c b) = λ m is. grind arith
+admitted_reply-numbered t n a (Withdraw c b) = λ m is. grind arith
+admitted_reply-numbered t n a (Theft p) = on_pack-numbered _ (known t p) _ _ (λ m is. grind arith) (λ k m is. grind arith)
+admitted_reply-numbered t n a (Audit p) = λ m is. grind arith
 
 -- an alert has the number after the alerts on its product code so far
 alert-numbered : (t : List Entry) (q : Put) → IsNumbered (alerts_of t (code_of q.question) + 1) (reply_of t q)
 alert-numbered t q = by (may_ask q.actor.role q.question)
   where
-    by : (b : Bool) → IsNumbered (alerts_of t (code_of q.question) + 1) (cond b (reply_to t q.moment q.actor q.question) (reply.Refused refusal.Role))
-    by true = reply_to-numbered t q.moment q.actor q.question
+    by : (b : Bool) → IsNumbered (alerts_of t (code_of q.question) + 1) (cond b (admitted_reply t q.moment q.actor q.question) (reply.Refused refusal.Role))
+    by true = admitted_reply-numbered t q.moment q.actor q.question
     by false = λ m is. grind arith
 
 range-push : (a n : ℕ) → range_with_len a (suc n) ≡ range_with_len a n ++ (a + n) ∷ []

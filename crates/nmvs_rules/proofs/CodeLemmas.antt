@@ -22,8 +22,8 @@ use Rattle.nmvs_rules.specs.declared.own.Own.TheVariants as own
 use Rattle.nmvs_rules.specs.declared.batch_lock.BatchLock.{BatchLock}
 use Rattle.nmvs_rules.specs.declared.batch_lock.BatchLock.TheVariants as lock
 use Rattle.nmvs_rules.specs.Questions.{Put, may_ask, pack_of, code_of, names}
-use Rattle.nmvs_rules.specs.Trail.{born, mark, known, known_from, known_at, is_mark, is_about, has_code, is_accepted, alerts_of, holder_of, about_of, own_by, lock_of, lock_by, locks_batch, uploads_batch, is_birth_in, is_known_batch, count_of, stands_at, is_own}
-use Rattle.nmvs_rules.specs.Rules.{on_pack, lock_on, revert_reply, verify_reply, status_reply, decommission_reply, theft_reply, lock_reply, upload_reply, alert_unknown, has_other_holder, reply_to, reply_of}
+use Rattle.nmvs_rules.specs.Trail.{born, mark, known, known_from, known_at, is_mark, is_about, has_code, is_accepted, alerts_of, holder_of, about_of, own_given, lock_of, lock_by, locks_batch, uploads_batch, is_birth_in, is_known_batch, count_of, stands_at, is_own}
+use Rattle.nmvs_rules.specs.Rules.{on_pack, lock_on, revert_reply, verify_reply, status_reply, decommission_reply, theft_reply, lock_reply, upload_reply, alert_unknown, has_other_holder, admitted_reply, reply_of}
 use Rattle.nmvs_rules.specs.Laws.{part_of}
 use Rattle.nmvs_rules.proofs.PushLemmas.{count_by-cons}
 use Rattle.nmvs_rules.proofs.TextLemmas.{same_text-equal}
@@ -146,7 +146,7 @@ stands-code : (t : List Entry) (c : ProductCode) (b : Batch) (s : Own) (q : Ques
 stands-code t c b s (Upload p d x) a = by (same_text c p.code) refl
   where
     by : (v : Bool) → same_text c p.code ≡ v → ((same_text c p.code && same_text b d) && a && stands_at (part_of t c) s (Some p)) ≡ ((same_text c p.code && same_text b d) && a && stands_at t s (Some p))
-    by true h = ap (λ o. (same_text c p.code && same_text b d) && a && is_own s (option_map (λ m. own_by m.question) o)) (ap (λ f. mark (filter f t) p) (ap has_code (same_text-equal c p.code h)) ∙ mark-code t p)
+    by true h = ap (λ o. (same_text c p.code && same_text b d) && a && is_own s (option_map (λ m. own_given m.question) o)) (ap (λ f. mark (filter f t) p) (ap has_code (same_text-equal c p.code h)) ∙ mark-code t p)
     by false h = rw h refl
 stands-code t c b s q a = refl
 
@@ -166,27 +166,27 @@ is_some-forget : (o : Option Known) → is_some (option_map forget o) ≡ is_som
 is_some-forget None = refl
 is_some-forget (Some k) = refl
 
-reply_to-code : (t : List Entry) (n : ℕ) (a : Actor) (q : Question) → reply_to (part_of t (code_of q)) n a q ≡ reply_to t n a q
-reply_to-code t n a (Upload p b x) =
+admitted_reply-code : (t : List Entry) (n : ℕ) (a : Actor) (q : Question) → admitted_reply (part_of t (code_of q)) n a q ≡ admitted_reply t n a q
+admitted_reply-code t n a (Upload p b x) =
     ap (λ h. upload_reply a h (known (part_of t p.code) p)) (holder-code t p.code)
     ∙ ap (λ s. cond (has_other_holder (holder_of t p.code) a.authorisation) (reply.Refused refusal.NotHolder) (cond s (reply.Refused refusal.Duplicate) reply.Uploaded)) (sym (is_some-forget (known (part_of t p.code) p)) ∙ ap is_some (known-code t p) ∙ is_some-forget (known t p))
-reply_to-code t n a (Verify p) =
+admitted_reply-code t n a (Verify p) =
     ap (λ m. on_pack (known (part_of t p.code) p) (alert_unknown m) (λ k. verify_reply n k (lock_on (part_of t p.code) p k) m)) (alerts-code t p.code)
     ∙ on_pack-code t (part_of t p.code) p _ (λ k l. verify_reply n k l (alerts_of t p.code)) (known-code t p) (lock-code t p.code) (λ k l. refl)
-reply_to-code t n a (Status p) = on_pack-code t (part_of t p.code) p _ (λ k l. status_reply k l) (known-code t p) (lock-code t p.code) (λ k l. refl)
-reply_to-code t n a (Decommission p r) =
+admitted_reply-code t n a (Status p) = on_pack-code t (part_of t p.code) p _ (λ k l. status_reply k l) (known-code t p) (lock-code t p.code) (λ k l. refl)
+admitted_reply-code t n a (Decommission p r) =
     ap (λ m. on_pack (known (part_of t p.code) p) (alert_unknown m) (λ k. decommission_reply k (lock_on (part_of t p.code) p k) m)) (alerts-code t p.code)
     ∙ on_pack-code t (part_of t p.code) p _ (λ k l. decommission_reply k l (alerts_of t p.code)) (known-code t p) (lock-code t p.code) (λ k l. refl)
-reply_to-code t n a (Revert p) = on_pack-code t (part_of t p.code) p _ (λ k l. revert_reply n a k l) (known-code t p) (lock-code t p.code) (λ k l. refl)
-reply_to-code t n a (Recall c b) =
+admitted_reply-code t n a (Revert p) = on_pack-code t (part_of t p.code) p _ (λ k l. revert_reply n a k l) (known-code t p) (lock-code t p.code) (λ k l. refl)
+admitted_reply-code t n a (Recall c b) =
     (λ j. lock_reply a (known_batch-code t c b j) (holder-code t c j) (lock-code t c b j) (count-code t c b own.Active j))
-reply_to-code t n a (Withdraw c b) =
+admitted_reply-code t n a (Withdraw c b) =
     (λ j. lock_reply a (known_batch-code t c b j) (holder-code t c j) (lock-code t c b j) (count-code t c b own.Active j))
-reply_to-code t n a (Theft p) =
+admitted_reply-code t n a (Theft p) =
     ap (λ h. on_pack (known (part_of t p.code) p) (reply.Refused refusal.Unknown) (λ k. theft_reply a h k)) (holder-code t p.code)
     ∙ on_pack-code t (part_of t p.code) p _ (λ k l. theft_reply a (holder_of t p.code) k) (known-code t p) (lock-code t p.code) (λ k l. refl)
-reply_to-code t n a (Audit p) = ap reply.Shown (about-filter t p)
+admitted_reply-code t n a (Audit p) = ap reply.Shown (about-filter t p)
 
 -- a reply rests on the entries of its product code
 pub reply-code : (t : List Entry) (q : Put) → reply_of (part_of t (code_of q.question)) q ≡ reply_of t q
-reply-code t q = ap (λ r. cond (may_ask q.actor.role q.question) r (reply.Refused refusal.Role)) (reply_to-code t q.moment q.actor q.question)
+reply-code t q = ap (λ r. cond (may_ask q.actor.role q.question) r (reply.Refused refusal.Role)) (admitted_reply-code t q.moment q.actor q.question)

@@ -14,7 +14,7 @@ use Rattle.nmvs_rules.specs.declared.own.Own.TheVariants as own
 use Rattle.nmvs_rules.specs.declared.entry.Entry.{Entry}
 use Rattle.nmvs_rules.specs.declared.facts.Known.{Known}
 use Rattle.nmvs_rules.specs.Questions.{pack_of, names}
-use Rattle.nmvs_rules.specs.Trail.{known, marked_by, mark_after, accepts, is_about, is_mark, is_upload, own_by, own_by_reason}
+use Rattle.nmvs_rules.specs.Trail.{known, marked_by, mark_after, accepts, is_about, is_mark, is_upload, own_given, own_by_reason}
 use Rattle.nmvs_rules.specs.Rules.{is_active, is_stolen, is_destroyed, is_supplied, reply_of, put_of, IsLawfulAfter, IsLawful}
 use Rattle.nmvs_rules.specs.Laws.{uploads, decommissions, supplies, reverts, confirms, is_decommissioning, is_supply, is_reversion, may_become}
 use Rattle.nmvs_rules.proofs.PushLemmas.{known-push}
@@ -22,7 +22,7 @@ use Rattle.nmvs_rules.proofs.LawfulLemmas.{IsLawful-rest, IsLawfulAfter-first, I
 use Rattle.nmvs_rules.proofs.ReplyLemmas.{KnownAnd, known-holds, is_theft, uploads-tells, decommissions-tells, reverts-tells, confirms-tells, thefts-tells}
 
 -- a decommissioned pack is not active
-pub decommissioned-not_active : (q : Question) → is_decommissioning q ≡ true → is_active (own_by q) ≡ false
+pub decommissioned-not_active : (q : Question) → is_decommissioning q ≡ true → is_active (own_given q) ≡ false
 decommissioned-not_active (Decommission p reason.Supply) h = refl
 decommissioned-not_active (Decommission p reason.Hold) h = refl
 decommissioned-not_active (Decommission p reason.Export) h = refl
@@ -53,10 +53,10 @@ stolen own.Active h = refl
 stolen o h = refl
 
 -- an accepted operation on a known pack moves it on along its course
-course : (t : List Entry) (e : Entry) (p : Pack) (k : Known) → e.reply ≡ reply_of t (put_of e) → known t p ≡ Some k → is_mark p e ≡ true → may_become k.own (own_by e.question) ≡ true
+course : (t : List Entry) (e : Entry) (p : Pack) (k : Known) → e.reply ≡ reply_of t (put_of e) → known t p ≡ Some k → is_mark p e ≡ true → may_become k.own (own_given e.question) ≡ true
 course t e p k lawful is marks = by e.question refl
   where
-    by : (q : Question) → e.question ≡ q → may_become k.own (own_by q) ≡ true
+    by : (q : Question) → e.question ≡ q → may_become k.own (own_given q) ≡ true
     by (Upload s b x) h =
         let born : uploads p e ≡ true = both_true (both_true (ap is_upload h) (first_so _ _ marks)) (second_so (is_about p e) _ marks) in
         let none : true ≡ false = sym (ap is_some is) ∙ uploads-tells t e p lawful born in cc
@@ -73,7 +73,7 @@ course t e p k lawful is marks = by e.question refl
         let none : false ≡ true = second_so (names p (pack_of q)) (accepts q e.reply) (sym (ap (λ q. names p (pack_of q) && accepts q e.reply) h) ∙ marks) in cc
 
 -- what is known of a pack after an accepted operation on it
-known-after-mark : (t : List Entry) (e : Entry) (p : Pack) (k : Known) → known t p ≡ Some k → is_mark p e ≡ true → known (t ++ e ∷ []) p ≡ Some (record k { own = own_by e.question; mark = mark_after (length t) e })
+known-after-mark : (t : List Entry) (e : Entry) (p : Pack) (k : Known) → known t p ≡ Some k → is_mark p e ≡ true → known (t ++ e ∷ []) p ≡ Some (record k { own = own_given e.question; mark = mark_after (length t) e })
 known-after-mark t e p k is marks =
     known-push t e p
     ∙ ap (λ b. cond b (marked_by (length t) e (known t p)) (known t p)) marks
@@ -82,7 +82,7 @@ known-after-mark t e p k is marks =
 known-after-other : (t : List Entry) (e : Entry) (p : Pack) → is_mark p e ≡ false → known (t ++ e ∷ []) p ≡ known t p
 known-after-other t e p other = known-push t e p ∙ ap (λ b. cond b (marked_by (length t) e (known t p)) (known t p)) other
 
-pub course-in : (before after : List Entry) (e : Entry) (p : Pack) (k : Known) → IsLawful (before ++ e ∷ after) → known before p ≡ Some k → (is_mark p e ≡ false → known (before ++ e ∷ []) p ≡ Some k) × (is_mark p e ≡ true → may_become k.own (own_by e.question) ≡ true)
+pub course-in : (before after : List Entry) (e : Entry) (p : Pack) (k : Known) → IsLawful (before ++ e ∷ after) → known before p ≡ Some k → (is_mark p e ≡ false → known (before ++ e ∷ []) p ≡ Some k) × (is_mark p e ≡ true → may_become k.own (own_given e.question) ≡ true)
 course-in before after e p k lawful is = (
   λ other. known-after-other before e p other ∙ is,
   λ marks. course before e p k (IsLawful-rest before (e ∷ after) lawful).0 is marks,
@@ -98,9 +98,9 @@ Stands-push passes keeps t e p h lawful = by (is_mark p e) refl
   where
     by : (b : Bool) → is_mark p e ≡ b → Stands passes (t ++ e ∷ []) p
     by true marks = (
-      record h.0 { own = own_by e.question; mark = mark_after (length t) e },
+      record h.0 { own = own_given e.question; mark = mark_after (length t) e },
       known-after-mark t e p h.0 h.1 marks,
-      keeps h.0.own (own_by e.question) h.2 (course t e p h.0 lawful h.1 marks),
+      keeps h.0.own (own_given e.question) h.2 (course t e p h.0 lawful h.1 marks),
     )
     by false other = (h.0, known-after-other t e p other ∙ h.1, h.2)
 
@@ -119,7 +119,7 @@ gone-keeps own.Supplied own.Stolen h m = refl
 gone-keeps own.Stolen w h m = let none : false ≡ true = m in cc
 gone-keeps o w h m = let none : false ≡ true = h in cc
 
-supply-gone : (q : Question) → is_supply q ≡ true → (is_decommissioning q ≡ true) × (is_gone (own_by q) ≡ true)
+supply-gone : (q : Question) → is_supply q ≡ true → (is_decommissioning q ≡ true) × (is_gone (own_given q) ≡ true)
 supply-gone (Decommission s reason.Supply) h = (refl, refl)
 supply-gone q h = let none : false ≡ true = h in (cc, cc)
 
@@ -168,13 +168,13 @@ supplied-once before between after supply later p lawful h = (
     marks : is_mark p supply ≡ true
     marks = first_so (is_mark p supply) _ h
 
-    kind : (is_decommissioning supply.question ≡ true) × (is_gone (own_by supply.question) ≡ true)
+    kind : (is_decommissioning supply.question ≡ true) × (is_gone (own_given supply.question) ≡ true)
     kind = supply-gone supply.question (second_so (is_mark p supply) _ h)
 
     supplied : Stands is_gone (before ++ supply ∷ []) p
     supplied =
         let k = decommissions-tells before supply p at.first (both_true marks kind.0) in
-        (record k.0 { own = own_by supply.question; mark = mark_after (length before) supply }, known-after-mark before supply p k.0 k.1 marks, kind.1)
+        (record k.0 { own = own_given supply.question; mark = mark_after (length before) supply }, known-after-mark before supply p k.0 k.1 marks, kind.1)
 
     gone : Stands is_gone t p
     gone = behind-keeps (λ z. Stands is_gone z p) (λ z e k l. Stands-push is_gone gone-keeps z e p k l) before between supply supplied at.between
@@ -186,7 +186,7 @@ is_out o = not (is_active o)
 out-keeps : (t : List Entry) (e : Entry) (p : Pack) → Stands is_out t p → e.reply ≡ reply_of t (put_of e) → reverts p e ≡ false → Stands is_out (t ++ e ∷ []) p
 out-keeps t e p h lawful unreverted = by (is_mark p e) refl
   where
-    out : (q : Question) → e.question ≡ q → is_mark p e ≡ true → is_out (own_by q) ≡ true
+    out : (q : Question) → e.question ≡ q → is_mark p e ≡ true → is_out (own_given q) ≡ true
     out (Decommission s w) is marks = ap not (decommissioned-not_active (Decommission s w) refl)
     out (Theft s) is marks = refl
     out (Revert s) is marks = let none : false ≡ true = sym unreverted ∙ both_true marks (ap is_reversion is) in cc
@@ -200,7 +200,7 @@ out-keeps t e p h lawful unreverted = by (is_mark p e) refl
 
     by : (b : Bool) → is_mark p e ≡ b → Stands is_out (t ++ e ∷ []) p
     by true marks =
-        (record h.0 { own = own_by e.question; mark = mark_after (length t) e }, known-after-mark t e p h.0 h.1 marks, out e.question refl marks)
+        (record h.0 { own = own_given e.question; mark = mark_after (length t) e }, known-after-mark t e p h.0 h.1 marks, out e.question refl marks)
     by false other = (h.0, known-after-other t e p other ∙ h.1, h.2)
 
 -- where no entry reverts a pack that is out of circulation, it stays out
@@ -229,7 +229,7 @@ reverted-between before between after first second p lawful h k = by (list_any (
     out : Stands is_out (before ++ first ∷ []) p
     out =
         let pack = decommissions-tells before first p at.first h in (
-          record pack.0 { own = own_by first.question; mark = mark_after (length before) first },
+          record pack.0 { own = own_given first.question; mark = mark_after (length before) first },
           known-after-mark before first p pack.0 pack.1 (first_so (is_mark p first) _ h),
           ap not (decommissioned-not_active first.question (second_so (is_mark p first) _ h)),
         )

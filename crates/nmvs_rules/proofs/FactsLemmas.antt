@@ -23,8 +23,8 @@ use Rattle.nmvs_rules.proofs.FindLemmas.{find-passes, find-any}
 use Rattle.nmvs_rules.proofs.TextLemmas.{same_text-refl}
 use Rattle.nmvs_rules.specs.Questions.{Put, pack_of, names, may_ask}
 use Rattle.nmvs_rules.specs.Trail.{born, mark, known, known_from, known_at, is_upload, is_about, is_accepted, uploads_batch, is_birth_in, is_known_batch, lock_of, batch_record, alerts_of, holder_of, counts_of}
-use Rattle.nmvs_rules.specs.Rules.{reply_of, reply_to, on_pack, lock_on, lock_reply, verify_reply, status_reply, decommission_reply, revert_reply}
-use Rattle.nmvs_rules.specs.Facts.{facts_of, reply_by, reply_to_by, lock_in, active_in, batch_by_known}
+use Rattle.nmvs_rules.specs.Rules.{reply_of, admitted_reply, on_pack, lock_on, lock_reply, verify_reply, status_reply, decommission_reply, revert_reply}
+use Rattle.nmvs_rules.specs.Facts.{facts_of, reply_by_facts, admitted_reply_by_facts, lock_in, active_in, batch_by_known}
 
 -- the question that made a pack known uploads the batch that the pack is known by
 pub known_at-batch : (t : List Entry) (p : Pack) (m : Entry) (q : Question) (k : Known) → known_at t p m q ≡ Some k → names p (pack_of q) ≡ true → uploads_batch p.code k.batch q ≡ true
@@ -65,21 +65,21 @@ pub lock_reply-record : (a : Actor) (h : Option Name) (r : BatchRecord) (is_know
 lock_reply-record a h r true = refl
 lock_reply-record a h r false = refl
 
-pub reply_to-by : (t : List Entry) (n : ℕ) (a : Actor) (q : Question) → reply_to t n a q ≡ reply_to_by (facts_of t q) n a q
-reply_to-by t n a (Upload p b x) = refl
-reply_to-by t n a (Verify p) = on_pack-lock t p _ (λ k l. verify_reply n k l (alerts_of t p.code)) (known t p) refl
-reply_to-by t n a (Status p) = on_pack-lock t p _ (λ k l. status_reply k l) (known t p) refl
-reply_to-by t n a (Decommission p r) = on_pack-lock t p _ (λ k l. decommission_reply k l (alerts_of t p.code)) (known t p) refl
-reply_to-by t n a (Revert p) = on_pack-lock t p _ (λ k l. revert_reply n a k l) (known t p) refl
-reply_to-by t n a (Recall c b) = lock_reply-record a (holder_of t c) (record { lock = lock_of t c b; counts = counts_of t c b }) (is_known_batch t c b)
-reply_to-by t n a (Withdraw c b) = lock_reply-record a (holder_of t c) (record { lock = lock_of t c b; counts = counts_of t c b }) (is_known_batch t c b)
-reply_to-by t n a (Theft p) = refl
-reply_to-by t n a (Audit p) = refl
+pub admitted_reply-facts : (t : List Entry) (n : ℕ) (a : Actor) (q : Question) → admitted_reply t n a q ≡ admitted_reply_by_facts (facts_of t q) n a q
+admitted_reply-facts t n a (Upload p b x) = refl
+admitted_reply-facts t n a (Verify p) = on_pack-lock t p _ (λ k l. verify_reply n k l (alerts_of t p.code)) (known t p) refl
+admitted_reply-facts t n a (Status p) = on_pack-lock t p _ (λ k l. status_reply k l) (known t p) refl
+admitted_reply-facts t n a (Decommission p r) = on_pack-lock t p _ (λ k l. decommission_reply k l (alerts_of t p.code)) (known t p) refl
+admitted_reply-facts t n a (Revert p) = on_pack-lock t p _ (λ k l. revert_reply n a k l) (known t p) refl
+admitted_reply-facts t n a (Recall c b) = lock_reply-record a (holder_of t c) (record { lock = lock_of t c b; counts = counts_of t c b }) (is_known_batch t c b)
+admitted_reply-facts t n a (Withdraw c b) = lock_reply-record a (holder_of t c) (record { lock = lock_of t c b; counts = counts_of t c b }) (is_known_batch t c b)
+admitted_reply-facts t n a (Theft p) = refl
+admitted_reply-facts t n a (Audit p) = refl
 
 -- the reply of the rules on a trail is the reply by the trail's facts
-pub reply-by : (t : List Entry) (q : Put) → reply_of t q ≡ reply_by (facts_of t q.question) q.moment q.actor q.question
+pub reply-by : (t : List Entry) (q : Put) → reply_of t q ≡ reply_by_facts (facts_of t q.question) q.moment q.actor q.question
 reply-by t q =
-    ap (λ r. cond (may_ask q.actor.role q.question) r (reply.Refused refusal.Role)) (reply_to-by t q.moment q.actor q.question)
+    ap (λ r. cond (may_ask q.actor.role q.question) r (reply.Refused refusal.Role)) (admitted_reply-facts t q.moment q.actor q.question)
 
-pub reply_by-trail : (t : List Entry) (q : Put) (f : Facts) (n : ℕ) (a : Actor) (qn : Question) → q.moment ≡ n → q.actor ≡ a → q.question ≡ qn → facts_of t q.question ≡ f → reply_by f n a qn ≡ reply_of t q
-reply_by-trail t q f n a qn en ea eq ef = rw (← ef, ← en, ← ea, ← eq) (sym (reply-by t q))
+pub reply_by_facts-trail : (t : List Entry) (q : Put) (f : Facts) (n : ℕ) (a : Actor) (qn : Question) → q.moment ≡ n → q.actor ≡ a → q.question ≡ qn → facts_of t q.question ≡ f → reply_by_facts f n a qn ≡ reply_of t q
+reply_by_facts-trail t q f n a qn en ea eq ef = rw (← ef, ← en, ← ea, ← eq) (sym (reply-by t q))

@@ -13,7 +13,7 @@ use Rattle.nmvs_rules.specs.declared.question.Question.{Question}
 use Rattle.nmvs_rules.specs.declared.question.Question.TheVariants.{Upload}
 use Rattle.nmvs_rules.specs.declared.entry.Entry.{Entry}
 use Rattle.nmvs_rules.specs.declared.facts.Known.{Known}
-use Rattle.nmvs_rules.specs.Trail.{born, mark, mark_place, mark_after, known, known_from, known_at, is_mark, is_about, is_upload, own_by}
+use Rattle.nmvs_rules.specs.Trail.{born, mark, mark_place, mark_after, known, known_from, known_at, is_mark, is_about, is_upload, own_given}
 use Rattle.nmvs_rules.specs.Laws.{uploads}
 use Rattle.nmvs_rules.proofs.FindLemmas.{find-passes, find-any}
 
@@ -52,12 +52,12 @@ pub record KnownBy (t : List Entry) (p : Pack) (k : Known) : Type 0 where
   pub born : born t p ≡ Some upload
   pub question : upload.question ≡ Upload pack k.batch k.expiry
   pub marked : mark t p ≡ Some last
-  pub known : k ≡ record { batch = k.batch; expiry = k.expiry; own = own_by last.question; mark = mark_after (mark_place t p) last }
+  pub known : k ≡ record { batch = k.batch; expiry = k.expiry; own = own_given last.question; mark = mark_after (mark_place t p) last }
 
 known_at-by : (t : List Entry) (p : Pack) (u m : Entry) (q : Question) (k : Known) → u.question ≡ q → born t p ≡ Some u → mark t p ≡ Some m → known_at t p m q ≡ Some k → KnownBy t p k
 known_at-by t p u m (Upload r b x) k is birth marked h =
     let P : Known → Type 0 = λ k. KnownBy t p k in
-    let made : Known = record { batch = b; expiry = x; own = own_by m.question; mark = mark_after (mark_place t p) m } in
+    let made : Known = record { batch = b; expiry = x; own = own_given m.question; mark = mark_after (mark_place t p) m } in
     let same : made ≡ k = cc in
     subst P same (record { upload = u; pack = r; last = m; born = birth; question = is; marked = marked; known = refl })
 known_at-by t p u m q k is birth marked h = cc
@@ -73,7 +73,7 @@ known-by t p k h = by (born t p) refl h
         (ap (λ m. known_at t p (unwrap_or m u) u.question) (sym marked.1) ∙ is)
 
 -- what is known of a pack that was uploaded and marked
-pub known-made : (t : List Entry) (p r : Pack) (u m : Entry) (b : Batch) (x : Expiry) → born t p ≡ Some u → u.question ≡ Upload r b x → mark t p ≡ Some m → known t p ≡ Some (record { batch = b; expiry = x; own = own_by m.question; mark = mark_after (mark_place t p) m })
+pub known-made : (t : List Entry) (p r : Pack) (u m : Entry) (b : Batch) (x : Expiry) → born t p ≡ Some u → u.question ≡ Upload r b x → mark t p ≡ Some m → known t p ≡ Some (record { batch = b; expiry = x; own = own_given m.question; mark = mark_after (mark_place t p) m })
 known-made t p r u m b x birth question marked =
     ap (known_from t p) birth
     ∙ ap (λ o. known_at t p (unwrap_or o u) u.question) marked

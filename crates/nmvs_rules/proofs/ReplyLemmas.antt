@@ -17,7 +17,7 @@ use Rattle.nmvs_rules.specs.declared.reply.Reply.TheVariants as reply
 use Rattle.nmvs_rules.specs.declared.refusal.Refusal.TheVariants as refusal
 use Rattle.nmvs_rules.specs.Questions.{Put, may_ask, pack_of, names}
 use Rattle.nmvs_rules.specs.Trail.{known, accepts, is_mark, is_upload, holder_of}
-use Rattle.nmvs_rules.specs.Rules.{on_pack, lock_on, is_active, is_free, is_stolen, is_destroyed, is_supplied, is_authentic, is_past, is_same_place, is_in_time, is_held_by, has_other_holder, reply_to, reply_of, put_of}
+use Rattle.nmvs_rules.specs.Rules.{on_pack, lock_on, is_active, is_free, is_stolen, is_destroyed, is_supplied, is_authentic, is_past, is_same_place, is_in_time, is_held_by, has_other_holder, admitted_reply, reply_of, put_of}
 use Rattle.nmvs_rules.specs.Laws.{is_decommissioning, is_reversion, is_confirmed, uploads, decommissions, reverts, confirms}
 use Rattle.nmvs_rules.proofs.TextLemmas.{same_pack-equal}
 
@@ -48,7 +48,7 @@ on_pack-known t p x z f other e = by (known t p) refl e
 
 -- the rules' reply to a question
 abbrev pub IsReply : List Entry → ℕ → Actor → Question → Reply → Type 0
-IsReply t n a q r = r ≡ cond (may_ask a.role q) (reply_to t n a q) (reply.Refused refusal.Role)
+IsReply t n a q r = r ≡ cond (may_ask a.role q) (admitted_reply t n a q) (reply.Refused refusal.Role)
 
 -- the pack may be moved on
 pub record IsAuthentic (t : List Entry) (p : Pack) (k : Known) : Type 0 where
@@ -171,8 +171,8 @@ uploads-tells t e p lawful h = by e.question e.reply lawful h
     by (Upload s b x) r is c = let none : false ≡ true = second_so (same_pack p s) false c in cc
     by q r is c = let none : false ≡ true = first_so (is_upload q) (names p (pack_of q)) (first_so (is_upload q && names p (pack_of q)) (accepts q r) c) in cc
 
-pub reply-question : (t : List Entry) (q : Put) (n : Question) → q.question ≡ n → reply_of t q ≡ cond (may_ask q.actor.role n) (reply_to t q.moment q.actor n) (reply.Refused refusal.Role)
-reply-question t q n is = ap (λ z. cond (may_ask q.actor.role z) (reply_to t q.moment q.actor z) (reply.Refused refusal.Role)) is
+pub reply-question : (t : List Entry) (q : Put) (n : Question) → q.question ≡ n → reply_of t q ≡ cond (may_ask q.actor.role n) (admitted_reply t q.moment q.actor n) (reply.Refused refusal.Role)
+reply-question t q n is = ap (λ z. cond (may_ask q.actor.role z) (admitted_reply t q.moment q.actor z) (reply.Refused refusal.Role)) is
 
 -- what is not refused for its role was asked by one that may
 pub may-tells : (t : List Entry) (n : ℕ) (a : Actor) (q : Question) (r : Reply) → (reply.Refused refusal.Role ≡ r → ⊥) → IsReply t n a q r → may_ask a.role q ≡ true

@@ -19,8 +19,8 @@ use Rattle.nmvs_rules.specs.declared.facts.Known.{Known}
 use Rattle.nmvs_rules.specs.declared.reply.Reply.TheVariants as reply
 use Rattle.nmvs_rules.specs.declared.refusal.Refusal.TheVariants as refusal
 use Rattle.nmvs_rules.specs.Questions.{Put, may_ask}
-use Rattle.nmvs_rules.specs.Trail.{born, mark_place, mark_after, known, own_by, own_of}
-use Rattle.nmvs_rules.specs.Rules.{is_free, is_active, is_stolen, is_destroyed, is_supplied, is_past, is_same_place, is_in_time, lock_on, on_pack, revert_reply, reply_of, reply_to}
+use Rattle.nmvs_rules.specs.Trail.{born, mark_place, mark_after, known, own_given, own_of}
+use Rattle.nmvs_rules.specs.Rules.{is_free, is_active, is_stolen, is_destroyed, is_supplied, is_past, is_same_place, is_in_time, lock_on, on_pack, revert_reply, reply_of, admitted_reply}
 use Rattle.nmvs_rules.specs.Laws.{IsUploadedWith, IsRevertible, is_decommissioning}
 use Rattle.nmvs_rules.proofs.TextLemmas.{same_text-bytes, same_text-from_bytes}
 use Rattle.nmvs_rules.proofs.ReplyLemmas.{IsReply, IsReversible, revert-tells, may-tells, reply-question}
@@ -49,7 +49,7 @@ free-lock lock.Recalled h = cc
 free-lock lock.Withdrawn h = cc
 
 -- a pack that is neither active nor stolen was decommissioned last
-decommissioned-last : (q : Question) → is_active (own_by q) ≡ false → is_stolen (own_by q) ≡ false → is_decommissioning q ≡ true
+decommissioned-last : (q : Question) → is_active (own_given q) ≡ false → is_stolen (own_given q) ≡ false → is_decommissioning q ≡ true
 decommissioned-last (Decommission p w) active stolen = refl
 decommissioned-last (Theft p) active stolen = sym stolen
 decommissioned-last q active stolen = sym active
@@ -75,11 +75,11 @@ uploaded-with t p k by =
 
 revertible : (t : List Entry) (p : Pack) (q : Put) (k : Known) → KnownBy t p k → IsReversible t q.moment q.actor p k → IsRevertible t p q
 revertible t p q k by tells =
-    let status : k.own ≡ own_by by.last.question = ap (λ z. z.own) by.known in
+    let status : k.own ≡ own_given by.last.question = ap (λ z. z.own) by.known in
     let made : k.mark ≡ mark_after (mark_place t p) by.last = ap (λ z. z.mark) by.known in
     let place : is_same_place q.actor (mark_after (mark_place t p) by.last) ≡ true = sym (ap (is_same_place q.actor) made) ∙ tells.same_place in
     let time : is_in_time q.moment (mark_after (mark_place t p) by.last) ≡ true = sym (ap (is_in_time q.moment) made) ∙ tells.in_time in
-    let now : own_of t p ≡ Some k.own = ap (option_map (λ m. own_by m.question)) by.marked ∙ ap Some (sym status) in
+    let now : own_of t p ≡ Some k.own = ap (option_map (λ m. own_given m.question)) by.marked ∙ ap Some (sym status) in
     record {
       batch = k.batch;
       expiry = k.expiry;
@@ -112,16 +112,16 @@ only-supplied o h = cc
 reverted : (n : ℕ) (a : Actor) (k : Known) (l : BatchLock) → is_free l ≡ true → is_active k.own ≡ false → is_stolen k.own ≡ false → is_destroyed k.own ≡ false → is_supplied k.own ≡ false → is_same_place a k.mark ≡ true → is_in_time n k.mark ≡ true → is_past k.expiry n ≡ false → revert_reply n a k l ≡ reply.Reverted
 reverted n a k l free active stolen destroyed supplied place time past = rw (free, active, stolen, destroyed, supplied, place, time, past) refl
 
-reversion : (t : List Entry) (p : Pack) (q : Put) → may_ask q.actor.role (Revert p) ≡ true → IsRevertible t p q → cond (may_ask q.actor.role (Revert p)) (reply_to t q.moment q.actor (Revert p)) (reply.Refused refusal.Role) ≡ reply.Reverted
+reversion : (t : List Entry) (p : Pack) (q : Put) → may_ask q.actor.role (Revert p) ≡ true → IsRevertible t p q → cond (may_ask q.actor.role (Revert p)) (admitted_reply t q.moment q.actor (Revert p)) (reply.Refused refusal.Role) ≡ reply.Reverted
 reversion t p q may h =
     let upload = from-some (born t p) _ h.uploaded in
-    let k : Known = record { batch = h.batch; expiry = h.expiry; own = own_by h.last.question; mark = mark_after (mark_place t p) h.last } in
+    let k : Known = record { batch = h.batch; expiry = h.expiry; own = own_given h.last.question; mark = mark_after (mark_place t p) h.last } in
     let is : known t p ≡ Some k = known-made t p upload.2.0 upload.0 h.last h.batch h.expiry upload.1 upload.2.1 h.marked in
-    let now : own_of t p ≡ Some k.own = ap (option_map (λ m. own_by m.question)) h.marked in
+    let now : own_of t p ≡ Some k.own = ap (option_map (λ m. own_given m.question)) h.marked in
     let place : is_same_place q.actor k.mark ≡ true =
     ap (λ b. b && same_text q.actor.premises h.last.actor.premises) (same_text-from_bytes q.actor.authorisation h.last.actor.authorisation h.same_authorisation)
     ∙ same_text-from_bytes q.actor.premises h.last.actor.premises h.same_premises in
-    ap (λ b. cond b (reply_to t q.moment q.actor (Revert p)) (reply.Refused refusal.Role)) may
+    ap (λ b. cond b (admitted_reply t q.moment q.actor (Revert p)) (reply.Refused refusal.Role)) may
     ∙ ap (λ o. on_pack o (reply.Refused refusal.Unknown) (λ k. revert_reply q.moment q.actor k (lock_on t p k))) is
     ∙ reverted q.moment q.actor k (lock_on t p k)
     (ap is_free h.free)

@@ -14,8 +14,8 @@ use Rattle.nmvs_rules.specs.declared.reply.Reply.{Reply}
 use Rattle.nmvs_rules.specs.declared.reply.Reply.TheVariants as reply
 use Rattle.nmvs_rules.specs.declared.refusal.Refusal.TheVariants as refusal
 use Rattle.nmvs_rules.specs.Questions.{Put, may_ask, pack_of, names}
-use Rattle.nmvs_rules.specs.Trail.{born, mark, mark_place, mark_after, known, accepts, is_mark, is_upload, own_by, lock_of, alerts_of}
-use Rattle.nmvs_rules.specs.Rules.{is_free, is_active, is_past, lock_on, on_pack, alert_unknown, verify_reply, reply_of, reply_to}
+use Rattle.nmvs_rules.specs.Trail.{born, mark, mark_place, mark_after, known, accepts, is_mark, is_upload, own_given, lock_of, alerts_of}
+use Rattle.nmvs_rules.specs.Rules.{is_free, is_active, is_past, lock_on, on_pack, alert_unknown, verify_reply, reply_of, admitted_reply}
 use Rattle.nmvs_rules.specs.Laws.{IsUploadedWith, IsInCirculation, is_reversion}
 use Rattle.nmvs_rules.proofs.FindLemmas.{find-passes}
 use Rattle.nmvs_rules.proofs.ReplyLemmas.{IsReply, verify-tells, may-tells, reply-question}
@@ -24,7 +24,7 @@ use Rattle.nmvs_rules.proofs.CourseLemmas.{decommissioned-not_active}
 use Rattle.nmvs_rules.proofs.ReversionLemmas.{free-lock, from-some, uploaded-with}
 
 -- the last accepted entry about an active pack is an upload or a reversion
-active-last : (p : Pack) (q : Question) (r : Reply) → (names p (pack_of q) && accepts q r) ≡ true → is_active (own_by q) ≡ true → (is_upload q || is_reversion q) ≡ true
+active-last : (p : Pack) (q : Question) (r : Reply) → (names p (pack_of q) && accepts q r) ≡ true → is_active (own_given q) ≡ true → (is_upload q || is_reversion q) ≡ true
 active-last p (Upload s b x) r h active = refl
 active-last p (Revert s) r h active = refl
 active-last p (Decommission s w) r h active = sym (decommissioned-not_active (Decommission s w) refl) ∙ active
@@ -33,7 +33,7 @@ active-last p (Withdraw c b) r h active = h
 active-last p (Theft s) r h active = active
 active-last p q r h active = second_so (names p (pack_of q)) (accepts q r) h
 
-active-by : (q : Question) → (is_upload q || is_reversion q) ≡ true → is_active (own_by q) ≡ true
+active-by : (q : Question) → (is_upload q || is_reversion q) ≡ true → is_active (own_given q) ≡ true
 active-by (Upload s b x) h = refl
 active-by (Revert s) h = refl
 active-by q h = cc
@@ -44,14 +44,14 @@ in-circulation t p k by active =
     subst P (sym by.marked)
     (active-last p by.last.question by.last.reply (find-passes (is_mark p) (reverse t) by.last by.marked) (sym (ap (λ z. is_active z.own) by.known) ∙ active))
 
-verification : (t : List Entry) (p : Pack) (q : Put) (b : Batch) (x : Expiry) → may_ask q.actor.role (Verify p) ≡ true → IsUploadedWith t p b x → IsInCirculation t p → lock_of t p.code b ≡ lock.Free → cond (may_ask q.actor.role (Verify p)) (reply_to t q.moment q.actor (Verify p)) (reply.Refused refusal.Role) ≡ reply.Authentic b x (is_past x q.moment)
+verification : (t : List Entry) (p : Pack) (q : Put) (b : Batch) (x : Expiry) → may_ask q.actor.role (Verify p) ≡ true → IsUploadedWith t p b x → IsInCirculation t p → lock_of t p.code b ≡ lock.Free → cond (may_ask q.actor.role (Verify p)) (admitted_reply t q.moment q.actor (Verify p)) (reply.Refused refusal.Role) ≡ reply.Authentic b x (is_past x q.moment)
 verification t p q b x may uploaded moving free =
     let upload = from-some (born t p) _ uploaded in
     let last = from-some (mark t p) _ moving in
-    let k : Known = record { batch = b; expiry = x; own = own_by last.0.question; mark = mark_after (mark_place t p) last.0 } in
+    let k : Known = record { batch = b; expiry = x; own = own_given last.0.question; mark = mark_after (mark_place t p) last.0 } in
     let is : known t p ≡ Some k = known-made t p upload.2.0 upload.0 last.0 b x upload.1 upload.2.1 last.1 in
     let active : is_active k.own ≡ true = active-by last.0.question last.2 in
-    ap (λ c. cond c (reply_to t q.moment q.actor (Verify p)) (reply.Refused refusal.Role)) may
+    ap (λ c. cond c (admitted_reply t q.moment q.actor (Verify p)) (reply.Refused refusal.Role)) may
     ∙ ap (λ o. on_pack o (alert_unknown (alerts_of t p.code)) (λ k. verify_reply q.moment k (lock_on t p k) (alerts_of t p.code))) is
     ∙ confirmed q.moment k (lock_on t p k) (alerts_of t p.code) active (ap is_free free)
   where

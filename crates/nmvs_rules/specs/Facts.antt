@@ -63,24 +63,24 @@ abbrev pub active_in : Option BatchRecord → ℕ
 active_in None = 0
 active_in (Some r) = r.counts.active
 
--- the reply to an admitted question by the facts: the lines of `reply_to`, with each look at the trail replaced by a fact
-abbrev pub reply_to_by : Facts → ℕ → Actor → Question → Reply
-reply_to_by f moment a (Upload p b x) = upload_reply a f.holder f.pack
-reply_to_by f moment a (Verify p) =
+-- the reply to an admitted question by the facts: the lines of `admitted_reply`, with each look at the trail replaced by a fact
+abbrev pub admitted_reply_by_facts : Facts → ℕ → Actor → Question → Reply
+admitted_reply_by_facts f moment a (Upload p b x) = upload_reply a f.holder f.pack
+admitted_reply_by_facts f moment a (Verify p) =
     on_pack f.pack (alert_unknown f.alerts) (λ k. verify_reply moment k (lock_in f.batch) f.alerts)
-reply_to_by f moment a (Status p) = on_pack f.pack reply.NoPack (λ k. status_reply k (lock_in f.batch))
-reply_to_by f moment a (Decommission p r) =
+admitted_reply_by_facts f moment a (Status p) = on_pack f.pack reply.NoPack (λ k. status_reply k (lock_in f.batch))
+admitted_reply_by_facts f moment a (Decommission p r) =
     on_pack f.pack (alert_unknown f.alerts) (λ k. decommission_reply k (lock_in f.batch) f.alerts)
-reply_to_by f moment a (Revert p) =
+admitted_reply_by_facts f moment a (Revert p) =
     on_pack f.pack (reply.Refused refusal.Unknown) (λ k. revert_reply moment a k (lock_in f.batch))
-reply_to_by f moment a (Recall c b) =
+admitted_reply_by_facts f moment a (Recall c b) =
     lock_reply a (is_some f.batch) f.holder (lock_in f.batch) (active_in f.batch)
-reply_to_by f moment a (Withdraw c b) =
+admitted_reply_by_facts f moment a (Withdraw c b) =
     lock_reply a (is_some f.batch) f.holder (lock_in f.batch) (active_in f.batch)
-reply_to_by f moment a (Theft p) =
+admitted_reply_by_facts f moment a (Theft p) =
     on_pack f.pack (reply.Refused refusal.Unknown) (λ k. theft_reply a f.holder k)
-reply_to_by f moment a (Audit p) = reply.Shown f.about
+admitted_reply_by_facts f moment a (Audit p) = reply.Shown f.about
 
 -- the reply of the rules by the facts
-abbrev pub reply_by : Facts → ℕ → Actor → Question → Reply
-reply_by f moment a q = if may_ask a.role q then reply_to_by f moment a q else reply.Refused refusal.Role
+abbrev pub reply_by_facts : Facts → ℕ → Actor → Question → Reply
+reply_by_facts f moment a q = if may_ask a.role q then admitted_reply_by_facts f moment a q else reply.Refused refusal.Role

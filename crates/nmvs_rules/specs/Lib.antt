@@ -1,5 +1,6 @@
 pub mod Questions
 pub mod Replies
+pub mod Entries
 pub mod Trail
 pub mod Rules
 pub mod Facts

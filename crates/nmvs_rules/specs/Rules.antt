@@ -179,27 +179,27 @@ on_pack None unknown f = unknown
 on_pack (Some k) unknown f = f k
 
 -- the reply to an admitted question
-abbrev pub reply_to : List Entry → ℕ → Actor → Question → Reply
-reply_to t moment a (Upload p b x) = upload_reply a (holder_of t p.code) (known t p)
-reply_to t moment a (Verify p) =
+abbrev pub admitted_reply : List Entry → ℕ → Actor → Question → Reply
+admitted_reply t moment a (Upload p b x) = upload_reply a (holder_of t p.code) (known t p)
+admitted_reply t moment a (Verify p) =
     on_pack (known t p) (alert_unknown (alerts_of t p.code)) (λ k. verify_reply moment k (lock_on t p k) (alerts_of t p.code))
-reply_to t moment a (Status p) = on_pack (known t p) reply.NoPack (λ k. status_reply k (lock_on t p k))
-reply_to t moment a (Decommission p r) =
+admitted_reply t moment a (Status p) = on_pack (known t p) reply.NoPack (λ k. status_reply k (lock_on t p k))
+admitted_reply t moment a (Decommission p r) =
     on_pack (known t p) (alert_unknown (alerts_of t p.code)) (λ k. decommission_reply k (lock_on t p k) (alerts_of t p.code))
-reply_to t moment a (Revert p) =
+admitted_reply t moment a (Revert p) =
     on_pack (known t p) (reply.Refused refusal.Unknown) (λ k. revert_reply moment a k (lock_on t p k))
-reply_to t moment a (Recall c b) =
+admitted_reply t moment a (Recall c b) =
     lock_reply a (is_known_batch t c b) (holder_of t c) (lock_of t c b) (count_of t c b own.Active)
-reply_to t moment a (Withdraw c b) =
+admitted_reply t moment a (Withdraw c b) =
     lock_reply a (is_known_batch t c b) (holder_of t c) (lock_of t c b) (count_of t c b own.Active)
-reply_to t moment a (Theft p) =
+admitted_reply t moment a (Theft p) =
     on_pack (known t p) (reply.Refused refusal.Unknown) (λ k. theft_reply a (holder_of t p.code) k)
-reply_to t moment a (Audit p) = reply.Shown (about_of t p)
+admitted_reply t moment a (Audit p) = reply.Shown (about_of t p)
 
 -- the reply of the rules: who may not ask is refused before all else (own)
 abbrev pub reply_of : List Entry → Put → Reply
 reply_of t q =
-    if may_ask q.actor.role q.question then reply_to t q.moment q.actor q.question else reply.Refused refusal.Role
+    if may_ask q.actor.role q.question then admitted_reply t q.moment q.actor q.question else reply.Refused refusal.Role
 
 -- an entry's question as it was put
 abbrev pub put_of : Entry → Put

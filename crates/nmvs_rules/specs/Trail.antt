@@ -96,15 +96,15 @@ own_by_reason reason.Export = own.Exported
 own_by_reason reason.Sample = own.Sampled
 own_by_reason reason.Destroy = own.Destroyed
 
--- the own status that an accepted question gives: active by an upload or a reversion (Articles 11, 13 and 40)
-abbrev pub own_by : Question → Own
-own_by (Decommission _ r) = own_by_reason r
-own_by (Theft _) = own.Stolen
-own_by _ = own.Active
+-- the own status that a question gives once it is accepted: active by an upload or a reversion (Articles 11, 13 and 40)
+abbrev pub own_given : Question → Own
+own_given (Decommission _ r) = own_by_reason r
+own_given (Theft _) = own.Stolen
+own_given _ = own.Active
 
 -- a pack's own status, where it has a mark (Articles 22, 25 and 40)
 abbrev pub own_of : List Entry → Pack → Option Own
-own_of t p = option_map (λ m. own_by m.question) (mark t p)
+own_of t p = option_map (λ m. own_given m.question) (mark t p)
 
 -- the lock that a recall or withdrawal puts on its batch (Article 40)
 abbrev pub lock_by : Question → BatchLock
@@ -140,7 +140,7 @@ known_at t p m (Upload _ b x) =
     Some (record {
       batch = b;
       expiry = x;
-      own = own_by m.question;
+      own = own_given m.question;
       mark = mark_after (mark_place t p) m;
     })
 known_at t p m _ = None
@@ -162,7 +162,7 @@ born_by place e _ = None
 -- what is known of a pack after one more accepted entry about it
 abbrev pub marked_by : ℕ → Entry → Option Known → Option Known
 marked_by place e None = born_by place e e.question
-marked_by place e (Some k) = Some (record k { own = own_by e.question; mark = mark_after place e })
+marked_by place e (Some k) = Some (record k { own = own_given e.question; mark = mark_after place e })
 
 -- what is known of a pack after one more entry
 abbrev pub known_after : Pack → ℕ → Entry → Option Known → Option Known

@@ -3,7 +3,7 @@ ghost use Rattle.std.specs.Prelude.{◌≡◌, ◌+◌, ◌<◌, ◌^◌, List};
 ghost use Rattle.nmvs_rules.specs.declared.entry.Entry.{Entry};
 ghost use Rattle.nmvs_rules.specs.Questions.{Put};
 ghost use Rattle.nmvs_rules.specs.Rules.{reply_of};
-ghost use Rattle.nmvs_rules.specs.Facts.{facts_of, reply_by, lock_in};
+ghost use Rattle.nmvs_rules.specs.Facts.{facts_of, reply_by_facts, lock_in};
 
 use crate::alerting::alert_unknown;
 use crate::circulation::{decommission_reply, status_reply, verify_reply};
@@ -19,19 +19,19 @@ use nmvs_identifier::Moment;
 /// alert. The user's name plays no part in it.
 pub fn decide(facts: &Facts, moment: Moment, actor: &Actor, question: &Question) -> Reply
     requires { facts.now.alerts + 1 < 2 ^ 64 }
-    ensures by_facts { result ≡ reply_by facts.now moment actor.now question.now }
+    ensures by_facts { result ≡ reply_by_facts facts.now moment actor.now question.now }
 
     // It is the reply on every trail that has these facts, whoever the user is.
     ensures by_trail { (t : List Entry) (q : Put) →
         q.moment ≡ moment → q.actor ≡ actor.now → q.question ≡ question.now →
         facts_of t q.question ≡ facts.now → result ≡ reply_of t q }
 {
-    reply_by(facts, moment, actor, question)
+    reply_by_facts(facts, moment, actor, question)
 }
 
-fn reply_by(facts: &Facts, moment: Moment, actor: &Actor, question: &Question) -> Reply
+fn reply_by_facts(facts: &Facts, moment: Moment, actor: &Actor, question: &Question) -> Reply
     requires { facts.now.alerts + 1 < 2 ^ 64 }
-    ensures { result ≡ reply_by facts.now moment actor.now question.now }
+    ensures { result ≡ reply_by_facts facts.now moment actor.now question.now }
 {
     if !may(actor.role, question) {
         return Reply::Refused(Refusal::Role);

@@ -11,7 +11,7 @@ ghost use Rattle.nmvs_rules.specs.declared.facts.Known.{Known};
 ghost use Rattle.nmvs_rules.specs.declared.question.Question.TheVariants.{Verify, Revert};
 ghost use Rattle.nmvs_rules.specs.declared.reply.Reply.TheVariants as reply;
 ghost use Rattle.nmvs_rules.specs.Questions.{Put, code_of, may_ask};
-ghost use Rattle.nmvs_rules.specs.Trail.{known, own_by, is_mark, lock_of, alerts_of};
+ghost use Rattle.nmvs_rules.specs.Trail.{known, own_given, is_mark, lock_of, alerts_of};
 ghost use Rattle.nmvs_rules.specs.Rules.{reply_of, is_past, IsLawful};
 ghost use Rattle.nmvs_rules.specs.Laws.{part_of, kept, placed_at, IsMerging, IsApart, uploads, decommissions, supplies, reverts, confirms, binds, IsUploadedWith, IsInCirculation, IsOfBatch, IsRevertible, may_become, alert_numbers};
 
@@ -69,7 +69,7 @@ pub fn course()
     ensures { (before after : List Entry) (e : Entry) (p : Pack) (k : Known) →
         IsLawful (before ++ e ∷ after) → known before p ≡ Some k →
         (IsFalse (is_mark p e) → known (before ++ e ∷ []) p ≡ Some k)
-        × (IsTrue (is_mark p e) → IsTrue (may_become k.own (own_by e.question))) }
+        × (IsTrue (is_mark p e) → IsTrue (may_become k.own (own_given e.question))) }
 {}
 
 /// Between two accepted decommissionings of a pack stands an accepted reversion (Articles 12 and 13).

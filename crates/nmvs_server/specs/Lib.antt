@@ -1,2 +1,3 @@
 pub mod Roster
 pub mod Rehearsal
+pub mod Faults

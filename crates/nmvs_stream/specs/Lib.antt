@@ -1,3 +1,4 @@
 pub mod Source
 pub mod Sink
 pub mod Device
+pub mod Put

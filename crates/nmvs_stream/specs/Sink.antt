@@ -1,5 +1,5 @@
 -- Sinks of bytes. (own)
-use Rattle.std.specs.Prelude.{◌≡◌, ◌≤◌, ◌<◌, ℕ, List, [], ◌++◌, length, take, Bool, true, false}
+use Rattle.std.specs.Prelude.{◌≡◌, ◌≤◌, ◌<◌, ◌==◌, ◌&&◌, ℕ, List, [], ◌++◌, length, take, Bool, true, false}
 
 -- what a sink tells: the bytes that it took, whether all of them were flushed, and whether a write or a flush failed
 pub record Taken : Type 0 where
@@ -16,7 +16,7 @@ pub record Takes (old new : Taken) (buffer : List ℕ) (count : ℕ) : Type 0 wh
   pub some : 0 < length buffer → 0 < count
   pub fits : count ≤ length buffer
   pub bytes : new.bytes ≡ old.bytes ++ take count buffer
-  pub flushed : new.flushed ≡ false
+  pub flushed : new.flushed ≡ (old.flushed && (count == 0))
   pub failed : new.failed ≡ old.failed
 
 -- a flush handed on all bytes

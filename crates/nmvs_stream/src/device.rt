@@ -1,15 +1,18 @@
 use crate::failed::Failed;
 use crate::sink::Sink;
 use crate::source::Source;
-use crate::tape::Tape;
+use crate::tape::{Tape, longer_tag};
+use boxcar::tag::Tag;
 use std::io::{Read, Write};
 
 /// A reader or a writer of std as a source or a sink. What it tells binds code that is generic over
-/// `Source` or `Sink`; what the file or socket behind it really gave is beyond any contract.
+/// `Source` or `Sink`, and what it gives or takes is what a reader or writer in memory gives or
+/// takes; what a file or a socket really gave is beyond any contract. It tries no call again.
 #[derive(Drop)]
 pub struct Device<D> {
     inner: D,
-    tape: Tape,
+    given: Tape,
+    taken: Tag,
     ended: bool,
     flushed: bool,
     failed: bool,
@@ -28,7 +31,8 @@ impl<D> Device<D> {
     {
         Device {
             inner,
-            tape: Tape::new(),
+            given: Tape::new(),
+            taken: Tag::empty(),
             ended: false,
             flushed: true,
             failed: false,
@@ -41,17 +45,19 @@ impl<D: Read> Source for Device<D> {
 
     ghost told = { told_of };
 
+    ghost left = { λ d. D.remaining d.inner };
+
     fn read(&mut self, buffer: &mut [u8]) -> Result<usize, Failed> {
         match self.inner.read(buffer) {
             Ok(count) => {
-                self.tape.note(&buffer[..count]);
+                self.given.note(&buffer[..count]);
                 if count == 0 {
                     self.ended = true;
                 }
                 Ok(count)
             }
             Err(_) => {
-                self.tape.note(&[]);
+                self.given.note(&[]);
                 self.failed = true;
                 Err(Failed)
             }
@@ -64,11 +70,13 @@ impl<D: Write> Sink for Device<D> {
 
     ghost taken = { taken_of };
 
+    ghost held = { λ d. D.contents d.inner };
+
     fn write(&mut self, buffer: &[u8]) -> Result<usize, Failed> {
         match self.inner.write(buffer) {
-            Ok(count) if count > 0 => {
-                self.tape.note(&buffer[..count]);
-                self.flushed = false;
+            Ok(count) if count > 0 || buffer.is_empty() => {
+                self.taken = longer_tag(&self.taken, &buffer[..count]);
+                self.flushed = self.flushed && count == 0;
                 Ok(count)
             }
             _ => {

@@ -1,6 +1,7 @@
 //! Sources and sinks of bytes, which tell contracts what they gave and what they took.
 #![tactic(auto)]
 
+mod delivery;
 mod device;
 mod failed;
 mod sink;
@@ -9,6 +10,7 @@ mod tape;
 #[cfg(test)]
 mod tests;
 
+pub use delivery::put;
 pub use device::Device;
 pub use failed::Failed;
 pub use sink::Sink;

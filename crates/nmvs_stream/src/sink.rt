@@ -1,4 +1,5 @@
-ghost use Rattle.std.specs.Prelude.{IfOk, OnOk, OnErr};
+ghost use Rattle.std.specs.Prelude.{ℕ, List, Option, None, IfOk, OnOk, OnErr};
+ghost use Rattle.std.specs.Io.KnownBytes.{WriteAppends, Keeps};
 ghost use Rattle.nmvs_stream.specs.Sink.{Taken, Takes, Flushes, FailsToTake};
 
 use crate::failed::Failed;
@@ -8,13 +9,17 @@ use crate::failed::Failed;
 pub trait Sink {
     ghost taken: { Self → Taken };
 
+    // The bytes that it holds, where they are known.
+    ghost held: { Self → Option (List ℕ) } = { λ _. None };
+
     /// Takes some bytes from the front of the buffer, at least one where there is one, and tells
-    /// how many.
+    /// how many. Of an empty buffer it takes none, which is no failure.
     ///
     /// # Errors
     ///
     /// The write failed or was interrupted, and no byte was taken.
     fn write(&mut self, buffer: &[u8]) -> Result<usize, Failed>
+        ensures known { WriteAppends (held self.old) (held self.new) result buffer.now }
         ensures ok { IfOk result (Takes (taken self.old) (taken self.new) buffer.now) }
         ensures err { OnErr result (FailsToTake (taken self.old) (taken self.new)) };
 
@@ -24,6 +29,7 @@ pub trait Sink {
     ///
     /// The flush failed or was interrupted.
     fn flush(&mut self) -> Result<(), Failed>
+        ensures known { Keeps (held self.old) (held self.new) }
         ensures ok { OnOk result (Flushes (taken self.old) (taken self.new)) }
         ensures err { OnErr result (FailsToTake (taken self.old) (taken self.new)) };
 }

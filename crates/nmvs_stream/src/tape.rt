@@ -2,8 +2,8 @@ ghost use Rattle.std.specs.Prelude.{◌≡◌, ◌+◌, [], ◌++◌, ◌∷◌,
 
 use boxcar::tag::{Names, Tag};
 
-/// The bytes that passed through a device, and one number for each call. It takes no memory: its
-/// content is known to contracts alone.
+/// The bytes that a device gave, and one number for each read. It takes no memory: its content is
+/// known to contracts alone.
 #[derive(Drop)]
 pub struct Tape {
     pub bytes: Tag,
@@ -34,7 +34,7 @@ impl Tape {
         }
     }
 
-    /// Notes a call that passed these bytes.
+    /// Notes a read that gave these bytes.
     pub fn note(&mut self, more: &[u8])
         ensures bytes { self.new.bytes.numbers ≡ self.old.bytes.numbers ++ more.now }
         ensures calls { length self.new.calls.numbers ≡ length self.old.calls.numbers + 1 }
@@ -44,7 +44,8 @@ impl Tape {
     }
 }
 
-fn longer_tag(tag: &Tag, more: &[u8]) -> Tag
+/// The tag of what the old one holds and these bytes.
+pub fn longer_tag(tag: &Tag, more: &[u8]) -> Tag
     ensures { result.numbers ≡ tag.now.numbers ++ more.now }
 {
     Tag::of::<Extended<'_>, Joined>(&Extended { tag, more })

@@ -1,4 +1,5 @@
 use crate::{Device, Failed, Sink, Source};
+use std::cell::Cell;
 use std::io;
 use std::io::{ErrorKind, Read, Write};
 use std::test::*;
@@ -20,6 +21,44 @@ impl Write for Broken {
 
     fn flush(&mut self) -> io::Result<()> {
         Err(io::Error::from(self.0))
+    }
+}
+
+/// Is interrupted at its first call, and then goes on. It counts what it was told to flush.
+#[derive(Drop)]
+struct InterruptedOnce<'a, D> {
+    inner: D,
+    interrupted: bool,
+    flushes: &'a Cell<usize>,
+}
+
+impl<'a, D> InterruptedOnce<'a, D> {
+    fn admit(&mut self) -> io::Result<()> {
+        if self.interrupted {
+            return Ok(());
+        }
+        self.interrupted = true;
+        Err(io::Error::from(ErrorKind::Interrupted))
+    }
+}
+
+impl<'a, D: Read> Read for InterruptedOnce<'a, D> {
+    fn read(&mut self, buffer: &mut [u8]) -> io::Result<usize> {
+        self.admit()?;
+        self.inner.read(buffer)
+    }
+}
+
+impl<'a, D: Write> Write for InterruptedOnce<'a, D> {
+    fn write(&mut self, buffer: &[u8]) -> io::Result<usize> {
+        self.admit()?;
+        self.inner.write(buffer)
+    }
+
+    fn flush(&mut self) -> io::Result<()> {
+        self.admit()?;
+        self.flushes.set(self.flushes.get().saturating_add(1));
+        Ok(())
     }
 }
 
@@ -62,4 +101,46 @@ fn a_write_that_takes_nothing_is_a_failure(rt: HostRuntime) {
     let mut sink = Device::new(full.as_mut_slice());
     assert_eq!(rt; sink.write(b"BYE\n"), Ok(2));
     assert_eq!(rt; sink.write(b"E\n"), Err(Failed));
+}
+
+#[test]
+fn an_empty_write_is_no_failure(rt: HostRuntime) {
+    let mut full: [u8; 0] = [];
+    let mut sink = Device::new(full.as_mut_slice());
+    assert_eq!(rt; sink.write(b""), Ok(0));
+}
+
+#[test]
+fn an_interrupted_call_is_not_tried_again(rt: HostRuntime) {
+    let flushes = Cell::new(0);
+    let mut source = Device::new(InterruptedOnce {
+        inner: b"QUIT\n".as_slice(),
+        interrupted: false,
+        flushes: &flushes,
+    });
+    let mut buffer = [0; 9];
+    assert_eq!(rt; source.read(&mut buffer), Err(Failed));
+    assert_eq!(rt; source.read(&mut buffer), Ok(5));
+    assert_eq!(rt; &buffer[..5], b"QUIT\n".as_slice());
+
+    let mut bytes = Vec::new(rt.alloc());
+    let mut sink = Device::new(InterruptedOnce {
+        inner: &mut bytes,
+        interrupted: false,
+        flushes: &flushes,
+    });
+    assert_eq!(rt; sink.write(b"BYE\n"), Err(Failed));
+    assert_eq!(rt; sink.write(b"BYE\n"), Ok(4));
+    assert_eq!(rt; sink.flush(), Ok(()));
+    drop(sink);
+    assert_eq!(rt; bytes.as_slice(), b"BYE\n".as_slice());
+    assert_eq!(rt; flushes.get(), 1);
+
+    let mut sink = Device::new(InterruptedOnce {
+        inner: io::sink(),
+        interrupted: false,
+        flushes: &flushes,
+    });
+    assert_eq!(rt; sink.flush(), Err(Failed));
+    assert_eq!(rt; flushes.get(), 1);
 }

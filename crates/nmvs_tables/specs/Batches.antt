@@ -17,7 +17,7 @@ use Rattle.nmvs_rules.specs.declared.facts.Known.{Known}
 use Rattle.nmvs_rules.specs.declared.facts.Counts.{Counts}
 use Rattle.nmvs_rules.specs.declared.facts.BatchRecord.{BatchRecord}
 use Rattle.nmvs_rules.specs.Questions.{code_of, pack_of}
-use Rattle.nmvs_rules.specs.Trail.{is_accepted, own_by, is_own, batch_record}
+use Rattle.nmvs_rules.specs.Trail.{is_accepted, own_given, is_own, batch_record}
 use Rattle.nmvs_tables.specs.declared.batches.BatchKey.{BatchKey}
 use Rattle.nmvs_tables.specs.Codes.{one_if}
 
@@ -75,7 +75,7 @@ own_before k = option_map (λ x. x.own) k
 
 -- the own status that an accepted question gives the pack that it names, if it names one
 abbrev pub own_after : Question → Option Own
-own_after q = option_map (λ _. own_by q) (pack_of q)
+own_after q = option_map (λ _. own_given q) (pack_of q)
 
 -- the lock of a batch after an accepted question that changes the batch (Article 40)
 abbrev pub lock_after : Question → BatchLock → BatchLock

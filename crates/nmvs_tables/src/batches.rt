@@ -5,9 +5,8 @@ ghost use Rattle.std.specs.Option.{ForSome};
 ghost use Rattle.nmvs_rules.specs.declared.own.Own.{Own};
 ghost use Rattle.nmvs_tables.specs.declared.batches.BatchKey.{BatchKey};
 ghost use Rattle.nmvs_rules.specs.Questions.{code_of, locked_batch};
-ghost use Rattle.nmvs_tables.specs.Batches.{same_batch, batch_asked, batch_in, batch_meant, batch_changed, batches_after, changes_batch, count_in, own_before, own_after as own_left, NotesBatch, lock_after};
+ghost use Rattle.nmvs_tables.specs.Batches.{same_batch, batch_asked, batch_in, batch_meant, batch_changed, batches_after, changes_batch, count_in, own_before, own_after, NotesBatch, lock_after};
 
-use crate::accepted::{is_accepted, own_after};
 use crate::counts::moved;
 use crate::writes::{find, put};
 use indexmap::IndexMap;
@@ -32,16 +31,6 @@ pub(crate) fn record_of<A: Allocator>(batches: &Batches<A>, key: &BatchKey) -> O
     batches.get(key).copied()
 }
 
-/// The batch that a recall or withdrawal names.
-fn locked_batch(question: &Question) -> Option<Batch>
-    ensures { result ≡ locked_batch question.now }
-{
-    match question {
-        Question::Recall(_, batch) | Question::Withdraw(_, batch) => Some(*batch),
-        _ => None,
-    }
-}
-
 /// The record of the batch that a recall or withdrawal names, or else that of the known pack.
 pub(crate) fn asked<A: Allocator>(
     batches: &Batches<A>,
@@ -50,7 +39,7 @@ pub(crate) fn asked<A: Allocator>(
 ) -> Option<BatchRecord>
     ensures { result ≡ batch_asked batches.now (code_of question.now) (locked_batch question.now) known.now }
 {
-    let batch = match (locked_batch(question), known) {
+    let batch = match (question.locked_batch(), known) {
         (Some(batch), _) => batch,
         (None, Some(known)) => known.batch,
         (None, None) => return None,
@@ -114,11 +103,11 @@ fn own_before(known: &Option<Known>) -> Option<Own>
 }
 
 /// The own status that an accepted question gives the pack that it names.
-fn own_left(question: &Question) -> Option<Own>
-    ensures { result ≡ own_left question.now }
+fn own_after(question: &Question) -> Option<Own>
+    ensures { result ≡ own_after question.now }
 {
     match question.pack() {
-        Some(_) => Some(own_after(question)),
+        Some(_) => Some(question.own_given()),
         None => None,
     }
 }
@@ -126,12 +115,12 @@ fn own_left(question: &Question) -> Option<Own>
 /// The record of a batch after an accepted question that changes it, about a pack that is known or not.
 fn noted(old: &BatchRecord, question: &Question, known: &Option<Known>) -> BatchRecord
     requires from { ForSome (own_before known.now) (λ own. 1 ≤ count_in old.now.counts own) }
-    requires to { ForSome (own_left question.now) (λ own. count_in old.now.counts own + 1 < 2 ^ 64) }
+    requires to { ForSome (own_after question.now) (λ own. count_in old.now.counts own + 1 < 2 ^ 64) }
     ensures { NotesBatch question.now known.now old.now result }
 {
     BatchRecord {
         lock: lock_after(question, old.lock),
-        counts: moved(&old.counts, own_before(known), own_left(question)),
+        counts: moved(&old.counts, own_before(known), own_after(question)),
     }
 }
 
@@ -147,7 +136,7 @@ pub(crate) fn note<A: Allocator>(batches: &mut Batches<A>, entry: &Entry, known:
         get same_batch batches.new b ≡ get same_batch batches.old b }
     ensures order { keys batches.new ≡ batches_after (keys batches.old) (batch_changed entry.now known) }
 {
-    if !is_accepted(entry) {
+    if !entry.is_accepted() {
         return;
     }
     let Some(key) = batch_meant(&entry.question, &known) else {

@@ -4,7 +4,6 @@
 //! no answer has to: three maps in the order of insertion, each entry noted once.
 #![tactic(auto)]
 
-mod accepted;
 mod batches;
 mod codes;
 mod counts;

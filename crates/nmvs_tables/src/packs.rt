@@ -7,7 +7,6 @@ ghost use Rattle.nmvs_rules.specs.Questions.{pack_of};
 ghost use Rattle.nmvs_rules.specs.Trail as trails;
 ghost use Rattle.nmvs_tables.specs.Packs.{about_in, known_in, about_by, known_by, pack_after};
 
-use crate::accepted::{is_accepted, own_after};
 use crate::writes::{find, put};
 use indexmap::IndexMap;
 use nmvs_identifier::Pack;
@@ -69,7 +68,7 @@ fn marked(place: u64, entry: &Entry, known: Option<Known>) -> Option<Known>
     };
     match (known, entry.question) {
         (Some(known), question) => Some(Known {
-            own: own_after(&question),
+            own: question.own_given(),
             mark,
             ..known
         }),
@@ -94,7 +93,7 @@ fn noted(place: u64, entry: &Entry, old: Option<PackRecord>) -> PackRecord
     };
     PackRecord {
         about: about + 1,
-        known: if is_accepted(entry) {
+        known: if entry.is_accepted() {
             marked(place, entry, known)
         } else {
             known

@@ -6,12 +6,23 @@ use Rattle.std.proofs.lemmas.Slice.Eq.{bytes_eq-Decides}
 use Rattle.nmvs_rules.specs.declared.role.Role.{Role}
 use Rattle.nmvs_rules.specs.declared.role.Role.TheVariants as role
 use Rattle.nmvs_rules.specs.declared.reason.Reason.TheVariants as reason
+use Rattle.nmvs_rules.specs.declared.own.Own.{Own}
+use Rattle.nmvs_rules.specs.declared.own.Own.TheVariants as own
+use Rattle.nmvs_rules.specs.declared.batch_lock.BatchLock.{BatchLock}
+use Rattle.nmvs_rules.specs.declared.batch_lock.BatchLock.TheVariants as lock
+use Rattle.nmvs_rules.specs.declared.onward.Onward.{Onward}
+use Rattle.nmvs_rules.specs.declared.onward.Onward.TheVariants as onward
+use Rattle.nmvs_rules.specs.declared.cause.Cause.{Cause}
+use Rattle.nmvs_rules.specs.declared.cause.Cause.TheVariants as cause
+use Rattle.nmvs_rules.specs.declared.refusal.Refusal.{Refusal}
+use Rattle.nmvs_rules.specs.declared.refusal.Refusal.TheVariants as refusal
+use Rattle.nmvs_rules.specs.Replies.{refusal_number}
 use Rattle.nmvs_words.specs.declared.pack_question.PackQuestion.TheVariants.{Verify, Status, Decommission, Revert, Theft, Audit}
 use Rattle.nmvs_words.specs.declared.batch_question.BatchQuestion.TheVariants.{Recall, Withdraw}
 use Rattle.nmvs_words.specs.declared.question_kind.QuestionKind.{QuestionKind}
 use Rattle.nmvs_words.specs.declared.question_kind.QuestionKind.TheVariants.{Upload, OfPack, OfBatch}
 use Rattle.nmvs_words.specs.Kinds.{kind_word, kind_named, kinds}
-use Rattle.nmvs_words.specs.Words.{role_word, role_named, roles}
+use Rattle.nmvs_words.specs.Words.{role_word, role_named, roles, own_word, own_named, lock_word, lock_named, onward_word, onward_named, cause_word, cause_named, validity_word, validity_named, flag_word, flag_named, refusal_numbered}
 
 some_is : {X : Type 0} (x y : X) → Some x ≡ Some y → x ≡ y
 some_is x y e = cc
@@ -65,3 +76,62 @@ role_named-of_word role.Authority = refl
 -- different roles have different words
 pub role_word-one : (r r' : Role) → role_word r ≡ role_word r' → r ≡ r'
 role_word-one r r' e = some_is r r' (sym (role_named-of_word r) ∙ ap role_named e ∙ role_named-of_word r')
+
+-- each other word finds what it is the word of
+pub own_named-of_word : (x : Own) → own_named (own_word x) ≡ Some x
+own_named-of_word own.Active = refl
+own_named-of_word own.Held = refl
+own_named-of_word own.Supplied = refl
+own_named-of_word own.Exported = refl
+own_named-of_word own.Sampled = refl
+own_named-of_word own.Destroyed = refl
+own_named-of_word own.Stolen = refl
+
+pub lock_named-of_word : (x : BatchLock) → lock_named (lock_word x) ≡ Some x
+lock_named-of_word lock.Free = refl
+lock_named-of_word lock.Recalled = refl
+lock_named-of_word lock.Withdrawn = refl
+
+pub onward_named-of_word : (x : Onward) → onward_named (onward_word x) ≡ Some x
+onward_named-of_word onward.Stock = refl
+onward_named-of_word onward.Supply = refl
+onward_named-of_word onward.Export = refl
+onward_named-of_word onward.Disposal = refl
+onward_named-of_word onward.Authorities = refl
+onward_named-of_word onward.Nowhere = refl
+
+pub cause_named-of_word : (x : Cause) → cause_named (cause_word x) ≡ Some x
+cause_named-of_word cause.Unknown = refl
+cause_named-of_word cause.Recalled = refl
+cause_named-of_word cause.Withdrawn = refl
+cause_named-of_word cause.Held = refl
+cause_named-of_word cause.Supplied = refl
+cause_named-of_word cause.Exported = refl
+cause_named-of_word cause.Sampled = refl
+cause_named-of_word cause.Destroyed = refl
+cause_named-of_word cause.Stolen = refl
+
+pub validity_named-of_word : (x : Bool) → validity_named (validity_word x) ≡ Some x
+validity_named-of_word true = refl
+validity_named-of_word false = refl
+
+pub flag_named-of_word : (x : Bool) → flag_named (flag_word x) ≡ Some x
+flag_named-of_word true = refl
+flag_named-of_word false = refl
+
+-- a refusal's number finds it
+pub refusal_numbered-of_word : (x : Refusal) → refusal_numbered (refusal_number x) ≡ Some x
+refusal_numbered-of_word refusal.Role = refl
+refusal_numbered-of_word refusal.Unknown = refl
+refusal_numbered-of_word refusal.UnknownBatch = refl
+refusal_numbered-of_word refusal.NotHolder = refl
+refusal_numbered-of_word refusal.Duplicate = refl
+refusal_numbered-of_word refusal.Already = refl
+refusal_numbered-of_word refusal.Locked = refl
+refusal_numbered-of_word refusal.StillActive = refl
+refusal_numbered-of_word refusal.IsStolen = refl
+refusal_numbered-of_word refusal.IsDestroyed = refl
+refusal_numbered-of_word refusal.WasSupplied = refl
+refusal_numbered-of_word refusal.Other = refl
+refusal_numbered-of_word refusal.Late = refl
+refusal_numbered-of_word refusal.Expired = refl

@@ -1,10 +1,15 @@
 -- The kinds of questions, their words and their texts (own).
 use Rattle.std.specs.Prelude.{ℕ, List, [], ◌∷◌, codes, find, Option}
 use Rattle.std.specs.Str.{bytes_eq}
+use Rattle.nmvs_identifier.specs.ProductCode.{ProductCode}
+use Rattle.nmvs_identifier.specs.Batch.{Batch}
+use Rattle.nmvs_identifier.specs.declared.pack.Pack.{Pack}
 use Rattle.nmvs_rules.specs.declared.reason.Reason.TheVariants as reason
 use Rattle.nmvs_rules.specs.declared.question.Question.{Question}
 use Rattle.nmvs_rules.specs.declared.question.Question.TheVariants as question
+use Rattle.nmvs_words.specs.declared.pack_question.PackQuestion.{PackQuestion}
 use Rattle.nmvs_words.specs.declared.pack_question.PackQuestion.TheVariants.{Verify, Status, Decommission, Revert, Theft, Audit}
+use Rattle.nmvs_words.specs.declared.batch_question.BatchQuestion.{BatchQuestion}
 use Rattle.nmvs_words.specs.declared.batch_question.BatchQuestion.TheVariants.{Recall, Withdraw}
 use Rattle.nmvs_words.specs.declared.question_kind.QuestionKind.{QuestionKind}
 use Rattle.nmvs_words.specs.declared.question_kind.QuestionKind.TheVariants.{Upload, OfPack, OfBatch}
@@ -57,3 +62,17 @@ texts_of (question.Recall c b) = c.bytes ∷ b.bytes ∷ []
 texts_of (question.Withdraw c b) = c.bytes ∷ b.bytes ∷ []
 texts_of (question.Theft p) = p.code.bytes ∷ p.serial.bytes ∷ []
 texts_of (question.Audit p) = p.code.bytes ∷ p.serial.bytes ∷ []
+
+-- the question of a kind that names a pack
+abbrev pub naming_pack : PackQuestion → Pack → Question
+naming_pack Verify p = question.Verify p
+naming_pack Status p = question.Status p
+naming_pack (Decommission r) p = question.Decommission p r
+naming_pack Revert p = question.Revert p
+naming_pack Theft p = question.Theft p
+naming_pack Audit p = question.Audit p
+
+-- the question of a kind that names a batch
+abbrev pub naming_batch : BatchQuestion → ProductCode → Batch → Question
+naming_batch Recall c b = question.Recall c b
+naming_batch Withdraw c b = question.Withdraw c b

@@ -1,6 +1,7 @@
 -- The words of the formats (own): the names in capitals.
-use Rattle.std.specs.Prelude.{ℕ, List, [], ◌∷◌, codes, find, Option}
+use Rattle.std.specs.Prelude.{ℕ, Bool, true, false, List, [], ◌∷◌, ◌++◌, codes, find, Option, ◌==◌, if◌then◌else◌}
 use Rattle.std.specs.Str.{bytes_eq}
+use Rattle.nmvs_rules.specs.Replies.{refusal_number}
 use Rattle.nmvs_rules.specs.declared.role.Role.{Role}
 use Rattle.nmvs_rules.specs.declared.role.Role.TheVariants as role
 use Rattle.nmvs_rules.specs.declared.reason.Reason.{Reason}
@@ -50,11 +51,27 @@ own_word own.Sampled = codes "SAMPLED"
 own_word own.Destroyed = codes "DESTROYED"
 own_word own.Stolen = codes "STOLEN"
 
+-- all own statuses
+abbrev pub owns : List Own
+owns = own.Active ∷ own.Held ∷ own.Supplied ∷ own.Exported ∷ own.Sampled ∷ own.Destroyed ∷ own.Stolen ∷ []
+
+-- the own status that has a word
+abbrev pub own_named : List ℕ → Option Own
+own_named w = find (λ o. bytes_eq w (own_word o)) owns
+
 -- the word of a batch lock
 abbrev pub lock_word : BatchLock → List ℕ
 lock_word lock.Free = codes "FREE"
 lock_word lock.Recalled = codes "RECALLED"
 lock_word lock.Withdrawn = codes "WITHDRAWN"
+
+-- all batch locks
+abbrev pub locks : List BatchLock
+locks = lock.Free ∷ lock.Recalled ∷ lock.Withdrawn ∷ []
+
+-- the batch lock that has a word
+abbrev pub lock_named : List ℕ → Option BatchLock
+lock_named w = find (λ l. bytes_eq w (lock_word l)) locks
 
 -- the word of where a pack may go
 abbrev pub onward_word : Onward → List ℕ
@@ -64,6 +81,14 @@ onward_word onward.Export = codes "EXPORT"
 onward_word onward.Disposal = codes "DISPOSAL"
 onward_word onward.Authorities = codes "AUTHORITIES"
 onward_word onward.Nowhere = codes "NOWHERE"
+
+-- all places where a pack may go
+abbrev pub onwards : List Onward
+onwards = onward.Stock ∷ onward.Supply ∷ onward.Export ∷ onward.Disposal ∷ onward.Authorities ∷ onward.Nowhere ∷ []
+
+-- where a pack may go by a word
+abbrev pub onward_named : List ℕ → Option Onward
+onward_named w = find (λ o. bytes_eq w (onward_word o)) onwards
 
 -- the word of an alert's cause
 abbrev pub cause_word : Cause → List ℕ
@@ -76,6 +101,32 @@ cause_word cause.Exported = codes "EXPORTED"
 cause_word cause.Sampled = codes "SAMPLED"
 cause_word cause.Destroyed = codes "DESTROYED"
 cause_word cause.Stolen = codes "STOLEN"
+
+-- all causes of alerts
+abbrev pub causes : List Cause
+causes =
+    cause.Unknown ∷ cause.Recalled ∷ cause.Withdrawn ∷ cause.Held ∷ cause.Supplied ∷ cause.Exported ∷ cause.Sampled
+    ∷ cause.Destroyed ∷ cause.Stolen ∷ []
+
+-- the alert's cause that has a word
+abbrev pub cause_named : List ℕ → Option Cause
+cause_named w = find (λ c. bytes_eq w (cause_word c)) causes
+
+-- the word of whether an expiry date is past
+abbrev pub validity_word : Bool → List ℕ
+validity_word expired = if expired then codes "EXPIRED" else codes "VALID"
+
+-- whether an expiry date is past, by a word
+abbrev pub validity_named : List ℕ → Option Bool
+validity_named w = find (λ b. bytes_eq w (validity_word b)) (false ∷ true ∷ [])
+
+-- the word of whether an alert is flagged as a potential falsification
+abbrev pub flag_word : Bool → List ℕ
+flag_word flagged = if flagged then codes "FLAGGED" else codes "UNFLAGGED"
+
+-- whether an alert is flagged, by a word
+abbrev pub flag_named : List ℕ → Option Bool
+flag_named w = find (λ b. bytes_eq w (flag_word b)) (true ∷ false ∷ [])
 
 -- the word of a refusal
 abbrev pub refusal_word : Refusal → List ℕ
@@ -93,3 +144,20 @@ refusal_word refusal.WasSupplied = codes "WAS_SUPPLIED"
 refusal_word refusal.Other = codes "OTHER"
 refusal_word refusal.Late = codes "LATE"
 refusal_word refusal.Expired = codes "EXPIRED"
+
+-- all refusals
+abbrev pub refusals : List Refusal
+refusals =
+    refusal.Role ∷ refusal.Unknown ∷ refusal.UnknownBatch ∷ refusal.NotHolder ∷ refusal.Duplicate ∷ refusal.Already
+    ∷ refusal.Locked ∷ refusal.StillActive ∷ refusal.IsStolen ∷ refusal.IsDestroyed ∷ refusal.WasSupplied ∷ refusal.Other
+    ∷ refusal.Late ∷ refusal.Expired ∷ []
+
+-- the refusal that has a number
+abbrev pub refusal_numbered : ℕ → Option Refusal
+refusal_numbered n = find (λ r. n == refusal_number r) refusals
+
+-- words with a space between each two, and LF after the last
+abbrev pub spaced : List (List ℕ) → List ℕ
+spaced [] = codes "\n"
+spaced (w ∷ []) = w ++ codes "\n"
+spaced (w ∷ v ∷ ws) = w ++ (codes " " ++ spaced (v ∷ ws))

@@ -4,6 +4,7 @@
 mod batch_question;
 mod pack_question;
 mod question_kind;
+mod reply_kind;
 #[cfg(test)]
 mod tests;
 mod words;
@@ -11,6 +12,9 @@ mod words;
 pub use batch_question::BatchQuestion;
 pub use pack_question::PackQuestion;
 pub use question_kind::QuestionKind;
+pub use reply_kind::ReplyKind;
 pub use words::{
-    cause_word, lock_word, onward_word, own_word, reason_word, refusal_word, role_named, role_word,
+    cause_named, cause_word, flag_named, flag_word, lock_named, lock_word, onward_named,
+    onward_word, own_named, own_word, reason_word, refusal_numbered, refusal_word, role_named,
+    role_word, validity_named, validity_word,
 };

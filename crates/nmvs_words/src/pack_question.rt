@@ -1,7 +1,7 @@
 //! Questions that name a pack.
 ghost use Rattle.std.specs.Prelude.{◌≡◌, [], ◌∷◌};
 ghost use Rattle.nmvs_rules.specs.Questions.{pack_of};
-ghost use Rattle.nmvs_words.specs.Kinds.{kind_of, texts_of};
+ghost use Rattle.nmvs_words.specs.Kinds.{kind_of, texts_of, naming_pack};
 ghost use Rattle.nmvs_words.specs.declared.question_kind.QuestionKind.TheVariants.{OfPack};
 
 use nmvs_identifier::Pack;
@@ -21,6 +21,7 @@ pub enum PackQuestion {
 impl PackQuestion {
     /// The question that names this pack.
     pub fn naming(self, pack: Pack) -> Question
+        ensures question { result ≡ naming_pack self pack }
         ensures kind { kind_of result ≡ OfPack self }
         ensures pack { pack_of result ≡ Some pack }
         ensures texts { texts_of result ≡ pack.code.bytes ∷ pack.serial.bytes ∷ [] }

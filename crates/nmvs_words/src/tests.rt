@@ -1,6 +1,7 @@
 use crate::{
-    QuestionKind, cause_word, lock_word, onward_word, own_word, reason_word, refusal_word,
-    role_named, role_word,
+    QuestionKind, ReplyKind, cause_named, cause_word, flag_named, flag_word, lock_named, lock_word,
+    onward_named, onward_word, own_named, own_word, reason_word, refusal_numbered, refusal_word,
+    role_named, role_word, validity_named, validity_word,
 };
 use nmvs_identifier::{Batch, Pack, ProductCode, Serial};
 use nmvs_rules::{BatchLock, Cause, Onward, Own, Question, Reason, Refusal, Role};
@@ -14,6 +15,23 @@ fn words_of_replies(rt: HostRuntime) {
     assert!(rt; cause_word(Cause::Unknown) == "UNKNOWN");
     assert!(rt; refusal_word(Refusal::NotHolder) == "NOT_HOLDER");
     assert!(rt; reason_word(Reason::Destroy) == "DESTROY");
+    assert!(rt; validity_word(false) == "VALID");
+    assert!(rt; flag_word(true) == "FLAGGED");
+    assert!(rt; ReplyKind::Locked.word() == "LOCKED");
+}
+
+#[test]
+fn words_are_read_back(rt: HostRuntime) {
+    assert!(rt; own_named("HELD") == Some(Own::Held));
+    assert!(rt; lock_named("RECALLED") == Some(BatchLock::Recalled));
+    assert!(rt; onward_named("DISPOSAL") == Some(Onward::Disposal));
+    assert!(rt; cause_named("UNKNOWN") == Some(Cause::Unknown));
+    assert!(rt; validity_named("EXPIRED") == Some(true));
+    assert!(rt; flag_named("UNFLAGGED") == Some(false));
+    assert!(rt; ReplyKind::named("LOCKED") == Some(ReplyKind::Locked));
+    assert!(rt; ReplyKind::named("locked") == None);
+    assert!(rt; refusal_numbered(4) == Some(Refusal::NotHolder));
+    assert!(rt; refusal_numbered(15) == None);
 }
 
 #[test]

@@ -1,4 +1,4 @@
-//! The words of roles, reasons, statuses, locks, causes and refusals (own).
+//! The words of roles, reasons, statuses, locks, causes, flags and refusals (own).
 ghost use Rattle.std.specs.Prelude.{◌≡◌};
 ghost use Rattle.nmvs_words.specs.Words as words;
 
@@ -59,6 +59,22 @@ pub fn own_word(own: Own) -> &'static str
     }
 }
 
+/// The own status that has this word.
+pub fn own_named(word: &str) -> Option<Own>
+    ensures { result ≡ words.own_named word.now }
+{
+    match word {
+        "ACTIVE" => Some(Own::Active),
+        "HELD" => Some(Own::Held),
+        "SUPPLIED" => Some(Own::Supplied),
+        "EXPORTED" => Some(Own::Exported),
+        "SAMPLED" => Some(Own::Sampled),
+        "DESTROYED" => Some(Own::Destroyed),
+        "STOLEN" => Some(Own::Stolen),
+        _ => None,
+    }
+}
+
 /// The word of a batch lock.
 pub fn lock_word(lock: BatchLock) -> &'static str
     ensures { result.now ≡ words.lock_word lock }
@@ -67,6 +83,18 @@ pub fn lock_word(lock: BatchLock) -> &'static str
         BatchLock::Free => "FREE",
         BatchLock::Recalled => "RECALLED",
         BatchLock::Withdrawn => "WITHDRAWN",
+    }
+}
+
+/// The batch lock that has this word.
+pub fn lock_named(word: &str) -> Option<BatchLock>
+    ensures { result ≡ words.lock_named word.now }
+{
+    match word {
+        "FREE" => Some(BatchLock::Free),
+        "RECALLED" => Some(BatchLock::Recalled),
+        "WITHDRAWN" => Some(BatchLock::Withdrawn),
+        _ => None,
     }
 }
 
@@ -84,6 +112,21 @@ pub fn onward_word(onward: Onward) -> &'static str
     }
 }
 
+/// Where a pack may go, by this word.
+pub fn onward_named(word: &str) -> Option<Onward>
+    ensures { result ≡ words.onward_named word.now }
+{
+    match word {
+        "STOCK" => Some(Onward::Stock),
+        "SUPPLY" => Some(Onward::Supply),
+        "EXPORT" => Some(Onward::Export),
+        "DISPOSAL" => Some(Onward::Disposal),
+        "AUTHORITIES" => Some(Onward::Authorities),
+        "NOWHERE" => Some(Onward::Nowhere),
+        _ => None,
+    }
+}
+
 /// The word of an alert's cause.
 pub fn cause_word(cause: Cause) -> &'static str
     ensures { result.now ≡ words.cause_word cause }
@@ -98,6 +141,60 @@ pub fn cause_word(cause: Cause) -> &'static str
         Cause::Sampled => "SAMPLED",
         Cause::Destroyed => "DESTROYED",
         Cause::Stolen => "STOLEN",
+    }
+}
+
+/// The alert's cause that has this word.
+pub fn cause_named(word: &str) -> Option<Cause>
+    ensures { result ≡ words.cause_named word.now }
+{
+    match word {
+        "UNKNOWN" => Some(Cause::Unknown),
+        "RECALLED" => Some(Cause::Recalled),
+        "WITHDRAWN" => Some(Cause::Withdrawn),
+        "HELD" => Some(Cause::Held),
+        "SUPPLIED" => Some(Cause::Supplied),
+        "EXPORTED" => Some(Cause::Exported),
+        "SAMPLED" => Some(Cause::Sampled),
+        "DESTROYED" => Some(Cause::Destroyed),
+        "STOLEN" => Some(Cause::Stolen),
+        _ => None,
+    }
+}
+
+/// The word of whether an expiry date is past.
+pub fn validity_word(expired: bool) -> &'static str
+    ensures { result.now ≡ words.validity_word expired }
+{
+    if expired { "EXPIRED" } else { "VALID" }
+}
+
+/// Whether an expiry date is past, by this word.
+pub fn validity_named(word: &str) -> Option<bool>
+    ensures { result ≡ words.validity_named word.now }
+{
+    match word {
+        "VALID" => Some(false),
+        "EXPIRED" => Some(true),
+        _ => None,
+    }
+}
+
+/// The word of whether an alert is flagged as a potential falsification.
+pub fn flag_word(flagged: bool) -> &'static str
+    ensures { result.now ≡ words.flag_word flagged }
+{
+    if flagged { "FLAGGED" } else { "UNFLAGGED" }
+}
+
+/// Whether an alert is flagged as a potential falsification, by this word.
+pub fn flag_named(word: &str) -> Option<bool>
+    ensures { result ≡ words.flag_named word.now }
+{
+    match word {
+        "FLAGGED" => Some(true),
+        "UNFLAGGED" => Some(false),
+        _ => None,
     }
 }
 
@@ -120,5 +217,28 @@ pub fn refusal_word(refusal: Refusal) -> &'static str
         Refusal::Other => "OTHER",
         Refusal::Late => "LATE",
         Refusal::Expired => "EXPIRED",
+    }
+}
+
+/// The refusal that has this number.
+pub fn refusal_numbered(number: u64) -> Option<Refusal>
+    ensures { result ≡ words.refusal_numbered number }
+{
+    match number {
+        1 => Some(Refusal::Role),
+        2 => Some(Refusal::Unknown),
+        3 => Some(Refusal::UnknownBatch),
+        4 => Some(Refusal::NotHolder),
+        5 => Some(Refusal::Duplicate),
+        6 => Some(Refusal::Already),
+        7 => Some(Refusal::Locked),
+        8 => Some(Refusal::StillActive),
+        9 => Some(Refusal::IsStolen),
+        10 => Some(Refusal::IsDestroyed),
+        11 => Some(Refusal::WasSupplied),
+        12 => Some(Refusal::Other),
+        13 => Some(Refusal::Late),
+        14 => Some(Refusal::Expired),
+        _ => None,
     }
 }

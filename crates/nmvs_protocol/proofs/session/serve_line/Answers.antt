@@ -1,7 +1,7 @@
 use Rattle.std.proofs.Common.{◌+◌, ◌++◌, ◌∷◌, [], List, ℕ, Some, None, refl, sym, ap, ◌∙◌, subst}
 use Rattle.std.proofs.lemmas.List.{length_push}
 use Rattle.nmvs_protocol.specs.declared.end.End.TheVariants as ends
-use Rattle.nmvs_protocol.specs.Put.{Puts, PutsPart}
+use Rattle.nmvs_stream.specs.Put.{Puts, PutsPart}
 use Rattle.nmvs_protocol.specs.Session.{Reads}
 use Rattle.nmvs_protocol.proofs.KeptLines.{kept_reads}
 use Rattle.nmvs_protocol.proofs.QuitLines.{not_quit}

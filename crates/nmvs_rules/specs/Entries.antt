@@ -1,0 +1,52 @@
+-- What every entry of a trail is: its texts are in their grammars, and its numbers in their ranges (Article 4; the grammars of
+-- names and the ranges are own).
+use Rattle.std.specs.Prelude.{ℕ, ◌^◌, Bool, true, ◌&&◌, nat_lt}
+use Rattle.nmvs_identifier.specs.Batch.{Batch, is_batch}
+use Rattle.nmvs_identifier.specs.Expiry.{Expiry, is_expiry}
+use Rattle.nmvs_identifier.specs.Moment.{is_moment}
+use Rattle.nmvs_identifier.specs.Name.{is_name}
+use Rattle.nmvs_identifier.specs.Pack.{is_pack}
+use Rattle.nmvs_identifier.specs.ProductCode.{is_product_code}
+use Rattle.nmvs_rules.specs.declared.actor.Actor.{Actor}
+use Rattle.nmvs_rules.specs.declared.question.Question.{Question}
+use Rattle.nmvs_rules.specs.declared.question.Question.TheVariants.{Upload, Verify, Status, Decommission, Revert, Recall, Withdraw, Theft, Audit}
+use Rattle.nmvs_rules.specs.declared.reply.Reply.{Reply}
+use Rattle.nmvs_rules.specs.declared.reply.Reply.TheVariants as reply
+use Rattle.nmvs_rules.specs.declared.entry.Entry.{Entry}
+
+-- whether a number can be counted in 64 bits
+abbrev pub is_count : ℕ → Bool
+is_count n = nat_lt n (2 ^ 64)
+
+-- whether the batch and the expiry date of a pack are in their grammars
+abbrev pub is_batch_and_expiry : Batch → Expiry → Bool
+is_batch_and_expiry b x = is_batch b.bytes && is_expiry x.bytes
+
+-- whether the names of an actor are in their grammar
+abbrev pub is_actor : Actor → Bool
+is_actor a = is_name a.authorisation.bytes && is_name a.premises.bytes
+
+-- whether what a question names is in its grammar
+abbrev pub is_question : Question → Bool
+is_question (Upload p b x) = is_pack p && is_batch_and_expiry b x
+is_question (Verify p) = is_pack p
+is_question (Status p) = is_pack p
+is_question (Decommission p _) = is_pack p
+is_question (Revert p) = is_pack p
+is_question (Recall c b) = is_product_code c.bytes && is_batch b.bytes
+is_question (Withdraw c b) = is_product_code c.bytes && is_batch b.bytes
+is_question (Theft p) = is_pack p
+is_question (Audit p) = is_pack p
+
+-- whether the texts and the numbers of a reply are in their grammars and ranges
+abbrev pub is_reply : Reply → Bool
+is_reply (reply.Authentic b x _) = is_batch_and_expiry b x
+is_reply (reply.Alert _ _ number) = is_count number
+is_reply (reply.StatusIs _ _ _ b x) = is_batch_and_expiry b x
+is_reply (reply.LockedNow active) = is_count active
+is_reply (reply.Shown about) = is_count about
+is_reply _ = true
+
+-- whether the texts and the numbers of an entry are in their grammars and ranges
+abbrev pub is_entry : Entry → Bool
+is_entry e = is_moment e.moment && (is_name e.user.bytes && (is_actor e.actor && (is_question e.question && is_reply e.reply)))

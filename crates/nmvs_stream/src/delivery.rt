@@ -1,0 +1,23 @@
+//! Texts put to sinks.
+ghost use Rattle.std.specs.Prelude.{◌≡◌, OnOk, OnErr};
+ghost use Rattle.nmvs_stream.specs.Put.{Puts, PutsPart};
+
+use crate::failed::Failed;
+use crate::sink::Sink;
+
+/// Writes all of the text, and flushes it.
+///
+/// # Errors
+///
+/// A write or the flush failed. Some of the text may have been taken, from the front.
+pub fn put<W: Sink>(sink: &mut W, text: &[u8]) -> Result<(), Failed>
+    ensures ok { OnOk result (Puts (W.taken sink.old) (W.taken sink.new) text.now) }
+    ensures err { OnErr result (PutsPart (W.taken sink.old) (W.taken sink.new) text.now) }
+{
+    let mut rest = text;
+    while !rest.is_empty() {
+        let count = sink.write(rest)?;
+        rest = &rest[count..];
+    }
+    sink.flush()
+}

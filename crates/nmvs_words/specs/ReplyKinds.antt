@@ -1,0 +1,28 @@
+-- The kinds of replies and their words (own).
+use Rattle.std.specs.Prelude.{ℕ, List, [], ◌∷◌, codes, find, Option}
+use Rattle.std.specs.Str.{bytes_eq}
+use Rattle.nmvs_words.specs.declared.reply_kind.ReplyKind.{ReplyKind}
+use Rattle.nmvs_words.specs.declared.reply_kind.ReplyKind.TheVariants.{Uploaded, Authentic, Alert, Status, NoPack, Decommissioned, Reverted, Locked, Stolen, Shown, Refused}
+
+-- the word of a kind of reply
+abbrev pub reply_word : ReplyKind → List ℕ
+reply_word Uploaded = codes "UPLOADED"
+reply_word Authentic = codes "AUTHENTIC"
+reply_word Alert = codes "ALERT"
+reply_word Status = codes "STATUS"
+reply_word NoPack = codes "NOPACK"
+reply_word Decommissioned = codes "DECOMMISSIONED"
+reply_word Reverted = codes "REVERTED"
+reply_word Locked = codes "LOCKED"
+reply_word Stolen = codes "STOLEN"
+reply_word Shown = codes "SHOWN"
+reply_word Refused = codes "REFUSED"
+
+-- all kinds of replies
+abbrev pub reply_kinds : List ReplyKind
+reply_kinds =
+    Uploaded ∷ Authentic ∷ Alert ∷ Status ∷ NoPack ∷ Decommissioned ∷ Reverted ∷ Locked ∷ Stolen ∷ Shown ∷ Refused ∷ []
+
+-- the kind of reply that has a word
+abbrev pub reply_named : List ℕ → Option ReplyKind
+reply_named w = find (λ k. bytes_eq w (reply_word k)) reply_kinds

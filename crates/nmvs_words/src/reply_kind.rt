@@ -1,0 +1,60 @@
+//! Kinds of replies.
+ghost use Rattle.std.specs.Prelude.{◌≡◌};
+ghost use Rattle.nmvs_words.specs.ReplyKinds.{reply_word, reply_named};
+
+/// What a reply says, without its values. Each kind has a word, and what follows the word is by the kind.
+#[derive(Clone, Copy, Debug, PartialEq, Eq)]
+pub enum ReplyKind {
+    Uploaded,
+    Authentic,
+    Alert,
+    Status,
+    NoPack,
+    Decommissioned,
+    Reverted,
+    Locked,
+    Stolen,
+    Shown,
+    Refused,
+}
+
+impl ReplyKind {
+    /// The kind's word.
+    pub fn word(self) -> &'static str
+        ensures { result.now ≡ reply_word self }
+    {
+        match self {
+            ReplyKind::Uploaded => "UPLOADED",
+            ReplyKind::Authentic => "AUTHENTIC",
+            ReplyKind::Alert => "ALERT",
+            ReplyKind::Status => "STATUS",
+            ReplyKind::NoPack => "NOPACK",
+            ReplyKind::Decommissioned => "DECOMMISSIONED",
+            ReplyKind::Reverted => "REVERTED",
+            ReplyKind::Locked => "LOCKED",
+            ReplyKind::Stolen => "STOLEN",
+            ReplyKind::Shown => "SHOWN",
+            ReplyKind::Refused => "REFUSED",
+        }
+    }
+
+    /// The kind that has this word.
+    pub fn named(word: &str) -> Option<ReplyKind>
+        ensures { result ≡ reply_named word.now }
+    {
+        match word {
+            "UPLOADED" => Some(ReplyKind::Uploaded),
+            "AUTHENTIC" => Some(ReplyKind::Authentic),
+            "ALERT" => Some(ReplyKind::Alert),
+            "STATUS" => Some(ReplyKind::Status),
+            "NOPACK" => Some(ReplyKind::NoPack),
+            "DECOMMISSIONED" => Some(ReplyKind::Decommissioned),
+            "REVERTED" => Some(ReplyKind::Reverted),
+            "LOCKED" => Some(ReplyKind::Locked),
+            "STOLEN" => Some(ReplyKind::Stolen),
+            "SHOWN" => Some(ReplyKind::Shown),
+            "REFUSED" => Some(ReplyKind::Refused),
+            _ => None,
+        }
+    }
+}
