@@ -9,3 +9,4 @@ pub mod BatchStepLemmas
 pub mod BatchRecordLemmas
 pub mod TablesLemmas
 pub mod EntryLemmas
+pub mod ListingLemmas

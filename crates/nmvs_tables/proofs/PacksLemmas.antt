@@ -54,7 +54,7 @@ known-unnamed t p z = by (born t p) refl
         let passes : ((is_upload u.question && is_about p u) && is_accepted u) ≡ true = find-passes _ t u b in
         absurd (true≢false (sym (find-count _ (is_about p) t u b (second_so (is_upload u.question) _ (first_so _ _ passes)) z)))
 
-not_zero : (a : ℕ) → (suc a == 0) ≡ false
+pub not_zero : (a : ℕ) → (suc a == 0) ≡ false
 not_zero a = grind (arith, nat_tests)
 
 not_plus : (a : ℕ) → (a + 1 == 0) ≡ false

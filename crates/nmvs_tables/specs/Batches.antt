@@ -109,6 +109,11 @@ abbrev pub batches_after : List BatchKey → Option BatchKey → List BatchKey
 batches_after bs None = bs
 batches_after bs (Some b) = with_batch bs b
 
+-- the batch that an entry changes, where it is not yet among the batches
+abbrev pub first_of : List BatchKey → Option BatchKey → Option BatchKey
+first_of bs None = None
+first_of bs (Some b) = if list_any (same_batch b) bs then None else Some b
+
 -- the record of a batch in a table, or that of a batch without packs
 abbrev pub batch_in : {S : Type 0} → HashMap BatchKey BatchRecord S → BatchKey → BatchRecord
 batch_in m b = unwrap_or (get same_batch m b) no_packs

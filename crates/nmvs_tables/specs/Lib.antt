@@ -1,4 +1,5 @@
 pub mod Codes
 pub mod Packs
 pub mod Batches
+pub mod Listing
 pub mod Tables

@@ -5,7 +5,7 @@ ghost use Rattle.std.specs.Option.{ForSome};
 ghost use Rattle.nmvs_rules.specs.declared.own.Own.{Own};
 ghost use Rattle.nmvs_tables.specs.declared.batches.BatchKey.{BatchKey};
 ghost use Rattle.nmvs_rules.specs.Questions.{code_of, locked_batch};
-ghost use Rattle.nmvs_tables.specs.Batches.{same_batch, batch_asked, batch_in, batch_meant, batch_changed, batches_after, changes_batch, count_in, own_before, own_after, NotesBatch, lock_after};
+ghost use Rattle.nmvs_tables.specs.Batches.{same_batch, batch_asked, batch_in, batch_meant, batch_changed, batches_after, changes_batch, count_in, own_before, own_after, NotesBatch, lock_after, first_of};
 
 use crate::counts::moved;
 use crate::writes::{find, put};
@@ -124,8 +124,13 @@ fn noted(old: &BatchRecord, question: &Question, known: &Option<Known>) -> Batch
     }
 }
 
-/// Notes an entry, for whose batch room was made, about a pack that is known before it or not.
-pub(crate) fn note<A: Allocator>(batches: &mut Batches<A>, entry: &Entry, known: Option<Known>)
+/// Notes an entry, for whose batch room was made, about a pack that is known before it or not. Tells the batch that the
+/// entry is the first accepted upload of, if any.
+pub(crate) fn note<A: Allocator>(
+    batches: &mut Batches<A>,
+    entry: &Entry,
+    known: Option<Known>,
+) -> Option<BatchKey>
     requires room { 0 < spare batches.old }
     requires from { (b : BatchKey) → changes_batch b entry.now known ≡ true →
         ForSome (own_before known) (λ own. 1 ≤ count_in (batch_in batches.old b).counts own) }
@@ -135,14 +140,16 @@ pub(crate) fn note<A: Allocator>(batches: &mut Batches<A>, entry: &Entry, known:
     ensures others { (b : BatchKey) → changes_batch b entry.now known ≡ false →
         get same_batch batches.new b ≡ get same_batch batches.old b }
     ensures order { keys batches.new ≡ batches_after (keys batches.old) (batch_changed entry.now known) }
+    ensures first { result ≡ first_of (keys batches.old) (batch_changed entry.now known) }
 {
     if !entry.is_accepted() {
-        return;
+        return None;
     }
     let Some(key) = batch_meant(&entry.question, &known) else {
-        return;
+        return None;
     };
     let (index, old) = find(batches, &key);
     let old = old.unwrap_or(NO_PACKS);
     put(batches, index, key, noted(&old, &entry.question, &known));
+    index.is_none().then_some(key)
 }

@@ -7,6 +7,7 @@
 mod batches;
 mod codes;
 mod counts;
+mod listing;
 mod packs;
 mod tables;
 #[cfg(test)]

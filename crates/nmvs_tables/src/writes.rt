@@ -20,6 +20,19 @@ pub(crate) fn find<K: Eq + Hash, V: Copy, S: BuildHasher, A: Allocator>(
     }
 }
 
+/// Gives a key its value, for which room was made.
+pub(crate) fn insert<K: Eq + Hash + Copy, V: Copy, S: BuildHasher, A: Allocator>(
+    table: &mut IndexMap<K, V, S, A>,
+    key: K,
+    value: V,
+)
+    requires { 0 < spare table.old }
+    ensures updates { (q : K) → get K.eq table.new q ≡ cond (K.eq key q) (Some value) (get K.eq table.old q) }
+    ensures entries { table.new.entries ≡ insert_entry K.eq table.old.entries key value }
+{
+    table.insert(key, value).unwrap();
+}
+
 /// Gives a key its value, at the index where it was found. A new key, for which room was made, goes last.
 pub(crate) fn put<K: Eq + Hash + Copy, V: Copy, S: BuildHasher, A: Allocator>(
     table: &mut IndexMap<K, V, S, A>,
@@ -34,8 +47,6 @@ pub(crate) fn put<K: Eq + Hash + Copy, V: Copy, S: BuildHasher, A: Allocator>(
 {
     match index {
         Some(index) => table[index] = value,
-        None => {
-            table.insert(key, value).unwrap();
-        }
+        None => insert(table, key, value),
     }
 }

@@ -1,8 +1,8 @@
-use Rattle.std.proofs.Common.{false, ◌+◌, ◌<◌, ◌≤◌, ◌^◌, ◌≡◌, ◌∙◌, sym, ap, unwrap_or, subst}
+use Rattle.std.proofs.Common.{refl, false, ◌+◌, ◌<◌, ◌≤◌, ◌^◌, ◌≡◌, ◌∙◌, sym, ap, unwrap_or, subst}
 use Rattle.std.specs.Option.{option_map_or, ForSome}
 use Rattle.nmvs_rules.specs.declared.facts.BatchRecord.{BatchRecord}
 use Rattle.nmvs_tables.specs.Batches.{same_batch, batch_in, count_in, own_before, no_packs, NotesBatch}
-use Rattle.nmvs_tables.proofs.BatchTableLemmas.{same_batch-refl, changed-by, get_batch-changed, get_batch-others, keys-changed}
+use Rattle.nmvs_tables.proofs.BatchTableLemmas.{same_batch-refl, changed-by, get_batch-changed, get_batch-others, keys-changed, first-found}
 use Rattle.nmvs_tables.proofs.batches.note.Goals as goal
 
 pub noted-requires-clause-from : goal.noted-requires-clause-from
@@ -37,3 +37,10 @@ returns-clause-order g c =
     keys-changed c.args.batches.now c.put.new.table c.in-Some.key c.noted.result _
     (changed-by c.args.entry.now c.args.known c.in-Some.key c.is_accepted.result c.is_accepted.ensures c.if-not-is_accepted.false (sym c.in-Some.ensures))
     c.put.ensures.entries
+
+pub returns-clause-first : goal.returns-clause-first
+returns-clause-first g c =
+    first-found c.args.batches.now c.in-Some.key c.find-index.result.0 c.is_none.result _ _
+    (changed-by c.args.entry.now c.args.known c.in-Some.key c.is_accepted.result c.is_accepted.ensures c.if-not-is_accepted.false (sym c.in-Some.ensures))
+    c.find-index.ensures.index c.is_none.ensures
+    (λ h. c.then_some.ensures ∙ rw h refl) (λ h. c.then_some.ensures ∙ rw h refl)
