@@ -89,11 +89,7 @@ fn alert(cause: Cause, flagged: bool, number: u64) -> ArrayString<LONGEST_REPLY>
     let mut digits = Buffer::new();
     in_words(
         "ALERT",
-        &[
-            cause_word(cause),
-            flag_word(flagged),
-            digits.format(number),
-        ],
+        &[cause_word(cause), flag_word(flagged), digits.format(number)],
     )
 }
 
