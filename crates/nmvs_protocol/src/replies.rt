@@ -89,7 +89,11 @@ fn alert(cause: Cause, flagged: bool, number: u64) -> ArrayString<LONGEST_REPLY>
     let mut digits = Buffer::new();
     in_words(
         "ALERT",
-        &[cause_word(cause), flag_word(flagged), digits.format(number)],
+        &[
+            cause_word(cause),
+            flag_word(flagged),
+            digits.format(number),
+        ],
     )
 }
 
