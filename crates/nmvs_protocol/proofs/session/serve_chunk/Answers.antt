@@ -1,7 +1,7 @@
-use Rattle.std.proofs.Common.{◌≡◌, ◌+◌, ◌-◌, ◌++◌, ◌∷◌, [], List, ℕ, length, take, drop, refl, sym, ap, ◌∙◌, arith, length-drop, length-take}
+use Rattle.std.proofs.Common.{◌-◌, ◌++◌, ◌∷◌, [], List, ℕ, length, take, drop, refl, sym, ap, ◌∙◌, arith, length-drop}
 use Rattle.std.proofs.lemmas.List.{append_assoc, append-nil, take_all}
 use Rattle.std.proofs.lemmas.Grind.{common_steps}
-use Rattle.nmvs_protocol.specs.InputLines.{lines_after, rest_after}
+use Rattle.nmvs_protocol.specs.InputLines.{lines_after}
 use Rattle.nmvs_protocol.specs.Progress.{kept}
 use Rattle.nmvs_protocol.proofs.KeptLines.{kept_more}
 use Rattle.nmvs_protocol.proofs.LinesOfPieces.{found_line, found_none}

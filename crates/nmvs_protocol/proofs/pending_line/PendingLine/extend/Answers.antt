@@ -1,4 +1,4 @@
-use Rattle.std.proofs.Common.{◌≡◌, ◌∙◌, ◌++◌, ◌≤◌, List, ℕ, length, take, min, ap, arith, Result, Ok, Err, rules}
+use Rattle.std.proofs.Common.{◌≡◌, ◌∙◌, ◌++◌, List, ℕ, take, ap, Result, Ok, Err}
 use Rattle.std.specs.Prelude.{OnOk}
 use Rattle.nmvs_protocol.specs.Progress.{kept}
 use Rattle.nmvs_protocol.proofs.KeptLines.{kept_filled}
