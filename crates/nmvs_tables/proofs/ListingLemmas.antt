@@ -1,5 +1,6 @@
 -- The listing of batches after one more.
 use Rattle.std.proofs.Common.{◌≡◌, ℕ, ◌+◌, ◌≤◌, ◌==◌, Bool, true, false, ◌&&◌, ◌||◌, cond, List, [], ◌∷◌, ◌++◌, map, filter, length, slice_get, Option, Some, None, unwrap_or, refl, sym, ap, ◌∙◌, arith, length-append, append-nil, fold, suc, zero}
+use Rattle.std.proofs.Math.Bool.{or-true}
 use Rattle.std.proofs.lemmas.Bool.Decides.{nat_tests}
 use Rattle.std.proofs.lemmas.List.{length-map, map-append}
 use Rattle.std.proofs.lemmas.List.Elements.{filter-append}
@@ -16,7 +17,7 @@ use Rattle.nmvs_tables.specs.declared.batches.BatchKey.{BatchKey}
 use Rattle.nmvs_tables.specs.declared.listing.BatchPlace.{BatchPlace}
 use Rattle.nmvs_tables.specs.Batches.{same_batch, batch_born, batches_of, with_batch}
 use Rattle.nmvs_tables.specs.Listing.{of_code, code_batches, same_place, listed_in}
-use Rattle.nmvs_tables.proofs.BoolLemmas.{not-so, or-true}
+use Rattle.nmvs_tables.proofs.BoolLemmas.{not-so}
 use Rattle.nmvs_tables.proofs.PacksLemmas.{not_zero}
 
 -- the batches of a product code with one more
