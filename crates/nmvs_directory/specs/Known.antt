@@ -13,7 +13,8 @@ use Rattle.nmvs_directory.specs.declared.look.Look.TheVariants.{Nobody, Suspende
 abbrev pub last_change : List Change → Name → Option Change
 last_change changes user = find (λ change. same_text change.user user) (reverse changes)
 
--- the actor that the last change that names the user gives it, if one does; it gives none where it suspends the user (own)
+-- the actor that the last change that names the user gives it, if one does: none where that change suspends the user
+-- (own)
 abbrev pub last_actor : List Change → Name → Option (Option Actor)
 last_actor changes user = option_map (λ change. change.actor) (last_change changes user)
 

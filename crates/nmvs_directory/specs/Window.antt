@@ -7,8 +7,8 @@ use Rattle.nmvs_directory.specs.declared.change.Change.{Change}
 use Rattle.nmvs_directory.specs.declared.look.Look.{Look}
 use Rattle.nmvs_directory.specs.declared.look.Look.TheVariants.{Closed}
 
--- a window that had seen one list of changes looked up a user: it then has a list that begins with the former, by which the
--- directory answers; or the answer is Closed, and it has what it had (own)
+-- a window that had seen one list of changes looked up a user: it then has a list that begins with the former, by which
+-- the directory answers; or the answer is Closed, and it has what it had (own)
 abbrev pub Reads : List Change → List Change → Name → Look → Type 0
 Reads before after user look =
     (IsPrefix before after × (look ≡ known after user)) ⊎ ((look ≡ Closed) × (after ≡ before))

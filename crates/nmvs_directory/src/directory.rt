@@ -37,8 +37,8 @@ impl Directory {
         }
     }
 
-    /// Gives the directory its name, and its registrar and so many windows: 1 to 8, since a publication visits the place
-    /// of each.
+    /// Gives the directory its name, and its registrar and so many windows: 1 to 8, since a publication visits the
+    /// place of each.
     ///
     /// It answers `Memory` where there is no memory for them, and `Window` where a window was refused its place.
     pub fn open<J: Naming, R: Wait + Drop, A: Allocator + Copy>(

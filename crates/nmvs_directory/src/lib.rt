@@ -2,8 +2,8 @@
 //! own if need be, with no lock and no wait.
 //!
 //! A [`Directory`] is made, gets its name and is opened, which gives the [`Registrar`] and the [`Window`]s. What the
-//! registrar changes is pending until it publishes. A publication gives a [`Notice`]; a window that learns of it answers
-//! by that publication or a later one from then on.
+//! registrar changes is pending until it publishes. A publication gives a [`Notice`]; a window that learns of it
+//! answers by that publication or a later one from then on.
 //!
 //! ```text
 //! let (mut registrar, mut windows) = directory.open::<J, _, _>(rt, alloc, 2)?;

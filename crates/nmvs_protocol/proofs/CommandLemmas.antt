@@ -1,39 +1,25 @@
 -- The line of a command is read, and is the line of no other.
-use Rattle.std.proofs.Common.{◌≡◌, ◌&&◌, ◌==◌, not, ℕ, true, false, cond, List, [], ◌∷◌, length, get_or, drop, slice_index_or, Some, None, Result, Ok, Err, refl, sym, ap, ◌∙◌, lit≤, codes}
-use Rattle.std.specs.Prelude.{IsOk, IfOk, IsOkAnd, IsTrue, ◌↔◌, is_none}
+use Rattle.std.proofs.Common.{◌≡◌, ◌≢◌, ◌&&◌, ◌<◌, not, ℕ, true, cond, List, [], ◌∷◌, length, get_or, take, drop, Some, None, Result, Ok, Err, refl, sym, ap, ◌∙◌, lit≤, codes}
+use Rattle.std.specs.Prelude.{IfOk, IsOkAnd, IsTrue, is_none}
 use Rattle.std.specs.Str.{bytes_eq}
+use Rattle.std.specs.Result.{result_err}
 use Rattle.std.specs.List.{AllByRecursion}
 use Rattle.std.proofs.lemmas.Bool.{and_parts}
-use Rattle.std.proofs.lemmas.List.Splits.{join_with_byte-slice_split}
 use Rattle.nmvs_identifier.specs.Name.{Name, is_name}
 use Rattle.nmvs_rules.specs.declared.actor.Actor.{Actor}
 use Rattle.nmvs_rules.specs.declared.role.Role.{Role}
 use Rattle.nmvs_rules.specs.declared.role.Role.TheVariants as role
-use Rattle.nmvs_words.specs.Words.{role_word, role_named}
-use Rattle.nmvs_words.proofs.WordLemmas.{role_named-word, role_named-of_word, role_word-one}
+use Rattle.nmvs_words.specs.Words.{role_word}
+use Rattle.nmvs_words.proofs.WordLemmas.{role_named-of_word, role_word-one}
 use Rattle.nmvs_protocol.specs.declared.command.Command.{Command}
 use Rattle.nmvs_protocol.specs.declared.command.Command.TheVariants.{Enrol, Suspend}
 use Rattle.nmvs_protocol.specs.declared.command_fault.CommandFault.{CommandFault}
 use Rattle.nmvs_protocol.specs.declared.command_fault.CommandFault.TheVariants as fault
-use Rattle.nmvs_protocol.specs.Fields.{fields_in, field, joined}
-use Rattle.nmvs_protocol.specs.Commands.{command_fields, command_line, enrol_fault, suspend_fault, first_command_fault, is_command, IsSameCommand}
+use Rattle.nmvs_protocol.specs.Fields.{fields_in}
+use Rattle.nmvs_protocol.specs.Commands.{command_fields, command_line, enrol_fault, suspend_fault, fields_fault, first_command_fault, is_command, IsSameCommand}
 use Rattle.nmvs_identifier.proofs.PlainTexts.{IsPlain, plain_name}
-use Rattle.nmvs_protocol.proofs.PlainLemmas.{IsPlainLine, plain_line, not_long}
-use Rattle.nmvs_protocol.proofs.LineLemmas.{two, five}
-
--- a line whose fields are those of an enrolment is its line
-pub enrol_line : (x : List ℕ) (user : Name) (actor : Actor) → length (fields_in x) ≡ 5 → field x 0 ≡ codes "ENROL" → user.bytes ≡ field x 1
-    → role_named (field x 2) ≡ Some actor.role → actor.authorisation.bytes ≡ field x 3 → actor.premises.bytes ≡ field x 4
-    → x ≡ command_line (Enrol user actor)
-enrol_line x user actor count word name named authorisation premises =
-    sym (join_with_byte-slice_split 32 x)
-    ∙ ap joined (five (fields_in x) count)
-    ∙ (λ i. joined (word i ∷ sym name i ∷ role_named-word (field x 2) actor.role named i ∷ sym authorisation i ∷ sym premises i ∷ []))
-
-pub suspend_line : (x : List ℕ) (user : Name) → length (fields_in x) ≡ 2 → field x 0 ≡ codes "SUSPEND" → user.bytes ≡ field x 1
-    → x ≡ command_line (Suspend user)
-suspend_line x user count word name =
-    sym (join_with_byte-slice_split 32 x) ∙ ap joined (two (fields_in x) count) ∙ (λ i. joined (word i ∷ sym name i ∷ []))
+use Rattle.nmvs_protocol.proofs.PlainLemmas.{IsPlainLine, plain_line, line_fault-plain}
+use Rattle.nmvs_protocol.proofs.FieldLemmas.{line_of_kept}
 
 role_plain : (r : Role) → IsPlain (role_word r)
 role_plain role.Holder = (lit≤ tt, lit≤ tt, refl)
@@ -83,35 +69,55 @@ same_command c d is_c is_d e = same_fields c d (sym (plain_command c is_c).field
 first_fault-line : (c : Command) → is_command c ≡ true → first_command_fault (command_line c) ≡ None
 unfolding first_command_fault
 first_fault-line (Enrol user actor) e =
-    let x = command_line (Enrol user actor) in
-    let plain = plain_command (Enrol user actor) e in
-    let own = plain.fields in
-    let short = not_long (length x) plain.short in
-    let word = ap (λ fs. bytes_eq (slice_index_or fs 0 []) (codes "ENROL")) own in
-    let count = ap (λ fs. length fs == 5) own in
-    let named = ap (λ fs. is_none (role_named (slice_index_or fs 2 []))) own ∙ ap is_none (role_named-of_word actor.role) in
-    let names =
-    ap (λ fs. is_name (slice_index_or fs 1 []) && is_name (slice_index_or fs 3 []) && is_name (slice_index_or fs 4 [])) own ∙ e
-    in
-    (λ i. cond (short i) (Some fault.Long) (cond (not (plain.printable i)) (Some fault.Bytes) (cond (plain.filled i) (Some fault.Fields)
-    (cond (word i) (enrol_fault x) (cond (bytes_eq (field x 0) (codes "SUSPEND")) (suspend_fault x) (Some fault.Word))))))
-    ∙ (λ i. cond (not (count i)) (Some fault.Fields) (cond (named i) (Some fault.Role) (cond (not (names i)) (Some fault.Name) None)))
+    let named = ap is_none (role_named-of_word actor.role) in
+    line_fault-plain fault.Long fault.Bytes fault.Fields fields_fault (command_fields (Enrol user actor)) (plain_command (Enrol user actor) e)
+    ∙ (λ i. cond (named i) (Some fault.Role) (cond (not (e i)) (Some fault.Name) None))
 first_fault-line (Suspend user) e =
-    let x = command_line (Suspend user) in
-    let plain = plain_command (Suspend user) e in
-    let own = plain.fields in
-    let short = not_long (length x) plain.short in
-    let other = ap (λ fs. bytes_eq (slice_index_or fs 0 []) (codes "ENROL")) own in
-    let word = ap (λ fs. bytes_eq (slice_index_or fs 0 []) (codes "SUSPEND")) own in
-    let count = ap (λ fs. length fs == 2) own in
-    let name = ap (λ fs. is_name (slice_index_or fs 1 [])) own ∙ e in
-    (λ i. cond (short i) (Some fault.Long) (cond (not (plain.printable i)) (Some fault.Bytes) (cond (plain.filled i) (Some fault.Fields)
-    (cond (other i) (enrol_fault x) (cond (word i) (suspend_fault x) (Some fault.Word))))))
-    ∙ (λ i. cond (not (count i)) (Some fault.Fields) (cond (not (name i)) (Some fault.Name) None))
+    line_fault-plain fault.Long fault.Bytes fault.Fields fields_fault (command_fields (Suspend user)) (plain_command (Suspend user) e)
+    ∙ (λ i. cond (e i) None (Some fault.Name))
 
 -- a line that is read exactly is read as the command whose line it is
 pub read_complete : (x : List ℕ) (r : Result Command CommandFault) → IfOk r (λ c. x ≡ command_line c) → IfOk r (λ c. IsTrue (is_command c))
-    → (IsOk r ↔ (first_command_fault x ≡ None)) → (c : Command) → IsTrue (is_command c) → x ≡ command_line c → IsOkAnd r (λ d. IsSameCommand d c)
-read_complete x (Ok d) own valid accepts c is_c e = same_command d c valid is_c (sym own ∙ e)
-read_complete x (Err f) own valid accepts c is_c e =
-    let accepted : false ≡ true = accepts.1 (ap first_command_fault e ∙ first_fault-line c is_c) in absurd cc
+    → result_err r ≡ first_command_fault x → (c : Command) → IsTrue (is_command c) → x ≡ command_line c → IsOkAnd r (λ d. IsSameCommand d c)
+read_complete x (Ok d) own valid exact c is_c e = same_command d c valid is_c (sym own ∙ e)
+read_complete x (Err f) own valid exact c is_c e =
+    let none = exact ∙ ap first_command_fault e ∙ first_fault-line c is_c in absurd cc
+
+few_fields : (c : Command) → length (command_fields c) < 7
+few_fields (Enrol user actor) = lit≤ tt
+few_fields (Suspend user) = lit≤ tt
+
+-- a line whose fields are read as a command is its line
+pub line_of_command : (x : List ℕ) (fs : List (List ℕ)) (r : Result Command CommandFault) → fs ≡ take 7 (fields_in x)
+    → IfOk r (λ c. command_fields c ≡ fs) → IfOk r (λ c. x ≡ command_line c)
+line_of_command x fs (Ok c) kept same = line_of_kept x (command_fields c) (sym (same ∙ kept)) (few_fields c)
+line_of_command x fs (Err f) kept same = tt
+
+-- an enrolment has four texts
+pub enrol_fault-count : (texts : List (List ℕ)) → length texts ≢ 4 → enrol_fault texts ≡ Some fault.Fields
+enrol_fault-count [] other = refl
+enrol_fault-count (a ∷ []) other = refl
+enrol_fault-count (a ∷ b ∷ []) other = refl
+enrol_fault-count (a ∷ b ∷ c ∷ []) other = refl
+enrol_fault-count (a ∷ b ∷ c ∷ d ∷ []) other = absurd (other refl)
+enrol_fault-count (a ∷ b ∷ c ∷ d ∷ e ∷ texts) other = refl
+
+enrol_fault-take : (texts : List (List ℕ)) → enrol_fault (take 6 texts) ≡ enrol_fault texts
+enrol_fault-take [] = refl
+enrol_fault-take (a ∷ []) = refl
+enrol_fault-take (a ∷ b ∷ []) = refl
+enrol_fault-take (a ∷ b ∷ c ∷ []) = refl
+enrol_fault-take (a ∷ b ∷ c ∷ d ∷ []) = refl
+enrol_fault-take (a ∷ b ∷ c ∷ d ∷ e ∷ texts) = refl
+
+suspend_fault-take : (texts : List (List ℕ)) → suspend_fault (take 6 texts) ≡ suspend_fault texts
+suspend_fault-take [] = refl
+suspend_fault-take (a ∷ []) = refl
+suspend_fault-take (a ∷ b ∷ texts) = refl
+
+-- what is kept of a line's fields tells their fault
+pub fields_fault-take : (fs : List (List ℕ)) → fields_fault (take 7 fs) ≡ fields_fault fs
+fields_fault-take [] = refl
+fields_fault-take (word ∷ texts) = λ i.
+    cond (bytes_eq word (codes "ENROL")) (enrol_fault-take texts i)
+    (cond (bytes_eq word (codes "SUSPEND")) (suspend_fault-take texts i) (Some fault.Word))

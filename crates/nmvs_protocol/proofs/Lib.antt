@@ -1,5 +1,4 @@
 pub mod FieldLemmas
-pub mod LineLemmas
 pub mod KeptLines
 pub mod LinesOfPieces
 pub mod QuitLines

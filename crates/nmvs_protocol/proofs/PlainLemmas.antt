@@ -1,5 +1,5 @@
 -- Lines that are made of plain fields.
-use Rattle.std.proofs.Common.{◌≡◌, ◌≤◌, ◌*◌, ◌&&◌, ◌||◌, ◌==◌, ℕ, true, false, nat_lt, List, [], ◌∷◌, length, refl, ap, ◌∙◌, lit≤, arith, length-append}
+use Rattle.std.proofs.Common.{◌≡◌, ◌≤◌, ◌*◌, ◌&&◌, ◌||◌, ◌==◌, not, cond, ℕ, true, false, nat_lt, Option, Some, List, [], ◌∷◌, length, refl, ap, ◌∙◌, lit≤, arith, length-append}
 use Rattle.std.specs.List.{list_all, list_any, AllByRecursion}
 use Rattle.std.proofs.lemmas.Bool.{and_parts}
 use Rattle.std.proofs.lemmas.Bool.Decides.{nat_tests}
@@ -7,7 +7,7 @@ use Rattle.std.proofs.lemmas.List.Elements.{All-from_recursion}
 use Rattle.std.proofs.lemmas.List.Folds.{list_all-append}
 use Rattle.std.proofs.lemmas.List.Splits.{slice_split_at, slice_split_none}
 use Rattle.nmvs_identifier.proofs.PlainTexts.{is_plain, IsPlain, all_weaker}
-use Rattle.nmvs_protocol.specs.Fields.{is_printable, is_space, is_empty, fields_in, joined}
+use Rattle.nmvs_protocol.specs.Fields.{longest_line, is_printable, is_space, is_empty, fields_in, joined, line_fault}
 
 not_space : (b : ℕ) → is_plain b ≡ true → is_space b ≡ false
 not_space b e = grind (arith, nat_tests)
@@ -53,12 +53,12 @@ length-joined (f ∷ g ∷ fs) plain =
     let whole = length-append f (32 ∷ joined (g ∷ fs)) in
     omega (arith, short, rest, whole)
 
-pub not_long : (n : ℕ) → n ≤ 200 → nat_lt 200 n ≡ false
+not_long : (n : ℕ) → n ≤ longest_line → nat_lt longest_line n ≡ false
 not_long n short = grind (arith, nat_tests)
 
 -- a line of one to nine plain fields is short, printable, and has these fields, none of them empty
 pub record IsPlainLine (fs : List (List ℕ)) : Type 0 where
-  pub short : length (joined fs) ≤ 200
+  pub short : length (joined fs) ≤ longest_line
   pub printable : list_all is_printable (joined fs) ≡ true
   pub fields : fields_in (joined fs) ≡ fs
   pub filled : list_any is_empty (fields_in (joined fs)) ≡ false
@@ -73,3 +73,10 @@ plain_line fs some few plain =
       fields = own;
       filled = ap (list_any is_empty) own ∙ none_empty fs plain;
     }
+
+-- it has no fault but that of its fields
+pub line_fault-plain : {F : Type 0} (long bytes empty : F) (of_fields : List (List ℕ) → Option F) (fs : List (List ℕ)) → IsPlainLine fs
+    → line_fault long bytes empty of_fields (joined fs) ≡ of_fields fs
+line_fault-plain long bytes empty of_fields fs plain =
+    let short = not_long (length (joined fs)) plain.short in
+    λ i. cond (short i) (Some long) (cond (not (plain.printable i)) (Some bytes) (cond (plain.filled i) (Some empty) (of_fields (plain.fields i))))

@@ -1,27 +1,31 @@
 -- The line of an ask is read, and is the line of no other.
-use Rattle.std.proofs.Common.{◌≡◌, ◌≤◌, ◌+◌, ◌==◌, not, ℕ, true, false, suc, List, [], ◌∷◌, length, drop, get_or, Some, None, refl, sym, ap, ◌∙◌, lit≤, codes, cond, slice_index_or, arith, add-zero, Result, Ok, Err}
-use Rattle.std.specs.Prelude.{IsOk, IfOk, IsOkAnd, IsTrue, ◌↔◌}
-use Rattle.std.specs.Str.{bytes_eq}
+use Rattle.std.proofs.Common.{◌≡◌, ◌≢◌, ◌≤◌, ◌<◌, ◌==◌, not, ℕ, true, List, [], ◌∷◌, length, map, take, drop, get_or, codes, Bor, Option, Some, None, inl, inr, refl, sym, ap, ◌∙◌, lit≤, cond, arith, Result, Ok, Err}
+use Rattle.std.specs.Prelude.{IfOk, IsOkAnd, IsTrue}
+use Rattle.std.specs.Result.{result_err}
 use Rattle.std.specs.List.{AllByRecursion}
-use Rattle.std.proofs.lemmas.Bool.{and_parts}
-use Rattle.std.proofs.lemmas.List.{get_or-drop, drop-drop}
+use Rattle.std.proofs.lemmas.Bool.{and_parts, ne_eqb, cases_lt, false_from_ne_true}
+use Rattle.std.proofs.lemmas.Slice.Eq.{bytes_eq-Decides}
+use Rattle.std.specs.Str.{bytes_eq}
+use Rattle.std.proofs.lemmas.List.{take_all, length-take}
 use Rattle.std.proofs.lemmas.Bool.Decides.{nat_tests}
 use Rattle.nmvs_identifier.specs.Name.{Name, is_name}
 use Rattle.nmvs_rules.specs.declared.question.Question.{Question}
 use Rattle.nmvs_rules.specs.declared.question.Question.TheVariants as question
 use Rattle.nmvs_words.specs.declared.question_kind.QuestionKind.{QuestionKind}
 use Rattle.nmvs_words.specs.declared.question_kind.QuestionKind.TheVariants.{Upload, OfPack, OfBatch}
-use Rattle.nmvs_words.specs.Kinds.{kind_of, texts_of}
-use Rattle.nmvs_words.proofs.WordLemmas.{kind_named-of_word, kind_word-one}
+use Rattle.nmvs_words.specs.declared.pack_question.PackQuestion.TheVariants.{Verify, Status, Decommission, Revert, Theft, Audit}
+use Rattle.nmvs_words.specs.Kinds.{kind_of, kind_word, kind_named, texts_of}
+use Rattle.nmvs_words.proofs.WordLemmas.{kind_named-word, kind_named-of_word, kind_word-one}
 use Rattle.nmvs_protocol.specs.declared.ask.Ask.{Ask}
 use Rattle.nmvs_protocol.specs.declared.ask.Ask.TheVariants.{Put, Quit}
 use Rattle.nmvs_protocol.specs.declared.line_fault.LineFault.TheVariants as fault
 use Rattle.nmvs_protocol.specs.declared.line_fault.LineFault.{LineFault}
-use Rattle.nmvs_protocol.specs.Fields.{fields_in, field}
-use Rattle.nmvs_protocol.specs.Lines.{fields, line, Grammar, grammars, all_read, first_misread, first_fault, question_fault, kind_put, without_audit, is_ask, is_readable, IsSameAsk, OneSpelling, ShortLines}
+use Rattle.nmvs_protocol.specs.Fields.{fields_in}
+use Rattle.nmvs_protocol.specs.Lines.{fields, line, Grammar, grammars, all_read, first_misread, put_fault, fields_fault, first_fault, kind_put, without_audit, is_ask, is_readable, IsSameAsk, OneSpelling, ShortLines}
 use Rattle.nmvs_identifier.proofs.PlainTexts.{IsPlain, plain_name, plain_code, plain_serial, plain_batch, plain_expiry}
 use Rattle.nmvs_words.proofs.PlainWords.{word_plain}
-use Rattle.nmvs_protocol.proofs.PlainLemmas.{IsPlainLine, plain_line, not_long}
+use Rattle.nmvs_protocol.proofs.PlainLemmas.{IsPlainLine, plain_line, line_fault-plain}
+use Rattle.nmvs_protocol.proofs.FieldLemmas.{line_of_kept, one}
 
 -- each text that a grammar accepts is plain
 abbrev AcceptsPlain : Grammar → Type 0
@@ -103,48 +107,104 @@ is_ask_readable (Put user q) e = (readable_put user q e).0
 is_ask_readable Quit e = refl
 
 -- fields in their grammars are not misread
-all_read-none : (x : List ℕ) (k : ℕ) (gs : List Grammar) (ts : List (List ℕ)) → drop k (fields_in x) ≡ ts → all_read gs ts ≡ true → first_misread x k gs ≡ None
-all_read-none x k [] ts here e = refl
-all_read-none x k (g ∷ gs) [] here e = absurd cc
-all_read-none x k (g ∷ gs) (t ∷ ts) here e =
+all_read-none : (gs : List Grammar) (ts : List (List ℕ)) → all_read gs ts ≡ true → first_misread gs ts ≡ None
+all_read-none [] [] e = refl
+all_read-none [] (t ∷ ts) e = absurd cc
+all_read-none (g ∷ gs) [] e = absurd cc
+all_read-none (g ∷ gs) (t ∷ ts) e =
     let parts = and_parts (g.0 t) (all_read gs ts) e in
-    let this : field x k ≡ t = sym (get_or-drop k (fields_in x) 0 [] ∙ ap (λ n. get_or (fields_in x) n []) (add-zero k)) ∙ ap (λ us. get_or us 0 []) here in
-    let later : drop (k + 1) (fields_in x) ≡ ts = sym (drop-drop 1 k (fields_in x)) ∙ ap (λ us. drop 1 us) here in
-    (λ i. cond (g.0 (this i)) (first_misread x (k + 1) gs) (Some g.1))
-    ∙ (λ i. cond (parts.0 i) (first_misread x (k + 1) gs) (Some g.1))
-    ∙ all_read-none x (k + 1) gs ts later parts.1
+    (λ i. cond (parts.0 i) (first_misread gs ts) (Some g.1)) ∙ all_read-none gs ts parts.1
 
-not_one : (n : ℕ) → (suc (suc n) == 1) ≡ false
-not_one n = grind (arith, nat_tests)
-
-two_more : (m n : ℕ) → m ≡ n → (suc (suc m) == 2 + n) ≡ true
-two_more m n e = grind (arith, nat_tests)
+same_count : (m n : ℕ) → m ≡ n → (m == n) ≡ true
+same_count m n e = grind (arith, nat_tests)
 
 -- the line of a readable ask has no fault
-pub first_fault-line : (a : Ask) → is_readable a ≡ true → first_fault (line a) ≡ None
+first_fault-line : (a : Ask) → is_readable a ≡ true → first_fault (line a) ≡ None
 unfolding first_fault
 first_fault-line Quit e = refl
 first_fault-line (Put user q) e =
-    let x = line (Put user q) in
     let kind = kind_of q in
     let readable = readable_put user q e in
-    let plain = plain_ask (Put user q) readable.0 in
-    let own = plain.fields in
     let parts = and_parts (is_name user.bytes) (all_read (grammars kind) (texts_of q)) readable.0 in
-    let count = all_read-length (grammars kind) (texts_of q) parts.1 in
-    let short = not_long (length x) plain.short in
-    let several = ap (λ fs. length fs == 1) own ∙ not_one (length (texts_of q)) in
-    let named = ap (λ fs. kind_put (slice_index_or fs 1 [])) own ∙ ap without_audit (kind_named-of_word kind) ∙ readable.1 in
-    let whole = ap (λ fs. length fs == 2 + length (grammars kind)) own ∙ two_more (length (texts_of q)) (length (grammars kind)) count in
-    let name = ap (λ fs. is_name (slice_index_or fs 0 [])) own ∙ parts.0 in
-    (λ i. cond (short i) (Some fault.Long) (cond (not (plain.printable i)) (Some fault.Bytes) (cond (plain.filled i) (Some fault.Fields)
-    (cond (several i) (cond (bytes_eq x (codes "QUIT")) None (Some fault.Fields)) (question_fault x (named i))))))
-    ∙ (λ i. cond (not (whole i)) (Some fault.Fields) (cond (not (name i)) (Some fault.User) (first_misread x 2 (grammars kind))))
-    ∙ all_read-none x 2 (grammars kind) (texts_of q) (ap (λ fs. drop 2 fs) own) parts.1
+    let named = ap without_audit (kind_named-of_word kind) ∙ readable.1 in
+    let whole = same_count (length (texts_of q)) (length (grammars kind)) (all_read-length (grammars kind) (texts_of q) parts.1) in
+    line_fault-plain fault.Long fault.Bytes fault.Fields fields_fault (fields (Put user q)) (plain_ask (Put user q) readable.0)
+    ∙ ap (λ k. put_fault user.bytes k (texts_of q)) named
+    ∙ (λ i. cond (not (whole i)) (Some fault.Fields) (cond (not (parts.0 i)) (Some fault.User) (first_misread (grammars kind) (texts_of q))))
+    ∙ all_read-none (grammars kind) (texts_of q) parts.1
 
 -- a line that is read exactly is read as the ask whose line it is
 pub read_complete : (x : List ℕ) (r : Result Ask LineFault) → IfOk r (λ a. x ≡ line a) → IfOk r (λ a. IsTrue (is_readable a))
-    → (IsOk r ↔ (first_fault x ≡ None)) → (a : Ask) → IsTrue (is_readable a) → x ≡ line a → IsOkAnd r (λ b. IsSameAsk b a)
-read_complete x (Ok b) own readable accepts a is_a e = one_spelling b a (is_ask_readable b readable) (is_ask_readable a is_a) (sym own ∙ e)
-read_complete x (Err f) own readable accepts a is_a e =
-    let accepted : false ≡ true = accepts.1 (ap first_fault e ∙ first_fault-line a is_a) in absurd cc
+    → result_err r ≡ first_fault x → (a : Ask) → IsTrue (is_readable a) → x ≡ line a → IsOkAnd r (λ b. IsSameAsk b a)
+read_complete x (Ok b) own readable exact a is_a e = one_spelling b a (is_ask_readable b readable) (is_ask_readable a is_a) (sym own ∙ e)
+read_complete x (Err f) own readable exact a is_a e =
+    let none = exact ∙ ap first_fault e ∙ first_fault-line a is_a in absurd cc
+
+-- the fields of a readable ask are fewer than could be kept
+few_fields : (a : Ask) → is_readable a ≡ true → length (fields a) < 7
+few_fields Quit e = lit≤ tt
+few_fields (Put user q) e =
+    let parts = and_parts (is_name user.bytes) (all_read (grammars (kind_of q)) (texts_of q)) (readable_put user q e).0 in
+    let count = all_read-length (grammars (kind_of q)) (texts_of q) parts.1 in
+    let few = few_grammars (kind_of q) in
+    omega (arith, count, few)
+
+-- a line whose fields are read as an ask is its line
+pub line_of_ask : (x : List ℕ) (fs : List (List ℕ)) (r : Result Ask LineFault) → fs ≡ take 7 (fields_in x)
+    → IfOk r (λ a. fields a ≡ fs) → IfOk r (λ a. IsTrue (is_readable a)) → IfOk r (λ a. x ≡ line a)
+line_of_ask x fs (Ok a) kept same readable = line_of_kept x (fields a) (sym (same ∙ kept)) (few_fields a readable)
+line_of_ask x fs (Err f) kept same readable = tt
+
+-- too many texts are too many, however many are kept
+wrong_count : (user : List ℕ) (kind : QuestionKind) (texts : List (List ℕ)) → 4 < length texts → put_fault user (Some kind) texts ≡ Some fault.Fields
+wrong_count user kind texts many =
+    let few = few_grammars kind in
+    let ne : length texts ≢ length (grammars kind) = omega (arith, few) in
+    rw (ne_eqb (length texts) (length (grammars kind)) ne) refl
+
+put_fault-take : (user : List ℕ) (kind : Option QuestionKind) (texts : List (List ℕ)) → put_fault user kind (take 5 texts) ≡ put_fault user kind texts
+put_fault-take user None texts = refl
+put_fault-take user (Some kind) texts = elim (cases_lt 5 (length texts)) [
+  | inr short ↦ ap (put_fault user (Some kind)) (take_all 5 texts short)
+  | inl long ↦
+      let kept = length-take 5 texts in
+      wrong_count user kind (take 5 texts) (omega arith) ∙ sym (wrong_count user kind texts (omega arith))
+]
+
+-- what is kept of a line's fields tells their fault
+pub fields_fault-take : (fs : List (List ℕ)) → fields_fault (take 7 fs) ≡ fields_fault fs
+fields_fault-take [] = refl
+fields_fault-take (word ∷ []) = refl
+fields_fault-take (user ∷ word ∷ texts) = put_fault-take user (kind_put word) texts
+
+-- no fault of a question whose texts are read
+pub no_put_fault : (user word : List ℕ) (kind : QuestionKind) (texts read : List (List ℕ)) → kind_put word ≡ Some kind → is_name user ≡ true → texts ≡ read
+    → length read ≡ length (grammars kind) → None ≡ first_misread (grammars kind) read → None ≡ put_fault user (kind_put word) texts
+no_put_fault user word kind texts read word_is name same count none =
+    let whole = same_count (length read) (length (grammars kind)) count in
+    none
+    ∙ (λ i. cond (not (sym whole i)) (Some fault.Fields) (cond (not (sym name i)) (Some fault.User) (first_misread (grammars kind) read)))
+    ∙ (λ i. put_fault user (sym word_is i) (sym same i))
+
+-- the word of a question that is put
+without_audit-kind : (o : Option QuestionKind) (kind : QuestionKind) → without_audit o ≡ Some kind → o ≡ Some kind
+without_audit-kind None kind e = absurd cc
+without_audit-kind (Some Upload) kind e = e
+without_audit-kind (Some (OfBatch b)) kind e = e
+without_audit-kind (Some (OfPack Audit)) kind e = absurd cc
+without_audit-kind (Some (OfPack Verify)) kind e = e
+without_audit-kind (Some (OfPack Status)) kind e = e
+without_audit-kind (Some (OfPack (Decommission r))) kind e = e
+without_audit-kind (Some (OfPack Revert)) kind e = e
+without_audit-kind (Some (OfPack Theft)) kind e = e
+
+pub kind_put-word : (word : List ℕ) (q : Question) → kind_put word ≡ Some (kind_of q) → word ≡ kind_word (kind_of q)
+kind_put-word word q e = kind_named-word word (kind_of q) (without_audit-kind (kind_named word) (kind_of q) e)
+
+-- one field alone that is not QUIT
+pub not_quit_fault : (ts : List (Bor (List ℕ))) (a : Bor (List ℕ)) → 1 ≤ length ts → length ts < 2 → (get_or ts 0 a).now ≢ codes "QUIT"
+    → fields_fault (map (λ t. t.now) ts) ≡ Some fault.Fields
+not_quit_fault ts a least most other =
+    let word = (get_or ts 0 a).now in
+    let no = false_from_ne_true (bytes_eq word (codes "QUIT")) (λ e. other ((bytes_eq-Decides word (codes "QUIT")).0 e)) in
+    ap fields_fault (one ts a least most) ∙ (λ i. cond (no i) None (Some fault.Fields))

@@ -1,6 +1,5 @@
 -- The one line of each command, and the first fault of a command (own).
-use Rattle.std.specs.Prelude.{ℕ, Bool, List, [], ◌∷◌, length, ◌==◌, ◌&&◌, nat_lt, not, is_none, codes, Option, Some, None, if◌then◌else◌, ◌≡◌}
-use Rattle.std.specs.List.{list_all, list_any}
+use Rattle.std.specs.Prelude.{ℕ, Bool, List, [], ◌∷◌, ◌&&◌, not, is_none, codes, Option, Some, None, if◌then◌else◌, ◌≡◌}
 use Rattle.std.specs.Str.{bytes_eq}
 use Rattle.nmvs_identifier.specs.Name.{is_name}
 use Rattle.nmvs_words.specs.Words.{role_word, role_named}
@@ -8,7 +7,7 @@ use Rattle.nmvs_protocol.specs.declared.command.Command.{Command}
 use Rattle.nmvs_protocol.specs.declared.command.Command.TheVariants.{Enrol, Suspend}
 use Rattle.nmvs_protocol.specs.declared.command_fault.CommandFault.{CommandFault}
 use Rattle.nmvs_protocol.specs.declared.command_fault.CommandFault.TheVariants as fault
-use Rattle.nmvs_protocol.specs.Fields.{is_printable, is_empty, fields_in, field, joined}
+use Rattle.nmvs_protocol.specs.Fields.{joined, line_fault}
 
 -- the fields of a command
 abbrev pub command_fields : Command → List (List ℕ)
@@ -20,30 +19,30 @@ command_fields (Suspend user) = codes "SUSPEND" ∷ user.bytes ∷ []
 abbrev pub command_line : Command → List ℕ
 command_line c = joined (command_fields c)
 
--- the first fault of a line that is to enrol
-abbrev pub enrol_fault : List ℕ → Option CommandFault
-enrol_fault x =
-    if not (length (fields_in x) == 5) then Some fault.Fields
-    else if is_none (role_named (field x 2)) then Some fault.Role
-    else if not (is_name (field x 1) && is_name (field x 3) && is_name (field x 4)) then Some fault.Name
+-- the first fault of an enrolment with these texts after its word
+abbrev pub enrol_fault : List (List ℕ) → Option CommandFault
+enrol_fault (user ∷ role ∷ authorisation ∷ premises ∷ []) =
+    if is_none (role_named role) then Some fault.Role
+    else if not (is_name user && is_name authorisation && is_name premises) then Some fault.Name
     else None
+enrol_fault _ = Some fault.Fields
 
--- the first fault of a line that is to suspend
-abbrev pub suspend_fault : List ℕ → Option CommandFault
-suspend_fault x =
-    if not (length (fields_in x) == 2) then Some fault.Fields
-    else if not (is_name (field x 1)) then Some fault.Name
-    else None
+-- the first fault of a suspension with these texts after its word
+abbrev pub suspend_fault : List (List ℕ) → Option CommandFault
+suspend_fault (user ∷ []) = if is_name user then None else Some fault.Name
+suspend_fault _ = Some fault.Fields
+
+-- the first fault of these fields
+abbrev pub fields_fault : List (List ℕ) → Option CommandFault
+fields_fault [] = Some fault.Word
+fields_fault (word ∷ texts) =
+    if bytes_eq word (codes "ENROL") then enrol_fault texts
+    else if bytes_eq word (codes "SUSPEND") then suspend_fault texts
+    else Some fault.Word
 
 -- the first fault of a command
 unfoldable pub first_command_fault : List ℕ → Option CommandFault
-first_command_fault x =
-    if nat_lt 200 (length x) then Some fault.Long
-    else if not (list_all is_printable x) then Some fault.Bytes
-    else if list_any is_empty (fields_in x) then Some fault.Fields
-    else if bytes_eq (field x 0) (codes "ENROL") then enrol_fault x
-    else if bytes_eq (field x 0) (codes "SUSPEND") then suspend_fault x
-    else Some fault.Word
+first_command_fault x = line_fault fault.Long fault.Bytes fault.Fields fields_fault x
 
 -- whether the texts of a command are names
 abbrev pub is_command : Command → Bool

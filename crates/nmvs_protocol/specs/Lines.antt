@@ -1,6 +1,5 @@
 -- The one line of each ask, and the first fault of a line (own).
-use Rattle.std.specs.Prelude.{ℕ, Bool, true, false, List, [], ◌∷◌, length, ◌+◌, ◌==◌, ◌&&◌, nat_lt, not, codes, Option, Some, None, if◌then◌else◌, ◌≡◌, ◌≤◌, ⊤, IsTrue}
-use Rattle.std.specs.List.{list_all, list_any}
+use Rattle.std.specs.Prelude.{ℕ, Bool, true, false, List, [], ◌∷◌, length, ◌==◌, ◌&&◌, not, codes, Option, Some, None, if◌then◌else◌, ◌≡◌, ◌≤◌, ⊤, IsTrue}
 use Rattle.std.specs.Str.{bytes_eq}
 use Rattle.nmvs_identifier.specs.Name.{is_name}
 use Rattle.nmvs_identifier.specs.ProductCode.{is_product_code}
@@ -16,7 +15,7 @@ use Rattle.nmvs_protocol.specs.declared.ask.Ask.{Ask}
 use Rattle.nmvs_protocol.specs.declared.ask.Ask.TheVariants.{Put, Quit}
 use Rattle.nmvs_protocol.specs.declared.line_fault.LineFault.{LineFault}
 use Rattle.nmvs_protocol.specs.declared.line_fault.LineFault.TheVariants as fault
-use Rattle.nmvs_protocol.specs.Fields.{is_printable, is_empty, fields_in, field, joined}
+use Rattle.nmvs_protocol.specs.Fields.{joined, line_fault, longest_line}
 
 -- the fields of an ask: the user, the question's word, and the texts of what it names
 abbrev pub fields : Ask → List (List ℕ)
@@ -31,17 +30,21 @@ line a = joined (fields a)
 abbrev pub Grammar : Type 0
 Grammar = (List ℕ → Bool) × LineFault
 
+-- the fields that name a pack
+abbrev pub pack_grammars : List Grammar
+pack_grammars = (is_product_code, fault.Code) ∷ (is_serial, fault.Serial) ∷ []
+
 -- the fields that follow the word of a kind
 abbrev pub grammars : QuestionKind → List Grammar
 grammars Upload =
     (is_product_code, fault.Code) ∷ (is_serial, fault.Serial) ∷ (is_batch, fault.Batch) ∷ (is_expiry, fault.Expiry) ∷ []
-grammars (OfPack _) = (is_product_code, fault.Code) ∷ (is_serial, fault.Serial) ∷ []
+grammars (OfPack _) = pack_grammars
 grammars (OfBatch _) = (is_product_code, fault.Code) ∷ (is_batch, fault.Batch) ∷ []
 
--- the fault of the first field, from field k on, that is not in its grammar
-abbrev pub first_misread : List ℕ → ℕ → List Grammar → Option LineFault
-first_misread x k [] = None
-first_misread x k (g ∷ gs) = if g.0 (field x k) then first_misread x (k + 1) gs else Some g.1
+-- the fault of the first text that is not in the grammar at its place
+abbrev pub first_misread : List Grammar → List (List ℕ) → Option LineFault
+first_misread (g ∷ gs) (t ∷ ts) = if g.0 t then first_misread gs ts else Some g.1
+first_misread _ _ = None
 
 -- the kinds that lines may put: as yet no audit
 abbrev pub without_audit : Option QuestionKind → Option QuestionKind
@@ -52,22 +55,23 @@ without_audit kind = kind
 abbrev pub kind_put : List ℕ → Option QuestionKind
 kind_put w = without_audit (kind_named w)
 
--- the first fault of a line that is to put a question whose word is of this kind
-abbrev pub question_fault : List ℕ → Option QuestionKind → Option LineFault
-question_fault x None = Some fault.Word
-question_fault x (Some kind) =
-    if not (length (fields_in x) == 2 + length (grammars kind)) then Some fault.Fields
-    else if not (is_name (field x 0)) then Some fault.User
-    else first_misread x 2 (grammars kind)
+-- the first fault of a question that a user puts by a word of this kind and these texts
+abbrev pub put_fault : List ℕ → Option QuestionKind → List (List ℕ) → Option LineFault
+put_fault user None texts = Some fault.Word
+put_fault user (Some kind) texts =
+    if not (length texts == length (grammars kind)) then Some fault.Fields
+    else if not (is_name user) then Some fault.User
+    else first_misread (grammars kind) texts
+
+-- the first fault of these fields
+abbrev pub fields_fault : List (List ℕ) → Option LineFault
+fields_fault [] = Some fault.Fields
+fields_fault (word ∷ []) = if bytes_eq word (codes "QUIT") then None else Some fault.Fields
+fields_fault (user ∷ word ∷ texts) = put_fault user (kind_put word) texts
 
 -- the first fault of a line
 unfoldable pub first_fault : List ℕ → Option LineFault
-first_fault x =
-    if nat_lt 200 (length x) then Some fault.Long
-    else if not (list_all is_printable x) then Some fault.Bytes
-    else if list_any is_empty (fields_in x) then Some fault.Fields
-    else if length (fields_in x) == 1 then (if bytes_eq x (codes "QUIT") then None else Some fault.Fields)
-    else question_fault x (kind_put (field x 1))
+first_fault x = line_fault fault.Long fault.Bytes fault.Fields fields_fault x
 
 -- whether each text is in the grammar that stands at its place
 abbrev pub all_read : List Grammar → List (List ℕ) → Bool
@@ -97,4 +101,4 @@ OneSpelling = (a b : Ask) → IsTrue (is_ask a) → IsTrue (is_ask b) → line a
 
 -- no line is too long
 abbrev pub ShortLines : Type 0
-ShortLines = (a : Ask) → IsTrue (is_ask a) → length (line a) ≤ 200
+ShortLines = (a : Ask) → IsTrue (is_ask a) → length (line a) ≤ longest_line

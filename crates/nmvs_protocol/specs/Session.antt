@@ -81,11 +81,16 @@ pub record BreaksOff (old new : Taken) (said : List Answer) : Type 0 where
   -- and the texts before it were flushed
   pub flushed : written ≡ [] → 0 < length before → new.flushed ≡ true
 
--- the sink took the text of all these answers but the last, which has none
+-- whether an answer's text may be of any length, so that it takes memory: as yet that of none
+abbrev pub has_long_text : Answer → Bool
+has_long_text _ = false
+
+-- the sink took the text of all these answers but the last, which takes memory and has none
 pub record LacksLast (old new : Taken) (said : List Answer) : Type 0 where
   pub before : List Answer
   pub last : Answer
   pub these : said ≡ before ++ last ∷ []
+  pub long : IsTrue (has_long_text last)
   pub delivered : Delivers old new before
 
 -- all lines are answered, and none was QUIT

@@ -1,11 +1,11 @@
 //! The lines of commands.
-ghost use Rattle.std.specs.Prelude.{◌≡◌, ◌↔◌, IsTrue, false, IsOk, IfOk, IfErr, IsOkAnd, None, Some, codes};
+ghost use Rattle.std.specs.Prelude.{◌≡◌, ◌↔◌, [], ◌∷◌, map, IsTrue, false, IsOk, IfOk, IfErr, IsOkAnd, None, Some, codes};
+ghost use Rattle.std.specs.Result.{result_err};
 ghost use Rattle.nmvs_identifier.specs.Name.{is_name};
-ghost use Rattle.nmvs_protocol.specs.Fields.{field};
 ghost use Rattle.nmvs_protocol.specs.declared.command.Command.{Command as TheCommand};
-ghost use Rattle.nmvs_protocol.specs.Commands.{command_line, is_command, IsSameCommand, first_command_fault, enrol_fault, suspend_fault};
+ghost use Rattle.nmvs_protocol.specs.Commands.{command_line, command_fields, is_command, IsSameCommand, first_command_fault, fields_fault, enrol_fault, suspend_fault};
 
-use crate::fields::{LONGEST_LINE, field_at, field_count, has_empty_field, printable_text};
+use crate::fields::fields_of;
 use crate::{Command, CommandFault};
 use nmvs_identifier::Name;
 use nmvs_rules::Actor;
@@ -29,62 +29,78 @@ pub fn read_command(bytes: &[u8]) -> Result<Command, CommandFault>
 fn read_exactly(bytes: &[u8]) -> Result<Command, CommandFault>
     ensures line { IfOk result (λ command. bytes.now ≡ command_line command) }
     ensures valid { IfOk result (λ command. IsTrue (is_command command)) }
-    ensures accepts { IsOk result ↔ (first_command_fault bytes.now ≡ None) }
-    ensures fault { IfErr result (λ fault. first_command_fault bytes.now ≡ Some fault) }
+    ensures fault { result_err result ≡ first_command_fault bytes.now }
 {
-    if bytes.len() > LONGEST_LINE {
-        return Err(CommandFault::Long);
-    }
-    let text = printable_text(bytes).ok_or(CommandFault::Bytes)?;
-    if has_empty_field(text) {
-        return Err(CommandFault::Fields);
-    }
-    match field_at(text, 0) {
-        "ENROL" => read_enrol(text),
-        "SUSPEND" => read_suspend(text),
-        _ => Err(CommandFault::Word),
+    let fields = fields_of(
+        bytes,
+        CommandFault::Long,
+        CommandFault::Bytes,
+        CommandFault::Fields,
+    )?;
+    read_fields(&fields)
+}
+
+/// The command that has these fields.
+fn read_fields(fields: &[&str]) -> Result<Command, CommandFault>
+    ensures fields { IfOk result (λ command. command_fields command ≡ map (λ f. f.now) fields.now) }
+    ensures valid { IfOk result (λ command. IsTrue (is_command command)) }
+    ensures fault { result_err result ≡ fields_fault (map (λ f. f.now) fields.now) }
+{
+    match fields {
+        [] => Err(CommandFault::Word),
+        [word, texts @ ..] => match *word {
+            "ENROL" => read_enrol(texts),
+            "SUSPEND" => read_suspend(texts),
+            _ => Err(CommandFault::Word),
+        },
     }
 }
 
-fn read_enrol(text: &str) -> Result<Command, CommandFault>
-    requires word { field text.now 0 ≡ codes "ENROL" }
-    ensures line { IfOk result (λ command. text.now ≡ command_line command) }
+fn read_enrol(texts: &[&str]) -> Result<Command, CommandFault>
+    ensures fields { IfOk result (λ command. command_fields command ≡ codes "ENROL" ∷ map (λ t. t.now) texts.now) }
     ensures valid { IfOk result (λ command. IsTrue (is_command command)) }
-    ensures accepts { IsOk result ↔ (enrol_fault text.now ≡ None) }
-    ensures fault { IfErr result (λ fault. enrol_fault text.now ≡ Some fault) }
+    ensures fault { result_err result ≡ enrol_fault (map (λ t. t.now) texts.now) }
 {
-    if field_count(text) != 5 {
+    if texts.len() != 4 {
         return Err(CommandFault::Fields);
     }
-    let role = role_named(field_at(text, 2)).ok_or(CommandFault::Role)?;
-    let user = name_at(text, 1)?;
-    let authorisation = name_at(text, 3)?;
-    let premises = name_at(text, 4)?;
+    read_enrolment(texts[0], texts[1], texts[2], texts[3])
+}
+
+fn read_suspend(texts: &[&str]) -> Result<Command, CommandFault>
+    ensures fields { IfOk result (λ command. command_fields command ≡ codes "SUSPEND" ∷ map (λ t. t.now) texts.now) }
+    ensures valid { IfOk result (λ command. IsTrue (is_command command)) }
+    ensures fault { result_err result ≡ suspend_fault (map (λ t. t.now) texts.now) }
+{
+    let [user] = texts else {
+        return Err(CommandFault::Fields);
+    };
+    Ok(Command::Suspend(read_name(user)?))
+}
+
+fn read_enrolment(
+    user: &str,
+    role: &str,
+    authorisation: &str,
+    premises: &str,
+) -> Result<Command, CommandFault>
+    ensures fields { IfOk result (λ command. command_fields command ≡ codes "ENROL" ∷ user.now ∷ role.now ∷ authorisation.now ∷ premises.now ∷ []) }
+    ensures valid { IfOk result (λ command. IsTrue (is_command command)) }
+    ensures fault { result_err result ≡ enrol_fault (user.now ∷ role.now ∷ authorisation.now ∷ premises.now ∷ []) }
+{
+    let role = role_named(role).ok_or(CommandFault::Role)?;
     let actor = Actor {
         role,
-        authorisation,
-        premises,
+        authorisation: read_name(authorisation)?,
+        premises: read_name(premises)?,
     };
-    Ok(Command::Enrol(user, actor))
+    Ok(Command::Enrol(read_name(user)?, actor))
 }
 
-fn read_suspend(text: &str) -> Result<Command, CommandFault>
-    requires word { field text.now 0 ≡ codes "SUSPEND" }
-    ensures line { IfOk result (λ command. text.now ≡ command_line command) }
-    ensures valid { IfOk result (λ command. IsTrue (is_command command)) }
-    ensures accepts { IsOk result ↔ (suspend_fault text.now ≡ None) }
-    ensures fault { IfErr result (λ fault. suspend_fault text.now ≡ Some fault) }
+fn read_name(text: &str) -> Result<Name, CommandFault>
+    ensures accepts { IsOk result ↔ IsTrue (is_name text.now) }
+    ensures kept { IfOk result (λ name. name.bytes ≡ text.now) }
+    ensures fault { IfErr result (λ fault. (fault ≡ CommandFault.Name) × (is_name text.now ≡ false)) }
 {
-    if field_count(text) != 2 {
-        return Err(CommandFault::Fields);
-    }
-    Ok(Command::Suspend(name_at(text, 1)?))
-}
-
-fn name_at(text: &str, k: usize) -> Result<Name, CommandFault>
-    ensures accepts { IsOk result ↔ IsTrue (is_name (field text.now k)) }
-    ensures kept { IfOk result (λ name. name.bytes ≡ field text.now k) }
-    ensures fault { IfErr result (λ fault. (fault ≡ CommandFault.Name) × (is_name (field text.now k) ≡ false)) }
-{
-    Name::read(field_at(text, k)).or(Err(CommandFault::Name))
+    Name::read(text).or(Err(CommandFault::Name))
 }

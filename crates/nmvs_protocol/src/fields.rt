@@ -1,14 +1,36 @@
 //! The fields of a line.
-ghost use Rattle.std.specs.Prelude.{◌≡◌, ◌↔◌, length, IsTrue, IsSome, IfSome};
-ghost use Rattle.std.specs.List.{list_any, list_all, slice_get};
-ghost use Rattle.std.specs.Option.{option_map};
-ghost use Rattle.nmvs_protocol.specs.Fields.{is_printable, is_empty, fields_in, field};
+ghost use Rattle.std.specs.Prelude.{◌≡◌, ◌↔◌, ℕ, List, Option, Some, IsTrue, IsSome, IfSome, IsNone, IfOk, MatchResult, map, take};
+ghost use Rattle.std.specs.List.{list_any, list_all};
+ghost use Rattle.nmvs_protocol.specs.Fields.{is_printable, is_empty, fields_in, line_fault};
+
+use arrayvec::ArrayVec;
 
 /// The most bytes that a line may have, its LF not among them (own).
 pub(crate) const LONGEST_LINE: usize = 200;
 
+/// How many fields of a line are kept: no line has more than six, and a seventh tells that there are too many.
+pub(crate) const KEPT_FIELDS: usize = 7;
+
+/// The fields of a line, or the first of them where there are more than are kept.
+pub(crate) type Fields<'a> = ArrayVec<&'a str, KEPT_FIELDS>;
+
+/// The fields of a line. Else the first of these that holds: it is too `long`, it has `bytes` that are no printable ASCII
+/// characters, it has an `empty` field.
+pub(crate) fn fields_of<F: Copy>(line: &[u8], long: F, bytes: F, empty: F) -> Result<Fields<'_>, F>
+    ensures fields { IfOk result (λ fields. map (λ f. f.now) fields.items ≡ take KEPT_FIELDS (fields_in line.now)) }
+    ensures fault { (of_fields : List (List ℕ) → Option F) → MatchResult result
+        (λ fields. line_fault long bytes empty of_fields line.now ≡ of_fields (fields_in line.now))
+        (λ fault. line_fault long bytes empty of_fields line.now ≡ Some fault) }
+{
+    if line.len() > LONGEST_LINE {
+        return Err(long);
+    }
+    let text = printable_text(line).ok_or(bytes)?;
+    split(text).ok_or(empty)
+}
+
 /// The line as a text, where each byte is a printable ASCII character.
-pub(crate) fn printable_text(bytes: &[u8]) -> Option<&str>
+fn printable_text(bytes: &[u8]) -> Option<&str>
     ensures printable { IsSome result ↔ IsTrue (list_all is_printable bytes.now) }
     ensures same { IfSome result (λ text. text.now ≡ bytes.now) }
 {
@@ -24,32 +46,19 @@ fn are_printable(bytes: &[u8]) -> bool
     bytes.iter().all(|b| matches!(*b, b' '..=b'~'))
 }
 
-/// Whether the text is empty, begins or ends with a space, or has two spaces together.
-pub(crate) fn has_empty_field(text: &str) -> bool
-    ensures { result ≡ list_any is_empty (fields_in text.now) }
+/// The fields of a text, where none is empty.
+fn split(text: &str) -> Option<Fields<'_>>
+    ensures filled { IsNone result ↔ IsTrue (list_any is_empty (fields_in text.now)) }
+    ensures fields { IfSome result (λ fields. map (λ f. f.now) fields.items ≡ take KEPT_FIELDS (fields_in text.now)) }
 {
-    text.split(' ').any(|field| field.is_empty())
-}
-
-/// How many fields the text has.
-pub(crate) fn field_count(text: &str) -> usize
-    ensures { result ≡ length (fields_in text.now) }
-{
-    text.split(' ').count()
-}
-
-/// The field with this number, counted from 0. It is empty where there is none.
-pub(crate) fn field_at(text: &str, k: usize) -> &str
-    ensures { result.now ≡ field text.now k }
-{
-    match found_field(text, k) {
-        Some(found) => found,
-        None => "",
+    let mut fields = Fields::new();
+    for field in text.split(' ') {
+        if field.is_empty() {
+            return None;
+        }
+        if !fields.is_full() {
+            fields.push(field);
+        }
     }
-}
-
-fn found_field(text: &str, k: usize) -> Option<&str>
-    ensures { option_map (λ f. f.now) result ≡ slice_get (fields_in text.now) k }
-{
-    text.split(' ').nth(k)
+    Some(fields)
 }

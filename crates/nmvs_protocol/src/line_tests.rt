@@ -3,6 +3,7 @@ use crate::{
 };
 use nmvs_identifier::{Batch, Expiry, Name, Pack, ProductCode, Serial};
 use nmvs_rules::{Actor, Question, Role};
+use std::alloc::Global;
 use std::rt::HostRuntime;
 
 #[test]
@@ -35,6 +36,38 @@ fn lines_are_read_and_written(rt: HostRuntime) {
     one_spelling();
 }
 
+/// Whether the line is read, and written again as it was.
+fn is_written_again(alloc: Global, line: &str) -> bool {
+    match read_line(line.as_bytes()) {
+        Ok(ask) => match ask_line(alloc, &ask) {
+            Ok(written) => written.as_str() == line,
+            Err(_) => false,
+        },
+        Err(_) => false,
+    }
+}
+
+#[test]
+fn each_kind_of_ask_has_its_line(rt: HostRuntime) {
+    for line in [
+        "mah1 UPLOAD 09506000134352 SN1 B1 280200",
+        "ph1 VERIFY 04012345678901 SN1",
+        "au1 STATUS 09506000134352 SN1",
+        "ph1 SUPPLY 09506000134352 SN1",
+        "ph1 HOLD 09506000134352 SN1",
+        "wh1 EXPORT 09506000134352 SN1",
+        "au1 SAMPLE 09506000134352 SN1",
+        "wh1 DESTROY 09506000134352 ABC/DEF%GHI/JKL%MN12",
+        "ph1b REVERT 09506000134352 SN1",
+        "mah1 RECALL 09506000134352 B1",
+        "au1 WITHDRAW 09506000134352 ABC/DEF%GHI/JKL%MN12",
+        "mah1 THEFT 09506000134352 SN1",
+        "QUIT",
+    ] {
+        assert!(rt; is_written_again(rt.alloc(), line), "{line}");
+    }
+}
+
 #[test]
 fn faults_of_lines(rt: HostRuntime) {
     for (line, fault) in [
@@ -44,6 +77,12 @@ fn faults_of_lines(rt: HostRuntime) {
         ("ph1 VERIFY 09506000134352 SN1\r", LineFault::Bytes),
         ("ph1 verify 09506000134352 SN1", LineFault::Word),
         ("ph1 QUIT", LineFault::Word),
+        ("a b c d e f g h", LineFault::Word),
+        ("a b c d e f g ", LineFault::Fields),
+        (
+            "mah1 UPLOAD 09506000134352 SN1 B1 280200 x y",
+            LineFault::Fields,
+        ),
         ("-x VERIFY 09506000134352 SN1", LineFault::User),
         ("ph1 VERIFY 09506000134353 SN1", LineFault::Code),
         (
@@ -82,4 +121,48 @@ fn commands_are_read(rt: HostRuntime) {
         assert!(rt; read_command(line.as_bytes()) == Err(fault), "{line}");
     }
     assert!(rt; read_command(&[b'A'; 201]) == Err(CommandFault::Long));
+}
+
+#[test]
+fn texts_of_faults(rt: HostRuntime) {
+    for (fault, text) in [
+        (LineFault::Long, "the line has more than 200 bytes"),
+        (
+            LineFault::Bytes,
+            "the line has a byte that is no printable ASCII character",
+        ),
+        (
+            LineFault::Fields,
+            "the line has an empty field or the wrong number of fields",
+        ),
+        (LineFault::Word, "the line's word is unknown"),
+        (LineFault::Code, "the line's code is no product code"),
+        (LineFault::Serial, "the line's serial is no serial number"),
+        (LineFault::Batch, "the line's batch is no batch number"),
+        (LineFault::Expiry, "the line's expiry is no expiry date"),
+        (LineFault::User, "the line's user is no name"),
+    ] {
+        let written = format!(in rt.alloc(); "{fault}").expect(&rt, "ample memory");
+        assert!(rt; written.as_str() == text, "{text}");
+    }
+    for (fault, text) in [
+        (CommandFault::Long, "the command has more than 200 bytes"),
+        (
+            CommandFault::Bytes,
+            "the command has a byte that is no printable ASCII character",
+        ),
+        (
+            CommandFault::Fields,
+            "the command has an empty field or the wrong number of fields",
+        ),
+        (CommandFault::Word, "the command's word is unknown"),
+        (CommandFault::Role, "the command's role is unknown"),
+        (
+            CommandFault::Name,
+            "the command's user, authorisation or premises is no name",
+        ),
+    ] {
+        let written = format!(in rt.alloc(); "{fault}").expect(&rt, "ample memory");
+        assert!(rt; written.as_str() == text, "{text}");
+    }
 }

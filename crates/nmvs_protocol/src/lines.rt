@@ -1,21 +1,16 @@
 //! The lines of asks.
-ghost use Rattle.std.specs.Prelude.{◌≡◌, ◌↔◌, ◌+◌, length, IsTrue, false, IsOk, IfOk, IfErr, IsOkAnd, string_bytes, None, Some, drop};
-ghost use Rattle.nmvs_identifier.specs.Name.{is_name};
-ghost use Rattle.nmvs_identifier.specs.ProductCode.{is_product_code};
-ghost use Rattle.nmvs_identifier.specs.Serial.{is_serial};
-ghost use Rattle.nmvs_identifier.specs.Batch.{is_batch};
-ghost use Rattle.nmvs_identifier.specs.Expiry.{is_expiry};
+ghost use Rattle.std.specs.Prelude.{◌≡◌, ◌↔◌, [], ◌∷◌, map, IsTrue, IsOk, IfOk, IfErr, IsOkAnd, string_bytes, None, Some};
+ghost use Rattle.std.specs.Result.{result_err};
 ghost use Rattle.nmvs_words.specs.Kinds.{kind_of, texts_of};
-ghost use Rattle.nmvs_protocol.specs.Fields.{fields_in, field};
 ghost use Rattle.nmvs_protocol.specs.declared.ask.Ask.{Ask as AnAsk};
 ghost use Rattle.nmvs_protocol.specs.declared.ask.Ask.TheVariants.{Put};
-ghost use Rattle.nmvs_protocol.specs.Lines.{line, is_ask, is_readable, IsSameAsk, first_fault, first_misread, grammars, kind_put};
+ghost use Rattle.nmvs_protocol.specs.Lines.{line, fields as fields_of_ask, is_ask, is_readable, IsSameAsk, first_fault, fields_fault, put_fault, first_misread, grammars, pack_grammars, kind_put};
 
-use crate::fields::{LONGEST_LINE, field_at, field_count, has_empty_field, printable_text};
+use crate::fields::fields_of;
 use crate::{Ask, LineFault};
 use nmvs_identifier::{Batch, Expiry, Name, Pack, ProductCode, Serial};
 use nmvs_rules::Question;
-use nmvs_words::{PackQuestion, QuestionKind};
+use nmvs_words::{BatchQuestion, PackQuestion, QuestionKind};
 use std::alloc::{AllocError, Global};
 
 /// Reads a line, given without its LF: it is the line of the ask that is read, and the line of every readable ask is
@@ -35,29 +30,91 @@ pub fn read_line(bytes: &[u8]) -> Result<Ask, LineFault>
 fn read_exactly(bytes: &[u8]) -> Result<Ask, LineFault>
     ensures line { IfOk result (λ ask. bytes.now ≡ line ask) }
     ensures readable { IfOk result (λ ask. IsTrue (is_readable ask)) }
-    ensures accepts { IsOk result ↔ (first_fault bytes.now ≡ None) }
-    ensures fault { IfErr result (λ fault. first_fault bytes.now ≡ Some fault) }
+    ensures fault { result_err result ≡ first_fault bytes.now }
 {
-    if bytes.len() > LONGEST_LINE {
-        return Err(LineFault::Long);
-    }
-    let text = printable_text(bytes).ok_or(LineFault::Bytes)?;
-    if has_empty_field(text) {
-        return Err(LineFault::Fields);
-    }
-    if field_count(text) == 1 {
-        return match text {
+    let fields = fields_of(bytes, LineFault::Long, LineFault::Bytes, LineFault::Fields)?;
+    read_fields(&fields)
+}
+
+/// The ask that has these fields.
+fn read_fields(fields: &[&str]) -> Result<Ask, LineFault>
+    ensures fields { IfOk result (λ ask. fields_of_ask ask ≡ map (λ f. f.now) fields.now) }
+    ensures readable { IfOk result (λ ask. IsTrue (is_readable ask)) }
+    ensures fault { result_err result ≡ fields_fault (map (λ f. f.now) fields.now) }
+{
+    match fields {
+        [] => Err(LineFault::Fields),
+        [word] => match *word {
             "QUIT" => Ok(Ask::Quit),
             _ => Err(LineFault::Fields),
-        };
+        },
+        [user, word, texts @ ..] => read_put(user, word, texts),
     }
-    let kind = kind_at(text, 1)?;
-    if field_count(text) != field_count_of(kind) {
-        return Err(LineFault::Fields);
+}
+
+/// The question that a user puts by this word and the texts after it.
+fn read_put(user: &str, word: &str, texts: &[&str]) -> Result<Ask, LineFault>
+    ensures fields { IfOk result (λ ask. fields_of_ask ask ≡ user.now ∷ word.now ∷ map (λ t. t.now) texts.now) }
+    ensures readable { IfOk result (λ ask. IsTrue (is_readable ask)) }
+    ensures fault { result_err result ≡ put_fault user.now (kind_put word.now) (map (λ t. t.now) texts.now) }
+{
+    let kind = kind_put_by(word).ok_or(LineFault::Word)?;
+    let user = Name::read(user).or(Err(LineFault::User));
+    match (kind, texts) {
+        (QuestionKind::Upload, [code, serial, batch, expiry]) => {
+            Ok(Ask::Put(user?, read_upload(code, serial, batch, expiry)?))
+        }
+        (QuestionKind::OfPack(asked), [code, serial]) => {
+            Ok(Ask::Put(user?, asked.naming(read_pack(code, serial)?)))
+        }
+        (QuestionKind::OfBatch(asked), [code, batch]) => {
+            Ok(Ask::Put(user?, read_of_batch(asked, code, batch)?))
+        }
+        _ => Err(LineFault::Fields),
     }
-    let user = user_at(text, 0)?;
-    let question = read_question(text, kind)?;
-    Ok(Ask::Put(user, question))
+}
+
+fn kind_put_by(word: &str) -> Option<QuestionKind>
+    ensures { result ≡ kind_put word.now }
+{
+    match QuestionKind::named(word) {
+        Some(QuestionKind::OfPack(PackQuestion::Audit)) => None,
+        kind => kind,
+    }
+}
+
+fn read_upload(code: &str, serial: &str, batch: &str, expiry: &str) -> Result<Question, LineFault>
+    ensures kind { IfOk result (λ question. kind_of question ≡ QuestionKind.Upload) }
+    ensures texts { IfOk result (λ question. texts_of question ≡ code.now ∷ serial.now ∷ batch.now ∷ expiry.now ∷ []) }
+    ensures fault { result_err result ≡ first_misread (grammars QuestionKind.Upload) (code.now ∷ serial.now ∷ batch.now ∷ expiry.now ∷ []) }
+{
+    let pack = read_pack(code, serial)?;
+    let batch = Batch::read(batch).or(Err(LineFault::Batch))?;
+    let expiry = Expiry::read(expiry).or(Err(LineFault::Expiry))?;
+    Ok(Question::Upload {
+        pack,
+        batch,
+        expiry,
+    })
+}
+
+fn read_of_batch(asked: BatchQuestion, code: &str, batch: &str) -> Result<Question, LineFault>
+    ensures kind { IfOk result (λ question. kind_of question ≡ QuestionKind.OfBatch asked) }
+    ensures texts { IfOk result (λ question. texts_of question ≡ code.now ∷ batch.now ∷ []) }
+    ensures fault { result_err result ≡ first_misread (grammars (QuestionKind.OfBatch asked)) (code.now ∷ batch.now ∷ []) }
+{
+    let code = ProductCode::read(code).or(Err(LineFault::Code))?;
+    let batch = Batch::read(batch).or(Err(LineFault::Batch))?;
+    Ok(asked.naming(code, batch))
+}
+
+fn read_pack(code: &str, serial: &str) -> Result<Pack, LineFault>
+    ensures texts { IfOk result (λ pack. (pack.code.bytes ≡ code.now) × (pack.serial.bytes ≡ serial.now)) }
+    ensures fault { result_err result ≡ first_misread pack_grammars (code.now ∷ serial.now ∷ []) }
+{
+    let code = ProductCode::read(code).or(Err(LineFault::Code))?;
+    let serial = Serial::read(serial).or(Err(LineFault::Serial))?;
+    Ok(Pack { code, serial })
 }
 
 /// The line of an ask, without LF. Its only fault is want of memory.
@@ -102,96 +159,4 @@ fn question_line(alloc: Global, user: &Name, question: &Question) -> Result<Stri
         | Question::Theft(pack)
         | Question::Audit(pack) => format!(in alloc; "{user} {word} {code} {}", pack.serial.text()),
     }
-}
-
-/// How many fields a line of this kind has.
-fn field_count_of(kind: QuestionKind) -> usize
-    ensures { result ≡ 2 + length (grammars kind) }
-{
-    match kind {
-        QuestionKind::Upload => 6,
-        QuestionKind::OfPack(_) | QuestionKind::OfBatch(_) => 4,
-    }
-}
-
-/// The question that the fields after the word ask.
-fn read_question(text: &str, kind: QuestionKind) -> Result<Question, LineFault>
-    requires count { length (fields_in text.now) ≡ 2 + length (grammars kind) }
-    ensures kind { IfOk result (λ question. kind_of question ≡ kind) }
-    ensures texts { IfOk result (λ question. texts_of question ≡ drop 2 (fields_in text.now)) }
-    ensures accepts { IsOk result ↔ (first_misread text.now 2 (grammars kind) ≡ None) }
-    ensures fault { IfErr result (λ fault. first_misread text.now 2 (grammars kind) ≡ Some fault) }
-{
-    let code = code_at(text, 2)?;
-    match kind {
-        QuestionKind::Upload => {
-            let serial = serial_at(text, 3)?;
-            let batch = batch_at(text, 4)?;
-            let expiry = expiry_at(text, 5)?;
-            let pack = Pack { code, serial };
-            Ok(Question::Upload {
-                pack,
-                batch,
-                expiry,
-            })
-        }
-        QuestionKind::OfPack(asked) => {
-            let serial = serial_at(text, 3)?;
-            Ok(asked.naming(Pack { code, serial }))
-        }
-        QuestionKind::OfBatch(asked) => {
-            let batch = batch_at(text, 3)?;
-            Ok(asked.naming(code, batch))
-        }
-    }
-}
-
-fn kind_at(text: &str, k: usize) -> Result<QuestionKind, LineFault>
-    ensures known { IfOk result (λ kind. kind_put (field text.now k) ≡ Some kind) }
-    ensures fault { IfErr result (λ fault. (fault ≡ LineFault.Word) × (kind_put (field text.now k) ≡ None)) }
-{
-    match QuestionKind::named(field_at(text, k)) {
-        Some(QuestionKind::OfPack(PackQuestion::Audit)) | None => Err(LineFault::Word),
-        Some(kind) => Ok(kind),
-    }
-}
-
-fn user_at(text: &str, k: usize) -> Result<Name, LineFault>
-    ensures accepts { IsOk result ↔ IsTrue (is_name (field text.now k)) }
-    ensures kept { IfOk result (λ user. user.bytes ≡ field text.now k) }
-    ensures fault { IfErr result (λ fault. (fault ≡ LineFault.User) × (is_name (field text.now k) ≡ false)) }
-{
-    Name::read(field_at(text, k)).or(Err(LineFault::User))
-}
-
-fn code_at(text: &str, k: usize) -> Result<ProductCode, LineFault>
-    ensures accepts { IsOk result ↔ IsTrue (is_product_code (field text.now k)) }
-    ensures kept { IfOk result (λ code. code.bytes ≡ field text.now k) }
-    ensures fault { IfErr result (λ fault. (fault ≡ LineFault.Code) × (is_product_code (field text.now k) ≡ false)) }
-{
-    ProductCode::read(field_at(text, k)).or(Err(LineFault::Code))
-}
-
-fn serial_at(text: &str, k: usize) -> Result<Serial, LineFault>
-    ensures accepts { IsOk result ↔ IsTrue (is_serial (field text.now k)) }
-    ensures kept { IfOk result (λ serial. serial.bytes ≡ field text.now k) }
-    ensures fault { IfErr result (λ fault. (fault ≡ LineFault.Serial) × (is_serial (field text.now k) ≡ false)) }
-{
-    Serial::read(field_at(text, k)).or(Err(LineFault::Serial))
-}
-
-fn batch_at(text: &str, k: usize) -> Result<Batch, LineFault>
-    ensures accepts { IsOk result ↔ IsTrue (is_batch (field text.now k)) }
-    ensures kept { IfOk result (λ batch. batch.bytes ≡ field text.now k) }
-    ensures fault { IfErr result (λ fault. (fault ≡ LineFault.Batch) × (is_batch (field text.now k) ≡ false)) }
-{
-    Batch::read(field_at(text, k)).or(Err(LineFault::Batch))
-}
-
-fn expiry_at(text: &str, k: usize) -> Result<Expiry, LineFault>
-    ensures accepts { IsOk result ↔ IsTrue (is_expiry (field text.now k)) }
-    ensures kept { IfOk result (λ expiry. expiry.bytes ≡ field text.now k) }
-    ensures fault { IfErr result (λ fault. (fault ≡ LineFault.Expiry) × (is_expiry (field text.now k) ≡ false)) }
-{
-    Expiry::read(field_at(text, k)).or(Err(LineFault::Expiry))
 }

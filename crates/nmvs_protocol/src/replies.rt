@@ -1,8 +1,12 @@
-ghost use Rattle.std.specs.Prelude.{◌≡◌, IfOk, string_bytes};
-ghost use Rattle.nmvs_protocol.specs.Texts.{text, reply_words, turn_word, fault_word};
+//! The texts of answers.
+ghost use Rattle.std.specs.Prelude.{◌≡◌, ◌≤◌, [], ◌∷◌, length, map, IfOk, string_bytes};
+ghost use Rattle.std.specs.Fmt.{decimal};
 ghost use Rattle.nmvs_words.specs.Words.{spaced};
+ghost use Rattle.nmvs_protocol.specs.Texts.{text, reply_words, turn_word, fault_word};
 
 use crate::{Answer, LineFault, Turn};
+use arrayvec::ArrayString;
+use itoa::Buffer;
 use nmvs_identifier::{Batch, Expiry};
 use nmvs_rules::{BatchLock, Cause, Onward, Own, Refusal, Reply};
 use nmvs_words::{
@@ -10,107 +14,144 @@ use nmvs_words::{
 };
 use std::alloc::{AllocError, Global};
 
-/// The text of an answer, with the LF that ends it.
+/// The most bytes that the text of a reply has: those of a status with the longest words and values, and LF.
+pub(crate) const LONGEST_REPLY: usize = 67;
+
+/// The text of an answer on the heap, with the LF that ends it.
 ///
 /// # Errors
 ///
 /// There is no memory for the text.
-#[tactic(auto, unfolding(crate::specs::Texts::text))]
 pub fn reply_text(alloc: Global, answer: &Answer) -> Result<String, AllocError>
     ensures { IfOk result (λ t. string_bytes t ≡ text answer.now) }
 {
+    String::from_str(alloc, short_text(answer).as_str())
+}
+
+/// The text of an answer, with the LF that ends it. It takes no memory.
+#[tactic(auto, unfolding(crate::specs::Texts::text))]
+pub(crate) fn short_text(answer: &Answer) -> ArrayString<LONGEST_REPLY>
+    ensures { result.bytes ≡ text answer.now }
+{
     match answer {
-        Answer::Replied(reply) => replied(alloc, reply),
-        Answer::Turned(turn) => {
-            let word = word_of_turn(*turn);
-            format!(in alloc; "FAULT {word}\n")
-        }
-        Answer::Unread(fault) => {
-            let word = word_of_fault(*fault);
-            format!(in alloc; "FAULT {word}\n")
-        }
-        Answer::Bye => format!(in alloc; "BYE\n"),
+        Answer::Replied(reply) => replied(reply),
+        Answer::Turned(turn) => in_words("FAULT", &[word_of_turn(*turn)]),
+        Answer::Unread(fault) => in_words("FAULT", &[word_of_fault(*fault)]),
+        Answer::Bye => in_words("BYE", &[]),
     }
 }
 
-fn replied(alloc: Global, reply: &Reply) -> Result<String, AllocError>
-    ensures { IfOk result (λ t. string_bytes t ≡ spaced (reply_words reply.now)) }
+fn replied(reply: &Reply) -> ArrayString<LONGEST_REPLY>
+    ensures { result.bytes ≡ spaced (reply_words reply.now) }
 {
     match reply {
-        Reply::Uploaded => format!(in alloc; "UPLOADED\n"),
+        Reply::Uploaded => in_words("UPLOADED", &[]),
         Reply::Authentic {
             batch,
             expiry,
             expired,
-        } => authentic(alloc, batch, expiry, *expired),
+        } => authentic(*batch, *expiry, *expired),
         Reply::Alert {
             cause,
             flagged,
             number,
-        } => alert(alloc, *cause, *flagged, *number),
+        } => alert(*cause, *flagged, *number),
         Reply::StatusIs {
             own,
             lock,
             onward,
             batch,
             expiry,
-        } => { status(alloc, *own, *lock, *onward, batch, expiry) }
-        Reply::NoPack => format!(in alloc; "NOPACK\n"),
-        Reply::Decommissioned => format!(in alloc; "DECOMMISSIONED\n"),
-        Reply::Reverted => format!(in alloc; "REVERTED\n"),
-        Reply::LockedNow(count) => format!(in alloc; "LOCKED {count}\n"),
-        Reply::MarkedStolen => format!(in alloc; "STOLEN\n"),
-        Reply::Shown(count) => format!(in alloc; "SHOWN {count}\n"),
-        Reply::Refused(refusal) => refused(alloc, *refusal),
+        } => status(*own, *lock, *onward, *batch, *expiry),
+        Reply::NoPack => in_words("NOPACK", &[]),
+        Reply::Decommissioned => in_words("DECOMMISSIONED", &[]),
+        Reply::Reverted => in_words("REVERTED", &[]),
+        Reply::LockedNow(count) => counted("LOCKED", *count),
+        Reply::MarkedStolen => in_words("STOLEN", &[]),
+        Reply::Shown(count) => counted("SHOWN", *count),
+        Reply::Refused(refusal) => refused(*refusal),
     }
 }
 
-fn authentic(
-    alloc: Global,
-    batch: &Batch,
-    expiry: &Expiry,
-    expired: bool,
-) -> Result<String, AllocError>
-    ensures { IfOk result (λ t. string_bytes t ≡ spaced (reply_words (Reply.Authentic batch.now expiry.now expired))) }
+fn authentic(batch: Batch, expiry: Expiry, expired: bool) -> ArrayString<LONGEST_REPLY>
+    ensures { result.bytes ≡ spaced (reply_words (Reply.Authentic batch expiry expired)) }
 {
-    let batch = batch.text();
     let expiry = expiry.text();
-    let validity = validity_word(expired);
-    format!(in alloc; "AUTHENTIC {batch} {expiry} {validity}\n")
+    in_words(
+        "AUTHENTIC",
+        &[batch.text(), expiry.as_str(), validity_word(expired)],
+    )
 }
 
-fn alert(alloc: Global, cause: Cause, flagged: bool, number: u64) -> Result<String, AllocError>
-    ensures { IfOk result (λ t. string_bytes t ≡ spaced (reply_words (Reply.Alert cause flagged number))) }
+fn alert(cause: Cause, flagged: bool, number: u64) -> ArrayString<LONGEST_REPLY>
+    ensures { result.bytes ≡ spaced (reply_words (Reply.Alert cause flagged number)) }
 {
-    let cause = cause_word(cause);
-    let flag = flag_word(flagged);
-    format!(in alloc; "ALERT {cause} {flag} {number}\n")
+    let mut digits = Buffer::new();
+    in_words(
+        "ALERT",
+        &[
+            cause_word(cause),
+            flag_word(flagged),
+            digits.format(number),
+        ],
+    )
 }
 
 fn status(
-    alloc: Global,
     own: Own,
     lock: BatchLock,
     onward: Onward,
-    batch: &Batch,
-    expiry: &Expiry,
-) -> Result<String, AllocError>
-    ensures { IfOk result (λ t. string_bytes t ≡ spaced (reply_words (Reply.StatusIs own lock onward batch.now expiry.now))) }
+    batch: Batch,
+    expiry: Expiry,
+) -> ArrayString<LONGEST_REPLY>
+    ensures { result.bytes ≡ spaced (reply_words (Reply.StatusIs own lock onward batch expiry)) }
 {
-    let own = own_word(own);
-    let lock = lock_word(lock);
-    let onward = onward_word(onward);
-    let batch = batch.text();
     let expiry = expiry.text();
-    format!(in alloc; "STATUS {own} {lock} {onward} {batch} {expiry}\n")
+    in_words(
+        "STATUS",
+        &[
+            own_word(own),
+            lock_word(lock),
+            onward_word(onward),
+            batch.text(),
+            expiry.as_str(),
+        ],
+    )
 }
 
-fn refused(alloc: Global, refusal: Refusal) -> Result<String, AllocError>
-    ensures { IfOk result (λ t. string_bytes t ≡ spaced (reply_words (Reply.Refused refusal))) }
+fn counted(word: &str, count: u64) -> ArrayString<LONGEST_REPLY>
+    requires { length word.now ≤ 6 }
+    ensures { result.bytes ≡ spaced (word.now ∷ decimal count ∷ []) }
 {
-    let number = refusal.number();
-    let word = refusal_word(refusal);
-    format!(in alloc; "REFUSED {number} {word}\n")
+    let mut digits = Buffer::new();
+    in_words(word, &[digits.format(count)])
+}
+
+fn refused(refusal: Refusal) -> ArrayString<LONGEST_REPLY>
+    ensures { result.bytes ≡ spaced (reply_words (Reply.Refused refusal)) }
+{
+    let mut digits = Buffer::new();
+    in_words(
+        "REFUSED",
+        &[digits.format(refusal.number()), refusal_word(refusal)],
+    )
+}
+
+/// The words with a space between each two, and LF after the last.
+fn in_words(first: &str, others: &[&str]) -> ArrayString<LONGEST_REPLY>
+    requires { length (spaced (first.now ∷ map (λ w. w.now) others.now)) ≤ LONGEST_REPLY }
+    ensures { result.bytes ≡ spaced (first.now ∷ map (λ w. w.now) others.now) }
+{
+    let mut text = ArrayString::new();
+    text.push_str(first);
+    let mut rest = others;
+    while let [word, later @ ..] = rest {
+        text.push_str(" ");
+        text.push_str(word);
+        rest = later;
+    }
+    text.push_str("\n");
+    text
 }
 
 fn word_of_turn(turn: Turn) -> &'static str

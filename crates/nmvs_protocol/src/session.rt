@@ -5,7 +5,8 @@ ghost use Rattle.nmvs_protocol.specs.Session.{Answers, Session};
 ghost use Rattle.nmvs_protocol.specs.Progress.{Answered, kept};
 
 use crate::pending_line::PendingLine;
-use crate::{Answer, Ask, Desk, End, Limits, LineFault, reply_text};
+use crate::replies::short_text;
+use crate::{Answer, Ask, Desk, End, Limits, LineFault};
 use nmvs_stream::{Failed, Sink, Source, put};
 use std::alloc::Global;
 
@@ -23,10 +24,10 @@ struct Progress {
 /// and flushed before the next line is served and before more is read (own).
 ///
 /// A line of more than 200 bytes is answered once, at its LF, and takes no memory. Bytes after the
-/// last LF get no answer. QUIT ends the session. Memory is taken for the text of one answer at a
-/// time.
+/// last LF get no answer. QUIT ends the session. A reply is composed in place: memory is for answers
+/// whose text may be of any length, of which there is none as yet.
 pub fn serve<R: Source, W: Sink, D: Desk>(
-    alloc: Global,
+    _alloc: Global,
     source: &mut R,
     sink: &mut W,
     desk: &mut D,
@@ -48,7 +49,7 @@ pub fn serve<R: Source, W: Sink, D: Desk>(
             Ok(0) => return End::Ended,
             Ok(count) => {
                 let chunk = &buffer[..count];
-                match serve_chunk(alloc, &mut progress, limits.lines, chunk, sink, desk) {
+                match serve_chunk(&mut progress, limits.lines, chunk, sink, desk) {
                     Some(end) => return end,
                     None => {}
                 }
@@ -60,7 +61,6 @@ pub fn serve<R: Source, W: Sink, D: Desk>(
 
 /// Goes on with the bytes of one read. `None` is to read more.
 fn serve_chunk<W: Sink, D: Desk>(
-    alloc: Global,
     progress: &mut Progress,
     limit: u64,
     chunk: &[u8],
@@ -77,7 +77,7 @@ fn serve_chunk<W: Sink, D: Desk>(
             if progress.answered >= limit {
                 return Some(End::Limit);
             }
-            match serve_line(alloc, &progress.line, sink, desk) {
+            match serve_line(&progress.line, sink, desk) {
                 Some(end) => return Some(end),
                 None => {}
             }
@@ -91,27 +91,20 @@ fn serve_chunk<W: Sink, D: Desk>(
 }
 
 /// Answers one line. `None` is to go on.
-fn serve_line<W: Sink, D: Desk>(
-    alloc: Global,
-    line: &PendingLine,
-    sink: &mut W,
-    desk: &mut D,
-) -> Option<End>
+fn serve_line<W: Sink, D: Desk>(line: &PendingLine, sink: &mut W, desk: &mut D) -> Option<End>
     ensures { (limit count : ℕ) (first : D) (start : Taken) (lines : List (List ℕ)) (x : List ℕ) → count < limit → line.now ≡ kept x
         → Answered D.takes limit first start desk.old (W.taken sink.old) count lines None
         → Answered D.takes limit first start desk.new (W.taken sink.new) (count + 1) (lines ++ x ∷ []) result }
 {
     let reading = line.read();
     let said = answer(&reading, desk);
-    match reply_text(alloc, &said) {
-        Err(_) => Some(End::Memory),
-        Ok(text) => match put(sink, text.as_bytes()) {
-            Err(Failed) => Some(End::WriteFault),
-            Ok(()) => if is_quit(&reading) {
-                Some(End::Quit)
-            } else {
-                None
-            },
+    let text = short_text(&said);
+    match put(sink, text.as_str().as_bytes()) {
+        Err(Failed) => Some(End::WriteFault),
+        Ok(()) => if is_quit(&reading) {
+            Some(End::Quit)
+        } else {
+            None
         },
     }
 }

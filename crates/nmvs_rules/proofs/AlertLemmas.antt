@@ -14,7 +14,8 @@ use Rattle.nmvs_rules.specs.declared.reply.Reply.TheVariants as reply
 use Rattle.nmvs_rules.specs.Questions.{Put, may_ask, code_of}
 use Rattle.nmvs_rules.specs.Trail.{known, has_code, is_alert, alerts_of}
 use Rattle.nmvs_rules.specs.Rules.{on_pack, admitted_reply, reply_of, put_of, IsLawful}
-use Rattle.nmvs_rules.specs.Laws.{part_of, alert_number, alert_numbers}
+use Rattle.nmvs_rules.specs.Laws.{part_of, alert_numbers}
+use Rattle.nmvs_rules.specs.Operations.{alert_number}
 use Rattle.nmvs_rules.proofs.TextLemmas.{same_text-equal}
 use Rattle.nmvs_rules.proofs.PushLemmas.{alerts_of-push}
 use Rattle.nmvs_rules.proofs.LawfulLemmas.{IsLawful-keeps}

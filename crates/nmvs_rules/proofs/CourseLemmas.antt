@@ -1,5 +1,5 @@
 -- The course of a pack through its own statuses.
-use Rattle.std.proofs.Common.{◌≡◌, Bool, true, false, not, ◌&&◌, ◌||◌, cond, List, [], ◌∷◌, ◌++◌, length, Some, refl, sym, ap, subst, ◌∙◌, append-nil, append_assoc}
+use Rattle.std.proofs.Common.{◌≡◌, Bool, true, false, not, ◌&&◌, ◌||◌, cond, List, [], ◌∷◌, ◌++◌, length, Option, Some, None, IsSomeAnd, refl, sym, ap, subst, ◌∙◌, append-nil, append_assoc}
 use Rattle.std.specs.Cmp.{first_so, second_so}
 use Rattle.std.specs.Cmp.Derive.{both_true}
 use Rattle.std.specs.List.{list_any}
@@ -14,12 +14,14 @@ use Rattle.nmvs_rules.specs.declared.own.Own.TheVariants as own
 use Rattle.nmvs_rules.specs.declared.entry.Entry.{Entry}
 use Rattle.nmvs_rules.specs.declared.facts.Known.{Known}
 use Rattle.nmvs_rules.specs.Questions.{pack_of, names}
-use Rattle.nmvs_rules.specs.Trail.{known, marked_by, mark_after, accepts, is_about, is_mark, is_upload, own_given, own_by_reason}
+use Rattle.nmvs_rules.specs.Trail.{known, marked_by, born_by, mark_after, accepts, is_about, is_mark, is_upload, own_given, own_by_reason}
 use Rattle.nmvs_rules.specs.Rules.{is_active, is_stolen, is_destroyed, is_supplied, reply_of, put_of, IsLawfulAfter, IsLawful}
-use Rattle.nmvs_rules.specs.Laws.{uploads, decommissions, supplies, reverts, confirms, is_decommissioning, is_supply, is_reversion, may_become}
+use Rattle.nmvs_rules.specs.Operations.{uploads, decommissions, supplies, reverts, confirms, operates}
+use Rattle.nmvs_rules.specs.Laws.{may_become, IsMovedOn, IsBorn}
+use Rattle.nmvs_rules.proofs.Accepted.{accepted_upload, accepted_decommissioning, accepted_supply, accepted_reversion, is_decommissioning, is_supply, is_reversion, is_theft, uploads-is, decommissions-is, supplies-is, reverts-is, confirms-is, operates-is, left}
 use Rattle.nmvs_rules.proofs.PushLemmas.{known-push}
 use Rattle.nmvs_rules.proofs.LawfulLemmas.{IsLawful-rest, IsLawfulAfter-first, IsLawfulAfter-keeps}
-use Rattle.nmvs_rules.proofs.ReplyLemmas.{KnownAnd, known-holds, is_theft, uploads-tells, decommissions-tells, reverts-tells, confirms-tells, thefts-tells}
+use Rattle.nmvs_rules.proofs.ReplyLemmas.{KnownAnd, known-holds, accepted_upload-tells, accepted_decommissioning-tells, accepted_reversion-tells, authentic_answer-tells, thefts-tells}
 
 -- a decommissioned pack is not active
 pub decommissioned-not_active : (q : Question) → is_decommissioning q ≡ true → is_active (own_given q) ≡ false
@@ -58,12 +60,12 @@ course t e p k lawful is marks = by e.question refl
   where
     by : (q : Question) → e.question ≡ q → may_become k.own (own_given q) ≡ true
     by (Upload s b x) h =
-        let born : uploads p e ≡ true = both_true (both_true (ap is_upload h) (first_so _ _ marks)) (second_so (is_about p e) _ marks) in
-        let none : true ≡ false = sym (ap is_some is) ∙ uploads-tells t e p lawful born in cc
+        let born : accepted_upload p e ≡ true = both_true (both_true (ap is_upload h) (first_so _ _ marks)) (second_so (is_about p e) _ marks) in
+        let none : true ≡ false = sym (ap is_some is) ∙ accepted_upload-tells t e p lawful born in cc
     by (Decommission s w) h =
-        decommissioned k.own w (known-holds t p k _ is (decommissions-tells t e p lawful (both_true marks (ap is_decommissioning h)))).active
+        decommissioned k.own w (known-holds t p k _ is (accepted_decommissioning-tells t e p lawful (both_true marks (ap is_decommissioning h)))).active
     by (Revert s) h =
-        let tells = known-holds t p k _ is (reverts-tells t e p lawful (both_true marks (ap is_reversion h))) in
+        let tells = known-holds t p k _ is (accepted_reversion-tells t e p lawful (both_true marks (ap is_reversion h))) in
         reverted k.own tells.not_active tells.not_stolen tells.not_destroyed tells.not_supplied
     by (Theft s) h =
         stolen k.own (known-holds t p k _ is (thefts-tells t e p lawful (both_true marks (ap is_theft h))))
@@ -82,11 +84,53 @@ known-after-mark t e p k is marks =
 known-after-other : (t : List Entry) (e : Entry) (p : Pack) → is_mark p e ≡ false → known (t ++ e ∷ []) p ≡ known t p
 known-after-other t e p other = known-push t e p ∙ ap (λ b. cond b (marked_by (length t) e (known t p)) (known t p)) other
 
-pub course-in : (before after : List Entry) (e : Entry) (p : Pack) (k : Known) → IsLawful (before ++ e ∷ after) → known before p ≡ Some k → (is_mark p e ≡ false → known (before ++ e ∷ []) p ≡ Some k) × (is_mark p e ≡ true → may_become k.own (own_given e.question) ≡ true)
-course-in before after e p k lawful is = (
-  λ other. known-after-other before e p other ∙ is,
-  λ marks. course before e p k (IsLawful-rest before (e ∷ after) lawful).0 is marks,
-)
+-- an entry that is no operation on a pack leaves what is known of it
+pub kept-by-other : (t : List Entry) (e : Entry) (p : Pack) → operates p e ≡ false → known (t ++ e ∷ []) p ≡ known t p
+kept-by-other t e p other = known-after-other t e p (sym (operates-is p e) ∙ other)
+
+-- an operation on a known pack moves it on
+pub moved-on : (before after : List Entry) (e : Entry) (p : Pack) (k : Known) → IsLawful (before ++ e ∷ after) → known before p ≡ Some k → operates p e ≡ true → IsSomeAnd (known (before ++ e ∷ []) p) (IsMovedOn k (length before) e)
+moved-on before after e p k lawful is operation =
+    let marks : is_mark p e ≡ true = sym (operates-is p e) ∙ operation in
+    let P : Option Known → Type 0 = λ o. IsSomeAnd o (IsMovedOn k (length before) e) in
+    subst P (sym (known-after-mark before e p k is marks))
+    (record {
+      left = left p e.question e.reply marks;
+      course = course before e p k (IsLawful-rest before (e ∷ after) lawful).0 is marks;
+      batch = refl;
+      expiry = refl;
+      mark = refl;
+    })
+
+-- an unknown pack becomes known by its upload, and by nothing else
+pub born-known : (t : List Entry) (e : Entry) (p : Pack) → known t p ≡ None → uploads p e ≡ true → IsSomeAnd (known (t ++ e ∷ []) p) (IsBorn (length t) e)
+born-known t e p unknown uploaded = by e.question refl (sym (uploads-is p e) ∙ uploaded)
+  where
+    P : Option Known → Type 0
+    P o = IsSomeAnd o (IsBorn (length t) e)
+
+    by : (q : Question) → e.question ≡ q → accepted_upload p e ≡ true → P (known (t ++ e ∷ []) p)
+    by (Upload s b x) is born =
+        let marks : is_mark p e ≡ true = both_true (second_so (is_upload e.question) _ (first_so _ _ born)) (second_so (is_upload e.question && is_about p e) _ born) in
+        let made : known (t ++ e ∷ []) p ≡ Some (record { batch = b; expiry = x; own = own.Active; mark = mark_after (length t) e }) =
+        known-push t e p
+        ∙ (λ i. cond (marks i) (marked_by (length t) e (unknown i)) (known t p))
+        ∙ ap (born_by (length t) e) is in
+        subst P (sym made) (record { pack = s; question = is; active = refl; mark = refl })
+    by q is born = let none : false ≡ true = sym (ap is_upload is) ∙ first_so (is_upload e.question) _ (first_so _ _ born) in cc
+
+pub stays-unknown : (t : List Entry) (e : Entry) (p : Pack) → known t p ≡ None → uploads p e ≡ false → known (t ++ e ∷ []) p ≡ None
+stays-unknown t e p unknown other = known-push t e p ∙ by (is_mark p e) refl
+  where
+    none : (q : Question) → e.question ≡ q → is_mark p e ≡ true → born_by (length t) e q ≡ None
+    none (Upload s b x) is marks =
+        let born : accepted_upload p e ≡ true = both_true (both_true (ap is_upload is) (first_so _ _ marks)) (second_so (is_about p e) _ marks) in
+        let wrong : false ≡ true = sym other ∙ uploads-is p e ∙ born in cc
+    none q is marks = refl
+
+    by : (b : Bool) → is_mark p e ≡ b → cond b (marked_by (length t) e (known t p)) (known t p) ≡ None
+    by true marks = ap (marked_by (length t) e) unknown ∙ none e.question refl marks
+    by false marks = unknown
 
 -- the pack is known, and its own status passes a test
 abbrev pub Stands : (Own → Bool) → List Entry → Pack → Type 0
@@ -151,16 +195,19 @@ behind before between after e later lawful =
 pub behind-keeps : (P : List Entry → Type 0) → ((t : List Entry) (e : Entry) → P t → e.reply ≡ reply_of t (put_of e) → P (t ++ e ∷ [])) → (u v : List Entry) (e : Entry) → P (u ++ e ∷ []) → IsLawfulAfter (u ++ e ∷ []) v → P (u ++ e ∷ v)
 behind-keeps P step u v e h lawful = subst P (append_assoc u (e ∷ []) v) (IsLawfulAfter-keeps P step (u ++ e ∷ []) v h lawful)
 
--- behind an accepted supply of a pack it is neither decommissioned nor reverted nor confirmed
+-- after the supply of a pack it is neither decommissioned nor reverted nor confirmed
 pub supplied-once : (before between after : List Entry) (supply later : Entry) (p : Pack) → IsLawful (before ++ supply ∷ between ++ later ∷ after) → supplies p supply ≡ true → (decommissions p later ≡ false) × (reverts p later ≡ false) × (confirms p later ≡ false)
-supplied-once before between after supply later p lawful h = (
-  never _ (λ d. let a = known-holds t p gone.0 _ gone.1 (decommissions-tells t later p at.later d) in gone-not_active gone.0.own gone.2 a.active),
-  never _ (λ r. let a = known-holds t p gone.0 _ gone.1 (reverts-tells t later p at.later r) in gone-not_reversible gone.0.own gone.2 a.not_supplied a.not_stolen),
-  never _ (λ c. let a = known-holds t p gone.0 _ gone.1 (confirms-tells t later p at.later c) in gone-not_active gone.0.own gone.2 a.active),
+supplied-once before between after supply later p lawful supplied_by = (
+  decommissions-is p later ∙ never _ (λ d. let a = known-holds t p gone.0 _ gone.1 (accepted_decommissioning-tells t later p at.later d) in gone-not_active gone.0.own gone.2 a.active),
+  reverts-is p later ∙ never _ (λ r. let a = known-holds t p gone.0 _ gone.1 (accepted_reversion-tells t later p at.later r) in gone-not_reversible gone.0.own gone.2 a.not_supplied a.not_stolen),
+  confirms-is p later ∙ never _ (λ c. let a = known-holds t p gone.0 _ gone.1 (authentic_answer-tells t later p at.later c) in gone-not_active gone.0.own gone.2 a.active),
 )
   where
     t : List Entry
     t = before ++ supply ∷ between
+
+    h : accepted_supply p supply ≡ true
+    h = sym (supplies-is p supply) ∙ supplied_by
 
     at : Behind before between supply later
     at = behind before between after supply later lawful
@@ -173,7 +220,7 @@ supplied-once before between after supply later p lawful h = (
 
     supplied : Stands is_gone (before ++ supply ∷ []) p
     supplied =
-        let k = decommissions-tells before supply p at.first (both_true marks kind.0) in
+        let k = accepted_decommissioning-tells before supply p at.first (both_true marks kind.0) in
         (record k.0 { own = own_given supply.question; mark = mark_after (length before) supply }, known-after-mark before supply p k.0 k.1 marks, kind.1)
 
     gone : Stands is_gone t p
@@ -183,7 +230,7 @@ supplied-once before between after supply later p lawful h = (
 abbrev is_out : Own → Bool
 is_out o = not (is_active o)
 
-out-keeps : (t : List Entry) (e : Entry) (p : Pack) → Stands is_out t p → e.reply ≡ reply_of t (put_of e) → reverts p e ≡ false → Stands is_out (t ++ e ∷ []) p
+out-keeps : (t : List Entry) (e : Entry) (p : Pack) → Stands is_out t p → e.reply ≡ reply_of t (put_of e) → accepted_reversion p e ≡ false → Stands is_out (t ++ e ∷ []) p
 out-keeps t e p h lawful unreverted = by (is_mark p e) refl
   where
     out : (q : Question) → e.question ≡ q → is_mark p e ≡ true → is_out (own_given q) ≡ true
@@ -191,8 +238,8 @@ out-keeps t e p h lawful unreverted = by (is_mark p e) refl
     out (Theft s) is marks = refl
     out (Revert s) is marks = let none : false ≡ true = sym unreverted ∙ both_true marks (ap is_reversion is) in cc
     out (Upload s b x) is marks =
-        let born : uploads p e ≡ true = both_true (both_true (ap is_upload is) (first_so _ _ marks)) (second_so (is_about p e) _ marks) in
-        let none : true ≡ false = sym (ap is_some h.1) ∙ uploads-tells t e p lawful born in cc
+        let born : accepted_upload p e ≡ true = both_true (both_true (ap is_upload is) (first_so _ _ marks)) (second_so (is_about p e) _ marks) in
+        let none : true ≡ false = sym (ap is_some h.1) ∙ accepted_upload-tells t e p lawful born in cc
     out (Recall c b) is marks = let none : false ≡ true = sym (ap (λ q. names p (pack_of q) && accepts q e.reply) is) ∙ marks in cc
     out (Withdraw c b) is marks = let none : false ≡ true = sym (ap (λ q. names p (pack_of q) && accepts q e.reply) is) ∙ marks in cc
     out q is marks =
@@ -204,12 +251,12 @@ out-keeps t e p h lawful unreverted = by (is_mark p e) refl
     by false other = (h.0, known-after-other t e p other ∙ h.1, h.2)
 
 -- where no entry reverts a pack that is out of circulation, it stays out
-stays-out : (u es : List Entry) (p : Pack) → Stands is_out u p → IsLawfulAfter u es → list_any (reverts p) es ≡ false → Stands is_out (u ++ es) p
+stays-out : (u es : List Entry) (p : Pack) → Stands is_out u p → IsLawfulAfter u es → list_any (accepted_reversion p) es ≡ false → Stands is_out (u ++ es) p
 stays-out u [] p h lawful unreverted = let P : List Entry → Type 0 = λ t. Stands is_out t p in subst P (sym (append-nil u)) h
 stays-out u (e ∷ es) p h lawful unreverted =
     let P : List Entry → Type 0 = λ t. Stands is_out t p in
     subst P (append_assoc u (e ∷ []) es)
-    (stays-out (u ++ e ∷ []) es p (out-keeps u e p h lawful.0 (neither-left (reverts p e) _ unreverted)) lawful.1 (neither-right (reverts p e) _ unreverted))
+    (stays-out (u ++ e ∷ []) es p (out-keeps u e p h lawful.0 (neither-left (accepted_reversion p e) _ unreverted)) lawful.1 (neither-right (accepted_reversion p e) _ unreverted))
   where
     neither-left : (a b : Bool) → (a || b) ≡ false → a ≡ false
     neither-left true b h = h
@@ -219,26 +266,33 @@ stays-out u (e ∷ es) p h lawful unreverted =
     neither-right true b h = let none : true ≡ false = h in cc
     neither-right false b h = h
 
--- between two accepted decommissionings of a pack stands an accepted reversion
+-- between two decommissionings of a pack stands a reversion
 pub reverted-between : (before between after : List Entry) (first second : Entry) (p : Pack) → IsLawful (before ++ first ∷ between ++ second ∷ after) → decommissions p first ≡ true → decommissions p second ≡ true → list_any (reverts p) between ≡ true
-reverted-between before between after first second p lawful h k = by (list_any (reverts p) between) refl
+reverted-between before between after first second p lawful at_first at_second =
+    (λ i. list_any (λ e. reverts-is p e i) between) ∙ by (list_any (accepted_reversion p) between) refl
   where
+    h : accepted_decommissioning p first ≡ true
+    h = sym (decommissions-is p first) ∙ at_first
+
+    k : accepted_decommissioning p second ≡ true
+    k = sym (decommissions-is p second) ∙ at_second
+
     at : Behind before between first second
     at = behind before between after first second lawful
 
     out : Stands is_out (before ++ first ∷ []) p
     out =
-        let pack = decommissions-tells before first p at.first h in (
+        let pack = accepted_decommissioning-tells before first p at.first h in (
           record pack.0 { own = own_given first.question; mark = mark_after (length before) first },
           known-after-mark before first p pack.0 pack.1 (first_so (is_mark p first) _ h),
           ap not (decommissioned-not_active first.question (second_so (is_mark p first) _ h)),
         )
 
-    by : (b : Bool) → list_any (reverts p) between ≡ b → b ≡ true
+    by : (b : Bool) → list_any (accepted_reversion p) between ≡ b → b ≡ true
     by true is = refl
     by false is =
         let P : List Entry → Type 0 = λ t. Stands is_out t p in
         let pack : Stands is_out (before ++ first ∷ between) p =
         subst P (append_assoc before (first ∷ []) between) (stays-out (before ++ first ∷ []) between p out at.between is) in
-        let authentic = known-holds (before ++ first ∷ between) p pack.0 _ pack.1 (decommissions-tells (before ++ first ∷ between) second p at.later k) in
+        let authentic = known-holds (before ++ first ∷ between) p pack.0 _ pack.1 (accepted_decommissioning-tells (before ++ first ∷ between) second p at.later k) in
         sym (ap not authentic.active) ∙ pack.2

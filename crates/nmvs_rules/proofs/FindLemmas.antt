@@ -1,6 +1,7 @@
 -- The first entry that passes a test.
-use Rattle.std.proofs.Common.{◌≡◌, Bool, true, false, cond, List, [], ◌∷◌, Some, refl, subst, arith}
+use Rattle.std.proofs.Common.{◌≡◌, Bool, true, false, ◌||◌, cond, List, [], ◌∷◌, Option, Some, None, IsSomeAnd, refl, subst, arith}
 use Rattle.std.specs.List.{find, list_any}
+use Rattle.std.specs.Option.{is_some}
 
 -- what `find` gives passes
 pub find-passes : {X : Type 0} (p : X → Bool) → (xs : List X) (x : X) → find p xs ≡ Some x → p x ≡ true
@@ -19,3 +20,20 @@ find-any p q (y ∷ ys) x e h =
       | true ↦ λ is. let same : y ≡ x = cc in rw (same, h) refl
       | false ↦ λ is. grind (arith, find-any p q ys x is h)
     ] e
+
+-- `find` gives an element where some element passes
+pub is_some-find : {X : Type 0} (p : X → Bool) (xs : List X) → is_some (find p xs) ≡ list_any p xs
+is_some-find p [] = refl
+is_some-find {X} p (x ∷ xs) = by (p x) (is_some-find {X = X} p xs)
+  where
+    by : (b : Bool) → is_some (find p xs) ≡ list_any p xs → is_some (cond b (Some x) (find p xs)) ≡ (b || list_any p xs)
+    by true h = refl
+    by false h = h
+
+pub is-none : {X : Type 0} (o : Option X) → is_some o ≡ false → o ≡ None
+is-none None h = refl
+is-none (Some x) h = cc
+
+pub from-some : {X : Type 0} (o : Option X) (P : X → Type 0) → IsSomeAnd o P → (x : X) × (o ≡ Some x) × P x
+from-some None P h = absurd h
+from-some (Some x) P h = (x, refl, h)

@@ -1,5 +1,5 @@
 -- The words of the laws on a worked trail.
-use Rattle.std.proofs.Common.{◌≡◌, ℕ, true, false, List, [], ◌∷◌, refl}
+use Rattle.std.proofs.Common.{◌≡◌, ℕ, true, false, List, [], ◌∷◌, Some, refl}
 use Rattle.std.specs.Prelude.{codes, filter}
 use Rattle.nmvs_identifier.specs.Texts.{Text}
 use Rattle.nmvs_identifier.specs.declared.pack.Pack.{Pack}
@@ -13,7 +13,8 @@ use Rattle.nmvs_rules.specs.declared.reply.Reply.TheVariants as reply
 use Rattle.nmvs_rules.specs.declared.refusal.Refusal.TheVariants as refusal
 use Rattle.nmvs_rules.specs.declared.cause.Cause.TheVariants as cause
 use Rattle.nmvs_rules.specs.declared.entry.Entry.{Entry}
-use Rattle.nmvs_rules.specs.Laws.{part_of, owned, uploads, decommissions, supplies, reverts, confirms, binds, alert_numbers}
+use Rattle.nmvs_rules.specs.Operations.{uploads, decommissions, supplies, reverts, confirms, binds, operates, last_operation, alarm}
+use Rattle.nmvs_rules.specs.Laws.{part_of, owned, alert_numbers}
 
 abbrev text : List ℕ → Text
 text s = record { bytes = s }
@@ -84,6 +85,18 @@ reverts-trail = refl
 
 binds-trail : filter (binds first.code batch) trail ≡ recall ∷ []
 binds-trail = refl
+
+operates-trail : filter (operates first) trail ≡ upload ∷ hold ∷ revert ∷ supply ∷ []
+operates-trail = refl
+
+last-trail : last_operation trail first ≡ Some supply
+last-trail = refl
+
+alarm-trail : alarm supply.question ≡ Some (cause.Supplied, true)
+alarm-trail = refl
+
+binds-other : binds first.code (text (codes "B2")) recall ≡ false
+binds-other = refl
 
 decommissions-other : filter (decommissions other) trail ≡ []
 decommissions-other = refl

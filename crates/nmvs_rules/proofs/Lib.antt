@@ -2,10 +2,12 @@ pub mod FactsLemmas
 pub mod FindLemmas
 pub mod PushLemmas
 pub mod TextLemmas
+pub mod Accepted
 pub mod LawfulLemmas
 pub mod CodeLemmas
 pub mod MergeLemmas
 pub mod ReplyLemmas
+pub mod LockLemmas
 pub mod BirthLemmas
 pub mod MarkLemmas
 pub mod CourseLemmas
@@ -13,5 +15,7 @@ pub mod ReversionLemmas
 pub mod VerificationLemmas
 pub mod RecallLemmas
 pub mod AlertLemmas
+pub mod AlertingLemmas
+pub mod HolderLemmas
 mod WorkedExample
 mod LawsExample

@@ -1,5 +1,5 @@
 -- The mark of a known pack.
-use Rattle.std.proofs.Common.{◌≡◌, Bool, true, false, ◌&&◌, ◌||◌, cond, List, [], ◌∷◌, reverse, Option, Some, None, refl, sym, ap, subst, ◌∙◌}
+use Rattle.std.proofs.Common.{◌≡◌, Bool, true, false, ◌&&◌, ◌||◌, cond, List, [], ◌∷◌, reverse, Option, Some, None, IsSomeAnd, refl, sym, ap, subst, ◌∙◌}
 use Rattle.std.proofs.lemmas.List.{reverse-append}
 use Rattle.std.proofs.lemmas.List.Folds.{find-append}
 use Rattle.std.specs.Cmp.{first_so, second_so}
@@ -14,8 +14,10 @@ use Rattle.nmvs_rules.specs.declared.question.Question.TheVariants.{Upload}
 use Rattle.nmvs_rules.specs.declared.entry.Entry.{Entry}
 use Rattle.nmvs_rules.specs.declared.facts.Known.{Known}
 use Rattle.nmvs_rules.specs.Trail.{born, mark, mark_place, mark_after, known, known_from, known_at, is_mark, is_about, is_upload, own_given}
-use Rattle.nmvs_rules.specs.Laws.{uploads}
-use Rattle.nmvs_rules.proofs.FindLemmas.{find-passes, find-any}
+use Rattle.nmvs_rules.specs.Operations.{uploads}
+use Rattle.nmvs_rules.specs.Laws.{IsUploadedWith}
+use Rattle.nmvs_rules.proofs.Accepted.{accepted_upload, first-upload}
+use Rattle.nmvs_rules.proofs.FindLemmas.{find-passes, find-any, from-some}
 
 some-or : {X : Type 0} (o : Option X) (b : Bool) (x : X) → is_some (option_or o (cond b (Some x) None)) ≡ (b || is_some o)
 some-or None true x = refl
@@ -37,12 +39,12 @@ is-some None h = cc
 is-some (Some x) h = (x, refl)
 
 -- a pack that was uploaded has a mark
-mark-of-born : (t : List Entry) (p : Pack) (u : Entry) → born t p ≡ Some u → (m : Entry) × (mark t p ≡ Some m)
+pub mark-of-born : (t : List Entry) (p : Pack) (u : Entry) → born t p ≡ Some u → (m : Entry) × (mark t p ≡ Some m)
 mark-of-born t p u h =
-    let passes : uploads p u ≡ true = find-passes (uploads p) t u h in
+    let passes : accepted_upload p u ≡ true = find-passes (accepted_upload p) t u h in
     let about = second_so (is_upload u.question) _ (first_so _ _ passes) in
     let marks : is_mark p u ≡ true = both_true about (second_so (is_upload u.question && is_about p u) _ passes) in
-    is-some (mark t p) (is_some-find-reverse (is_mark p) t ∙ find-any (uploads p) (is_mark p) t u h marks)
+    is-some (mark t p) (is_some-find-reverse (is_mark p) t ∙ find-any (accepted_upload p) (is_mark p) t u h marks)
 
 -- the entries that a known pack is known by
 pub record KnownBy (t : List Entry) (p : Pack) (k : Known) : Type 0 where
@@ -78,3 +80,12 @@ known-made t p r u m b x birth question marked =
     ap (known_from t p) birth
     ∙ ap (λ o. known_at t p (unwrap_or o u) u.question) marked
     ∙ ap (known_at t p m) question
+
+-- the upload of a known pack, and of a pack that was uploaded
+pub uploaded-with : (t : List Entry) (p : Pack) (k : Known) → KnownBy t p k → IsUploadedWith t p k.batch k.expiry
+uploaded-with t p k by =
+    let P : Option Entry → Type 0 = λ o. IsSomeAnd o (λ u. (r : Pack) × (u.question ≡ Upload r k.batch k.expiry)) in
+    subst P (sym by.born ∙ sym (first-upload t p)) (by.pack, by.question)
+
+pub birth-of : (t : List Entry) (p : Pack) (b : Batch) (x : Expiry) → IsUploadedWith t p b x → (u : Entry) × (born t p ≡ Some u) × ((r : Pack) × (u.question ≡ Upload r b x))
+birth-of t p b x h = let found = from-some (find (uploads p) t) _ h in (found.0, sym (first-upload t p) ∙ found.1, found.2)

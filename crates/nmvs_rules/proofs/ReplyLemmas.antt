@@ -4,34 +4,31 @@ use Rattle.std.specs.Cmp.{first_so, second_so}
 use Rattle.std.specs.Option.{is_some}
 use Rattle.nmvs_identifier.specs.Batch.{Batch}
 use Rattle.nmvs_identifier.specs.Expiry.{Expiry}
+use Rattle.nmvs_identifier.specs.ProductCode.{ProductCode}
 use Rattle.nmvs_identifier.specs.Pack.{same_pack}
 use Rattle.nmvs_rules.specs.declared.reason.Reason.{Reason}
 use Rattle.nmvs_identifier.specs.declared.pack.Pack.{Pack}
 use Rattle.nmvs_rules.specs.declared.actor.Actor.{Actor}
 use Rattle.nmvs_rules.specs.declared.question.Question.{Question}
 use Rattle.nmvs_rules.specs.declared.question.Question.TheVariants.{Upload, Verify, Decommission, Revert, Theft}
+use Rattle.nmvs_rules.specs.declared.own.Own.TheVariants as own
 use Rattle.nmvs_rules.specs.declared.entry.Entry.{Entry}
 use Rattle.nmvs_rules.specs.declared.facts.Known.{Known}
 use Rattle.nmvs_rules.specs.declared.reply.Reply.{Reply}
 use Rattle.nmvs_rules.specs.declared.reply.Reply.TheVariants as reply
 use Rattle.nmvs_rules.specs.declared.refusal.Refusal.TheVariants as refusal
 use Rattle.nmvs_rules.specs.Questions.{Put, may_ask, pack_of, names}
-use Rattle.nmvs_rules.specs.Trail.{known, accepts, is_mark, is_upload, holder_of}
-use Rattle.nmvs_rules.specs.Rules.{on_pack, lock_on, is_active, is_free, is_stolen, is_destroyed, is_supplied, is_authentic, is_past, is_same_place, is_in_time, is_held_by, has_other_holder, admitted_reply, reply_of, put_of}
-use Rattle.nmvs_rules.specs.Laws.{is_decommissioning, is_reversion, is_confirmed, uploads, decommissions, reverts, confirms}
+use Rattle.nmvs_rules.specs.Trail.{known, accepts, is_mark, is_upload, holder_of, lock_of, count_of, is_known_batch}
+use Rattle.nmvs_rules.specs.Rules.{on_pack, lock_on, is_active, is_free, is_stolen, is_destroyed, is_supplied, is_authentic, is_past, is_same_place, is_in_time, is_held_by, has_other_holder, lock_reply, admitted_reply, reply_of, put_of}
+use Rattle.nmvs_rules.proofs.Accepted.{is_decommissioning, is_reversion, is_theft, is_confirmed, accepted_upload, accepted_decommissioning, accepted_reversion, authentic_answer}
 use Rattle.nmvs_rules.proofs.TextLemmas.{same_pack-equal}
-
--- a question that reports a theft
-abbrev pub is_theft : Question → Bool
-is_theft (Theft _) = true
-is_theft _ = false
 
 -- the pack is known, and this holds of what is known of it
 abbrev pub KnownAnd : List Entry → Pack → (Known → Type 0) → Type 0
 KnownAnd t p P = (k : Known) × (known t p ≡ Some k) × P k
 
 -- a reply that isn't the first branch's comes from the second
-cond-else : (b : Bool) (x y z : Reply) → (x ≡ z → ⊥) → cond b x y ≡ z → (b ≡ false) × (y ≡ z)
+pub cond-else : (b : Bool) (x y z : Reply) → (x ≡ z → ⊥) → cond b x y ≡ z → (b ≡ false) × (y ≡ z)
 cond-else true x y z other e = absurd (other e)
 cond-else false x y z other e = (refl, e)
 
@@ -66,7 +63,7 @@ pub record IsReversible (t : List Entry) (n : ℕ) (a : Actor) (p : Pack) (k : K
   pub in_time : is_in_time n k.mark ≡ true
   pub not_expired : is_past k.expiry n ≡ false
 
-not-false : (b : Bool) → not b ≡ false → b ≡ true
+pub not-false : (b : Bool) → not b ≡ false → b ≡ true
 not-false true h = refl
 not-false false h = sym h
 
@@ -77,7 +74,7 @@ verify-tells t n a p b x late h =
     let authentic = cond-then (is_authentic pack.0.own (lock_on t p pack.0)) _ _ _ (λ e. cc) pack.2 in
     (pack.0, pack.1, (record { active = first_so _ _ authentic.0; free = second_so (is_active pack.0.own) _ authentic.0 }, authentic.1))
 
-decommission-tells : (t : List Entry) (n : ℕ) (a : Actor) (p : Pack) (w : Reason) → IsReply t n a (Decommission p w) reply.Decommissioned → KnownAnd t p (IsAuthentic t p)
+pub decommission-tells : (t : List Entry) (n : ℕ) (a : Actor) (p : Pack) (w : Reason) → IsReply t n a (Decommission p w) reply.Decommissioned → KnownAnd t p (IsAuthentic t p)
 decommission-tells t n a p w h =
     let admitted = cond-then (may_ask a.role (Decommission p w)) _ _ _ (λ e. cc) (sym h) in
     let pack = on_pack-known t p _ _ _ (λ e. cc) admitted.1 in
@@ -111,6 +108,24 @@ revert-tells t n a p h =
       },
     )
 
+pub theft-holder : (t : List Entry) (n : ℕ) (a : Actor) (p : Pack) → IsReply t n a (Theft p) reply.MarkedStolen → is_held_by (holder_of t p.code) a.authorisation ≡ true
+theft-holder t n a p h =
+    let admitted = cond-then (may_ask a.role (Theft p)) _ _ _ (λ e. cc) (sym h) in
+    let pack = on_pack-known t p _ _ _ (λ e. cc) admitted.1 in
+    not-false _ (cond-else (not (is_held_by (holder_of t p.code) a.authorisation)) _ _ _ (λ e. cc) pack.2).0
+
+pub upload-holder : (t : List Entry) (n : ℕ) (a : Actor) (p : Pack) (b : Batch) (x : Expiry) → IsReply t n a (Upload p b x) reply.Uploaded → has_other_holder (holder_of t p.code) a.authorisation ≡ false
+upload-holder t n a p b x h =
+    let admitted = cond-then (may_ask a.role (Upload p b x)) _ _ _ (λ e. cc) (sym h) in
+    (cond-else (has_other_holder (holder_of t p.code) a.authorisation) _ _ _ (λ e. cc) admitted.1).0
+
+-- a recall or withdrawal that is accepted, by one that may ask it or not
+pub lock-holder : (t : List Entry) (a : Actor) (c : ProductCode) (b : Batch) (n : ℕ) (may : Bool) → reply.LockedNow n ≡ cond may (lock_reply a (is_known_batch t c b) (holder_of t c) (lock_of t c b) (count_of t c b own.Active)) (reply.Refused refusal.Role) → is_held_by (holder_of t c) a.authorisation ≡ true
+lock-holder t a c b n may h =
+    let admitted = cond-then may _ _ _ (λ e. cc) (sym h) in
+    let batch = cond-else (not (is_known_batch t c b)) _ _ _ (λ e. cc) admitted.1 in
+    not-false _ (cond-else (not (is_held_by (holder_of t c) a.authorisation)) _ _ _ (λ e. cc) batch.1).0
+
 theft-tells : (t : List Entry) (n : ℕ) (a : Actor) (p : Pack) → IsReply t n a (Theft p) reply.MarkedStolen → KnownAnd t p (λ k. is_stolen k.own ≡ false)
 theft-tells t n a p h =
     let admitted = cond-then (may_ask a.role (Theft p)) _ _ _ (λ e. cc) (sym h) in
@@ -129,8 +144,8 @@ KnownAnd-map : (t : List Entry) (p : Pack) (P Q : Known → Type 0) → ((k : Kn
 KnownAnd-map t p P Q f h = (h.0, h.1, f h.0 h.2)
 
 -- a pack is confirmed only where it is authentic
-pub confirms-tells : (t : List Entry) (e : Entry) (p : Pack) → e.reply ≡ reply_of t (put_of e) → confirms p e ≡ true → KnownAnd t p (IsAuthentic t p)
-confirms-tells t e p lawful h = by e.question e.reply lawful h
+pub authentic_answer-tells : (t : List Entry) (e : Entry) (p : Pack) → e.reply ≡ reply_of t (put_of e) → authentic_answer p e ≡ true → KnownAnd t p (IsAuthentic t p)
+authentic_answer-tells t e p lawful h = by e.question e.reply lawful h
   where
     by : (q : Question) (r : Reply) → IsReply t e.moment e.actor q r → (names p (pack_of q) && is_confirmed q r) ≡ true → KnownAnd t p (IsAuthentic t p)
     by (Verify s) (reply.Authentic b x late) is c =
@@ -140,8 +155,8 @@ confirms-tells t e p lawful h = by e.question e.reply lawful h
     by q r is c = let none : false ≡ true = second_so (names p (pack_of q)) (is_confirmed q r) c in cc
 
 -- a pack is decommissioned only where it is authentic
-pub decommissions-tells : (t : List Entry) (e : Entry) (p : Pack) → e.reply ≡ reply_of t (put_of e) → decommissions p e ≡ true → KnownAnd t p (IsAuthentic t p)
-decommissions-tells t e p lawful h = by e.question e.reply lawful h
+pub accepted_decommissioning-tells : (t : List Entry) (e : Entry) (p : Pack) → e.reply ≡ reply_of t (put_of e) → accepted_decommissioning p e ≡ true → KnownAnd t p (IsAuthentic t p)
+accepted_decommissioning-tells t e p lawful h = by e.question e.reply lawful h
   where
     by : (q : Question) (r : Reply) → IsReply t e.moment e.actor q r → ((names p (pack_of q) && accepts q r) && is_decommissioning q) ≡ true → KnownAnd t p (IsAuthentic t p)
     by (Decommission s w) reply.Decommissioned is c =
@@ -151,8 +166,8 @@ decommissions-tells t e p lawful h = by e.question e.reply lawful h
     by q r is c = let none : false ≡ true = second_so (names p (pack_of q) && accepts q r) (is_decommissioning q) c in cc
 
 -- a pack is reverted only where Article 13 lets it be
-pub reverts-tells : (t : List Entry) (e : Entry) (p : Pack) → e.reply ≡ reply_of t (put_of e) → reverts p e ≡ true → KnownAnd t p (IsReversible t e.moment e.actor p)
-reverts-tells t e p lawful h = by e.question e.reply lawful h
+pub accepted_reversion-tells : (t : List Entry) (e : Entry) (p : Pack) → e.reply ≡ reply_of t (put_of e) → accepted_reversion p e ≡ true → KnownAnd t p (IsReversible t e.moment e.actor p)
+accepted_reversion-tells t e p lawful h = by e.question e.reply lawful h
   where
     by : (q : Question) (r : Reply) → IsReply t e.moment e.actor q r → ((names p (pack_of q) && accepts q r) && is_reversion q) ≡ true → KnownAnd t p (IsReversible t e.moment e.actor p)
     by (Revert s) reply.Reverted is c =
@@ -162,8 +177,8 @@ reverts-tells t e p lawful h = by e.question e.reply lawful h
     by q r is c = let none : false ≡ true = second_so (names p (pack_of q) && accepts q r) (is_reversion q) c in cc
 
 -- a pack is uploaded only where it is not known
-pub uploads-tells : (t : List Entry) (e : Entry) (p : Pack) → e.reply ≡ reply_of t (put_of e) → uploads p e ≡ true → is_some (known t p) ≡ false
-uploads-tells t e p lawful h = by e.question e.reply lawful h
+pub accepted_upload-tells : (t : List Entry) (e : Entry) (p : Pack) → e.reply ≡ reply_of t (put_of e) → accepted_upload p e ≡ true → is_some (known t p) ≡ false
+accepted_upload-tells t e p lawful h = by e.question e.reply lawful h
   where
     by : (q : Question) (r : Reply) → IsReply t e.moment e.actor q r → ((is_upload q && names p (pack_of q)) && accepts q r) ≡ true → is_some (known t p) ≡ false
     by (Upload s b x) reply.Uploaded is c =
@@ -173,6 +188,12 @@ uploads-tells t e p lawful h = by e.question e.reply lawful h
 
 pub reply-question : (t : List Entry) (q : Put) (n : Question) → q.question ≡ n → reply_of t q ≡ cond (may_ask q.actor.role n) (admitted_reply t q.moment q.actor n) (reply.Refused refusal.Role)
 reply-question t q n is = ap (λ z. cond (may_ask q.actor.role z) (admitted_reply t q.moment q.actor z) (reply.Refused refusal.Role)) is
+
+-- the reply to a question by one that may ask it
+pub reply-admitted : (t : List Entry) (q : Put) (n : Question) → q.question ≡ n → may_ask q.actor.role q.question ≡ true → reply_of t q ≡ admitted_reply t q.moment q.actor n
+reply-admitted t q n is may =
+    reply-question t q n is
+    ∙ ap (λ c. cond c (admitted_reply t q.moment q.actor n) (reply.Refused refusal.Role)) (sym (ap (may_ask q.actor.role) is) ∙ may)
 
 -- what is not refused for its role was asked by one that may
 pub may-tells : (t : List Entry) (n : ℕ) (a : Actor) (q : Question) (r : Reply) → (reply.Refused refusal.Role ≡ r → ⊥) → IsReply t n a q r → may_ask a.role q ≡ true

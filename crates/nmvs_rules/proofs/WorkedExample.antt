@@ -3,7 +3,7 @@
 use Rattle.std.proofs.Common.{◌≡◌, ℕ, ◌+◌, ◌*◌, true, false, List, [], ◌∷◌, ◌++◌, Option, Some, refl, ap}
 use Rattle.std.specs.Prelude.{codes, pos, int_lt, if◌then◌else◌}
 use Rattle.nmvs_identifier.specs.Texts.{Text}
-use Rattle.nmvs_identifier.specs.Expiry.{expiry_day}
+use Rattle.nmvs_identifier.proofs.ExpiryDays.{day-280200}
 use Rattle.nmvs_identifier.specs.declared.pack.Pack.{Pack}
 use Rattle.nmvs_rules.specs.declared.actor.Actor.{Actor}
 use Rattle.nmvs_rules.specs.declared.role.Role.TheVariants as role
@@ -195,30 +195,26 @@ at moment q = record { moment = moment; user = q.user; actor = q.actor; question
 abbrev days_later : ℕ → ℕ
 days_later n = new_year + n * 86_400
 
--- the expiry date is 29 February 2028: day 21,243, since 58 years with 14 leap days and 59 days more lie before it
-abbrev ExpiryDay : Type 0
-ExpiryDay = expiry_day expiry.bytes ≡ pos 21_243
+-- the expiry date is 29 February 2028, day 21,243: on the last second of that day the pack is not expired, on the next one it is
+verify-last_second : reply_of uploaded (at 1_835_481_599 verify) ≡ reply.Authentic batch expiry false
+verify-last_second = ap (λ d. reply.Authentic batch expiry (int_lt d (pos 21_243))) day-280200
 
--- on the last second of that day the pack is not expired, on the next one it is
-verify-last_second : ExpiryDay → reply_of uploaded (at 1_835_481_599 verify) ≡ reply.Authentic batch expiry false
-verify-last_second day = ap (λ d. reply.Authentic batch expiry (int_lt d (pos 21_243))) day
-
-verify-next_second : ExpiryDay → reply_of uploaded (at 1_835_481_600 verify) ≡ reply.Authentic batch expiry true
-verify-next_second day = ap (λ d. reply.Authentic batch expiry (int_lt d (pos 21_244))) day
+verify-next_second : reply_of uploaded (at 1_835_481_600 verify) ≡ reply.Authentic batch expiry true
+verify-next_second = ap (λ d. reply.Authentic batch expiry (int_lt d (pos 21_244))) day-280200
 
 -- an expired pack is decommissioned too
 hold-expired : reply_of uploaded (at 1_835_481_600 hold) ≡ reply.Decommissioned
 hold-expired = refl
 
 -- a held pack is reverted on the tenth day and not on the eleventh; a clock that was set back does no harm
-revert-day_ten : ExpiryDay → reply_of held (at (days_later 10) revert) ≡ reply.Reverted
-revert-day_ten day = ap (λ d. if int_lt d (pos 20_464) then reply.Refused refusal.Expired else reply.Reverted) day
+revert-day_ten : reply_of held (at (days_later 10) revert) ≡ reply.Reverted
+revert-day_ten = ap (λ d. if int_lt d (pos 20_464) then reply.Refused refusal.Expired else reply.Reverted) day-280200
 
 revert-day_eleven : reply_of held (at (days_later 11) revert) ≡ reply.Refused refusal.Late
 revert-day_eleven = refl
 
-revert-day_before : ExpiryDay → reply_of held (at 1_765_497_600 revert) ≡ reply.Reverted
-revert-day_before day = ap (λ d. if int_lt d (pos 20_434) then reply.Refused refusal.Expired else reply.Reverted) day
+revert-day_before : reply_of held (at 1_765_497_600 revert) ≡ reply.Reverted
+revert-day_before = ap (λ d. if int_lt d (pos 20_434) then reply.Refused refusal.Expired else reply.Reverted) day-280200
 
 -- other premises of the same authorisation are told so before the days are counted
 abbrev other_premises : Actor

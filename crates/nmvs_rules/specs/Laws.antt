@@ -1,22 +1,22 @@
 -- What the laws over the rules speak of.
-use Rattle.std.specs.Prelude.{ℕ, ◌≡◌, ◌≢◌, ◌+◌, ◌≤◌, ◌==◌, pos, ◌≤ℤ◌, Bool, true, false, ◌&&◌, ◌||◌, IsTrue, if◌then◌else◌, List, [], ◌∷◌, length, filter, filter_map, Option, Some, None, IsSomeAnd}
+use Rattle.std.specs.Prelude.{ℕ, ◌≡◌, ◌+◌, ◌≤◌, ◌==◌, pos, ◌≤ℤ◌, Bool, true, false, ◌||◌, ◌⊎◌, IsTrue, IsFalse, if◌then◌else◌, List, [], ◌∷◌, length, filter, filter_map, find, Some, IsSomeAnd}
 use Rattle.std.specs.List.{list_any}
 use Rattle.nmvs_identifier.specs.Batch.{Batch}
 use Rattle.nmvs_identifier.specs.Expiry.{Expiry, expiry_day}
 use Rattle.nmvs_identifier.specs.Moment.{day_of}
+use Rattle.nmvs_identifier.specs.Name.{Name}
 use Rattle.nmvs_identifier.specs.ProductCode.{ProductCode}
 use Rattle.nmvs_identifier.specs.declared.pack.Pack.{Pack}
-use Rattle.nmvs_rules.specs.declared.batch_lock.BatchLock.TheVariants as lock
 use Rattle.nmvs_rules.specs.declared.entry.Entry.{Entry}
+use Rattle.nmvs_rules.specs.declared.facts.Known.{Known}
 use Rattle.nmvs_rules.specs.declared.own.Own.{Own}
 use Rattle.nmvs_rules.specs.declared.own.Own.TheVariants as own
 use Rattle.nmvs_rules.specs.declared.question.Question.{Question}
-use Rattle.nmvs_rules.specs.declared.question.Question.TheVariants.{Upload, Verify, Decommission, Revert}
-use Rattle.nmvs_rules.specs.declared.reason.Reason.TheVariants as reason
-use Rattle.nmvs_rules.specs.declared.reply.Reply.{Reply}
-use Rattle.nmvs_rules.specs.declared.reply.Reply.TheVariants as reply
+use Rattle.nmvs_rules.specs.declared.question.Question.TheVariants.{Upload, Verify, Decommission, Recall, Withdraw}
+use Rattle.nmvs_rules.specs.declared.reason.Reason.{Reason}
 use Rattle.nmvs_rules.specs.Questions.{Put, code_of}
-use Rattle.nmvs_rules.specs.Trail.{has_code, uploads_batch, locks_batch, is_upload, is_about, is_accepted, is_mark, born, mark, own_of, lock_of}
+use Rattle.nmvs_rules.specs.Trail.{has_code}
+use Rattle.nmvs_rules.specs.Operations.{uploads, uploads_code, decommissions, supplies, destroys, reverts, steals, binds, last_operation, own_left, alert_number}
 
 -- the entries with a product code, in order (own)
 abbrev pub part_of : List Entry → ProductCode → List Entry
@@ -46,61 +46,28 @@ IsApart lists =
     (c : ProductCode) (i j : ℕ) →
     IsTrue (list_any (has_code c) (lists i)) → IsTrue (list_any (has_code c) (lists j)) → i ≡ j
 
--- whether the question decommissions a pack (Articles 22 and 25)
-abbrev pub is_decommissioning : Question → Bool
-is_decommissioning (Decommission _ _) = true
-is_decommissioning _ = false
-
--- whether the question decommissions a pack that is supplied to the public now (Article 25)
-abbrev pub is_supply : Question → Bool
-is_supply (Decommission _ reason.Supply) = true
-is_supply _ = false
-
--- whether the question reverts a pack (Article 13)
-abbrev pub is_reversion : Question → Bool
-is_reversion (Revert _) = true
-is_reversion _ = false
-
--- whether a verification was answered Authentic (Article 11)
-abbrev pub is_confirmed : Question → Reply → Bool
-is_confirmed (Verify _) (reply.Authentic _ _ _) = true
-is_confirmed _ _ = false
-
--- whether the entry is an accepted upload of the pack (Article 33)
-abbrev pub uploads : Pack → Entry → Bool
-uploads p e = (is_upload e.question && is_about p e) && is_accepted e
-
--- whether the entry is an accepted decommissioning of the pack (Articles 22 and 25)
-abbrev pub decommissions : Pack → Entry → Bool
-decommissions p e = is_mark p e && is_decommissioning e.question
-
--- whether the entry is the accepted supply of the pack to the public (Article 25)
-abbrev pub supplies : Pack → Entry → Bool
-supplies p e = is_mark p e && is_supply e.question
-
--- whether the entry is an accepted reversion of the pack (Article 13)
-abbrev pub reverts : Pack → Entry → Bool
-reverts p e = is_mark p e && is_reversion e.question
-
--- whether the entry is a verification of the pack that was answered Authentic (Article 11)
-abbrev pub confirms : Pack → Entry → Bool
-confirms p e = is_about p e && is_confirmed e.question e.reply
-
--- whether the entry is an accepted recall or withdrawal of the batch (Article 40)
-abbrev pub binds : ProductCode → Batch → Entry → Bool
-binds c b e = locks_batch c b e.question && is_accepted e
-
--- the trail has an accepted upload of the pack, with this batch and this expiry date (Article 4)
+-- the pack was uploaded, with this batch and this expiry date (Article 4)
 abbrev pub IsUploadedWith : List Entry → Pack → Batch → Expiry → Type 0
-IsUploadedWith t p b x = IsSomeAnd (born t p) (λ u. (r : Pack) × (u.question ≡ Upload r b x))
+IsUploadedWith t p b x = IsSomeAnd (find (uploads p) t) (λ u. (r : Pack) × (u.question ≡ Upload r b x))
 
--- its last accepted entry is an upload or a reversion (Article 11)
+-- the last operation on the pack is its upload or a reversion (Article 11)
 abbrev pub IsInCirculation : List Entry → Pack → Type 0
-IsInCirculation t p = IsSomeAnd (mark t p) (λ m. IsTrue (is_upload m.question || is_reversion m.question))
+IsInCirculation t p = IsSomeAnd (last_operation t p) (λ m. IsTrue (uploads p m || reverts p m))
 
--- the pack was uploaded in this batch (Article 4)
-abbrev pub IsOfBatch : List Entry → Pack → ProductCode → Batch → Type 0
-IsOfBatch t p c b = IsSomeAnd (born t p) (λ u. IsTrue (uploads_batch c b u.question))
+-- the batch was neither recalled nor withdrawn (Article 40)
+abbrev pub IsUnlocked : List Entry → ProductCode → Batch → Type 0
+IsUnlocked t c b = IsFalse (list_any (binds c b) t)
+
+-- all that Article 11 asks of an authentic pack with this batch and this expiry date: it was uploaded, its identifier is active,
+-- and its batch was neither recalled nor withdrawn (Article 40)
+pub record IsGenuine (t : List Entry) (p : Pack) (b : Batch) (x : Expiry) : Type 0 where
+  pub uploaded : IsUploadedWith t p b x
+  pub moving : IsInCirculation t p
+  pub unlocked : IsUnlocked t p.code b
+
+-- the product code was uploaded first by this authorisation, which is its holder (own)
+abbrev pub IsHeldBy : List Entry → ProductCode → Name → Type 0
+IsHeldBy t c n = IsSomeAnd (find (uploads_code c) t) (λ u. u.actor.authorisation.bytes ≡ n.bytes)
 
 -- whether one own status may follow another: an active pack goes any way, a held, exported or sampled one comes back or is
 -- stolen, a supplied or destroyed one is stolen at most, and a stolen one stays so (Articles 12, 13, 22, 25 and 40)
@@ -114,10 +81,28 @@ may_become own.Stolen _ = false
 may_become _ own.Stolen = true
 may_become _ _ = false
 
--- the number of a reply that is an alert (own)
-abbrev pub alert_number : Reply → Option ℕ
-alert_number (reply.Alert _ _ n) = Some n
-alert_number _ = None
+-- what an operation e, before which so many entries stand, makes of what is known of its pack: from k to n
+pub record IsMovedOn (k : Known) (place : ℕ) (e : Entry) (n : Known) : Type 0 where
+  pub left : own_left e.question ≡ Some n.own
+  pub course : IsTrue (may_become k.own n.own)
+  pub batch : n.batch ≡ k.batch
+  pub expiry : n.expiry ≡ k.expiry
+  pub mark : n.mark ≡ record { place = place; moment = e.moment; authorisation = e.actor.authorisation; premises = e.actor.premises }
+
+-- what is known of a pack after its upload e, before which so many entries stand
+pub record IsBorn (place : ℕ) (e : Entry) (n : Known) : Type 0 where
+  pub pack : Pack
+  pub question : e.question ≡ Upload pack n.batch n.expiry
+  pub active : n.own ≡ own.Active
+  pub mark : n.mark ≡ record { place = place; moment = e.moment; authorisation = e.actor.authorisation; premises = e.actor.premises }
+
+-- a question that is answered with an alert where the pack is not authentic (Article 36)
+abbrev pub AsksAuthenticity : Pack → Question → Type 0
+AsksAuthenticity p q = (q ≡ Verify p) ⊎ ((w : Reason) × (q ≡ Decommission p w))
+
+-- a question that locks the batch where it is accepted (Article 40)
+abbrev pub AsksLock : ProductCode → Batch → Question → Type 0
+AsksLock c b q = (q ≡ Recall c b) ⊎ (q ≡ Withdraw c b)
 
 -- the numbers of the alerts on a product code, in order (own)
 abbrev pub alert_numbers : List Entry → ProductCode → List ℕ
@@ -128,10 +113,10 @@ pub record IsRevertible (t : List Entry) (p : Pack) (q : Put) : Type 0 where
   pub batch : Batch
   pub expiry : Expiry
   pub uploaded : IsUploadedWith t p batch expiry
-  -- the last accepted operation on the pack decommissioned it
+  -- the last operation on the pack decommissioned it
   pub last : Entry
-  pub marked : mark t p ≡ Some last
-  pub decommissioned : IsTrue (is_decommissioning last.question)
+  pub latest : last_operation t p ≡ Some last
+  pub decommissioned : IsTrue (decommissions p last)
   -- (a) the same authorisation or entitlement, and the same premises
   pub same_authorisation : q.actor.authorisation.bytes ≡ last.actor.authorisation.bytes
   pub same_premises : q.actor.premises.bytes ≡ last.actor.premises.bytes
@@ -140,8 +125,8 @@ pub record IsRevertible (t : List Entry) (p : Pack) (q : Put) : Type 0 where
   -- (c) the pack has not expired
   pub not_expired : pos (day_of q.moment) ≤ℤ expiry_day expiry.bytes
   -- (d) neither recalled nor withdrawn, nor intended for destruction, nor stolen
-  pub free : lock_of t p.code batch ≡ lock.Free
-  pub not_destroyed : own_of t p ≢ Some own.Destroyed
-  pub not_stolen : own_of t p ≢ Some own.Stolen
+  pub unlocked : IsUnlocked t p.code batch
+  pub not_destroyed : IsFalse (destroys p last)
+  pub not_stolen : IsFalse (steals p last)
   -- (e) not supplied to the public
-  pub not_supplied : own_of t p ≢ Some own.Supplied
+  pub not_supplied : IsFalse (supplies p last)

@@ -4,4 +4,5 @@ pub mod Entries
 pub mod Trail
 pub mod Rules
 pub mod Facts
+pub mod Operations
 pub mod Laws

@@ -1,6 +1,6 @@
-//! Who may ask what.
+//! Who may ask what. Each `match` on a role names all five, so that a new role is decided on here before anything compiles.
 ghost use Rattle.std.specs.Prelude.{◌≡◌};
-ghost use Rattle.nmvs_rules.specs.Questions.{may_ask, may_decommission, is_handler};
+ghost use Rattle.nmvs_rules.specs.Questions.{may_ask, may_decommission, is_handler, is_holder, is_authority};
 
 use crate::{Question, Reason, Role};
 
@@ -12,27 +12,56 @@ pub fn may(role: Role, question: &Question) -> bool
         Question::Upload { .. }
         | Question::Recall(_, _)
         | Question::Withdraw(_, _)
-        | Question::Theft(_) => { matches!(role, Role::Holder) }
-        Question::Verify(_) | Question::Revert(_) => handles_packs(role),
+        | Question::Theft(_) => is_holder(role),
+        Question::Verify(_) | Question::Revert(_) => is_handler(role),
         Question::Decommission(_, reason) => may_decommission(role, *reason),
         Question::Status(_) => true,
-        Question::Audit(_) => matches!(role, Role::Authority),
+        Question::Audit(_) => is_authority(role),
     }
 }
 
 fn may_decommission(role: Role, reason: Reason) -> bool
     ensures { result ≡ may_decommission role reason }
 {
-    match reason {
-        Reason::Supply => matches!(role, Role::Pharmacy),
-        Reason::Hold => matches!(role, Role::Wholesaler | Role::Pharmacy),
-        Reason::Export => matches!(role, Role::Manufacturer | Role::Wholesaler),
-        Reason::Sample | Reason::Destroy => handles_packs(role),
+    match role {
+        Role::Manufacturer => {
+            matches!(reason, Reason::Export | Reason::Sample | Reason::Destroy)
+        }
+        Role::Wholesaler => matches!(
+            reason,
+            Reason::Hold | Reason::Export | Reason::Sample | Reason::Destroy
+        ),
+        Role::Pharmacy => matches!(
+            reason,
+            Reason::Supply | Reason::Hold | Reason::Sample | Reason::Destroy
+        ),
+        Role::Holder | Role::Authority => false,
     }
 }
 
-fn handles_packs(role: Role) -> bool
+fn is_handler(role: Role) -> bool
     ensures { result ≡ is_handler role }
 {
-    matches!(role, Role::Manufacturer | Role::Wholesaler | Role::Pharmacy)
+    match role {
+        Role::Manufacturer | Role::Wholesaler | Role::Pharmacy => true,
+        Role::Holder | Role::Authority => false,
+    }
+}
+
+fn is_holder(role: Role) -> bool
+    ensures { result ≡ is_holder role }
+{
+    match role {
+        Role::Holder => true,
+        Role::Manufacturer | Role::Wholesaler | Role::Pharmacy | Role::Authority => false,
+    }
+}
+
+fn is_authority(role: Role) -> bool
+    ensures { result ≡ is_authority role }
+{
+    match role {
+        Role::Authority => true,
+        Role::Holder | Role::Manufacturer | Role::Wholesaler | Role::Pharmacy => false,
+    }
 }

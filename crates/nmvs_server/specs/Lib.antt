@@ -1,3 +1,5 @@
 pub mod Roster
 pub mod Rehearsal
 pub mod Faults
+pub mod Options
+pub mod Users

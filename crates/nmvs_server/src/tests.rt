@@ -1,5 +1,8 @@
 //! Sessions of lines and their replies.
+mod clock;
 mod examples;
+mod options;
+mod users;
 
 use crate::rehearse;
 use examples::{Example, NEW_YEAR};

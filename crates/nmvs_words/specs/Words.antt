@@ -156,8 +156,12 @@ refusals =
 abbrev pub refusal_numbered : ℕ → Option Refusal
 refusal_numbered n = find (λ r. n == refusal_number r) refusals
 
+-- words with a space before each, and LF after the last
+abbrev pub followed : List (List ℕ) → List ℕ
+followed [] = codes "\n"
+followed (w ∷ ws) = codes " " ++ (w ++ followed ws)
+
 -- words with a space between each two, and LF after the last
 abbrev pub spaced : List (List ℕ) → List ℕ
 spaced [] = codes "\n"
-spaced (w ∷ []) = w ++ codes "\n"
-spaced (w ∷ v ∷ ws) = w ++ (codes " " ++ spaced (v ∷ ws))
+spaced (w ∷ ws) = w ++ followed ws

@@ -1,10 +1,20 @@
-use Rattle.std.proofs.Common.{◌≡◌, sym, ◌∙◌, rules}
-use Rattle.nmvs_protocol.proofs.LineLemmas.{line_put}
+use Rattle.std.proofs.Common.{◌∙◌, ap, sym, map, rules}
+use Rattle.nmvs_protocol.specs.Fields.{fields_in}
+use Rattle.nmvs_protocol.specs.Lines.{fields_fault, first_fault}
+use Rattle.nmvs_protocol.proofs.SpellingLemmas.{line_of_ask, fields_fault-take}
 use Rattle.nmvs_protocol.proofs.lines.read_exactly.Goals as goal
+
+pub returns-in_err-fields-clause-fault : goal.returns-in_err-fields-clause-fault
+unfolding first_fault
+returns-in_err-fields-clause-fault c = let fault = c.in_err-fields.ensures.fault fields_fault in search (rules, fault)
 
 pub returns-clause-line : goal.returns-clause-line
 returns-clause-line c =
-    let same : c.args.bytes.now ≡ c.in_ok-text.text.now = search rules in
-    same ∙ line_put c.in_ok-text.text.now c.in_ok-user.user c.in_ok-question.question c.in_ok-kind.kind
-    (sym c.field_count-2.ensures ∙ c.if-field_count-field_count_of.false ∙ c.field_count_of.ensures)
-    c.in_ok-kind.ensures.known c.in_ok-user.ensures.kept c.in_ok-question.ensures.kind c.in_ok-question.ensures.texts
+    let kept = ap (map (λ f. f.now)) c.deref.ensures.0 ∙ c.in_ok-fields.ensures.fields in
+    line_of_ask c.args.bytes.now _ c.read_fields.result kept c.read_fields.ensures.fields c.read_fields.ensures.readable
+
+pub returns-clause-fault : goal.returns-clause-fault
+unfolding first_fault
+returns-clause-fault c =
+    let kept = ap (map (λ f. f.now)) c.deref.ensures.0 ∙ c.in_ok-fields.ensures.fields in
+    c.read_fields.ensures.fault ∙ ap fields_fault kept ∙ fields_fault-take (fields_in c.args.bytes.now) ∙ sym (c.in_ok-fields.ensures.fault fields_fault)

@@ -1,0 +1,38 @@
+-- What stands in a list after one place was written.
+use Rattle.std.proofs.Common.{◌≡◌, ◌≢◌, ◌<◌, ◌⊎◌, inl, inr, ◌++◌, ◌∙◌, ℕ, suc, zero, List, [], ◌∷◌, refl, sym, ap, subst, arith, append_assoc, get_or, map, set, length}
+use Rattle.std.specs.List.{remove}
+use Rattle.std.specs.Prelude.{Some, slice_get, All}
+
+pub set_same : {X : Type 0} (xs : List X) (j : ℕ) (x : X) → j < length xs → slice_get (set xs j x) j ≡ Some x
+set_same [] j x within = absurd (omega arith)
+set_same (a ∷ xs) zero x within = refl
+set_same (a ∷ xs) (suc j) x within = set_same xs j x (omega arith)
+
+pub set_other : {X : Type 0} (xs : List X) (j p : ℕ) (x : X) → p ≢ j → slice_get (set xs j x) p ≡ slice_get xs p
+set_other [] j p x apart = refl
+set_other (a ∷ xs) zero zero x apart = absurd (apart refl)
+set_other (a ∷ xs) zero (suc p) x apart = refl
+set_other (a ∷ xs) (suc j) zero x apart = refl
+set_other (a ∷ xs) (suc j) (suc p) x apart = set_other xs j p x (λ e. apart (ap suc e))
+
+pub push_cases : {X : Type 0} (xs : List X) (p : ℕ) (x y : X) → slice_get (xs ++ x ∷ []) p ≡ Some y → ((p ≡ length xs) × (y ≡ x)) ⊎ (slice_get xs p ≡ Some y)
+push_cases [] zero x y h = inl (refl, cc)
+push_cases [] (suc p) x y h = absurd (cc)
+push_cases (a ∷ xs) zero x y h = inr h
+push_cases (a ∷ xs) (suc p) x y h =
+    elim (push_cases xs p x y h) [ inl e ↦ inl (ap suc e.0, e.1) | inr e ↦ inr e ]
+
+-- the first element of a list goes over to the end of another, as `f` of it
+pub first_moved : {X Y : Type 0} (f : X → Y) (xs rest : List X) (x : X) (done all : List Y) (y : Y) → 0 < length xs → x ≡ get_or xs 0 x → rest ≡ remove xs 0 → y ≡ f x → done ++ map f xs ≡ all → (done ++ y ∷ []) ++ map f rest ≡ all
+first_moved f [] rest x done all y some is left from whole = absurd (omega arith)
+first_moved f (z ∷ xs) rest x done all y some is left from whole =
+    append_assoc done (y ∷ []) (map f rest) ∙ ap (λ t. done ++ t) (λ i. (from ∙ ap f is) i ∷ map f (left i)) ∙ whole
+
+pub rest_all : {X : Type 0} (P : X → Type 0) (xs rest : List X) → rest ≡ remove xs 0 → All P xs → All P rest
+rest_all {X} P [] rest left holds = λ k d within. absurd (omega (arith, ap length left))
+rest_all {X} P (z ∷ xs) rest left holds = λ k d within.
+    let Q : List X → Type 0 = λ t. k < length t → P (get_or t k d) in
+    subst Q (sym left) (λ w. holds (suc k) d (omega arith)) within
+
+pub first_holds : {X : Type 0} (P : X → Type 0) (xs : List X) (x : X) → 0 < length xs → x ≡ get_or xs 0 x → All P xs → P x
+first_holds P xs x some is holds = subst P (sym is) (holds 0 x some)

@@ -1,0 +1,15 @@
+-- Which number a lock has.
+use Rattle.std.specs.Prelude.{ℕ}
+use Rattle.nmvs_desk.specs.declared.ledgers.EntryLedger.{Ghosts}
+use Rattle.nmvs_desk.specs.declared.lock.Lock.{Lock}
+use Rattle.nmvs_desk.specs.declared.lock.Lock.TheVariants.{Zero, One, Two, Three, Four, Five, Six, Seven}
+
+abbrev pub number_of : {B S : Type 0} {g : Ghosts S} → Lock B S g → ℕ
+number_of (Zero l) = 0
+number_of (One l) = 1
+number_of (Two l) = 2
+number_of (Three l) = 3
+number_of (Four l) = 4
+number_of (Five l) = 5
+number_of (Six l) = 6
+number_of (Seven l) = 7

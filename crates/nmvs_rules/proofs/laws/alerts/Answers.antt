@@ -1,5 +1,0 @@
-use Rattle.nmvs_rules.proofs.AlertLemmas.{alerts-numbered}
-use Rattle.nmvs_rules.proofs.laws.alerts.Goals as goal
-
-pub returns : goal.returns
-returns c = alerts-numbered

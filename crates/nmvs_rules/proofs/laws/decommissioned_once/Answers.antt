@@ -1,5 +1,0 @@
-use Rattle.nmvs_rules.proofs.CourseLemmas.{reverted-between}
-use Rattle.nmvs_rules.proofs.laws.decommissioned_once.Goals as goal
-
-pub returns : goal.returns
-returns c = reverted-between

@@ -1,5 +1,0 @@
-use Rattle.nmvs_rules.proofs.CodeLemmas.{reply-code}
-use Rattle.nmvs_rules.proofs.laws.locality.Goals as goal
-
-pub returns : goal.returns
-returns c = reply-code

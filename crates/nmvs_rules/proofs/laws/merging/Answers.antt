@@ -1,5 +1,0 @@
-use Rattle.nmvs_rules.proofs.MergeLemmas.{IsLawful-merged}
-use Rattle.nmvs_rules.proofs.laws.merging.Goals as goal
-
-pub returns : goal.returns
-returns c = IsLawful-merged

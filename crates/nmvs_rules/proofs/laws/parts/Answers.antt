@@ -1,5 +1,0 @@
-use Rattle.nmvs_rules.proofs.MergeLemmas.{IsLawful-kept}
-use Rattle.nmvs_rules.proofs.laws.parts.Goals as goal
-
-pub returns : goal.returns
-returns c = IsLawful-kept

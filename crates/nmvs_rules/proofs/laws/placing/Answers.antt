@@ -1,5 +1,0 @@
-use Rattle.nmvs_rules.proofs.MergeLemmas.{IsLawful-placed}
-use Rattle.nmvs_rules.proofs.laws.placing.Goals as goal
-
-pub returns : goal.returns
-returns c = IsLawful-placed

@@ -1,5 +1,0 @@
-use Rattle.nmvs_rules.proofs.RecallLemmas.{recall-binds}
-use Rattle.nmvs_rules.proofs.laws.recall_binds.Goals as goal
-
-pub returns : goal.returns
-returns c = recall-binds

@@ -1,5 +1,0 @@
-use Rattle.nmvs_rules.proofs.CourseLemmas.{supplied-once}
-use Rattle.nmvs_rules.proofs.laws.supplied_once.Goals as goal
-
-pub returns : goal.returns
-returns c = supplied-once

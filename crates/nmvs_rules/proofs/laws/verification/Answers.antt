@@ -1,5 +1,0 @@
-use Rattle.nmvs_rules.proofs.VerificationLemmas.{verification-exact}
-use Rattle.nmvs_rules.proofs.laws.verification.Goals as goal
-
-pub returns : goal.returns
-returns c = verification-exact

@@ -1,0 +1,88 @@
+//! Laws on what is answered.
+ghost use Rattle.std.specs.Prelude.{◌≡◌, ◌≢◌, ◌↔◌, ◌+◌, ℕ, Bool, true, IsTrue, IsFalse, List, find, Some, pos, int_lt};
+ghost use Rattle.std.specs.List.{list_any, range_with_len};
+ghost use Rattle.nmvs_identifier.specs.Batch.{Batch};
+ghost use Rattle.nmvs_identifier.specs.Expiry.{Expiry, expiry_day};
+ghost use Rattle.nmvs_identifier.specs.Moment.{day_of};
+ghost use Rattle.nmvs_identifier.specs.ProductCode.{ProductCode};
+ghost use Rattle.nmvs_identifier.specs.declared.pack.Pack.{Pack};
+ghost use Rattle.nmvs_rules.specs.declared.cause.Cause.{Cause};
+ghost use Rattle.nmvs_rules.specs.declared.cause.Cause.TheVariants as cause;
+ghost use Rattle.nmvs_rules.specs.declared.entry.Entry.{Entry};
+ghost use Rattle.nmvs_rules.specs.declared.question.Question.TheVariants.{Upload, Verify, Decommission, Revert, Theft};
+ghost use Rattle.nmvs_rules.specs.declared.reason.Reason.{Reason};
+ghost use Rattle.nmvs_rules.specs.declared.reply.Reply.TheVariants as reply;
+ghost use Rattle.nmvs_rules.specs.Questions.{Put, may_ask};
+ghost use Rattle.nmvs_rules.specs.Trail.{alerts_of};
+ghost use Rattle.nmvs_rules.specs.Rules.{reply_of, IsLawful};
+ghost use Rattle.nmvs_rules.specs.Operations.{uploads, uploads_code, binds, last_operation, alarm, alert_number};
+ghost use Rattle.nmvs_rules.specs.Laws.{IsUploadedWith, IsUnlocked, IsGenuine, IsHeldBy, IsRevertible, AsksAuthenticity, AsksLock, alert_numbers};
+
+/// A verification is answered Authentic exactly where the role may verify and the pack was uploaded with the batch and expiry of
+/// the answer, was last uploaded or reverted, and its batch was neither recalled nor withdrawn (Articles 11 and 40). On every
+/// trail.
+pub fn verification()
+    ensures { (t : List Entry) (q : Put) (p : Pack) (b : Batch) (x : Expiry) (expired : Bool) →
+        q.question ≡ Verify p →
+        (reply_of t q ≡ reply.Authentic b x expired) ↔
+        (IsTrue (may_ask q.actor.role q.question) × IsGenuine t p b x
+        × (expired ≡ int_lt (expiry_day x.bytes) (pos (day_of q.moment)))) }
+{}
+
+/// A decommissioning is accepted exactly where the role may ask it and a verification would be answered Authentic (Articles 22
+/// and 25). On every trail.
+pub fn decommissioning()
+    ensures { (t : List Entry) (q : Put) (p : Pack) (w : Reason) → q.question ≡ Decommission p w →
+        (reply_of t q ≡ reply.Decommissioned) ↔
+        (IsTrue (may_ask q.actor.role q.question) × ((b : Batch) × (x : Expiry) × IsGenuine t p b x)) }
+{}
+
+/// A reversion is accepted exactly where the role may revert and all that Article 13(1) asks for is met. On every trail.
+pub fn reversion()
+    ensures { (t : List Entry) (q : Put) (p : Pack) → q.question ≡ Revert p →
+        (reply_of t q ≡ reply.Reverted) ↔
+        (IsTrue (may_ask q.actor.role q.question) × IsRevertible t p q) }
+{}
+
+/// A verification or decommissioning by one who may ask it is answered with the next alert on the product code wherever it is not
+/// answered Authentic or Decommissioned (Article 36). On every trail. The alert tells that the pack is unknown, or how its batch
+/// was first locked, or else what was last done to it; and it is flagged as a potential falsification as that asks for.
+pub fn alerting()
+    ensures verification { (t : List Entry) (q : Put) (p : Pack) →
+        q.question ≡ Verify p → IsTrue (may_ask q.actor.role q.question) →
+        ((b : Batch) (x : Expiry) (expired : Bool) → reply_of t q ≢ reply.Authentic b x expired) →
+        alert_number (reply_of t q) ≡ Some (alerts_of t p.code + 1) }
+    ensures decommissioning { (t : List Entry) (q : Put) (p : Pack) (w : Reason) →
+        q.question ≡ Decommission p w → IsTrue (may_ask q.actor.role q.question) →
+        reply_of t q ≢ reply.Decommissioned →
+        alert_number (reply_of t q) ≡ Some (alerts_of t p.code + 1) }
+    ensures unknown { (t : List Entry) (q : Put) (p : Pack) →
+        AsksAuthenticity p q.question → IsTrue (may_ask q.actor.role q.question) → IsFalse (list_any (uploads p) t) →
+        reply_of t q ≡ reply.Alert cause.Unknown true (alerts_of t p.code + 1) }
+    ensures locked { (t : List Entry) (q : Put) (p : Pack) (b : Batch) (x : Expiry) (lock : Entry) (tells : Cause × Bool) →
+        AsksAuthenticity p q.question → IsTrue (may_ask q.actor.role q.question) → IsUploadedWith t p b x →
+        find (binds p.code b) t ≡ Some lock → alarm lock.question ≡ Some tells →
+        reply_of t q ≡ reply.Alert tells.0 tells.1 (alerts_of t p.code + 1) }
+    ensures own { (t : List Entry) (q : Put) (p : Pack) (b : Batch) (x : Expiry) (last : Entry) (tells : Cause × Bool) →
+        AsksAuthenticity p q.question → IsTrue (may_ask q.actor.role q.question) → IsUploadedWith t p b x →
+        IsUnlocked t p.code b → last_operation t p ≡ Some last → alarm last.question ≡ Some tells →
+        reply_of t q ≡ reply.Alert tells.0 tells.1 (alerts_of t p.code + 1) }
+{}
+
+/// In a lawful trail the alerts on a product code have the numbers 1, 2, 3 and so on, in order (after Article 36).
+pub fn alerts()
+    ensures { (t : List Entry) (c : ProductCode) → IsLawful t →
+        alert_numbers t c ≡ range_with_len 1 (alerts_of t c) }
+{}
+
+/// Once a product code was uploaded, an upload, a recall, a withdrawal or a theft report of it is accepted from the authorisation
+/// that uploaded it first alone, its holder (Article 40; who the holder is, is own). On every trail.
+pub fn holders()
+    ensures uploads { (t : List Entry) (q : Put) (p : Pack) (b : Batch) (x : Expiry) →
+        q.question ≡ Upload p b x → IsTrue (list_any (uploads_code p.code) t) →
+        reply_of t q ≡ reply.Uploaded → IsHeldBy t p.code q.actor.authorisation }
+    ensures locks { (t : List Entry) (q : Put) (c : ProductCode) (b : Batch) (active : ℕ) →
+        AsksLock c b q.question → reply_of t q ≡ reply.LockedNow active → IsHeldBy t c q.actor.authorisation }
+    ensures thefts { (t : List Entry) (q : Put) (p : Pack) →
+        q.question ≡ Theft p → reply_of t q ≡ reply.MarkedStolen → IsHeldBy t p.code q.actor.authorisation }
+{}

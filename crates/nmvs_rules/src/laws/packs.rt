@@ -1,0 +1,59 @@
+//! Laws on what becomes of a pack.
+ghost use Rattle.std.specs.Prelude.{◌≡◌, IsTrue, IsFalse, List, [], ◌∷◌, ◌++◌, length, Some, None, is_some, IsSomeAnd, count_by, if◌then◌else◌};
+ghost use Rattle.std.specs.List.{list_any};
+ghost use Rattle.nmvs_identifier.specs.Batch.{Batch};
+ghost use Rattle.nmvs_identifier.specs.Expiry.{Expiry};
+ghost use Rattle.nmvs_identifier.specs.declared.pack.Pack.{Pack};
+ghost use Rattle.nmvs_rules.specs.declared.entry.Entry.{Entry};
+ghost use Rattle.nmvs_rules.specs.declared.facts.Known.{Known};
+ghost use Rattle.nmvs_rules.specs.Trail.{known};
+ghost use Rattle.nmvs_rules.specs.Rules.{IsLawful};
+ghost use Rattle.nmvs_rules.specs.Operations.{uploads, decommissions, supplies, reverts, confirms, binds, operates};
+ghost use Rattle.nmvs_rules.specs.Laws.{IsUploadedWith, IsMovedOn, IsBorn};
+
+/// In a lawful trail a pack has one accepted upload where it is known, and none where it is not (Articles 4 and 11). So the
+/// counts of a batch are numbers of packs.
+pub fn one_birth()
+    ensures { (t : List Entry) (p : Pack) → IsLawful t →
+        count_by (uploads p) t ≡ (if is_some (known t p) then 1 else 0) }
+{}
+
+/// An entry that is no operation on a pack leaves what is known of it, and an unknown pack becomes known by its upload alone:
+/// on every trail. In a lawful trail an operation on a known pack moves it on: to the own status that the operation leaves, which
+/// may follow the one before, with the mark of the entry (Articles 12, 13, 22, 25, 33 and 40).
+pub fn course()
+    ensures kept { (t : List Entry) (e : Entry) (p : Pack) → IsFalse (operates p e) →
+        known (t ++ e ∷ []) p ≡ known t p }
+    ensures unknown { (t : List Entry) (e : Entry) (p : Pack) → known t p ≡ None → IsFalse (uploads p e) →
+        known (t ++ e ∷ []) p ≡ None }
+    ensures born { (t : List Entry) (e : Entry) (p : Pack) → known t p ≡ None → IsTrue (uploads p e) →
+        IsSomeAnd (known (t ++ e ∷ []) p) (IsBorn (length t) e) }
+    ensures moved { (before after : List Entry) (e : Entry) (p : Pack) (k : Known) →
+        IsLawful (before ++ e ∷ after) → known before p ≡ Some k → IsTrue (operates p e) →
+        IsSomeAnd (known (before ++ e ∷ []) p) (IsMovedOn k (length before) e) }
+{}
+
+/// Between two decommissionings of a pack in a lawful trail stands a reversion (Articles 12 and 13).
+pub fn decommissioned_once()
+    ensures { (before between after : List Entry) (first second : Entry) (p : Pack) →
+        IsLawful (before ++ first ∷ between ++ second ∷ after) →
+        IsTrue (decommissions p first) → IsTrue (decommissions p second) →
+        IsTrue (list_any (reverts p) between) }
+{}
+
+/// No pack is supplied twice: after its supply to the public in a lawful trail it is never decommissioned, never reverted and
+/// never answered Authentic (Articles 11, 13 and 25).
+pub fn supplied_once()
+    ensures { (before between after : List Entry) (supply later : Entry) (p : Pack) →
+        IsLawful (before ++ supply ∷ between ++ later ∷ after) → IsTrue (supplies p supply) →
+        IsFalse (decommissions p later) × IsFalse (reverts p later) × IsFalse (confirms p later) }
+{}
+
+/// A recall or withdrawal binds for ever: after it in a lawful trail no pack of its batch, uploaded before it or later, is
+/// decommissioned, reverted or answered Authentic (Articles 13 and 40).
+pub fn recall_binds()
+    ensures { (before between after : List Entry) (recall later : Entry) (p : Pack) (b : Batch) (x : Expiry) →
+        IsLawful (before ++ recall ∷ between ++ later ∷ after) → IsTrue (binds p.code b recall) →
+        IsUploadedWith (before ++ recall ∷ between ++ later ∷ after) p b x →
+        IsFalse (decommissions p later) × IsFalse (reverts p later) × IsFalse (confirms p later) }
+{}

@@ -1,0 +1,29 @@
+//! Laws on trails, their parts and how they are put together.
+ghost use Rattle.std.specs.Prelude.{◌≡◌, ℕ, Bool, List};
+ghost use Rattle.nmvs_rules.specs.declared.entry.Entry.{Entry};
+ghost use Rattle.nmvs_rules.specs.Questions.{Put, code_of};
+ghost use Rattle.nmvs_rules.specs.Rules.{reply_of, IsLawful};
+ghost use Rattle.nmvs_rules.specs.Laws.{part_of, kept, placed_at, IsMerging, IsApart};
+
+/// The reply to a question rests on the entries with its product code alone. On every trail.
+pub fn locality()
+    ensures { (t : List Entry) (q : Put) →
+        reply_of (part_of t (code_of q.question)) q ≡ reply_of t q }
+{}
+
+/// A trail that is a merging of lawful trails is lawful, where no product code stands in two of them.
+pub fn merging()
+    ensures { (trails : ℕ → List Entry) (t : List Entry) → IsMerging trails t → IsApart trails →
+        ((i : ℕ) → IsLawful (trails i)) → IsLawful t }
+{}
+
+/// A trail is lawful where each part of it is, however the product codes were placed in the parts.
+pub fn placing()
+    ensures { (place : List ℕ → ℕ) (t : List Entry) →
+        ((i : ℕ) → IsLawful (placed_at place i t)) → IsLawful t }
+{}
+
+/// A part of a lawful trail is lawful, where each product code is kept or dropped whole.
+pub fn parts()
+    ensures { (keep : List ℕ → Bool) (t : List Entry) → IsLawful t → IsLawful (kept keep t) }
+{}
