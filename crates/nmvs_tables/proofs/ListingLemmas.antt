@@ -16,7 +16,8 @@ use Rattle.nmvs_tables.specs.declared.batches.BatchKey.{BatchKey}
 use Rattle.nmvs_tables.specs.declared.listing.BatchPlace.{BatchPlace}
 use Rattle.nmvs_tables.specs.Batches.{same_batch, batch_born, batches_of, with_batch}
 use Rattle.nmvs_tables.specs.Listing.{of_code, code_batches, same_place, listed_in}
-use Rattle.nmvs_tables.proofs.BoolLemmas.{not-so, or-true}
+use Rattle.std.proofs.Math.Bool.{or-true}
+use Rattle.nmvs_tables.proofs.BoolLemmas.{not-so}
 
 -- the batches of a product code with one more
 of_code-push : (c : ProductCode) (bs : List BatchKey) (b : BatchKey) → of_code c (bs ++ b ∷ []) ≡ of_code c bs ++ cond (same_text c b.code) (b.batch ∷ []) []
