@@ -10,7 +10,7 @@ pub record Text : Type 0 where
 abbrev pub same_text : Text → Text → Bool
 same_text s t = bytes_eq s.bytes t.bytes
 
--- so many of the cells are a text of at most cap bytes, with zeros behind it, and its length fits a byte
+-- so many of the cells are a text of at most cap bytes, with zeros after it, and its length fits a byte
 pub record IsShortText (cap len : ℕ) (cells : List ℕ) : Type 0 where
   pub small : cap < 256
   pub fits : len ≤ cap

@@ -18,8 +18,8 @@ pub enum Set82Fault {
     Character,
 }
 
-/// Reads 1 to 20 characters of set 82. A text is refused by the first fault that holds: no byte at all, more than 20 bytes, a
-/// character outside of set 82.
+/// Reads 1 to 20 characters of set 82. A text is refused by the first fault that holds: no byte at all, more than 20
+/// bytes, a character outside of set 82.
 pub(crate) fn read_set_82(text: &str) -> Result<ShortText<20>, Set82Fault>
     ensures accepts { IsOk result ↔ IsTrue (is_set_82_text text.now) }
     ensures kept { IfOk result (λ short. short.bytes ≡ text.now) }

@@ -12,7 +12,7 @@ use std::hash::{Hash, Hasher};
 use std::marker::Model;
 use std::{fmt, str};
 
-/// A text of at most `CAP` bytes, which lie in the value itself, with zeros behind them.
+/// A text of at most `CAP` bytes, which lie in the value itself, with zeros after them.
 ///
 /// Its length takes one byte and not a word, so that an entry of a trail and the record of a pack stay small.
 #[derive(Clone, Copy)]
@@ -78,7 +78,7 @@ impl<const CAP: usize> PartialEq for ShortText<CAP> {
     ghost laws = { on_per (λ s. s.bytes) (partial_equiv_from_equiv nat_list_eq_equiv) };
 
     fn eq(&self, other: &Self) -> bool {
-        // All cells, since zeros lie behind both texts: a fixed number is compared faster.
+        // All cells, since zeros follow both texts: a fixed number is compared faster.
         self.len == other.len && self.cells == other.cells
     }
 }

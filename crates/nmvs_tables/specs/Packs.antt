@@ -13,8 +13,8 @@ use Rattle.nmvs_tables.specs.declared.packs.PackRow.{PackRow}
 abbrev pub pack_record : List Entry → Pack → Option PackRecord
 pack_record t p = if about_of t p == 0 then None else Some (record { about = about_of t p; known = known t p })
 
--- how many entries the trail has up to the last one about the pack, that one counted: all but the run of other entries at the
--- end, and 0 where none is about it (own)
+-- how many entries the trail has up to the last one about the pack, that one counted: all but the run of other entries
+-- at the end, and 0 where none is about it (own)
 abbrev pub last_of : List Entry → Pack → ℕ
 last_of t p = length t - suffix_len (λ e. not (is_about p e)) t
 

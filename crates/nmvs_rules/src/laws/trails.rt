@@ -6,8 +6,8 @@ ghost use Rattle.nmvs_rules.specs.Questions.{Put, code_of};
 ghost use Rattle.nmvs_rules.specs.Rules.{reply_of, put_of, answered, IsLawful};
 ghost use Rattle.nmvs_rules.specs.Laws.{part_of, kept, placed_at, IsMerging, IsApart};
 
-/// An entry keeps the question as it was put, with its moment, its user and in what capacity the user asked, and the reply
-/// (Article 35).
+/// An entry keeps the question as it was put, with its moment, its user and in what capacity the user asked, and the
+/// reply (Article 35).
 pub fn recording()
     ensures { (q : Put) (r : Reply) → (put_of (answered q r) ≡ q) × ((answered q r).reply ≡ r) }
 {}
