@@ -144,3 +144,9 @@ fn an_interrupted_call_is_not_tried_again(rt: HostRuntime) {
     assert_eq!(rt; sink.flush(), Err(Failed));
     assert_eq!(rt; flushes.get(), 1);
 }
+
+#[test]
+fn a_failure_has_its_text(rt: HostRuntime) {
+    let shown = format!(in rt.alloc(); "{Failed}");
+    assert!(rt; shown.is_ok_and(|text| text.as_str() == "a device failed"));
+}
