@@ -16,8 +16,8 @@ use Rattle.nmvs_desk.specs.declared.faults.AskFault.TheVariants as fault
 use Rattle.nmvs_desk.specs.declared.receipt.Receipt.{Receipt}
 use Rattle.nmvs_desk.specs.Placing.{IsPlaced}
 
--- on this trail of the receipt's shard the receipt's entry is the next one: the trail is lawful, has the product codes of
--- that shard and so many entries, and the reply is that of the rules
+-- on this trail of the receipt's shard the receipt's entry is the next one: the trail is lawful, has the product codes
+-- of that shard and so many entries, and the reply is that of the rules
 pub record IsNext (count : ℕ) (r : Receipt) (trail : List Entry) : Type 0 where
   pub lawful : IsLawful trail
   pub placed : IsPlaced count r.shard trail
@@ -38,8 +38,8 @@ abbrev pub IsAudited : ℕ → Pack → Receipt → List Entry → Type 0
 IsAudited count p r entries =
     (trail : List Entry) × IsNext count r trail × (entries ≡ shown r.entry.reply (filter (is_about p) trail))
 
--- by the answer of the directory a question by this user was not put; or it is for want of memory, and the directory knows
--- the user
+-- by the answer of the directory a question by this user was not put; or it is for want of memory, and the directory
+-- knows the user
 abbrev pub TurnedAway : List Change → List Change → Name → AskFault → Type 0
 TurnedAway before after user fault.Nobody = Reads before after user look.Nobody
 TurnedAway before after user fault.Suspended = Reads before after user look.Suspended

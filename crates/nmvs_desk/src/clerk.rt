@@ -20,8 +20,8 @@ use std::sync::ledger::Share;
 
 /// One who asks a repository, by a window on the directory, and keeps a receipt for each answer.
 ///
-/// Contracts see what its window saw or was told, and its receipts, oldest first. Its share of the clerks' ledger is the
-/// number of its receipts.
+/// Contracts see what its window saw or was told, and its receipts, oldest first. Its share of the clerks' ledger is
+/// the number of its receipts.
 #[derive(Drop)]
 pub struct Clerk<'a, B: Allocator, J: Naming, C: ReceiptLedger> {
     window: Window<J, &'a B>,
@@ -94,8 +94,8 @@ impl<'a, B: Allocator, J: Naming, C: ReceiptLedger> Clerk<'a, B, J, C> {
         }
     }
 
-    /// Puts a question: looks the user up, holds the shard of the question's product code for one step of the rules, and keeps
-    /// the receipt. It waits for the shard.
+    /// Puts a question: looks the user up, holds the shard of the question's product code for one step of the rules,
+    /// and keeps the receipt. It waits for the shard.
     ///
     /// Condition: the clerk is one that `open` gave with this repository, which the names of their ledgers say.
     pub fn ask<S: EntryLedger, G: Gate, R: Wait>(
@@ -130,8 +130,8 @@ impl<'a, B: Allocator, J: Naming, C: ReceiptLedger> Clerk<'a, B, J, C> {
         Ok(answer?)
     }
 
-    /// Puts the audit of a pack, as `ask`, and shows the entries about the pack that stood before it, oldest first; none, where
-    /// the audit was refused (Article 35). It waits for the shard.
+    /// Puts the audit of a pack, as `ask`, and shows the entries about the pack that stood before it, oldest first;
+    /// none, where the audit was refused (Article 35). It waits for the shard.
     pub fn audit<S: EntryLedger, G: Gate, R: Wait>(
         &mut self,
         rt: &R,

@@ -2,8 +2,8 @@
 use std::marker::Brand;
 use std::sync::ledger::Ledger;
 
-/// The ledger of the shards. A shard's share of it is the length of its trail. The caller of `Repository::open` picks it
-/// with `Brand`.
+/// The ledger of the shards. A shard's share of it is the length of its trail. The caller of `Repository::open` picks
+/// it with `Brand`.
 pub trait EntryLedger: Ledger {
     ghost use Rattle.std.specs.Prelude.{ℕ};
 
@@ -15,8 +15,8 @@ impl EntryLedger for Brand {
     ghost shards = { 0 };
 }
 
-/// The ledger of the clerks. A clerk's share of it is the number of its receipts. The caller of `Repository::open` picks it
-/// with `Brand`.
+/// The ledger of the clerks. A clerk's share of it is the number of its receipts. The caller of `Repository::open`
+/// picks it with `Brand`.
 pub trait ReceiptLedger: Ledger {
     ghost use Rattle.std.specs.Prelude.{ℕ};
 

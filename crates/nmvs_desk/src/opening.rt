@@ -99,11 +99,12 @@ fn clerks_over<'a, B: Allocator, J: Naming, C: ReceiptLedger>(
 }
 
 impl<'a, B: Allocator, S: EntryLedger, C: ReceiptLedger> Repository<'a, B, S, C> {
-    /// Opens a repository of so many shards, with a clerk for each window, numbered from 1 in the windows' order. The opening's
-    /// entries are dealt to the shards in order; they are the receipts of clerk 0, which the repository keeps.
+    /// Opens a repository of so many shards, with a clerk for each window, numbered from 1 in the windows' order. The
+    /// opening's entries are dealt to the shards in order; they are the receipts of clerk 0, which the repository
+    /// keeps.
     ///
-    /// It answers `Count` exactly where the shards are not 1 to 8, else `Memory` where a growth was refused; then the windows
-    /// stay in their list. The blanks, of 9 parts, name the two ledgers; a refusal spends them.
+    /// It answers `Count` exactly where the shards are not 1 to 8, else `Memory` where a growth was refused; then the
+    /// windows stay in their list. The blanks, of 9 parts, name the two ledgers; a refusal spends them.
     pub fn open<J: Naming>(
         alloc: &'a B,
         entries: Blank,

@@ -4,8 +4,8 @@ ghost use Rattle.std.specs.Prelude.{◌≡◌, ◌+◌, ◌<◌};
 use crate::{EntryLedger, ReceiptLedger};
 use std::sync::ledger::{Book, Share};
 
-/// The books of both ledgers. An entry is counted together with the receipt for it, so their totals are equal. Books and
-/// shares are there for the proofs: they have no bytes, and to count does nothing at run time.
+/// The books of both ledgers. An entry is counted together with the receipt for it, so their totals are equal. Books
+/// and shares are there for the proofs: they have no bytes, and to count does nothing at run time.
 #[derive(Drop)]
 pub(crate) struct Books<S: EntryLedger, C: ReceiptLedger> {
     pub(crate) entries: Book<S>,
@@ -28,8 +28,8 @@ impl<S: EntryLedger, C: ReceiptLedger> Books<S, C> {
     }
 }
 
-/// What stands under the lock that all shards have in common: the books, the parts of the shards' ledger that no shard has,
-/// and the share of clerk 0.
+/// What stands under the lock that all shards have in common: the books, the parts of the shards' ledger that no shard
+/// has, and the share of clerk 0.
 #[derive(Drop)]
 pub(crate) struct Tally<S: EntryLedger, C: ReceiptLedger> {
     pub(crate) books: Books<S, C>,

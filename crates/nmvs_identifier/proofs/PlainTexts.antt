@@ -1,5 +1,5 @@
 -- Texts that the grammars accept are plain.
-use Rattle.std.proofs.Common.{◌≡◌, ◌≤◌, ◌&&◌, ◌||◌, ◌==◌, not, ℕ, Bool, true, false, nat_eq, nat_le, List, [], ◌∷◌, length, refl, ap, ◌∙◌, inl, inr, codes, arith}
+use Rattle.std.proofs.Common.{◌≡◌, ◌≤◌, ◌&&◌, ◌==◌, not, ℕ, Bool, true, nat_eq, nat_le, List, [], ◌∷◌, length, refl, ap, ◌∙◌, inl, inr, codes, arith}
 use Rattle.std.specs.List.{list_all, list_any}
 use Rattle.std.specs.Char.{is_ascii_graphic, is_ascii_digit, is_ascii_alphanumeric}
 use Rattle.std.proofs.lemmas.Bool.{and_parts, or_cases, eqb-true}

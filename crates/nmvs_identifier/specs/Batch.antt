@@ -1,7 +1,6 @@
 -- A batch or lot number, application identifier 10: 1 to 20 characters of set 82.
-use Rattle.std.specs.Prelude.{ℕ, Bool, List, length, nat_le, ◌&&◌}
-use Rattle.std.specs.List.{list_all}
-use Rattle.nmvs_identifier.specs.Characters.{is_in_set_82}
+use Rattle.std.specs.Prelude.{ℕ, Bool, List}
+use Rattle.nmvs_identifier.specs.Characters.{is_set_82_text}
 use Rattle.nmvs_identifier.specs.Texts.{Text}
 
 -- what a clause sees of one
@@ -10,4 +9,4 @@ Batch = Text
 
 -- whether a text is a batch number
 abbrev pub is_batch : List ℕ → Bool
-is_batch t = nat_le 1 (length t) && nat_le (length t) 20 && list_all is_in_set_82 t
+is_batch t = is_set_82_text t

@@ -1,5 +1,5 @@
 -- Texts.
-use Rattle.std.specs.Prelude.{Bool, ℕ, List}
+use Rattle.std.specs.Prelude.{Bool, ℕ, List, ◌≡◌, ◌-◌, ◌≤◌, ◌<◌, length, take, drop, replicate, IsUtf8}
 use Rattle.std.specs.Str.{bytes_eq}
 
 -- what a clause sees of a text
@@ -9,3 +9,11 @@ pub record Text : Type 0 where
 -- whether two texts are the same
 abbrev pub same_text : Text → Text → Bool
 same_text s t = bytes_eq s.bytes t.bytes
+
+-- so many of the cells are a text of at most cap bytes, with zeros after it, and its length fits a byte
+pub record IsShortText (cap len : ℕ) (cells : List ℕ) : Type 0 where
+  pub small : cap < 256
+  pub fits : len ≤ cap
+  pub whole : length cells ≡ cap
+  pub zeros : drop len cells ≡ replicate (cap - len) 0
+  pub text : ∥ IsUtf8 (take len cells) ∥₁

@@ -4,21 +4,9 @@ ghost use Rattle.std.specs.List.{list_all};
 ghost use Rattle.nmvs_identifier.specs.Characters.{is_in_set_82};
 ghost use Rattle.nmvs_identifier.specs.Batch.{is_batch};
 
-use crate::characters::are_in_set_82;
+use crate::set_82::{Set82Fault, read_set_82};
 use crate::short_text::ShortText;
 use std::marker::Model;
-use thiserror::Error;
-
-/// Why a text is no batch number: the first of these that holds.
-#[derive(Clone, Copy, Debug, PartialEq, Eq, Error)]
-pub enum BatchFault {
-    #[error("the batch number is empty")]
-    Empty,
-    #[error("the batch number has more than 20 characters")]
-    Long,
-    #[error("the batch number has a character outside of set 82")]
-    Character,
-}
 
 /// The number of a batch: 1 to 20 characters of the GS1 character set 82 (section 7.11; Article 4 of the Regulation).
 ///
@@ -43,28 +31,18 @@ impl Model for Batch {
 }
 
 impl Batch {
-    /// Reads a batch number. It is refused by the first fault that holds: no byte at all, more than 20 bytes, a character outside of
-    /// set 82.
-    pub fn read(text: &str) -> Result<Batch, BatchFault>
+    /// Reads a batch number. It is refused by the first fault that holds: no byte at all, more than 20 bytes, a
+    /// character outside of set 82.
+    pub fn read(text: &str) -> Result<Batch, Set82Fault>
         ensures accepts { IsOk result ↔ IsTrue (is_batch text.now) }
         ensures kept { IfOk result (λ batch. batch.bytes ≡ text.now) }
-        ensures empty { IsErrOf result BatchFault.Empty ↔ (length text.now ≡ 0) }
-        ensures long { IsErrOf result BatchFault.Long ↔ (20 < length text.now) }
-        ensures character { IsErrOf result BatchFault.Character
+        ensures empty { IsErrOf result Set82Fault.Empty ↔ (length text.now ≡ 0) }
+        ensures long { IsErrOf result Set82Fault.Long ↔ (20 < length text.now) }
+        ensures character { IsErrOf result Set82Fault.Character
             ↔ ((0 < length text.now) × (length text.now ≤ 20) × (list_all is_in_set_82 text.now ≡ false)) }
     {
-        if text.is_empty() {
-            return Err(BatchFault::Empty);
-        }
-        if text.len() > 20 {
-            return Err(BatchFault::Long);
-        }
-        if !are_in_set_82(text.as_bytes()) {
-            return Err(BatchFault::Character);
-        }
-        Ok(Batch {
-            text: ShortText::from(text),
-        })
+        let text = read_set_82(text)?;
+        Ok(Batch { text })
     }
 
     /// The characters as read.

@@ -12,7 +12,7 @@ use std::hash::{Hash, Hasher};
 use std::marker::Model;
 use std::{fmt, str};
 
-/// A text of at most `CAP` bytes, which lie in the value itself, with zeros behind them.
+/// A text of at most `CAP` bytes, which lie in the value itself, with zeros after them.
 ///
 /// Its length takes one byte and not a word, so that an entry of a trail and the record of a pack stay small.
 #[derive(Clone, Copy)]
@@ -22,24 +22,23 @@ pub(crate) struct ShortText<const CAP: usize> {
 }
 
 impl<const CAP: usize> Model for ShortText<CAP> {
-    ghost use Rattle.std.specs.Prelude.{◌≡◌, ◌-◌, ◌≤◌, ◌++◌, length, take, drop, replicate, IsUtf8};
-    ghost use Rattle.nmvs_identifier.specs.Texts.{Text};
+    ghost use Rattle.std.specs.Prelude.{◌-◌, ◌++◌, length, take, replicate};
+    ghost use Rattle.nmvs_identifier.specs.Texts.{Text, IsShortText};
     ghost use Rattle.std.proofs.Common.{arith, ap, sym, ◌∙◌, take-append-drop, length-take-le};
 
     ghost Value = { Text };
 
     ghost view = { λ s. record { bytes = take s.len s.cells } };
 
-    ghost invariant = { λ s. (s.len ≤ CAP) × (length s.cells ≡ CAP) × (drop s.len s.cells ≡ replicate (CAP - s.len) 0)
-        × ∥ IsUtf8 (take s.len s.cells) ∥₁ };
+    ghost invariant = { λ s. IsShortText CAP s.len s.cells };
 
     ghost inverse = { λ t. record { cells = t.bytes ++ replicate (CAP - length t.bytes) 0; len = length t.bytes } };
 
     ghost inverse_ok = { λ s h i. record {
-      cells = (ap (λ n. take s.len s.cells ++ replicate (CAP - n) 0) (length-take-le s.len s.cells (omega (arith, h.0, h.1)))
-          ∙ ap (λ zeros. take s.len s.cells ++ zeros) (sym h.2)
+      cells = (ap (λ n. take s.len s.cells ++ replicate (CAP - n) 0) (length-take-le s.len s.cells (omega (arith, h.fits, h.whole)))
+          ∙ ap (λ zeros. take s.len s.cells ++ zeros) (sym h.zeros)
           ∙ take-append-drop s.len s.cells) i;
-      len = length-take-le s.len s.cells (omega (arith, h.0, h.1)) i;
+      len = length-take-le s.len s.cells (omega (arith, h.fits, h.whole)) i;
     } };
 }
 
@@ -79,7 +78,7 @@ impl<const CAP: usize> PartialEq for ShortText<CAP> {
     ghost laws = { on_per (λ s. s.bytes) (partial_equiv_from_equiv nat_list_eq_equiv) };
 
     fn eq(&self, other: &Self) -> bool {
-        // All cells, since zeros lie behind both texts: a fixed number is compared faster.
+        // All cells, since zeros follow both texts: a fixed number is compared faster.
         self.len == other.len && self.cells == other.cells
     }
 }

@@ -1,6 +1,8 @@
 -- Lines of bytes that come in pieces.
-use Rattle.std.proofs.Common.{◌≡◌, ◌==◌, ℕ, true, false, List, [], ◌∷◌, ◌++◌, refl, sym, ap, ◌∙◌, cond, ◌<◌, ◌+◌, suc, length, take, drop, get_or, drop-cons}
-use Rattle.std.proofs.lemmas.List.{take_more, append-nil, take-append-drop}
+use Rattle.std.proofs.Common.{◌≡◌, ◌==◌, ℕ, true, false, List, [], ◌∷◌, ◌++◌, refl, sym, ap, ◌∙◌, cond, ◌<◌, zero, suc, length, take, drop, slice_index, add-one, arith}
+use Rattle.std.proofs.lemmas.List.{append-nil, append_assoc, drop-drop}
+use Rattle.std.proofs.lemmas.Bool.{false_from_ne_true}
+use Rattle.memchr.specs.Find.{Nowhere, NoneBefore, Passes, is_byte}
 use Rattle.nmvs_protocol.specs.InputLines.{lines_after, rest_after}
 
 pub lines_after-append : (cur xs ys : List ℕ) → lines_after cur (xs ++ ys) ≡ lines_after cur xs ++ lines_after (rest_after cur xs) ys
@@ -21,52 +23,40 @@ rest_after-append cur (b ∷ bs) ys =
       | false ↦ rest_after-append (cur ++ b ∷ []) bs ys
     ]
 
--- one byte more
-pub lines_after_lf : (cur : List ℕ) → lines_after cur (10 ∷ []) ≡ cur ∷ []
-unfolding lines_after
-lines_after_lf cur = refl
+-- the first LF of bytes ends the line that was begun
+pub first_line : (begun xs : List ℕ) (k : ℕ) → k < length xs → ((j : ℕ) → j < k → (slice_index xs j == 10) ≡ false) → (slice_index xs k == 10) ≡ true
+    → (lines_after begun xs ≡ (begun ++ take k xs) ∷ lines_after [] (drop (suc k) xs)) × (rest_after begun xs ≡ rest_after [] (drop (suc k) xs))
+unfolding lines_after rest_after
+first_line begun [] k within before here = absurd (omega arith)
+first_line begun (b ∷ bs) zero within before here =
+    (rw here (ap (λ (t : List ℕ). t ∷ lines_after [] bs) (sym (append-nil begun))), rw here refl)
+first_line begun (b ∷ bs) (suc k) within before here =
+    let no : (b == 10) ≡ false = before 0 (omega arith) in
+    let later = first_line (begun ++ b ∷ []) bs k (omega arith) (λ j lt. before (suc j) (omega arith)) here in
+    (rw no (later.0 ∙ ap (λ (t : List ℕ). t ∷ lines_after [] (drop (suc k) bs)) (append_assoc begun (b ∷ []) (take k bs))), rw no later.1)
 
-pub rest_after_lf : (cur : List ℕ) → rest_after cur (10 ∷ []) ≡ []
-unfolding rest_after
-rest_after_lf cur = refl
+-- bytes without LF end no line
+pub no_line : (begun xs : List ℕ) → ((j : ℕ) → j < length xs → (slice_index xs j == 10) ≡ false)
+    → (lines_after begun xs ≡ []) × (rest_after begun xs ≡ begun ++ xs)
+unfolding lines_after rest_after
+no_line begun [] none = (refl, sym (append-nil begun))
+no_line begun (b ∷ bs) none =
+    let no : (b == 10) ≡ false = none 0 (omega arith) in
+    let later = no_line (begun ++ b ∷ []) bs (λ j lt. none (suc j) (omega arith)) in
+    (rw no later.0, rw no (later.1 ∙ append_assoc begun (b ∷ []) bs))
 
-pub lines_after_other : (cur : List ℕ) (b : ℕ) → (b == 10) ≡ false → lines_after cur (b ∷ []) ≡ []
-unfolding lines_after
-lines_after_other cur b h = rw h refl
+-- the same of the place that a search for LF tells, with the bytes before it and those from it on
+pub found_line : (begun xs tail later : List ℕ) (k : ℕ) → tail ≡ take k xs → later ≡ drop k xs
+    → NoneBefore (Passes (is_byte 10) xs) 0 (length xs) k × Passes (is_byte 10) xs k
+    → (lines_after begun xs ≡ (begun ++ tail) ∷ lines_after [] (drop 1 later)) × (rest_after begun xs ≡ rest_after [] (drop 1 later))
+found_line begun xs tail later k front back h =
+    let line = first_line begun xs k h.0.high (λ j lt. false_from_ne_true (slice_index xs j == 10) (h.0.before j (omega arith) lt)) h.1 in
+    let rest : drop (suc k) xs ≡ drop 1 later = ap (λ (n : ℕ). drop n xs) (sym (add-one k)) ∙ sym (drop-drop 1 k xs) ∙ ap (drop 1) (sym back) in
+    let before : take k xs ≡ tail = sym front in (
+      line.0 ∙ (λ i. (begun ++ before i) ∷ lines_after [] (rest i)),
+      line.1 ∙ ap (rest_after []) rest,
+    )
 
-pub rest_after_other : (cur : List ℕ) (b : ℕ) → (b == 10) ≡ false → rest_after cur (b ∷ []) ≡ cur ++ b ∷ []
-unfolding rest_after
-rest_after_other cur b h = rw h refl
-
--- one byte more of a piece
-pub lines_step_lf : (cur xs : List ℕ) (i : ℕ) → i < length xs → get_or xs i 0 ≡ 10 → lines_after cur (take (i + 1) xs) ≡ lines_after cur (take i xs) ++ rest_after cur (take i xs) ∷ []
-lines_step_lf cur xs i h is =
-    ap (lines_after cur) (take_more xs i 0 h ∙ ap (λ (b : ℕ). take i xs ++ b ∷ []) is) ∙ lines_after-append cur (take i xs) (10 ∷ [])
-    ∙ ap (λ (t : List (List ℕ)). lines_after cur (take i xs) ++ t) (lines_after_lf (rest_after cur (take i xs)))
-
-pub rest_step_lf : (cur xs : List ℕ) (i : ℕ) → i < length xs → get_or xs i 0 ≡ 10 → rest_after cur (take (i + 1) xs) ≡ []
-rest_step_lf cur xs i h is =
-    ap (rest_after cur) (take_more xs i 0 h ∙ ap (λ (b : ℕ). take i xs ++ b ∷ []) is) ∙ rest_after-append cur (take i xs) (10 ∷ []) ∙ rest_after_lf (rest_after cur (take i xs))
-
-pub lines_step_other : (cur xs : List ℕ) (i : ℕ) → i < length xs → (get_or xs i 0 == 10) ≡ false → lines_after cur (take (i + 1) xs) ≡ lines_after cur (take i xs)
-lines_step_other cur xs i h is =
-    ap (lines_after cur) (take_more xs i 0 h) ∙ lines_after-append cur (take i xs) (get_or xs i 0 ∷ [])
-    ∙ ap (λ (t : List (List ℕ)). lines_after cur (take i xs) ++ t) (lines_after_other (rest_after cur (take i xs)) (get_or xs i 0) is) ∙ append-nil (lines_after cur (take i xs))
-
-pub rest_step_other : (cur xs : List ℕ) (i : ℕ) → i < length xs → (get_or xs i 0 == 10) ≡ false → rest_after cur (take (i + 1) xs) ≡ rest_after cur (take i xs) ++ get_or xs i 0 ∷ []
-rest_step_other cur xs i h is =
-    ap (rest_after cur) (take_more xs i 0 h) ∙ rest_after-append cur (take i xs) (get_or xs i 0 ∷ []) ∙ rest_after_other (rest_after cur (take i xs)) (get_or xs i 0) is
-
--- the lines of a piece, with more to come after the bytes so far
-pub lines_split : (cur xs : List ℕ) (i : ℕ) → lines_after cur xs ≡ lines_after cur (take i xs) ++ lines_after (rest_after cur (take i xs)) (drop i xs)
-lines_split cur xs i = ap (lines_after cur) (sym (take-append-drop i xs)) ∙ lines_after-append cur (take i xs) (drop i xs)
-
-lines_after_10 : (cur bs : List ℕ) → lines_after cur (10 ∷ bs) ≡ cur ∷ lines_after [] bs
-unfolding lines_after
-lines_after_10 cur bs = refl
-
-pub lines_at_lf : (cur xs : List ℕ) (i : ℕ) → i < length xs → get_or xs i 0 ≡ 10 → lines_after cur xs ≡ lines_after cur (take i xs) ++ rest_after cur (take i xs) ∷ lines_after [] (drop (suc i) xs)
-lines_at_lf cur xs i h is =
-    lines_split cur xs i
-    ∙ ap (λ (t : List ℕ). lines_after cur (take i xs) ++ lines_after (rest_after cur (take i xs)) t) (drop-cons xs i 0 h ∙ ap (λ (b : ℕ). b ∷ drop (suc i) xs) is)
-    ∙ ap (λ (t : List (List ℕ)). lines_after cur (take i xs) ++ t) (lines_after_10 (rest_after cur (take i xs)) (drop (suc i) xs))
+pub found_none : (begun xs : List ℕ) → Nowhere (Passes (is_byte 10) xs) 0 (length xs)
+    → (lines_after begun xs ≡ []) × (rest_after begun xs ≡ begun ++ xs)
+found_none begun xs h = no_line begun xs (λ j lt. false_from_ne_true (slice_index xs j == 10) (h j (omega arith) lt))

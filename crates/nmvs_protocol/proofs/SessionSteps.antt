@@ -13,7 +13,7 @@ use Rattle.nmvs_protocol.specs.declared.end.End.{End}
 use Rattle.nmvs_protocol.specs.declared.end.End.TheVariants as ends
 use Rattle.nmvs_protocol.specs.Lines.{line}
 use Rattle.nmvs_protocol.specs.Texts.{text}
-use Rattle.nmvs_protocol.specs.InputLines.{input_lines}
+use Rattle.nmvs_protocol.specs.InputLines.{input_lines, lines_after, rest_after}
 use Rattle.nmvs_stream.specs.Put.{Puts, PutsPart}
 use Rattle.nmvs_protocol.specs.Session.{Reads, Answers, AnswersLine, AnswersLines, NoQuit, Delivers, BreaksOff, Closes, Session, is_input_end, is_read_fault}
 use Rattle.nmvs_protocol.specs.Progress.{Stands, Answered, kept, has_write_fault}
@@ -152,3 +152,12 @@ module _ {D : Type 0} (takes : D → Ask → Answer → D → Type 0) where
         read_failed = sound ∙ sym marks.1;
         write_failed = so_far.write_failed;
       }
+
+  -- how far the bytes of one read are served: so many lines were, one is begun, and these bytes are left
+  pub record Ahead (limit : ℕ) (first : D) (start : Taken) (now : D) (sink : Taken) (count : ℕ) (begun rest : List ℕ) (lines : List (List ℕ)) (unfinished : List ℕ) : Type 0 where
+    pub served : List (List ℕ)
+    pub line : List ℕ
+    pub keeps : begun ≡ kept line
+    pub so_far : Answered takes limit first start now sink count served None
+    pub ahead : served ++ lines_after line rest ≡ lines
+    pub left : rest_after line rest ≡ unfinished

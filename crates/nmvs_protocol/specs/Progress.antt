@@ -5,11 +5,12 @@ use Rattle.nmvs_protocol.specs.declared.ask.Ask.{Ask}
 use Rattle.nmvs_protocol.specs.declared.answer.Answer.{Answer}
 use Rattle.nmvs_protocol.specs.declared.end.End.{End}
 use Rattle.nmvs_protocol.specs.declared.end.End.TheVariants as ends
+use Rattle.nmvs_protocol.specs.declared.pending_line.TheConstants.{KEPT}
 use Rattle.nmvs_protocol.specs.Session.{AnswersLines, AnswersAll, NoQuit, EndsWithQuit, NoQuitBeforeLast, Delivers, BreaksOff, LacksLast, LineLimit, is_write_fault}
 
--- what is kept of a line: enough to judge it, since a line of more than 200 bytes can't be read
+-- what is kept of a line: enough to judge it, since one byte more than a line may have tells that it is too long
 abbrev pub kept : List ℕ → List ℕ
-kept x = take 201 x
+kept x = take KEPT x
 
 -- what may be said between two lines, where None is to go on
 abbrev pub Stands : Option End → ℕ → ℕ → List (List ℕ) → List (List ℕ) → List Answer → Taken → Taken → Type 0

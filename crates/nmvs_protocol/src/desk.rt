@@ -8,7 +8,7 @@ pub trait Desk {
     // Whether a desk in this state may answer this ask so, and be in that state then.
     ghost takes: { Self → TheAsk → TheAnswer → Self → Type 0 };
 
-    /// Answers one ask. Want of memory is `Turned(Memory)`.
+    /// Answers one ask. Out of memory is `Turned(Memory)`.
     fn take(&mut self, ask: &Ask) -> Answer
         ensures { takes self.old ask.now result self.new };
 }

@@ -117,7 +117,7 @@ fn read_pack(code: &str, serial: &str) -> Result<Pack, LineFault>
     Ok(Pack { code, serial })
 }
 
-/// The line of an ask, without LF. Its only fault is want of memory.
+/// The line of an ask, without LF. It fails only out of memory.
 pub fn ask_line(alloc: Global, ask: &Ask) -> Result<String, AllocError>
     ensures line { IfOk result (λ text. string_bytes text ≡ line ask.now) }
     ensures grammar { IsTrue (is_ask ask.now) }

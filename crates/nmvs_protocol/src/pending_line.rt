@@ -1,16 +1,17 @@
-ghost use Rattle.std.specs.Prelude.{◌≡◌, ◌++◌, ◌∷◌, []};
+ghost use Rattle.std.specs.Prelude.{◌≡◌, ◌++◌, ◌==◌, [], length};
 ghost use Rattle.nmvs_protocol.specs.Progress.{kept};
-ghost use Rattle.nmvs_protocol.specs.Session.{Reads};
 
-use crate::{Ask, LineFault, read_line};
+use crate::fields::LONGEST_LINE;
 use arrayvec::ArrayVec;
 use std::marker::Model;
 
-/// A line whose LF hasn't come. It keeps the first 201 bytes, which are enough to judge it, since a
-/// line of more than 200 bytes can't be read.
+/// How many bytes are kept of a line: one more than a line may have, which tells that it is too long.
+pub(crate) const KEPT: usize = LONGEST_LINE + 1;
+
+/// A line whose LF hasn't come, as much of it as is kept.
 #[derive(Drop)]
 pub(crate) struct PendingLine {
-    bytes: ArrayVec<u8, 201>,
+    bytes: ArrayVec<u8, KEPT>,
 }
 
 impl Model for PendingLine {
@@ -30,18 +31,28 @@ impl PendingLine {
         }
     }
 
-    pub(crate) fn push(&mut self, byte: u8)
-        ensures { self.new ≡ kept (self.old ++ byte ∷ []) }
+    pub(crate) fn is_empty(&self) -> bool
+        ensures { result ≡ (length self.now == 0) }
     {
-        if !self.bytes.is_full() {
-            self.bytes.push(byte);
-        }
+        self.bytes.is_empty()
     }
 
-    /// Reads the line as if it were whole.
-    pub(crate) fn read(&self) -> Result<Ask, LineFault>
-        ensures { Reads self.now result }
+    pub(crate) fn as_slice(&self) -> &[u8]
+        ensures { result.now ≡ self.now }
     {
-        read_line(&self.bytes)
+        self.bytes.as_slice()
+    }
+
+    pub(crate) fn extend(&mut self, bytes: &[u8])
+        ensures { self.new ≡ kept (self.old ++ bytes.now) }
+    {
+        let count = self.bytes.remaining_capacity().min(bytes.len());
+        self.bytes.try_extend_from_slice(&bytes[..count]).unwrap();
+    }
+
+    pub(crate) fn clear(&mut self)
+        ensures { self.new ≡ [] }
+    {
+        self.bytes.clear();
     }
 }

@@ -14,6 +14,9 @@ use nmvs_words::{
 };
 use std::alloc::{AllocError, Global};
 
+#[cfg(test)]
+mod tests;
+
 /// The most bytes that the text of a reply has: those of a status with the longest words and values, and LF.
 pub(crate) const LONGEST_REPLY: usize = 67;
 
@@ -89,11 +92,7 @@ fn alert(cause: Cause, flagged: bool, number: u64) -> ArrayString<LONGEST_REPLY>
     let mut digits = Buffer::new();
     in_words(
         "ALERT",
-        &[
-            cause_word(cause),
-            flag_word(flagged),
-            digits.format(number),
-        ],
+        &[cause_word(cause), flag_word(flagged), digits.format(number)],
     )
 }
 

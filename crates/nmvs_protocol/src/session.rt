@@ -1,12 +1,13 @@
 ghost use Rattle.std.specs.Prelude.{◌≡◌, ◌++◌, ◌∷◌, ◌+◌, ◌<◌, ◌↔◌, [], ℕ, List, None, Ok, false, IsTrue, IfNone};
 ghost use Rattle.nmvs_stream.specs.Sink.{Taken};
 ghost use Rattle.nmvs_protocol.specs.InputLines.{lines_after, rest_after};
-ghost use Rattle.nmvs_protocol.specs.Session.{Answers, Session};
+ghost use Rattle.nmvs_protocol.specs.Session.{Reads, Answers, Session};
 ghost use Rattle.nmvs_protocol.specs.Progress.{Answered, kept};
 
 use crate::pending_line::PendingLine;
 use crate::replies::short_text;
-use crate::{Answer, Ask, Desk, End, Limits, LineFault};
+use crate::{Answer, Ask, Desk, End, Limits, LineFault, read_line};
+use memchr::memchr;
 use nmvs_stream::{Failed, Sink, Source, put};
 use std::alloc::Global;
 
@@ -72,31 +73,52 @@ fn serve_chunk<W: Sink, D: Desk>(
         → Answered D.takes limit first start desk.new (W.taken sink.new) progress.new.answered (lines ++ lines_after begun chunk.now) result
         × IfNone result (progress.new.line ≡ kept (rest_after begun chunk.now)) }
 {
-    for byte in chunk {
-        if *byte == b'\n' {
-            if progress.answered >= limit {
-                return Some(End::Limit);
-            }
-            match serve_line(&progress.line, sink, desk) {
-                Some(end) => return Some(end),
-                None => {}
-            }
-            progress.answered += 1;
-            progress.line = PendingLine::new();
-        } else {
-            progress.line.push(*byte);
+    let mut rest = chunk;
+    while let Some(lf) = memchr(b'\n', rest) {
+        if progress.answered >= limit {
+            return Some(End::Limit);
         }
+        let (tail, later) = rest.split_at(lf);
+        match serve_tail(&mut progress.line, tail, sink, desk) {
+            Some(end) => return Some(end),
+            None => {}
+        }
+        progress.answered += 1;
+        rest = &later[1..];
     }
+    progress.line.extend(rest);
     None
 }
 
-/// Answers one line. `None` is to go on.
-fn serve_line<W: Sink, D: Desk>(line: &PendingLine, sink: &mut W, desk: &mut D) -> Option<End>
-    ensures { (limit count : ℕ) (first : D) (start : Taken) (lines : List (List ℕ)) (x : List ℕ) → count < limit → line.now ≡ kept x
+/// Answers the line that these bytes end. `None` is to go on, with no line begun.
+fn serve_tail<W: Sink, D: Desk>(
+    line: &mut PendingLine,
+    tail: &[u8],
+    sink: &mut W,
+    desk: &mut D,
+) -> Option<End>
+    ensures begun { line.new ≡ [] }
+    ensures answered { (limit count : ℕ) (first : D) (start : Taken) (lines : List (List ℕ)) (begun : List ℕ) → count < limit → line.old ≡ kept begun
+        → Answered D.takes limit first start desk.old (W.taken sink.old) count lines None
+        → Answered D.takes limit first start desk.new (W.taken sink.new) (count + 1) (lines ++ (begun ++ tail.now) ∷ []) result }
+{
+    // A line that lies in one read is not copied.
+    if line.is_empty() {
+        return serve_line(tail, sink, desk);
+    }
+    line.extend(tail);
+    let end = serve_line(line.as_slice(), sink, desk);
+    line.clear();
+    end
+}
+
+/// Answers one line, of which as much is given as is kept of it, or more. `None` is to go on.
+fn serve_line<W: Sink, D: Desk>(line: &[u8], sink: &mut W, desk: &mut D) -> Option<End>
+    ensures { (limit count : ℕ) (first : D) (start : Taken) (lines : List (List ℕ)) (x : List ℕ) → count < limit → kept line.now ≡ kept x
         → Answered D.takes limit first start desk.old (W.taken sink.old) count lines None
         → Answered D.takes limit first start desk.new (W.taken sink.new) (count + 1) (lines ++ x ∷ []) result }
 {
-    let reading = line.read();
+    let reading = read(line);
     let said = answer(&reading, desk);
     let text = short_text(&said);
     match put(sink, text.as_str().as_bytes()) {
@@ -107,6 +129,13 @@ fn serve_line<W: Sink, D: Desk>(line: &PendingLine, sink: &mut W, desk: &mut D) 
             None
         },
     }
+}
+
+/// Reads a line.
+fn read(line: &[u8]) -> Result<Ask, LineFault>
+    ensures { Reads line.now result }
+{
+    read_line(line)
 }
 
 /// The answer to what was read. The desk is asked all but QUIT.

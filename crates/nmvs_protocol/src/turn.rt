@@ -11,6 +11,6 @@ pub enum Turn {
     Closed,
     /// The user's role may not ask this.
     Role,
-    /// Memory was wanting.
+    /// Out of memory.
     Memory,
 }

@@ -1,5 +1,6 @@
 -- The course of a pack through its own statuses.
 use Rattle.std.proofs.Common.{◌≡◌, Bool, true, false, not, ◌&&◌, ◌||◌, cond, List, [], ◌∷◌, ◌++◌, length, Option, Some, None, IsSomeAnd, refl, sym, ap, subst, ◌∙◌, append-nil, append_assoc}
+use Rattle.std.proofs.lemmas.Bool.{or_parts}
 use Rattle.std.specs.Cmp.{first_so, second_so}
 use Rattle.std.specs.Cmp.Derive.{both_true}
 use Rattle.std.specs.List.{list_any}
@@ -255,16 +256,9 @@ stays-out : (u es : List Entry) (p : Pack) → Stands is_out u p → IsLawfulAft
 stays-out u [] p h lawful unreverted = let P : List Entry → Type 0 = λ t. Stands is_out t p in subst P (sym (append-nil u)) h
 stays-out u (e ∷ es) p h lawful unreverted =
     let P : List Entry → Type 0 = λ t. Stands is_out t p in
+    let neither = or_parts (accepted_reversion p e) (list_any (accepted_reversion p) es) unreverted in
     subst P (append_assoc u (e ∷ []) es)
-    (stays-out (u ++ e ∷ []) es p (out-keeps u e p h lawful.0 (neither-left (accepted_reversion p e) _ unreverted)) lawful.1 (neither-right (accepted_reversion p e) _ unreverted))
-  where
-    neither-left : (a b : Bool) → (a || b) ≡ false → a ≡ false
-    neither-left true b h = h
-    neither-left false b h = refl
-
-    neither-right : (a b : Bool) → (a || b) ≡ false → b ≡ false
-    neither-right true b h = let none : true ≡ false = h in cc
-    neither-right false b h = h
+    (stays-out (u ++ e ∷ []) es p (out-keeps u e p h lawful.0 neither.0) lawful.1 neither.1)
 
 -- between two decommissionings of a pack stands a reversion
 pub reverted-between : (before between after : List Entry) (first second : Entry) (p : Pack) → IsLawful (before ++ first ∷ between ++ second ∷ after) → decommissions p first ≡ true → decommissions p second ≡ true → list_any (reverts p) between ≡ true

@@ -1,5 +1,6 @@
 -- What is accepted from the holder of a product code alone.
 use Rattle.std.proofs.Common.{◌≡◌, ℕ, true, false, List, Option, Some, None, IsSomeAnd, inl, inr, sym, ap, ◌∙◌}
+use Rattle.std.proofs.lemmas.Bool.{not-false}
 use Rattle.std.specs.List.{find, list_any}
 use Rattle.std.specs.Option.{is_some, option_map}
 use Rattle.nmvs_identifier.specs.Batch.{Batch}
@@ -18,7 +19,7 @@ use Rattle.nmvs_rules.specs.Laws.{IsHeldBy, AsksLock}
 use Rattle.nmvs_rules.proofs.Accepted.{first-upload_of_code}
 use Rattle.nmvs_rules.proofs.FindLemmas.{is_some-find}
 use Rattle.nmvs_rules.proofs.TextLemmas.{same_text-bytes}
-use Rattle.nmvs_rules.proofs.ReplyLemmas.{not-false, upload-holder, theft-holder, lock-holder, reply-question}
+use Rattle.nmvs_rules.proofs.ReplyLemmas.{upload-holder, theft-holder, lock-holder, reply-question}
 
 -- the holder is the authorisation of the first upload of the product code
 holder-first : (t : List Entry) (c : ProductCode) → holder_of t c ≡ option_map (λ e. e.actor.authorisation) (find (uploads_code c) t)

@@ -1,5 +1,5 @@
--- A worked example, computed from the definitions: a pharmacy holds a pack for supply, and its batch is recalled. Then the
--- same pack on other days.
+-- A worked example, computed from the definitions: a pharmacy holds a pack for supply, and its batch is recalled. Then
+-- the same pack on other days.
 use Rattle.std.proofs.Common.{◌≡◌, ℕ, ◌+◌, ◌*◌, true, false, List, [], ◌∷◌, ◌++◌, Option, Some, refl, ap}
 use Rattle.std.specs.Prelude.{codes, pos, int_lt, if◌then◌else◌}
 use Rattle.nmvs_identifier.specs.Texts.{Text}
@@ -195,7 +195,8 @@ at moment q = record { moment = moment; user = q.user; actor = q.actor; question
 abbrev days_later : ℕ → ℕ
 days_later n = new_year + n * 86_400
 
--- the expiry date is 29 February 2028, day 21,243: on the last second of that day the pack is not expired, on the next one it is
+-- the expiry date is 29 February 2028, day 21,243: on the last second of that day the pack is not expired, on the next
+-- one it is
 verify-last_second : reply_of uploaded (at 1_835_481_599 verify) ≡ reply.Authentic batch expiry false
 verify-last_second = ap (λ d. reply.Authentic batch expiry (int_lt d (pos 21_243))) day-280200
 

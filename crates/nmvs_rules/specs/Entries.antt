@@ -1,5 +1,5 @@
--- What every entry of a trail is: its texts are in their grammars, and its numbers in their ranges (Article 4; the grammars of
--- names and the ranges are own).
+-- What every entry of a trail is: its texts are in their grammars, and its numbers in their ranges (Article 4; the
+-- grammars of names and the ranges are own).
 use Rattle.std.specs.Prelude.{ℕ, ◌^◌, Bool, true, ◌&&◌, nat_lt}
 use Rattle.nmvs_identifier.specs.Batch.{Batch, is_batch}
 use Rattle.nmvs_identifier.specs.Expiry.{Expiry, is_expiry}

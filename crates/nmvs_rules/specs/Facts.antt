@@ -63,7 +63,8 @@ abbrev pub active_in : Option BatchRecord → ℕ
 active_in None = 0
 active_in (Some r) = r.counts.active
 
--- the reply to an admitted question by the facts: the lines of `admitted_reply`, with each look at the trail replaced by a fact
+-- the reply to an admitted question by the facts: the lines of `admitted_reply`, with each look at the trail replaced
+-- by a fact
 abbrev pub admitted_reply_by_facts : Facts → ℕ → Actor → Question → Reply
 admitted_reply_by_facts f moment a (Upload p b x) = upload_reply a f.holder f.pack
 admitted_reply_by_facts f moment a (Verify p) =

@@ -1,5 +1,5 @@
--- What was carried out, told by question and reply alone: the laws speak in these words, so that they judge the rules' own words
--- (accepted, own status, lock) and do not rest on them.
+-- What was carried out, told by question and reply alone: the laws speak in these words, so that they judge the rules'
+-- own words (accepted, own status, lock) and do not rest on them.
 use Rattle.std.specs.Prelude.{ℕ, Bool, true, false, ◌&&◌, ◌||◌, List, reverse, find, Option, Some, None}
 use Rattle.nmvs_identifier.specs.Batch.{Batch}
 use Rattle.nmvs_identifier.specs.ProductCode.{ProductCode}
@@ -111,8 +111,8 @@ own_left (Decommission _ reason.Destroy) = Some own.Destroyed
 own_left (Theft _) = Some own.Stolen
 own_left _ = None
 
--- what an alert says after such an operation on the pack, or such a lock of its batch: its cause, and whether it is flagged as a
--- potential falsification. An upload or a reversion gives no cause (after Article 36)
+-- what an alert says after such an operation on the pack, or such a lock of its batch: its cause, and whether it is
+-- flagged as a potential falsification. An upload or a reversion gives no cause (after Article 36)
 abbrev pub alarm : Question → Option (Cause × Bool)
 alarm (Decommission _ reason.Supply) = Some (cause.Supplied, true)
 alarm (Decommission _ reason.Hold) = Some (cause.Held, true)

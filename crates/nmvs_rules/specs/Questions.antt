@@ -13,7 +13,8 @@ use Rattle.nmvs_rules.specs.declared.reason.Reason.TheVariants as reason
 use Rattle.nmvs_rules.specs.declared.question.Question.{Question}
 use Rattle.nmvs_rules.specs.declared.question.Question.TheVariants.{Upload, Verify, Status, Decommission, Revert, Recall, Withdraw, Theft, Audit}
 
--- a question put: with its moment, its user, and in what capacity the user asks (Article 35: users and nature of each operation)
+-- a question put: with its moment, its user, and in what capacity the user asks (Article 35: users and nature of each
+-- operation)
 pub record Put : Type 0 where
   pub moment : ℕ
   pub user : Name

@@ -1,5 +1,5 @@
--- The reply that the rules give to a question on a trail. Of the conditions on a question the first that fails decides; their
--- order is own.
+-- The reply that the rules give to a question on a trail. Of the conditions on a question the first that fails decides;
+-- their order is own.
 use Rattle.std.specs.Prelude.{ℕ, ◌+◌, ◌≡◌, pos, int_lt, nat_le, Bool, true, false, not, ◌&&◌, List, [], ◌∷◌, ◌++◌, Option, Some, None, is_some, if◌then◌else◌}
 use Rattle.nmvs_identifier.specs.Name.{Name}
 use Rattle.nmvs_identifier.specs.Expiry.{Expiry, expiry_day}
@@ -26,7 +26,8 @@ use Rattle.nmvs_rules.specs.declared.facts.Known.{Known}
 use Rattle.nmvs_rules.specs.Questions.{Put, may_ask}
 use Rattle.nmvs_rules.specs.Trail.{known, lock_of, holder_of, alerts_of, about_of, count_of, is_known_batch}
 
--- whether the expiry date is past: the day of the moment, by UTC, comes after it (Article 13(1)(c); days of UTC are own)
+-- whether the expiry date is past: the day of the moment, by UTC, comes after it (Article 13(1)(c); days of UTC are
+-- own)
 abbrev pub is_past : Expiry → ℕ → Bool
 is_past x moment = int_lt (expiry_day x.bytes) (pos (day_of moment))
 
@@ -55,7 +56,8 @@ abbrev pub is_supplied : Own → Bool
 is_supplied own.Supplied = true
 is_supplied _ = false
 
--- why a pack of a free batch is not authentic: its own status. An active one is authentic and has no alert (after Article 36)
+-- why a pack of a free batch is not authentic: its own status. An active one is authentic and has no alert (after
+-- Article 36)
 abbrev pub cause_by_own : Own → Cause
 cause_by_own own.Active = cause.Unknown
 cause_by_own own.Held = cause.Held
@@ -71,8 +73,8 @@ cause_of o lock.Free = cause_by_own o
 cause_of o lock.Recalled = cause.Recalled
 cause_of o lock.Withdrawn = cause.Withdrawn
 
--- whether an alert on a known pack is flagged as a potential falsification: not where the pack is recalled, withdrawn or
--- decommissioned for destruction (after Article 36)
+-- whether an alert on a known pack is flagged as a potential falsification: not where the pack is recalled, withdrawn
+-- or decommissioned for destruction (after Article 36)
 abbrev pub is_flagged : Own → BatchLock → Bool
 is_flagged o l = is_free l && not (is_destroyed o)
 
@@ -91,15 +93,18 @@ abbrev pub onward_by : Own → BatchLock → Onward
 onward_by o lock.Free = onward_by_own o
 onward_by o _ = onward.Disposal
 
--- whether a known pack is authentic: its identifier is active, and its batch neither recalled nor withdrawn (Articles 11 and 40)
+-- whether a known pack is authentic: its identifier is active, and its batch neither recalled nor withdrawn (Articles
+-- 11 and 40)
 abbrev pub is_authentic : Own → BatchLock → Bool
 is_authentic o l = is_active o && is_free l
 
--- whether the actor is covered by the same authorisation and operates in the same premises as the mark's (Article 13(1)(a))
+-- whether the actor is covered by the same authorisation and operates in the same premises as the mark's (Article
+-- 13(1)(a))
 abbrev pub is_same_place : Actor → Mark → Bool
 is_same_place a m = same_text a.authorisation m.authorisation && same_text a.premises m.premises
 
--- whether the moment is not more than 10 days after the mark (Article 13(1)(b)); it may be before it, and days are of UTC (own)
+-- whether the moment is not more than 10 days after the mark (Article 13(1)(b)); it may be before it, and days are of
+-- UTC (own)
 abbrev pub is_in_time : ℕ → Mark → Bool
 is_in_time moment m = nat_le (day_of moment) (day_of m.moment + 10)
 
@@ -113,7 +118,8 @@ abbrev pub is_held_by : Option Name → Name → Bool
 is_held_by None n = false
 is_held_by (Some h) n = same_text h n
 
--- the alert on a known pack k whose batch has the lock l, after n alerts on its product code (Article 36; the number is own)
+-- the alert on a known pack k whose batch has the lock l, after n alerts on its product code (Article 36; the number is
+-- own)
 abbrev pub alert_on : Known → BatchLock → ℕ → Reply
 alert_on k l n = reply.Alert (cause_of k.own l) (is_flagged k.own l) (n + 1)
 

@@ -1,5 +1,5 @@
--- What a trail says of packs, batches and product codes. A trail is the complete record of all operations, oldest entry first
--- (Article 35). Nothing is kept beside it: each definition looks back over the whole list.
+-- What a trail says of packs, batches and product codes. A trail is the complete record of all operations, oldest entry
+-- first (Article 35). Nothing is kept beside it: each definition looks back over the whole list.
 use Rattle.std.specs.Prelude.{ℕ, ◌-◌, Bool, true, false, not, ◌&&◌, List, reverse, length, find, count_by, Option, Some, None, unwrap_or, if◌then◌else◌}
 use Rattle.std.specs.List.{list_any, suffix_len}
 use Rattle.std.specs.Option.{option_map, option_map_or}
@@ -112,7 +112,8 @@ lock_by (Recall _ _) = lock.Recalled
 lock_by (Withdraw _ _) = lock.Withdrawn
 lock_by _ = lock.Free
 
--- the lock of a batch: its first accepted recall or withdrawal, which stays and binds packs uploaded later too (Article 40)
+-- the lock of a batch: its first accepted recall or withdrawal, which stays and binds packs uploaded later too (Article
+-- 40)
 abbrev pub lock_of : List Entry → ProductCode → Batch → BatchLock
 lock_of t c b = option_map_or (λ e. lock_by e.question) (find (λ e. locks_batch c b e.question && is_accepted e) t) lock.Free
 
@@ -129,7 +130,8 @@ alerts_of t c = count_by (λ e. has_code c e && is_alert e.reply) t
 abbrev pub about_of : List Entry → Pack → ℕ
 about_of t p = count_by (is_about p) t
 
--- what is kept of an entry as a mark: its place, its moment, and by which authorisation and at which premises (Article 13(1))
+-- what is kept of an entry as a mark: its place, its moment, and by which authorisation and at which premises (Article
+-- 13(1))
 abbrev pub mark_after : ℕ → Entry → Mark
 mark_after place e =
     record { place = place; moment = e.moment; authorisation = e.actor.authorisation; premises = e.actor.premises }
@@ -145,7 +147,8 @@ known_at t p m (Upload _ b x) =
     })
 known_at t p m _ = None
 
--- what is known by the accepted upload u, and the mark: as u is accepted there is one, so `unwrap_or` never falls back on u
+-- what is known by the accepted upload u, and the mark: as u is accepted there is one, so `unwrap_or` never falls back
+-- on u
 abbrev pub known_from : List Entry → Pack → Option Entry → Option Known
 known_from t p None = None
 known_from t p (Some u) = known_at t p (unwrap_or (mark t p) u) u.question

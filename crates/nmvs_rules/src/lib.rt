@@ -1,11 +1,12 @@
 //! The rules of the repository: what may be asked, and the reply that the Regulation gives on a trail.
 //!
-//! A [`Question`] is put by an [`Actor`] at a moment. [`decide`] gives the [`Reply`] from the [`Facts`], the few things that
-//! it rests on: `decide(&facts, moment, &actor, &Question::Verify(pack))`. Its contract says that this is the reply of the
-//! definitions in `specs` on every trail that has these facts. An [`Entry`] is a question with its reply, and a trail is a
-//! list of them, oldest first. [`laws`] has what follows from the rules.
+//! A [`Question`] is put by an [`Actor`] at a moment. [`decide`] gives the [`Reply`] from the [`Facts`], the few things
+//! that it rests on: `decide(&facts, moment, &actor, &Question::Verify(pack))`. Its contract says that this is the
+//! reply of the definitions in `specs` on every trail that has these facts. An [`Entry`] is a question with its reply,
+//! and a trail is a list of them, oldest first. [`laws`] has what follows from the rules.
 //!
-//! It keeps no trail and finds no facts in one: `nmvs_tables` and `nmvs_shard` do. It knows no texts of lines or replies.
+//! It keeps no trail and finds no facts in one: `nmvs_tables` and `nmvs_shard` do. It knows no texts of lines or
+//! replies.
 //!
 //! "Own" after a rule says that the Regulation leaves the point open and this project chose. The own status of a pack,
 //! [`Own`], is another thing: the status that the pack has by itself, whatever its batch.

@@ -14,8 +14,8 @@ use Rattle.nmvs_protocol.specs.declared.answer.Answer.TheVariants as answer
 use Rattle.nmvs_protocol.specs.declared.turn.Turn.TheVariants as turn
 use Rattle.nmvs_server.specs.Roster.{post_of, IsRostered}
 
--- how far a rehearsal is: its trail, and the moments of the lines that reach the desk from now on; the last moment serves
--- all later lines too
+-- how far a rehearsal is: its trail, and the moments of the lines that reach the desk from now on; the last moment
+-- serves all later lines too
 pub record Rehearsal : Type 0 where
   pub trail : List Entry
   pub moments : List ℕ
@@ -35,8 +35,8 @@ later (moment ∷ next ∷ moments) = next ∷ moments
 abbrev pub put_now : Rehearsal → Name → Actor → Question → Put
 put_now r user actor question = record { moment = now r.moments; user = user; actor = actor; question = question }
 
--- the question is answered by the rules on the trail, in the capacity that the roster gives its user, and the trail grows
--- by that entry
+-- the question is answered by the rules on the trail, in the capacity that the roster gives its user, and the trail
+-- grows by that entry
 pub record Replies (old new : Rehearsal) (user : Name) (question : Question) (reply : Reply) : Type 0 where
   pub actor : Actor
   pub rostered : IsRostered user actor

@@ -75,7 +75,8 @@ pub record Obeys (line : List ℕ) (published pending published' pending' : List
   pub all : published' ≡ published ++ (pending ++ change_of command ∷ [])
   pub none_left : pending' ≡ []
 
--- a command was not carried out: it can't be read, and nothing changed; or memory was wanting, and nothing was published
+-- a command was not carried out: it can't be read, and nothing changed; or memory was wanting, and nothing was
+-- published
 abbrev pub Refuses : List ℕ → List Change → List Change → List Change → List Change → ObeyFault → Type 0
 Refuses line published pending published' pending' (obey.Unread fault) =
     (first_command_fault line ≡ Some fault) × (published' ≡ published) × (pending' ≡ pending)

@@ -1,6 +1,7 @@
 pub mod BoolLemmas
 pub mod CodesLemmas
 pub mod PacksLemmas
+pub mod LinkLemmas
 pub mod BatchTableLemmas
 pub mod CountLemmas
 pub mod OwnLemmas

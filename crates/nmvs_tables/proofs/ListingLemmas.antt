@@ -16,8 +16,8 @@ use Rattle.nmvs_tables.specs.declared.batches.BatchKey.{BatchKey}
 use Rattle.nmvs_tables.specs.declared.listing.BatchPlace.{BatchPlace}
 use Rattle.nmvs_tables.specs.Batches.{same_batch, batch_born, batches_of, with_batch}
 use Rattle.nmvs_tables.specs.Listing.{of_code, code_batches, same_place, listed_in}
-use Rattle.nmvs_tables.proofs.BoolLemmas.{not-so, or-true}
-use Rattle.nmvs_tables.proofs.PacksLemmas.{not_zero}
+use Rattle.std.proofs.Math.Bool.{or-true}
+use Rattle.nmvs_tables.proofs.BoolLemmas.{not-so}
 
 -- the batches of a product code with one more
 of_code-push : (c : ProductCode) (bs : List BatchKey) (b : BatchKey) → of_code c (bs ++ b ∷ []) ≡ of_code c bs ++ cond (same_text c b.code) (b.batch ∷ []) []
@@ -29,6 +29,9 @@ of_code-push c bs b =
     by : (h : Bool) → of_code c bs ++ map (λ x. x.batch) (cond h (b ∷ []) []) ≡ of_code c bs ++ cond h (b.batch ∷ []) []
     by true = refl
     by false = refl
+
+not_zero : (n : ℕ) → (suc n == 0) ≡ false
+not_zero n = grind (arith, nat_tests)
 
 zero_not : (n : ℕ) → (0 == suc n) ≡ false
 zero_not n = grind (arith, nat_tests)

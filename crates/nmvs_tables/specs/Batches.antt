@@ -57,7 +57,8 @@ count_in n own.Sampled = n.sampled
 count_in n own.Destroyed = n.destroyed
 count_in n own.Stolen = n.stolen
 
--- the batch that an accepted question changes: that of the known pack, or the one that is uploaded, recalled or withdrawn
+-- the batch that an accepted question changes: that of the known pack, or the one that is uploaded, recalled or
+-- withdrawn
 abbrev pub batch_meant : Question → Option Known → Option BatchKey
 batch_meant q (Some k) = Some (record { code = code_of q; batch = k.batch })
 batch_meant (Upload p b x) None = Some (record { code = p.code; batch = b })

@@ -1,5 +1,6 @@
 pub mod Codes
 pub mod Packs
+pub mod Links
 pub mod Batches
 pub mod Listing
 pub mod Tables

@@ -53,7 +53,7 @@ impl<A: Allocator> Listing<A> {
         self.batches.get(place).copied()
     }
 
-    /// Makes room for one more batch, and changes nothing else. Refused only for want of memory.
+    /// Makes room for one more batch, and changes nothing else. Refused only out of memory.
     pub fn reserve(&mut self) -> Result<(), AllocError>
         ensures room { OnOk result (HasRoomToList self.new) }
         ensures kept { (bs : List BatchKey) → AreListed self.old bs → AreListed self.new bs }

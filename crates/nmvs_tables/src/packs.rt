@@ -1,11 +1,10 @@
 //! The table of packs.
-ghost use Rattle.std.specs.Prelude.{◌≡◌, ◌+◌, ◌<◌, ◌^◌, Some, true};
-ghost use Rattle.indexmap.specs.IndexMap.{get, spare};
+ghost use Rattle.std.specs.Prelude.{◌≡◌, ◌+◌, ◌<◌, ◌^◌};
+ghost use Rattle.indexmap.specs.IndexMap.{spare};
 ghost use Rattle.nmvs_identifier.specs.declared.pack.Pack.{Pack};
-ghost use Rattle.nmvs_identifier.specs.Pack.{same_pack};
 ghost use Rattle.nmvs_rules.specs.Questions.{pack_of};
 ghost use Rattle.nmvs_rules.specs.Trail as trails;
-ghost use Rattle.nmvs_tables.specs.Packs.{about_in, known_in, about_by, known_by, pack_after};
+ghost use Rattle.nmvs_tables.specs.Packs.{row_in, row_by, record_by, row_after, pack_after};
 
 use crate::writes::{find, put};
 use indexmap::IndexMap;
@@ -14,7 +13,7 @@ use nmvs_rules::{Entry, Known, Mark, Own, Question};
 use std::alloc::Allocator;
 use std::hash::{BuildHasherDefault, FoldHasher};
 
-/// What is kept of a pack that some entry is about (Article 35): some 100 bytes, beside the 38 of the pack itself.
+/// What is kept of a pack that some entry is about (Article 35).
 #[derive(Clone, Copy, Debug, PartialEq, Eq)]
 pub struct PackRecord {
     /// How many entries are about the pack.
@@ -22,38 +21,54 @@ pub struct PackRecord {
     pub known: Option<Known>,
 }
 
-pub(crate) type Packs<A> = IndexMap<Pack, PackRecord, BuildHasherDefault<FoldHasher>, A>;
+/// The record of a pack, and where its last entry is: some 110 bytes, beside the 38 of the pack itself.
+#[derive(Clone, Copy)]
+pub(crate) struct PackRow {
+    pub about: u64,
+    pub known: Option<Known>,
+    /// How many entries the trail has up to the last one about the pack, that one counted.
+    pub last: u64,
+}
+
+pub(crate) type Packs<A> = IndexMap<Pack, PackRow, BuildHasherDefault<FoldHasher>, A>;
+
+/// The row of a pack that no entry is about.
+const NO_ENTRIES: PackRow = PackRow {
+    about: 0,
+    known: None,
+    last: 0,
+};
+
+/// The row of a pack.
+pub(crate) fn row_of<A: Allocator>(packs: &Packs<A>, pack: &Pack) -> PackRow
+    ensures { result ≡ row_in packs.now pack.now }
+{
+    packs.get(pack).copied().unwrap_or(NO_ENTRIES)
+}
 
 /// The record of a pack.
 pub(crate) fn record_of<A: Allocator>(packs: &Packs<A>, pack: &Pack) -> Option<PackRecord>
-    ensures { result ≡ get same_pack packs.now pack.now }
+    ensures { result ≡ record_by (row_in packs.now pack.now) }
 {
-    packs.get(pack).copied()
-}
-
-/// What is known of a pack by its record.
-fn known_of(old: &Option<PackRecord>) -> Option<Known>
-    ensures { result ≡ known_in old.now }
-{
-    match old {
-        Some(record) => record.known,
-        None => None,
+    let row = row_of(packs, pack);
+    if row.about == 0 {
+        None
+    } else {
+        Some(PackRecord {
+            about: row.about,
+            known: row.known,
+        })
     }
 }
 
-/// The record of the pack that a question names, or one of no entries.
-pub(crate) fn asked<A: Allocator>(packs: &Packs<A>, question: &Question) -> PackRecord
-    ensures about { result.about ≡ about_by packs.now (pack_of question.now) }
-    ensures known { result.known ≡ known_by packs.now (pack_of question.now) }
+/// The row of the pack that a question names, or one of no entries.
+pub(crate) fn asked<A: Allocator>(packs: &Packs<A>, question: &Question) -> PackRow
+    ensures { result ≡ row_by packs.now (pack_of question.now) }
 {
-    let old = match question.pack() {
-        Some(pack) => record_of(packs, &pack),
-        None => None,
-    };
-    old.unwrap_or(PackRecord {
-        about: 0,
-        known: None,
-    })
+    match question.pack() {
+        Some(pack) => row_of(packs, &pack),
+        None => NO_ENTRIES,
+    }
 }
 
 /// What is known of a pack after an accepted entry at a place about it.
@@ -82,35 +97,36 @@ fn marked(place: u64, entry: &Entry, known: Option<Known>) -> Option<Known>
     }
 }
 
-/// The record of a pack after an entry at a place about it.
-fn noted(place: u64, entry: &Entry, old: Option<PackRecord>) -> PackRecord
-    requires { about_in old + 1 < 2 ^ 64 }
-    ensures { (p : Pack) → trails.is_about p entry.now ≡ true → Some result ≡ pack_after p place entry.now old }
+/// The row of a pack after an entry at a place about it.
+fn noted(place: u64, entry: &Entry, old: &PackRow) -> PackRow
+    requires about { old.now.about + 1 < 2 ^ 64 }
+    requires place { place + 1 < 2 ^ 64 }
+    ensures { result ≡ row_after place entry.now old.now }
 {
-    let (about, known) = match old {
-        Some(record) => (record.about, record.known),
-        None => (0, None),
-    };
-    PackRecord {
-        about: about + 1,
+    PackRow {
+        about: old.about + 1,
         known: if entry.is_accepted() {
-            marked(place, entry, known)
+            marked(place, entry, old.known)
         } else {
-            known
+            old.known
         },
+        last: place + 1,
     }
 }
 
-/// Notes an entry at a place, for whose pack room was made, and tells what was known of the pack before.
-pub(crate) fn note<A: Allocator>(packs: &mut Packs<A>, place: u64, entry: &Entry) -> Option<Known>
+/// Notes an entry at a place, for whose pack room was made, and tells the row of the pack before it.
+pub(crate) fn note<A: Allocator>(packs: &mut Packs<A>, place: u64, entry: &Entry) -> PackRow
     requires room { 0 < spare packs.old }
-    requires about { (p : Pack) → about_in (get same_pack packs.old p) + 1 < 2 ^ 64 }
-    ensures noted { (p : Pack) → get same_pack packs.new p ≡ pack_after p place entry.now (get same_pack packs.old p) }
-    ensures before { result ≡ known_by packs.old (pack_of entry.now.question) }
+    requires about { (p : Pack) → (row_in packs.old p).about + 1 < 2 ^ 64 }
+    requires place { place + 1 < 2 ^ 64 }
+    ensures noted { (p : Pack) → row_in packs.new p ≡ pack_after p place entry.now (row_in packs.old p) }
+    ensures before { result ≡ row_by packs.old (pack_of entry.now.question) }
 {
-    let pack = entry.question.pack()?;
+    let Some(pack) = entry.question.pack() else {
+        return NO_ENTRIES;
+    };
     let (index, old) = find(packs, &pack);
-    let known = known_of(&old);
-    put(packs, index, pack, noted(place, entry, old));
-    known
+    let old = old.unwrap_or(NO_ENTRIES);
+    put(packs, index, pack, noted(place, entry, &old));
+    old
 }

@@ -161,9 +161,9 @@ fn lines_are_answered_in_order(rt: HostRuntime) {
         ),
         (&long, AMPLE, b"FAULT LONG\nFAULT FIELDS\n", End::Ended),
         (
-            b"\xc8\n\t\n",
+            b"\xc8\n\t\nmah1 UPLOAD 09506000134352 SN1 B1 280200\n",
             AMPLE,
-            b"FAULT BYTES\nFAULT BYTES\n",
+            b"FAULT BYTES\nFAULT BYTES\nUPLOADED\n",
             End::Ended,
         ),
         (b"\nQUIT", AMPLE, b"FAULT FIELDS\n", End::Ended),
@@ -217,6 +217,14 @@ fn a_failed_write_ends_with_a_prefix(rt: HostRuntime) {
         );
         assert_eq!(rt; taken.as_slice(), &OUTPUT[..calls], "{calls}");
     }
+}
+
+#[test]
+fn a_write_that_takes_nothing_ends_with_a_prefix(rt: HostRuntime) {
+    let mut room = [0; 20];
+    let writer = room.as_mut_slice();
+    assert_eq!(rt; run(rt.alloc(), INPUT, writer, AMPLE), End::WriteFault);
+    assert_eq!(rt; room.as_slice(), &OUTPUT[..20]);
 }
 
 #[test]

@@ -18,9 +18,9 @@ ghost use Rattle.nmvs_rules.specs.Rules.{reply_of, IsLawful};
 ghost use Rattle.nmvs_rules.specs.Operations.{uploads, uploads_code, binds, last_operation, alarm, alert_number};
 ghost use Rattle.nmvs_rules.specs.Laws.{IsUploadedWith, IsUnlocked, IsGenuine, IsHeldBy, IsRevertible, AsksAuthenticity, AsksLock, alert_numbers};
 
-/// A verification is answered Authentic exactly where the role may verify and the pack was uploaded with the batch and expiry of
-/// the answer, was last uploaded or reverted, and its batch was neither recalled nor withdrawn (Articles 11 and 40). On every
-/// trail.
+/// A verification is answered Authentic exactly where the role may verify and the pack was uploaded with the batch and
+/// expiry of the answer, was last uploaded or reverted, and its batch was neither recalled nor withdrawn (Articles 11
+/// and 40). On every trail.
 pub fn verification()
     ensures { (t : List Entry) (q : Put) (p : Pack) (b : Batch) (x : Expiry) (expired : Bool) →
         q.question ≡ Verify p →
@@ -29,24 +29,26 @@ pub fn verification()
         × (expired ≡ int_lt (expiry_day x.bytes) (pos (day_of q.moment)))) }
 {}
 
-/// A decommissioning is accepted exactly where the role may ask it and a verification would be answered Authentic (Articles 22
-/// and 25). On every trail.
+/// A decommissioning is accepted exactly where the role may ask it and a verification would be answered Authentic
+/// (Articles 22 and 25). On every trail.
 pub fn decommissioning()
     ensures { (t : List Entry) (q : Put) (p : Pack) (w : Reason) → q.question ≡ Decommission p w →
         (reply_of t q ≡ reply.Decommissioned) ↔
         (IsTrue (may_ask q.actor.role q.question) × ((b : Batch) × (x : Expiry) × IsGenuine t p b x)) }
 {}
 
-/// A reversion is accepted exactly where the role may revert and all that Article 13(1) asks for is met. On every trail.
+/// A reversion is accepted exactly where the role may revert and all that Article 13(1) asks for is met. On every
+/// trail.
 pub fn reversion()
     ensures { (t : List Entry) (q : Put) (p : Pack) → q.question ≡ Revert p →
         (reply_of t q ≡ reply.Reverted) ↔
         (IsTrue (may_ask q.actor.role q.question) × IsRevertible t p q) }
 {}
 
-/// A verification or decommissioning by one who may ask it is answered with the next alert on the product code wherever it is not
-/// answered Authentic or Decommissioned (Article 36). On every trail. The alert tells that the pack is unknown, or how its batch
-/// was first locked, or else what was last done to it; and it is flagged as a potential falsification as that asks for.
+/// A verification or decommissioning by one who may ask it is answered with the next alert on the product code wherever
+/// it is not answered Authentic or Decommissioned (Article 36). On every trail. The alert tells that the pack is
+/// unknown, or how its batch was first locked, or else what was last done to it; and it is flagged as a potential
+/// falsification as that asks for.
 pub fn alerting()
     ensures verification { (t : List Entry) (q : Put) (p : Pack) →
         q.question ≡ Verify p → IsTrue (may_ask q.actor.role q.question) →
@@ -75,8 +77,8 @@ pub fn alerts()
         alert_numbers t c ≡ range_with_len 1 (alerts_of t c) }
 {}
 
-/// Once a product code was uploaded, an upload, a recall, a withdrawal or a theft report of it is accepted from the authorisation
-/// that uploaded it first alone, its holder (Article 40; who the holder is, is own). On every trail.
+/// Once a product code was uploaded, an upload, a recall, a withdrawal or a theft report of it is accepted from the
+/// authorisation that uploaded it first alone, its holder (Article 40; who the holder is, is own). On every trail.
 pub fn holders()
     ensures uploads { (t : List Entry) (q : Put) (p : Pack) (b : Batch) (x : Expiry) →
         q.question ≡ Upload p b x → IsTrue (list_any (uploads_code p.code) t) →

@@ -1,9 +1,16 @@
 //! Laws on trails, their parts and how they are put together.
 ghost use Rattle.std.specs.Prelude.{◌≡◌, ℕ, Bool, List};
 ghost use Rattle.nmvs_rules.specs.declared.entry.Entry.{Entry};
+ghost use Rattle.nmvs_rules.specs.declared.reply.Reply.{Reply};
 ghost use Rattle.nmvs_rules.specs.Questions.{Put, code_of};
-ghost use Rattle.nmvs_rules.specs.Rules.{reply_of, IsLawful};
+ghost use Rattle.nmvs_rules.specs.Rules.{reply_of, put_of, answered, IsLawful};
 ghost use Rattle.nmvs_rules.specs.Laws.{part_of, kept, placed_at, IsMerging, IsApart};
+
+/// An entry keeps the question as it was put, with its moment, its user and in what capacity the user asked, and the
+/// reply (Article 35).
+pub fn recording()
+    ensures { (q : Put) (r : Reply) → (put_of (answered q r) ≡ q) × ((answered q r).reply ≡ r) }
+{}
 
 /// The reply to a question rests on the entries with its product code alone. On every trail.
 pub fn locality()

@@ -1,4 +1,4 @@
-use Rattle.std.proofs.Common.{◌≡◌, ◌++◌, ◌∷◌, ℕ, length, map}
+use Rattle.std.proofs.Common.{◌≡◌, ◌++◌, ◌∷◌, length, map}
 use Rattle.nmvs_words.specs.Words.{spaced, followed}
 use Rattle.nmvs_protocol.proofs.replies.in_words.Given as goal
 

@@ -3,14 +3,14 @@ use Rattle.std.proofs.lemmas.List.{length_push}
 use Rattle.nmvs_protocol.specs.declared.end.End.TheVariants as ends
 use Rattle.nmvs_stream.specs.Put.{Puts, PutsPart}
 use Rattle.nmvs_protocol.specs.Session.{Reads}
-use Rattle.nmvs_protocol.proofs.KeptLines.{kept_reads}
+use Rattle.nmvs_protocol.proofs.KeptLines.{kept_reads, reads_kept}
 use Rattle.nmvs_protocol.proofs.QuitLines.{not_quit}
 use Rattle.nmvs_protocol.proofs.SessionSteps.{one_more, no_quit_more, delivers_more, breaks_off}
 use Rattle.nmvs_protocol.proofs.session.serve_line.Goals as goal
 
 pub returns-in-Err : goal.returns-in-Err
 returns-in-Err g c limit count first start lines x lt is so_far =
-    let reads = subst (λ (t : List ℕ). Reads t c.read-reading.result) is c.read-reading.ensures in
+    let reads = subst (λ (t : List ℕ). Reads t c.read-reading.result) is (reads_kept c.args.line.now c.read-reading.result c.read-reading.ensures) in
     let puts = subst (λ (t : List ℕ). PutsPart (g.W.Sink.taken c.args.sink.now) (g.W.Sink.taken c.put.new.sink) t) (c.as_bytes.ensures.value ∙ c.as_str.ensures.value ∙ c.short_text-text.ensures) c.in-Err.ensures.err in
     one_more g.D.Desk.takes x c.read-reading.result c.answer-said.result (Some ends.WriteFault) so_far lt reads c.answer-said.ensures (
       record { before = so_far.answered; last = x; these = refl; no_quit = so_far.stands.0.no_quit },
@@ -20,7 +20,7 @@ returns-in-Err g c limit count first start lines x lt is so_far =
 
 pub returns-then-is_quit : goal.returns-then-is_quit
 returns-then-is_quit g c limit count first start lines x lt is so_far =
-    let reads = subst (λ (t : List ℕ). Reads t c.read-reading.result) is c.read-reading.ensures in
+    let reads = subst (λ (t : List ℕ). Reads t c.read-reading.result) is (reads_kept c.args.line.now c.read-reading.result c.read-reading.ensures) in
     let puts = subst (λ (t : List ℕ). Puts (g.W.Sink.taken c.args.sink.now) (g.W.Sink.taken c.put.new.sink) t) (c.as_bytes.ensures.value ∙ c.as_str.ensures.value ∙ c.short_text-text.ensures) c.in-Ok.ensures.ok in
     let quit = subst (λ r. Reads x r) (c.is_quit.ensures.0 c.if-is_quit.true) (kept_reads x c.read-reading.result reads) in
     one_more g.D.Desk.takes x c.read-reading.result c.answer-said.result (Some ends.Quit) so_far lt reads c.answer-said.ensures (
@@ -31,7 +31,7 @@ returns-then-is_quit g c limit count first start lines x lt is so_far =
 
 pub returns-else-is_quit : goal.returns-else-is_quit
 returns-else-is_quit g c limit count first start lines x lt is so_far =
-    let reads = subst (λ (t : List ℕ). Reads t c.read-reading.result) is c.read-reading.ensures in
+    let reads = subst (λ (t : List ℕ). Reads t c.read-reading.result) is (reads_kept c.args.line.now c.read-reading.result c.read-reading.ensures) in
     let puts = subst (λ (t : List ℕ). Puts (g.W.Sink.taken c.args.sink.now) (g.W.Sink.taken c.put.new.sink) t) (c.as_bytes.ensures.value ∙ c.as_str.ensures.value ∙ c.short_text-text.ensures) c.in-Ok.ensures.ok in
     let other = not_quit x c.read-reading.result (kept_reads x c.read-reading.result reads) (λ e. absurd (cc (c.is_quit.ensures.1 e, c.if-is_quit.false))) in
     one_more g.D.Desk.takes x c.read-reading.result c.answer-said.result None so_far lt reads c.answer-said.ensures (

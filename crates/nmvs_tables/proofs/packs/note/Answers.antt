@@ -1,16 +1,16 @@
-use Rattle.std.proofs.Common.{◌∙◌, ◌+◌, ◌<◌, ◌^◌, Option, sym, ap, subst}
-use Rattle.nmvs_tables.specs.declared.packs.PackRecord.{PackRecord}
-use Rattle.nmvs_tables.specs.Packs.{about_in, pack_after}
-use Rattle.nmvs_tables.proofs.PacksLemmas.{get-noted}
+use Rattle.std.proofs.Common.{◌≡◌, ◌∙◌, ◌+◌, ◌<◌, ◌^◌, unwrap_or, sym, ap, subst}
+use Rattle.nmvs_tables.specs.declared.packs.PackRow.{PackRow}
+use Rattle.nmvs_tables.specs.Packs.{no_entries, row_in, row_after}
+use Rattle.nmvs_tables.proofs.PacksLemmas.{row_in-noted}
 use Rattle.nmvs_tables.proofs.packs.note.Goals as goal
 
-pub noted-requires : goal.noted-requires
-noted-requires g c =
-    let Fits : Option PackRecord → Type 0 = λ r. about_in r + 1 < 2 ^ 64 in
-    subst Fits (sym c.find-index.ensures.value) (c.requires.about c.in_ok-pack.pack)
+pub noted-requires-clause-about : goal.noted-requires-clause-about
+noted-requires-clause-about g c =
+    let Fits : PackRow → Type 0 = λ r. r.about + 1 < 2 ^ 64 in
+    subst Fits (sym (c.unwrap_or-old.ensures ∙ ap (λ o. unwrap_or o no_entries) c.find-index.ensures.value)) (c.requires.about c.in-Some.pack)
 
 pub returns-clause-noted : goal.returns-clause-noted
 returns-clause-noted g c =
-    get-noted c.args.packs.now c.put.new.table c.in_ok-pack.pack c.noted.result c.args.entry.now c.args.place (sym c.in_ok-pack.ensures)
-    c.put.ensures.updates
-    (λ p about. c.noted.ensures p about ∙ ap (pack_after p c.args.place c.args.entry.now) c.find-index.ensures.value)
+    let old : c.unwrap_or-old.result ≡ row_in c.args.packs.now c.in-Some.pack = c.unwrap_or-old.ensures ∙ ap (λ o. unwrap_or o no_entries) c.find-index.ensures.value in
+    row_in-noted c.args.packs.now c.put.new.table c.in-Some.pack c.noted.result c.args.entry.now c.args.place (sym c.in-Some.ensures)
+    c.put.ensures.updates (c.noted.ensures ∙ ap (row_after c.args.place c.args.entry.now) old)

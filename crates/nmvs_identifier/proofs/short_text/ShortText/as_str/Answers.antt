@@ -10,4 +10,4 @@ IsOk-read Q R (Ok text) read valid = refl
 IsOk-read Q R (Err fault) read valid = absurd (read.0 valid)
 
 pub unwrap-requires : goal.unwrap-requires
-unwrap-requires g c = IsOk-read _ _ _ c.from_utf8.ensures.cases (IsUtf8-had _ c.self.invariant.3)
+unwrap-requires g c = IsOk-read _ _ _ c.from_utf8.ensures.cases (IsUtf8-had _ c.self.invariant.text)

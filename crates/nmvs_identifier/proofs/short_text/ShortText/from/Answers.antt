@@ -23,4 +23,10 @@ invariant_of-result g c =
     let copied : c.copy_from_slice.new.self ≡ c.args.text.now = c.copy_from_slice.ensures.after ∙ c.as_bytes.ensures.value in
     let known = filled g.row.CAP c.args.text.now c.requires.fits in
     let cells = subst (λ front. Filled g.row.CAP c.args.text.now (front ++ drop (length c.args.text.now) (replicate g.row.CAP 0))) (sym copied) known in
-    (c.requires.fits, cells.all, cells.zeros, ∣ subst IsUtf8 (sym cells.front) c.utf8.text ∣₁)
+    record {
+      small = c.requires.short;
+      fits = c.requires.fits;
+      whole = cells.all;
+      zeros = cells.zeros;
+      text = ∣ subst IsUtf8 (sym cells.front) c.utf8.text ∣₁;
+    }

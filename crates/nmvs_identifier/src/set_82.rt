@@ -1,0 +1,41 @@
+//! Texts of 1 to 20 characters of the GS1 character set 82, as serial numbers and batch numbers are.
+ghost use Rattle.std.specs.Prelude.{◌≡◌, ℕ, ◌<◌, ◌≤◌, ◌↔◌, IsTrue, IsOk, IfOk, IsErrOf, length, false};
+ghost use Rattle.std.specs.List.{list_all};
+ghost use Rattle.nmvs_identifier.specs.Characters.{is_in_set_82, is_set_82_text};
+
+use crate::characters::are_in_set_82;
+use crate::short_text::ShortText;
+use thiserror::Error;
+
+/// Why a text is no serial number or batch number: the first of these that holds.
+#[derive(Clone, Copy, Debug, PartialEq, Eq, Error)]
+pub enum Set82Fault {
+    #[error("the text is empty")]
+    Empty,
+    #[error("the text has more than 20 characters")]
+    Long,
+    #[error("the text has a character outside of set 82")]
+    Character,
+}
+
+/// Reads 1 to 20 characters of set 82. A text is refused by the first fault that holds: no byte at all, more than 20
+/// bytes, a character outside of set 82.
+pub(crate) fn read_set_82(text: &str) -> Result<ShortText<20>, Set82Fault>
+    ensures accepts { IsOk result ↔ IsTrue (is_set_82_text text.now) }
+    ensures kept { IfOk result (λ short. short.bytes ≡ text.now) }
+    ensures empty { IsErrOf result Set82Fault.Empty ↔ (length text.now ≡ 0) }
+    ensures long { IsErrOf result Set82Fault.Long ↔ (20 < length text.now) }
+    ensures character { IsErrOf result Set82Fault.Character
+        ↔ ((0 < length text.now) × (length text.now ≤ 20) × (list_all is_in_set_82 text.now ≡ false)) }
+{
+    if text.is_empty() {
+        return Err(Set82Fault::Empty);
+    }
+    if text.len() > 20 {
+        return Err(Set82Fault::Long);
+    }
+    if !are_in_set_82(text.as_bytes()) {
+        return Err(Set82Fault::Character);
+    }
+    Ok(ShortText::from(text))
+}

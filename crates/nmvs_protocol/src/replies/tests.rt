@@ -1,0 +1,89 @@
+use crate::{Answer, LineFault, Turn, reply_text};
+use nmvs_identifier::{Batch, Expiry};
+use nmvs_rules::{BatchLock, Cause, Onward, Own, Refusal, Reply};
+use std::alloc::Global;
+use std::process::Abort;
+use std::rt::HostRuntime;
+
+/// Whether the answer has this text.
+fn is_told(rt: &impl Abort, alloc: Global, answer: Answer, text: &str) -> bool {
+    let told = reply_text(alloc, &answer).expect(rt, "ample memory");
+    told.as_str() == text
+}
+
+#[test]
+fn each_kind_of_reply_has_its_text(rt: HostRuntime) {
+    let batch = Batch::read("ABC/DEF%GHI/JKL%MN12").expect(&rt, "a batch number");
+    let expiry = Expiry::read("280200").expect(&rt, "an expiry date");
+    for (reply, text) in [
+        (Reply::Uploaded, "UPLOADED\n"),
+        (
+            Reply::Authentic {
+                batch,
+                expiry,
+                expired: true,
+            },
+            "AUTHENTIC ABC/DEF%GHI/JKL%MN12 280200 EXPIRED\n",
+        ),
+        (
+            Reply::Alert {
+                cause: Cause::Withdrawn,
+                flagged: false,
+                number: u64::MAX,
+            },
+            "ALERT WITHDRAWN UNFLAGGED 18446744073709551615\n",
+        ),
+        (
+            Reply::StatusIs {
+                own: Own::Destroyed,
+                lock: BatchLock::Withdrawn,
+                onward: Onward::Authorities,
+                batch,
+                expiry,
+            },
+            "STATUS DESTROYED WITHDRAWN AUTHORITIES ABC/DEF%GHI/JKL%MN12 280200\n",
+        ),
+        (Reply::NoPack, "NOPACK\n"),
+        (Reply::Decommissioned, "DECOMMISSIONED\n"),
+        (Reply::Reverted, "REVERTED\n"),
+        (Reply::LockedNow(0), "LOCKED 0\n"),
+        (Reply::LockedNow(12), "LOCKED 12\n"),
+        (Reply::LockedNow(1_000_000), "LOCKED 1000000\n"),
+        (Reply::MarkedStolen, "STOLEN\n"),
+        (Reply::Shown(u64::MAX), "SHOWN 18446744073709551615\n"),
+        (
+            Reply::Refused(Refusal::UnknownBatch),
+            "REFUSED 3 UNKNOWN_BATCH\n",
+        ),
+        (Reply::Refused(Refusal::Expired), "REFUSED 14 EXPIRED\n"),
+    ] {
+        assert!(rt;
+            is_told(&rt, rt.alloc(), Answer::Replied(reply), text),
+            "{text}"
+        );
+    }
+}
+
+#[test]
+fn each_other_answer_has_its_text(rt: HostRuntime) {
+    for (answer, text) in [
+        (Answer::Turned(Turn::Clock), "FAULT CLOCK\n"),
+        (Answer::Turned(Turn::Nobody), "FAULT NOBODY\n"),
+        (Answer::Turned(Turn::Suspended), "FAULT SUSPENDED\n"),
+        (Answer::Turned(Turn::Closed), "FAULT CLOSED\n"),
+        (Answer::Turned(Turn::Role), "FAULT ROLE\n"),
+        (Answer::Turned(Turn::Memory), "FAULT MEMORY\n"),
+        (Answer::Unread(LineFault::Long), "FAULT LONG\n"),
+        (Answer::Unread(LineFault::Bytes), "FAULT BYTES\n"),
+        (Answer::Unread(LineFault::Fields), "FAULT FIELDS\n"),
+        (Answer::Unread(LineFault::Word), "FAULT WORD\n"),
+        (Answer::Unread(LineFault::Code), "FAULT CODE\n"),
+        (Answer::Unread(LineFault::Serial), "FAULT SERIAL\n"),
+        (Answer::Unread(LineFault::Batch), "FAULT BATCH\n"),
+        (Answer::Unread(LineFault::Expiry), "FAULT EXPIRY\n"),
+        (Answer::Unread(LineFault::User), "FAULT USER\n"),
+        (Answer::Bye, "BYE\n"),
+    ] {
+        assert!(rt; is_told(&rt, rt.alloc(), answer, text), "{text}");
+    }
+}
