@@ -1,18 +1,54 @@
-//! The program of the repository: a session over standard input and output.
+//! The program of the repository.
 #![tactic(auto)]
 
-use nmvs_server::serve_rehearsal;
+use nmvs_server::{Fault, OptionFault, read_options, serve_rehearsal, start};
 use nmvs_stream::Device;
 use std::process::ExitCode;
+use std::rt::Env;
+use std::{env, io};
 
 fn main(rt: HostRuntime) -> ExitCode {
+    let alloc = rt.alloc();
+    let Ok(words) = words(&rt) else {
+        return ended(&rt, &[Some(Fault::Memory)]);
+    };
     let mut source = Device::new(rt.stdin());
     let mut sink = Device::new(rt.stdout());
-    match serve_rehearsal(rt.alloc(), &mut source, &mut sink) {
-        Ok(()) => ExitCode::SUCCESS,
-        Err(fault) => {
+    if words.is_empty() {
+        let rehearsed = serve_rehearsal(alloc, &mut source, &mut sink);
+        return ended(&rt, &[rehearsed.err()]);
+    }
+    match read_options(alloc, &words) {
+        Ok(options) => {
+            let outcome = start(&rt, alloc, &options, &mut source, &mut sink);
+            ended(&rt, &[outcome.session, outcome.program])
+        }
+        Err(OptionFault::Help(text)) => {
+            let _ = print!(rt; "{text}");
+            ExitCode::SUCCESS
+        }
+        Err(OptionFault::Refused(text)) => {
+            let _ = eprint!(rt; "{text}");
+            ExitCode::from(2)
+        }
+        Err(OptionFault::Memory) => ended(&rt, &[Some(Fault::Memory)]),
+    }
+}
+
+/// The words of the command line after the program's own name.
+fn words<R: Env + AllocGlobal>(rt: &R) -> io::Result<Vec<String>> {
+    let words = env::args(rt)?.skip(1).collect(rt.alloc())?;
+    Ok(words)
+}
+
+/// Tells the faults, and gives the status that they make.
+fn ended(rt: &impl Eprint, faults: &[Option<Fault<'_>>]) -> ExitCode {
+    let mut status = ExitCode::SUCCESS;
+    for fault in faults {
+        if let Some(fault) = fault {
             let _ = eprintln!(rt; "nmvs-serve: {fault}");
-            ExitCode::FAILURE
+            status = ExitCode::FAILURE;
         }
     }
+    status
 }

@@ -3,3 +3,4 @@ pub mod Rehearsal
 pub mod Faults
 pub mod Options
 pub mod Users
+pub mod Desk

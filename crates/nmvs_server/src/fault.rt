@@ -1,31 +1,61 @@
 //! Why the program ends in failure.
-ghost use Rattle.std.specs.Prelude.{Some};
-ghost use Rattle.nmvs_server.specs.Faults.{fault_text};
+ghost use Rattle.std.specs.Prelude.{◌≡◌, Some};
+ghost use Rattle.nmvs_server.specs.Faults.{command_word, fault_text};
 
+use nmvs_protocol::CommandFault;
 use std::fmt;
 
 /// Why the program ends in failure (own). It is told on standard error, and the status is 1.
 #[derive(Clone, Copy, Debug, PartialEq, Eq)]
-pub enum Fault {
+pub enum Fault<'a> {
+    /// The file of this path can't be opened or read.
+    CannotRead(&'a str),
+    /// The line of the users file with this number, counted from 1, is no command.
+    UsersLine(usize, CommandFault),
+    /// A worker was refused its window on the directory.
+    Directory,
+    /// The port is not to be had.
+    CannotListen(u16),
+    /// Memory was wanting, or a thread for a worker.
+    Memory,
     /// A read of the session over standard input failed.
     SessionRead,
     /// A write of the session over standard output failed.
     SessionWrite,
     /// The session had more lines or reads than it may have.
     SessionLimit,
-    /// Memory was wanting.
-    Memory,
 }
 
-impl fmt::Display for Fault {
+impl<'a> fmt::Display for Fault<'a> {
     ghost output = { λ fault. Some (fault_text fault) };
 
     fn fmt<W: fmt::Write>(&self, f: &mut fmt::Formatter<W>) -> fmt::Result {
-        f.write_str(match self {
-            Fault::SessionRead => "session read fault",
-            Fault::SessionWrite => "session write fault",
-            Fault::SessionLimit => "session limit",
-            Fault::Memory => "out of memory",
-        })
+        match self {
+            Fault::CannotRead(path) => write!(f, "cannot read {path}"),
+            Fault::UsersLine(number, fault) => {
+                let word = word_of(*fault);
+                write!(f, "users line {number}: {word}")
+            }
+            Fault::Directory => f.write_str("directory refused"),
+            Fault::CannotListen(port) => write!(f, "cannot listen on port {port}"),
+            Fault::Memory => f.write_str("out of memory"),
+            Fault::SessionRead => f.write_str("session read fault"),
+            Fault::SessionWrite => f.write_str("session write fault"),
+            Fault::SessionLimit => f.write_str("session limit"),
+        }
+    }
+}
+
+/// The word of a command that can't be read.
+pub(crate) fn word_of(fault: CommandFault) -> &'static str
+    ensures { result.now ≡ command_word fault }
+{
+    match fault {
+        CommandFault::Long => "LONG",
+        CommandFault::Bytes => "BYTES",
+        CommandFault::Fields => "FIELDS",
+        CommandFault::Word => "WORD",
+        CommandFault::Role => "ROLE",
+        CommandFault::Name => "NAME",
     }
 }

@@ -2,7 +2,10 @@
 #![tactic(auto)]
 
 mod clock;
+mod commands;
+mod desk;
 mod fault;
+mod launch;
 mod options;
 mod program;
 mod rehearsal;
@@ -10,9 +13,12 @@ mod roster;
 #[cfg(test)]
 mod tests;
 mod users;
+mod workers;
 
 pub use clock::{Clock, ProgramClock};
+pub use desk::ClerkDesk;
 pub use fault::Fault;
+pub use launch::{Outcome, run, start};
 pub use options::{OptionFault, Options, read_options};
 pub use program::serve_rehearsal;
 pub use rehearsal::rehearse;

@@ -12,10 +12,6 @@ use std::alloc::{AllocError, Global};
 pub struct Options {
     /// Path of the users file.
     pub users: String,
-    /// Path of an export to open the repository with.
-    pub import: Option<String>,
-    /// Path to write the export to at the end.
-    pub export: Option<String>,
     /// How many shards the repository has, 1 to 8.
     pub shards: usize,
     /// How many workers accept connections, 1 to 8.
@@ -79,18 +75,6 @@ fn command<'a>(alloc: Global) -> Result<Command<'a>, AllocError> {
         "Users file: one command a line, ENROL user role authorisation premises or SUSPEND user",
     )
     .required(true);
-    let import = option(
-        alloc,
-        "import",
-        "FILE",
-        "Export to open the repository with; without it the repository is empty",
-    );
-    let export = option(
-        alloc,
-        "export",
-        "FILE",
-        "File to write the whole audit trail to at the end",
-    );
     let shards = number(
         alloc,
         "shards",
@@ -135,8 +119,6 @@ fn command<'a>(alloc: Global) -> Result<Command<'a>, AllocError> {
         .about(ABOUT)
         .after_help(REHEARSAL)
         .arg(users)?
-        .arg(import)?
-        .arg(export)?
         .arg(shards)?
         .arg(workers)?
         .arg(sessions)?
@@ -159,16 +141,16 @@ fn number<'a>(alloc: Global, name: &'a str, help: &'a str, least: i64, most: i64
 fn taken(alloc: Global, matches: &ArgMatches<'_>) -> Result<Options, OptionFault>
     ensures { IfOk result AreInRange }
 {
-    let users = text_of(alloc, matches, "users")?;
+    let Some(users) = matches.get_str("users") else {
+        return Err(unread(alloc));
+    };
     let moment = if matches.contains_id("moment") {
         Some(moment_of(alloc, matches)?)
     } else {
         None
     };
     Ok(Options {
-        users: users.ok_or_else(|| unread(alloc))?,
-        import: text_of(alloc, matches, "import")?,
-        export: text_of(alloc, matches, "export")?,
+        users: String::from_str(alloc, users)?,
         shards: within(alloc, matches, "shards", 1, 8)? as usize,
         workers: within(alloc, matches, "workers", 1, 8)? as usize,
         sessions: within(alloc, matches, "sessions", 0, 1_000_000)?,
@@ -176,17 +158,6 @@ fn taken(alloc: Global, matches: &ArgMatches<'_>) -> Result<Options, OptionFault
         moment,
         stdin: matches.get_flag("stdin"),
     })
-}
-
-fn text_of(
-    alloc: Global,
-    matches: &ArgMatches<'_>,
-    name: &str,
-) -> Result<Option<String>, AllocError> {
-    match matches.get_str(name) {
-        Some(text) => Ok(Some(String::from_str(alloc, text)?)),
-        None => Ok(None),
-    }
 }
 
 fn moment_of(alloc: Global, matches: &ArgMatches<'_>) -> Result<Moment, OptionFault>

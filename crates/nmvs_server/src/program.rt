@@ -23,7 +23,7 @@ pub fn serve_rehearsal<R: Source, W: Sink>(
     alloc: Global,
     source: &mut R,
     sink: &mut W,
-) -> Result<(), Fault>
+) -> Result<(), Fault<'static>>
     requires source_sound { (R.told source.old).failed ≡ false }
     requires source_open { (R.told source.old).ended ≡ false }
     requires sink_sound { (W.taken sink.old).failed ≡ false }
@@ -36,7 +36,7 @@ pub fn serve_rehearsal<R: Source, W: Sink>(
 }
 
 /// What the end of the program's session makes of the program.
-fn outcome_of(end: End) -> Result<(), Fault>
+pub(crate) fn outcome_of(end: End) -> Result<(), Fault<'static>>
     ensures { result ≡ outcome end }
 {
     match end {

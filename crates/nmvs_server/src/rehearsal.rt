@@ -13,7 +13,7 @@ use std::alloc::Global;
 use std::marker::Model;
 
 /// How far one session may go (own).
-const LIMITS: Limits = Limits {
+pub(crate) const LIMITS: Limits = Limits {
     lines: 10_000,
     reads: 4_000_000,
 };

@@ -17,7 +17,6 @@ fn options_have_defaults(rt: HostRuntime) -> Result<(), Fail> {
         panic!(rt; "refused");
     };
     assert!(rt; options.users.as_str() == "F");
-    assert!(rt; options.import.is_none() && options.export.is_none());
     assert_eq!(rt;
         (options.shards, options.workers, options.sessions),
         (8, 4, 0)
@@ -33,8 +32,6 @@ fn options_have_defaults(rt: HostRuntime) -> Result<(), Fail> {
 fn all_options_are_taken_together(rt: HostRuntime) -> Result<(), Fail> {
     let words = [
         "--users=F",
-        "--import=I",
-        "--export=E",
         "--shards=1",
         "--workers=8",
         "--sessions=1000000",
@@ -45,7 +42,7 @@ fn all_options_are_taken_together(rt: HostRuntime) -> Result<(), Fail> {
     let Ok(options) = read(rt.alloc(), &words)? else {
         panic!(rt; "refused");
     };
-    assert!(rt; options.import.is_some() && options.export.is_some() && options.moment.is_some());
+    assert!(rt; options.moment.is_some());
     assert_eq!(rt;
         (options.shards, options.workers, options.sessions),
         (1, 8, 1_000_000)
