@@ -4,6 +4,7 @@ use Rattle.std.specs.List.{list_all, list_any}
 use Rattle.std.specs.Char.{is_ascii_graphic, is_ascii_digit, is_ascii_alphanumeric}
 use Rattle.std.proofs.lemmas.Bool.{and_parts, or_cases, eqb-true}
 use Rattle.std.proofs.lemmas.Bool.Decides.{nat_tests}
+use Rattle.nmvs_identifier.specs.Texts.{longest_text}
 use Rattle.nmvs_identifier.specs.Characters.{character_set_82, is_in_set_82, is_name_character}
 use Rattle.nmvs_identifier.specs.Name.{is_name, begins_alphanumeric, has_name_characters}
 use Rattle.nmvs_identifier.specs.ProductCode.{is_product_code, is_checked}
@@ -17,7 +18,7 @@ is_plain b = is_ascii_graphic b && not (b == 92)
 
 -- a text of 1 to 20 of them
 abbrev pub IsPlain : List ℕ → Type 0
-IsPlain t = (1 ≤ length t) × (length t ≤ 20) × (list_all is_plain t ≡ true)
+IsPlain t = (1 ≤ length t) × (length t ≤ longest_text) × (list_all is_plain t ≡ true)
 
 -- what passes a test passes a weaker one
 pub all_weaker : (p q : ℕ → Bool) → ((b : ℕ) → p b ≡ true → q b ≡ true) → (t : List ℕ) → list_all p t ≡ true → list_all q t ≡ true
@@ -55,16 +56,16 @@ name_plain b e =
 at_least_one : (n : ℕ) → nat_le 1 n ≡ true → 1 ≤ n
 at_least_one n e = grind (arith, nat_tests)
 
-at_most_twenty : (n : ℕ) → nat_le n 20 ≡ true → n ≤ 20
-at_most_twenty n e = grind (arith, nat_tests)
+not_too_long : (n : ℕ) → nat_le n longest_text ≡ true → n ≤ longest_text
+not_too_long n e = grind (arith, nat_tests)
 
 -- what the grammars accept is plain
 pub plain_name : (t : List ℕ) → is_name t ≡ true → IsPlain t
 plain_name t e =
-    let halves = and_parts (nat_le 1 (length t) && nat_le (length t) 20) (has_name_characters t) e in
-    let bounds = and_parts (nat_le 1 (length t)) (nat_le (length t) 20) halves.0 in
+    let halves = and_parts (nat_le 1 (length t) && nat_le (length t) longest_text) (has_name_characters t) e in
+    let bounds = and_parts (nat_le 1 (length t)) (nat_le (length t) longest_text) halves.0 in
     let characters = and_parts (begins_alphanumeric t) (list_all is_name_character t) halves.1 in
-    (at_least_one (length t) bounds.0, at_most_twenty (length t) bounds.1, all_weaker is_name_character is_plain name_plain t characters.1)
+    (at_least_one (length t) bounds.0, not_too_long (length t) bounds.1, all_weaker is_name_character is_plain name_plain t characters.1)
 
 pub plain_code : (t : List ℕ) → is_product_code t ≡ true → IsPlain t
 plain_code t e =
@@ -83,9 +84,9 @@ plain_expiry t e =
 
 pub plain_serial : (t : List ℕ) → is_serial t ≡ true → IsPlain t
 plain_serial t e =
-    let halves = and_parts (nat_le 1 (length t) && nat_le (length t) 20) (list_all is_in_set_82 t) e in
-    let bounds = and_parts (nat_le 1 (length t)) (nat_le (length t) 20) halves.0 in
-    (at_least_one (length t) bounds.0, at_most_twenty (length t) bounds.1, all_weaker is_in_set_82 is_plain set_82_plain t halves.1)
+    let halves = and_parts (nat_le 1 (length t) && nat_le (length t) longest_text) (list_all is_in_set_82 t) e in
+    let bounds = and_parts (nat_le 1 (length t)) (nat_le (length t) longest_text) halves.0 in
+    (at_least_one (length t) bounds.0, not_too_long (length t) bounds.1, all_weaker is_in_set_82 is_plain set_82_plain t halves.1)
 
 pub plain_batch : (t : List ℕ) → is_batch t ≡ true → IsPlain t
 plain_batch t e = plain_serial t e

@@ -3,7 +3,7 @@ use Rattle.std.specs.Prelude.{ℕ, Bool, false, List, [], ◌∷◌, length, nat
 use Rattle.std.specs.List.{list_all}
 use Rattle.std.specs.Char.{is_ascii_alphanumeric}
 use Rattle.nmvs_identifier.specs.Characters.{is_name_character}
-use Rattle.nmvs_identifier.specs.Texts.{Text}
+use Rattle.nmvs_identifier.specs.Texts.{Text, longest_text}
 
 -- what a clause sees of one
 abbrev pub Name : Type 0
@@ -20,4 +20,4 @@ has_name_characters t = begins_alphanumeric t && list_all is_name_character t
 
 -- whether a text is a name
 abbrev pub is_name : List ℕ → Bool
-is_name t = nat_le 1 (length t) && nat_le (length t) 20 && has_name_characters t
+is_name t = nat_le 1 (length t) && nat_le (length t) longest_text && has_name_characters t

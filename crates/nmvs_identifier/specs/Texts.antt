@@ -6,6 +6,11 @@ use Rattle.std.specs.Str.{bytes_eq}
 pub record Text : Type 0 where
   pub bytes : List ℕ
 
+-- how many bytes a serial number, a batch number and a name have at most (GS1 General Specifications, sections 3.4.1 and
+-- 3.5.1; of names own)
+abbrev pub longest_text : ℕ
+longest_text = 20
+
 -- whether two texts are the same
 abbrev pub same_text : Text → Text → Bool
 same_text s t = bytes_eq s.bytes t.bytes

@@ -3,9 +3,10 @@ ghost use Rattle.std.specs.Prelude.{◌≡◌, ℕ, ◌<◌, ◌≤◌, ◌↔�
 ghost use Rattle.std.specs.List.{list_all};
 ghost use Rattle.nmvs_identifier.specs.Characters.{is_in_set_82};
 ghost use Rattle.nmvs_identifier.specs.Batch.{is_batch};
+ghost use Rattle.nmvs_identifier.specs.Texts.{longest_text};
 
 use crate::set_82::{Set82Fault, read_set_82};
-use crate::short_text::ShortText;
+use crate::short_text::{LONGEST_TEXT, ShortText};
 use std::marker::Model;
 
 /// The number of a batch: 1 to 20 characters of the GS1 character set 82 (section 7.11; Article 4 of the Regulation).
@@ -13,7 +14,7 @@ use std::marker::Model;
 /// Order, equality and hash are those of its text.
 #[derive(Clone, Copy, Debug, PartialEq, Eq, PartialOrd, Ord, Hash)]
 pub struct Batch {
-    text: ShortText<20>,
+    text: ShortText<LONGEST_TEXT>,
 }
 
 impl Model for Batch {
@@ -37,9 +38,9 @@ impl Batch {
         ensures accepts { IsOk result ↔ IsTrue (is_batch text.now) }
         ensures kept { IfOk result (λ batch. batch.bytes ≡ text.now) }
         ensures empty { IsErrOf result Set82Fault.Empty ↔ (length text.now ≡ 0) }
-        ensures long { IsErrOf result Set82Fault.Long ↔ (20 < length text.now) }
+        ensures long { IsErrOf result Set82Fault.Long ↔ (longest_text < length text.now) }
         ensures character { IsErrOf result Set82Fault.Character
-            ↔ ((0 < length text.now) × (length text.now ≤ 20) × (list_all is_in_set_82 text.now ≡ false)) }
+            ↔ ((0 < length text.now) × (length text.now ≤ longest_text) × (list_all is_in_set_82 text.now ≡ false)) }
     {
         let text = read_set_82(text)?;
         Ok(Batch { text })
@@ -51,5 +52,12 @@ impl Batch {
         ensures grammar { IsTrue (is_batch self.now.bytes) }
     {
         self.text.as_str()
+    }
+
+    /// Tells a proof that the text is in its grammar, and does nothing.
+    pub fn tell_grammar(&self)
+        ensures { IsTrue (is_batch self.now.bytes) }
+    {
+        let _ = &self.text;
     }
 }

@@ -2,9 +2,10 @@
 ghost use Rattle.std.specs.Prelude.{◌≡◌, ℕ, ◌<◌, ◌≤◌, ◌↔◌, IsTrue, IsOk, IfOk, IsErrOf, length, false};
 ghost use Rattle.std.specs.List.{list_all};
 ghost use Rattle.nmvs_identifier.specs.Characters.{is_in_set_82, is_set_82_text};
+ghost use Rattle.nmvs_identifier.specs.Texts.{longest_text};
 
 use crate::characters::are_in_set_82;
-use crate::short_text::ShortText;
+use crate::short_text::{LONGEST_TEXT, ShortText};
 use thiserror::Error;
 
 /// Why a text is no serial number or batch number: the first of these that holds.
@@ -20,18 +21,18 @@ pub enum Set82Fault {
 
 /// Reads 1 to 20 characters of set 82. A text is refused by the first fault that holds: no byte at all, more than 20
 /// bytes, a character outside of set 82.
-pub(crate) fn read_set_82(text: &str) -> Result<ShortText<20>, Set82Fault>
+pub(crate) fn read_set_82(text: &str) -> Result<ShortText<LONGEST_TEXT>, Set82Fault>
     ensures accepts { IsOk result ↔ IsTrue (is_set_82_text text.now) }
     ensures kept { IfOk result (λ short. short.bytes ≡ text.now) }
     ensures empty { IsErrOf result Set82Fault.Empty ↔ (length text.now ≡ 0) }
-    ensures long { IsErrOf result Set82Fault.Long ↔ (20 < length text.now) }
+    ensures long { IsErrOf result Set82Fault.Long ↔ (longest_text < length text.now) }
     ensures character { IsErrOf result Set82Fault.Character
-        ↔ ((0 < length text.now) × (length text.now ≤ 20) × (list_all is_in_set_82 text.now ≡ false)) }
+        ↔ ((0 < length text.now) × (length text.now ≤ longest_text) × (list_all is_in_set_82 text.now ≡ false)) }
 {
     if text.is_empty() {
         return Err(Set82Fault::Empty);
     }
-    if text.len() > 20 {
+    if text.len() > LONGEST_TEXT {
         return Err(Set82Fault::Long);
     }
     if !are_in_set_82(text.as_bytes()) {

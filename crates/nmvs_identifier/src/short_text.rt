@@ -12,6 +12,10 @@ use std::hash::{Hash, Hasher};
 use std::marker::Model;
 use std::{fmt, str};
 
+/// The bytes that a serial number, a batch number and a name have at most (GS1 General Specifications, sections 3.4.1
+/// and 3.5.1; of names own).
+pub(crate) const LONGEST_TEXT: usize = 20;
+
 /// A text of at most `CAP` bytes, which lie in the value itself, with zeros after them.
 ///
 /// Its length takes one byte and not a word, so that an entry of a trail and the record of a pack stay small.

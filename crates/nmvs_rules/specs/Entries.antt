@@ -1,6 +1,7 @@
 -- What every entry of a trail is: its texts are in their grammars, and its numbers in their ranges (Article 4; the
 -- grammars of names and the ranges are own).
-use Rattle.std.specs.Prelude.{ℕ, ◌^◌, Bool, true, ◌&&◌, nat_lt}
+use Rattle.std.specs.Prelude.{ℕ, ◌^◌, Bool, true, ◌&&◌, nat_lt, List, IsTrue}
+use Rattle.std.specs.List.{All}
 use Rattle.nmvs_identifier.specs.Batch.{Batch, is_batch}
 use Rattle.nmvs_identifier.specs.Expiry.{Expiry, is_expiry}
 use Rattle.nmvs_identifier.specs.Moment.{is_moment}
@@ -50,3 +51,7 @@ is_reply _ = true
 -- whether the texts and the numbers of an entry are in their grammars and ranges
 abbrev pub is_entry : Entry → Bool
 is_entry e = is_moment e.moment && (is_name e.user.bytes && (is_actor e.actor && (is_question e.question && is_reply e.reply)))
+
+-- all entries of a trail are such
+abbrev pub AreEntries : List Entry → Type 0
+AreEntries t = All (λ e. IsTrue (is_entry e)) t

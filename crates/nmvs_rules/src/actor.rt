@@ -1,3 +1,6 @@
+ghost use Rattle.std.specs.Prelude.{IsTrue};
+ghost use Rattle.nmvs_rules.specs.Entries.{is_actor};
+
 use crate::Role;
 use nmvs_identifier::Name;
 
@@ -7,4 +10,14 @@ pub struct Actor {
     pub role: Role,
     pub authorisation: Name,
     pub premises: Name,
+}
+
+impl Actor {
+    /// Tells a proof that the names are in their grammar, and does nothing.
+    pub fn tell_grammar(&self)
+        ensures { IsTrue (is_actor self.now) }
+    {
+        self.authorisation.tell_grammar();
+        self.premises.tell_grammar();
+    }
 }

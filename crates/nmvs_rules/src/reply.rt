@@ -1,3 +1,7 @@
+//! What is answered.
+ghost use Rattle.std.specs.Prelude.{IsTrue};
+ghost use Rattle.nmvs_rules.specs.Entries.{is_reply};
+
 use crate::{BatchLock, Cause, Onward, Own, Refusal};
 use nmvs_identifier::{Batch, Expiry};
 
@@ -35,4 +39,25 @@ pub enum Reply {
     /// So many earlier entries are about the pack.
     Shown(u64),
     Refused(Refusal),
+}
+
+impl Reply {
+    /// Tells a proof that the reply's texts are in their grammars and its numbers in their ranges, and does nothing.
+    pub fn tell_ranges(&self)
+        ensures { IsTrue (is_reply self.now) }
+    {
+        match self {
+            Reply::Authentic { batch, expiry, .. } | Reply::StatusIs { batch, expiry, .. } => {
+                batch.tell_grammar();
+                expiry.tell_grammar();
+            }
+            Reply::Alert { number, .. } => {
+                let _number = *number;
+            }
+            Reply::LockedNow(count) | Reply::Shown(count) => {
+                let _count = *count;
+            }
+            _ => {}
+        }
+    }
 }

@@ -1,6 +1,5 @@
 -- Words and what they name.
-use Rattle.std.proofs.Common.{◌≡◌, ℕ, Bool, true, false, cond, List, [], ◌∷◌, Option, Some, refl, sym, ap, ◌∙◌}
-use Rattle.std.specs.Prelude.{find}
+use Rattle.std.proofs.Common.{◌≡◌, ℕ, Bool, true, false, List, Some, refl, sym, ap, ◌∙◌}
 use Rattle.std.specs.Str.{bytes_eq}
 use Rattle.std.proofs.lemmas.Slice.Eq.{bytes_eq-Decides}
 use Rattle.nmvs_rules.specs.declared.role.Role.{Role}
@@ -17,6 +16,7 @@ use Rattle.nmvs_rules.specs.declared.cause.Cause.TheVariants as cause
 use Rattle.nmvs_rules.specs.declared.refusal.Refusal.{Refusal}
 use Rattle.nmvs_rules.specs.declared.refusal.Refusal.TheVariants as refusal
 use Rattle.nmvs_rules.specs.Replies.{refusal_number}
+use Rattle.nmvs_rules.proofs.FindLemmas.{find-passes}
 use Rattle.nmvs_words.specs.declared.pack_question.PackQuestion.TheVariants.{Verify, Status, Decommission, Revert, Theft, Audit}
 use Rattle.nmvs_words.specs.declared.batch_question.BatchQuestion.TheVariants.{Recall, Withdraw}
 use Rattle.nmvs_words.specs.declared.question_kind.QuestionKind.{QuestionKind}
@@ -27,19 +27,9 @@ use Rattle.nmvs_words.specs.Words.{role_word, role_named, roles, own_word, own_n
 some_is : {X : Type 0} (x y : X) → Some x ≡ Some y → x ≡ y
 some_is x y e = cc
 
-found_first : {X : Type 0} (p : X → Bool) (b : Bool) (x y : X) (o : Option X)
-    → p x ≡ b → cond b (Some x) o ≡ Some y → (o ≡ Some y → p y ≡ true) → p y ≡ true
-found_first p true x y o passes e rest = ap p (sym (some_is x y e)) ∙ passes
-found_first p false x y o passes e rest = rest e
-
--- what is found passes the test
-found : {X : Type 0} (p : X → Bool) (xs : List X) (y : X) → find p xs ≡ Some y → p y ≡ true
-found p [] y e = absurd cc
-found p (x ∷ xs) y e = found_first p (p x) x y (find p xs) refl e (found p xs y)
-
 -- a kind is found by its word alone
 pub kind_named-word : (w : List ℕ) (kind : QuestionKind) → kind_named w ≡ Some kind → w ≡ kind_word kind
-kind_named-word w kind e = (bytes_eq-Decides w (kind_word kind)).0 (found (λ k. bytes_eq w (kind_word k)) kinds kind e)
+kind_named-word w kind e = (bytes_eq-Decides w (kind_word kind)).0 (find-passes (λ k. bytes_eq w (kind_word k)) kinds kind e)
 
 -- a kind's word finds it
 pub kind_named-of_word : (kind : QuestionKind) → kind_named (kind_word kind) ≡ Some kind
@@ -63,7 +53,7 @@ kind_word-one k k' e = some_is k k' (sym (kind_named-of_word k) ∙ ap kind_name
 
 -- a role is found by its word alone
 pub role_named-word : (w : List ℕ) (r : Role) → role_named w ≡ Some r → w ≡ role_word r
-role_named-word w r e = (bytes_eq-Decides w (role_word r)).0 (found (λ k. bytes_eq w (role_word k)) roles r e)
+role_named-word w r e = (bytes_eq-Decides w (role_word r)).0 (find-passes (λ k. bytes_eq w (role_word k)) roles r e)
 
 -- a role's word finds it
 pub role_named-of_word : (r : Role) → role_named (role_word r) ≡ Some r
