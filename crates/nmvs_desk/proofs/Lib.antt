@@ -1,2 +1,9 @@
 pub mod Lists
 pub mod Dealing
+pub mod SameEntry
+pub mod Claiming
+pub mod Putting
+pub mod Floors
+pub mod Judged
+pub mod Owned
+pub mod Unlocked

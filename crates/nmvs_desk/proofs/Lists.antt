@@ -36,3 +36,7 @@ rest_all {X} P (z ∷ xs) rest left holds = λ k d within.
 
 pub first_holds : {X : Type 0} (P : X → Type 0) (xs : List X) (x : X) → 0 < length xs → x ≡ get_or xs 0 x → All P xs → P x
 first_holds P xs x some is holds = subst P (sym is) (holds 0 x some)
+
+pub first_and_rest : {X : Type 0} (xs rest : List X) (x : X) → 0 < length xs → x ≡ get_or xs 0 x → rest ≡ remove xs 0 → xs ≡ x ∷ rest
+first_and_rest [] rest x some is left = absurd (omega arith)
+first_and_rest (z ∷ xs) rest x some is left = λ i. (sym is) i ∷ (sym left) i

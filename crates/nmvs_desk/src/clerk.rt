@@ -1,5 +1,5 @@
 //! Those who ask.
-ghost use Rattle.std.specs.Prelude.{◌≡◌, ◌⊎◌, [], ◌∷◌, ◌++◌, IfOk, IfErr, OnErr};
+ghost use Rattle.std.specs.Prelude.{◌≡◌, ◌⊎◌, [], ◌∷◌, ◌++◌, length, IfOk, IfErr, OnErr};
 ghost use mathlib.Core.List.{IsPrefix};
 ghost use Rattle.nmvs_directory.specs.Window.{Reads};
 ghost use Rattle.nmvs_directory.specs.declared.look.Look.TheVariants.{Known};
@@ -60,6 +60,11 @@ impl<'a, B: Allocator, J: Naming, C: ReceiptLedger> Clerk<'a, B, J, C> {
         ensures { result.now ≡ self.now.receipts }
     {
         self.receipts.as_slice()
+    }
+
+    /// The memory in which the clerk keeps its receipts and lists the entries of audits.
+    pub fn allocator(&self) -> &'a B {
+        *self.receipts.allocator()
     }
 
     /// From now on the clerk sees no older directory than the notice tells. It waits for nobody.
@@ -163,5 +168,18 @@ impl<'a, B: Allocator, J: Naming, C: ReceiptLedger> Clerk<'a, B, J, C> {
             self.receipts.push_reserved(*receipt);
         }
         Ok(answer?)
+    }
+    /// The receipts, and the clerk's share. Its window is let go.
+    pub(crate) fn into_parts(self) -> (Vec<Receipt, &'a B>, Share<C>)
+        ensures receipts { result.0.items ≡ self.entry.receipts }
+        ensures parts { result.1.parts ≡ 1 }
+        ensures amount { result.1.amount ≡ length self.entry.receipts }
+    {
+        let Clerk {
+            window: _,
+            receipts,
+            share,
+        } = self;
+        (receipts, share)
     }
 }

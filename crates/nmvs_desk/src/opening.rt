@@ -15,7 +15,7 @@ use std::sync::Mutex;
 use std::sync::ledger::{Blank, Book, Share};
 
 /// So many empty shards, each with a share of one part.
-fn empty_shards<'a, B: Allocator, S: EntryLedger>(
+pub(crate) fn empty_shards<'a, B: Allocator, S: EntryLedger>(
     alloc: &'a B,
     rest: &mut Share<S>,
     count: usize,
@@ -36,7 +36,7 @@ fn empty_shards<'a, B: Allocator, S: EntryLedger>(
 }
 
 /// Deals the opening's entries to the shards, in order, and gives the receipts.
-fn deal_all<'a, B: Allocator, S: EntryLedger, C: ReceiptLedger>(
+pub(crate) fn deal_all<'a, B: Allocator, S: EntryLedger, C: ReceiptLedger>(
     alloc: &'a B,
     books: &mut Books<S, C>,
     importer: &mut Share<C>,

@@ -26,6 +26,16 @@ impl<S: EntryLedger, C: ReceiptLedger> Books<S, C> {
         self.entries.add(shard, 1);
         self.receipts.add(clerk, 1);
     }
+
+    /// There are as many entries as receipts, as the shares of all shards and of all clerks tell.
+    pub(crate) fn audit(&mut self, shards: &mut Share<S>, clerks: &mut Share<C>)
+        requires shards { shards.old.parts ≡ S.parts }
+        requires clerks { clerks.old.parts ≡ C.parts }
+        ensures { shards.old.amount ≡ clerks.old.amount }
+    {
+        self.entries.audit(shards);
+        self.receipts.audit(clerks);
+    }
 }
 
 /// What stands under the lock that all shards have in common: the books, the parts of the shards' ledger that no shard

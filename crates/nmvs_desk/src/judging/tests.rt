@@ -1,0 +1,154 @@
+//! Receipts made by hand, over one shard whose trail is an upload and a verification.
+ghost use Rattle.std.specs.Prelude.{◌≡◌, ◌≤◌, length};
+
+use super::{claims_over, judge};
+use crate::locked::Locked;
+use crate::opening::{deal_all, empty_shards};
+use crate::tally::Books;
+use crate::{EntryLedger, Receipt, ReceiptLedger, SettleFault};
+use nmvs_identifier::{Batch, Expiry, Moment, Name, Pack, ProductCode, Serial};
+use nmvs_rules::{Actor, Entry, Question, Role};
+use nmvs_shard::Shard;
+use std::alloc::{AllocError, Allocator, Global};
+use std::marker::Brand;
+use std::process::Abort;
+use std::sync::ledger::Blank;
+use std::test::*;
+
+fn name(rt: &impl Abort, text: &str) -> Name {
+    Name::read(text).expect(rt, "a name")
+}
+
+fn actor(rt: &impl Abort, role: Role, authorisation: &str, premises: &str) -> Actor {
+    Actor {
+        role,
+        authorisation: name(rt, authorisation),
+        premises: name(rt, premises),
+    }
+}
+
+fn pack(rt: &impl Abort) -> Pack {
+    Pack {
+        code: ProductCode::read("09506000134352").expect(rt, "a code"),
+        serial: Serial::read("SN1").expect(rt, "a serial"),
+    }
+}
+
+fn upload(rt: &impl Abort) -> Question {
+    Question::Upload {
+        pack: pack(rt),
+        batch: Batch::read("B1").expect(rt, "a batch"),
+        expiry: Expiry::read("280200").expect(rt, "a date"),
+    }
+}
+
+fn verification(rt: &impl Abort) -> Question {
+    Question::Verify(pack(rt))
+}
+
+/// The trail of an upload and a verification of one pack.
+fn upload_and_verification<'a>(
+    rt: &impl Abort,
+    alloc: &'a Global,
+) -> Result<Shard<&'a Global>, AllocError> {
+    let moment = Moment::new(1_767_225_600).expect(rt, "a moment");
+    let holder = actor(rt, Role::Holder, "MAH-1", "HQ");
+    let pharmacy = actor(rt, Role::Pharmacy, "PH-1", "P1");
+    let mut shard = Shard::new(alloc);
+    shard.step(moment, &name(rt, "mah1"), &holder, &upload(rt))?;
+    shard.step(moment, &name(rt, "ph1"), &pharmacy, &verification(rt))?;
+    Ok(shard)
+}
+
+/// Judges the receipts of clerk 1, and then those of clerk 2.
+fn judge_both<'a, B: Allocator, S: EntryLedger>(
+    alloc: &'a B,
+    locked: &Vec<Locked<'a, B, S>, &'a B>,
+    first: &[Receipt],
+    second: &[Receipt],
+) -> Result<(), SettleFault>
+    requires { length locked.now.items ≤ 8 }
+{
+    let mut claims = claims_over(alloc, locked)?;
+    judge(locked, 1, first, &mut claims)?;
+    judge(locked, 2, second, &mut claims)
+}
+
+fn receipt(place: usize, entry: &Entry) -> Receipt {
+    Receipt {
+        shard: 0,
+        place,
+        entry: *entry,
+    }
+}
+
+/// Judges lists of receipts over a shard with two entries.
+fn judge_lists<'a, S: EntryLedger>(
+    rt: &impl Abort,
+    alloc: &'a Global,
+    locked: &Vec<Locked<'a, Global, S>, &'a Global>,
+    x: &Entry,
+    y: &Entry,
+)
+    requires { length locked.now.items ≤ 8 }
+{
+    let nothing: [Receipt; 0] = [];
+    let first = [receipt(0, x)];
+    let second = [receipt(1, y)];
+    let falling = [receipt(1, y), receipt(0, x)];
+    let past = [receipt(2, x)];
+    let other = [receipt(0, y)];
+    let other_later = [receipt(1, y), receipt(0, y)];
+    let order = SettleFault::Order {
+        clerk: 1,
+        receipt: 1,
+    };
+    let double = SettleFault::Double {
+        clerk: 2,
+        receipt: 0,
+    };
+    let stranger = SettleFault::Stranger {
+        clerk: 1,
+        receipt: 0,
+    };
+    let later = SettleFault::Stranger {
+        clerk: 1,
+        receipt: 1,
+    };
+    assert!(rt; judge_both(alloc, locked, &falling, &nothing) == Err(order));
+    assert!(rt; judge_both(alloc, locked, &first, &first) == Err(double));
+    assert!(rt; judge_both(alloc, locked, &past, &nothing) == Err(stranger));
+    assert!(rt; judge_both(alloc, locked, &other, &nothing) == Err(stranger));
+    assert!(rt; judge_both(alloc, locked, &other_later, &nothing) == Err(later));
+    assert!(rt; judge_both(alloc, locked, &first, &second) == Ok(()));
+}
+
+/// Judges lists of receipts over a shard with an upload and a verification.
+fn judge_by_hand<S: EntryLedger, C: ReceiptLedger>(
+    rt: &impl Abort,
+    alloc: &Global,
+    entries: Blank,
+    receipts: Blank,
+) -> Result<(), Fail>
+    requires entries { (entries.name ≡ S.name) × (entries.parts ≡ S.parts) × (S.parts ≡ 9) × (S.shards ≡ 1) }
+    requires receipts { (receipts.name ≡ C.name) × (receipts.parts ≡ C.parts) × (C.parts ≡ 9) }
+{
+    let (entry_book, mut rest) = entries.open::<S>();
+    let (receipt_book, mut importer) = receipts.open::<C>();
+    let mut books = Books {
+        entries: entry_book,
+        receipts: receipt_book,
+    };
+    let opening = upload_and_verification(rt, alloc)?;
+    let mut locked = empty_shards(alloc, &mut rest, 1)?;
+    deal_all(alloc, &mut books, &mut importer, &mut locked, &opening)?;
+    let x = opening.trail().first().expect(rt, "an entry");
+    let y = opening.trail().last().expect(rt, "an entry");
+    judge_lists(rt, alloc, &locked, x, y);
+    Ok(())
+}
+
+#[test]
+fn receipts_made_by_hand_are_judged(rt: HostRuntime) -> Result<(), Fail> {
+    judge_by_hand::<Brand, Brand>(&rt, &rt.alloc(), Blank::new(9), Blank::new(9))
+}

@@ -1,0 +1,189 @@
+//! How a test opens a repository, and what it does there.
+ghost use Rattle.std.specs.Prelude.{◌≡◌, ◌≤◌, length, vec_len};
+ghost use Rattle.nmvs_directory.specs.Directory.{directory_book};
+
+use super::market::{actor, name, new_year, upload};
+use crate::{Clerk, EntryLedger, OpenFault, ReceiptLedger, Repository};
+use nmvs_directory::{Directory, Naming, Registrar, Window};
+use nmvs_shard::Shard;
+use std::alloc::{AllocError, Allocator, Global};
+use std::marker::Brand;
+use std::process::Abort;
+use std::sync::Wait;
+use std::sync::ledger::Blank;
+use std::test::*;
+use std::thread::Threads;
+
+/// What a test does in a repository over this kind of memory.
+pub trait Scene<B: Allocator> {
+    /// Comes before the repository is opened.
+    fn prepare(&mut self) {}
+
+    /// Is told that the repository was not opened, and how many windows are left. Says whether the scene is at its end,
+    /// and not to be tried once more.
+    fn refused<R: Abort>(
+        &mut self,
+        _rt: &R,
+        fault: OpenFault,
+        _windows: usize,
+    ) -> Result<bool, Fail> {
+        Err(Fail::from(fault))
+    }
+
+    fn play<
+        'a,
+        J: Naming + Send + Sync,
+        S: EntryLedger + Send + Sync,
+        C: ReceiptLedger + Send + Sync,
+        R: Threads + Wait + Abort + Sync,
+    >(
+        &mut self,
+        rt: &R,
+        registrar: &mut Registrar<J, &R, &'a B>,
+        repository: &Repository<'a, B, S, C>,
+        clerks: &mut [Clerk<'a, B, J, C>],
+    ) -> Result<(), Fail>;
+}
+
+/// How the repository of a test is opened.
+#[derive(Drop)]
+pub struct Stage<'s> {
+    pub shards: usize,
+    pub clerks: usize,
+    pub users: &'s [&'s str],
+    /// The product codes of the opening, which has an upload of SN1 of each.
+    pub opening: &'s [&'s str],
+}
+
+/// Plays the scene in a repository of its own.
+pub fn play<P: Scene<Global>, R: Threads + Wait + Abort + Sync>(
+    rt: &R,
+    alloc: &Global,
+    stage: &Stage,
+    scene: &mut P,
+) -> Result<(), Fail> {
+    assert!(rt; 1 <= stage.clerks && stage.clerks <= 8);
+    in_directory::<Brand, _, _>(rt, alloc, stage, scene, Directory::new())
+}
+
+pub fn opening_of<'a, B: Allocator>(
+    rt: &impl Abort,
+    alloc: &'a B,
+    codes: &[&str],
+) -> Result<Shard<&'a B>, AllocError> {
+    let mut opening = Shard::new(alloc);
+    for digits in codes {
+        opening.step(
+            new_year(rt),
+            &name(rt, "mah1"),
+            &actor(rt, "mah1"),
+            &upload(rt, digits),
+        )?;
+    }
+    Ok(opening)
+}
+
+/// Enrols the users, and publishes them.
+pub fn enrol_all<'a, B: Allocator, J: Naming, R: Wait + Abort>(
+    rt: &R,
+    registrar: &mut Registrar<J, &R, &'a B>,
+    users: &[&str],
+) -> Result<(), AllocError> {
+    for user in users {
+        registrar.changes.enrol(name(rt, user), actor(rt, user))?;
+    }
+    registrar.publish()?;
+    Ok(())
+}
+
+fn in_directory<J: Naming + Send + Sync, P: Scene<Global>, R: Threads + Wait + Abort + Sync>(
+    rt: &R,
+    alloc: &Global,
+    stage: &Stage,
+    scene: &mut P,
+    directory: Directory,
+) -> Result<(), Fail>
+    requires name { directory_book directory ≡ J.book }
+    requires windows { (1 ≤ stage.now.clerks) × (stage.now.clerks ≤ 8) }
+{
+    let opening = opening_of(rt, alloc, stage.opening)?;
+    let (mut registrar, mut windows) = directory.open::<J, _, _>(rt, alloc, stage.clerks)?;
+    enrol_all(rt, &mut registrar, stage.users)?;
+    scene.prepare();
+    let played = tried(
+        rt,
+        stage.shards,
+        scene,
+        &mut registrar,
+        &mut windows,
+        &opening,
+    );
+    registrar.close();
+    played
+}
+
+/// Opens the repository and plays in it, at a second try if need be.
+pub fn tried<
+    'a,
+    J: Naming + Send + Sync,
+    B: Allocator,
+    P: Scene<B>,
+    R: Threads + Wait + Abort + Sync,
+>(
+    rt: &R,
+    shards: usize,
+    scene: &mut P,
+    registrar: &mut Registrar<J, &R, &'a B>,
+    windows: &mut Vec<Window<J, &'a B>, &'a B>,
+    opening: &Shard<&'a B>,
+) -> Result<(), Fail>
+    requires few { vec_len windows.old ≤ 8 }
+{
+    let (entries, receipts) = (Blank::new(9), Blank::new(9));
+    if in_repository::<J, Brand, Brand, _, _, _>(
+        rt, shards, scene, registrar, windows, opening, entries, receipts,
+    )? {
+        return Ok(());
+    }
+    let (entries, receipts) = (Blank::new(9), Blank::new(9));
+    let ended = in_repository::<J, Brand, Brand, _, _, _>(
+        rt, shards, scene, registrar, windows, opening, entries, receipts,
+    )?;
+    assert!(rt; ended);
+    Ok(())
+}
+
+/// Tells whether the scene has come to its end.
+fn in_repository<
+    'a,
+    J: Naming + Send + Sync,
+    S: EntryLedger + Send + Sync,
+    C: ReceiptLedger + Send + Sync,
+    B: Allocator,
+    P: Scene<B>,
+    R: Threads + Wait + Abort + Sync,
+>(
+    rt: &R,
+    shards: usize,
+    scene: &mut P,
+    registrar: &mut Registrar<J, &R, &'a B>,
+    windows: &mut Vec<Window<J, &'a B>, &'a B>,
+    opening: &Shard<&'a B>,
+    entries: Blank,
+    receipts: Blank,
+) -> Result<bool, Fail>
+    requires entries { (entries.name ≡ S.name) × (entries.parts ≡ S.parts) × (S.parts ≡ 9) }
+    requires receipts { (receipts.name ≡ C.name) × (receipts.parts ≡ C.parts) × (C.parts ≡ 9) }
+    requires named { (S.shards ≡ shards) × (C.clerks ≡ vec_len windows.old) × (C.opening ≡ length opening.now) }
+    requires few { vec_len windows.old ≤ 8 }
+    ensures few { vec_len windows.new ≤ 8 }
+{
+    let alloc = *windows.allocator();
+    match Repository::<_, S, C>::open(alloc, entries, receipts, shards, windows, opening) {
+        Ok((repository, mut clerks)) => {
+            scene.play(rt, registrar, &repository, clerks.as_mut_slice())?;
+            Ok(true)
+        }
+        Err(fault) => scene.refused(rt, fault, windows.len()),
+    }
+}
