@@ -9,7 +9,7 @@ use Rattle.nmvs_words.specs.declared.question_kind.QuestionKind.{QuestionKind}
 use Rattle.nmvs_words.specs.declared.question_kind.QuestionKind.TheVariants.{Upload, OfPack, OfBatch}
 use Rattle.nmvs_words.specs.Kinds.{kind_of, texts_of}
 use Rattle.nmvs_protocol.specs.declared.ask.Ask.{Ask}
-use Rattle.nmvs_protocol.specs.declared.ask.Ask.TheVariants.{Put, Quit}
+use Rattle.nmvs_protocol.specs.declared.ask.Ask.TheVariants.{Put, Report, Quit}
 use Rattle.nmvs_protocol.specs.Lines.{IsSameAsk}
 use Rattle.nmvs_protocol.specs.Session.{OneReading}
 use Rattle.nmvs_protocol.proofs.SpellingLemmas as spelling
@@ -53,13 +53,19 @@ same_question q q' kind texts = some_is q q' (sym (remade q) ∙ (λ i. question
 same_ask : (a b : Ask) → IsSameAsk a b → a ≡ b
 same_ask (Put user q) (Put user' q') same =
     let name = ap written same.0 in let asked = same_question q q' same.1 same.2 in λ i. Put (name i) (asked i)
-same_ask (Put user q) Quit same = absurd same
-same_ask Quit (Put user q) same = absurd same
+same_ask (Report user c) (Report user' c') same =
+    let name = ap written same.0 in let code = ap written same.1 in λ i. Report (name i) (code i)
 same_ask Quit Quit same = refl
+same_ask (Put user q) (Report user' c) same = absurd same
+same_ask (Put user q) Quit same = absurd same
+same_ask (Report user c) (Put user' q) same = absurd same
+same_ask (Report user c) Quit same = absurd same
+same_ask Quit (Put user q) same = absurd same
+same_ask Quit (Report user c) same = absurd same
 
 pub one_reading : OneReading
 one_reading x (Ok a) (Ok b) r s =
-    ap (λ (ask : Ask). Ok ask) (same_ask a b (spelling.one_spelling a b (spelling.is_ask_readable a r.2) (spelling.is_ask_readable b s.2) (sym r.0 ∙ s.0)))
+    ap (λ (ask : Ask). Ok ask) (same_ask a b (spelling.one_spelling a b r.2 s.2 (sym r.0 ∙ s.0)))
 one_reading x (Ok a) (Err f) r s = let no = r.1 in absurd (cc (no, s))
 one_reading x (Err f) (Ok a) r s = let no = s.1 in absurd (cc (no, r))
 one_reading x (Err f) (Err g) r s = let same : Some f ≡ Some g = sym r ∙ s in cc

@@ -6,20 +6,23 @@ use Rattle.nmvs_identifier.specs.ProductCode.{is_product_code}
 use Rattle.nmvs_identifier.specs.Serial.{is_serial}
 use Rattle.nmvs_identifier.specs.Batch.{is_batch}
 use Rattle.nmvs_identifier.specs.Expiry.{is_expiry}
-use Rattle.nmvs_rules.specs.declared.question.Question.TheVariants as question
-use Rattle.nmvs_words.specs.declared.pack_question.PackQuestion.TheVariants.{Audit}
 use Rattle.nmvs_words.specs.declared.question_kind.QuestionKind.{QuestionKind}
 use Rattle.nmvs_words.specs.declared.question_kind.QuestionKind.TheVariants.{Upload, OfPack, OfBatch}
 use Rattle.nmvs_words.specs.Kinds.{kind_of, kind_word, kind_named, texts_of}
 use Rattle.nmvs_protocol.specs.declared.ask.Ask.{Ask}
-use Rattle.nmvs_protocol.specs.declared.ask.Ask.TheVariants.{Put, Quit}
+use Rattle.nmvs_protocol.specs.declared.ask.Ask.TheVariants.{Put, Report, Quit}
 use Rattle.nmvs_protocol.specs.declared.line_fault.LineFault.{LineFault}
 use Rattle.nmvs_protocol.specs.declared.line_fault.LineFault.TheVariants as fault
 use Rattle.nmvs_protocol.specs.Fields.{joined, line_fault, longest_line}
 
--- the fields of an ask: the user, the question's word, and the texts of what it names
+-- the word that asks for a report
+abbrev pub report_word : List ℕ
+report_word = codes "REPORT"
+
+-- the fields of an ask: the user, the word of what is asked, and the texts of what it names
 abbrev pub fields : Ask → List (List ℕ)
 fields (Put user q) = user.bytes ∷ kind_word (kind_of q) ∷ texts_of q
+fields (Report user c) = user.bytes ∷ report_word ∷ c.bytes ∷ []
 fields Quit = codes "QUIT" ∷ []
 
 -- the line of an ask, without LF
@@ -41,33 +44,38 @@ grammars Upload =
 grammars (OfPack _) = pack_grammars
 grammars (OfBatch _) = (is_product_code, fault.Code) ∷ (is_batch, fault.Batch) ∷ []
 
+-- the field that follows the word of a report
+abbrev pub report_grammars : List Grammar
+report_grammars = (is_product_code, fault.Code) ∷ []
+
 -- the fault of the first text that is not in the grammar at its place
 abbrev pub first_misread : List Grammar → List (List ℕ) → Option LineFault
 first_misread (g ∷ gs) (t ∷ ts) = if g.0 t then first_misread gs ts else Some g.1
 first_misread _ _ = None
 
--- the kinds that lines may put: as yet no audit
-abbrev pub without_audit : Option QuestionKind → Option QuestionKind
-without_audit (Some (OfPack Audit)) = None
-without_audit kind = kind
+-- the first fault of a user and of the texts after a word that these grammars belong to
+abbrev pub texts_fault : List Grammar → List ℕ → List (List ℕ) → Option LineFault
+texts_fault gs user texts =
+    if not (length texts == length gs) then Some fault.Fields
+    else if not (is_name user) then Some fault.User
+    else first_misread gs texts
 
--- the kind of question that a line puts by this word
-abbrev pub kind_put : List ℕ → Option QuestionKind
-kind_put w = without_audit (kind_named w)
-
--- the first fault of a question that a user puts by a word of this kind and these texts
+-- the first fault of a question that a user puts by a word of this kind
 abbrev pub put_fault : List ℕ → Option QuestionKind → List (List ℕ) → Option LineFault
 put_fault user None texts = Some fault.Word
-put_fault user (Some kind) texts =
-    if not (length texts == length (grammars kind)) then Some fault.Fields
-    else if not (is_name user) then Some fault.User
-    else first_misread (grammars kind) texts
+put_fault user (Some kind) texts = texts_fault (grammars kind) user texts
+
+-- the first fault of what a user asks by this word: a report, or else a question
+abbrev pub asked_fault : List ℕ → List ℕ → List (List ℕ) → Option LineFault
+asked_fault user word texts =
+    if bytes_eq word report_word then texts_fault report_grammars user texts
+    else put_fault user (kind_named word) texts
 
 -- the first fault of these fields
 abbrev pub fields_fault : List (List ℕ) → Option LineFault
 fields_fault [] = Some fault.Fields
 fields_fault (word ∷ []) = if bytes_eq word (codes "QUIT") then None else Some fault.Fields
-fields_fault (user ∷ word ∷ texts) = put_fault user (kind_put word) texts
+fields_fault (user ∷ word ∷ texts) = asked_fault user word texts
 
 -- the first fault of a line
 unfoldable pub first_fault : List ℕ → Option LineFault
@@ -82,16 +90,13 @@ all_read _ _ = false
 -- whether the texts of an ask are in their grammars
 abbrev pub is_ask : Ask → Bool
 is_ask (Put user q) = is_name user.bytes && all_read (grammars (kind_of q)) (texts_of q)
+is_ask (Report user c) = is_name user.bytes && all_read report_grammars (c.bytes ∷ [])
 is_ask Quit = true
 
--- whether the line of an ask can be read: as yet that of no audit
-abbrev pub is_readable : Ask → Bool
-is_readable (Put user (question.Audit p)) = false
-is_readable a = is_ask a
-
--- two asks are the same: the same user's question of the same kind, with the same texts
+-- two asks are the same: the same user's question of the same kind with the same texts, or report of the same code
 abbrev pub IsSameAsk : Ask → Ask → Type 0
 IsSameAsk (Put user q) (Put user' q') = (user.bytes ≡ user'.bytes) × (kind_of q ≡ kind_of q') × (texts_of q ≡ texts_of q')
+IsSameAsk (Report user c) (Report user' c') = (user.bytes ≡ user'.bytes) × (c.bytes ≡ c'.bytes)
 IsSameAsk Quit Quit = ⊤
 IsSameAsk _ _ = ⊥
 

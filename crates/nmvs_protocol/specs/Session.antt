@@ -11,13 +11,13 @@ use Rattle.nmvs_protocol.specs.declared.answer.Answer.TheVariants as answers
 use Rattle.nmvs_protocol.specs.declared.limits.Limits.{Limits}
 use Rattle.nmvs_protocol.specs.declared.end.End.{End}
 use Rattle.nmvs_protocol.specs.declared.end.End.TheVariants as ends
-use Rattle.nmvs_protocol.specs.Lines.{line, first_fault, is_readable}
-use Rattle.nmvs_protocol.specs.Texts.{text}
+use Rattle.nmvs_protocol.specs.Lines.{line, first_fault, is_ask}
+use Rattle.nmvs_protocol.specs.Texts.{text, takes_memory}
 use Rattle.nmvs_protocol.specs.InputLines.{input_lines}
 
--- a line is read as the readable ask whose line it is, else with its first fault
+-- a line is read as the ask whose line it is, else with its first fault
 abbrev pub Reads : List ℕ → Result Ask LineFault → Type 0
-Reads x (Ok ask) = (x ≡ line ask) × (first_fault x ≡ None) × IsTrue (is_readable ask)
+Reads x (Ok ask) = (x ≡ line ask) × (first_fault x ≡ None) × IsTrue (is_ask ask)
 Reads x (Err fault) = first_fault x ≡ Some fault
 
 -- a line is read in one way only
@@ -29,6 +29,7 @@ abbrev pub Answers : {D : Type 0} → (D → Ask → Answer → D → Type 0) �
 Answers takes old (Err fault) said new = (said ≡ answers.Unread fault) × (new ≡ old)
 Answers takes old (Ok asks.Quit) said new = (said ≡ answers.Bye) × (new ≡ old)
 Answers takes old (Ok (asks.Put user question)) said new = takes old (asks.Put user question) said new
+Answers takes old (Ok (asks.Report user code)) said new = takes old (asks.Report user code) said new
 
 -- a line is answered so, the desk going from old to new
 pub record AnswersLine {D : Type 0} (takes : D → Ask → Answer → D → Type 0) (old : D) (x : List ℕ) (said : Answer) (new : D) : Type 0 where
@@ -81,16 +82,12 @@ pub record BreaksOff (old new : Taken) (said : List Answer) : Type 0 where
   -- and the texts before it were flushed
   pub flushed : written ≡ [] → 0 < length before → new.flushed ≡ true
 
--- whether an answer's text may be of any length, so that it takes memory: as yet that of none
-abbrev pub has_long_text : Answer → Bool
-has_long_text _ = false
-
--- the sink took the text of all these answers but the last, which takes memory and has none
+-- the sink took the text of all these answers but the last, whose text takes memory and is missing
 pub record LacksLast (old new : Taken) (said : List Answer) : Type 0 where
   pub before : List Answer
   pub last : Answer
   pub these : said ≡ before ++ last ∷ []
-  pub long : IsTrue (has_long_text last)
+  pub memory : IsTrue (takes_memory last)
   pub delivered : Delivers old new before
 
 -- all lines are answered, and none was QUIT

@@ -1,4 +1,4 @@
-use nmvs_identifier::Name;
+use nmvs_identifier::{Name, ProductCode};
 use nmvs_rules::Question;
 
 /// What a line asks for.
@@ -6,6 +6,8 @@ use nmvs_rules::Question;
 pub enum Ask {
     /// The question of a user, by name.
     Put(Name, Question),
+    /// The report of a product code, for a user.
+    Report(Name, ProductCode),
     /// The end of the session.
     Quit,
 }

@@ -62,6 +62,8 @@ fn each_kind_of_ask_has_its_line(rt: HostRuntime) {
         "mah1 RECALL 09506000134352 B1",
         "au1 WITHDRAW 09506000134352 ABC/DEF%GHI/JKL%MN12",
         "mah1 THEFT 09506000134352 SN1",
+        "au1 AUDIT 09506000134352 SN1",
+        "au1 REPORT 09506000134352",
         "QUIT",
     ] {
         assert!(rt; is_written_again(rt.alloc(), line), "{line}");
@@ -78,6 +80,11 @@ fn faults_of_lines(rt: HostRuntime) {
         ("ph1 verify 09506000134352 SN1", LineFault::Word),
         ("ph1 QUIT", LineFault::Word),
         ("a b c d e f g h", LineFault::Word),
+        ("REPORT 09506000134352", LineFault::Word),
+        ("au1 report 09506000134352", LineFault::Word),
+        ("-x REPORT 09506000134352 SN1", LineFault::Fields),
+        ("-x REPORT 09506000134353", LineFault::User),
+        ("au1 REPORT 09506000134353", LineFault::Code),
         ("a b c d e f g ", LineFault::Fields),
         (
             "mah1 UPLOAD 09506000134352 SN1 B1 280200 x y",

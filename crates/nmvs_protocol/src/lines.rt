@@ -1,24 +1,24 @@
 //! The lines of asks.
 ghost use Rattle.std.specs.Prelude.{◌≡◌, ◌↔◌, [], ◌∷◌, map, IsTrue, IsOk, IfOk, IfErr, IsOkAnd, string_bytes, None, Some};
 ghost use Rattle.std.specs.Result.{result_err};
-ghost use Rattle.nmvs_words.specs.Kinds.{kind_of, texts_of};
+ghost use Rattle.nmvs_words.specs.Kinds.{kind_of, kind_named, texts_of};
 ghost use Rattle.nmvs_protocol.specs.declared.ask.Ask.{Ask as AnAsk};
 ghost use Rattle.nmvs_protocol.specs.declared.ask.Ask.TheVariants.{Put};
-ghost use Rattle.nmvs_protocol.specs.Lines.{line, fields as fields_of_ask, is_ask, is_readable, IsSameAsk, first_fault, fields_fault, put_fault, first_misread, grammars, pack_grammars, kind_put};
+ghost use Rattle.nmvs_protocol.specs.Lines.{line, fields as fields_of_ask, report_word, is_ask, IsSameAsk, first_fault, fields_fault, asked_fault, put_fault, texts_fault, first_misread, grammars, pack_grammars, report_grammars};
 
 use crate::fields::fields_of;
 use crate::{Ask, LineFault};
 use nmvs_identifier::{Batch, Expiry, Name, Pack, ProductCode, Serial};
 use nmvs_rules::Question;
-use nmvs_words::{BatchQuestion, PackQuestion, QuestionKind};
+use nmvs_words::{BatchQuestion, QuestionKind};
 use std::alloc::{AllocError, Global};
 
-/// Reads a line, given without its LF: it is the line of the ask that is read, and the line of every readable ask is
+/// Reads a line, given without its LF: it is the line of the ask that is read, and the line of every ask is
 /// read as that ask. Any other line is answered by the first fault that it has.
 pub fn read_line(bytes: &[u8]) -> Result<Ask, LineFault>
     ensures line { IfOk result (λ ask. bytes.now ≡ line ask) }
-    ensures readable { IfOk result (λ ask. IsTrue (is_readable ask)) }
-    ensures complete { (ask : AnAsk) → IsTrue (is_readable ask) → bytes.now ≡ line ask → IsOkAnd result (λ read. IsSameAsk read ask) }
+    ensures valid { IfOk result (λ ask. IsTrue (is_ask ask)) }
+    ensures complete { (ask : AnAsk) → IsTrue (is_ask ask) → bytes.now ≡ line ask → IsOkAnd result (λ read. IsSameAsk read ask) }
     ensures accepts { IsOk result ↔ (first_fault bytes.now ≡ None) }
     ensures fault { IfErr result (λ fault. first_fault bytes.now ≡ Some fault) }
 {
@@ -29,7 +29,7 @@ pub fn read_line(bytes: &[u8]) -> Result<Ask, LineFault>
 #[tactic(auto, unfolding(crate::specs::Lines::first_fault))]
 fn read_exactly(bytes: &[u8]) -> Result<Ask, LineFault>
     ensures line { IfOk result (λ ask. bytes.now ≡ line ask) }
-    ensures readable { IfOk result (λ ask. IsTrue (is_readable ask)) }
+    ensures valid { IfOk result (λ ask. IsTrue (is_ask ask)) }
     ensures fault { result_err result ≡ first_fault bytes.now }
 {
     let fields = fields_of(bytes, LineFault::Long, LineFault::Bytes, LineFault::Fields)?;
@@ -39,7 +39,7 @@ fn read_exactly(bytes: &[u8]) -> Result<Ask, LineFault>
 /// The ask that has these fields.
 fn read_fields(fields: &[&str]) -> Result<Ask, LineFault>
     ensures fields { IfOk result (λ ask. fields_of_ask ask ≡ map (λ f. f.now) fields.now) }
-    ensures readable { IfOk result (λ ask. IsTrue (is_readable ask)) }
+    ensures valid { IfOk result (λ ask. IsTrue (is_ask ask)) }
     ensures fault { result_err result ≡ fields_fault (map (λ f. f.now) fields.now) }
 {
     match fields {
@@ -48,17 +48,29 @@ fn read_fields(fields: &[&str]) -> Result<Ask, LineFault>
             "QUIT" => Ok(Ask::Quit),
             _ => Err(LineFault::Fields),
         },
-        [user, word, texts @ ..] => read_put(user, word, texts),
+        [user, word, texts @ ..] => read_asked(user, word, texts),
+    }
+}
+
+/// What a user asks by this word and the texts after it.
+fn read_asked(user: &str, word: &str, texts: &[&str]) -> Result<Ask, LineFault>
+    ensures fields { IfOk result (λ ask. fields_of_ask ask ≡ user.now ∷ word.now ∷ map (λ t. t.now) texts.now) }
+    ensures valid { IfOk result (λ ask. IsTrue (is_ask ask)) }
+    ensures fault { result_err result ≡ asked_fault user.now word.now (map (λ t. t.now) texts.now) }
+{
+    match word {
+        "REPORT" => read_report(user, texts),
+        _ => read_put(user, word, texts),
     }
 }
 
 /// The question that a user puts by this word and the texts after it.
 fn read_put(user: &str, word: &str, texts: &[&str]) -> Result<Ask, LineFault>
     ensures fields { IfOk result (λ ask. fields_of_ask ask ≡ user.now ∷ word.now ∷ map (λ t. t.now) texts.now) }
-    ensures readable { IfOk result (λ ask. IsTrue (is_readable ask)) }
-    ensures fault { result_err result ≡ put_fault user.now (kind_put word.now) (map (λ t. t.now) texts.now) }
+    ensures valid { IfOk result (λ ask. IsTrue (is_ask ask)) }
+    ensures fault { result_err result ≡ put_fault user.now (kind_named word.now) (map (λ t. t.now) texts.now) }
 {
-    let kind = kind_put_by(word).ok_or(LineFault::Word)?;
+    let kind = QuestionKind::named(word).ok_or(LineFault::Word)?;
     let user = Name::read(user).or(Err(LineFault::User));
     match (kind, texts) {
         (QuestionKind::Upload, [code, serial, batch, expiry]) => {
@@ -74,13 +86,18 @@ fn read_put(user: &str, word: &str, texts: &[&str]) -> Result<Ask, LineFault>
     }
 }
 
-fn kind_put_by(word: &str) -> Option<QuestionKind>
-    ensures { result ≡ kind_put word.now }
+/// The report that a user asks for by the texts after its word.
+fn read_report(user: &str, texts: &[&str]) -> Result<Ask, LineFault>
+    ensures fields { IfOk result (λ ask. fields_of_ask ask ≡ user.now ∷ report_word ∷ map (λ t. t.now) texts.now) }
+    ensures valid { IfOk result (λ ask. IsTrue (is_ask ask)) }
+    ensures fault { result_err result ≡ texts_fault report_grammars user.now (map (λ t. t.now) texts.now) }
 {
-    match QuestionKind::named(word) {
-        Some(QuestionKind::OfPack(PackQuestion::Audit)) => None,
-        kind => kind,
-    }
+    let [code] = texts else {
+        return Err(LineFault::Fields);
+    };
+    let user = Name::read(user).or(Err(LineFault::User))?;
+    let code = ProductCode::read(code).or(Err(LineFault::Code))?;
+    Ok(Ask::Report(user, code))
 }
 
 fn read_upload(code: &str, serial: &str, batch: &str, expiry: &str) -> Result<Question, LineFault>
@@ -124,6 +141,7 @@ pub fn ask_line(alloc: Global, ask: &Ask) -> Result<String, AllocError>
 {
     match ask {
         Ask::Put(user, question) => question_line(alloc, user, question),
+        Ask::Report(user, code) => { format!(in alloc; "{} REPORT {}", user.text(), code.text()) }
         Ask::Quit => format!(in alloc; "QUIT"),
     }
 }

@@ -1,14 +1,17 @@
 //! The texts of answers.
-ghost use Rattle.std.specs.Prelude.{◌≡◌, ◌≤◌, [], ◌∷◌, length, map, IfOk, string_bytes};
+ghost use Rattle.std.specs.Prelude.{◌≡◌, ◌≤◌, [], ◌∷◌, length, map, IfOk, OnErr, IsTrue, string_bytes};
 ghost use Rattle.std.specs.Fmt.{decimal};
 ghost use Rattle.nmvs_words.specs.Words.{spaced};
-ghost use Rattle.nmvs_protocol.specs.Texts.{text, reply_words, turn_word, fault_word};
+ghost use Rattle.nmvs_protocol.specs.Texts.{text, reply_words, shown_text, takes_memory, turn_word, fault_word};
+ghost use Rattle.nmvs_protocol.specs.Wordings.{worded};
 
+use crate::wording::Wording;
 use crate::{Answer, LineFault, Turn};
 use arrayvec::ArrayString;
 use itoa::Buffer;
 use nmvs_identifier::{Batch, Expiry};
-use nmvs_rules::{BatchLock, Cause, Onward, Own, Refusal, Reply};
+use nmvs_record::entry_line;
+use nmvs_rules::{BatchLock, Cause, Entry, Onward, Own, Refusal, Reply};
 use nmvs_words::{
     cause_word, flag_word, lock_word, onward_word, own_word, refusal_word, validity_word,
 };
@@ -17,7 +20,7 @@ use std::alloc::{AllocError, Global};
 #[cfg(test)]
 mod tests;
 
-/// The most bytes that the text of a reply has: those of a status with the longest words and values, and LF.
+/// The most bytes that the text of a short answer has: those of a status with the longest words and values, and LF.
 pub(crate) const LONGEST_REPLY: usize = 67;
 
 /// The text of an answer on the heap, with the LF that ends it.
@@ -25,23 +28,44 @@ pub(crate) const LONGEST_REPLY: usize = 67;
 /// # Errors
 ///
 /// There is no memory for the text.
-pub fn reply_text(alloc: Global, answer: &Answer) -> Result<String, AllocError>
+pub fn reply_text(alloc: Global, answer: &Answer<'_>) -> Result<String, AllocError>
     ensures { IfOk result (λ t. string_bytes t ≡ text answer.now) }
 {
-    String::from_str(alloc, short_text(answer).as_str())
+    match wording(alloc, answer)? {
+        Wording::Composed(text) => String::from_str(alloc, text.as_str()),
+        Wording::Made(text) => Ok(text),
+        Wording::Lent(text) => String::from_str(alloc, text),
+    }
 }
 
-/// The text of an answer, with the LF that ends it. It takes no memory.
+/// The text of an answer, with the LF that ends it. That of an audit alone takes memory.
 #[tactic(auto, unfolding(crate::specs::Texts::text))]
-pub(crate) fn short_text(answer: &Answer) -> ArrayString<LONGEST_REPLY>
-    ensures { result.bytes ≡ text answer.now }
+pub(crate) fn wording<'w>(alloc: Global, answer: &'w Answer<'_>) -> Result<Wording<'w>, AllocError>
+    ensures text { IfOk result (λ wording. worded wording ≡ text answer.now) }
+    ensures memory { OnErr result (IsTrue (takes_memory answer.now)) }
 {
-    match answer {
-        Answer::Replied(reply) => replied(reply),
-        Answer::Turned(turn) => in_words("FAULT", &[word_of_turn(*turn)]),
-        Answer::Unread(fault) => in_words("FAULT", &[word_of_fault(*fault)]),
-        Answer::Bye => in_words("BYE", &[]),
+    Ok(match answer {
+        Answer::Replied(reply) => Wording::Composed(replied(reply)),
+        Answer::Audited(entries) => Wording::Made(shown(alloc, entries.entries())?),
+        Answer::Reported(report) => Wording::Lent(report.text()),
+        Answer::Turned(turn) => Wording::Composed(in_words("FAULT", &[word_of_turn(*turn)])),
+        Answer::Unread(fault) => Wording::Composed(in_words("FAULT", &[word_of_fault(*fault)])),
+        Answer::Bye => Wording::Composed(in_words("BYE", &[])),
+    })
+}
+
+/// How many entries an audit shows, and then the line of each.
+fn shown(alloc: Global, entries: &[Entry]) -> Result<String, AllocError>
+    ensures { IfOk result (λ t. string_bytes t ≡ shown_text entries.now) }
+{
+    let count = counted("SHOWN", entries.len() as u64);
+    let mut text = String::from_str(alloc, count.as_str())?;
+    for entry in entries {
+        let line = entry_line(alloc, entry)?;
+        text.push_str(&line)?;
+        text.push_str("\n")?;
     }
+    Ok(text)
 }
 
 fn replied(reply: &Reply) -> ArrayString<LONGEST_REPLY>

@@ -5,7 +5,7 @@ ghost use Rattle.nmvs_protocol.specs.Session.{Reads, Answers, Session};
 ghost use Rattle.nmvs_protocol.specs.Progress.{Answered, kept};
 
 use crate::pending_line::PendingLine;
-use crate::replies::short_text;
+use crate::replies::wording;
 use crate::{Answer, Ask, Desk, End, Limits, LineFault, read_line};
 use memchr::memchr;
 use nmvs_stream::{Failed, Sink, Source, put};
@@ -14,9 +14,11 @@ use std::alloc::Global;
 #[cfg(test)]
 mod tests;
 
-/// How far a session has come: the line that was begun, and how many lines were answered.
+/// How far a session has come: the line that was begun, and how many lines were answered. The texts of audits are made in
+/// its memory.
 #[derive(Drop)]
 struct Progress {
+    alloc: Global,
     line: PendingLine,
     answered: u64,
 }
@@ -25,10 +27,10 @@ struct Progress {
 /// and flushed before the next line is served and before more is read (own).
 ///
 /// A line of more than 200 bytes is answered once, at its LF, and takes no memory. Bytes after the
-/// last LF get no answer. QUIT ends the session. A reply is composed in place: memory is for answers
-/// whose text may be of any length, of which there is none as yet.
-pub fn serve<R: Source, W: Sink, D: Desk>(
-    _alloc: Global,
+/// last LF get no answer. QUIT ends the session. Memory is taken for the text of an audit alone, which
+/// may be of any length; a report is written as it is, and all other texts are composed in place.
+pub fn serve<'a, R: Source, W: Sink, D: Desk<'a>>(
+    alloc: Global,
     source: &mut R,
     sink: &mut W,
     desk: &mut D,
@@ -40,6 +42,7 @@ pub fn serve<R: Source, W: Sink, D: Desk>(
     ensures { Session D.takes limits desk.old (R.told source.old) (W.taken sink.old) desk.new (R.told source.new) (W.taken sink.new) result }
 {
     let mut progress = Progress {
+        alloc,
         line: PendingLine::new(),
         answered: 0,
     };
@@ -61,7 +64,7 @@ pub fn serve<R: Source, W: Sink, D: Desk>(
 }
 
 /// Goes on with the bytes of one read. `None` is to read more.
-fn serve_chunk<W: Sink, D: Desk>(
+fn serve_chunk<'a, W: Sink, D: Desk<'a>>(
     progress: &mut Progress,
     limit: u64,
     chunk: &[u8],
@@ -79,7 +82,7 @@ fn serve_chunk<W: Sink, D: Desk>(
             return Some(End::Limit);
         }
         let (tail, later) = rest.split_at(lf);
-        match serve_tail(&mut progress.line, tail, sink, desk) {
+        match serve_tail(progress.alloc, &mut progress.line, tail, sink, desk) {
             Some(end) => return Some(end),
             None => {}
         }
@@ -91,7 +94,8 @@ fn serve_chunk<W: Sink, D: Desk>(
 }
 
 /// Answers the line that these bytes end. `None` is to go on, with no line begun.
-fn serve_tail<W: Sink, D: Desk>(
+fn serve_tail<'a, W: Sink, D: Desk<'a>>(
+    alloc: Global,
     line: &mut PendingLine,
     tail: &[u8],
     sink: &mut W,
@@ -104,23 +108,30 @@ fn serve_tail<W: Sink, D: Desk>(
 {
     // A line that lies in one read is not copied.
     if line.is_empty() {
-        return serve_line(tail, sink, desk);
+        return serve_line(alloc, tail, sink, desk);
     }
     line.extend(tail);
-    let end = serve_line(line.as_slice(), sink, desk);
+    let end = serve_line(alloc, line.as_slice(), sink, desk);
     line.clear();
     end
 }
 
 /// Answers one line, of which as much is given as is kept of it, or more. `None` is to go on.
-fn serve_line<W: Sink, D: Desk>(line: &[u8], sink: &mut W, desk: &mut D) -> Option<End>
+fn serve_line<'a, W: Sink, D: Desk<'a>>(
+    alloc: Global,
+    line: &[u8],
+    sink: &mut W,
+    desk: &mut D,
+) -> Option<End>
     ensures { (limit count : ℕ) (first : D) (start : Taken) (lines : List (List ℕ)) (x : List ℕ) → count < limit → kept line.now ≡ kept x
         → Answered D.takes limit first start desk.old (W.taken sink.old) count lines None
         → Answered D.takes limit first start desk.new (W.taken sink.new) (count + 1) (lines ++ x ∷ []) result }
 {
     let reading = read(line);
     let said = answer(&reading, desk);
-    let text = short_text(&said);
+    let Ok(text) = wording(alloc, &said) else {
+        return Some(End::Memory);
+    };
     match put(sink, text.as_str().as_bytes()) {
         Err(Failed) => Some(End::WriteFault),
         Ok(()) => if is_quit(&reading) {
@@ -139,7 +150,7 @@ fn read(line: &[u8]) -> Result<Ask, LineFault>
 }
 
 /// The answer to what was read. The desk is asked all but QUIT.
-fn answer<D: Desk>(reading: &Result<Ask, LineFault>, desk: &mut D) -> Answer
+fn answer<'a, D: Desk<'a>>(reading: &Result<Ask, LineFault>, desk: &mut D) -> Answer<'a>
     ensures { Answers D.takes desk.old reading.now result desk.new }
 {
     match reading {

@@ -1,12 +1,13 @@
-use crate::{Answer, LineFault, Turn, reply_text};
+use crate::{Answer, LineFault, Text, Turn, reply_text};
 use nmvs_identifier::{Batch, Expiry};
 use nmvs_rules::{BatchLock, Cause, Onward, Own, Refusal, Reply};
 use std::alloc::Global;
 use std::process::Abort;
 use std::rt::HostRuntime;
+use std::test::Fail;
 
 /// Whether the answer has this text.
-fn is_told(rt: &impl Abort, alloc: Global, answer: Answer, text: &str) -> bool {
+fn is_told(rt: &impl Abort, alloc: Global, answer: Answer<'_>, text: &str) -> bool {
     let told = reply_text(alloc, &answer).expect(rt, "ample memory");
     told.as_str() == text
 }
@@ -86,4 +87,13 @@ fn each_other_answer_has_its_text(rt: HostRuntime) {
     ] {
         assert!(rt; is_told(&rt, rt.alloc(), answer, text), "{text}");
     }
+}
+
+#[test]
+fn a_report_is_told_as_it_is(rt: HostRuntime) -> Result<(), Fail> {
+    let report = "PRODUCT 04012345678901 HOLDER - ALERTS 0 FLAGGED 0\nEND\n";
+    let text = Text::new(String::from_str(rt.alloc(), report)?);
+    assert!(rt; text.text() == report);
+    assert!(rt; is_told(&rt, rt.alloc(), Answer::Reported(text), report));
+    Ok(())
 }

@@ -24,10 +24,10 @@ struct Shelf {
     uploaded: Option<(Batch, Expiry)>,
 }
 
-impl Desk for Shelf {
+impl<'a> Desk<'a> for Shelf {
     ghost takes = { λ _ _ _ _. Unit {0} };
 
-    fn take(&mut self, ask: &Ask) -> Answer {
+    fn take(&mut self, ask: &Ask) -> Answer<'a> {
         if let Ask::Put(_, Question::Upload { batch, expiry, .. }) = ask {
             self.uploaded = Some((*batch, *expiry));
             return Answer::Replied(Reply::Uploaded);

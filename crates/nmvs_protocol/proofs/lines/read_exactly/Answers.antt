@@ -11,7 +11,7 @@ returns-in_err-fields-clause-fault c = let fault = c.in_err-fields.ensures.fault
 pub returns-clause-line : goal.returns-clause-line
 returns-clause-line c =
     let kept = ap (map (λ f. f.now)) c.deref.ensures.0 ∙ c.in_ok-fields.ensures.fields in
-    line_of_ask c.args.bytes.now _ c.read_fields.result kept c.read_fields.ensures.fields c.read_fields.ensures.readable
+    line_of_ask c.args.bytes.now _ c.read_fields.result kept c.read_fields.ensures.fields c.read_fields.ensures.valid
 
 pub returns-clause-fault : goal.returns-clause-fault
 unfolding first_fault

@@ -3,11 +3,12 @@ use Rattle.std.specs.Prelude.{◌↔◌, IsOk, IfOk, IsTrue}
 use Rattle.std.specs.Result.{result_or}
 use Rattle.nmvs_identifier.specs.Name.{Name, is_name}
 use Rattle.nmvs_words.specs.declared.question_kind.QuestionKind.TheVariants.{Upload, OfPack, OfBatch}
-use Rattle.nmvs_protocol.specs.Lines.{kind_put}
+use Rattle.nmvs_words.specs.Kinds.{kind_named}
+use Rattle.nmvs_words.proofs.WordLemmas.{kind_named-word}
 use Rattle.nmvs_protocol.specs.declared.line_fault.LineFault.{LineFault}
 use Rattle.nmvs_protocol.specs.declared.line_fault.LineFault.TheVariants as fault
 use Rattle.nmvs_protocol.proofs.FieldLemmas.{read_or, two, four}
-use Rattle.nmvs_protocol.proofs.SpellingLemmas.{kind_put-word, no_put_fault}
+use Rattle.nmvs_protocol.proofs.SpellingLemmas.{no_put_fault}
 use Rattle.nmvs_protocol.proofs.lines.read_put.Goals as goal
 
 user_read : {E : Type 0} (user : List ℕ) (r : Result Name E) (s : Result Name LineFault) (name : Name)
@@ -18,13 +19,13 @@ pub returns-in_ok-read_upload-in-Upload-len4 : goal.returns-in_ok-read_upload-in
 returns-in_ok-read_upload-in-Upload-len4 c =
     let read = c.in_ok-read_upload-in-Upload-len4.ensures in
     let user = user_read c.args.user.now c.read.result c.or-user.result c.in_ok-user-in-Upload-len4.field-0 c.read.ensures.accepts c.read.ensures.kept c.or-user.ensures c.in_ok-user-in-Upload-len4.was in
-    let kind : kind_put c.args.word.now ≡ Some Upload = search rules in
+    let kind : kind_named c.args.word.now ≡ Some Upload = search rules in
     let given = four c.args.texts.now _ _ _ _ c.in-Upload-len4.len_at_least c.in-Upload-len4.len_below in
     let texts = c.in_ok-read_upload-in-Upload-len4.ensures.texts ∙ sym given in
-    let word = kind_put-word c.args.word.now c.in_ok-read_upload-in-Upload-len4.field-0 (kind ∙ ap Some (sym c.in_ok-read_upload-in-Upload-len4.ensures.kind)) in
+    let word = kind_named-word c.args.word.now _ (kind ∙ ap Some (sym c.in_ok-read_upload-in-Upload-len4.ensures.kind)) in
     record {
       fields = λ i. user.0 i ∷ sym word i ∷ texts i;
-      readable = search rules;
+      valid = search rules;
       fault = no_put_fault c.args.user.now c.args.word.now Upload _ _ kind user.1 given refl read.fault;
     }
 
@@ -32,13 +33,13 @@ pub returns-in_ok-read_pack-in-OfPack-len2 : goal.returns-in_ok-read_pack-in-OfP
 returns-in_ok-read_pack-in-OfPack-len2 c =
     let read = c.in_ok-read_pack-in-OfPack-len2.ensures in
     let user = user_read c.args.user.now c.read.result c.or-user.result c.in_ok-user-in-OfPack-len2.field-0 c.read.ensures.accepts c.read.ensures.kept c.or-user.ensures c.in_ok-user-in-OfPack-len2.was in
-    let kind : kind_put c.args.word.now ≡ Some (OfPack c.in-OfPack-len2.asked) = search rules in
+    let kind : kind_named c.args.word.now ≡ Some (OfPack c.in-OfPack-len2.asked) = search rules in
     let given = two c.args.texts.now _ _ c.in-OfPack-len2.len_at_least c.in-OfPack-len2.len_below in
     let texts = c.naming.ensures.texts ∙ (λ i. read.texts.0 i ∷ read.texts.1 i ∷ []) ∙ sym given in
-    let word = kind_put-word c.args.word.now c.naming.result (kind ∙ ap Some (sym c.naming.ensures.kind)) in
+    let word = kind_named-word c.args.word.now _ (kind ∙ ap Some (sym c.naming.ensures.kind)) in
     record {
       fields = λ i. user.0 i ∷ sym word i ∷ texts i;
-      readable = search rules;
+      valid = search rules;
       fault = no_put_fault c.args.user.now c.args.word.now (OfPack c.in-OfPack-len2.asked) _ _ kind user.1 given refl read.fault;
     }
 
@@ -46,12 +47,12 @@ pub returns-in_ok-read_of_batch-in-OfBatch-len2 : goal.returns-in_ok-read_of_bat
 returns-in_ok-read_of_batch-in-OfBatch-len2 c =
     let read = c.in_ok-read_of_batch-in-OfBatch-len2.ensures in
     let user = user_read c.args.user.now c.read.result c.or-user.result c.in_ok-user-in-OfBatch-len2.field-0 c.read.ensures.accepts c.read.ensures.kept c.or-user.ensures c.in_ok-user-in-OfBatch-len2.was in
-    let kind : kind_put c.args.word.now ≡ Some (OfBatch c.in-OfBatch-len2.asked) = search rules in
+    let kind : kind_named c.args.word.now ≡ Some (OfBatch c.in-OfBatch-len2.asked) = search rules in
     let given = two c.args.texts.now _ _ c.in-OfBatch-len2.len_at_least c.in-OfBatch-len2.len_below in
     let texts = c.in_ok-read_of_batch-in-OfBatch-len2.ensures.texts ∙ sym given in
-    let word = kind_put-word c.args.word.now c.in_ok-read_of_batch-in-OfBatch-len2.field-0 (kind ∙ ap Some (sym c.in_ok-read_of_batch-in-OfBatch-len2.ensures.kind)) in
+    let word = kind_named-word c.args.word.now _ (kind ∙ ap Some (sym c.in_ok-read_of_batch-in-OfBatch-len2.ensures.kind)) in
     record {
       fields = λ i. user.0 i ∷ sym word i ∷ texts i;
-      readable = search rules;
+      valid = search rules;
       fault = no_put_fault c.args.user.now c.args.word.now (OfBatch c.in-OfBatch-len2.asked) _ _ kind user.1 given refl read.fault;
     }

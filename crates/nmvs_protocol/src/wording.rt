@@ -1,0 +1,28 @@
+ghost use Rattle.std.specs.Prelude.{◌≡◌};
+ghost use Rattle.nmvs_protocol.specs.Wordings.{worded};
+
+use crate::replies::LONGEST_REPLY;
+use arrayvec::ArrayString;
+
+/// The text of an answer, as it is had.
+#[derive(Drop)]
+pub(crate) enum Wording<'w> {
+    /// A short one, composed in place.
+    Composed(ArrayString<LONGEST_REPLY>),
+    /// One of any length, made on the heap.
+    Made(String),
+    /// One that the answer has.
+    Lent(&'w str),
+}
+
+impl<'w> Wording<'w> {
+    pub(crate) fn as_str(&self) -> &str
+        ensures { result.now ≡ worded self.now }
+    {
+        match self {
+            Wording::Composed(text) => text.as_str(),
+            Wording::Made(text) => text.as_str(),
+            Wording::Lent(text) => text,
+        }
+    }
+}
