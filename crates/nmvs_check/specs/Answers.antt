@@ -1,0 +1,34 @@
+-- What is told of an export (own).
+use Rattle.std.specs.Prelude.{ℕ, List, [], ◌∷◌, ◌++◌, length, filter, codes, decimal, fold, if◌then◌else◌}
+use Rattle.std.specs.List.{flat_map, list_any}
+use Rattle.nmvs_identifier.specs.Texts.{same_text}
+use Rattle.nmvs_identifier.specs.ProductCode.{ProductCode}
+use Rattle.nmvs_identifier.specs.declared.pack.Pack.{Pack}
+use Rattle.nmvs_rules.specs.declared.entry.Entry.{Entry}
+use Rattle.nmvs_rules.specs.Questions.{code_of}
+use Rattle.nmvs_rules.specs.Trail.{is_about}
+use Rattle.nmvs_record.specs.Export.{export_text}
+use Rattle.nmvs_record.specs.Report.{product_line, report_text}
+use Rattle.nmvs_check.specs.declared.asked.Asked.{Asked}
+use Rattle.nmvs_check.specs.declared.asked.Asked.TheVariants as asked
+
+-- the product codes so far, and one more behind them where it is new
+abbrev pub with_code : List ProductCode → ProductCode → List ProductCode
+with_code seen c = if list_any (same_text c) seen then seen else seen ++ c ∷ []
+
+-- the product codes that the entries name, in order of first appearance
+abbrev pub codes_named : List Entry → List ProductCode
+codes_named t = fold (λ seen e. with_code seen (code_of e.question)) [] t
+
+-- how many entries there are, and a line for each product code
+abbrev pub summary_text : List Entry → List ℕ
+summary_text t = codes "LAWFUL " ++ (decimal (length t) ++ 10 ∷ flat_map (product_line t) (codes_named t))
+
+-- how many entries are about a pack, and their lines
+abbrev pub audit_text : List Entry → Pack → List ℕ
+audit_text t p = codes "SHOWN " ++ (decimal (length (filter (is_about p) t)) ++ 10 ∷ export_text (filter (is_about p) t))
+
+abbrev pub answer_text : List Entry → Asked → List ℕ
+answer_text t asked.Summary = summary_text t
+answer_text t (asked.Report c) = report_text t c
+answer_text t (asked.Audit p) = audit_text t p

@@ -1,0 +1,93 @@
+//! What is told of a lawful export.
+ghost use Rattle.std.specs.Prelude.{◌≡◌, ◌++◌, IfOk, OnOk, string_bytes};
+ghost use Rattle.std.specs.List.{flat_map};
+ghost use Rattle.nmvs_record.specs.Export.{export_text};
+ghost use Rattle.nmvs_record.specs.Report as reports;
+ghost use Rattle.nmvs_check.specs.Answers as answers;
+
+use crate::asked::Asked;
+use indexmap::IndexSet;
+use nmvs_identifier::{Pack, ProductCode};
+use nmvs_record::{entry_line, product_line, report};
+use nmvs_rules::Entry;
+use nmvs_shard::Shard;
+use std::alloc::{AllocError, Global};
+
+/// The text that is told of the trail of a shard, each line with its LF.
+///
+/// # Errors
+///
+/// There is no memory for the text.
+pub(crate) fn answer_text(
+    alloc: Global,
+    shard: &Shard<Global>,
+    asked: &Asked,
+) -> Result<String, AllocError>
+    ensures { IfOk result (λ text. string_bytes text ≡ answers.answer_text shard.now asked.now) }
+{
+    match asked {
+        Asked::Summary => summary(alloc, shard),
+        Asked::Report(code) => report(alloc, shard, code),
+        Asked::Audit(pack) => audit(alloc, shard, pack),
+    }
+}
+
+fn summary(alloc: Global, shard: &Shard<Global>) -> Result<String, AllocError>
+    ensures { IfOk result (λ text. string_bytes text ≡ answers.summary_text shard.now) }
+{
+    let mut text = format!(in alloc; "LAWFUL {}\n", shard.trail().len())?;
+    let codes = codes_named(alloc, shard.trail())?;
+    append_products(alloc, shard, codes.as_slice(), &mut text)?;
+    Ok(text)
+}
+
+/// The product codes that the entries name, in order of first appearance.
+fn codes_named(alloc: Global, entries: &[Entry]) -> Result<IndexSet<ProductCode>, AllocError>
+    ensures { IfOk result (λ codes. codes.keys ≡ answers.codes_named entries.now) }
+{
+    let mut codes = IndexSet::new(alloc);
+    for entry in entries {
+        match codes.insert(entry.question.code()) {
+            Ok(_) => {}
+            Err(_) => return Err(AllocError),
+        }
+    }
+    Ok(codes)
+}
+
+/// Puts the lines of product codes at the end of a text.
+fn append_products(
+    alloc: Global,
+    shard: &Shard<Global>,
+    codes: &[ProductCode],
+    text: &mut String,
+) -> Result<(), AllocError>
+    ensures { OnOk result (string_bytes text.new ≡ string_bytes text.old ++ flat_map (reports.product_line shard.now) codes.now) }
+{
+    for code in codes {
+        let line = product_line(alloc, shard, code)?;
+        text.push_str(&line)?;
+    }
+    Ok(())
+}
+
+fn audit(alloc: Global, shard: &Shard<Global>, pack: &Pack) -> Result<String, AllocError>
+    ensures { IfOk result (λ text. string_bytes text ≡ answers.audit_text shard.now pack.now) }
+{
+    let entries = shard.entries_of(pack)?;
+    let mut text = format!(in alloc; "SHOWN {}\n", entries.len())?;
+    append_entries(alloc, &entries, &mut text)?;
+    Ok(text)
+}
+
+/// Puts the lines of entries at the end of a text.
+fn append_entries(alloc: Global, entries: &[Entry], text: &mut String) -> Result<(), AllocError>
+    ensures { OnOk result (string_bytes text.new ≡ string_bytes text.old ++ export_text entries.now) }
+{
+    for entry in entries {
+        let line = entry_line(alloc, entry)?;
+        text.push_str(&line)?;
+        text.push_str("\n")?;
+    }
+    Ok(())
+}

@@ -1,0 +1,12 @@
+use nmvs_identifier::{Pack, ProductCode};
+
+/// What is asked of an export.
+#[derive(Clone, Copy, Debug, PartialEq, Eq)]
+pub(crate) enum Asked {
+    /// How many lines it has, and the holder and the alerts of each product code.
+    Summary,
+    /// The report of a product code.
+    Report(ProductCode),
+    /// The lines about a pack.
+    Audit(Pack),
+}

@@ -1,0 +1,52 @@
+//! Why nothing is told of an export.
+use nmvs_protocol::{Answer, reply_text};
+use nmvs_record::{Finding, Objection};
+use nmvs_rules::Reply;
+use std::alloc::{AllocError, Global};
+
+/// Why nothing is told of an export.
+#[derive(Clone, Copy, Debug, PartialEq, Eq)]
+pub(crate) enum InspectFault {
+    Memory,
+    /// It is no export of a lawful trail, or was not read to its end.
+    Found(Finding),
+}
+
+/// The text of a fault, without LF (own).
+///
+/// # Errors
+///
+/// There is no memory for the text.
+pub(crate) fn fault_text(alloc: Global, fault: &InspectFault) -> Result<String, AllocError> {
+    match fault {
+        InspectFault::Memory => String::from_str(alloc, "out of memory"),
+        InspectFault::Found(Finding::Line(number, objection)) => {
+            line_text(alloc, *number, objection)
+        }
+        InspectFault::Found(finding) => format!(in alloc; "{finding}"),
+    }
+}
+
+fn line_text(alloc: Global, number: usize, objection: &Objection) -> Result<String, AllocError> {
+    match objection {
+        Objection::Memory => format!(in alloc; "out of memory at line {number}"),
+        Objection::Long => format!(in alloc; "line {number} has more than 1,000 bytes"),
+        Objection::Unlawful { stored, rules } => unlawful_text(alloc, number, stored, rules),
+        _ => format!(in alloc; "line {number} is no entry line: {objection}"),
+    }
+}
+
+fn unlawful_text(
+    alloc: Global,
+    number: usize,
+    stored: &Reply,
+    rules: &Reply,
+) -> Result<String, AllocError> {
+    let stored = reply_text(alloc, &Answer::Replied(*stored))?;
+    let rules = reply_text(alloc, &Answer::Replied(*rules))?;
+    format!(in alloc;
+        "line {number} is unlawful: stored {}, the rules give {}",
+        stored.trim_end(),
+        rules.trim_end()
+    )
+}

@@ -1,0 +1,159 @@
+use crate::asked::Asked;
+use crate::inspect_fault::fault_text;
+use crate::inspection::inspect;
+use crate::options::{OptionFault, Options, read_options};
+use nmvs_identifier::{Pack, ProductCode, Serial};
+use nmvs_stream::Device;
+use std::alloc::{AllocError, Global};
+use std::process::Abort;
+use std::rt::HostRuntime;
+use std::test::Fail;
+
+/// The worked example of docs/INSPECTING.md.
+const EXPORT: &str =
+    r#"[1767225600,"mah1","HOLDER","MAH-1","HQ",["UPLOAD","09506000134352","SN1","B1","280200"],["UPLOADED"]]
+[1767225600,"ph1","PHARMACY","PH-1","P1",["HOLD","09506000134352","SN1"],["DECOMMISSIONED"]]
+[1767225600,"mah1","HOLDER","MAH-1","HQ",["RECALL","09506000134352","B1"],["LOCKED",0]]
+[1767225600,"ph1","PHARMACY","PH-1","P1",["REVERT","09506000134352","SN1"],["REFUSED",7]]
+[1767225600,"ph1","PHARMACY","PH-1","P1",["VERIFY","09506000134352","SN1"],["ALERT","RECALLED","UNFLAGGED",1]]
+[1767225600,"au1","AUTHORITY","AU-1","A1",["STATUS","09506000134352","SN1"],["STATUS","HELD","RECALLED","DISPOSAL","B1","280200"]]
+"#;
+
+/// What is told of these bytes, or why nothing is.
+fn told(alloc: Global, export: &str, asked: &Asked) -> Result<String, AllocError> {
+    match inspect(alloc, &mut Device::new(export.as_bytes()), asked, 1_000) {
+        Ok(text) => Ok(text),
+        Err(fault) => fault_text(alloc, &fault),
+    }
+}
+
+fn code(rt: &impl Abort) -> ProductCode {
+    let Ok(code) = ProductCode::read("09506000134352") else {
+        panic!(rt; "a product code is refused");
+    };
+    code
+}
+
+fn serial(rt: &impl Abort, text: &str) -> Serial {
+    let Ok(serial) = Serial::read(text) else {
+        panic!(rt; "a serial number is refused");
+    };
+    serial
+}
+
+#[test]
+fn a_lawful_export_is_summed_up(rt: HostRuntime) -> Result<(), Fail> {
+    let text = told(rt.alloc(), EXPORT, &Asked::Summary)?;
+    assert_eq!(rt;
+        text.as_str(),
+        "LAWFUL 6\nPRODUCT 09506000134352 HOLDER MAH-1 ALERTS 1 FLAGGED 0\n"
+    );
+    let text = told(rt.alloc(), "", &Asked::Summary)?;
+    assert_eq!(rt; text.as_str(), "LAWFUL 0\n");
+    Ok(())
+}
+
+#[test]
+fn product_codes_come_in_order_of_first_appearance(rt: HostRuntime) -> Result<(), Fail> {
+    let alert = r#"["VERIFY","04012345678901","SN1"],["ALERT","UNKNOWN","FLAGGED",1]]"#;
+    let line = format!(in rt.alloc(); "[1767225600,\"ph1\",\"PHARMACY\",\"PH-1\",\"P1\",{alert}\n{EXPORT}")?;
+    let text = told(rt.alloc(), &line, &Asked::Summary)?;
+    assert_eq!(rt;
+        text.as_str(),
+        "LAWFUL 7\nPRODUCT 04012345678901 HOLDER - ALERTS 1 FLAGGED 1\n\
+        PRODUCT 09506000134352 HOLDER MAH-1 ALERTS 1 FLAGGED 0\n"
+    );
+    Ok(())
+}
+
+#[test]
+fn a_product_code_and_a_pack_are_looked_up(rt: HostRuntime) -> Result<(), Fail> {
+    let text = told(rt.alloc(), EXPORT, &Asked::Report(code(&rt)))?;
+    assert_eq!(rt;
+        text.as_str(),
+        "PRODUCT 09506000134352 HOLDER MAH-1 ALERTS 1 FLAGGED 0\n\
+        BATCH B1 RECALLED ACTIVE 0 HELD 1 SUPPLIED 0 EXPORTED 0 SAMPLED 0 DESTROYED 0 STOLEN 0\nEND\n"
+    );
+    let code = code(&rt);
+    let pack = Pack { code, serial: serial(&rt, "SN1") };
+    let text = told(rt.alloc(), EXPORT, &Asked::Audit(pack))?;
+    assert!(rt; text.starts_with("SHOWN 5\n[1767225600,\"mah1\""));
+    assert!(rt; text.ends_with("\"B1\",\"280200\"]]\n"));
+    let other = Pack { code, serial: serial(&rt, "SN2") };
+    let text = told(rt.alloc(), EXPORT, &Asked::Audit(other))?;
+    assert_eq!(rt; text.as_str(), "SHOWN 0\n");
+    Ok(())
+}
+
+#[test]
+fn what_is_wrong_with_a_line_is_told(rt: HostRuntime) -> Result<(), Fail> {
+    for (from, to, fault) in [
+        (
+            "UNFLAGGED",
+            "FLAGGED",
+            "line 5 is unlawful: stored ALERT RECALLED FLAGGED 1, the rules give ALERT RECALLED UNFLAGGED 1",
+        ),
+        ("[1767225600,\"au1\"", "[1767225600,\"au1", "line 6 is no entry line: no JSON"),
+        ("DECOMMISSIONED", "decommissioned", "line 2 is no entry line: not the shape of an entry"),
+        (
+            "\"UPLOADED\"]]\n",
+            "\"UPLOADED\"]]\r\n",
+            "line 1 is no entry line: another spelling than the entry's line",
+        ),
+        ("\"B1\",\"280200\"]]\n", "\"B1\",\"280200\"]]", "line 6 lacks its LF"),
+    ] {
+        let Some((before, after)) = EXPORT.split_once(from) else {
+            panic!(rt; "{from} is not in the export");
+        };
+        let export = format!(in rt.alloc(); "{before}{to}{after}")?;
+        let text = told(rt.alloc(), &export, &Asked::Summary)?;
+        assert_eq!(rt; text.as_str(), fault);
+    }
+    Ok(())
+}
+
+/// The options of a line of words, which single spaces part.
+fn options(alloc: Global, line: &str) -> Result<Result<Options, OptionFault>, AllocError> {
+    let mut words = Vec::new(alloc);
+    for word in line.split(' ') {
+        words.push(String::from_str(alloc, word)?)?;
+    }
+    Ok(read_options(alloc, &words))
+}
+
+#[test]
+fn a_command_line_is_taken(rt: HostRuntime) -> Result<(), Fail> {
+    let code = code(&rt);
+    let pack = Pack { code, serial: serial(&rt, "SN1") };
+    for (line, asked) in [
+        ("export", Asked::Summary),
+        ("--report 09506000134352 export", Asked::Report(code)),
+        ("export --audit 09506000134352 SN1", Asked::Audit(pack)),
+    ] {
+        let Ok(options) = options(rt.alloc(), line)? else {
+            panic!(rt; "{line} is refused");
+        };
+        assert!(rt; options.asked == asked, "{line}");
+        assert!(rt; options.file.is_some_and(|path| path.as_str() == "export"), "{line}");
+    }
+    Ok(())
+}
+
+#[test]
+fn a_command_line_is_refused(rt: HostRuntime) -> Result<(), Fail> {
+    for line in [
+        "one two",
+        "--report",
+        "--report 09506000134353",
+        "--audit 09506000134352",
+        "--audit 09506000134352 SN#1",
+        "--report 09506000134352 --audit 09506000134352 SN1",
+        "--other",
+    ] {
+        let refused = matches!(options(rt.alloc(), line)?, Err(OptionFault::Refused(_)));
+        assert!(rt; refused, "{line}");
+    }
+    let helped = matches!(options(rt.alloc(), "--help")?, Err(OptionFault::Help(_)));
+    assert!(rt; helped);
+    Ok(())
+}
