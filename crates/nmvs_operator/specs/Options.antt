@@ -1,0 +1,11 @@
+-- The ranges of the options (own).
+use Rattle.std.specs.Prelude.{◌≤◌, IfSome}
+use Rattle.nmvs_operator.specs.declared.options.Options.{Options}
+
+-- each number of a command line is in its range
+pub record AreInRange (o : Options) : Type 0 where
+  pub shards : (1 ≤ o.shards) × (o.shards ≤ 8)
+  pub workers : (1 ≤ o.workers) × (o.workers ≤ 8)
+  pub sessions : o.sessions ≤ 1_000_000
+  pub port : (1 ≤ o.port) × (o.port ≤ 65_535)
+  pub moment : IfSome o.moment (λ m. m ≤ 4_102_444_799)

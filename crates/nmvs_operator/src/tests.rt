@@ -1,0 +1,3 @@
+//! Command lines, users files and commands.
+mod options;
+mod users;
