@@ -1,7 +1,7 @@
 //! The program of the repository.
 #![tactic(auto)]
 
-use nmvs_server::{Fault, OptionFault, read_options, serve_rehearsal, start};
+use nmvs_server::{Console, Fault, OptionFault, read_options, serve_rehearsal, start};
 use nmvs_stream::Device;
 use std::process::ExitCode;
 use std::rt::Env;
@@ -12,15 +12,17 @@ fn main(rt: HostRuntime) -> ExitCode {
     let Ok(words) = words(&rt) else {
         return ended(&rt, &[Some(Fault::Memory)]);
     };
-    let mut source = Device::new(rt.stdin());
-    let mut sink = Device::new(rt.stdout());
+    let mut console = Console {
+        source: Device::new(rt.stdin()),
+        sink: Device::new(rt.stdout()),
+    };
     if words.is_empty() {
-        let rehearsed = serve_rehearsal(alloc, &mut source, &mut sink);
+        let rehearsed = serve_rehearsal(alloc, &mut console.source, &mut console.sink);
         return ended(&rt, &[rehearsed.err()]);
     }
     match read_options(alloc, &words) {
         Ok(options) => {
-            let outcome = start(&rt, alloc, &options, &mut source, &mut sink);
+            let outcome = start(&rt, alloc, &options, &mut console);
             ended(&rt, &[outcome.session, outcome.program])
         }
         Err(OptionFault::Help(text)) => {

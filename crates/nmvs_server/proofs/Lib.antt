@@ -1,1 +1,3 @@
-mod UsersFile
+mod ShardExports
+mod ShownAudits
+mod DeskTurns

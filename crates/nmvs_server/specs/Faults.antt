@@ -1,5 +1,5 @@
 -- What makes the program fail, and the texts that it then tells (own).
-use Rattle.std.specs.Prelude.{ℕ, List, [], ◌++◌, codes, Option, Some, None, Result, Ok, Err}
+use Rattle.std.specs.Prelude.{ℕ, List, ◌++◌, codes, Option, Some, None, Result, Ok, Err}
 use Rattle.std.specs.Fmt.{decimal}
 use Rattle.nmvs_protocol.specs.declared.command_fault.CommandFault.{CommandFault}
 use Rattle.nmvs_protocol.specs.declared.command_fault.CommandFault.TheVariants as commands
@@ -7,8 +7,8 @@ use Rattle.nmvs_protocol.specs.declared.end.End.{End}
 use Rattle.nmvs_protocol.specs.declared.end.End.TheVariants as ends
 use Rattle.nmvs_server.specs.declared.fault.Fault.{Fault}
 use Rattle.nmvs_server.specs.declared.fault.Fault.TheVariants as faults
-use Rattle.nmvs_server.specs.declared.users.ObeyFault.{ObeyFault}
-use Rattle.nmvs_server.specs.declared.users.ObeyFault.TheVariants as obey
+use Rattle.nmvs_operator.specs.declared.obey_fault.ObeyFault.{ObeyFault}
+use Rattle.nmvs_operator.specs.declared.obey_fault.ObeyFault.TheVariants as obey
 
 -- what the end of the session over standard input makes of the program
 abbrev pub outcome : End → Result (Unit {0}) Fault
@@ -37,9 +37,13 @@ command_text (Some obey.Memory) = codes "FAULT MEMORY\n"
 -- the text of a fault
 abbrev pub fault_text : Fault → List ℕ
 fault_text (faults.CannotRead path) = codes "cannot read " ++ path.now
+fault_text (faults.CannotWrite path) = codes "cannot write " ++ path.now
 fault_text (faults.UsersLine number fault) = codes "users line " ++ decimal number ++ codes ": " ++ command_word fault
+fault_text (faults.ImportLine number) = codes "import line " ++ decimal number
+fault_text (faults.ImportUnlawful number) = codes "import line " ++ decimal number ++ codes " is unlawful"
 fault_text faults.Directory = codes "directory refused"
 fault_text (faults.CannotListen port) = codes "cannot listen on port " ++ decimal port
+fault_text faults.Settlement = codes "settlement fault"
 fault_text faults.Memory = codes "out of memory"
 fault_text faults.SessionRead = codes "session read fault"
 fault_text faults.SessionWrite = codes "session write fault"

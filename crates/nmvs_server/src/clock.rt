@@ -50,7 +50,7 @@ impl<'a, R: std::rt::Clock> ProgramClock<'a, R> {
 }
 
 /// One number more for each time that a clock was asked.
-struct OneMore;
+pub(crate) struct OneMore;
 
 impl Names<Tag> for OneMore {
     ghost numbers = { λ tag. 0 ∷ tag.numbers };

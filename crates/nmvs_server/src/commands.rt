@@ -3,7 +3,7 @@ ghost use Rattle.std.specs.Prelude.{◌≡◌, None, false};
 ghost use Rattle.nmvs_server.specs.Faults.{command_text};
 
 use crate::rehearsal::LIMITS;
-use crate::{ObeyFault, obey};
+use crate::{Console, ObeyFault, obey};
 use arrayvec::ArrayVec;
 use nmvs_directory::{Naming, Notice, Registrar};
 use nmvs_protocol::CommandFault;
@@ -14,12 +14,11 @@ use std::sync::{Mutex, Wait};
 /// What is kept of a command: one byte more than it may have, which tells that it is too long.
 type PendingCommand = ArrayVec<u8, 201>;
 
-/// Carries out commands one by one, as they come, publishes each at once and answers it, to the end of the commands, a failed
-/// read or the limits of a session. A failed write changes nothing.
+/// Carries out the console's commands one by one, as they come, publishes each at once and answers it, to the end of the
+/// commands, a failed read or the limits of a session. A failed write changes nothing.
 pub(crate) fn obey_all<J: Naming, R: Wait + Drop, A: Allocator, I: Source, W: Sink>(
     rt: &impl Wait,
-    commands: &mut I,
-    out: &mut W,
+    console: &mut Console<I, W>,
     registrar: &mut Registrar<J, R, A>,
     latest: &Mutex<Option<Notice<J>>>,
 ) {
@@ -27,7 +26,7 @@ pub(crate) fn obey_all<J: Naming, R: Wait + Drop, A: Allocator, I: Source, W: Si
     let mut left = LIMITS.lines;
     let mut buffer = [0; 4096];
     for _ in 0..LIMITS.reads {
-        let count = match commands.read(&mut buffer) {
+        let count = match console.source.read(&mut buffer) {
             Err(Failed) | Ok(0) => return,
             Ok(count) => count,
         };
@@ -41,14 +40,14 @@ pub(crate) fn obey_all<J: Naming, R: Wait + Drop, A: Allocator, I: Source, W: Si
             }
             left -= 1;
             let said = answer_text(obey_one(rt, &line, registrar, latest));
-            let _failed = put(out, said.as_bytes());
+            let _failed = put(&mut console.sink, said.as_bytes());
             line.clear();
         }
     }
 }
 
 /// Carries out one command, and keeps its notice as the latest.
-fn obey_one<J: Naming, R: Wait + Drop, A: Allocator>(
+pub(crate) fn obey_one<J: Naming, R: Wait + Drop, A: Allocator>(
     rt: &impl Wait,
     line: &[u8],
     registrar: &mut Registrar<J, R, A>,
@@ -64,7 +63,7 @@ fn obey_one<J: Naming, R: Wait + Drop, A: Allocator>(
 }
 
 /// The answer to a command, where none is that it was carried out.
-fn answer_text(fault: Option<ObeyFault>) -> &'static str
+pub(crate) fn answer_text(fault: Option<ObeyFault>) -> &'static str
     ensures { result.now ≡ command_text fault }
 {
     match fault {

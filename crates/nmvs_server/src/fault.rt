@@ -10,12 +10,20 @@ use std::fmt;
 pub enum Fault<'a> {
     /// The file of this path can't be opened or read.
     CannotRead(&'a str),
+    /// The export can't be written to the file of this path.
+    CannotWrite(&'a str),
     /// The line of the users file with this number, counted from 1, is no command.
     UsersLine(usize, CommandFault),
+    /// The line of the import with this number, counted from 1, is no entry line.
+    ImportLine(usize),
+    /// The reply in this line of the import is not that of the rules.
+    ImportUnlawful(usize),
     /// A worker was refused its window on the directory.
     Directory,
     /// The port is not to be had.
     CannotListen(u16),
+    /// A receipt could not be found in the trails.
+    Settlement,
     /// Memory was wanting, or a thread for a worker.
     Memory,
     /// A read of the session over standard input failed.
@@ -32,12 +40,16 @@ impl<'a> fmt::Display for Fault<'a> {
     fn fmt<W: fmt::Write>(&self, f: &mut fmt::Formatter<W>) -> fmt::Result {
         match self {
             Fault::CannotRead(path) => write!(f, "cannot read {path}"),
+            Fault::CannotWrite(path) => write!(f, "cannot write {path}"),
             Fault::UsersLine(number, fault) => {
                 let word = word_of(*fault);
                 write!(f, "users line {number}: {word}")
             }
+            Fault::ImportLine(number) => write!(f, "import line {number}"),
+            Fault::ImportUnlawful(number) => write!(f, "import line {number} is unlawful"),
             Fault::Directory => f.write_str("directory refused"),
             Fault::CannotListen(port) => write!(f, "cannot listen on port {port}"),
+            Fault::Settlement => f.write_str("settlement fault"),
             Fault::Memory => f.write_str("out of memory"),
             Fault::SessionRead => f.write_str("session read fault"),
             Fault::SessionWrite => f.write_str("session write fault"),

@@ -4,9 +4,10 @@ ghost use Rattle.nmvs_protocol.specs.Session.{Session};
 ghost use Rattle.nmvs_server.specs.Rehearsal.{Rehearsal, Judges};
 
 use crate::roster::actor_of;
-use nmvs_identifier::{Moment, Name};
-use nmvs_protocol::{Answer, Ask, Desk, End, Limits, Turn, serve};
-use nmvs_rules::Question;
+use nmvs_identifier::{Moment, Name, ProductCode};
+use nmvs_protocol::{Answer, Ask, Desk, End, Entries, Limits, Text, Turn, serve};
+use nmvs_record::report;
+use nmvs_rules::{Question, Reply, Role};
 use nmvs_shard::Shard;
 use nmvs_stream::{Sink, Source};
 use std::alloc::Global;
@@ -37,7 +38,8 @@ pub fn rehearse<R: Source, W: Sink>(
         last (R.told source.new) (W.taken sink.new) result }
 {
     let mut desk = RehearsalDesk {
-        shard: Shard::new(alloc),
+        alloc: &alloc,
+        shard: Shard::new(&alloc),
         moments,
     };
     serve(alloc, source, sink, &mut desk, LIMITS)
@@ -46,7 +48,8 @@ pub fn rehearse<R: Source, W: Sink>(
 /// Answers by the rules on one shard.
 #[derive(Drop)]
 struct RehearsalDesk<'a> {
-    shard: Shard<Global>,
+    alloc: &'a Global,
+    shard: Shard<&'a Global>,
     moments: &'a [Moment],
 }
 
@@ -63,7 +66,8 @@ impl<'a> Model for RehearsalDesk<'a> {
 
 impl<'a> RehearsalDesk<'a> {
     ghost use Rattle.std.specs.Prelude.{◌≡◌};
-    ghost use Rattle.nmvs_server.specs.Rehearsal.{now, later};
+    ghost use Rattle.nmvs_protocol.specs.declared.ask.Ask.TheVariants.{Put, Report};
+    ghost use Rattle.nmvs_server.specs.Rehearsal.{now, later, Judges};
 
     /// The moment of the next line, which counts as having reached the desk.
     fn next_moment(&mut self) -> Moment
@@ -80,24 +84,62 @@ impl<'a> RehearsalDesk<'a> {
             [] => unreachable!(),
         }
     }
-}
 
-impl<'a> Desk for RehearsalDesk<'a> {
-    ghost use Rattle.nmvs_server.specs.Rehearsal.{Judges};
-
-    ghost takes = { Judges };
-
-    fn take(&mut self, ask: &Ask) -> Answer {
-        let Ask::Put(user, question) = ask else {
-            return Answer::Bye;
-        };
+    /// Judges a question. The entries that an audit shows are gathered first, since a step cannot be taken back.
+    #[tactic(auto, using(crate::proofs::ShownAudits::not_audit))]
+    fn judge(&mut self, user: &Name, question: &Question) -> Answer<'a>
+        ensures { Judges self.old (Put user.now question.now) result self.new }
+    {
         let moment = self.next_moment();
         let Some(actor) = actor_of(user) else {
             return Answer::Turned(Turn::Nobody);
         };
-        match self.shard.step(moment, user, &actor, question) {
-            Ok(reply) => Answer::Replied(reply),
+        match question {
+            Question::Audit(pack) => {
+                let Ok(entries) = self.shard.entries_of(pack) else {
+                    return Answer::Turned(Turn::Memory);
+                };
+                match self.shard.step(moment, user, &actor, question) {
+                    Ok(Reply::Shown(_)) => Answer::Audited(Entries::new(entries)),
+                    Ok(reply) => Answer::Replied(reply),
+                    Err(_) => Answer::Turned(Turn::Memory),
+                }
+            }
+            _ => match self.shard.step(moment, user, &actor, question) {
+                Ok(reply) => Answer::Replied(reply),
+                Err(_) => Answer::Turned(Turn::Memory),
+            },
+        }
+    }
+
+    /// Reports on a product code to an authority. It takes the moment of its line and leaves no entry.
+    fn report(&mut self, user: &Name, code: &ProductCode) -> Answer<'a>
+        ensures { Judges self.old (Report user.now code.now) result self.new }
+    {
+        self.next_moment();
+        let Some(actor) = actor_of(user) else {
+            return Answer::Turned(Turn::Nobody);
+        };
+        if actor.role != Role::Authority {
+            return Answer::Turned(Turn::Role);
+        }
+        match report(*self.alloc, &self.shard, code) {
+            Ok(text) => Answer::Reported(Text::new(text)),
             Err(_) => Answer::Turned(Turn::Memory),
+        }
+    }
+}
+
+impl<'a> Desk<'a> for RehearsalDesk<'a> {
+    ghost use Rattle.nmvs_server.specs.Rehearsal.{Judges};
+
+    ghost takes = { Judges };
+
+    fn take(&mut self, ask: &Ask) -> Answer<'a> {
+        match ask {
+            Ask::Put(user, question) => self.judge(user, question),
+            Ask::Report(user, code) => self.report(user, code),
+            Ask::Quit => Answer::Bye,
         }
     }
 }

@@ -1,8 +1,8 @@
 //! Sessions of lines and their replies.
 mod clock;
+mod connections;
+mod desk;
 mod examples;
-mod options;
-mod users;
 
 use crate::rehearse;
 use examples::{Example, NEW_YEAR};
@@ -59,6 +59,16 @@ fn reversions_get_their_replies(rt: HostRuntime) -> Result<(), Fail> {
 #[test]
 fn recalls_get_their_replies(rt: HostRuntime) -> Result<(), Fail> {
     get_their_replies(&rt, rt.alloc(), examples::RECALLS)
+}
+
+#[test]
+fn audits_get_their_replies(rt: HostRuntime) -> Result<(), Fail> {
+    get_their_replies(&rt, rt.alloc(), examples::AUDITS)
+}
+
+#[test]
+fn reports_get_their_replies(rt: HostRuntime) -> Result<(), Fail> {
+    get_their_replies(&rt, rt.alloc(), examples::REPORTS)
 }
 
 #[test]

@@ -1,51 +1,42 @@
 //! The workers that serve connections, and the registrar beside them.
 use crate::commands::obey_all;
+use crate::office::Office;
 use crate::rehearsal::LIMITS;
-use crate::{ClerkDesk, Clock, Fault, ProgramClock};
-use nmvs_desk::{Clerk, EntryLedger, ReceiptLedger, Repository};
-use nmvs_directory::{Naming, Notice, Registrar};
-use nmvs_identifier::Moment;
+use crate::{ClerkDesk, Console, ProgramClock};
+use nmvs_desk::{Clerk, EntryLedger, ReceiptLedger};
+use nmvs_directory::{Naming, Registrar};
 use nmvs_protocol::{Desk, serve};
 use nmvs_stream::{Device, Sink, Source, put};
 use std::alloc::{AllocError, Allocator, Global};
 use std::net::TcpListener;
-use std::sync::{Mutex, Wait};
+use std::sync::Wait;
 use std::thread;
 use std::thread::Threads;
 
-/// What all workers of a run share.
-#[derive(Drop)]
-pub(crate) struct Office<'r, 'a, H: Wait, J: Naming, S: EntryLedger, C: ReceiptLedger> {
-    pub(crate) rt: &'r H,
-    pub(crate) listener: &'r TcpListener,
-    pub(crate) repository: &'r Repository<'a, Global, S, C>,
-    pub(crate) latest: &'r Mutex<Option<Notice<J>>>,
-    /// Whether the workers may begin: it is locked until all of them are there.
-    pub(crate) ready: &'r Mutex<bool>,
-    /// How many connections a worker serves.
-    pub(crate) sessions: u64,
-    pub(crate) moment: Option<Moment>,
-}
-
 /// Serves connections, one after another, and gives the clerk back. A failed accept counts as one.
 fn work<'a, H: Wait + std::rt::Clock, J: Naming, S: EntryLedger, C: ReceiptLedger>(
-    office: &Office<'_, 'a, H, J, S, C>,
-    alloc: Global,
+    office: &Office<'_, '_, 'a, '_, H, J, S, C>,
     clerk: Clerk<'a, Global, J, C>,
 ) -> Clerk<'a, Global, J, C> {
-    if !*office.ready.lock(office.rt) {
+    let plan = office.service.plan;
+    if !*office.ready.lock(plan.rt) {
         return clerk;
     }
-    let clock = ProgramClock::new(office.rt, office.moment);
-    let mut desk = ClerkDesk::new(office.rt, clerk, office.repository, office.latest, clock);
-    for _ in 0..office.sessions {
-        serve_next(alloc, office.listener, &mut desk);
+    let clock = ProgramClock::new(plan.rt, plan.options.moment);
+    let latest = office.service.latest;
+    let mut desk = ClerkDesk::new(plan.rt, clerk, office.repository, latest, clock);
+    let sessions = match plan.options.sessions {
+        0 => u64::MAX,
+        sessions => sessions,
+    };
+    for _ in 0..sessions {
+        serve_next(*plan.alloc, office.listener, &mut desk);
     }
     desk.into_clerk()
 }
 
 /// Serves one connection as a session. How it ends changes nothing for the others.
-fn serve_next<D: Desk>(alloc: Global, listener: &TcpListener, desk: &mut D) {
+fn serve_next<'a, D: Desk<'a>>(alloc: Global, listener: &TcpListener, desk: &mut D) {
     let Ok((stream, _peer)) = listener.accept() else {
         return;
     };
@@ -72,31 +63,31 @@ pub(crate) fn serve_connections<
     I: Source,
     W: Sink,
 >(
-    office: &Office<'_, 'a, H, J, S, C>,
-    alloc: Global,
+    office: &Office<'_, '_, 'a, '_, H, J, S, C>,
     clerks: Vec<Clerk<'a, Global, J, C>, &'a Global>,
     registrar: &mut Registrar<J, Q, A>,
-    commands: &mut I,
-    out: &mut W,
-) -> Result<Vec<Clerk<'a, Global, J, C>>, AllocError> {
-    thread::scope(thread::scope_env(), office.rt, |scope| {
-        let mut ready = office.ready.lock(office.rt);
-        let mut workers = Vec::new(alloc);
+    console: &mut Console<I, W>,
+) -> Result<Vec<Clerk<'a, Global, J, C>, &'a Global>, AllocError> {
+    let plan = office.service.plan;
+    thread::scope(thread::scope_env(), plan.rt, |scope| {
+        let mut ready = office.ready.lock(plan.rt);
+        let mut workers = Vec::with_capacity(*plan.alloc, clerks.len())?;
+        // room for the clerks is made before anything is served, so that no trail is lost for want of it
+        let mut back = Vec::with_capacity(plan.alloc, clerks.len())?;
         for clerk in clerks {
-            match scope.spawn(move || work(office, alloc, clerk)) {
+            match scope.spawn(move || work(office, clerk)) {
                 Ok(worker) => workers.push(worker)?,
                 Err(_) => return Err(AllocError),
             }
         }
         *ready = true;
         drop(ready);
-        tell_port(alloc, office.listener, out);
-        obey_all(office.rt, commands, out, registrar, office.latest);
-        let mut clerks = Vec::new(alloc);
+        tell_port(*plan.alloc, office.listener, &mut console.sink);
+        obey_all(plan.rt, console, registrar, office.service.latest);
         for worker in workers {
-            clerks.push(worker.join(office.rt))?;
+            back.push(worker.join(plan.rt))?;
         }
-        Ok(clerks)
+        Ok(back)
     })
 }
 

@@ -4,7 +4,8 @@ pub const NEW_YEAR: i64 = 1_767_225_600;
 
 const DAY: i64 = 86_400;
 
-/// A session: what it shows, the moments of its lines (the last serves all later lines), and each line with its reply.
+/// A session: what it shows, the moments of its lines (the last serves all later lines), and each line with its reply
+/// (whose last LF is left out).
 pub struct Example {
     pub shows: &'static str,
     pub moments: &'static [i64],
@@ -378,6 +379,68 @@ pub const RECALLS: &[Example] = &[
         ],
     },
     Example {
+        shows: "a recall sends packs of every own status to disposal and counts each of them",
+        moments: &[NEW_YEAR],
+        lines: &[
+            ("mah1 UPLOAD 09506000134352 SN1 B1 280200", "UPLOADED"),
+            ("mah1 UPLOAD 09506000134352 SN2 B1 280200", "UPLOADED"),
+            ("mah1 UPLOAD 09506000134352 SN3 B1 280200", "UPLOADED"),
+            ("mah1 UPLOAD 09506000134352 SN4 B1 280200", "UPLOADED"),
+            ("mah1 UPLOAD 09506000134352 SN5 B1 280200", "UPLOADED"),
+            ("mah1 UPLOAD 09506000134352 SN6 B1 280200", "UPLOADED"),
+            ("mah1 UPLOAD 09506000134352 SN7 B1 280200", "UPLOADED"),
+            ("mah1 UPLOAD 09506000134352 SN8 B1 280200", "UPLOADED"),
+            (
+                "mah1 UPLOAD 09506000134352 SN1 B1 280200",
+                "REFUSED 5 DUPLICATE",
+            ),
+            ("ph1 HOLD 09506000134352 SN2", "DECOMMISSIONED"),
+            ("ph1 SUPPLY 09506000134352 SN3", "DECOMMISSIONED"),
+            ("wh1 EXPORT 09506000134352 SN4", "DECOMMISSIONED"),
+            ("wh1 SAMPLE 09506000134352 SN5", "DECOMMISSIONED"),
+            ("mf1 SAMPLE 09506000134352 SN6", "DECOMMISSIONED"),
+            ("wh1 DESTROY 09506000134352 SN7", "DECOMMISSIONED"),
+            ("mah1 THEFT 09506000134352 SN8", "STOLEN"),
+            ("mah2 THEFT 09506000134352 SN8", "REFUSED 4 NOT_HOLDER"),
+            ("mah2 THEFT 09506000134352 SN9", "REFUSED 2 UNKNOWN"),
+            ("mah1 RECALL 09506000134352 B1", "LOCKED 1"),
+            (
+                "au1 STATUS 09506000134352 SN1",
+                "STATUS ACTIVE RECALLED DISPOSAL B1 280200",
+            ),
+            (
+                "au1 STATUS 09506000134352 SN2",
+                "STATUS HELD RECALLED DISPOSAL B1 280200",
+            ),
+            (
+                "au1 STATUS 09506000134352 SN3",
+                "STATUS SUPPLIED RECALLED DISPOSAL B1 280200",
+            ),
+            (
+                "au1 STATUS 09506000134352 SN4",
+                "STATUS EXPORTED RECALLED DISPOSAL B1 280200",
+            ),
+            (
+                "au1 STATUS 09506000134352 SN5",
+                "STATUS SAMPLED RECALLED DISPOSAL B1 280200",
+            ),
+            (
+                "au1 STATUS 09506000134352 SN7",
+                "STATUS DESTROYED RECALLED DISPOSAL B1 280200",
+            ),
+            (
+                "au1 STATUS 09506000134352 SN8",
+                "STATUS STOLEN RECALLED DISPOSAL B1 280200",
+            ),
+            (
+                "au1 REPORT 09506000134352",
+                "PRODUCT 09506000134352 HOLDER MAH-1 ALERTS 0 FLAGGED 0\n\
+                BATCH B1 RECALLED ACTIVE 1 HELD 1 SUPPLIED 1 EXPORTED 1 SAMPLED 2 DESTROYED 1 STOLEN 1\n\
+                END",
+            ),
+        ],
+    },
+    Example {
         shows: "a recall is told before a supply and a theft",
         moments: &[NEW_YEAR],
         lines: &[
@@ -407,6 +470,86 @@ pub const RECALLS: &[Example] = &[
             ),
             ("QUIT", "BYE"),
         ],
+    },
+];
+
+pub const AUDITS: &[Example] = &[
+    Example {
+        shows: "an audit shows the entries about a pack and is one of them from then on",
+        moments: &[NEW_YEAR],
+        lines: &[
+            ("mah1 UPLOAD 09506000134352 SN1 B1 280200", "UPLOADED"),
+            ("ph1 VERIFY 09506000134352 SN1", "AUTHENTIC B1 280200 VALID"),
+            ("ph1 HOLD 09506000134352 SN1", "DECOMMISSIONED"),
+            ("ph1b REVERT 09506000134352 SN1", "REVERTED"),
+            (
+                "au1 AUDIT 09506000134352 SN1",
+                r#"SHOWN 4
+[1767225600,"mah1","HOLDER","MAH-1","HQ",["UPLOAD","09506000134352","SN1","B1","280200"],["UPLOADED"]]
+[1767225600,"ph1","PHARMACY","PH-1","P1",["VERIFY","09506000134352","SN1"],["AUTHENTIC","B1","280200","VALID"]]
+[1767225600,"ph1","PHARMACY","PH-1","P1",["HOLD","09506000134352","SN1"],["DECOMMISSIONED"]]
+[1767225600,"ph1b","PHARMACY","PH-1","P1",["REVERT","09506000134352","SN1"],["REVERTED"]]"#,
+            ),
+            (
+                "au1 AUDIT 09506000134352 SN1",
+                r#"SHOWN 5
+[1767225600,"mah1","HOLDER","MAH-1","HQ",["UPLOAD","09506000134352","SN1","B1","280200"],["UPLOADED"]]
+[1767225600,"ph1","PHARMACY","PH-1","P1",["VERIFY","09506000134352","SN1"],["AUTHENTIC","B1","280200","VALID"]]
+[1767225600,"ph1","PHARMACY","PH-1","P1",["HOLD","09506000134352","SN1"],["DECOMMISSIONED"]]
+[1767225600,"ph1b","PHARMACY","PH-1","P1",["REVERT","09506000134352","SN1"],["REVERTED"]]
+[1767225600,"au1","AUTHORITY","AU-1","A1",["AUDIT","09506000134352","SN1"],["SHOWN",4]]"#,
+            ),
+            ("ph1 AUDIT 09506000134352 SN1", "REFUSED 1 ROLE"),
+            ("au1 AUDIT 09506000134352 SN9", "SHOWN 0"),
+        ],
+    },
+    Example {
+        shows: "a refused audit is recorded and shown",
+        moments: &[NEW_YEAR],
+        lines: &[
+            ("ph1 AUDIT 09506000134352 SN1", "REFUSED 1 ROLE"),
+            (
+                "au1 AUDIT 09506000134352 SN1",
+                r#"SHOWN 1
+[1767225600,"ph1","PHARMACY","PH-1","P1",["AUDIT","09506000134352","SN1"],["REFUSED",1]]"#,
+            ),
+        ],
+    },
+];
+
+pub const REPORTS: &[Example] = &[
+    Example {
+        shows: "an authority gets the report of a product code",
+        moments: &[NEW_YEAR],
+        lines: &[
+            ("mah1 UPLOAD 09506000134352 SN1 B1 280200", "UPLOADED"),
+            ("mah1 UPLOAD 09506000134352 SN2 B1 280200", "UPLOADED"),
+            ("mah1 UPLOAD 09506000134352 SN3 B1 280200", "UPLOADED"),
+            ("ph1 SUPPLY 09506000134352 SN1", "DECOMMISSIONED"),
+            ("mah1 THEFT 09506000134352 SN2", "STOLEN"),
+            ("mah1 RECALL 09506000134352 B1", "LOCKED 1"),
+            (
+                "au1 REPORT 09506000134352",
+                "PRODUCT 09506000134352 HOLDER MAH-1 ALERTS 0 FLAGGED 0\n\
+                BATCH B1 RECALLED ACTIVE 1 HELD 0 SUPPLIED 1 EXPORTED 0 SAMPLED 0 DESTROYED 0 STOLEN 1\n\
+                END",
+            ),
+            ("ph1 REPORT 09506000134352", "FAULT ROLE"),
+            ("zed REPORT 09506000134352", "FAULT NOBODY"),
+            (
+                "au1 AUDIT 09506000134352 SN3",
+                r#"SHOWN 1
+[1767225600,"mah1","HOLDER","MAH-1","HQ",["UPLOAD","09506000134352","SN3","B1","280200"],["UPLOADED"]]"#,
+            ),
+        ],
+    },
+    Example {
+        shows: "of a product code that nobody named there is nothing to report",
+        moments: &[NEW_YEAR],
+        lines: &[(
+            "au1 REPORT 04012345678901",
+            "PRODUCT 04012345678901 HOLDER - ALERTS 0 FLAGGED 0\nEND",
+        )],
     },
 ];
 

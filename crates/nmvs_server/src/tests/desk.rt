@@ -1,0 +1,210 @@
+//! The program's desk, over a repository of its own.
+ghost use Rattle.std.specs.Prelude.{◌≡◌, ◌≤◌, length, vec_len};
+ghost use Rattle.nmvs_directory.specs.Directory.{directory_book};
+
+use super::examples;
+use super::examples::{Example, NEW_YEAR};
+use crate::clock::OneMore;
+use crate::commands::{answer_text, obey_one};
+use crate::opening::Opening;
+use crate::rehearsal::LIMITS;
+use crate::{ClerkDesk, Clock, load_users};
+use boxcar::tag::Tag;
+use nmvs_desk::{EntryLedger, ReceiptLedger, Repository};
+use nmvs_directory::{Directory, Naming, Notice, Registrar};
+use nmvs_protocol::{Desk, serve};
+use nmvs_shard::Shard;
+use nmvs_stream::Device;
+use std::alloc::Global;
+use std::marker::Brand;
+use std::process::Abort;
+use std::sync::ledger::Blank;
+use std::sync::{Mutex, Wait};
+use std::test::*;
+
+/// The users of the rehearsal, as commands.
+const USERS: &str =
+    "ENROL mah1 HOLDER MAH-1 HQ\nENROL mah2 HOLDER MAH-2 HQ2\nENROL ph1 PHARMACY PH-1 P1\nENROL ph1b PHARMACY PH-1 P1\n\
+    ENROL ph2 PHARMACY PH-1 P2\nENROL wh1 WHOLESALER WH-1 W1\nENROL mf1 MANUFACTURER MF-1 F1\nENROL au1 AUTHORITY AU-1 A1";
+
+/// Moments that are none, and a registrar's command between two lines.
+const TURNED_AWAY: &[Example] = &[
+    Example {
+        shows: "nothing is put at seconds of no moment",
+        moments: &[4_102_444_800, -1, NEW_YEAR],
+        lines: &[
+            ("mah1 UPLOAD 09506000134352 SN1 B1 280200", "FAULT CLOCK"),
+            ("zed STATUS 09506000134352 SN1", "FAULT CLOCK"),
+            ("ph1 STATUS 09506000134352 SN1", "NOPACK"),
+        ],
+    },
+    Example {
+        shows: "a suspension is learnt before the next question",
+        moments: &[NEW_YEAR],
+        lines: &[
+            ("ph1 STATUS 09506000134352 SN1", "NOPACK"),
+            ("SUSPEND ph1", "DONE"),
+            ("ph1 STATUS 09506000134352 SN1", "FAULT SUSPENDED"),
+            ("ph1b STATUS 09506000134352 SN1", "NOPACK"),
+        ],
+    },
+];
+
+/// Gives these seconds in turn, and the last of them again and again.
+#[derive(Drop)]
+struct Seconds<'s> {
+    rest: &'s [i64],
+    gave: i64,
+    asked: Tag,
+}
+
+impl<'s> Clock for Seconds<'s> {
+    ghost use Rattle.std.specs.Prelude.{length};
+
+    ghost asked = { λ clock. length clock.asked.numbers };
+
+    ghost gave = { λ clock. clock.gave };
+
+    fn seconds(&mut self) -> i64 {
+        self.asked = Tag::of::<Tag, OneMore>(&self.asked);
+        match self.rest {
+            [] => {}
+            [last] => self.gave = *last,
+            [first, later @ ..] => {
+                self.gave = *first;
+                self.rest = later;
+            }
+        }
+        self.gave
+    }
+}
+
+/// What the desk writes in answer to one line.
+fn asked<'a, D: Desk<'a>>(alloc: Global, desk: &mut D, line: &str) -> Result<Vec<u8>, Fail> {
+    let input = format!(in alloc; "{line}\n")?;
+    let mut output = Vec::new(alloc);
+    let _end = serve(
+        alloc,
+        &mut Device::new(input.as_bytes()),
+        &mut Device::new(&mut output),
+        desk,
+        LIMITS,
+    );
+    Ok(output)
+}
+
+/// Whether the answer is to a question that was put.
+fn is_put(answer: &str) -> bool {
+    !(answer.starts_with("FAULT")
+        || answer.starts_with("PRODUCT")
+        || answer == "BYE"
+        || answer == "DONE")
+}
+
+fn at_desk<'a, J: Naming, S: EntryLedger, C: ReceiptLedger, R: Wait + Abort>(
+    rt: &R,
+    latest: &Mutex<Option<Notice<J>>>,
+    opening: Opening<'a, '_, J>,
+    registrar: &mut Registrar<J, &R, &Global>,
+    example: &Example,
+) -> Result<(), Fail>
+    requires entries { (opening.entries.name ≡ S.name) × (opening.entries.parts ≡ S.parts) × (S.parts ≡ 9) }
+    requires receipts { (opening.receipts.name ≡ C.name) × (opening.receipts.parts ≡ C.parts) × (C.parts ≡ 9) }
+    requires named { (S.shards ≡ 1) × (C.clerks ≡ vec_len opening.windows) × (C.opening ≡ length opening.import.now) }
+    requires few { vec_len opening.windows ≤ 8 }
+{
+    let Opening {
+        mut windows,
+        import,
+        entries,
+        receipts,
+    } = opening;
+    let alloc = *windows.allocator();
+    let opened = Repository::<_, S, C>::open(alloc, entries, receipts, 1, &mut windows, import);
+    let Ok((repository, mut clerks)) = opened else {
+        return Err(Fail::new("a repository"));
+    };
+    let Some(clerk) = clerks.pop() else {
+        return Err(Fail::new("a clerk"));
+    };
+    let clock = Seconds {
+        rest: example.moments,
+        gave: 0,
+        asked: Tag::empty(),
+    };
+    let mut desk = ClerkDesk::new(rt, clerk, &repository, latest, clock);
+    let mut put = 0usize;
+    for (line, answer) in example.lines {
+        let wanted = format!(in *alloc; "{answer}\n")?;
+        if line.starts_with("SUSPEND") {
+            let said = answer_text(obey_one(rt, line.as_bytes(), registrar, latest));
+            assert_eq!(rt; said, wanted.as_str(), "{}", example.shows);
+        } else {
+            let said = asked(*alloc, &mut desk, line)?;
+            assert_eq!(rt; said.as_slice(), wanted.as_bytes(), "{}", example.shows);
+        }
+        if is_put(answer) {
+            put = put.saturating_add(1);
+        }
+    }
+    assert_eq!(rt;
+        desk.into_clerk().receipts().len(),
+        put,
+        "{}",
+        example.shows
+    );
+    Ok(())
+}
+
+fn at_directory<J: Naming, R: Wait + Abort + Sync>(
+    rt: &R,
+    alloc: &Global,
+    example: &Example,
+    directory: Directory,
+) -> Result<(), Fail>
+    requires { directory_book directory ≡ J.book }
+{
+    let (mut registrar, windows) = directory.open::<J, _, _>(rt, alloc, 1)?;
+    let mut users = Device::new(USERS.as_bytes());
+    let notice = load_users(*alloc, &mut users, &mut registrar, 2)?;
+    let opening = Opening {
+        windows,
+        import: &Shard::new(alloc),
+        entries: Blank::new(9),
+        receipts: Blank::new(9),
+    };
+    let latest = Mutex::new(Some(notice));
+    let done = at_desk::<J, Brand, Brand, _>(rt, &latest, opening, &mut registrar, example);
+    registrar.close();
+    done
+}
+
+/// Runs each example at a desk of its own, over one shard.
+fn get_their_answers<R: Wait + Abort + Sync>(
+    rt: &R,
+    alloc: Global,
+    examples: &[Example],
+) -> Result<(), Fail> {
+    for example in examples {
+        at_directory::<Brand, _>(rt, &alloc, example, Directory::new())?;
+    }
+    Ok(())
+}
+
+#[test]
+fn lines_that_are_turned_away_leave_no_receipt(rt: HostRuntime) -> Result<(), Fail> {
+    get_their_answers(&rt, rt.alloc(), TURNED_AWAY)
+}
+
+#[test]
+fn questions_leave_a_receipt_each(rt: HostRuntime) -> Result<(), Fail> {
+    get_their_answers(&rt, rt.alloc(), examples::VERIFICATIONS)?;
+    get_their_answers(&rt, rt.alloc(), examples::REVERSIONS)?;
+    get_their_answers(&rt, rt.alloc(), examples::RECALLS)
+}
+
+#[test]
+fn audits_show_entries_and_reports_leave_no_receipt(rt: HostRuntime) -> Result<(), Fail> {
+    get_their_answers(&rt, rt.alloc(), examples::AUDITS)?;
+    get_their_answers(&rt, rt.alloc(), examples::REPORTS)
+}
