@@ -1,5 +1,6 @@
 //! The program that checks an export, for whoever has one and nothing else.
 #![tactic(auto)]
+
 ghost use Rattle.std.specs.Prelude.{◌≡◌, false};
 
 mod answers;

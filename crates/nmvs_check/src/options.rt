@@ -99,18 +99,18 @@ fn asked(alloc: Global, matches: &ArgMatches<'_>) -> Result<Asked, OptionFault> 
 fn code_of(alloc: Global, text: &str) -> Result<ProductCode, OptionFault> {
     match ProductCode::read(text) {
         Ok(code) => Ok(code),
-        Err(fault) => Err(OptionFault::Refused(
-            format!(in alloc; "error: '{text}' is no product code: {fault}\n")?,
-        )),
+        Err(fault) => Err(OptionFault::Refused(format!(in alloc;
+            "error: '{text}' is no product code: {fault}\n"
+        )?)),
     }
 }
 
 fn serial_of(alloc: Global, text: &str) -> Result<Serial, OptionFault> {
     match Serial::read(text) {
         Ok(serial) => Ok(serial),
-        Err(fault) => Err(OptionFault::Refused(
-            format!(in alloc; "error: '{text}' is no serial number: {fault}\n")?,
-        )),
+        Err(fault) => Err(OptionFault::Refused(format!(in alloc;
+            "error: '{text}' is no serial number: {fault}\n"
+        )?)),
     }
 }
 

@@ -56,7 +56,9 @@ fn a_lawful_export_is_summed_up(rt: HostRuntime) -> Result<(), Fail> {
 #[test]
 fn product_codes_come_in_order_of_first_appearance(rt: HostRuntime) -> Result<(), Fail> {
     let alert = r#"["VERIFY","04012345678901","SN1"],["ALERT","UNKNOWN","FLAGGED",1]]"#;
-    let line = format!(in rt.alloc(); "[1767225600,\"ph1\",\"PHARMACY\",\"PH-1\",\"P1\",{alert}\n{EXPORT}")?;
+    let line = format!(in rt.alloc();
+        "[1767225600,\"ph1\",\"PHARMACY\",\"PH-1\",\"P1\",{alert}\n{EXPORT}"
+    )?;
     let text = told(rt.alloc(), &line, &Asked::Summary)?;
     assert_eq!(rt;
         text.as_str(),
@@ -75,11 +77,17 @@ fn a_product_code_and_a_pack_are_looked_up(rt: HostRuntime) -> Result<(), Fail> 
         BATCH B1 RECALLED ACTIVE 0 HELD 1 SUPPLIED 0 EXPORTED 0 SAMPLED 0 DESTROYED 0 STOLEN 0\nEND\n"
     );
     let code = code(&rt);
-    let pack = Pack { code, serial: serial(&rt, "SN1") };
+    let pack = Pack {
+        code,
+        serial: serial(&rt, "SN1"),
+    };
     let text = told(rt.alloc(), EXPORT, &Asked::Audit(pack))?;
     assert!(rt; text.starts_with("SHOWN 5\n[1767225600,\"mah1\""));
     assert!(rt; text.ends_with("\"B1\",\"280200\"]]\n"));
-    let other = Pack { code, serial: serial(&rt, "SN2") };
+    let other = Pack {
+        code,
+        serial: serial(&rt, "SN2"),
+    };
     let text = told(rt.alloc(), EXPORT, &Asked::Audit(other))?;
     assert_eq!(rt; text.as_str(), "SHOWN 0\n");
     Ok(())
@@ -93,14 +101,26 @@ fn what_is_wrong_with_a_line_is_told(rt: HostRuntime) -> Result<(), Fail> {
             "FLAGGED",
             "line 5 is unlawful: stored ALERT RECALLED FLAGGED 1, the rules give ALERT RECALLED UNFLAGGED 1",
         ),
-        ("[1767225600,\"au1\"", "[1767225600,\"au1", "line 6 is no entry line: no JSON"),
-        ("DECOMMISSIONED", "decommissioned", "line 2 is no entry line: not the shape of an entry"),
+        (
+            "[1767225600,\"au1\"",
+            "[1767225600,\"au1",
+            "line 6 is no entry line: no JSON",
+        ),
+        (
+            "DECOMMISSIONED",
+            "decommissioned",
+            "line 2 is no entry line: not the shape of an entry",
+        ),
         (
             "\"UPLOADED\"]]\n",
             "\"UPLOADED\"]]\r\n",
             "line 1 is no entry line: another spelling than the entry's line",
         ),
-        ("\"B1\",\"280200\"]]\n", "\"B1\",\"280200\"]]", "line 6 lacks its LF"),
+        (
+            "\"B1\",\"280200\"]]\n",
+            "\"B1\",\"280200\"]]",
+            "line 6 lacks its LF",
+        ),
     ] {
         let Some((before, after)) = EXPORT.split_once(from) else {
             panic!(rt; "{from} is not in the export");
@@ -124,7 +144,10 @@ fn options(alloc: Global, line: &str) -> Result<Result<Options, OptionFault>, Al
 #[test]
 fn a_command_line_is_taken(rt: HostRuntime) -> Result<(), Fail> {
     let code = code(&rt);
-    let pack = Pack { code, serial: serial(&rt, "SN1") };
+    let pack = Pack {
+        code,
+        serial: serial(&rt, "SN1"),
+    };
     for (line, asked) in [
         ("export", Asked::Summary),
         ("--report 09506000134352 export", Asked::Report(code)),
@@ -134,7 +157,10 @@ fn a_command_line_is_taken(rt: HostRuntime) -> Result<(), Fail> {
             panic!(rt; "{line} is refused");
         };
         assert!(rt; options.asked == asked, "{line}");
-        assert!(rt; options.file.is_some_and(|path| path.as_str() == "export"), "{line}");
+        assert!(rt;
+            options.file.is_some_and(|path| path.as_str() == "export"),
+            "{line}"
+        );
     }
     Ok(())
 }
