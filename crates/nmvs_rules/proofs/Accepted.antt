@@ -10,14 +10,15 @@ use Rattle.nmvs_identifier.specs.Texts.{same_text}
 use Rattle.nmvs_identifier.specs.declared.pack.Pack.{Pack}
 use Rattle.nmvs_rules.specs.declared.entry.Entry.{Entry}
 use Rattle.nmvs_rules.specs.declared.question.Question.{Question}
-use Rattle.nmvs_rules.specs.declared.question.Question.TheVariants.{Upload, Verify, Decommission, Revert, Recall, Withdraw, Theft}
+use Rattle.nmvs_rules.specs.declared.question.Question.TheVariants.{Upload, Verify, Decommission, Handover, Revert, Recall, Withdraw, Theft}
 use Rattle.nmvs_rules.specs.declared.reason.Reason.TheVariants as reason
 use Rattle.nmvs_rules.specs.declared.reply.Reply.{Reply}
 use Rattle.nmvs_rules.specs.declared.reply.Reply.TheVariants as reply
 use Rattle.nmvs_rules.specs.Questions.{pack_of, code_of, names}
 use Rattle.nmvs_rules.specs.Trail.{accepts, is_accepted, is_about, has_code, is_mark, is_upload, locks_batch, own_given, born, mark}
 use Rattle.nmvs_rules.specs.Rules.{is_stolen, is_destroyed, is_supplied}
-use Rattle.nmvs_rules.specs.Operations.{upload_done, code_upload_done, decommissioning_done, supply_done, destruction_done, reversion_done, theft_done, lock_done, confirmation_done, uploads, uploads_code, decommissions, supplies, reverts, confirms, binds, operates, last_operation, own_left}
+use Rattle.nmvs_rules.specs.Laws.{is_handover}
+use Rattle.nmvs_rules.specs.Operations.{upload_done, code_upload_done, decommissioning_done, handover_done, supply_done, destruction_done, reversion_done, theft_done, lock_done, confirmation_done, uploads, uploads_code, decommissions, hands_over, supplies, reverts, confirms, binds, operates, last_operation, own_left}
 
 -- whether a question decommissions a pack, supplies it to the public, reverts it, or reports it as stolen
 abbrev pub is_decommissioning : Question → Bool
@@ -26,6 +27,7 @@ is_decommissioning _ = false
 
 abbrev pub is_supply : Question → Bool
 is_supply (Decommission _ reason.Supply) = true
+is_supply (Handover _) = true
 is_supply _ = false
 
 abbrev pub is_reversion : Question → Bool
@@ -47,6 +49,9 @@ accepted_upload p e = (is_upload e.question && is_about p e) && is_accepted e
 
 abbrev pub accepted_decommissioning : Pack → Entry → Bool
 accepted_decommissioning p e = is_mark p e && is_decommissioning e.question
+
+abbrev pub accepted_handover : Pack → Entry → Bool
+accepted_handover p e = is_mark p e && is_handover e.question
 
 abbrev pub accepted_supply : Pack → Entry → Bool
 accepted_supply p e = is_mark p e && is_supply e.question
@@ -81,9 +86,16 @@ decommissioning-is p (Decommission s w) reply.Decommissioned = sym (twice-true (
 decommissioning-is p (Decommission s w) r = sym (false-true (same_pack p s))
 decommissioning-is p q r = sym (and-false (names p (pack_of q) && accepts q r))
 
+handover-is : (p : Pack) (q : Question) (r : Reply) → handover_done p q r ≡ ((names p (pack_of q) && accepts q r) && is_handover q)
+handover-is p (Handover s) reply.HandedOver = sym (twice-true (same_pack p s))
+handover-is p (Handover s) r = sym (false-true (same_pack p s))
+handover-is p q r = sym (and-false (names p (pack_of q) && accepts q r))
+
 supply-is : (p : Pack) (q : Question) (r : Reply) → supply_done p q r ≡ ((names p (pack_of q) && accepts q r) && is_supply q)
 supply-is p (Decommission s reason.Supply) reply.Decommissioned = sym (twice-true (same_pack p s))
 supply-is p (Decommission s reason.Supply) r = sym (false-true (same_pack p s))
+supply-is p (Handover s) reply.HandedOver = sym (twice-true (same_pack p s))
+supply-is p (Handover s) r = sym (false-true (same_pack p s))
 supply-is p q r = sym (and-false (names p (pack_of q) && accepts q r))
 
 reversion-is : (p : Pack) (q : Question) (r : Reply) → reversion_done p q r ≡ ((names p (pack_of q) && accepts q r) && is_reversion q)
@@ -103,13 +115,15 @@ lock-is c b (Recall d l) r = sym (and-false (same_text c d && same_text b l))
 lock-is c b (Withdraw d l) r = sym (and-false (same_text c d && same_text b l))
 lock-is c b q r = refl
 
-operation-is : (p : Pack) (q : Question) (r : Reply) → ((upload_done p q r || decommissioning_done p q r) || (reversion_done p q r || theft_done p q r)) ≡ (names p (pack_of q) && accepts q r)
+operation-is : (p : Pack) (q : Question) (r : Reply) → ((upload_done p q r || decommissioning_done p q r) || (handover_done p q r || (reversion_done p q r || theft_done p q r))) ≡ (names p (pack_of q) && accepts q r)
 operation-is p (Upload s b x) reply.Uploaded = or-false (same_pack p s || false) ∙ or-false (same_pack p s) ∙ sym (and-true (same_pack p s))
 operation-is p (Decommission s w) reply.Decommissioned = or-false (same_pack p s) ∙ sym (and-true (same_pack p s))
+operation-is p (Handover s) reply.HandedOver = or-false (same_pack p s) ∙ sym (and-true (same_pack p s))
 operation-is p (Revert s) reply.Reverted = or-false (same_pack p s) ∙ sym (and-true (same_pack p s))
 operation-is p (Theft s) reply.MarkedStolen = sym (and-true (same_pack p s))
 operation-is p (Upload s b x) r = sym (and-false (same_pack p s))
 operation-is p (Decommission s w) r = sym (and-false (same_pack p s))
+operation-is p (Handover s) r = sym (and-false (same_pack p s))
 operation-is p (Revert s) r = sym (and-false (same_pack p s))
 operation-is p (Theft s) r = sym (and-false (same_pack p s))
 operation-is p q r = sym (and-false (names p (pack_of q)))
@@ -119,6 +133,9 @@ uploads-is p e = upload-is p e.question e.reply
 
 pub decommissions-is : (p : Pack) (e : Entry) → decommissions p e ≡ accepted_decommissioning p e
 decommissions-is p e = decommissioning-is p e.question e.reply
+
+pub hands_over-is : (p : Pack) (e : Entry) → hands_over p e ≡ accepted_handover p e
+hands_over-is p e = handover-is p e.question e.reply
 
 pub supplies-is : (p : Pack) (e : Entry) → supplies p e ≡ accepted_supply p e
 supplies-is p e = supply-is p e.question e.reply
@@ -153,6 +170,7 @@ left p (Decommission s reason.Hold) r h = refl
 left p (Decommission s reason.Export) r h = refl
 left p (Decommission s reason.Sample) r h = refl
 left p (Decommission s reason.Destroy) r h = refl
+left p (Handover s) r h = refl
 left p (Revert s) r h = refl
 left p (Theft s) r h = refl
 left p (Recall c b) r h = let none : false ≡ true = h in cc
@@ -166,6 +184,7 @@ destroyed-by p q r h = let none : false ≡ true = h in cc
 
 pub supplied-by : (p : Pack) (q : Question) (r : Reply) → supply_done p q r ≡ true → is_supplied (own_given q) ≡ true
 supplied-by p (Decommission s reason.Supply) reply.Decommissioned h = refl
+supplied-by p (Handover s) reply.HandedOver h = refl
 supplied-by p q r h = let none : false ≡ true = h in cc
 
 pub stolen-by : (p : Pack) (q : Question) (r : Reply) → theft_done p q r ≡ true → is_stolen (own_given q) ≡ true

@@ -6,7 +6,7 @@ use Rattle.nmvs_identifier.specs.ProductCode.{ProductCode}
 use Rattle.nmvs_rules.specs.declared.refusal.Refusal.TheVariants as refusal
 use Rattle.nmvs_rules.specs.declared.actor.Actor.{Actor}
 use Rattle.nmvs_rules.specs.declared.question.Question.{Question}
-use Rattle.nmvs_rules.specs.declared.question.Question.TheVariants.{Upload, Verify, Status, Decommission, Revert, Recall, Withdraw, Theft, Audit}
+use Rattle.nmvs_rules.specs.declared.question.Question.TheVariants.{Upload, Verify, Status, Decommission, Handover, Revert, Recall, Withdraw, Theft, Audit}
 use Rattle.nmvs_rules.specs.declared.entry.Entry.{Entry}
 use Rattle.nmvs_rules.specs.declared.facts.Known.{Known}
 use Rattle.nmvs_rules.specs.declared.reply.Reply.{Reply}
@@ -33,6 +33,7 @@ admitted_reply-numbered t n a (Upload p b x) = λ m is. grind arith
 admitted_reply-numbered t n a (Verify p) = on_pack-numbered _ (known t p) _ _ (λ m is. grind arith) (λ k m is. grind arith)
 admitted_reply-numbered t n a (Status p) = on_pack-numbered _ (known t p) _ _ (λ m is. grind arith) (λ k m is. grind arith)
 admitted_reply-numbered t n a (Decommission p w) = on_pack-numbered _ (known t p) _ _ (λ m is. grind arith) (λ k m is. grind arith)
+admitted_reply-numbered t n a (Handover p) = on_pack-numbered _ (known t p) _ _ (λ m is. grind arith) (λ k m is. grind arith)
 admitted_reply-numbered t n a (Revert p) = on_pack-numbered _ (known t p) _ _ (λ m is. grind arith) (λ k m is. grind arith)
 admitted_reply-numbered t n a (Recall c b) = λ m is. grind arith
 admitted_reply-numbered t n a (Withdraw c b) = λ m is. grind arith

@@ -16,7 +16,7 @@ use Rattle.nmvs_rules.specs.declared.entry.Entry.{Entry}
 use Rattle.nmvs_rules.specs.declared.facts.Known.{Known}
 use Rattle.nmvs_rules.specs.declared.own.Own.{Own}
 use Rattle.nmvs_rules.specs.declared.question.Question.{Question}
-use Rattle.nmvs_rules.specs.declared.question.Question.TheVariants.{Verify, Decommission, Recall, Withdraw, Theft}
+use Rattle.nmvs_rules.specs.declared.question.Question.TheVariants.{Verify, Decommission, Handover, Recall, Withdraw, Theft}
 use Rattle.nmvs_rules.specs.declared.reason.Reason.{Reason}
 use Rattle.nmvs_rules.specs.declared.reason.Reason.TheVariants as reason
 use Rattle.nmvs_rules.specs.declared.reply.Reply.{Reply}
@@ -90,6 +90,7 @@ tells-own p (Decommission s reason.Hold) r w h is = let same : (cause.Held, true
 tells-own p (Decommission s reason.Export) r w h is = let same : (cause.Exported, true) ≡ w = cc in (ap (λ z. z.0) same, ap (λ z. z.1) same, refl)
 tells-own p (Decommission s reason.Sample) r w h is = let same : (cause.Sampled, true) ≡ w = cc in (ap (λ z. z.0) same, ap (λ z. z.1) same, refl)
 tells-own p (Decommission s reason.Destroy) r w h is = let same : (cause.Destroyed, false) ≡ w = cc in (ap (λ z. z.0) same, ap (λ z. z.1) same, refl)
+tells-own p (Handover s) r w h is = let same : (cause.Supplied, true) ≡ w = cc in (ap (λ z. z.0) same, ap (λ z. z.1) same, refl)
 tells-own p (Theft s) r w h is = let same : (cause.Stolen, true) ≡ w = cc in (ap (λ z. z.0) same, ap (λ z. z.1) same, refl)
 tells-own p (Recall c b) r w h is = let none : false ≡ true = h in (cc, cc, cc)
 tells-own p (Withdraw c b) r w h is = let none : false ≡ true = h in (cc, cc, cc)

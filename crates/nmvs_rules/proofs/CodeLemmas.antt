@@ -11,7 +11,7 @@ use Rattle.nmvs_identifier.specs.Texts.{same_text}
 use Rattle.nmvs_identifier.specs.declared.pack.Pack.{Pack}
 use Rattle.nmvs_rules.specs.declared.actor.Actor.{Actor}
 use Rattle.nmvs_rules.specs.declared.question.Question.{Question}
-use Rattle.nmvs_rules.specs.declared.question.Question.TheVariants.{Upload, Verify, Status, Decommission, Revert, Recall, Withdraw, Theft, Audit}
+use Rattle.nmvs_rules.specs.declared.question.Question.TheVariants.{Upload, Verify, Status, Decommission, Handover, Revert, Recall, Withdraw, Theft, Audit}
 use Rattle.nmvs_rules.specs.declared.entry.Entry.{Entry}
 use Rattle.nmvs_rules.specs.declared.facts.Known.{Known}
 use Rattle.nmvs_rules.specs.declared.reply.Reply.{Reply}
@@ -23,7 +23,7 @@ use Rattle.nmvs_rules.specs.declared.batch_lock.BatchLock.{BatchLock}
 use Rattle.nmvs_rules.specs.declared.batch_lock.BatchLock.TheVariants as lock
 use Rattle.nmvs_rules.specs.Questions.{Put, may_ask, pack_of, code_of, names}
 use Rattle.nmvs_rules.specs.Trail.{born, mark, known, known_from, known_at, is_mark, is_about, has_code, is_accepted, alerts_of, holder_of, about_of, own_given, lock_of, lock_by, locks_batch, uploads_batch, is_birth_in, is_known_batch, count_of, stands_at, is_own}
-use Rattle.nmvs_rules.specs.Rules.{on_pack, lock_on, revert_reply, verify_reply, status_reply, decommission_reply, theft_reply, lock_reply, upload_reply, alert_unknown, has_other_holder, admitted_reply, reply_of}
+use Rattle.nmvs_rules.specs.Rules.{on_pack, lock_on, revert_reply, verify_reply, status_reply, decommission_reply, handover_reply, theft_reply, lock_reply, upload_reply, alert_unknown, has_other_holder, admitted_reply, reply_of}
 use Rattle.nmvs_rules.specs.Laws.{part_of}
 use Rattle.nmvs_rules.proofs.PushLemmas.{count_by-cons}
 use Rattle.nmvs_rules.proofs.TextLemmas.{same_text-equal}
@@ -81,6 +81,7 @@ about-code p e h = by e.question h
     by (Verify r) n = first_so _ _ n
     by (Status r) n = first_so _ _ n
     by (Decommission r _) n = first_so _ _ n
+    by (Handover r) n = first_so _ _ n
     by (Revert r) n = first_so _ _ n
     by (Theft r) n = first_so _ _ n
     by (Audit r) n = first_so _ _ n
@@ -177,6 +178,7 @@ admitted_reply-code t n a (Status p) = on_pack-code t (part_of t p.code) p _ (λ
 admitted_reply-code t n a (Decommission p r) =
     ap (λ m. on_pack (known (part_of t p.code) p) (alert_unknown m) (λ k. decommission_reply k (lock_on (part_of t p.code) p k) m)) (alerts-code t p.code)
     ∙ on_pack-code t (part_of t p.code) p _ (λ k l. decommission_reply k l (alerts_of t p.code)) (known-code t p) (lock-code t p.code) (λ k l. refl)
+admitted_reply-code t n a (Handover p) = on_pack-code t (part_of t p.code) p _ (λ k l. handover_reply a k l) (known-code t p) (lock-code t p.code) (λ k l. refl)
 admitted_reply-code t n a (Revert p) = on_pack-code t (part_of t p.code) p _ (λ k l. revert_reply n a k l) (known-code t p) (lock-code t p.code) (λ k l. refl)
 admitted_reply-code t n a (Recall c b) =
     (λ j. lock_reply a (known_batch-code t c b j) (holder-code t c j) (lock-code t c b j) (count-code t c b own.Active j))

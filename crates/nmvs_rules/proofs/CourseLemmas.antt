@@ -1,5 +1,5 @@
 -- The course of a pack through its own statuses.
-use Rattle.std.proofs.Common.{◌≡◌, Bool, true, false, not, ◌&&◌, ◌||◌, cond, List, [], ◌∷◌, ◌++◌, length, Option, Some, None, IsSomeAnd, refl, sym, ap, subst, ◌∙◌, append-nil, append_assoc}
+use Rattle.std.proofs.Common.{◌≡◌, Bool, true, false, not, ◌&&◌, ◌||◌, cond, ◌⊎◌, inl, inr, List, [], ◌∷◌, ◌++◌, length, Option, Some, None, IsSomeAnd, refl, sym, ap, subst, ◌∙◌, append-nil, append_assoc}
 use Rattle.std.proofs.lemmas.Bool.{or_parts}
 use Rattle.std.specs.Cmp.{first_so, second_so}
 use Rattle.std.specs.Cmp.Derive.{both_true}
@@ -9,20 +9,20 @@ use Rattle.nmvs_identifier.specs.declared.pack.Pack.{Pack}
 use Rattle.nmvs_rules.specs.declared.reason.Reason.{Reason}
 use Rattle.nmvs_rules.specs.declared.reason.Reason.TheVariants as reason
 use Rattle.nmvs_rules.specs.declared.question.Question.{Question}
-use Rattle.nmvs_rules.specs.declared.question.Question.TheVariants.{Upload, Decommission, Revert, Recall, Withdraw, Theft}
+use Rattle.nmvs_rules.specs.declared.question.Question.TheVariants.{Upload, Decommission, Handover, Revert, Recall, Withdraw, Theft}
 use Rattle.nmvs_rules.specs.declared.own.Own.{Own}
 use Rattle.nmvs_rules.specs.declared.own.Own.TheVariants as own
 use Rattle.nmvs_rules.specs.declared.entry.Entry.{Entry}
 use Rattle.nmvs_rules.specs.declared.facts.Known.{Known}
 use Rattle.nmvs_rules.specs.Questions.{pack_of, names}
 use Rattle.nmvs_rules.specs.Trail.{known, marked_by, born_by, mark_after, accepts, is_about, is_mark, is_upload, own_given, own_by_reason}
-use Rattle.nmvs_rules.specs.Rules.{is_active, is_stolen, is_destroyed, is_supplied, reply_of, put_of, IsLawfulAfter, IsLawful}
-use Rattle.nmvs_rules.specs.Operations.{uploads, decommissions, supplies, reverts, confirms, operates}
-use Rattle.nmvs_rules.specs.Laws.{may_become, IsMovedOn, IsBorn}
-use Rattle.nmvs_rules.proofs.Accepted.{accepted_upload, accepted_decommissioning, accepted_supply, accepted_reversion, is_decommissioning, is_supply, is_reversion, is_theft, uploads-is, decommissions-is, supplies-is, reverts-is, confirms-is, operates-is, left}
+use Rattle.nmvs_rules.specs.Rules.{is_active, is_held, is_stolen, is_destroyed, is_supplied, reply_of, put_of, IsLawfulAfter, IsLawful}
+use Rattle.nmvs_rules.specs.Operations.{uploads, decommissions, hands_over, supplies, reverts, confirms, operates}
+use Rattle.nmvs_rules.specs.Laws.{is_handover, may_become, IsMovedOn, IsBorn}
+use Rattle.nmvs_rules.proofs.Accepted.{accepted_upload, accepted_decommissioning, accepted_handover, accepted_supply, accepted_reversion, is_decommissioning, is_supply, is_reversion, is_theft, uploads-is, decommissions-is, hands_over-is, supplies-is, reverts-is, confirms-is, operates-is, left}
 use Rattle.nmvs_rules.proofs.PushLemmas.{known-push}
 use Rattle.nmvs_rules.proofs.LawfulLemmas.{IsLawful-rest, IsLawfulAfter-first, IsLawfulAfter-keeps}
-use Rattle.nmvs_rules.proofs.ReplyLemmas.{KnownAnd, known-holds, accepted_upload-tells, accepted_decommissioning-tells, accepted_reversion-tells, authentic_answer-tells, thefts-tells}
+use Rattle.nmvs_rules.proofs.ReplyLemmas.{KnownAnd, known-holds, accepted_upload-tells, accepted_decommissioning-tells, accepted_handover-tells, accepted_reversion-tells, authentic_answer-tells, thefts-tells}
 
 -- a decommissioned pack is not active
 pub decommissioned-not_active : (q : Question) → is_decommissioning q ≡ true → is_active (own_given q) ≡ false
@@ -40,6 +40,10 @@ decommissioned own.Active reason.Export h = refl
 decommissioned own.Active reason.Sample h = refl
 decommissioned own.Active reason.Destroy h = refl
 decommissioned o w h = cc
+
+handed_over : (o : Own) → is_held o ≡ true → may_become o own.Supplied ≡ true
+handed_over own.Held h = refl
+handed_over o h = cc
 
 reverted : (o : Own) → is_active o ≡ false → is_stolen o ≡ false → is_destroyed o ≡ false → is_supplied o ≡ false → may_become o own.Active ≡ true
 reverted own.Active active stolen destroyed supplied = sym active
@@ -65,6 +69,8 @@ course t e p k lawful is marks = by e.question refl
         let none : true ≡ false = sym (ap is_some is) ∙ accepted_upload-tells t e p lawful born in cc
     by (Decommission s w) h =
         decommissioned k.own w (known-holds t p k _ is (accepted_decommissioning-tells t e p lawful (both_true marks (ap is_decommissioning h)))).active
+    by (Handover s) h =
+        handed_over k.own (known-holds t p k _ is (accepted_handover-tells t e p lawful (both_true marks (ap is_handover h)))).held
     by (Revert s) h =
         let tells = known-holds t p k _ is (accepted_reversion-tells t e p lawful (both_true marks (ap is_reversion h))) in
         reverted k.own tells.not_active tells.not_stolen tells.not_destroyed tells.not_supplied
@@ -164,13 +170,18 @@ gone-keeps own.Supplied own.Stolen h m = refl
 gone-keeps own.Stolen w h m = let none : false ≡ true = m in cc
 gone-keeps o w h m = let none : false ≡ true = h in cc
 
-supply-gone : (q : Question) → is_supply q ≡ true → (is_decommissioning q ≡ true) × (is_gone (own_given q) ≡ true)
-supply-gone (Decommission s reason.Supply) h = (refl, refl)
-supply-gone q h = let none : false ≡ true = h in (cc, cc)
+supply-gone : (q : Question) → is_supply q ≡ true → ((is_decommissioning q ≡ true) ⊎ (is_handover q ≡ true)) × (is_gone (own_given q) ≡ true)
+supply-gone (Decommission s reason.Supply) h = (inl refl, refl)
+supply-gone (Handover s) h = (inr refl, refl)
+supply-gone q h = let none : false ≡ true = h in (inl cc, cc)
 
 gone-not_active : (o : Own) → is_gone o ≡ true → is_active o ≡ true → true ≡ false
 gone-not_active own.Active gone active = sym gone
 gone-not_active o gone active = sym active
+
+gone-not_held : (o : Own) → is_gone o ≡ true → is_held o ≡ true → true ≡ false
+gone-not_held own.Held gone held = sym gone
+gone-not_held o gone held = sym held
 
 gone-not_reversible : (o : Own) → is_gone o ≡ true → is_supplied o ≡ false → is_stolen o ≡ false → true ≡ false
 gone-not_reversible own.Supplied gone supplied robbed = supplied
@@ -196,10 +207,11 @@ behind before between after e later lawful =
 pub behind-keeps : (P : List Entry → Type 0) → ((t : List Entry) (e : Entry) → P t → e.reply ≡ reply_of t (put_of e) → P (t ++ e ∷ [])) → (u v : List Entry) (e : Entry) → P (u ++ e ∷ []) → IsLawfulAfter (u ++ e ∷ []) v → P (u ++ e ∷ v)
 behind-keeps P step u v e h lawful = subst P (append_assoc u (e ∷ []) v) (IsLawfulAfter-keeps P step (u ++ e ∷ []) v h lawful)
 
--- after the supply of a pack it is neither decommissioned nor reverted nor confirmed
-pub supplied-once : (before between after : List Entry) (supply later : Entry) (p : Pack) → IsLawful (before ++ supply ∷ between ++ later ∷ after) → supplies p supply ≡ true → (decommissions p later ≡ false) × (reverts p later ≡ false) × (confirms p later ≡ false)
+-- after the supply of a pack it is neither decommissioned nor handed over nor reverted nor confirmed
+pub supplied-once : (before between after : List Entry) (supply later : Entry) (p : Pack) → IsLawful (before ++ supply ∷ between ++ later ∷ after) → supplies p supply ≡ true → (decommissions p later ≡ false) × (hands_over p later ≡ false) × (reverts p later ≡ false) × (confirms p later ≡ false)
 supplied-once before between after supply later p lawful supplied_by = (
   decommissions-is p later ∙ never _ (λ d. let a = known-holds t p gone.0 _ gone.1 (accepted_decommissioning-tells t later p at.later d) in gone-not_active gone.0.own gone.2 a.active),
+  hands_over-is p later ∙ never _ (λ h. let a = known-holds t p gone.0 _ gone.1 (accepted_handover-tells t later p at.later h) in gone-not_held gone.0.own gone.2 a.held),
   reverts-is p later ∙ never _ (λ r. let a = known-holds t p gone.0 _ gone.1 (accepted_reversion-tells t later p at.later r) in gone-not_reversible gone.0.own gone.2 a.not_supplied a.not_stolen),
   confirms-is p later ∙ never _ (λ c. let a = known-holds t p gone.0 _ gone.1 (authentic_answer-tells t later p at.later c) in gone-not_active gone.0.own gone.2 a.active),
 )
@@ -216,12 +228,16 @@ supplied-once before between after supply later p lawful supplied_by = (
     marks : is_mark p supply ≡ true
     marks = first_so (is_mark p supply) _ h
 
-    kind : (is_decommissioning supply.question ≡ true) × (is_gone (own_given supply.question) ≡ true)
+    kind : ((is_decommissioning supply.question ≡ true) ⊎ (is_handover supply.question ≡ true)) × (is_gone (own_given supply.question) ≡ true)
     kind = supply-gone supply.question (second_so (is_mark p supply) _ h)
+
+    pack : (is_decommissioning supply.question ≡ true) ⊎ (is_handover supply.question ≡ true) → (k : Known) × (known before p ≡ Some k)
+    pack (inl d) = let k = accepted_decommissioning-tells before supply p at.first (both_true marks d) in (k.0, k.1)
+    pack (inr h) = let k = accepted_handover-tells before supply p at.first (both_true marks h) in (k.0, k.1)
 
     supplied : Stands is_gone (before ++ supply ∷ []) p
     supplied =
-        let k = accepted_decommissioning-tells before supply p at.first (both_true marks kind.0) in
+        let k = pack kind.0 in
         (record k.0 { own = own_given supply.question; mark = mark_after (length before) supply }, known-after-mark before supply p k.0 k.1 marks, kind.1)
 
     gone : Stands is_gone t p
@@ -236,6 +252,7 @@ out-keeps t e p h lawful unreverted = by (is_mark p e) refl
   where
     out : (q : Question) → e.question ≡ q → is_mark p e ≡ true → is_out (own_given q) ≡ true
     out (Decommission s w) is marks = ap not (decommissioned-not_active (Decommission s w) refl)
+    out (Handover s) is marks = refl
     out (Theft s) is marks = refl
     out (Revert s) is marks = let none : false ≡ true = sym unreverted ∙ both_true marks (ap is_reversion is) in cc
     out (Upload s b x) is marks =

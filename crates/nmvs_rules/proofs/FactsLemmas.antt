@@ -10,7 +10,7 @@ use Rattle.nmvs_identifier.specs.Name.{Name}
 use Rattle.nmvs_identifier.specs.declared.pack.Pack.{Pack}
 use Rattle.nmvs_rules.specs.declared.actor.Actor.{Actor}
 use Rattle.nmvs_rules.specs.declared.question.Question.{Question}
-use Rattle.nmvs_rules.specs.declared.question.Question.TheVariants.{Upload, Verify, Status, Decommission, Revert, Recall, Withdraw, Theft, Audit}
+use Rattle.nmvs_rules.specs.declared.question.Question.TheVariants.{Upload, Verify, Status, Decommission, Handover, Revert, Recall, Withdraw, Theft, Audit}
 use Rattle.nmvs_rules.specs.declared.reply.Reply.{Reply}
 use Rattle.nmvs_rules.specs.declared.reply.Reply.TheVariants as reply
 use Rattle.nmvs_rules.specs.declared.refusal.Refusal.TheVariants as refusal
@@ -23,7 +23,7 @@ use Rattle.nmvs_rules.proofs.FindLemmas.{find-passes, find-any}
 use Rattle.nmvs_rules.proofs.TextLemmas.{same_text-refl}
 use Rattle.nmvs_rules.specs.Questions.{Put, pack_of, names, may_ask}
 use Rattle.nmvs_rules.specs.Trail.{born, mark, known, known_from, known_at, is_upload, is_about, is_accepted, uploads_batch, is_birth_in, is_known_batch, lock_of, batch_record, alerts_of, holder_of, counts_of}
-use Rattle.nmvs_rules.specs.Rules.{reply_of, admitted_reply, on_pack, lock_on, lock_reply, verify_reply, status_reply, decommission_reply, revert_reply}
+use Rattle.nmvs_rules.specs.Rules.{reply_of, admitted_reply, on_pack, lock_on, lock_reply, verify_reply, status_reply, decommission_reply, handover_reply, revert_reply}
 use Rattle.nmvs_rules.specs.Facts.{facts_of, reply_by_facts, admitted_reply_by_facts, lock_in, active_in, batch_by_known}
 
 -- the question that made a pack known uploads the batch that the pack is known by
@@ -34,6 +34,7 @@ known_at-batch t p m (Upload r b x) k e h =
 known_at-batch t p m (Verify _) k e h = cc
 known_at-batch t p m (Status _) k e h = cc
 known_at-batch t p m (Decommission _ _) k e h = cc
+known_at-batch t p m (Handover _) k e h = cc
 known_at-batch t p m (Revert _) k e h = cc
 known_at-batch t p m (Recall _ _) k e h = cc
 known_at-batch t p m (Withdraw _ _) k e h = cc
@@ -70,6 +71,7 @@ admitted_reply-facts t n a (Upload p b x) = refl
 admitted_reply-facts t n a (Verify p) = on_pack-lock t p _ (λ k l. verify_reply n k l (alerts_of t p.code)) (known t p) refl
 admitted_reply-facts t n a (Status p) = on_pack-lock t p _ (λ k l. status_reply k l) (known t p) refl
 admitted_reply-facts t n a (Decommission p r) = on_pack-lock t p _ (λ k l. decommission_reply k l (alerts_of t p.code)) (known t p) refl
+admitted_reply-facts t n a (Handover p) = on_pack-lock t p _ (λ k l. handover_reply a k l) (known t p) refl
 admitted_reply-facts t n a (Revert p) = on_pack-lock t p _ (λ k l. revert_reply n a k l) (known t p) refl
 admitted_reply-facts t n a (Recall c b) = lock_reply-record a (holder_of t c) (record { lock = lock_of t c b; counts = counts_of t c b }) (is_known_batch t c b)
 admitted_reply-facts t n a (Withdraw c b) = lock_reply-record a (holder_of t c) (record { lock = lock_of t c b; counts = counts_of t c b }) (is_known_batch t c b)

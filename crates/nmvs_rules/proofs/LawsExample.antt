@@ -7,13 +7,13 @@ use Rattle.nmvs_rules.specs.declared.actor.Actor.{Actor}
 use Rattle.nmvs_rules.specs.declared.role.Role.TheVariants as role
 use Rattle.nmvs_rules.specs.declared.reason.Reason.TheVariants as reason
 use Rattle.nmvs_rules.specs.declared.question.Question.{Question}
-use Rattle.nmvs_rules.specs.declared.question.Question.TheVariants.{Upload, Verify, Decommission, Revert, Recall}
+use Rattle.nmvs_rules.specs.declared.question.Question.TheVariants.{Upload, Verify, Decommission, Handover, Revert, Recall}
 use Rattle.nmvs_rules.specs.declared.reply.Reply.{Reply}
 use Rattle.nmvs_rules.specs.declared.reply.Reply.TheVariants as reply
 use Rattle.nmvs_rules.specs.declared.refusal.Refusal.TheVariants as refusal
 use Rattle.nmvs_rules.specs.declared.cause.Cause.TheVariants as cause
 use Rattle.nmvs_rules.specs.declared.entry.Entry.{Entry}
-use Rattle.nmvs_rules.specs.Operations.{uploads, decommissions, supplies, reverts, confirms, binds, operates, last_operation, alarm}
+use Rattle.nmvs_rules.specs.Operations.{uploads, decommissions, hands_over, supplies, reverts, confirms, binds, operates, last_operation, alarm}
 use Rattle.nmvs_rules.specs.Laws.{part_of, owned, alert_numbers}
 
 abbrev text : List ℕ → Text
@@ -94,6 +94,28 @@ last-trail = refl
 
 alarm-trail : alarm supply.question ≡ Some (cause.Supplied, true)
 alarm-trail = refl
+
+-- a held pack is supplied by its handover
+abbrev handover : Entry
+handover = entry (Handover first) reply.HandedOver
+
+abbrev handed_over : List Entry
+handed_over = upload ∷ hold ∷ entry (Handover first) (reply.Refused refusal.Other) ∷ handover ∷ []
+
+hands_over-handed_over : filter (hands_over first) handed_over ≡ handover ∷ []
+hands_over-handed_over = refl
+
+supplies-handed_over : filter (supplies first) handed_over ≡ handover ∷ []
+supplies-handed_over = refl
+
+decommissions-handed_over : filter (decommissions first) handed_over ≡ hold ∷ []
+decommissions-handed_over = refl
+
+last-handed_over : last_operation handed_over first ≡ Some handover
+last-handed_over = refl
+
+alarm-handed_over : alarm handover.question ≡ Some (cause.Supplied, true)
+alarm-handed_over = refl
 
 binds-other : binds first.code (text (codes "B2")) recall ≡ false
 binds-other = refl

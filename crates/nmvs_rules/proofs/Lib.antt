@@ -17,5 +17,6 @@ pub mod RecallLemmas
 pub mod AlertLemmas
 pub mod AlertingLemmas
 pub mod HolderLemmas
+pub mod OldTrails
 mod WorkedExample
 mod LawsExample

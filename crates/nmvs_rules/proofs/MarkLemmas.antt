@@ -26,7 +26,7 @@ some-or (Some y) true x = refl
 some-or (Some y) false x = refl
 
 -- a list has a last element that passes where it has one that passes
-is_some-find-reverse : {X : Type 0} (p : X → Bool) (xs : List X) → is_some (find p (reverse xs)) ≡ list_any p xs
+pub is_some-find-reverse : {X : Type 0} (p : X → Bool) (xs : List X) → is_some (find p (reverse xs)) ≡ list_any p xs
 is_some-find-reverse p [] = refl
 is_some-find-reverse {X} p (x ∷ xs) =
     ap (λ z. is_some (find p z)) (reverse-append {A = X} (x ∷ []) xs)

@@ -11,7 +11,7 @@ use Rattle.nmvs_rules.specs.declared.reason.Reason.{Reason}
 use Rattle.nmvs_identifier.specs.declared.pack.Pack.{Pack}
 use Rattle.nmvs_rules.specs.declared.actor.Actor.{Actor}
 use Rattle.nmvs_rules.specs.declared.question.Question.{Question}
-use Rattle.nmvs_rules.specs.declared.question.Question.TheVariants.{Upload, Verify, Decommission, Revert, Theft}
+use Rattle.nmvs_rules.specs.declared.question.Question.TheVariants.{Upload, Verify, Decommission, Handover, Revert, Theft}
 use Rattle.nmvs_rules.specs.declared.own.Own.TheVariants as own
 use Rattle.nmvs_rules.specs.declared.entry.Entry.{Entry}
 use Rattle.nmvs_rules.specs.declared.facts.Known.{Known}
@@ -20,8 +20,9 @@ use Rattle.nmvs_rules.specs.declared.reply.Reply.TheVariants as reply
 use Rattle.nmvs_rules.specs.declared.refusal.Refusal.TheVariants as refusal
 use Rattle.nmvs_rules.specs.Questions.{Put, may_ask, pack_of, names}
 use Rattle.nmvs_rules.specs.Trail.{known, accepts, is_mark, is_upload, holder_of, lock_of, count_of, is_known_batch}
-use Rattle.nmvs_rules.specs.Rules.{on_pack, lock_on, is_active, is_free, is_stolen, is_destroyed, is_supplied, is_authentic, is_past, is_same_place, is_in_time, is_held_by, has_other_holder, lock_reply, admitted_reply, reply_of, put_of}
-use Rattle.nmvs_rules.proofs.Accepted.{is_decommissioning, is_reversion, is_theft, is_confirmed, accepted_upload, accepted_decommissioning, accepted_reversion, authentic_answer}
+use Rattle.nmvs_rules.specs.Rules.{on_pack, lock_on, is_active, is_free, is_held, is_stolen, is_destroyed, is_supplied, is_authentic, is_past, is_same_place, is_in_time, is_held_by, has_other_holder, lock_reply, admitted_reply, reply_of, put_of}
+use Rattle.nmvs_rules.specs.Laws.{is_handover}
+use Rattle.nmvs_rules.proofs.Accepted.{is_decommissioning, is_reversion, is_theft, is_confirmed, accepted_upload, accepted_decommissioning, accepted_handover, accepted_reversion, authentic_answer}
 use Rattle.nmvs_rules.proofs.TextLemmas.{same_pack-equal}
 
 -- the pack is known, and this holds of what is known of it
@@ -53,6 +54,12 @@ pub record IsAuthentic (t : List Entry) (p : Pack) (k : Known) : Type 0 where
   pub active : is_active k.own ≡ true
   pub free : is_free (lock_on t p k) ≡ true
 
+-- what a handover that is accepted tells
+pub record IsHeldHere (t : List Entry) (a : Actor) (p : Pack) (k : Known) : Type 0 where
+  pub free : is_free (lock_on t p k) ≡ true
+  pub held : is_held k.own ≡ true
+  pub same_place : is_same_place a k.mark ≡ true
+
 -- what a reversion that is accepted tells
 pub record IsReversible (t : List Entry) (n : ℕ) (a : Actor) (p : Pack) (k : Known) : Type 0 where
   pub free : is_free (lock_on t p k) ≡ true
@@ -77,6 +84,16 @@ decommission-tells t n a p w h =
     let pack = on_pack-known t p _ _ _ (λ e. cc) admitted.1 in
     let authentic = cond-then (is_authentic pack.0.own (lock_on t p pack.0)) _ _ _ (λ e. cc) pack.2 in
     (pack.0, pack.1, record { active = first_so _ _ authentic.0; free = second_so (is_active pack.0.own) _ authentic.0 })
+
+handover-tells : (t : List Entry) (n : ℕ) (a : Actor) (p : Pack) → IsReply t n a (Handover p) reply.HandedOver → KnownAnd t p (IsHeldHere t a p)
+handover-tells t n a p h =
+    let admitted = cond-then (may_ask a.role (Handover p)) _ _ _ (λ e. cc) (sym h) in
+    let pack = on_pack-known t p _ _ _ (λ e. cc) admitted.1 in
+    let k = pack.0 in
+    let free = cond-else (not (is_free (lock_on t p k))) _ _ _ (λ e. cc) pack.2 in
+    let held = cond-else (not (is_held k.own)) _ _ _ (λ e. cc) free.1 in
+    let place = cond-else (not (is_same_place a k.mark)) _ _ _ (λ e. cc) held.1 in
+    (k, pack.1, record { free = not-false _ free.0; held = not-false _ held.0; same_place = not-false _ place.0 })
 
 pub revert-tells : (t : List Entry) (n : ℕ) (a : Actor) (p : Pack) → IsReply t n a (Revert p) reply.Reverted → KnownAnd t p (IsReversible t n a p)
 revert-tells t n a p h =
@@ -161,6 +178,17 @@ accepted_decommissioning-tells t e p lawful h = by e.question e.reply lawful h
         subst (λ r. KnownAnd t r (IsAuthentic t r)) same (decommission-tells t e.moment e.actor s w is)
     by (Decommission s w) r is c = let none : false ≡ true = second_so (same_pack p s) false (first_so (same_pack p s && false) true c) in cc
     by q r is c = let none : false ≡ true = second_so (names p (pack_of q) && accepts q r) (is_decommissioning q) c in cc
+
+-- a pack is handed over only where it is held by the same authorisation and in the same premises
+pub accepted_handover-tells : (t : List Entry) (e : Entry) (p : Pack) → e.reply ≡ reply_of t (put_of e) → accepted_handover p e ≡ true → KnownAnd t p (IsHeldHere t e.actor p)
+accepted_handover-tells t e p lawful h = by e.question e.reply lawful h
+  where
+    by : (q : Question) (r : Reply) → IsReply t e.moment e.actor q r → ((names p (pack_of q) && accepts q r) && is_handover q) ≡ true → KnownAnd t p (IsHeldHere t e.actor p)
+    by (Handover s) reply.HandedOver is c =
+        let same : s ≡ p = sym (same_pack-equal p s (first_so _ _ (first_so _ _ c))) in
+        subst (λ r. KnownAnd t r (IsHeldHere t e.actor r)) same (handover-tells t e.moment e.actor s is)
+    by (Handover s) r is c = let none : false ≡ true = second_so (same_pack p s) false (first_so (same_pack p s && false) true c) in cc
+    by q r is c = let none : false ≡ true = second_so (names p (pack_of q) && accepts q r) (is_handover q) c in cc
 
 -- a pack is reverted only where Article 13 lets it be
 pub accepted_reversion-tells : (t : List Entry) (e : Entry) (p : Pack) → e.reply ≡ reply_of t (put_of e) → accepted_reversion p e ≡ true → KnownAnd t p (IsReversible t e.moment e.actor p)

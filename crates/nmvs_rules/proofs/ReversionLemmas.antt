@@ -9,7 +9,7 @@ use Rattle.nmvs_identifier.specs.Texts.{same_text}
 use Rattle.nmvs_identifier.specs.declared.pack.Pack.{Pack}
 use Rattle.nmvs_rules.specs.declared.actor.Actor.{Actor}
 use Rattle.nmvs_rules.specs.declared.question.Question.{Question}
-use Rattle.nmvs_rules.specs.declared.question.Question.TheVariants.{Decommission, Revert, Theft}
+use Rattle.nmvs_rules.specs.declared.question.Question.TheVariants.{Decommission, Handover, Revert, Theft}
 use Rattle.nmvs_rules.specs.declared.batch_lock.BatchLock.{BatchLock}
 use Rattle.nmvs_rules.specs.declared.entry.Entry.{Entry}
 use Rattle.nmvs_rules.specs.declared.facts.Known.{Known}
@@ -43,11 +43,12 @@ in_time m n h = grind (arith, nat_tests)
 time_in : (m n : ℕ) → m ≤ n → nat_le m n ≡ true
 time_in m n h = grind (arith, nat_tests)
 
--- a pack that is neither active nor stolen was decommissioned last
-decommissioned-last : (q : Question) → is_active (own_given q) ≡ false → is_stolen (own_given q) ≡ false → is_decommissioning q ≡ true
-decommissioned-last (Decommission p w) active stolen = refl
-decommissioned-last (Theft p) active stolen = sym stolen
-decommissioned-last q active stolen = sym active
+-- a pack that is neither active nor stolen nor supplied was decommissioned last
+decommissioned-last : (q : Question) → is_active (own_given q) ≡ false → is_stolen (own_given q) ≡ false → is_supplied (own_given q) ≡ false → is_decommissioning q ≡ true
+decommissioned-last (Decommission p w) active stolen supplied = refl
+decommissioned-last (Handover p) active stolen supplied = sym supplied
+decommissioned-last (Theft p) active stolen supplied = sym stolen
+decommissioned-last q active stolen supplied = sym active
 
 revertible : (t : List Entry) (p : Pack) (q : Put) (k : Known) → KnownBy t p k → IsReversible t q.moment q.actor p k → IsRevertible t p q
 revertible t p q k by tells =
@@ -63,7 +64,7 @@ revertible t p q k by tells =
       last = by.last;
       latest = last-operation t p ∙ by.marked;
       decommissioned = decommissions-is p by.last
-          ∙ both_true marks (decommissioned-last by.last.question (sym (ap is_active status) ∙ tells.not_active) (sym (ap is_stolen status) ∙ tells.not_stolen));
+          ∙ both_true marks (decommissioned-last by.last.question (sym (ap is_active status) ∙ tells.not_active) (sym (ap is_stolen status) ∙ tells.not_stolen) (sym (ap is_supplied status) ∙ tells.not_supplied));
       same_authorisation = same_text-bytes q.actor.authorisation by.last.actor.authorisation (first_so _ _ place);
       same_premises = same_text-bytes q.actor.premises by.last.actor.premises (second_so (same_text q.actor.authorisation by.last.actor.authorisation) _ place);
       within_ten_days = in_time _ _ time;

@@ -9,7 +9,7 @@ use Rattle.nmvs_identifier.specs.Moment.{day_of}
 use Rattle.nmvs_identifier.specs.Pack.{same_pack}
 use Rattle.nmvs_identifier.specs.declared.pack.Pack.{Pack}
 use Rattle.nmvs_rules.specs.declared.question.Question.{Question}
-use Rattle.nmvs_rules.specs.declared.question.Question.TheVariants.{Upload, Verify, Decommission, Revert, Recall, Withdraw, Theft}
+use Rattle.nmvs_rules.specs.declared.question.Question.TheVariants.{Upload, Verify, Decommission, Handover, Revert, Recall, Withdraw, Theft}
 use Rattle.nmvs_rules.specs.declared.reason.Reason.{Reason}
 use Rattle.nmvs_rules.specs.declared.batch_lock.BatchLock.{BatchLock}
 use Rattle.nmvs_rules.specs.declared.entry.Entry.{Entry}
@@ -37,6 +37,7 @@ active-last p (Revert s) r h active = let none : false ≡ true = second_so (sam
 active-last p (Decommission s w) r h active = sym (decommissioned-not_active (Decommission s w) refl) ∙ active
 active-last p (Recall c b) r h active = h
 active-last p (Withdraw c b) r h active = h
+active-last p (Handover s) r h active = active
 active-last p (Theft s) r h active = active
 active-last p q r h active = second_so (names p (pack_of q)) (accepts q r) h
 

@@ -9,7 +9,7 @@ use Rattle.nmvs_rules.specs.declared.actor.Actor.{Actor}
 use Rattle.nmvs_rules.specs.declared.role.Role.TheVariants as role
 use Rattle.nmvs_rules.specs.declared.reason.Reason.TheVariants as reason
 use Rattle.nmvs_rules.specs.declared.question.Question.{Question}
-use Rattle.nmvs_rules.specs.declared.question.Question.TheVariants.{Upload, Verify, Status, Decommission, Revert, Recall}
+use Rattle.nmvs_rules.specs.declared.question.Question.TheVariants.{Upload, Verify, Status, Decommission, Handover, Revert, Recall}
 use Rattle.nmvs_rules.specs.declared.reply.Reply.TheVariants as reply
 use Rattle.nmvs_rules.specs.declared.refusal.Refusal.TheVariants as refusal
 use Rattle.nmvs_rules.specs.declared.cause.Cause.TheVariants as cause
@@ -25,6 +25,7 @@ use Rattle.nmvs_rules.specs.Questions.{Put}
 use Rattle.nmvs_rules.specs.Trail.{known, lock_of, holder_of, alerts_of, about_of, batch_record}
 use Rattle.nmvs_rules.specs.Rules.{reply_of, answered, IsLawful}
 use Rattle.nmvs_rules.specs.Facts.{facts_of}
+use Rattle.nmvs_rules.specs.before_handover.Rules as before_handover
 
 abbrev text : List ℕ → Text
 text s = record { bytes = s }
@@ -187,6 +188,10 @@ alerts-read = refl
 lawful : IsLawful (after verified status)
 lawful = (refl, (refl, (refl, (refl, (refl, (refl, tt))))))
 
+-- it was lawful as well before packs could be handed over
+was-lawful : before_handover.IsLawful (after verified status)
+was-lawful = (refl, (refl, (refl, (refl, (refl, (refl, tt))))))
+
 -- the same question at another moment
 abbrev at : ℕ → Put → Put
 at moment q = record { moment = moment; user = q.user; actor = q.actor; question = q.question }
@@ -223,3 +228,45 @@ other_premises = record pharmacy { premises = text (codes "P2") }
 
 revert-elsewhere : reply_of held (at (days_later 11) (put (codes "ph2") other_premises (Revert pack))) ≡ reply.Refused refusal.Other
 revert-elsewhere = refl
+
+-- the pharmacy hands the held pack over, also once it is expired: the pack is supplied from then on
+abbrev handover : Put
+handover = put (codes "ph1") pharmacy (Handover pack)
+
+abbrev handed_over : List Entry
+handed_over = after held handover
+
+handover-reply : reply_of held handover ≡ reply.HandedOver
+handover-reply = refl
+
+handover-expired : reply_of held (at 1_835_481_600 handover) ≡ reply.HandedOver
+handover-expired = refl
+
+known-handed_over : known handed_over pack ≡ known_as own.Supplied 2 pharmacy
+known-handed_over = refl
+
+revert-handed_over : reply_of handed_over revert ≡ reply.Refused refusal.WasSupplied
+revert-handed_over = refl
+
+verify-handed_over : reply_of handed_over verify ≡ reply.Alert cause.Supplied true 1
+verify-handed_over = refl
+
+-- it hands over nothing but a pack that is held there, whose batch is neither recalled nor withdrawn
+handover-unknown : reply_of [] handover ≡ reply.Refused refusal.Unknown
+handover-unknown = refl
+
+handover-uploaded : reply_of uploaded handover ≡ reply.Refused refusal.NotHeld
+handover-uploaded = refl
+
+handover-twice : reply_of handed_over handover ≡ reply.Refused refusal.NotHeld
+handover-twice = refl
+
+handover-recalled : reply_of recalled handover ≡ reply.Refused refusal.Locked
+handover-recalled = refl
+
+handover-elsewhere : reply_of held (put (codes "ph2") other_premises (Handover pack)) ≡ reply.Refused refusal.Other
+handover-elsewhere = refl
+
+-- before that was a question nobody might ask it
+handover-before : before_handover.reply_of held handover ≡ reply.Refused refusal.Role
+handover-before = refl

@@ -10,7 +10,7 @@ use Rattle.nmvs_identifier.specs.Pack.{is_pack}
 use Rattle.nmvs_identifier.specs.ProductCode.{is_product_code}
 use Rattle.nmvs_rules.specs.declared.actor.Actor.{Actor}
 use Rattle.nmvs_rules.specs.declared.question.Question.{Question}
-use Rattle.nmvs_rules.specs.declared.question.Question.TheVariants.{Upload, Verify, Status, Decommission, Revert, Recall, Withdraw, Theft, Audit}
+use Rattle.nmvs_rules.specs.declared.question.Question.TheVariants.{Upload, Verify, Status, Decommission, Handover, Revert, Recall, Withdraw, Theft, Audit}
 use Rattle.nmvs_rules.specs.declared.reply.Reply.{Reply}
 use Rattle.nmvs_rules.specs.declared.reply.Reply.TheVariants as reply
 use Rattle.nmvs_rules.specs.declared.entry.Entry.{Entry}
@@ -33,6 +33,7 @@ is_question (Upload p b x) = is_pack p && is_batch_and_expiry b x
 is_question (Verify p) = is_pack p
 is_question (Status p) = is_pack p
 is_question (Decommission p _) = is_pack p
+is_question (Handover p) = is_pack p
 is_question (Revert p) = is_pack p
 is_question (Recall c b) = is_product_code c.bytes && is_batch b.bytes
 is_question (Withdraw c b) = is_product_code c.bytes && is_batch b.bytes

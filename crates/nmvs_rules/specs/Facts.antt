@@ -5,7 +5,7 @@ use Rattle.nmvs_identifier.specs.Batch.{Batch}
 use Rattle.nmvs_identifier.specs.declared.pack.Pack.{Pack}
 use Rattle.nmvs_rules.specs.declared.actor.Actor.{Actor}
 use Rattle.nmvs_rules.specs.declared.question.Question.{Question}
-use Rattle.nmvs_rules.specs.declared.question.Question.TheVariants.{Upload, Verify, Status, Decommission, Revert, Recall, Withdraw, Theft, Audit}
+use Rattle.nmvs_rules.specs.declared.question.Question.TheVariants.{Upload, Verify, Status, Decommission, Handover, Revert, Recall, Withdraw, Theft, Audit}
 use Rattle.nmvs_rules.specs.declared.reply.Reply.{Reply}
 use Rattle.nmvs_rules.specs.declared.reply.Reply.TheVariants as reply
 use Rattle.nmvs_rules.specs.declared.refusal.Refusal.TheVariants as refusal
@@ -17,7 +17,7 @@ use Rattle.nmvs_rules.specs.declared.facts.BatchRecord.{BatchRecord}
 use Rattle.nmvs_rules.specs.declared.facts.Facts.{Facts}
 use Rattle.nmvs_rules.specs.Questions.{pack_of, code_of, locked_batch, may_ask}
 use Rattle.nmvs_rules.specs.Trail.{known, batch_record, holder_of, alerts_of, about_of}
-use Rattle.nmvs_rules.specs.Rules.{on_pack, upload_reply, alert_unknown, verify_reply, status_reply, decommission_reply, revert_reply, lock_reply, theft_reply}
+use Rattle.nmvs_rules.specs.Rules.{on_pack, upload_reply, alert_unknown, verify_reply, status_reply, decommission_reply, handover_reply, revert_reply, lock_reply, theft_reply}
 
 -- what is known of the pack that a question names
 abbrev pub pack_fact : List Entry → Option Pack → Option Known
@@ -72,6 +72,8 @@ admitted_reply_by_facts f moment a (Verify p) =
 admitted_reply_by_facts f moment a (Status p) = on_pack f.pack reply.NoPack (λ k. status_reply k (lock_in f.batch))
 admitted_reply_by_facts f moment a (Decommission p r) =
     on_pack f.pack (alert_unknown f.alerts) (λ k. decommission_reply k (lock_in f.batch) f.alerts)
+admitted_reply_by_facts f moment a (Handover p) =
+    on_pack f.pack (reply.Refused refusal.Unknown) (λ k. handover_reply a k (lock_in f.batch))
 admitted_reply_by_facts f moment a (Revert p) =
     on_pack f.pack (reply.Refused refusal.Unknown) (λ k. revert_reply moment a k (lock_in f.batch))
 admitted_reply_by_facts f moment a (Recall c b) =

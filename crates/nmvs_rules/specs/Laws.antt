@@ -12,7 +12,7 @@ use Rattle.nmvs_rules.specs.declared.facts.Known.{Known}
 use Rattle.nmvs_rules.specs.declared.own.Own.{Own}
 use Rattle.nmvs_rules.specs.declared.own.Own.TheVariants as own
 use Rattle.nmvs_rules.specs.declared.question.Question.{Question}
-use Rattle.nmvs_rules.specs.declared.question.Question.TheVariants.{Upload, Verify, Decommission, Recall, Withdraw}
+use Rattle.nmvs_rules.specs.declared.question.Question.TheVariants.{Upload, Verify, Decommission, Handover, Recall, Withdraw}
 use Rattle.nmvs_rules.specs.declared.reason.Reason.{Reason}
 use Rattle.nmvs_rules.specs.Questions.{Put, code_of}
 use Rattle.nmvs_rules.specs.Trail.{has_code}
@@ -29,6 +29,15 @@ kept keep t = filter (λ e. keep (code_of e.question).bytes) t
 -- the entries whose product code has a place by its text, in order (own)
 abbrev pub placed_at : (List ℕ → ℕ) → ℕ → List Entry → List Entry
 placed_at place i t = kept (λ c. place c == i) t
+
+-- whether the question hands a pack over (own, after Article 25)
+abbrev pub is_handover : Question → Bool
+is_handover (Handover _) = true
+is_handover _ = false
+
+-- whether the entry's question does
+abbrev pub asks_handover : Entry → Bool
+asks_handover e = is_handover e.question
 
 -- the entries of one owner, in order, where the owners are listed beside the entries (own)
 abbrev pub owned : List ℕ → List Entry → ℕ → List Entry
@@ -69,12 +78,14 @@ pub record IsGenuine (t : List Entry) (p : Pack) (b : Batch) (x : Expiry) : Type
 abbrev pub IsHeldBy : List Entry → ProductCode → Name → Type 0
 IsHeldBy t c n = IsSomeAnd (find (uploads_code c) t) (λ u. u.actor.authorisation.bytes ≡ n.bytes)
 
--- whether one own status may follow another: an active pack goes any way, a held, exported or sampled one comes back or
--- is stolen, a supplied or destroyed one is stolen at most, and a stolen one stays so (Articles 12, 13, 22, 25 and 40)
+-- whether one own status may follow another: an active pack goes any way, a held one is supplied, a held, exported or
+-- sampled one comes back or is stolen, a supplied or destroyed one is stolen at most, and a stolen one stays so (Articles
+-- 12, 13, 22, 25 and 40)
 abbrev pub may_become : Own → Own → Bool
 may_become own.Active own.Active = false
 may_become own.Active _ = true
 may_become own.Held own.Active = true
+may_become own.Held own.Supplied = true
 may_become own.Exported own.Active = true
 may_become own.Sampled own.Active = true
 may_become own.Stolen _ = false

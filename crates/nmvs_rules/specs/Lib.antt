@@ -6,3 +6,4 @@ pub mod Rules
 pub mod Facts
 pub mod Operations
 pub mod Laws
+pub mod before_handover

@@ -12,7 +12,7 @@ use Rattle.nmvs_rules.specs.declared.entry.Entry.{Entry}
 use Rattle.nmvs_rules.specs.declared.own.Own.{Own}
 use Rattle.nmvs_rules.specs.declared.own.Own.TheVariants as own
 use Rattle.nmvs_rules.specs.declared.question.Question.{Question}
-use Rattle.nmvs_rules.specs.declared.question.Question.TheVariants.{Upload, Verify, Decommission, Revert, Recall, Withdraw, Theft}
+use Rattle.nmvs_rules.specs.declared.question.Question.TheVariants.{Upload, Verify, Decommission, Handover, Revert, Recall, Withdraw, Theft}
 use Rattle.nmvs_rules.specs.declared.reason.Reason.TheVariants as reason
 use Rattle.nmvs_rules.specs.declared.reply.Reply.{Reply}
 use Rattle.nmvs_rules.specs.declared.reply.Reply.TheVariants as reply
@@ -32,9 +32,15 @@ abbrev pub decommissioning_done : Pack → Question → Reply → Bool
 decommissioning_done p (Decommission r _) reply.Decommissioned = same_pack p r
 decommissioning_done p _ _ = false
 
--- the pack was supplied to the public (Article 25)
+-- the pack was handed over after it had been decommissioned for that (own, after Article 25)
+abbrev pub handover_done : Pack → Question → Reply → Bool
+handover_done p (Handover r) reply.HandedOver = same_pack p r
+handover_done p _ _ = false
+
+-- the pack was supplied to the public, at its decommissioning or by a later handover (Article 25)
 abbrev pub supply_done : Pack → Question → Reply → Bool
 supply_done p (Decommission r reason.Supply) reply.Decommissioned = same_pack p r
+supply_done p (Handover r) reply.HandedOver = same_pack p r
 supply_done p _ _ = false
 
 -- the pack was intended for destruction (Articles 13(1)(d), 22 and 25)
@@ -73,6 +79,9 @@ uploads_code c e = code_upload_done c e.question e.reply
 abbrev pub decommissions : Pack → Entry → Bool
 decommissions p e = decommissioning_done p e.question e.reply
 
+abbrev pub hands_over : Pack → Entry → Bool
+hands_over p e = handover_done p e.question e.reply
+
 abbrev pub supplies : Pack → Entry → Bool
 supplies p e = supply_done p e.question e.reply
 
@@ -93,7 +102,7 @@ confirms p e = confirmation_done p e.question e.reply
 
 -- whether the entry is an operation that was carried out on the pack
 abbrev pub operates : Pack → Entry → Bool
-operates p e = (uploads p e || decommissions p e) || (reverts p e || steals p e)
+operates p e = (uploads p e || decommissions p e) || (hands_over p e || (reverts p e || steals p e))
 
 -- the last operation on a pack
 abbrev pub last_operation : List Entry → Pack → Option Entry
@@ -108,6 +117,7 @@ own_left (Decommission _ reason.Hold) = Some own.Held
 own_left (Decommission _ reason.Export) = Some own.Exported
 own_left (Decommission _ reason.Sample) = Some own.Sampled
 own_left (Decommission _ reason.Destroy) = Some own.Destroyed
+own_left (Handover _) = Some own.Supplied
 own_left (Theft _) = Some own.Stolen
 own_left _ = None
 
@@ -119,6 +129,7 @@ alarm (Decommission _ reason.Hold) = Some (cause.Held, true)
 alarm (Decommission _ reason.Export) = Some (cause.Exported, true)
 alarm (Decommission _ reason.Sample) = Some (cause.Sampled, true)
 alarm (Decommission _ reason.Destroy) = Some (cause.Destroyed, false)
+alarm (Handover _) = Some (cause.Supplied, true)
 alarm (Theft _) = Some (cause.Stolen, true)
 alarm (Recall _ _) = Some (cause.Recalled, false)
 alarm (Withdraw _ _) = Some (cause.Withdrawn, false)

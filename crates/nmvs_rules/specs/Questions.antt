@@ -11,7 +11,7 @@ use Rattle.nmvs_rules.specs.declared.role.Role.TheVariants as role
 use Rattle.nmvs_rules.specs.declared.reason.Reason.{Reason}
 use Rattle.nmvs_rules.specs.declared.reason.Reason.TheVariants as reason
 use Rattle.nmvs_rules.specs.declared.question.Question.{Question}
-use Rattle.nmvs_rules.specs.declared.question.Question.TheVariants.{Upload, Verify, Status, Decommission, Revert, Recall, Withdraw, Theft, Audit}
+use Rattle.nmvs_rules.specs.declared.question.Question.TheVariants.{Upload, Verify, Status, Decommission, Handover, Revert, Recall, Withdraw, Theft, Audit}
 
 -- a question put: with its moment, its user, and in what capacity the user asks (Article 35: users and nature of each
 -- operation)
@@ -27,6 +27,7 @@ pack_of (Upload p b x) = Some p
 pack_of (Verify p) = Some p
 pack_of (Status p) = Some p
 pack_of (Decommission p r) = Some p
+pack_of (Handover p) = Some p
 pack_of (Revert p) = Some p
 pack_of (Recall c b) = None
 pack_of (Withdraw c b) = None
@@ -39,6 +40,7 @@ code_of (Upload p b x) = p.code
 code_of (Verify p) = p.code
 code_of (Status p) = p.code
 code_of (Decommission p r) = p.code
+code_of (Handover p) = p.code
 code_of (Revert p) = p.code
 code_of (Recall c b) = c
 code_of (Withdraw c b) = c
@@ -78,6 +80,11 @@ is_handler role.Wholesaler = true
 is_handler role.Pharmacy = true
 is_handler _ = false
 
+-- who supplies packs to the public, a healthcare institution among them (Article 25)
+abbrev pub is_supplier : Role → Bool
+is_supplier role.Pharmacy = true
+is_supplier _ = false
+
 -- a marketing authorisation holder (Article 40)
 abbrev pub is_holder : Role → Bool
 is_holder role.Holder = true
@@ -97,5 +104,6 @@ may_ask r (Theft _) = is_holder r
 may_ask r (Verify _) = is_handler r
 may_ask r (Revert _) = is_handler r
 may_ask r (Decommission _ reason) = may_decommission r reason
+may_ask r (Handover _) = is_supplier r
 may_ask r (Status _) = true
 may_ask r (Audit _) = is_authority r

@@ -19,3 +19,4 @@ refusal_number refusal.WasSupplied = 11
 refusal_number refusal.Other = 12
 refusal_number refusal.Late = 13
 refusal_number refusal.Expired = 14
+refusal_number refusal.NotHeld = 15

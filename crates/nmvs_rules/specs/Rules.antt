@@ -8,7 +8,7 @@ use Rattle.nmvs_identifier.specs.declared.pack.Pack.{Pack}
 use Rattle.nmvs_identifier.specs.Texts.{same_text}
 use Rattle.nmvs_rules.specs.declared.actor.Actor.{Actor}
 use Rattle.nmvs_rules.specs.declared.question.Question.{Question}
-use Rattle.nmvs_rules.specs.declared.question.Question.TheVariants.{Upload, Verify, Status, Decommission, Revert, Recall, Withdraw, Theft, Audit}
+use Rattle.nmvs_rules.specs.declared.question.Question.TheVariants.{Upload, Verify, Status, Decommission, Handover, Revert, Recall, Withdraw, Theft, Audit}
 use Rattle.nmvs_rules.specs.declared.reply.Reply.{Reply}
 use Rattle.nmvs_rules.specs.declared.reply.Reply.TheVariants as reply
 use Rattle.nmvs_rules.specs.declared.refusal.Refusal.TheVariants as refusal
@@ -40,6 +40,11 @@ is_free _ = false
 abbrev pub is_active : Own → Bool
 is_active own.Active = true
 is_active _ = false
+
+-- whether the pack was decommissioned for supply and is still in possession (Article 25)
+abbrev pub is_held : Own → Bool
+is_held own.Held = true
+is_held _ = false
 
 -- whether the pack was decommissioned for destruction (Articles 13(1)(d), 22 and 25)
 abbrev pub is_destroyed : Own → Bool
@@ -140,6 +145,15 @@ status_reply k l = reply.StatusIs k.own l (onward_by k.own l) k.batch k.expiry
 abbrev pub decommission_reply : Known → BatchLock → ℕ → Reply
 decommission_reply k l n = if is_authentic k.own l then reply.Decommissioned else alert_on k l n
 
+-- the reply to the handover of a known pack, an expired one too: it has to be held, by the same authorisation and in the
+-- same premises, and its batch neither recalled nor withdrawn (own, after Articles 25 and 40)
+abbrev pub handover_reply : Actor → Known → BatchLock → Reply
+handover_reply a k l =
+    if not (is_free l) then reply.Refused refusal.Locked
+    else (if not (is_held k.own) then reply.Refused refusal.NotHeld
+    else (if not (is_same_place a k.mark) then reply.Refused refusal.Other
+    else reply.HandedOver))
+
 -- the reply to a reversion of a known pack: the conditions of Article 13(1)
 abbrev pub revert_reply : ℕ → Actor → Known → BatchLock → Reply
 revert_reply moment a k l =
@@ -192,6 +206,8 @@ admitted_reply t moment a (Verify p) =
 admitted_reply t moment a (Status p) = on_pack (known t p) reply.NoPack (λ k. status_reply k (lock_on t p k))
 admitted_reply t moment a (Decommission p r) =
     on_pack (known t p) (alert_unknown (alerts_of t p.code)) (λ k. decommission_reply k (lock_on t p k) (alerts_of t p.code))
+admitted_reply t moment a (Handover p) =
+    on_pack (known t p) (reply.Refused refusal.Unknown) (λ k. handover_reply a k (lock_on t p k))
 admitted_reply t moment a (Revert p) =
     on_pack (known t p) (reply.Refused refusal.Unknown) (λ k. revert_reply moment a k (lock_on t p k))
 admitted_reply t moment a (Recall c b) =

@@ -11,7 +11,7 @@ use Rattle.nmvs_identifier.specs.Texts.{same_text}
 use Rattle.nmvs_rules.specs.declared.reason.Reason.{Reason}
 use Rattle.nmvs_rules.specs.declared.reason.Reason.TheVariants as reason
 use Rattle.nmvs_rules.specs.declared.question.Question.{Question}
-use Rattle.nmvs_rules.specs.declared.question.Question.TheVariants.{Upload, Decommission, Revert, Recall, Withdraw, Theft}
+use Rattle.nmvs_rules.specs.declared.question.Question.TheVariants.{Upload, Decommission, Handover, Revert, Recall, Withdraw, Theft}
 use Rattle.nmvs_rules.specs.declared.reply.Reply.{Reply}
 use Rattle.nmvs_rules.specs.declared.reply.Reply.TheVariants as reply
 use Rattle.nmvs_rules.specs.declared.own.Own.{Own}
@@ -33,6 +33,7 @@ last p t = find p (reverse t)
 abbrev pub accepts : Question → Reply → Bool
 accepts (Upload _ _ _) reply.Uploaded = true
 accepts (Decommission _ _) reply.Decommissioned = true
+accepts (Handover _) reply.HandedOver = true
 accepts (Revert _) reply.Reverted = true
 accepts (Recall _ _) (reply.LockedNow _) = true
 accepts (Withdraw _ _) (reply.LockedNow _) = true
@@ -96,9 +97,11 @@ own_by_reason reason.Export = own.Exported
 own_by_reason reason.Sample = own.Sampled
 own_by_reason reason.Destroy = own.Destroyed
 
--- the own status that a question gives once it is accepted: active by an upload or a reversion (Articles 11, 13 and 40)
+-- the own status that a question gives once it is accepted: supplied by a handover, active by an upload or a reversion
+-- (Articles 11, 13, 25 and 40)
 abbrev pub own_given : Question → Own
 own_given (Decommission _ r) = own_by_reason r
+own_given (Handover _) = own.Supplied
 own_given (Theft _) = own.Stolen
 own_given _ = own.Active
 

@@ -1,7 +1,7 @@
 //! Who may ask what. Each `match` on a role names all five, so that a new role is decided on here before anything
 //! compiles.
 ghost use Rattle.std.specs.Prelude.{◌≡◌};
-ghost use Rattle.nmvs_rules.specs.Questions.{may_ask, may_decommission, is_handler, is_holder, is_authority};
+ghost use Rattle.nmvs_rules.specs.Questions.{may_ask, may_decommission, is_handler, is_supplier, is_holder, is_authority};
 
 use crate::{Question, Reason, Role};
 
@@ -16,6 +16,7 @@ pub fn may(role: Role, question: &Question) -> bool
         | Question::Theft(_) => is_holder(role),
         Question::Verify(_) | Question::Revert(_) => is_handler(role),
         Question::Decommission(_, reason) => may_decommission(role, *reason),
+        Question::Handover(_) => is_supplier(role),
         Question::Status(_) => true,
         Question::Audit(_) => is_authority(role),
     }
@@ -46,6 +47,15 @@ fn is_handler(role: Role) -> bool
     match role {
         Role::Manufacturer | Role::Wholesaler | Role::Pharmacy => true,
         Role::Holder | Role::Authority => false,
+    }
+}
+
+fn is_supplier(role: Role) -> bool
+    ensures { result ≡ is_supplier role }
+{
+    match role {
+        Role::Pharmacy => true,
+        Role::Holder | Role::Manufacturer | Role::Wholesaler | Role::Authority => false,
     }
 }
 

@@ -7,6 +7,7 @@ ghost use Rattle.nmvs_rules.specs.Facts.{facts_of, reply_by_facts, lock_in};
 
 use crate::alerting::alert_unknown;
 use crate::circulation::{decommission_reply, status_reply, verify_reply};
+use crate::handing_over::handover_reply;
 use crate::holding::{lock_reply, theft_reply, upload_reply};
 use crate::reversion::revert_reply;
 use crate::{Actor, BatchLock, BatchRecord, Facts, Question, Refusal, Reply, may};
@@ -46,10 +47,13 @@ fn reply_by_facts(facts: &Facts, moment: Moment, actor: &Actor, question: &Quest
         (Question::Decommission(_, _), Some(known)) => {
             decommission_reply(known, lock, facts.alerts)
         }
+        (Question::Handover(_), Some(known)) => handover_reply(actor, known, lock),
         (Question::Revert(_), Some(known)) => revert_reply(moment, actor, known, lock),
         (Question::Recall(_, _) | Question::Withdraw(_, _), _) => lock_reply(actor, facts),
         (Question::Theft(_), Some(known)) => theft_reply(actor, facts.holder, known),
-        (Question::Revert(_) | Question::Theft(_), None) => Reply::Refused(Refusal::Unknown),
+        (Question::Handover(_) | Question::Revert(_) | Question::Theft(_), None) => {
+            Reply::Refused(Refusal::Unknown)
+        }
         (Question::Audit(_), _) => Reply::Shown(facts.about),
     }
 }

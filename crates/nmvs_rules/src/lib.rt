@@ -21,6 +21,7 @@ mod circulation;
 mod decision;
 mod entry;
 mod facts;
+mod handing_over;
 mod holding;
 pub mod laws;
 mod onward;

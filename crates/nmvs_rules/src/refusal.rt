@@ -33,10 +33,12 @@ pub enum Refusal {
     Late,
     /// The pack is expired.
     Expired,
+    /// The pack is not held for a later supply.
+    NotHeld,
 }
 
 impl Refusal {
-    /// The number of the refusal, from 1 to 14.
+    /// The number of the refusal, from 1 to 15.
     pub fn number(self) -> u8
         ensures { result ≡ refusal_number self }
     {
@@ -55,6 +57,7 @@ impl Refusal {
             Refusal::Other => 12,
             Refusal::Late => 13,
             Refusal::Expired => 14,
+            Refusal::NotHeld => 15,
         }
     }
 }

@@ -32,6 +32,7 @@ pub enum Reply {
     /// The pack whose status was asked for is unknown.
     NoPack,
     Decommissioned,
+    HandedOver,
     Reverted,
     /// The batch is recalled or withdrawn from now on; so many of its packs were active.
     LockedNow(u64),

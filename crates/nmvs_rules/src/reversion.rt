@@ -35,7 +35,8 @@ pub(crate) fn revert_reply(moment: Moment, actor: &Actor, known: &Known, lock: B
     Reply::Reverted
 }
 
-fn is_same_place(actor: &Actor, mark: &Mark) -> bool
+/// Whether the actor is covered by the mark's authorisation and operates in its premises.
+pub(crate) fn is_same_place(actor: &Actor, mark: &Mark) -> bool
     ensures { result ≡ is_same_place actor.now mark.now }
 {
     actor.authorisation == mark.authorisation && actor.premises == mark.premises

@@ -138,6 +138,7 @@ fn only_the_named_roles_may_ask(rt: HostRuntime) {
         may_each(&Question::Decommission(pack(&rt), Reason::Supply))
             == [false, false, false, true, false]
     );
+    assert!(rt; may_each(&Question::Handover(pack(&rt))) == [false, false, false, true, false]);
     assert!(rt; may_each(&Question::Status(pack(&rt))) == [true, true, true, true, true]);
     assert!(rt; may_each(&Question::Audit(pack(&rt))) == [false, false, false, false, true]);
 }
@@ -167,6 +168,7 @@ fn refusals_are_numbered(rt: HostRuntime) {
     assert!(rt; Refusal::Locked.number() == 7);
     assert!(rt; Refusal::WasSupplied.number() == 11);
     assert!(rt; Refusal::Expired.number() == 14);
+    assert!(rt; Refusal::NotHeld.number() == 15);
 }
 
 #[test]
@@ -261,6 +263,38 @@ fn reversions(rt: HostRuntime) {
     let supplied = facts(&rt, Own::Supplied, BatchLock::Free, "280200");
     let refused = decide_at(&rt, NEW_YEAR, &supplied, &by, &revert);
     assert!(rt; refused == Reply::Refused(Refusal::WasSupplied));
+}
+
+#[test]
+fn handovers(rt: HostRuntime) {
+    let by = pharmacy(&rt);
+    let handover = Question::Handover(pack(&rt));
+    let held = facts(&rt, Own::Held, BatchLock::Free, "260105");
+    assert!(rt; decide_at(&rt, NEW_YEAR, &held, &by, &handover) == Reply::HandedOver);
+    let expired = decide_at(&rt, NEW_YEAR + 11 * DAY, &held, &by, &handover);
+    assert!(rt; expired == Reply::HandedOver);
+
+    let wholesaler = actor(&rt, Role::Wholesaler, "PH-1", "P1");
+    let refused = decide_at(&rt, NEW_YEAR, &held, &wholesaler, &handover);
+    assert!(rt; refused == Reply::Refused(Refusal::Role));
+    let unknown = decide_at(&rt, NEW_YEAR, &nothing(), &by, &handover);
+    assert!(rt; unknown == Reply::Refused(Refusal::Unknown));
+    let recalled = facts(&rt, Own::Supplied, BatchLock::Recalled, "280200");
+    let locked = decide_at(&rt, NEW_YEAR, &recalled, &by, &handover);
+    assert!(rt; locked == Reply::Refused(Refusal::Locked));
+
+    let elsewhere = actor(&rt, Role::Pharmacy, "PH-1", "P2");
+    let other = decide_at(&rt, NEW_YEAR, &held, &elsewhere, &handover);
+    assert!(rt; other == Reply::Refused(Refusal::Other));
+    let another = actor(&rt, Role::Pharmacy, "PH-2", "P1");
+    let other = decide_at(&rt, NEW_YEAR, &held, &another, &handover);
+    assert!(rt; other == Reply::Refused(Refusal::Other));
+    let active = facts(&rt, Own::Active, BatchLock::Free, "280200");
+    let unheld = decide_at(&rt, NEW_YEAR, &active, &elsewhere, &handover);
+    assert!(rt; unheld == Reply::Refused(Refusal::NotHeld));
+    let supplied = facts(&rt, Own::Supplied, BatchLock::Free, "280200");
+    let again = decide_at(&rt, NEW_YEAR, &supplied, &by, &handover);
+    assert!(rt; again == Reply::Refused(Refusal::NotHeld));
 }
 
 #[test]

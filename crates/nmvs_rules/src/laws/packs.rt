@@ -8,7 +8,7 @@ ghost use Rattle.nmvs_rules.specs.declared.entry.Entry.{Entry};
 ghost use Rattle.nmvs_rules.specs.declared.facts.Known.{Known};
 ghost use Rattle.nmvs_rules.specs.Trail.{known};
 ghost use Rattle.nmvs_rules.specs.Rules.{IsLawful};
-ghost use Rattle.nmvs_rules.specs.Operations.{uploads, decommissions, supplies, reverts, confirms, binds, operates};
+ghost use Rattle.nmvs_rules.specs.Operations.{uploads, decommissions, hands_over, supplies, reverts, confirms, binds, operates};
 ghost use Rattle.nmvs_rules.specs.Laws.{IsUploadedWith, IsMovedOn, IsBorn};
 
 /// In a lawful trail a pack has one accepted upload where it is known, and none where it is not (Articles 4 and 11). So
@@ -41,12 +41,13 @@ pub fn decommissioned_once()
         IsTrue (list_any (reverts p) between) }
 {}
 
-/// No pack is supplied twice: after its supply to the public in a lawful trail it is never decommissioned, never
-/// reverted and never answered Authentic (Articles 11, 13 and 25).
+/// No pack is supplied twice: after its supply to the public in a lawful trail, at its decommissioning or by a later
+/// handover, it is never decommissioned, handed over or reverted and never answered Authentic (Articles 11, 13 and 25).
 pub fn supplied_once()
     ensures { (before between after : List Entry) (supply later : Entry) (p : Pack) →
         IsLawful (before ++ supply ∷ between ++ later ∷ after) → IsTrue (supplies p supply) →
-        IsFalse (decommissions p later) × IsFalse (reverts p later) × IsFalse (confirms p later) }
+        IsFalse (decommissions p later) × IsFalse (hands_over p later) × IsFalse (reverts p later)
+        × IsFalse (confirms p later) }
 {}
 
 /// A recall or withdrawal binds for ever: after it in a lawful trail no pack of its batch, uploaded before it or later,

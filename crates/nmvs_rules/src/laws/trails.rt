@@ -1,10 +1,12 @@
 //! Laws on trails, their parts and how they are put together.
-ghost use Rattle.std.specs.Prelude.{◌≡◌, ℕ, Bool, List};
+ghost use Rattle.std.specs.Prelude.{◌≡◌, ◌↔◌, ℕ, Bool, IsFalse, List};
+ghost use Rattle.std.specs.List.{list_any};
 ghost use Rattle.nmvs_rules.specs.declared.entry.Entry.{Entry};
 ghost use Rattle.nmvs_rules.specs.declared.reply.Reply.{Reply};
 ghost use Rattle.nmvs_rules.specs.Questions.{Put, code_of};
 ghost use Rattle.nmvs_rules.specs.Rules.{reply_of, put_of, answered, IsLawful};
-ghost use Rattle.nmvs_rules.specs.Laws.{part_of, kept, placed_at, IsMerging, IsApart};
+ghost use Rattle.nmvs_rules.specs.Laws.{part_of, kept, placed_at, asks_handover, IsMerging, IsApart};
+ghost use Rattle.nmvs_rules.specs.before_handover.Rules as before_handover;
 
 /// An entry keeps the question as it was put, with its moment, its user and in what capacity the user asked, and the
 /// reply (Article 35).
@@ -33,4 +35,10 @@ pub fn placing()
 /// A part of a lawful trail is lawful, where each product code is kept or dropped whole.
 pub fn parts()
     ensures { (keep : List ℕ → Bool) (t : List Entry) → IsLawful t → IsLawful (kept keep t) }
+{}
+
+/// A trail in which no question is a handover is lawful exactly where it was lawful before packs could be handed over, by
+/// the rules of then (`specs/before_handover`). So the exports of that time stay what they were.
+pub fn old_trails()
+    ensures { (t : List Entry) → IsFalse (list_any asks_handover t) → IsLawful t ↔ before_handover.IsLawful t }
 {}

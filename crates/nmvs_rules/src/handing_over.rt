@@ -1,0 +1,22 @@
+//! Handing over a pack that was decommissioned for supply before (own, after Article 25).
+ghost use Rattle.std.specs.Prelude.{◌≡◌};
+ghost use Rattle.nmvs_rules.specs.Rules.{handover_reply};
+
+use crate::reversion::is_same_place;
+use crate::{Actor, BatchLock, Known, Own, Refusal, Reply};
+
+/// The reply to the handover of a known pack, an expired one too.
+pub(crate) fn handover_reply(actor: &Actor, known: &Known, lock: BatchLock) -> Reply
+    ensures { result ≡ handover_reply actor.now known.now lock }
+{
+    if !matches!(lock, BatchLock::Free) {
+        return Reply::Refused(Refusal::Locked);
+    }
+    if !matches!(known.own, Own::Held) {
+        return Reply::Refused(Refusal::NotHeld);
+    }
+    if !is_same_place(actor, &known.mark) {
+        return Reply::Refused(Refusal::Other);
+    }
+    Reply::HandedOver
+}
