@@ -12,7 +12,7 @@ use Rattle.nmvs_rules.specs.declared.onward.Onward.{Onward}
 use Rattle.nmvs_rules.specs.declared.onward.Onward.TheVariants as onward
 use Rattle.nmvs_rules.specs.declared.cause.Cause.{Cause}
 use Rattle.nmvs_rules.specs.declared.cause.Cause.TheVariants as cause
-use Rattle.nmvs_words.specs.declared.pack_question.PackQuestion.TheVariants.{Verify, Status, Decommission, Revert, Theft, Audit}
+use Rattle.nmvs_words.specs.declared.pack_question.PackQuestion.TheVariants.{Verify, Status, Decommission, Handover, Revert, Theft, Audit}
 use Rattle.nmvs_words.specs.declared.batch_question.BatchQuestion.TheVariants.{Recall, Withdraw}
 use Rattle.nmvs_words.specs.declared.question_kind.QuestionKind.{QuestionKind}
 use Rattle.nmvs_words.specs.declared.question_kind.QuestionKind.TheVariants.{Upload, OfPack, OfBatch}
@@ -31,6 +31,7 @@ word_plain (OfPack (Decommission reason.Hold)) = (lit≤ tt, lit≤ tt, refl)
 word_plain (OfPack (Decommission reason.Export)) = (lit≤ tt, lit≤ tt, refl)
 word_plain (OfPack (Decommission reason.Sample)) = (lit≤ tt, lit≤ tt, refl)
 word_plain (OfPack (Decommission reason.Destroy)) = (lit≤ tt, lit≤ tt, refl)
+word_plain (OfPack Handover) = (lit≤ tt, lit≤ tt, refl)
 word_plain (OfPack Revert) = (lit≤ tt, lit≤ tt, refl)
 word_plain (OfPack Theft) = (lit≤ tt, lit≤ tt, refl)
 word_plain (OfPack Audit) = (lit≤ tt, lit≤ tt, refl)
@@ -92,6 +93,7 @@ reply_word_plain kinds.Alert = (lit≤ tt, lit≤ tt, refl)
 reply_word_plain kinds.Status = (lit≤ tt, lit≤ tt, refl)
 reply_word_plain kinds.NoPack = (lit≤ tt, lit≤ tt, refl)
 reply_word_plain kinds.Decommissioned = (lit≤ tt, lit≤ tt, refl)
+reply_word_plain kinds.HandedOver = (lit≤ tt, lit≤ tt, refl)
 reply_word_plain kinds.Reverted = (lit≤ tt, lit≤ tt, refl)
 reply_word_plain kinds.Locked = (lit≤ tt, lit≤ tt, refl)
 reply_word_plain kinds.Stolen = (lit≤ tt, lit≤ tt, refl)

@@ -17,7 +17,7 @@ use Rattle.nmvs_rules.specs.declared.refusal.Refusal.{Refusal}
 use Rattle.nmvs_rules.specs.declared.refusal.Refusal.TheVariants as refusal
 use Rattle.nmvs_rules.specs.Replies.{refusal_number}
 use Rattle.nmvs_rules.proofs.FindLemmas.{find-passes}
-use Rattle.nmvs_words.specs.declared.pack_question.PackQuestion.TheVariants.{Verify, Status, Decommission, Revert, Theft, Audit}
+use Rattle.nmvs_words.specs.declared.pack_question.PackQuestion.TheVariants.{Verify, Status, Decommission, Handover, Revert, Theft, Audit}
 use Rattle.nmvs_words.specs.declared.batch_question.BatchQuestion.TheVariants.{Recall, Withdraw}
 use Rattle.nmvs_words.specs.declared.question_kind.QuestionKind.{QuestionKind}
 use Rattle.nmvs_words.specs.declared.question_kind.QuestionKind.TheVariants.{Upload, OfPack, OfBatch}
@@ -41,6 +41,7 @@ kind_named-of_word (OfPack (Decommission reason.Hold)) = refl
 kind_named-of_word (OfPack (Decommission reason.Export)) = refl
 kind_named-of_word (OfPack (Decommission reason.Sample)) = refl
 kind_named-of_word (OfPack (Decommission reason.Destroy)) = refl
+kind_named-of_word (OfPack Handover) = refl
 kind_named-of_word (OfPack Revert) = refl
 kind_named-of_word (OfPack Theft) = refl
 kind_named-of_word (OfPack Audit) = refl
@@ -125,3 +126,4 @@ refusal_numbered-of_word refusal.WasSupplied = refl
 refusal_numbered-of_word refusal.Other = refl
 refusal_numbered-of_word refusal.Late = refl
 refusal_numbered-of_word refusal.Expired = refl
+refusal_numbered-of_word refusal.NotHeld = refl

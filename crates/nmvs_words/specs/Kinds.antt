@@ -8,7 +8,7 @@ use Rattle.nmvs_rules.specs.declared.reason.Reason.TheVariants as reason
 use Rattle.nmvs_rules.specs.declared.question.Question.{Question}
 use Rattle.nmvs_rules.specs.declared.question.Question.TheVariants as question
 use Rattle.nmvs_words.specs.declared.pack_question.PackQuestion.{PackQuestion}
-use Rattle.nmvs_words.specs.declared.pack_question.PackQuestion.TheVariants.{Verify, Status, Decommission, Revert, Theft, Audit}
+use Rattle.nmvs_words.specs.declared.pack_question.PackQuestion.TheVariants.{Verify, Status, Decommission, Handover, Revert, Theft, Audit}
 use Rattle.nmvs_words.specs.declared.batch_question.BatchQuestion.{BatchQuestion}
 use Rattle.nmvs_words.specs.declared.batch_question.BatchQuestion.TheVariants.{Recall, Withdraw}
 use Rattle.nmvs_words.specs.declared.question_kind.QuestionKind.{QuestionKind}
@@ -21,6 +21,7 @@ kind_word Upload = codes "UPLOAD"
 kind_word (OfPack Verify) = codes "VERIFY"
 kind_word (OfPack Status) = codes "STATUS"
 kind_word (OfPack (Decommission r)) = reason_word r
+kind_word (OfPack Handover) = codes "HANDOVER"
 kind_word (OfPack Revert) = codes "REVERT"
 kind_word (OfPack Theft) = codes "THEFT"
 kind_word (OfPack Audit) = codes "AUDIT"
@@ -33,7 +34,7 @@ kinds =
     Upload ∷ OfBatch Recall ∷ OfBatch Withdraw ∷ OfPack Verify ∷ OfPack Status
     ∷ OfPack (Decommission reason.Supply) ∷ OfPack (Decommission reason.Hold) ∷ OfPack (Decommission reason.Export)
     ∷ OfPack (Decommission reason.Sample) ∷ OfPack (Decommission reason.Destroy)
-    ∷ OfPack Revert ∷ OfPack Theft ∷ OfPack Audit ∷ []
+    ∷ OfPack Handover ∷ OfPack Revert ∷ OfPack Theft ∷ OfPack Audit ∷ []
 
 -- the kind that has a word
 abbrev pub kind_named : List ℕ → Option QuestionKind
@@ -45,6 +46,7 @@ kind_of (question.Upload p b x) = Upload
 kind_of (question.Verify p) = OfPack Verify
 kind_of (question.Status p) = OfPack Status
 kind_of (question.Decommission p r) = OfPack (Decommission r)
+kind_of (question.Handover p) = OfPack Handover
 kind_of (question.Revert p) = OfPack Revert
 kind_of (question.Recall c b) = OfBatch Recall
 kind_of (question.Withdraw c b) = OfBatch Withdraw
@@ -57,6 +59,7 @@ texts_of (question.Upload p b x) = p.code.bytes ∷ p.serial.bytes ∷ b.bytes �
 texts_of (question.Verify p) = p.code.bytes ∷ p.serial.bytes ∷ []
 texts_of (question.Status p) = p.code.bytes ∷ p.serial.bytes ∷ []
 texts_of (question.Decommission p r) = p.code.bytes ∷ p.serial.bytes ∷ []
+texts_of (question.Handover p) = p.code.bytes ∷ p.serial.bytes ∷ []
 texts_of (question.Revert p) = p.code.bytes ∷ p.serial.bytes ∷ []
 texts_of (question.Recall c b) = c.bytes ∷ b.bytes ∷ []
 texts_of (question.Withdraw c b) = c.bytes ∷ b.bytes ∷ []
@@ -68,6 +71,7 @@ abbrev pub naming_pack : PackQuestion → Pack → Question
 naming_pack Verify p = question.Verify p
 naming_pack Status p = question.Status p
 naming_pack (Decommission r) p = question.Decommission p r
+naming_pack Handover p = question.Handover p
 naming_pack Revert p = question.Revert p
 naming_pack Theft p = question.Theft p
 naming_pack Audit p = question.Audit p

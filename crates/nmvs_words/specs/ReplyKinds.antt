@@ -2,7 +2,7 @@
 use Rattle.std.specs.Prelude.{ℕ, List, [], ◌∷◌, codes, find, Option}
 use Rattle.std.specs.Str.{bytes_eq}
 use Rattle.nmvs_words.specs.declared.reply_kind.ReplyKind.{ReplyKind}
-use Rattle.nmvs_words.specs.declared.reply_kind.ReplyKind.TheVariants.{Uploaded, Authentic, Alert, Status, NoPack, Decommissioned, Reverted, Locked, Stolen, Shown, Refused}
+use Rattle.nmvs_words.specs.declared.reply_kind.ReplyKind.TheVariants.{Uploaded, Authentic, Alert, Status, NoPack, Decommissioned, HandedOver, Reverted, Locked, Stolen, Shown, Refused}
 
 -- the word of a kind of reply
 abbrev pub reply_word : ReplyKind → List ℕ
@@ -12,6 +12,7 @@ reply_word Alert = codes "ALERT"
 reply_word Status = codes "STATUS"
 reply_word NoPack = codes "NOPACK"
 reply_word Decommissioned = codes "DECOMMISSIONED"
+reply_word HandedOver = codes "HANDED_OVER"
 reply_word Reverted = codes "REVERTED"
 reply_word Locked = codes "LOCKED"
 reply_word Stolen = codes "STOLEN"
@@ -21,7 +22,8 @@ reply_word Refused = codes "REFUSED"
 -- all kinds of replies
 abbrev pub reply_kinds : List ReplyKind
 reply_kinds =
-    Uploaded ∷ Authentic ∷ Alert ∷ Status ∷ NoPack ∷ Decommissioned ∷ Reverted ∷ Locked ∷ Stolen ∷ Shown ∷ Refused ∷ []
+    Uploaded ∷ Authentic ∷ Alert ∷ Status ∷ NoPack ∷ Decommissioned ∷ HandedOver ∷ Reverted ∷ Locked ∷ Stolen ∷ Shown
+    ∷ Refused ∷ []
 
 -- the kind of reply that has a word
 abbrev pub reply_named : List ℕ → Option ReplyKind

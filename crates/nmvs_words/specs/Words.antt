@@ -144,13 +144,14 @@ refusal_word refusal.WasSupplied = codes "WAS_SUPPLIED"
 refusal_word refusal.Other = codes "OTHER"
 refusal_word refusal.Late = codes "LATE"
 refusal_word refusal.Expired = codes "EXPIRED"
+refusal_word refusal.NotHeld = codes "NOT_HELD"
 
 -- all refusals
 abbrev pub refusals : List Refusal
 refusals =
     refusal.Role ∷ refusal.Unknown ∷ refusal.UnknownBatch ∷ refusal.NotHolder ∷ refusal.Duplicate ∷ refusal.Already
     ∷ refusal.Locked ∷ refusal.StillActive ∷ refusal.IsStolen ∷ refusal.IsDestroyed ∷ refusal.WasSupplied ∷ refusal.Other
-    ∷ refusal.Late ∷ refusal.Expired ∷ []
+    ∷ refusal.Late ∷ refusal.Expired ∷ refusal.NotHeld ∷ []
 
 -- the refusal that has a number
 abbrev pub refusal_numbered : ℕ → Option Refusal

@@ -25,6 +25,7 @@ impl QuestionKind {
             Question::Decommission(_, reason) => {
                 QuestionKind::OfPack(PackQuestion::Decommission(*reason))
             }
+            Question::Handover(_) => QuestionKind::OfPack(PackQuestion::Handover),
             Question::Revert(_) => QuestionKind::OfPack(PackQuestion::Revert),
             Question::Recall(_, _) => QuestionKind::OfBatch(BatchQuestion::Recall),
             Question::Withdraw(_, _) => QuestionKind::OfBatch(BatchQuestion::Withdraw),
@@ -42,6 +43,7 @@ impl QuestionKind {
             QuestionKind::OfPack(PackQuestion::Verify) => "VERIFY",
             QuestionKind::OfPack(PackQuestion::Status) => "STATUS",
             QuestionKind::OfPack(PackQuestion::Decommission(reason)) => reason_word(reason),
+            QuestionKind::OfPack(PackQuestion::Handover) => "HANDOVER",
             QuestionKind::OfPack(PackQuestion::Revert) => "REVERT",
             QuestionKind::OfPack(PackQuestion::Theft) => "THEFT",
             QuestionKind::OfPack(PackQuestion::Audit) => "AUDIT",
@@ -65,6 +67,7 @@ impl QuestionKind {
             "EXPORT" => PackQuestion::Decommission(Reason::Export),
             "SAMPLE" => PackQuestion::Decommission(Reason::Sample),
             "DESTROY" => PackQuestion::Decommission(Reason::Destroy),
+            "HANDOVER" => PackQuestion::Handover,
             "REVERT" => PackQuestion::Revert,
             "THEFT" => PackQuestion::Theft,
             "AUDIT" => PackQuestion::Audit,

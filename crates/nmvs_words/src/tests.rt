@@ -18,6 +18,7 @@ fn words_of_replies(rt: HostRuntime) {
     assert!(rt; validity_word(false) == "VALID");
     assert!(rt; flag_word(true) == "FLAGGED");
     assert!(rt; ReplyKind::Locked.word() == "LOCKED");
+    assert!(rt; ReplyKind::HandedOver.word() == "HANDED_OVER");
 }
 
 #[test]
@@ -31,7 +32,8 @@ fn words_are_read_back(rt: HostRuntime) {
     assert!(rt; ReplyKind::named("LOCKED") == Some(ReplyKind::Locked));
     assert!(rt; ReplyKind::named("locked") == None);
     assert!(rt; refusal_numbered(4) == Some(Refusal::NotHolder));
-    assert!(rt; refusal_numbered(15) == None);
+    assert!(rt; refusal_numbered(15) == Some(Refusal::NotHeld));
+    assert!(rt; refusal_numbered(16) == None);
 }
 
 #[test]
@@ -60,5 +62,7 @@ fn words_of_questions(rt: HostRuntime) {
     let question = Question::Withdraw(code, batch);
     assert!(rt; withdraw.naming(code, batch) == question);
     assert!(rt; QuestionKind::of(&question).word() == "WITHDRAW");
+    let question = Question::Handover(Pack { code, serial });
+    assert!(rt; QuestionKind::of(&question).word() == "HANDOVER");
     assert!(rt; QuestionKind::named("QUIT") == None);
 }

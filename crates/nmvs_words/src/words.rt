@@ -217,6 +217,7 @@ pub fn refusal_word(refusal: Refusal) -> &'static str
         Refusal::Other => "OTHER",
         Refusal::Late => "LATE",
         Refusal::Expired => "EXPIRED",
+        Refusal::NotHeld => "NOT_HELD",
     }
 }
 
@@ -239,6 +240,7 @@ pub fn refusal_numbered(number: u64) -> Option<Refusal>
         12 => Some(Refusal::Other),
         13 => Some(Refusal::Late),
         14 => Some(Refusal::Expired),
+        15 => Some(Refusal::NotHeld),
         _ => None,
     }
 }
