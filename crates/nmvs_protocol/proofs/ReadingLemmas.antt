@@ -3,7 +3,7 @@ use Rattle.std.proofs.Common.{◌≡◌, ℕ, List, [], ◌∷◌, Option, Some,
 use Rattle.nmvs_identifier.specs.Texts.{Text}
 use Rattle.nmvs_rules.specs.declared.question.Question.{Question}
 use Rattle.nmvs_rules.specs.declared.question.Question.TheVariants as question
-use Rattle.nmvs_words.specs.declared.pack_question.PackQuestion.TheVariants.{Verify, Status, Decommission, Revert, Theft, Audit}
+use Rattle.nmvs_words.specs.declared.pack_question.PackQuestion.TheVariants.{Verify, Status, Decommission, Handover, Revert, Theft, Audit}
 use Rattle.nmvs_words.specs.declared.batch_question.BatchQuestion.TheVariants.{Recall, Withdraw}
 use Rattle.nmvs_words.specs.declared.question_kind.QuestionKind.{QuestionKind}
 use Rattle.nmvs_words.specs.declared.question_kind.QuestionKind.TheVariants.{Upload, OfPack, OfBatch}
@@ -25,6 +25,7 @@ question_of (OfPack Verify) (c ∷ s ∷ []) = Some (question.Verify (record { c
 question_of (OfPack Status) (c ∷ s ∷ []) = Some (question.Status (record { code = written c; serial = written s }))
 question_of (OfPack (Decommission r)) (c ∷ s ∷ []) =
     Some (question.Decommission (record { code = written c; serial = written s }) r)
+question_of (OfPack Handover) (c ∷ s ∷ []) = Some (question.Handover (record { code = written c; serial = written s }))
 question_of (OfPack Revert) (c ∷ s ∷ []) = Some (question.Revert (record { code = written c; serial = written s }))
 question_of (OfPack Theft) (c ∷ s ∷ []) = Some (question.Theft (record { code = written c; serial = written s }))
 question_of (OfPack Audit) (c ∷ s ∷ []) = Some (question.Audit (record { code = written c; serial = written s }))
@@ -38,6 +39,7 @@ remade (question.Upload p b x) = refl
 remade (question.Verify p) = refl
 remade (question.Status p) = refl
 remade (question.Decommission p r) = refl
+remade (question.Handover p) = refl
 remade (question.Revert p) = refl
 remade (question.Recall c b) = refl
 remade (question.Withdraw c b) = refl

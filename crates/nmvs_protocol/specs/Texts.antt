@@ -47,6 +47,7 @@ reply_words (replies.StatusIs own lock onward b x) =
     reply_word kinds.Status ∷ own_word own ∷ lock_word lock ∷ onward_word onward ∷ b.bytes ∷ x.bytes ∷ []
 reply_words replies.NoPack = reply_word kinds.NoPack ∷ []
 reply_words replies.Decommissioned = reply_word kinds.Decommissioned ∷ []
+reply_words replies.HandedOver = reply_word kinds.HandedOver ∷ []
 reply_words replies.Reverted = reply_word kinds.Reverted ∷ []
 reply_words (replies.LockedNow n) = reply_word kinds.Locked ∷ decimal n ∷ []
 reply_words replies.MarkedStolen = reply_word kinds.Stolen ∷ []

@@ -173,6 +173,7 @@ fn question_line(alloc: Global, user: &Name, question: &Question) -> Result<Stri
         Question::Verify(pack)
         | Question::Status(pack)
         | Question::Decommission(pack, _)
+        | Question::Handover(pack)
         | Question::Revert(pack)
         | Question::Theft(pack)
         | Question::Audit(pack) => format!(in alloc; "{user} {word} {code} {}", pack.serial.text()),

@@ -92,6 +92,7 @@ fn replied(reply: &Reply) -> ArrayString<LONGEST_REPLY>
         } => status(*own, *lock, *onward, *batch, *expiry),
         Reply::NoPack => in_words("NOPACK", &[]),
         Reply::Decommissioned => in_words("DECOMMISSIONED", &[]),
+        Reply::HandedOver => in_words("HANDED_OVER", &[]),
         Reply::Reverted => in_words("REVERTED", &[]),
         Reply::LockedNow(count) => counted("LOCKED", *count),
         Reply::MarkedStolen => in_words("STOLEN", &[]),

@@ -27,6 +27,7 @@ not_audit (question.Upload p b x) r other = refl
 not_audit (question.Verify p) r other = refl
 not_audit (question.Status p) r other = refl
 not_audit (question.Decommission p reason) r other = refl
+not_audit (question.Handover p) r other = refl
 not_audit (question.Revert p) r other = refl
 not_audit (question.Recall c b) r other = refl
 not_audit (question.Withdraw c b) r other = refl

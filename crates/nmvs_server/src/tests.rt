@@ -52,6 +52,11 @@ fn causes_get_their_replies(rt: HostRuntime) -> Result<(), Fail> {
 }
 
 #[test]
+fn handovers_get_their_replies(rt: HostRuntime) -> Result<(), Fail> {
+    get_their_replies(&rt, rt.alloc(), examples::HANDOVERS)
+}
+
+#[test]
 fn reversions_get_their_replies(rt: HostRuntime) -> Result<(), Fail> {
     get_their_replies(&rt, rt.alloc(), examples::REVERSIONS)
 }

@@ -46,6 +46,7 @@ fn each_kind_of_reply_has_its_text(rt: HostRuntime) {
         ),
         (Reply::NoPack, "NOPACK\n"),
         (Reply::Decommissioned, "DECOMMISSIONED\n"),
+        (Reply::HandedOver, "HANDED_OVER\n"),
         (Reply::Reverted, "REVERTED\n"),
         (Reply::LockedNow(0), "LOCKED 0\n"),
         (Reply::LockedNow(12), "LOCKED 12\n"),
@@ -57,6 +58,7 @@ fn each_kind_of_reply_has_its_text(rt: HostRuntime) {
             "REFUSED 3 UNKNOWN_BATCH\n",
         ),
         (Reply::Refused(Refusal::Expired), "REFUSED 14 EXPIRED\n"),
+        (Reply::Refused(Refusal::NotHeld), "REFUSED 15 NOT_HELD\n"),
     ] {
         assert!(rt;
             is_told(&rt, rt.alloc(), Answer::Replied(reply), text),

@@ -270,6 +270,54 @@ pub const CAUSES: &[Example] = &[Example {
     ],
 }];
 
+pub const HANDOVERS: &[Example] = &[
+    Example {
+        shows: "a held pack is handed over once, where it is held",
+        moments: &[NEW_YEAR],
+        lines: &[
+            ("mah1 UPLOAD 09506000134352 SN1 B1 280200", "UPLOADED"),
+            ("ph1 HOLD 09506000134352 SN1", "DECOMMISSIONED"),
+            ("ph2 HANDOVER 09506000134352 SN1", "REFUSED 12 OTHER"),
+            ("ph1b HANDOVER 09506000134352 SN1", "HANDED_OVER"),
+            ("ph1b HANDOVER 09506000134352 SN1", "REFUSED 15 NOT_HELD"),
+            ("ph1 REVERT 09506000134352 SN1", "REFUSED 11 WAS_SUPPLIED"),
+            ("ph1 VERIFY 09506000134352 SN1", "ALERT SUPPLIED FLAGGED 1"),
+            (
+                "au1 STATUS 09506000134352 SN1",
+                "STATUS SUPPLIED FREE NOWHERE B1 280200",
+            ),
+            (
+                "au1 REPORT 09506000134352",
+                "PRODUCT 09506000134352 HOLDER MAH-1 ALERTS 1 FLAGGED 1\n\
+                BATCH B1 FREE ACTIVE 0 HELD 0 SUPPLIED 1 EXPORTED 0 SAMPLED 0 DESTROYED 0 STOLEN 0\n\
+                END",
+            ),
+        ],
+    },
+    Example {
+        shows: "a pack is handed over by a pharmacy alone, while it is held and its batch is free",
+        moments: &[NEW_YEAR],
+        lines: &[
+            ("mah1 UPLOAD 09506000134352 SN1 B1 280200", "UPLOADED"),
+            ("ph1 HANDOVER 09506000134352 SN1", "REFUSED 15 NOT_HELD"),
+            ("wh1 HANDOVER 09506000134352 SN1", "REFUSED 1 ROLE"),
+            ("ph1 HANDOVER 09506000134352 SN9", "REFUSED 2 UNKNOWN"),
+            ("ph1 HOLD 09506000134352 SN1", "DECOMMISSIONED"),
+            ("mah1 RECALL 09506000134352 B1", "LOCKED 0"),
+            ("ph1 HANDOVER 09506000134352 SN1", "REFUSED 7 LOCKED"),
+        ],
+    },
+    Example {
+        shows: "an expired pack is handed over on a late day",
+        moments: &[NEW_YEAR, NEW_YEAR, NEW_YEAR + 11 * DAY],
+        lines: &[
+            ("mah1 UPLOAD 09506000134352 SN8 B8 260105", "UPLOADED"),
+            ("ph1 HOLD 09506000134352 SN8", "DECOMMISSIONED"),
+            ("ph1 HANDOVER 09506000134352 SN8", "HANDED_OVER"),
+        ],
+    },
+];
+
 pub const REVERSIONS: &[Example] = &[
     Example {
         shows: "a held pack is reverted on the tenth day",
