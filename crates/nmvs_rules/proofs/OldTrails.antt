@@ -1,5 +1,5 @@
 -- A trail without a handover says what it said before packs could be handed over, and is lawful where it was.
-use Rattle.std.proofs.Common.{◌≡◌, ◌↔◌, ℕ, ◌+◌, ◌-◌, Bool, true, false, not, ◌&&◌, ◌||◌, cond, List, [], ◌∷◌, ◌++◌, reverse, length, Option, Some, None, refl, sym, ap, ◌∙◌, append-nil}
+use Rattle.std.proofs.Common.{◌≡◌, ◌↔◌, ℕ, ◌+◌, ◌-◌, Bool, true, false, not, ◌&&◌, ◌||◌, cond, List, [], ◌∷◌, ◌++◌, reverse, length, Option, Some, None, refl, sym, ap, ◌∙◌}
 use Rattle.std.proofs.lemmas.Bool.{or_parts}
 use Rattle.std.proofs.lemmas.List.Folds.{list_any-append}
 use Rattle.std.specs.List.{find, list_any, count_by, prefix_len}
@@ -22,7 +22,7 @@ use Rattle.nmvs_rules.specs.declared.reply.Reply.TheVariants as reply
 use Rattle.nmvs_rules.specs.declared.role.Role.{Role}
 use Rattle.nmvs_rules.specs.Questions.{Put, may_ask, pack_of}
 use Rattle.nmvs_rules.specs.Trail.{accepts, own_given, is_accepted, is_upload, is_about, has_code, born, is_mark, mark, mark_place, mark_after, own_of, lock_of, lock_by, locks_batch, holder_of, alerts_of, known_at, known_from, known, is_birth_in, is_known_batch, uploads_batch, stands_at, is_own, count_of}
-use Rattle.nmvs_rules.specs.Rules.{on_pack, upload_reply, alert_unknown, verify_reply, status_reply, decommission_reply, revert_reply, lock_reply, theft_reply, admitted_reply, reply_of, put_of, IsLawfulAfter, IsLawful}
+use Rattle.nmvs_rules.specs.Rules.{on_pack, upload_reply, verify_reply, status_reply, decommission_reply, revert_reply, lock_reply, theft_reply, admitted_reply, reply_of, put_of, IsLawfulAfter, IsLawful}
 use Rattle.nmvs_rules.specs.Laws.{is_handover, asks_handover}
 use Rattle.nmvs_rules.specs.before_handover.Trail as past
 use Rattle.nmvs_rules.specs.before_handover.Rules as past_rules

@@ -79,8 +79,8 @@ abbrev pub IsHeldBy : List Entry → ProductCode → Name → Type 0
 IsHeldBy t c n = IsSomeAnd (find (uploads_code c) t) (λ u. u.actor.authorisation.bytes ≡ n.bytes)
 
 -- whether one own status may follow another: an active pack goes any way, a held one is supplied, a held, exported or
--- sampled one comes back or is stolen, a supplied or destroyed one is stolen at most, and a stolen one stays so (Articles
--- 12, 13, 22, 25 and 40)
+-- sampled one comes back or is stolen, a supplied or destroyed one is stolen at most, and a stolen one stays so
+-- (Articles 12, 13, 22, 25 and 40)
 abbrev pub may_become : Own → Own → Bool
 may_become own.Active own.Active = false
 may_become own.Active _ = true

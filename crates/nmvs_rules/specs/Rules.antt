@@ -145,8 +145,8 @@ status_reply k l = reply.StatusIs k.own l (onward_by k.own l) k.batch k.expiry
 abbrev pub decommission_reply : Known → BatchLock → ℕ → Reply
 decommission_reply k l n = if is_authentic k.own l then reply.Decommissioned else alert_on k l n
 
--- the reply to the handover of a known pack, an expired one too: it has to be held, by the same authorisation and in the
--- same premises, and its batch neither recalled nor withdrawn (own, after Articles 25 and 40)
+-- the reply to the handover of a known pack, an expired one too: it has to be held, by the same authorisation and in
+-- the same premises, and its batch neither recalled nor withdrawn (own, after Articles 25 and 40)
 abbrev pub handover_reply : Actor → Known → BatchLock → Reply
 handover_reply a k l =
     if not (is_free l) then reply.Refused refusal.Locked

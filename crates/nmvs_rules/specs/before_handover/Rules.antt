@@ -1,5 +1,5 @@
--- Who might ask what, and the reply of the rules, before a pack could be handed over. `may_ask` and `admitted_reply` have
--- changed since; the others are as in `specs/Rules`, over these two and the trail of then.
+-- Who might ask what, and the reply of the rules, before a pack could be handed over. `may_ask` and `admitted_reply`
+-- have changed since; the others are as in `specs/Rules`, over these two and the trail of then.
 use Rattle.std.specs.Prelude.{ℕ, ◌≡◌, Bool, true, false, List, [], ◌∷◌, ◌++◌, if◌then◌else◌}
 use Rattle.nmvs_identifier.specs.declared.pack.Pack.{Pack}
 use Rattle.nmvs_rules.specs.declared.actor.Actor.{Actor}

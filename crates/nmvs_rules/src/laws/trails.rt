@@ -37,8 +37,8 @@ pub fn parts()
     ensures { (keep : List ℕ → Bool) (t : List Entry) → IsLawful t → IsLawful (kept keep t) }
 {}
 
-/// A trail in which no question is a handover is lawful exactly where it was lawful before packs could be handed over, by
-/// the rules of then (`specs/before_handover`). So the exports of that time stay what they were.
+/// A trail in which no question is a handover is lawful exactly where it was lawful before packs could be handed over,
+/// by the rules of then (`specs/before_handover`). So the exports of that time stay what they were.
 pub fn old_trails()
     ensures { (t : List Entry) → IsFalse (list_any asks_handover t) → IsLawful t ↔ before_handover.IsLawful t }
 {}
