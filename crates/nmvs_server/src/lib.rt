@@ -15,6 +15,7 @@ mod exports;
 mod fault;
 mod launch;
 mod office;
+mod opened;
 mod opening;
 mod outcome;
 mod plan;

@@ -10,7 +10,7 @@ use crate::opening::Opening;
 use crate::rehearsal::LIMITS;
 use crate::{ClerkDesk, Clock, load_users};
 use boxcar::tag::Tag;
-use nmvs_desk::{EntryLedger, ReceiptLedger, Repository};
+use nmvs_desk::{EntryLedger, ReceiptLedger};
 use nmvs_directory::{Directory, Naming, Notice, Registrar};
 use nmvs_protocol::{Desk, serve};
 use nmvs_shard::Shard;
@@ -56,6 +56,16 @@ struct Seconds<'s> {
     rest: &'s [i64],
     gave: i64,
     asked: Tag,
+}
+
+impl<'s> Seconds<'s> {
+    fn new(seconds: &'s [i64]) -> Seconds<'s> {
+        Seconds {
+            rest: seconds,
+            gave: 0,
+            asked: Tag::empty(),
+        }
+    }
 }
 
 impl<'s> Clock for Seconds<'s> {
@@ -113,27 +123,13 @@ fn at_desk<'a, J: Naming, S: EntryLedger, C: ReceiptLedger, R: Wait + Abort>(
     requires named { (S.shards ≡ 1) × (C.clerks ≡ vec_len opening.windows) × (C.opening ≡ length opening.import.now) }
     requires few { vec_len opening.windows ≤ 8 }
 {
-    let Opening {
-        mut windows,
-        import,
-        entries,
-        receipts,
-    } = opening;
-    let alloc = *windows.allocator();
-    let opened = Repository::<_, S, C>::open(alloc, entries, receipts, 1, &mut windows, import);
-    let Ok((repository, mut clerks)) = opened else {
+    let alloc = *opening.windows.allocator();
+    let Ok(mut opened) = opening.open::<S, C>(alloc, 1) else {
         return Err(Fail::new("a repository"));
     };
-    let Some(clerk) = clerks.pop() else {
-        return Err(Fail::new("a clerk"));
-    };
-    let clock = Seconds {
-        rest: example.moments,
-        gave: 0,
-        asked: Tag::empty(),
-    };
-    let mut desk = ClerkDesk::new(rt, clerk, &repository, latest, clock);
-    let mut put = 0usize;
+    let clerk = opened.clerks.pop().ok_or("a clerk")?;
+    let clock = Seconds::new(example.moments);
+    let mut desk = ClerkDesk::new(rt, clerk, &opened.repository, latest, clock);
     for (line, answer) in example.lines {
         let wanted = format!(in *alloc; "{answer}\n")?;
         if line.starts_with("SUSPEND") {
@@ -143,16 +139,11 @@ fn at_desk<'a, J: Naming, S: EntryLedger, C: ReceiptLedger, R: Wait + Abort>(
             let said = asked(*alloc, &mut desk, line)?;
             assert_eq!(rt; said.as_slice(), wanted.as_bytes(), "{}", example.shows);
         }
-        if is_put(answer) {
-            put = put.saturating_add(1);
-        }
     }
-    assert_eq!(rt;
-        desk.into_clerk().receipts().len(),
-        put,
-        "{}",
-        example.shows
-    );
+    let answers = example.lines.iter().map(|(_, answer)| *answer);
+    let put = answers.filter(|answer| is_put(*answer)).count();
+    let clerk = desk.into_clerk();
+    assert_eq!(rt; clerk.receipts().len(), put, "{}", example.shows);
     Ok(())
 }
 
