@@ -28,7 +28,7 @@ pub struct Directory {
 }
 
 impl Directory {
-    ghost use Rattle.nmvs_directory.specs.Directory.{directory_book};
+    ghost use Rattle.nmvs_directory.specs.Directory.{directory_book, most_windows};
 
     /// Makes one. It takes no memory: it has no allocator to take it from.
     pub fn new() -> Directory {
@@ -48,7 +48,7 @@ impl Directory {
         windows: usize,
     ) -> Result<(Registrar<J, R, A>, Vec<Window<J, A>, A>), DirectoryFault>
         requires name { directory_book self ≡ J.book }
-        requires windows { (1 ≤ windows) × (windows ≤ 8) }
+        requires windows { (1 ≤ windows) × (windows ≤ most_windows) }
         ensures published { IfOk result (λ opened. published opened.0 ≡ []) }
         ensures pending { IfOk result (λ opened. pending opened.0 ≡ []) }
         ensures windows { IfOk result (λ opened. vec_len opened.1 ≡ windows) }

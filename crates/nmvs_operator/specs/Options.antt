@@ -1,5 +1,6 @@
 -- The ranges of the options (own).
 use Rattle.std.specs.Prelude.{◌≤◌, IfSome}
+use Rattle.nmvs_identifier.specs.Moment.{last_moment}
 use Rattle.nmvs_operator.specs.declared.options.Options.{Options}
 
 -- each number of a command line is in its range
@@ -8,4 +9,4 @@ pub record AreInRange (o : Options) : Type 0 where
   pub workers : (1 ≤ o.workers) × (o.workers ≤ 8)
   pub sessions : o.sessions ≤ 1_000_000
   pub port : (1 ≤ o.port) × (o.port ≤ 65_535)
-  pub moment : IfSome o.moment (λ m. m ≤ 4_102_444_799)
+  pub moment : IfSome o.moment (λ m. m ≤ last_moment)

@@ -1,12 +1,22 @@
 //! The command line.
 ghost use Rattle.std.specs.Prelude.{◌≤◌, IfOk, IfSome};
+ghost use Rattle.nmvs_identifier.specs.Moment.{last_moment};
 ghost use Rattle.nmvs_operator.specs.Options.{AreInRange};
 
 use crate::OptionFault;
 use clap::error::ErrorKind;
 use clap::{Arg, ArgAction, ArgMatches, Command, Error, value_parser};
-use nmvs_identifier::Moment;
+use nmvs_identifier::{LAST_MOMENT, Moment};
 use std::alloc::{AllocError, Global};
+
+/// The most shards: a repository has at most so many locks, each of a type of its own.
+const MOST_SHARDS: i64 = 8;
+
+/// The most workers: each asks by a window of the directory, which has at most so many.
+const MOST_WORKERS: i64 = 8;
+
+/// The most connections that a worker serves before it ends (own).
+const MOST_SESSIONS: i64 = 1_000_000;
 
 /// A command line that was taken (own).
 #[derive(Debug, Drop)]
@@ -65,7 +75,7 @@ fn command<'a>(alloc: Global) -> Result<Command<'a>, AllocError> {
         "moment",
         "Moment of every line in place of the clock, in seconds since 1970-01-01 UTC, 0 to 4102444799",
         0,
-        4_102_444_799,
+        LAST_MOMENT,
     );
     let stdin = Arg::new(alloc, "stdin")
         .long("stdin")
@@ -113,7 +123,7 @@ fn with_counts<'a>(alloc: Global, command: Command<'a>) -> Result<Command<'a>, A
         "shards",
         "Parts of the repository that are worked on at once, 1 to 8",
         1,
-        8,
+        MOST_SHARDS,
     )
     .default_value("8");
     let workers = number(
@@ -121,7 +131,7 @@ fn with_counts<'a>(alloc: Global, command: Command<'a>) -> Result<Command<'a>, A
         "workers",
         "Connections that are served at once, 1 to 8",
         1,
-        8,
+        MOST_WORKERS,
     )
     .default_value("4");
     let sessions = number(
@@ -129,7 +139,7 @@ fn with_counts<'a>(alloc: Global, command: Command<'a>) -> Result<Command<'a>, A
         "sessions",
         "Connections that each worker serves before it ends, 0 to 1000000; 0 is without end",
         0,
-        1_000_000,
+        MOST_SESSIONS,
     )
     .default_value("0");
     command.arg(shards)?.arg(workers)?.arg(sessions)
@@ -161,9 +171,9 @@ fn taken(alloc: Global, matches: &ArgMatches<'_>) -> Result<Options, OptionFault
         users: String::from_str(alloc, users)?,
         import: path_of(alloc, matches, "import")?,
         export: path_of(alloc, matches, "export")?,
-        shards: within(alloc, matches, "shards", 1, 8)? as usize,
-        workers: within(alloc, matches, "workers", 1, 8)? as usize,
-        sessions: within(alloc, matches, "sessions", 0, 1_000_000)?,
+        shards: within(alloc, matches, "shards", 1, MOST_SHARDS as u64)? as usize,
+        workers: within(alloc, matches, "workers", 1, MOST_WORKERS as u64)? as usize,
+        sessions: within(alloc, matches, "sessions", 0, MOST_SESSIONS as u64)?,
         port: within(alloc, matches, "port", 1, 65_535)? as u16,
         moment,
         stdin: matches.get_flag("stdin"),
@@ -183,9 +193,9 @@ fn path_of(
 }
 
 fn moment_of(alloc: Global, matches: &ArgMatches<'_>) -> Result<Moment, OptionFault>
-    ensures { IfOk result (λ m. m ≤ 4_102_444_799) }
+    ensures { IfOk result (λ m. m ≤ last_moment) }
 {
-    let seconds = within(alloc, matches, "moment", 0, 4_102_444_799)?;
+    let seconds = within(alloc, matches, "moment", 0, LAST_MOMENT as u64)?;
     Moment::new(seconds as i64).ok_or_else(|| unread(alloc))
 }
 

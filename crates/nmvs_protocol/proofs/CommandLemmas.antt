@@ -1,32 +1,24 @@
 -- The line of a command is read, and is the line of no other.
 use Rattle.std.proofs.Common.{◌≡◌, ◌≢◌, ◌&&◌, ◌<◌, not, ℕ, true, cond, List, [], ◌∷◌, length, get_or, take, drop, Some, None, Result, Ok, Err, refl, sym, ap, ◌∙◌, lit≤, codes}
-use Rattle.std.specs.Prelude.{IfOk, IsOkAnd, IsTrue, is_none}
+use Rattle.std.specs.Prelude.{IfOk, IsOkAnd, IsTrue}
+use Rattle.std.specs.Option.{is_some}
 use Rattle.std.specs.Str.{bytes_eq}
 use Rattle.std.specs.Result.{result_err}
 use Rattle.std.specs.List.{AllByRecursion}
 use Rattle.std.proofs.lemmas.Bool.{and_parts}
 use Rattle.nmvs_identifier.specs.Name.{Name, is_name}
 use Rattle.nmvs_rules.specs.declared.actor.Actor.{Actor}
-use Rattle.nmvs_rules.specs.declared.role.Role.{Role}
-use Rattle.nmvs_rules.specs.declared.role.Role.TheVariants as role
-use Rattle.nmvs_words.specs.Words.{role_word}
 use Rattle.nmvs_words.proofs.WordLemmas.{role_named-of_word, role_word-one}
+use Rattle.nmvs_words.proofs.PlainWords.{role_plain}
 use Rattle.nmvs_protocol.specs.declared.command.Command.{Command}
 use Rattle.nmvs_protocol.specs.declared.command.Command.TheVariants.{Enrol, Suspend}
 use Rattle.nmvs_protocol.specs.declared.command_fault.CommandFault.{CommandFault}
 use Rattle.nmvs_protocol.specs.declared.command_fault.CommandFault.TheVariants as fault
 use Rattle.nmvs_protocol.specs.Fields.{fields_in}
-use Rattle.nmvs_protocol.specs.Commands.{command_fields, command_line, enrol_fault, suspend_fault, fields_fault, first_command_fault, is_command, IsSameCommand}
+use Rattle.nmvs_protocol.specs.Commands.{command_fields, command_line, enrol_fault, suspend_fault, fields_fault, first_command_fault, is_role, is_command, IsSameCommand}
 use Rattle.nmvs_identifier.proofs.PlainTexts.{IsPlain, plain_name}
 use Rattle.nmvs_protocol.proofs.PlainLemmas.{IsPlainLine, plain_line, line_fault-plain}
 use Rattle.nmvs_protocol.proofs.FieldLemmas.{line_of_kept}
-
-role_plain : (r : Role) → IsPlain (role_word r)
-role_plain role.Holder = (lit≤ tt, lit≤ tt, refl)
-role_plain role.Manufacturer = (lit≤ tt, lit≤ tt, refl)
-role_plain role.Wholesaler = (lit≤ tt, lit≤ tt, refl)
-role_plain role.Pharmacy = (lit≤ tt, lit≤ tt, refl)
-role_plain role.Authority = (lit≤ tt, lit≤ tt, refl)
 
 abbrev AreNames : Name → Actor → Type 0
 AreNames user actor = (is_name user.bytes ≡ true) × (is_name actor.authorisation.bytes ≡ true) × (is_name actor.premises.bytes ≡ true)
@@ -67,11 +59,11 @@ same_command c d is_c is_d e = same_fields c d (sym (plain_command c is_c).field
 
 -- the line of a command has no fault
 first_fault-line : (c : Command) → is_command c ≡ true → first_command_fault (command_line c) ≡ None
-unfolding first_command_fault
+unfolding first_command_fault is_role
 first_fault-line (Enrol user actor) e =
-    let named = ap is_none (role_named-of_word actor.role) in
+    let named = ap is_some (role_named-of_word actor.role) in
     line_fault-plain fault.Long fault.Bytes fault.Fields fields_fault (command_fields (Enrol user actor)) (plain_command (Enrol user actor) e)
-    ∙ (λ i. cond (named i) (Some fault.Role) (cond (not (e i)) (Some fault.Name) None))
+    ∙ (λ i. cond (not (named i)) (Some fault.Role) (cond (not (e i)) (Some fault.Name) None))
 first_fault-line (Suspend user) e =
     line_fault-plain fault.Long fault.Bytes fault.Fields fields_fault (command_fields (Suspend user)) (plain_command (Suspend user) e)
     ∙ (λ i. cond (e i) None (Some fault.Name))

@@ -1,5 +1,6 @@
 -- A line is read in one way only.
 use Rattle.std.proofs.Common.{◌≡◌, ℕ, List, [], ◌∷◌, Option, Some, None, Ok, Err, refl, sym, ap, ◌∙◌}
+use Rattle.std.proofs.lemmas.Option.{same_Some}
 use Rattle.nmvs_identifier.specs.Texts.{Text}
 use Rattle.nmvs_rules.specs.declared.question.Question.{Question}
 use Rattle.nmvs_rules.specs.declared.question.Question.TheVariants as question
@@ -44,11 +45,8 @@ remade (question.Withdraw c b) = refl
 remade (question.Theft p) = refl
 remade (question.Audit p) = refl
 
-some_is : (q q' : Question) → Some q ≡ Some q' → q ≡ q'
-some_is q q' e = cc
-
 same_question : (q q' : Question) → kind_of q ≡ kind_of q' → texts_of q ≡ texts_of q' → q ≡ q'
-same_question q q' kind texts = some_is q q' (sym (remade q) ∙ (λ i. question_of (kind i) (texts i)) ∙ remade q')
+same_question q q' kind texts = same_Some q q' (sym (remade q) ∙ (λ i. question_of (kind i) (texts i)) ∙ remade q')
 
 same_ask : (a b : Ask) → IsSameAsk a b → a ≡ b
 same_ask (Put user q) (Put user' q') same =

@@ -1,5 +1,6 @@
 -- The one line of each command, and the first fault of a command (own).
-use Rattle.std.specs.Prelude.{ℕ, Bool, List, [], ◌∷◌, ◌&&◌, not, is_none, codes, Option, Some, None, if◌then◌else◌, ◌≡◌}
+use Rattle.std.specs.Prelude.{ℕ, Bool, List, [], ◌∷◌, ◌&&◌, not, codes, Option, Some, None, if◌then◌else◌, ◌≡◌}
+use Rattle.std.specs.Option.{is_some}
 use Rattle.std.specs.Str.{bytes_eq}
 use Rattle.nmvs_identifier.specs.Name.{is_name}
 use Rattle.nmvs_words.specs.Words.{role_word, role_named}
@@ -19,10 +20,14 @@ command_fields (Suspend user) = codes "SUSPEND" ∷ user.bytes ∷ []
 abbrev pub command_line : Command → List ℕ
 command_line c = joined (command_fields c)
 
+-- whether a text is the word of a role
+unfoldable pub is_role : List ℕ → Bool
+is_role word = is_some (role_named word)
+
 -- the first fault of an enrolment with these texts after its word
 abbrev pub enrol_fault : List (List ℕ) → Option CommandFault
 enrol_fault (user ∷ role ∷ authorisation ∷ premises ∷ []) =
-    if is_none (role_named role) then Some fault.Role
+    if not (is_role role) then Some fault.Role
     else if not (is_name user && is_name authorisation && is_name premises) then Some fault.Name
     else None
 enrol_fault _ = Some fault.Fields

@@ -2,13 +2,14 @@
 ghost use Rattle.std.specs.Prelude.{◌≡◌, ◌↔◌, [], ◌∷◌, map, IsTrue, false, IsOk, IfOk, IfErr, IsOkAnd, None, Some, codes};
 ghost use Rattle.std.specs.Result.{result_err};
 ghost use Rattle.nmvs_identifier.specs.Name.{is_name};
+ghost use Rattle.nmvs_words.specs.Words.{role_word};
 ghost use Rattle.nmvs_protocol.specs.declared.command.Command.{Command as TheCommand};
-ghost use Rattle.nmvs_protocol.specs.Commands.{command_line, command_fields, is_command, IsSameCommand, first_command_fault, fields_fault, enrol_fault, suspend_fault};
+ghost use Rattle.nmvs_protocol.specs.Commands.{command_line, command_fields, is_command, IsSameCommand, first_command_fault, fields_fault, is_role, enrol_fault, suspend_fault};
 
 use crate::fields::fields_of;
 use crate::{Command, CommandFault};
 use nmvs_identifier::Name;
-use nmvs_rules::Actor;
+use nmvs_rules::{Actor, Role};
 use nmvs_words::role_named;
 
 /// Reads a command, given without its LF: it is the line of the command that is read, and the line of every command
@@ -88,13 +89,21 @@ fn read_enrolment(
     ensures valid { IfOk result (λ command. IsTrue (is_command command)) }
     ensures fault { result_err result ≡ enrol_fault (user.now ∷ role.now ∷ authorisation.now ∷ premises.now ∷ []) }
 {
-    let role = role_named(role).ok_or(CommandFault::Role)?;
     let actor = Actor {
-        role,
+        role: read_role(role)?,
         authorisation: read_name(authorisation)?,
         premises: read_name(premises)?,
     };
     Ok(Command::Enrol(read_name(user)?, actor))
+}
+
+#[tactic(auto, unfolding(crate::specs::Commands::is_role))]
+fn read_role(word: &str) -> Result<Role, CommandFault>
+    ensures accepts { IsOk result ↔ IsTrue (is_role word.now) }
+    ensures kept { IfOk result (λ role. role_word role ≡ word.now) }
+    ensures fault { IfErr result (λ fault. (fault ≡ CommandFault.Role) × (is_role word.now ≡ false)) }
+{
+    role_named(word).ok_or(CommandFault::Role)
 }
 
 fn read_name(text: &str) -> Result<Name, CommandFault>

@@ -131,7 +131,7 @@ fn commands_are_read(rt: HostRuntime) {
 }
 
 #[test]
-fn texts_of_faults(rt: HostRuntime) {
+fn texts_of_faults_of_lines(rt: HostRuntime) {
     for (fault, text) in [
         (LineFault::Long, "the line has more than 200 bytes"),
         (
@@ -152,6 +152,10 @@ fn texts_of_faults(rt: HostRuntime) {
         let written = format!(in rt.alloc(); "{fault}").expect(&rt, "ample memory");
         assert!(rt; written.as_str() == text, "{text}");
     }
+}
+
+#[test]
+fn texts_of_faults_of_commands(rt: HostRuntime) {
     for (fault, text) in [
         (CommandFault::Long, "the command has more than 200 bytes"),
         (

@@ -1,4 +1,4 @@
-//! Who may ask what. Each `match` on a role names all five, so that a new role is decided on here before anything
+//! Who may ask what. Each `match` on a role names every one, so that a new role is decided on here before anything
 //! compiles.
 ghost use Rattle.std.specs.Prelude.{◌≡◌};
 ghost use Rattle.nmvs_rules.specs.Questions.{may_ask, may_decommission, is_handler, is_holder, is_authority};

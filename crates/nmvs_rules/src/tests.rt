@@ -181,7 +181,7 @@ fn questions_name_a_code_and_mostly_a_pack(rt: HostRuntime) {
 }
 
 #[test]
-fn verifications(rt: HostRuntime) {
+fn authentic_packs_expire_after_their_last_day(rt: HostRuntime) {
     let by = pharmacy(&rt);
     let verify = Question::Verify(pack(&rt));
     let batch = batch(&rt);
@@ -205,7 +205,12 @@ fn verifications(rt: HostRuntime) {
                 expired: true
             }
     );
+}
 
+#[test]
+fn verifications_of_packs_that_are_not_authentic(rt: HostRuntime) {
+    let by = pharmacy(&rt);
+    let verify = Question::Verify(pack(&rt));
     let unknown = decide_at(&rt, NEW_YEAR, &nothing(), &by, &verify);
     assert!(rt;
         unknown

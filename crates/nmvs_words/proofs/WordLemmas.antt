@@ -1,6 +1,7 @@
 -- Words and what they name.
 use Rattle.std.proofs.Common.{◌≡◌, ℕ, Bool, true, false, List, Some, refl, sym, ap, ◌∙◌}
 use Rattle.std.specs.Str.{bytes_eq}
+use Rattle.std.proofs.lemmas.Option.{same_Some}
 use Rattle.std.proofs.lemmas.Slice.Eq.{bytes_eq-Decides}
 use Rattle.nmvs_rules.specs.declared.role.Role.{Role}
 use Rattle.nmvs_rules.specs.declared.role.Role.TheVariants as role
@@ -24,9 +25,6 @@ use Rattle.nmvs_words.specs.declared.question_kind.QuestionKind.TheVariants.{Upl
 use Rattle.nmvs_words.specs.Kinds.{kind_word, kind_named, kinds}
 use Rattle.nmvs_words.specs.Words.{role_word, role_named, roles, own_word, own_named, lock_word, lock_named, onward_word, onward_named, cause_word, cause_named, validity_word, validity_named, flag_word, flag_named, refusal_numbered}
 
-some_is : {X : Type 0} (x y : X) → Some x ≡ Some y → x ≡ y
-some_is x y e = cc
-
 -- a kind is found by its word alone
 pub kind_named-word : (w : List ℕ) (kind : QuestionKind) → kind_named w ≡ Some kind → w ≡ kind_word kind
 kind_named-word w kind e = (bytes_eq-Decides w (kind_word kind)).0 (find-passes (λ k. bytes_eq w (kind_word k)) kinds kind e)
@@ -49,7 +47,7 @@ kind_named-of_word (OfBatch Withdraw) = refl
 
 -- different kinds have different words
 pub kind_word-one : (k k' : QuestionKind) → kind_word k ≡ kind_word k' → k ≡ k'
-kind_word-one k k' e = some_is k k' (sym (kind_named-of_word k) ∙ ap kind_named e ∙ kind_named-of_word k')
+kind_word-one k k' e = same_Some k k' (sym (kind_named-of_word k) ∙ ap kind_named e ∙ kind_named-of_word k')
 
 -- a role is found by its word alone
 pub role_named-word : (w : List ℕ) (r : Role) → role_named w ≡ Some r → w ≡ role_word r
@@ -65,7 +63,7 @@ role_named-of_word role.Authority = refl
 
 -- different roles have different words
 pub role_word-one : (r r' : Role) → role_word r ≡ role_word r' → r ≡ r'
-role_word-one r r' e = some_is r r' (sym (role_named-of_word r) ∙ ap role_named e ∙ role_named-of_word r')
+role_word-one r r' e = same_Some r r' (sym (role_named-of_word r) ∙ ap role_named e ∙ role_named-of_word r')
 
 -- each other word finds what it is the word of
 pub own_named-of_word : (x : Own) → own_named (own_word x) ≡ Some x

@@ -13,11 +13,10 @@ fn is_told(rt: &impl Abort, alloc: Global, answer: Answer<'_>, text: &str) -> bo
 }
 
 #[test]
-fn each_kind_of_reply_has_its_text(rt: HostRuntime) {
+fn replies_with_a_batch_or_a_cause_have_their_texts(rt: HostRuntime) {
     let batch = Batch::read("ABC/DEF%GHI/JKL%MN12").expect(&rt, "a batch number");
     let expiry = Expiry::read("280200").expect(&rt, "an expiry date");
     for (reply, text) in [
-        (Reply::Uploaded, "UPLOADED\n"),
         (
             Reply::Authentic {
                 batch,
@@ -44,6 +43,18 @@ fn each_kind_of_reply_has_its_text(rt: HostRuntime) {
             },
             "STATUS DESTROYED WITHDRAWN AUTHORITIES ABC/DEF%GHI/JKL%MN12 280200\n",
         ),
+    ] {
+        assert!(rt;
+            is_told(&rt, rt.alloc(), Answer::Replied(reply), text),
+            "{text}"
+        );
+    }
+}
+
+#[test]
+fn replies_of_a_word_a_number_or_a_refusal_have_their_texts(rt: HostRuntime) {
+    for (reply, text) in [
+        (Reply::Uploaded, "UPLOADED\n"),
         (Reply::NoPack, "NOPACK\n"),
         (Reply::Decommissioned, "DECOMMISSIONED\n"),
         (Reply::Reverted, "REVERTED\n"),
