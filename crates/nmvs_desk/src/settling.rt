@@ -6,9 +6,6 @@ ghost use Rattle.nmvs_desk.specs.Locks.{IsNumbered};
 ghost use Rattle.nmvs_desk.specs.Settlement.{places, IsFault, IsOwned, Rises};
 ghost use Rattle.nmvs_desk.specs.Trails.{IsKept, AreTrails};
 
-#[cfg(test)]
-mod tests;
-
 use crate::claims::Claims;
 use crate::judging::{judge_all, take_owners};
 use crate::lock::Slot;

@@ -14,19 +14,15 @@ use std::sync::ledger::Blank;
 use std::test::*;
 use std::thread::Threads;
 
-/// What a test does in a repository over this kind of memory.
-pub trait Scene<B: Allocator> {
-    /// Comes before the repository is opened.
-    fn prepare(&mut self) {}
-
-    /// Is told that the repository was not opened, and how many windows are left. Says whether the scene is at its end,
-    /// and not to be tried once more.
+/// What a test does in a repository.
+pub trait Scene {
+    /// Is told that the repository was not opened, and how many windows are left.
     fn refused<R: Abort>(
         &mut self,
         _rt: &R,
         fault: OpenFault,
         _windows: usize,
-    ) -> Result<bool, Fail> {
+    ) -> Result<(), Fail> {
         Err(Fail::from(fault))
     }
 
@@ -39,9 +35,9 @@ pub trait Scene<B: Allocator> {
     >(
         &mut self,
         rt: &R,
-        registrar: &mut Registrar<J, &R, &'a B>,
-        repository: &Repository<'a, B, S, C>,
-        clerks: &mut [Clerk<'a, B, J, C>],
+        registrar: &mut Registrar<J, &R, &'a Global>,
+        repository: &Repository<'a, Global, S, C>,
+        clerks: &mut [Clerk<'a, Global, J, C>],
     ) -> Result<(), Fail>;
 }
 
@@ -56,7 +52,7 @@ pub struct Stage<'s> {
 }
 
 /// Plays the scene in a repository of its own.
-pub fn play<P: Scene<Global>, R: Threads + Wait + Abort + Sync>(
+pub fn play<P: Scene, R: Threads + Wait + Abort + Sync>(
     rt: &R,
     alloc: &Global,
     stage: &Stage,
@@ -96,7 +92,7 @@ pub fn enrol_all<'a, B: Allocator, J: Naming, R: Wait + Abort>(
     Ok(())
 }
 
-fn in_directory<J: Naming + Send + Sync, P: Scene<Global>, R: Threads + Wait + Abort + Sync>(
+fn in_directory<J: Naming + Send + Sync, P: Scene, R: Threads + Wait + Abort + Sync>(
     rt: &R,
     alloc: &Global,
     stage: &Stage,
@@ -109,8 +105,7 @@ fn in_directory<J: Naming + Send + Sync, P: Scene<Global>, R: Threads + Wait + A
     let opening = opening_of(rt, alloc, stage.opening)?;
     let (mut registrar, mut windows) = directory.open::<J, _, _>(rt, alloc, stage.clerks)?;
     enrol_all(rt, &mut registrar, stage.users)?;
-    scene.prepare();
-    let played = tried(
+    let played = opened(
         rt,
         stage.shards,
         scene,
@@ -122,67 +117,49 @@ fn in_directory<J: Naming + Send + Sync, P: Scene<Global>, R: Threads + Wait + A
     played
 }
 
-/// Opens the repository and plays in it, at a second try if need be.
-pub fn tried<
-    'a,
-    J: Naming + Send + Sync,
-    B: Allocator,
-    P: Scene<B>,
-    R: Threads + Wait + Abort + Sync,
->(
+/// Opens the repository, and plays in it.
+fn opened<'a, J: Naming + Send + Sync, P: Scene, R: Threads + Wait + Abort + Sync>(
     rt: &R,
     shards: usize,
     scene: &mut P,
-    registrar: &mut Registrar<J, &R, &'a B>,
-    windows: &mut Vec<Window<J, &'a B>, &'a B>,
-    opening: &Shard<&'a B>,
+    registrar: &mut Registrar<J, &R, &'a Global>,
+    windows: &mut Vec<Window<J, &'a Global>, &'a Global>,
+    opening: &Shard<&'a Global>,
 ) -> Result<(), Fail>
     requires few { vec_len windows.old ≤ 8 }
 {
     let (entries, receipts) = (Blank::new(9), Blank::new(9));
-    if in_repository::<J, Brand, Brand, _, _, _>(
+    in_repository::<J, Brand, Brand, _, _>(
         rt, shards, scene, registrar, windows, opening, entries, receipts,
-    )? {
-        return Ok(());
-    }
-    let (entries, receipts) = (Blank::new(9), Blank::new(9));
-    let ended = in_repository::<J, Brand, Brand, _, _, _>(
-        rt, shards, scene, registrar, windows, opening, entries, receipts,
-    )?;
-    assert!(rt; ended);
-    Ok(())
+    )
 }
 
-/// Tells whether the scene has come to its end.
 fn in_repository<
     'a,
     J: Naming + Send + Sync,
     S: EntryLedger + Send + Sync,
     C: ReceiptLedger + Send + Sync,
-    B: Allocator,
-    P: Scene<B>,
+    P: Scene,
     R: Threads + Wait + Abort + Sync,
 >(
     rt: &R,
     shards: usize,
     scene: &mut P,
-    registrar: &mut Registrar<J, &R, &'a B>,
-    windows: &mut Vec<Window<J, &'a B>, &'a B>,
-    opening: &Shard<&'a B>,
+    registrar: &mut Registrar<J, &R, &'a Global>,
+    windows: &mut Vec<Window<J, &'a Global>, &'a Global>,
+    opening: &Shard<&'a Global>,
     entries: Blank,
     receipts: Blank,
-) -> Result<bool, Fail>
+) -> Result<(), Fail>
     requires entries { (entries.name ≡ S.name) × (entries.parts ≡ S.parts) × (S.parts ≡ 9) }
     requires receipts { (receipts.name ≡ C.name) × (receipts.parts ≡ C.parts) × (C.parts ≡ 9) }
     requires named { (S.shards ≡ shards) × (C.clerks ≡ vec_len windows.old) × (C.opening ≡ length opening.now) }
     requires few { vec_len windows.old ≤ 8 }
-    ensures few { vec_len windows.new ≤ 8 }
 {
     let alloc = *windows.allocator();
     match Repository::<_, S, C>::open(alloc, entries, receipts, shards, windows, opening) {
         Ok((repository, mut clerks)) => {
-            scene.play(rt, registrar, &repository, clerks.as_mut_slice())?;
-            Ok(true)
+            scene.play(rt, registrar, &repository, clerks.as_mut_slice())
         }
         Err(fault) => scene.refused(rt, fault, windows.len()),
     }

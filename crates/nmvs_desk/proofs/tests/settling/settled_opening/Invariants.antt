@@ -1,5 +1,5 @@
 use Rattle.std.proofs.Common.{length}
-use Rattle.nmvs_desk.proofs.settling.tests.settled_opening.Given as goal
+use Rattle.nmvs_desk.proofs.tests.settling.settled_opening.Given as goal
 
 -- the ledgers that were just made
 abbrev pub ghosts-settled-S-EntryLedger : goal.ghosts-settled-S-EntryLedger

@@ -1,0 +1,88 @@
+//! What the settlement of an opening hands out.
+ghost use Rattle.std.specs.Prelude.{◌≡◌, length, vec_len};
+
+use super::market::{P, Q};
+use super::stage::opening_of;
+use crate::{EntryLedger, Owner, ReceiptLedger, Repository, Settled, settle};
+use nmvs_directory::Window;
+use nmvs_shard::Shard;
+use std::alloc::Global;
+use std::marker::Brand;
+use std::process::Abort;
+use std::rt::HostRuntime;
+use std::sync::ledger::Blank;
+use std::test::*;
+
+/// Settles a repository of two shards, in which nobody asked.
+fn settled<'a, S: EntryLedger, C: ReceiptLedger>(
+    alloc: &'a Global,
+    entries: Blank,
+    receipts: Blank,
+    windows: &mut Vec<Window<Brand, &'a Global>, &'a Global>,
+    opening: &Shard<&'a Global>,
+) -> Result<Settled<'a, Global>, Fail>
+    requires entries { (entries.name ≡ S.name) × (entries.parts ≡ S.parts) × (S.parts ≡ 9) }
+    requires receipts { (receipts.name ≡ C.name) × (receipts.parts ≡ C.parts) × (C.parts ≡ 9) }
+    requires named { (S.shards ≡ 2) × (C.clerks ≡ 0) × (C.opening ≡ length opening.now) }
+    requires nobody { vec_len windows.old ≡ 0 }
+{
+    let (repository, clerks) = Repository::<_, S, C>::open(
+        alloc, entries, receipts, 2, windows, opening,
+    )?;
+    match settle(alloc, repository, clerks) {
+        Ok(settled) => Ok(settled),
+        Err((fault, _)) => Err(Fail::from(fault)),
+    }
+}
+
+fn settled_opening<'a>(
+    rt: &impl Abort,
+    alloc: &'a Global,
+    codes: &[&str],
+) -> Result<Settled<'a, Global>, Fail> {
+    let opening = opening_of(rt, alloc, codes)?;
+    let mut windows = Vec::new(alloc);
+    let (entries, receipts) = (Blank::new(9), Blank::new(9));
+    settled::<Brand, Brand>(alloc, entries, receipts, &mut windows, &opening)
+}
+
+/// The owners of both shards' entries are these receipts of the importer.
+fn is_handed_out(rt: &impl Abort, settled: &Settled<'_, Global>, owners: [&[Owner]; 2]) {
+    assert_eq!(rt;
+        (
+            settled.shards.len(),
+            settled.receipts.len(),
+            settled.owners.len()
+        ),
+        (2, 1, 2)
+    );
+    for shard in 0..2 {
+        let trail = settled.shards[shard].trail();
+        assert_eq!(rt; trail.len(), owners[shard].len());
+        assert_eq!(rt; settled.owners[shard].owners(), owners[shard]);
+    }
+}
+
+#[test]
+fn without_an_entry_the_trails_are_empty(rt: HostRuntime) -> Result<(), Fail> {
+    let alloc = rt.alloc();
+    let settled = settled_opening(&rt, &alloc, &[])?;
+    is_handed_out(&rt, &settled, [&[], &[]]);
+    Ok(())
+}
+
+#[test]
+fn an_opening_belongs_to_the_importer(rt: HostRuntime) -> Result<(), Fail> {
+    let alloc = rt.alloc();
+    let settled = settled_opening(&rt, &alloc, &[Q, P])?;
+    let first = Owner {
+        clerk: 0,
+        receipt: 0,
+    };
+    let second = Owner {
+        clerk: 0,
+        receipt: 1,
+    };
+    is_handed_out(&rt, &settled, [&[second], &[first]]);
+    Ok(())
+}
