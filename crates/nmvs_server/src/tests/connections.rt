@@ -3,7 +3,6 @@ use super::examples::NEW_YEAR;
 use crate::{Console, Options, Outcome, run};
 use nmvs_identifier::Moment;
 use nmvs_stream::Device;
-use std::alloc::{AllocError, Global};
 use std::cell::Cell;
 use std::io;
 use std::io::{ErrorKind, Read, Write};
@@ -87,9 +86,10 @@ impl<'s> Read for Script<'s> {
     }
 }
 
-/// Two shards, and two workers that serve a connection each.
-fn options(alloc: Global) -> Result<Options, AllocError> {
-    Ok(Options {
+#[test]
+fn two_connections_are_served_at_once(rt: HostRuntime) -> Result<(), Fail> {
+    let alloc = rt.alloc();
+    let options = Options {
         users: String::from_str(alloc, "/dev/null")?,
         import: None,
         export: None,
@@ -99,13 +99,7 @@ fn options(alloc: Global) -> Result<Options, AllocError> {
         port: 7161,
         moment: Moment::new(NEW_YEAR),
         stdin: false,
-    })
-}
-
-#[test]
-fn two_connections_are_served_at_once(rt: HostRuntime) -> Result<(), Fail> {
-    let alloc = rt.alloc();
-    let options = options(alloc)?;
+    };
     let listener = TcpListener::bind(&rt, "127.0.0.1:0")?;
     let address = listener.local_addr()?;
     let port = address.port();
