@@ -169,6 +169,7 @@ impl<'a, B: Allocator, J: Naming, C: ReceiptLedger> Clerk<'a, B, J, C> {
         }
         Ok(answer?)
     }
+
     /// The receipts, and the clerk's share. Its window is let go.
     pub(crate) fn into_parts(self) -> (Vec<Receipt, &'a B>, Share<C>)
         ensures receipts { result.0.items ≡ self.entry.receipts }
