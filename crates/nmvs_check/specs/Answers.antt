@@ -8,6 +8,7 @@ use Rattle.nmvs_rules.specs.declared.entry.Entry.{Entry}
 use Rattle.nmvs_rules.specs.Questions.{code_of}
 use Rattle.nmvs_rules.specs.Trail.{is_about}
 use Rattle.nmvs_record.specs.Export.{export_text}
+use Rattle.nmvs_record.specs.Lines.{Imported, newer}
 use Rattle.nmvs_record.specs.Report.{product_line, report_text}
 use Rattle.nmvs_check.specs.declared.asked.Asked.{Asked}
 use Rattle.nmvs_check.specs.declared.asked.Asked.TheVariants as asked
@@ -20,15 +21,17 @@ with_code seen c = if list_any (same_text c) seen then seen else seen ++ c ∷ [
 abbrev pub codes_named : List Entry → List ProductCode
 codes_named t = fold (λ seen e. with_code seen (code_of e.question)) [] t
 
--- how many entries there are, and a line for each product code
-abbrev pub summary_text : List Entry → List ℕ
-summary_text t = codes "LAWFUL " ++ (decimal (length t) ++ 10 ∷ flat_map (product_line t) (codes_named t))
+-- how many lines there are, how many of them in each version, and a line for each product code
+abbrev pub summary_text : Imported → List ℕ
+summary_text it =
+    codes "LAWFUL " ++ (decimal (length it.trail) ++ (codes "\nVERSION 1 " ++ (decimal it.older ++ (codes "\nVERSION 2 " ++ (decimal (newer it)
+    ++ 10 ∷ flat_map (product_line it.trail) (codes_named it.trail))))))
 
 -- how many entries are about a pack, and their lines
 abbrev pub audit_text : List Entry → Pack → List ℕ
 audit_text t p = codes "SHOWN " ++ (decimal (length (filter (is_about p) t)) ++ 10 ∷ export_text (filter (is_about p) t))
 
-abbrev pub answer_text : List Entry → Asked → List ℕ
-answer_text t asked.Summary = summary_text t
-answer_text t (asked.Report c) = report_text t c
-answer_text t (asked.Audit p) = audit_text t p
+abbrev pub answer_text : Imported → Asked → List ℕ
+answer_text it asked.Summary = summary_text it
+answer_text it (asked.Report c) = report_text it.trail c
+answer_text it (asked.Audit p) = audit_text it.trail p

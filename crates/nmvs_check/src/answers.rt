@@ -8,34 +8,39 @@ ghost use Rattle.nmvs_check.specs.Answers as answers;
 use crate::asked::Asked;
 use indexmap::IndexSet;
 use nmvs_identifier::{Pack, ProductCode};
-use nmvs_record::{entry_line, product_line, report};
+use nmvs_record::{Importer, entry_line, product_line, report};
 use nmvs_rules::Entry;
 use nmvs_shard::Shard;
 use std::alloc::{AllocError, Global};
 
-/// The text that is told of the trail of a shard, each line with its LF.
+/// The text that is told of what was imported, each line with its LF.
 ///
 /// # Errors
 ///
 /// There is no memory for the text.
 pub(crate) fn answer_text(
     alloc: Global,
-    shard: &Shard<Global>,
+    importer: &Importer<Global>,
     asked: &Asked,
 ) -> Result<String, AllocError>
-    ensures { IfOk result (λ text. string_bytes text ≡ answers.answer_text shard.now asked.now) }
+    ensures { IfOk result (λ text. string_bytes text ≡ answers.answer_text importer.now asked.now) }
 {
     match asked {
-        Asked::Summary => summary(alloc, shard),
-        Asked::Report(code) => report(alloc, shard, code),
-        Asked::Audit(pack) => audit(alloc, shard, pack),
+        Asked::Summary => summary(alloc, importer),
+        Asked::Report(code) => report(alloc, importer.shard(), code),
+        Asked::Audit(pack) => audit(alloc, importer.shard(), pack),
     }
 }
 
-fn summary(alloc: Global, shard: &Shard<Global>) -> Result<String, AllocError>
-    ensures { IfOk result (λ text. string_bytes text ≡ answers.summary_text shard.now) }
+fn summary(alloc: Global, importer: &Importer<Global>) -> Result<String, AllocError>
+    ensures { IfOk result (λ text. string_bytes text ≡ answers.summary_text importer.now) }
 {
-    let mut text = format!(in alloc; "LAWFUL {}\n", shard.trail().len())?;
+    let shard = importer.shard();
+    let (older, newer) = (importer.older(), importer.newer());
+    let mut text = format!(in alloc;
+        "LAWFUL {}\nVERSION 1 {older}\nVERSION 2 {newer}\n",
+        shard.trail().len()
+    )?;
     let codes = codes_named(alloc, shard.trail())?;
     append_products(alloc, shard, codes.as_slice(), &mut text)?;
     Ok(text)

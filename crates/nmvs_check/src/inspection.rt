@@ -1,7 +1,7 @@
 //! The check of an export.
-ghost use Rattle.std.specs.Prelude.{◌≡◌, List, false, string_bytes, IfOk, IfErr};
-ghost use Rattle.nmvs_rules.specs.declared.entry.Entry.{Entry as AnEntry};
+ghost use Rattle.std.specs.Prelude.{◌≡◌, false, string_bytes, IfOk, IfErr};
 ghost use Rattle.nmvs_record.specs.declared.finding.Finding.{Finding as AFinding};
+ghost use Rattle.nmvs_record.specs.Lines.{Imported};
 ghost use Rattle.nmvs_record.specs.Import.{Imports, Fails};
 ghost use Rattle.nmvs_check.specs.Answers as answers;
 
@@ -12,7 +12,7 @@ use nmvs_record::examine;
 use nmvs_stream::Source;
 use std::alloc::Global;
 
-/// Reads an export to its end, and gives the text that is told of its trail.
+/// Reads an export to its end, and gives the text that is told of it.
 ///
 /// # Errors
 ///
@@ -25,12 +25,12 @@ pub(crate) fn inspect<R: Source>(
     reads: u64,
 ) -> Result<String, InspectFault>
     requires source_open { (R.told source.old).ended ≡ false }
-    ensures lawful { IfOk result (λ text. (t : List AnEntry) × Imports (R.told source.old) (R.told source.new) t × (string_bytes text ≡ answers.answer_text t asked.now)) }
+    ensures lawful { IfOk result (λ text. (it : Imported) × Imports (R.told source.old) (R.told source.new) it × (string_bytes text ≡ answers.answer_text it asked.now)) }
     ensures found { IfErr result (λ fault. (finding : AFinding) → fault ≡ InspectFault.Found finding → Fails (R.told source.old) (R.told source.new) reads finding) }
 {
     match examine(alloc, alloc, source, reads) {
         Err(finding) => Err(InspectFault::Found(finding)),
-        Ok(shard) => match answer_text(alloc, &shard, asked) {
+        Ok(importer) => match answer_text(alloc, &importer, asked) {
             Ok(text) => Ok(text),
             Err(_) => Err(InspectFault::Memory),
         },

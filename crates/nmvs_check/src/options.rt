@@ -31,7 +31,8 @@ impl From<AllocError> for OptionFault {
 
 const ABOUT: &str =
     "Checks an export of a medicines verification repository: reads it line by line, and judges each stored reply again \
-    by the rules. Of a lawful export it tells LAWFUL, the number of lines, and a line for each product code.";
+    by the rules. Of a lawful export it tells LAWFUL, the number of lines, how many of them are of which version, and \
+    a line for each product code.";
 
 const STATUS: &str =
     "The status is 0 where the export is lawful, 1 where it is not or cannot be read, with the reason on standard \

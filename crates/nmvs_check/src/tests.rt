@@ -11,12 +11,12 @@ use std::test::Fail;
 
 /// The worked example of docs/INSPECTING.md.
 const EXPORT: &str =
-    r#"[1767225600,"mah1","HOLDER","MAH-1","HQ",["UPLOAD","09506000134352","SN1","B1","280200"],["UPLOADED"]]
-[1767225600,"ph1","PHARMACY","PH-1","P1",["HOLD","09506000134352","SN1"],["DECOMMISSIONED"]]
-[1767225600,"mah1","HOLDER","MAH-1","HQ",["RECALL","09506000134352","B1"],["LOCKED",0]]
-[1767225600,"ph1","PHARMACY","PH-1","P1",["REVERT","09506000134352","SN1"],["REFUSED",7]]
-[1767225600,"ph1","PHARMACY","PH-1","P1",["VERIFY","09506000134352","SN1"],["ALERT","RECALLED","UNFLAGGED",1]]
-[1767225600,"au1","AUTHORITY","AU-1","A1",["STATUS","09506000134352","SN1"],["STATUS","HELD","RECALLED","DISPOSAL","B1","280200"]]
+    r#"[2,1767225600,"mah1","HOLDER","MAH-1","HQ",["UPLOAD","09506000134352","SN1","B1","280200"],["UPLOADED"]]
+[2,1767225600,"ph1","PHARMACY","PH-1","P1",["HOLD","09506000134352","SN1"],["DECOMMISSIONED"]]
+[2,1767225600,"mah1","HOLDER","MAH-1","HQ",["RECALL","09506000134352","B1"],["LOCKED",0]]
+[2,1767225600,"ph1","PHARMACY","PH-1","P1",["REVERT","09506000134352","SN1"],["REFUSED",7]]
+[2,1767225600,"ph1","PHARMACY","PH-1","P1",["VERIFY","09506000134352","SN1"],["ALERT","RECALLED","UNFLAGGED",1]]
+[2,1767225600,"au1","AUTHORITY","AU-1","A1",["STATUS","09506000134352","SN1"],["STATUS","HELD","RECALLED","DISPOSAL","B1","280200"]]
 "#;
 
 /// What is told of these bytes, or why nothing is.
@@ -46,10 +46,10 @@ fn a_lawful_export_is_summed_up(rt: HostRuntime) -> Result<(), Fail> {
     let text = told(rt.alloc(), EXPORT, &Asked::Summary)?;
     assert_eq!(rt;
         text.as_str(),
-        "LAWFUL 6\nPRODUCT 09506000134352 HOLDER MAH-1 ALERTS 1 FLAGGED 0\n"
+        "LAWFUL 6\nVERSION 1 0\nVERSION 2 6\nPRODUCT 09506000134352 HOLDER MAH-1 ALERTS 1 FLAGGED 0\n"
     );
     let text = told(rt.alloc(), "", &Asked::Summary)?;
-    assert_eq!(rt; text.as_str(), "LAWFUL 0\n");
+    assert_eq!(rt; text.as_str(), "LAWFUL 0\nVERSION 1 0\nVERSION 2 0\n");
     Ok(())
 }
 
@@ -62,7 +62,7 @@ fn product_codes_come_in_order_of_first_appearance(rt: HostRuntime) -> Result<()
     let text = told(rt.alloc(), &line, &Asked::Summary)?;
     assert_eq!(rt;
         text.as_str(),
-        "LAWFUL 7\nPRODUCT 04012345678901 HOLDER - ALERTS 1 FLAGGED 1\n\
+        "LAWFUL 7\nVERSION 1 1\nVERSION 2 6\nPRODUCT 04012345678901 HOLDER - ALERTS 1 FLAGGED 1\n\
         PRODUCT 09506000134352 HOLDER MAH-1 ALERTS 1 FLAGGED 0\n"
     );
     Ok(())
@@ -82,7 +82,7 @@ fn a_product_code_and_a_pack_are_looked_up(rt: HostRuntime) -> Result<(), Fail> 
         serial: serial(&rt, "SN1"),
     };
     let text = told(rt.alloc(), EXPORT, &Asked::Audit(pack))?;
-    assert!(rt; text.starts_with("SHOWN 5\n[1767225600,\"mah1\""));
+    assert!(rt; text.starts_with("SHOWN 5\n[2,1767225600,\"mah1\""));
     assert!(rt; text.ends_with("\"B1\",\"280200\"]]\n"));
     let other = Pack {
         code,
@@ -102,14 +102,19 @@ fn what_is_wrong_with_a_line_is_told(rt: HostRuntime) -> Result<(), Fail> {
             "line 5 is unlawful: stored ALERT RECALLED FLAGGED 1, the rules give ALERT RECALLED UNFLAGGED 1",
         ),
         (
-            "[1767225600,\"au1\"",
-            "[1767225600,\"au1",
+            "[2,1767225600,\"au1\"",
+            "[2,1767225600,\"au1",
             "line 6 is no entry line: no JSON",
         ),
         (
             "DECOMMISSIONED",
             "decommissioned",
             "line 2 is no entry line: not the shape of an entry",
+        ),
+        (
+            "[2,1767225600,\"au1\"",
+            "[3,1767225600,\"au1\"",
+            "line 6 is no entry line: an unknown version",
         ),
         (
             "\"UPLOADED\"]]\n",
