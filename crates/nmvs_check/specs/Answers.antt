@@ -21,11 +21,14 @@ with_code seen c = if list_any (same_text c) seen then seen else seen ++ c ∷ [
 abbrev pub codes_named : List Entry → List ProductCode
 codes_named t = fold (λ seen e. with_code seen (code_of e.question)) [] t
 
--- how many lines there are, how many of them in each version, and a line for each product code
+-- how many lines there are, and how many of them in each version
+abbrev pub counts_text : Imported → List ℕ
+counts_text it =
+    codes "LAWFUL " ++ (decimal (length it.trail) ++ (codes "\nVERSION 1 " ++ (decimal it.older ++ (codes "\nVERSION 2 " ++ (decimal (newer it) ++ codes "\n")))))
+
+-- these counts, and a line for each product code
 abbrev pub summary_text : Imported → List ℕ
-summary_text it =
-    codes "LAWFUL " ++ (decimal (length it.trail) ++ (codes "\nVERSION 1 " ++ (decimal it.older ++ (codes "\nVERSION 2 " ++ (decimal (newer it)
-    ++ 10 ∷ flat_map (product_line it.trail) (codes_named it.trail))))))
+summary_text it = counts_text it ++ flat_map (product_line it.trail) (codes_named it.trail)
 
 -- how many entries are about a pack, and their lines
 abbrev pub audit_text : List Entry → Pack → List ℕ

@@ -36,14 +36,19 @@ fn summary(alloc: Global, importer: &Importer<Global>) -> Result<String, AllocEr
     ensures { IfOk result (λ text. string_bytes text ≡ answers.summary_text importer.now) }
 {
     let shard = importer.shard();
-    let (older, newer) = (importer.older(), importer.newer());
-    let mut text = format!(in alloc;
-        "LAWFUL {}\nVERSION 1 {older}\nVERSION 2 {newer}\n",
-        shard.trail().len()
-    )?;
+    let mut text = counts_text(alloc, importer)?;
     let codes = codes_named(alloc, shard.trail())?;
     append_products(alloc, shard, codes.as_slice(), &mut text)?;
     Ok(text)
+}
+
+/// How many lines there are, and how many of them in each version.
+fn counts_text(alloc: Global, importer: &Importer<Global>) -> Result<String, AllocError>
+    ensures { IfOk result (λ text. string_bytes text ≡ answers.counts_text importer.now) }
+{
+    let lines = importer.shard().trail().len();
+    let (older, newer) = (importer.older(), importer.newer());
+    format!(in alloc; "LAWFUL {lines}\nVERSION 1 {older}\nVERSION 2 {newer}\n")
 }
 
 /// The product codes that the entries name, in order of first appearance.
