@@ -9,7 +9,7 @@ use crate::{EntryLedger, Receipt, ReceiptLedger, SettleFault};
 use nmvs_identifier::{Batch, Expiry, Moment, Name, Pack, ProductCode, Serial};
 use nmvs_rules::{Actor, Entry, Question, Role};
 use nmvs_shard::Shard;
-use std::alloc::{AllocError, Allocator, Global};
+use std::alloc::{Allocator, Global};
 use std::marker::Brand;
 use std::process::Abort;
 use std::sync::ledger::Blank;
@@ -47,17 +47,16 @@ fn verification(rt: &impl Abort) -> Question {
 }
 
 /// The trail of an upload and a verification of one pack.
-fn upload_and_verification<'a>(
-    rt: &impl Abort,
-    alloc: &'a Global,
-) -> Result<Shard<&'a Global>, AllocError> {
+fn upload_and_verification<'a>(rt: &impl Abort, alloc: &'a Global) -> Shard<&'a Global> {
     let moment = Moment::new(1_767_225_600).expect(rt, "a moment");
     let holder = actor(rt, Role::Holder, "MAH-1", "HQ");
     let pharmacy = actor(rt, Role::Pharmacy, "PH-1", "P1");
     let mut shard = Shard::new(alloc);
-    shard.step(moment, &name(rt, "mah1"), &holder, &upload(rt))?;
-    shard.step(moment, &name(rt, "ph1"), &pharmacy, &verification(rt))?;
-    Ok(shard)
+    let uploaded = shard.step(moment, &name(rt, "mah1"), &holder, &upload(rt));
+    uploaded.expect(rt, "memory");
+    let verified = shard.step(moment, &name(rt, "ph1"), &pharmacy, &verification(rt));
+    verified.expect(rt, "memory");
+    shard
 }
 
 /// Judges the receipts of clerk 1, and then those of clerk 2.
@@ -82,45 +81,51 @@ fn receipt(place: usize, entry: &Entry) -> Receipt {
     }
 }
 
+/// What is told of the receipts of clerk 1 and then those of clerk 2 is this.
+fn is_judged<'a, S: EntryLedger>(
+    rt: &impl Abort,
+    locked: &Vec<Locked<'a, Global, S>, &'a Global>,
+    first: &[Receipt],
+    second: &[Receipt],
+    told: Result<(), SettleFault>,
+)
+    requires { length locked.now.items ≤ 8 }
+{
+    let alloc = *locked.allocator();
+    assert!(rt; judge_both(alloc, locked, first, second) == told);
+}
+
+fn order(clerk: usize, receipt: usize) -> Result<(), SettleFault> {
+    Err(SettleFault::Order { clerk, receipt })
+}
+
+fn double(clerk: usize, receipt: usize) -> Result<(), SettleFault> {
+    Err(SettleFault::Double { clerk, receipt })
+}
+
+fn stranger(clerk: usize, receipt: usize) -> Result<(), SettleFault> {
+    Err(SettleFault::Stranger { clerk, receipt })
+}
+
 /// Judges lists of receipts over a shard with two entries.
 fn judge_lists<'a, S: EntryLedger>(
     rt: &impl Abort,
-    alloc: &'a Global,
     locked: &Vec<Locked<'a, Global, S>, &'a Global>,
     x: &Entry,
     y: &Entry,
 )
     requires { length locked.now.items ≤ 8 }
 {
-    let nothing: [Receipt; 0] = [];
     let first = [receipt(0, x)];
     let second = [receipt(1, y)];
     let falling = [receipt(1, y), receipt(0, x)];
-    let past = [receipt(2, x)];
-    let other = [receipt(0, y)];
     let other_later = [receipt(1, y), receipt(0, y)];
-    let order = SettleFault::Order {
-        clerk: 1,
-        receipt: 1,
-    };
-    let double = SettleFault::Double {
-        clerk: 2,
-        receipt: 0,
-    };
-    let stranger = SettleFault::Stranger {
-        clerk: 1,
-        receipt: 0,
-    };
-    let later = SettleFault::Stranger {
-        clerk: 1,
-        receipt: 1,
-    };
-    assert!(rt; judge_both(alloc, locked, &falling, &nothing) == Err(order));
-    assert!(rt; judge_both(alloc, locked, &first, &first) == Err(double));
-    assert!(rt; judge_both(alloc, locked, &past, &nothing) == Err(stranger));
-    assert!(rt; judge_both(alloc, locked, &other, &nothing) == Err(stranger));
-    assert!(rt; judge_both(alloc, locked, &other_later, &nothing) == Err(later));
-    assert!(rt; judge_both(alloc, locked, &first, &second) == Ok(()));
+    is_judged(rt, locked, &falling, &[], order(1, 1));
+    is_judged(rt, locked, &first, &first, double(2, 0));
+    is_judged(rt, locked, &[receipt(2, x)], &[], stranger(1, 0));
+    is_judged(rt, locked, &[receipt(0, y)], &[], stranger(1, 0));
+    is_judged(rt, locked, &other_later, &[], stranger(1, 1));
+    is_judged(rt, locked, &first, &second, Ok(()));
 }
 
 /// Judges lists of receipts over a shard with an upload and a verification.
@@ -129,7 +134,7 @@ fn judge_by_hand<S: EntryLedger, C: ReceiptLedger>(
     alloc: &Global,
     entries: Blank,
     receipts: Blank,
-) -> Result<(), Fail>
+)
     requires entries { (entries.name ≡ S.name) × (entries.parts ≡ S.parts) × (S.parts ≡ 9) × (S.shards ≡ 1) }
     requires receipts { (receipts.name ≡ C.name) × (receipts.parts ≡ C.parts) × (C.parts ≡ 9) }
 {
@@ -139,16 +144,16 @@ fn judge_by_hand<S: EntryLedger, C: ReceiptLedger>(
         entries: entry_book,
         receipts: receipt_book,
     };
-    let opening = upload_and_verification(rt, alloc)?;
-    let mut locked = empty_shards(alloc, &mut rest, 1)?;
-    deal_all(alloc, &mut books, &mut importer, &mut locked, &opening)?;
+    let opening = upload_and_verification(rt, alloc);
+    let mut locked = empty_shards(alloc, &mut rest, 1).expect(rt, "memory");
+    let dealt = deal_all(alloc, &mut books, &mut importer, &mut locked, &opening);
+    dealt.expect(rt, "memory");
     let x = opening.trail().first().expect(rt, "an entry");
     let y = opening.trail().last().expect(rt, "an entry");
-    judge_lists(rt, alloc, &locked, x, y);
-    Ok(())
+    judge_lists(rt, &locked, x, y);
 }
 
 #[test]
-fn receipts_made_by_hand_are_judged(rt: HostRuntime) -> Result<(), Fail> {
-    judge_by_hand::<Brand, Brand>(&rt, &rt.alloc(), Blank::new(9), Blank::new(9))
+fn receipts_made_by_hand_are_judged(rt: HostRuntime) {
+    judge_by_hand::<Brand, Brand>(&rt, &rt.alloc(), Blank::new(9), Blank::new(9));
 }

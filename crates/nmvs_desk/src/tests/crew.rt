@@ -18,7 +18,6 @@ use std::process::Abort;
 use std::sync::atomic::{AtomicBool, Ordering};
 use std::sync::ledger::Blank;
 use std::sync::{Mutex, Wait};
-use std::test::*;
 use std::thread;
 use std::thread::Threads;
 
@@ -139,33 +138,34 @@ fn in_threads<
     J: Naming + Send + Sync,
     S: EntryLedger + Send + Sync,
     C: ReceiptLedger + Send + Sync,
-    R: Threads + Wait + Sync,
+    R: Threads + Wait + Abort + Sync,
 >(
     alloc: &'a Global,
     crew: &W,
     place: &Place<'_, 'a, R, J, S, C>,
     registrar: &mut Registrar<J, &R, &'a Global>,
     clerks: Vec<Clerk<'a, Global, J, C>, &'a Global>,
-) -> Result<Vec<Clerk<'a, Global, J, C>, &'a Global>, Fail> {
-    thread::scope(thread::scope_env(), place.rt, |scope| {
-        let mut workers = Vec::with_capacity(*alloc, clerks.len())?;
-        let mut back = Vec::with_capacity(alloc, clerks.len())?;
+) -> Vec<Clerk<'a, Global, J, C>, &'a Global> {
+    let rt = place.rt;
+    thread::scope(thread::scope_env(), rt, |scope| {
+        let mut workers = Vec::new(*alloc);
+        let mut back = Vec::new(alloc);
         let mut number = 0usize;
         for clerk in clerks {
             let its = number;
             match scope.spawn(move || worked(crew, place, clerk, its)) {
-                Ok(worker) => workers.push(worker)?,
-                Err(_) => return Err(Fail::new("no thread")),
+                Ok(worker) => workers.push(worker).expect(rt, "memory"),
+                Err(_) => panic!(rt; "no thread"),
             }
             number = number.wrapping_add(1);
         }
-        crew.register(place, registrar)?;
+        crew.register(place, registrar).expect(rt, "memory");
         for worker in workers {
-            let (clerk, outcome) = worker.join(place.rt);
-            outcome?;
-            back.push(clerk)?;
+            let (clerk, outcome) = worker.join(rt);
+            outcome.expect(rt, "answers");
+            back.push(clerk).expect(rt, "memory");
         }
-        Ok(back)
+        back
     })
 }
 
@@ -211,7 +211,7 @@ pub fn settled<'a, W: Crew + Sync, R: Threads + Wait + Abort + Sync>(
     alloc: &'a Global,
     stage: &Stage,
     crew: &W,
-) -> Result<Settled<'a, Global>, Fail> {
+) -> Settled<'a, Global> {
     assert!(rt; 1 <= stage.clerks && stage.clerks <= 8);
     in_directory::<Brand, _, _>(rt, alloc, stage, crew, Directory::new())
 }
@@ -222,13 +222,14 @@ fn in_directory<'a, J: Naming + Send + Sync, W: Crew + Sync, R: Threads + Wait +
     stage: &Stage,
     crew: &W,
     directory: Directory,
-) -> Result<Settled<'a, Global>, Fail>
+) -> Settled<'a, Global>
     requires name { directory_book directory ≡ J.book }
     requires windows { (1 ≤ stage.now.clerks) × (stage.now.clerks ≤ 8) }
 {
-    let opening = opening_of(rt, alloc, stage.opening)?;
-    let (mut registrar, windows) = directory.open::<J, _, _>(rt, alloc, stage.clerks)?;
-    enrol_all(rt, &mut registrar, stage.users)?;
+    let opening = opening_of(rt, alloc, stage.opening);
+    let made = directory.open::<J, _, _>(rt, alloc, stage.clerks);
+    let (mut registrar, windows) = made.expect(rt, "a directory");
+    enrol_all(rt, &mut registrar, stage.users);
     let settled = opened(rt, stage.shards, crew, &mut registrar, windows, &opening);
     registrar.close();
     settled
@@ -241,7 +242,7 @@ fn opened<'a, J: Naming + Send + Sync, W: Crew + Sync, R: Threads + Wait + Abort
     registrar: &mut Registrar<J, &R, &'a Global>,
     mut windows: Vec<Window<J, &'a Global>, &'a Global>,
     opening: &Shard<&'a Global>,
-) -> Result<Settled<'a, Global>, Fail>
+) -> Settled<'a, Global>
     requires few { vec_len windows ≤ 8 }
 {
     let (entries, receipts) = (Blank::new(9), Blank::new(9));
@@ -273,16 +274,15 @@ fn in_repository<
     opening: &Shard<&'a Global>,
     entries: Blank,
     receipts: Blank,
-) -> Result<Settled<'a, Global>, Fail>
+) -> Settled<'a, Global>
     requires entries { (entries.name ≡ S.name) × (entries.parts ≡ S.parts) × (S.parts ≡ 9) }
     requires receipts { (receipts.name ≡ C.name) × (receipts.parts ≡ C.parts) × (C.parts ≡ 9) }
     requires named { (S.shards ≡ shards) × (C.clerks ≡ vec_len windows.old) × (C.opening ≡ length opening.now) }
     requires few { vec_len windows.old ≤ 8 }
 {
     let alloc = *windows.allocator();
-    let (repository, clerks) = Repository::<_, S, C>::open(
-        alloc, entries, receipts, shards, windows, opening,
-    )?;
+    let opened = Repository::<_, S, C>::open(alloc, entries, receipts, shards, windows, opening);
+    let (repository, clerks) = opened.expect(rt, "a repository");
     let latest = Mutex::new(None);
     let place = Place {
         rt,
@@ -290,13 +290,13 @@ fn in_repository<
         moment: new_year(rt),
         latest: &latest,
     };
-    let clerks = in_threads(alloc, crew, &place, registrar, clerks)?;
+    let clerks = in_threads(alloc, crew, &place, registrar, clerks);
     for clerk in &clerks {
         stand(rt, &repository, clerk);
     }
     assert!(rt; clerks.len() == repository.clerks());
     match settle(alloc, repository, clerks) {
-        Ok(settled) => Ok(settled),
-        Err((fault, _)) => Err(Fail::from(fault)),
+        Ok(settled) => settled,
+        Err((fault, _)) => panic!(rt; "{fault:?}"),
     }
 }

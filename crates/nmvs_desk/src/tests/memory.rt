@@ -3,7 +3,7 @@ ghost use Rattle.std.specs.Prelude.{◌≡◌, ◌≤◌, length, vec_len};
 ghost use Rattle.nmvs_directory.specs.Directory.{directory_book};
 
 use super::asking::{Copied, Told};
-use super::market::{P, Q, batch, expiry, name, new_year, pack, upload, verify};
+use super::market::{P, Q, authentic, name, new_year, pack, upload, verify};
 use super::stage::{enrol_all, opening_of};
 use crate::{
     AskFault, Clerk, EntryLedger, OpenFault, Receipt, ReceiptLedger, Repository, SettleFault,
@@ -14,13 +14,12 @@ use nmvs_directory::{Directory, Naming, Window};
 use nmvs_identifier::Name;
 use nmvs_rules::{Entry, Question, Reply};
 use nmvs_shard::Shard;
-use std::alloc::{AllocError, Global};
+use std::alloc::Global;
 use std::marker::Brand;
 use std::process::Abort;
 use std::rt::HostRuntime;
 use std::sync::Wait;
 use std::sync::ledger::Blank;
-use std::test::*;
 
 /// A heap, and what was taken of it in pieces of 16 bytes.
 #[derive(Drop)]
@@ -33,15 +32,14 @@ struct FullHeap<'h> {
 
 impl FullHeap<'_> {
     /// Takes all that is left of the heap.
-    fn fill(&mut self) -> Result<(), AllocError> {
+    fn fill(&mut self, rt: &impl Abort) {
         self.refused = 0;
         for _piece in 0..100_000u64 {
             match Vec::with_capacity(self.heap, 16) {
-                Ok(piece) => self.pieces.push(piece)?,
+                Ok(piece) => self.pieces.push(piece).expect(rt, "memory"),
                 Err(_) => break,
             }
         }
-        Ok(())
     }
 
     /// Gives 16 bytes back.
@@ -61,11 +59,6 @@ struct Asked {
 
 /// What is put to the repository, one after another.
 fn all_asked(rt: &impl Abort) -> [Asked; 3] {
-    let authentic = Reply::Authentic {
-        batch: batch(rt),
-        expiry: expiry(rt),
-        expired: false,
-    };
     let (holder, pharmacy, authority) = (name(rt, "mah1"), name(rt, "ph1"), name(rt, "au1"));
     [
         Asked {
@@ -76,7 +69,7 @@ fn all_asked(rt: &impl Abort) -> [Asked; 3] {
         Asked {
             user: pharmacy,
             question: verify(rt, P),
-            reply: authentic,
+            reply: authentic(rt),
         },
         Asked {
             user: authority,
@@ -110,9 +103,24 @@ fn first_trail<S: EntryLedger, C: ReceiptLedger, R: Wait + Abort>(
     rt: &R,
     alloc: Global,
     repository: &Repository<'_, LocalHeap, S, C>,
-) -> Result<Vec<Entry>, AllocError> {
+) -> Vec<Entry> {
     assert!(rt; 0 < repository.shards());
-    repository.with_shard(rt, 0, Copied(alloc))
+    repository
+        .with_shard(rt, 0, Copied(alloc))
+        .expect(rt, "memory")
+}
+
+/// Puts the question once. The gate is told once where it is answered, and never where it is refused.
+fn put_at_a_gate<'a, J: Naming, S: EntryLedger, C: ReceiptLedger, R: Wait + Abort>(
+    rt: &R,
+    repository: &Repository<'a, LocalHeap, S, C>,
+    clerk: &mut Clerk<'a, LocalHeap, J, C>,
+    asked: &Asked,
+) -> Result<Receipt, AskFault> {
+    let mut gate = Told { times: 0 };
+    let answer = put(rt, repository, clerk, &mut gate, asked);
+    assert_eq!(rt; gate.times, answer.is_ok() as u64);
+    answer
 }
 
 /// Puts the question once. Where it is refused, it is for want of memory, and receipts and shard are as they were.
@@ -122,23 +130,20 @@ fn is_answered<'a, J: Naming, S: EntryLedger, C: ReceiptLedger, R: Wait + Abort>
     repository: &Repository<'a, LocalHeap, S, C>,
     clerk: &mut Clerk<'a, LocalHeap, J, C>,
     asked: &Asked,
-) -> Result<bool, Fail> {
+) -> bool {
     let receipts = clerk.receipts().len();
-    let before = first_trail(rt, alloc, repository)?;
-    let mut gate = Told { times: 0 };
-    match put(rt, repository, clerk, &mut gate, asked) {
+    let before = first_trail(rt, alloc, repository);
+    match put_at_a_gate(rt, repository, clerk, asked) {
         Ok(receipt) => {
             assert_eq!(rt; receipt.entry.reply, asked.reply);
             assert_eq!(rt; (receipt.shard, receipt.place), (0, receipts));
-            assert_eq!(rt; gate.times, 1);
-            Ok(true)
+            true
         }
         Err(fault) => {
             assert_eq!(rt; fault, AskFault::Memory);
             assert_eq!(rt; clerk.receipts().len(), receipts);
-            assert!(rt; first_trail(rt, alloc, repository)? == before);
-            assert_eq!(rt; gate.times, 0);
-            Ok(false)
+            assert!(rt; first_trail(rt, alloc, repository) == before);
+            false
         }
     }
 }
@@ -151,19 +156,17 @@ fn is_answered_at_last<'a, J: Naming, S: EntryLedger, C: ReceiptLedger, R: Wait 
     repository: &Repository<'a, LocalHeap, S, C>,
     clerk: &mut Clerk<'a, LocalHeap, J, C>,
     asked: &Asked,
-) -> Result<usize, Fail> {
-    full.fill()?;
+) -> usize {
+    full.fill(rt);
     for _turn in 0..10_000 {
-        if is_answered(rt, alloc, repository, clerk, asked)? {
+        if is_answered(rt, alloc, repository, clerk, asked) {
             break;
         }
         full.give_back(rt);
     }
-    assert_eq!(rt;
-        clerk.receipts().last().map(|receipt| receipt.entry.reply),
-        Some(asked.reply)
-    );
-    Ok(full.refused)
+    let last = clerk.receipts().last().expect(rt, "a receipt");
+    assert_eq!(rt; last.entry.reply, asked.reply);
+    full.refused
 }
 
 /// Puts all questions, each on a full heap.
@@ -173,16 +176,15 @@ fn are_answered_at_last<'a, J: Naming, S: EntryLedger, C: ReceiptLedger, R: Wait
     full: &mut FullHeap,
     repository: &Repository<'a, LocalHeap, S, C>,
     clerk: &mut Clerk<'a, LocalHeap, J, C>,
-) -> Result<(), Fail> {
+) {
     let [uploaded, verified, audited] = all_asked(rt);
     // the receipts, the trail, its links, and three tables
-    let refused = is_answered_at_last(rt, alloc, full, repository, clerk, &uploaded)?;
+    let refused = is_answered_at_last(rt, alloc, full, repository, clerk, &uploaded);
     assert!(rt; refused >= 6);
-    is_answered_at_last(rt, alloc, full, repository, clerk, &verified)?;
+    is_answered_at_last(rt, alloc, full, repository, clerk, &verified);
     // the list
-    let refused = is_answered_at_last(rt, alloc, full, repository, clerk, &audited)?;
+    let refused = is_answered_at_last(rt, alloc, full, repository, clerk, &audited);
     assert!(rt; refused >= 1);
-    Ok(())
 }
 
 /// Settles once more. Where that is refused, it is for want of memory.
@@ -206,11 +208,11 @@ fn settled_at_last<'a, J: Naming, S: EntryLedger, C: ReceiptLedger>(
     rt: &impl Abort,
     full: &mut FullHeap,
     mut unsettled: Unsettled<'a, LocalHeap, J, S, C>,
-) -> Result<Settled<'a, LocalHeap>, AllocError> {
-    full.fill()?;
+) -> Settled<'a, LocalHeap> {
+    full.fill(rt);
     for _turn in 0..10_000 {
         unsettled = match settled_again(rt, unsettled) {
-            Ok(settled) => return Ok(settled),
+            Ok(settled) => return settled,
             Err(unsettled) => unsettled,
         };
         full.give_back(rt);
@@ -226,6 +228,18 @@ fn have_lengths(rt: &impl Abort, settled: &Settled<'_, LocalHeap>, lengths: [usi
     }
 }
 
+/// Settles a repository to which all questions were put.
+fn is_settled<'a, J: Naming, S: EntryLedger, C: ReceiptLedger>(
+    rt: &impl Abort,
+    full: &mut FullHeap,
+    unsettled: Unsettled<'a, LocalHeap, J, S, C>,
+) {
+    let settled = settled_at_last(rt, full, unsettled);
+    // what is handed out, and a list of claims and one of owners a shard
+    assert!(rt; full.refused >= 9);
+    have_lengths(rt, &settled, [3, 1]);
+}
+
 /// Opens the repository once, and tells whether it was opened. Then all questions were put to it, and it was settled.
 fn is_opened<'a, J: Naming, S: EntryLedger, C: ReceiptLedger, R: Wait + Abort>(
     rt: &R,
@@ -235,7 +249,7 @@ fn is_opened<'a, J: Naming, S: EntryLedger, C: ReceiptLedger, R: Wait + Abort>(
     opening: &Shard<&'a LocalHeap>,
     entries: Blank,
     receipts: Blank,
-) -> Result<bool, Fail>
+) -> bool
     requires entries { (entries.name ≡ S.name) × (entries.parts ≡ S.parts) × (S.parts ≡ 9) }
     requires receipts { (receipts.name ≡ C.name) × (receipts.parts ≡ C.parts) × (C.parts ≡ 9) }
     requires named { (S.shards ≡ 2) × (C.clerks ≡ vec_len windows.old) × (C.opening ≡ length opening.now) }
@@ -248,18 +262,15 @@ fn is_opened<'a, J: Naming, S: EntryLedger, C: ReceiptLedger, R: Wait + Abort>(
             // the clerks, the shards, the receipts of the opening, the locks
             assert!(rt; full.refused >= 4);
             for clerk in clerks.iter_mut() {
-                are_answered_at_last(rt, alloc, full, &repository, clerk)?;
+                are_answered_at_last(rt, alloc, full, &repository, clerk);
             }
             assert!(rt; clerks.len() == repository.clerks());
-            let settled = settled_at_last(rt, full, Unsettled { repository, clerks })?;
-            // what is handed out, and a list of claims and one of owners a shard
-            assert!(rt; full.refused >= 9);
-            have_lengths(rt, &settled, [3, 1]);
-            Ok(true)
+            is_settled(rt, full, Unsettled { repository, clerks });
+            true
         }
         Err(fault) => {
             assert_eq!(rt; (fault, windows.len()), (OpenFault::Memory, 1));
-            Ok(false)
+            false
         }
     }
 }
@@ -271,7 +282,7 @@ fn is_opened_anew<'a, J: Naming, R: Wait + Abort>(
     full: &mut FullHeap,
     windows: &mut Vec<Window<J, &'a LocalHeap>, &'a LocalHeap>,
     opening: &Shard<&'a LocalHeap>,
-) -> Result<bool, Fail>
+) -> bool
     requires few { vec_len windows.old ≤ 8 }
     ensures few { vec_len windows.new ≤ 8 }
 {
@@ -285,31 +296,31 @@ fn is_opened_at_last<J: Naming, R: Wait + Abort + Sync>(
     alloc: Global,
     heap: &LocalHeap,
     directory: Directory,
-) -> Result<(), Fail>
+)
     requires { directory_book directory ≡ J.book }
 {
-    let opening = opening_of(rt, heap, &[Q])?;
-    let (mut registrar, mut windows) = directory.open::<J, _, _>(rt, heap, 1)?;
-    enrol_all(rt, &mut registrar, &["mah1", "ph1", "au1"])?;
+    let opening = opening_of(rt, heap, &[Q]);
+    let made = directory.open::<J, _, _>(rt, heap, 1);
+    let (mut registrar, mut windows) = made.expect(rt, "a directory");
+    enrol_all(rt, &mut registrar, &["mah1", "ph1", "au1"]);
     let mut full = FullHeap {
         heap,
         pieces: Vec::new(alloc),
         refused: 0,
     };
-    full.fill()?;
+    full.fill(rt);
     for _turn in 0..10_000 {
-        if is_opened_anew(rt, alloc, &mut full, &mut windows, &opening)? {
+        if is_opened_anew(rt, alloc, &mut full, &mut windows, &opening) {
             break;
         }
         full.give_back(rt);
     }
     assert!(rt; windows.is_empty());
     registrar.close();
-    Ok(())
 }
 
 #[test]
-fn each_growth_is_refused_in_turn(rt: HostRuntime) -> Result<(), Fail> {
-    let heap = LocalHeap::new(rt.alloc(), 65_536)?;
-    is_opened_at_last::<Brand, _>(&rt, rt.alloc(), &heap, Directory::new())
+fn each_growth_is_refused_in_turn(rt: HostRuntime) {
+    let heap = LocalHeap::new(rt.alloc(), 65_536).expect(&rt, "memory");
+    is_opened_at_last::<Brand, _>(&rt, rt.alloc(), &heap, Directory::new());
 }

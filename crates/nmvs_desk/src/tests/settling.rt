@@ -11,39 +11,34 @@ use std::marker::Brand;
 use std::process::Abort;
 use std::rt::HostRuntime;
 use std::sync::ledger::Blank;
-use std::test::*;
 
 /// Settles a repository of two shards, in which nobody asked.
 fn settled<'a, S: EntryLedger, C: ReceiptLedger>(
+    rt: &impl Abort,
     alloc: &'a Global,
     entries: Blank,
     receipts: Blank,
     windows: &mut Vec<Window<Brand, &'a Global>, &'a Global>,
     opening: &Shard<&'a Global>,
-) -> Result<Settled<'a, Global>, Fail>
+) -> Settled<'a, Global>
     requires entries { (entries.name ≡ S.name) × (entries.parts ≡ S.parts) × (S.parts ≡ 9) }
     requires receipts { (receipts.name ≡ C.name) × (receipts.parts ≡ C.parts) × (C.parts ≡ 9) }
     requires named { (S.shards ≡ 2) × (C.clerks ≡ 0) × (C.opening ≡ length opening.now) }
     requires nobody { vec_len windows.old ≡ 0 }
 {
-    let (repository, clerks) = Repository::<_, S, C>::open(
-        alloc, entries, receipts, 2, windows, opening,
-    )?;
+    let opened = Repository::<_, S, C>::open(alloc, entries, receipts, 2, windows, opening);
+    let (repository, clerks) = opened.expect(rt, "a repository");
     match settle(alloc, repository, clerks) {
-        Ok(settled) => Ok(settled),
-        Err((fault, _)) => Err(Fail::from(fault)),
+        Ok(settled) => settled,
+        Err((fault, _)) => panic!(rt; "{fault:?}"),
     }
 }
 
-fn settled_opening<'a>(
-    rt: &impl Abort,
-    alloc: &'a Global,
-    codes: &[&str],
-) -> Result<Settled<'a, Global>, Fail> {
-    let opening = opening_of(rt, alloc, codes)?;
+fn settled_opening<'a>(rt: &impl Abort, alloc: &'a Global, codes: &[&str]) -> Settled<'a, Global> {
+    let opening = opening_of(rt, alloc, codes);
     let mut windows = Vec::new(alloc);
     let (entries, receipts) = (Blank::new(9), Blank::new(9));
-    settled::<Brand, Brand>(alloc, entries, receipts, &mut windows, &opening)
+    settled::<Brand, Brand>(rt, alloc, entries, receipts, &mut windows, &opening)
 }
 
 /// The owners of both shards' entries are these receipts of the importer.
@@ -64,17 +59,16 @@ fn is_handed_out(rt: &impl Abort, settled: &Settled<'_, Global>, owners: [&[Owne
 }
 
 #[test]
-fn without_an_entry_the_trails_are_empty(rt: HostRuntime) -> Result<(), Fail> {
+fn without_an_entry_the_trails_are_empty(rt: HostRuntime) {
     let alloc = rt.alloc();
-    let settled = settled_opening(&rt, &alloc, &[])?;
+    let settled = settled_opening(&rt, &alloc, &[]);
     is_handed_out(&rt, &settled, [&[], &[]]);
-    Ok(())
 }
 
 #[test]
-fn an_opening_belongs_to_the_importer(rt: HostRuntime) -> Result<(), Fail> {
+fn an_opening_belongs_to_the_importer(rt: HostRuntime) {
     let alloc = rt.alloc();
-    let settled = settled_opening(&rt, &alloc, &[Q, P])?;
+    let settled = settled_opening(&rt, &alloc, &[Q, P]);
     let first = Owner {
         clerk: 0,
         receipt: 0,
@@ -84,5 +78,4 @@ fn an_opening_belongs_to_the_importer(rt: HostRuntime) -> Result<(), Fail> {
         receipt: 1,
     };
     is_handed_out(&rt, &settled, [&[second], &[first]]);
-    Ok(())
 }

@@ -6,24 +6,18 @@ use super::market::{actor, name, new_year, upload};
 use crate::{Clerk, EntryLedger, OpenFault, ReceiptLedger, Repository};
 use nmvs_directory::{Directory, Naming, Registrar, Window};
 use nmvs_shard::Shard;
-use std::alloc::{AllocError, Allocator, Global};
+use std::alloc::{Allocator, Global};
 use std::marker::Brand;
 use std::process::Abort;
 use std::sync::Wait;
 use std::sync::ledger::Blank;
-use std::test::*;
 use std::thread::Threads;
 
 /// What a test does in a repository.
 pub trait Scene {
     /// Is told that the repository was not opened, and how many windows are left.
-    fn refused<R: Abort>(
-        &mut self,
-        _rt: &R,
-        fault: OpenFault,
-        _windows: usize,
-    ) -> Result<(), Fail> {
-        Err(Fail::from(fault))
+    fn refused<R: Abort>(&mut self, rt: &R, fault: OpenFault, _windows: usize) {
+        panic!(rt; "{fault:?}");
     }
 
     fn play<
@@ -38,7 +32,7 @@ pub trait Scene {
         registrar: &mut Registrar<J, &R, &'a Global>,
         repository: &Repository<'a, Global, S, C>,
         clerks: &mut [Clerk<'a, Global, J, C>],
-    ) -> Result<(), Fail>;
+    );
 }
 
 /// How the repository of a test is opened.
@@ -57,26 +51,19 @@ pub fn play<P: Scene, R: Threads + Wait + Abort + Sync>(
     alloc: &Global,
     stage: &Stage,
     scene: &mut P,
-) -> Result<(), Fail> {
+) {
     assert!(rt; 1 <= stage.clerks && stage.clerks <= 8);
-    in_directory::<Brand, _, _>(rt, alloc, stage, scene, Directory::new())
+    in_directory::<Brand, _, _>(rt, alloc, stage, scene, Directory::new());
 }
 
-pub fn opening_of<'a, B: Allocator>(
-    rt: &impl Abort,
-    alloc: &'a B,
-    codes: &[&str],
-) -> Result<Shard<&'a B>, AllocError> {
+pub fn opening_of<'a, B: Allocator>(rt: &impl Abort, alloc: &'a B, codes: &[&str]) -> Shard<&'a B> {
     let mut opening = Shard::new(alloc);
+    let (user, by) = (name(rt, "mah1"), actor(rt, "mah1"));
     for digits in codes {
-        opening.step(
-            new_year(rt),
-            &name(rt, "mah1"),
-            &actor(rt, "mah1"),
-            &upload(rt, digits),
-        )?;
+        let reply = opening.step(new_year(rt), &user, &by, &upload(rt, digits));
+        reply.expect(rt, "memory");
     }
-    Ok(opening)
+    opening
 }
 
 /// Enrols the users, and publishes them.
@@ -84,12 +71,12 @@ pub fn enrol_all<'a, B: Allocator, J: Naming, R: Wait + Abort>(
     rt: &R,
     registrar: &mut Registrar<J, &R, &'a B>,
     users: &[&str],
-) -> Result<(), AllocError> {
+) {
     for user in users {
-        registrar.changes.enrol(name(rt, user), actor(rt, user))?;
+        let enrolled = registrar.changes.enrol(name(rt, user), actor(rt, user));
+        enrolled.expect(rt, "memory");
     }
-    registrar.publish()?;
-    Ok(())
+    registrar.publish().expect(rt, "memory");
 }
 
 fn in_directory<J: Naming + Send + Sync, P: Scene, R: Threads + Wait + Abort + Sync>(
@@ -98,14 +85,15 @@ fn in_directory<J: Naming + Send + Sync, P: Scene, R: Threads + Wait + Abort + S
     stage: &Stage,
     scene: &mut P,
     directory: Directory,
-) -> Result<(), Fail>
+)
     requires name { directory_book directory ≡ J.book }
     requires windows { (1 ≤ stage.now.clerks) × (stage.now.clerks ≤ 8) }
 {
-    let opening = opening_of(rt, alloc, stage.opening)?;
-    let (mut registrar, mut windows) = directory.open::<J, _, _>(rt, alloc, stage.clerks)?;
-    enrol_all(rt, &mut registrar, stage.users)?;
-    let played = opened(
+    let opening = opening_of(rt, alloc, stage.opening);
+    let made = directory.open::<J, _, _>(rt, alloc, stage.clerks);
+    let (mut registrar, mut windows) = made.expect(rt, "a directory");
+    enrol_all(rt, &mut registrar, stage.users);
+    opened(
         rt,
         stage.shards,
         scene,
@@ -114,7 +102,6 @@ fn in_directory<J: Naming + Send + Sync, P: Scene, R: Threads + Wait + Abort + S
         &opening,
     );
     registrar.close();
-    played
 }
 
 /// Opens the repository, and plays in it.
@@ -125,13 +112,13 @@ fn opened<'a, J: Naming + Send + Sync, P: Scene, R: Threads + Wait + Abort + Syn
     registrar: &mut Registrar<J, &R, &'a Global>,
     windows: &mut Vec<Window<J, &'a Global>, &'a Global>,
     opening: &Shard<&'a Global>,
-) -> Result<(), Fail>
+)
     requires few { vec_len windows.old ≤ 8 }
 {
     let (entries, receipts) = (Blank::new(9), Blank::new(9));
     in_repository::<J, Brand, Brand, _, _>(
         rt, shards, scene, registrar, windows, opening, entries, receipts,
-    )
+    );
 }
 
 fn in_repository<
@@ -150,7 +137,7 @@ fn in_repository<
     opening: &Shard<&'a Global>,
     entries: Blank,
     receipts: Blank,
-) -> Result<(), Fail>
+)
     requires entries { (entries.name ≡ S.name) × (entries.parts ≡ S.parts) × (S.parts ≡ 9) }
     requires receipts { (receipts.name ≡ C.name) × (receipts.parts ≡ C.parts) × (C.parts ≡ 9) }
     requires named { (S.shards ≡ shards) × (C.clerks ≡ vec_len windows.old) × (C.opening ≡ length opening.now) }

@@ -1,6 +1,6 @@
 //! What clerks in threads are answered, and settled to.
 use super::crew::{Crew, Errand, Errands, Place, is_raised, settled};
-use super::market::{P, Q, USERS, batch, decommission, expiry, name, pack, upload, verify};
+use super::market::{P, Q, USERS, authentic, decommission, name, pack, upload, verify};
 use super::stage::Stage;
 use crate::{AskFault, Clerk, EntryLedger, Gate, NoGate, ReceiptLedger, Settled};
 use nmvs_directory::{Naming, Registrar};
@@ -11,7 +11,7 @@ use std::process::Abort;
 use std::rt::HostRuntime;
 use std::sync::Wait;
 use std::sync::atomic::{AtomicBool, AtomicU64, Ordering};
-use std::test::*;
+use std::thread::Threads;
 
 /// The trails have so many entries, shard by shard.
 fn have_lengths(rt: &impl Abort, settled: &Settled<'_, Global>, lengths: &[usize]) {
@@ -48,66 +48,74 @@ fn replies(
     settled: &Settled<'_, Global>,
     shard: usize,
     digits: &str,
-) -> Result<Vec<Reply>, AllocError> {
+) -> Vec<Reply> {
     let code = pack(rt, digits).code;
     let mut replies = Vec::new(alloc);
     assert!(rt; shard < settled.shards.len());
     for entry in settled.shards[shard].trail() {
         if entry.question.code() == code {
-            replies.push(entry.reply)?;
+            replies.push(entry.reply).expect(rt, "memory");
         }
     }
-    Ok(replies)
+    replies
 }
 
 /// What a thousand is answered.
-fn told(rt: &impl Abort, alloc: Global) -> Result<Vec<Reply>, AllocError> {
+fn told(rt: &impl Abort, alloc: Global) -> Vec<Reply> {
     let mut replies = Vec::new(alloc);
-    replies.push(Reply::Uploaded)?;
+    replies.push(Reply::Uploaded).expect(rt, "memory");
     for _ in 0..999 {
-        replies.push(Reply::Authentic {
-            batch: batch(rt),
-            expiry: expiry(rt),
-            expired: false,
-        })?;
+        replies.push(authentic(rt)).expect(rt, "memory");
     }
-    Ok(replies)
+    replies
 }
 
-#[test]
-fn clerks_in_threads_are_answered_as_one_alone(rt: HostRuntime) -> Result<(), Fail> {
-    let alloc = rt.alloc();
-    let (p, q) = (thousand(&rt, P), thousand(&rt, Q));
-    let two = Stage {
+/// The errands of two clerks, settled in two shards.
+fn settled_apart<'a, R: Threads + Wait + Abort + Sync>(
+    rt: &R,
+    alloc: &'a Global,
+    of_clerks: &[&[Errand]],
+) -> Settled<'a, Global> {
+    let stage = Stage {
         shards: 2,
         clerks: 2,
         users: &USERS,
         opening: &[],
     };
-    let one = Stage {
+    settled(rt, alloc, &stage, &Errands { of_clerks })
+}
+
+/// The errands of one clerk, settled in one shard.
+fn settled_alone<'a, R: Threads + Wait + Abort + Sync>(
+    rt: &R,
+    alloc: &'a Global,
+    errands: &[Errand],
+) -> Settled<'a, Global> {
+    let stage = Stage {
         shards: 1,
         clerks: 1,
         users: &USERS,
         opening: &[],
     };
-    let apart = settled(
-        &rt,
-        &alloc,
-        &two,
-        &Errands {
-            of_clerks: &[&p, &q],
-        },
-    )?;
+    let crew = Errands {
+        of_clerks: &[errands],
+    };
+    settled(rt, alloc, &stage, &crew)
+}
+
+#[test]
+fn clerks_in_threads_are_answered_as_one_alone(rt: HostRuntime) {
+    let alloc = rt.alloc();
+    let (p, q) = (thousand(&rt, P), thousand(&rt, Q));
+    let apart = settled_apart(&rt, &alloc, &[&p, &q]);
     have_lengths(&rt, &apart, &[1_000, 1_000]);
-    let all = [p[0], p[1], q[0], q[1]];
-    let alone = settled(&rt, &alloc, &one, &Errands { of_clerks: &[&all] })?;
+    let alone = settled_alone(&rt, &alloc, &[p[0], p[1], q[0], q[1]]);
     have_lengths(&rt, &alone, &[2_000]);
-    let told = told(&rt, alloc)?;
+    let told = told(&rt, alloc);
     for (shard, digits) in [(0, P), (1, Q)] {
-        assert!(&rt; replies(&rt, alloc, &apart, shard, digits)? == told);
-        assert!(&rt; replies(&rt, alloc, &alone, 0, digits)? == told);
+        assert!(&rt; replies(&rt, alloc, &apart, shard, digits) == told);
+        assert!(&rt; replies(&rt, alloc, &alone, 0, digits) == told);
     }
-    Ok(())
 }
 
 /// Two clerks, of whom the first is answered, with its shard held, only once the second is.
@@ -162,7 +170,7 @@ impl Crew for Meeting {
 }
 
 #[test]
-fn two_shards_are_worked_on_at_once(rt: HostRuntime) -> Result<(), Fail> {
+fn two_shards_are_worked_on_at_once(rt: HostRuntime) {
     let alloc = rt.alloc();
     let stage = Stage {
         shards: 2,
@@ -178,10 +186,9 @@ fn two_shards_are_worked_on_at_once(rt: HostRuntime) -> Result<(), Fail> {
         answered: AtomicBool::new(false),
         met: AtomicBool::new(false),
     };
-    let settled = settled(&rt, &alloc, &stage, &meeting)?;
+    let settled = settled(&rt, &alloc, &stage, &meeting);
     assert!(&rt; meeting.met.load(Ordering::SeqCst));
     have_lengths(&rt, &settled, &[1, 1]);
-    Ok(())
 }
 
 /// Eight clerks, one of whose users is suspended in the middle of its questions.
@@ -276,35 +283,43 @@ fn of_two(rt: &impl Abort, first: &str, second: &str) -> [Errand; 2] {
     ]
 }
 
-#[test]
-fn a_suspension_in_the_middle_turns_away(rt: HostRuntime) -> Result<(), Fail> {
-    let alloc = rt.alloc();
+/// Lets eight clerks run these errands, of whom the fourth is turned away from the middle on.
+fn settled_with_a_suspension<'a, R: Threads + Wait + Abort + Sync>(
+    rt: &R,
+    alloc: &'a Global,
+    of_clerks: &[&[Errand]],
+) -> Settled<'a, Global> {
     let stage = Stage {
         shards: 8,
         clerks: 8,
         users: &USERS,
         opening: &CODES,
     };
+    let suspension = Suspension {
+        errands: Errands { of_clerks },
+        user: name(rt, "ph2"),
+        question: verify(rt, P),
+        due: AtomicBool::new(false),
+        published: AtomicBool::new(false),
+        turned_away: AtomicU64::new(0),
+    };
+    let settled = settled(rt, alloc, &stage, &suspension);
+    assert_eq!(rt; suspension.turned_away.load(Ordering::SeqCst), 125);
+    settled
+}
+
+#[test]
+fn a_suspension_in_the_middle_turns_away(rt: HostRuntime) {
+    let alloc = rt.alloc();
     let hot = [verifications(&rt, "ph1", P, 250)];
     let fourth = [verifications(&rt, "ph2", P, 125)];
     let fifth = of_two(&rt, CODES[1], CODES[2]);
     let sixth = of_two(&rt, CODES[3], CODES[4]);
     let seventh = of_two(&rt, CODES[5], CODES[6]);
     let eighth = of_two(&rt, CODES[7], CODES[8]);
-    let suspension = Suspension {
-        errands: Errands {
-            of_clerks: &[&hot, &hot, &hot, &fourth, &fifth, &sixth, &seventh, &eighth],
-        },
-        user: name(&rt, "ph2"),
-        question: verify(&rt, P),
-        due: AtomicBool::new(false),
-        published: AtomicBool::new(false),
-        turned_away: AtomicU64::new(0),
-    };
-    let settled = settled(&rt, &alloc, &stage, &suspension)?;
+    let errands: [&[Errand]; 8] = [&hot, &hot, &hot, &fourth, &fifth, &sixth, &seventh, &eighth];
+    let settled = settled_with_a_suspension(&rt, &alloc, &errands);
     have_lengths(&rt, &settled, &[876, 0, 126, 252, 252, 252, 126, 0]);
-    assert_eq!(&rt; suspension.turned_away.load(Ordering::SeqCst), 125);
-    Ok(())
 }
 
 /// Counts a decommissioning at 0, and each flagged alert at its number.
@@ -322,9 +337,11 @@ fn note(rt: &impl Abort, reply: &Reply, counts: &mut [u64; 4]) {
     counts[place] = counts[place].wrapping_add(1);
 }
 
-#[test]
-fn one_of_four_supplies_the_pack(rt: HostRuntime) -> Result<(), Fail> {
-    let alloc = rt.alloc();
+/// Lets four clerks each supply the pack of the opening.
+fn settled_supplies<'a, R: Threads + Wait + Abort + Sync>(
+    rt: &R,
+    alloc: &'a Global,
+) -> Settled<'a, Global> {
     let stage = Stage {
         shards: 1,
         clerks: 4,
@@ -332,14 +349,20 @@ fn one_of_four_supplies_the_pack(rt: HostRuntime) -> Result<(), Fail> {
         opening: &[P],
     };
     let supply = [Errand {
-        user: name(&rt, "ph1"),
-        question: decommission(&rt, P, Reason::Supply),
+        user: name(rt, "ph1"),
+        question: decommission(rt, P, Reason::Supply),
         times: 1,
     }];
     let crew = Errands {
         of_clerks: &[&supply, &supply, &supply, &supply],
     };
-    let settled = settled(&rt, &alloc, &stage, &crew)?;
+    settled(rt, alloc, &stage, &crew)
+}
+
+#[test]
+fn one_of_four_supplies_the_pack(rt: HostRuntime) {
+    let alloc = rt.alloc();
+    let settled = settled_supplies(&rt, &alloc);
     have_lengths(&rt, &settled, &[5]);
     let mut counts = [0u64; 4];
     for list in settled.receipts.iter().skip(1) {
@@ -348,5 +371,4 @@ fn one_of_four_supplies_the_pack(rt: HostRuntime) -> Result<(), Fail> {
         }
     }
     assert_eq!(&rt; counts, [1, 1, 1, 1]);
-    Ok(())
 }

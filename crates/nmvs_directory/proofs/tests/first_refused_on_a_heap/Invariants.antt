@@ -1,4 +1,4 @@
-use Rattle.nmvs_directory.proofs.tests.a_refused_growth_changes_nothing.Given as goal
+use Rattle.nmvs_directory.proofs.tests.first_refused_on_a_heap.Given as goal
 
 -- the directory that was just made
 abbrev pub ghosts-first_refused : goal.ghosts-first_refused
