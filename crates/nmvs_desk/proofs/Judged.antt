@@ -11,9 +11,10 @@ use Rattle.nmvs_desk.specs.declared.receipt.Receipt.{Receipt}
 use Rattle.nmvs_desk.specs.declared.owner.Owner.{Owner}
 use Rattle.nmvs_desk.specs.declared.settle_fault.SettleFault.{SettleFault}
 use Rattle.nmvs_desk.specs.declared.settle_fault.SettleFault.TheVariants.{Memory, Stranger, Order, Double}
-use Rattle.nmvs_desk.specs.Settlement.{row, at, owner, IsOutOfOrder, IsDouble, IsFault}
+use Rattle.nmvs_desk.specs.Settlement.{row, at, owner, IsOutOfOrder, IsDouble, IsFirst, IsFault}
 use Rattle.nmvs_desk.specs.Claims.{Claimed, claims_in, claimed, fresh, HasPlaces, IsClaim, IsRaised, IsRefusal, AreFloors, IsJudged, IsRefused, AreJudged}
 use Rattle.nmvs_desk.proofs.Claiming.{claimed_put, claims_in_same, claims_in_other}
+use Rattle.nmvs_desk.proofs.First.{first_of}
 use Rattle.nmvs_desk.proofs.Putting.{at_within, put_same, put_cases, put_kept}
 
 pub judged_none : (trails : List (List Entry)) (clerk : ℕ) (receipts : List Receipt) (claims : Claimed) → IsJudged trails clerk receipts 0 claims claims
@@ -97,7 +98,7 @@ pub refused_at : (trails : List (List Entry)) (clerk : ℕ) (receipts : List Rec
 refused_at trails clerk receipts n r floors old mid Memory so_far is floor why = why
 refused_at trails clerk receipts n r floors old mid (Stranger c m) so_far is floor why =
     let it : m ≡ n = ap (λ (o : Owner). o.receipt) why.0 in
-    (ap (λ (o : Owner). o.clerk) why.0, record { receipt = r; is = rw it is; stranger = why.1 })
+    (ap (λ (o : Owner). o.clerk) why.0, record { receipt = r; is = rw it is; stranger = why.1 }, (mid, rw it so_far))
 refused_at trails clerk receipts n r floors old mid (Order c m) so_far is floor why =
     let it : m ≡ n = ap (λ (o : Owner). o.receipt) why.0 in
     let P : ℕ → Type 0 = λ z. IsOutOfOrder receipts z in
@@ -116,7 +117,7 @@ refused_at trails clerk receipts n r floors old mid (Order c m) so_far is floor 
         not_above = omega (arith, l.just_above, why.2);
       }
     ] in
-    (ap (λ (o : Owner). o.clerk) why.0, subst P (sym it) out)
+    (ap (λ (o : Owner). o.clerk) why.0, subst P (sym it) out, (mid, rw it so_far))
 refused_at trails clerk receipts n r floors old mid (Double c m) so_far is floor why =
     let it : m ≡ n = ap (λ (o : Owner). o.receipt) why.0 in
     let o = why.3 in
@@ -125,7 +126,7 @@ refused_at trails clerk receipts n r floors old mid (Double c m) so_far is floor
       | inl e ↦ e
       | inr e ↦ absurd (omega (arith, (floor r.shard why.1).above o.receipt e.1.receipt e.1.among e.1.is e.1.shard, e.1.place, why.2))
     ] in
-    (ap (λ (z : Owner). z.clerk) why.0, record { receipt = r; is = rw it is; by = o; taken = taken })
+    (ap (λ (z : Owner). z.clerk) why.0, record { receipt = r; is = rw it is; by = o; taken = taken }, (mid, rw it so_far))
 
 fresh_rows : (trails : List (List Entry)) (i : ℕ) → length (row (fresh trails) i) ≡ length (row trails i)
 fresh_rows [] i = refl
@@ -206,14 +207,14 @@ are_judged_more trails lists n old new within so_far shape judged =
 pub fault_of : (trails : List (List Entry)) (lists : List (List Receipt)) (n : ℕ) (claims : Claimed) (fault : SettleFault)
     → AreJudged trails lists n claims → IsRefused trails n (row lists n) claims fault → IsFault trails lists fault
 fault_of trails lists n claims Memory judged why = tt
-fault_of trails lists n claims (Stranger c m) judged why = rw why.0 why.1
-fault_of trails lists n claims (Order c m) judged why = rw why.0 why.1
+fault_of trails lists n claims (Stranger c m) judged why = rw why.0 (why.1, first_of trails lists n m claims why.2.0 judged why.2.1)
+fault_of trails lists n claims (Order c m) judged why = rw why.0 (why.1, first_of trails lists n m claims why.2.0 judged why.2.1)
 fault_of trails lists n claims (Double c m) judged why =
-    let P : ℕ → Type 0 = λ z. IsDouble lists z m in
+    let P : ℕ → Type 0 = λ z. IsDouble lists z m × IsFirst trails lists z m in
     let r = why.1.receipt in
     let by = why.1.by in
     let whose = judged.whose r.shard r.place by why.1.taken in
-    subst P (sym why.0) (record {
+    let double : IsDouble lists n m = record {
       receipt = r;
       is = why.1.is;
       by = by;
@@ -222,4 +223,5 @@ fault_of trails lists n claims (Double c m) judged why =
       its = whose.1.is;
       shard = whose.1.shard;
       place = whose.1.place;
-    })
+    } in
+    subst P (sym why.0) (double, first_of trails lists n m claims why.2.0 judged why.2.1)

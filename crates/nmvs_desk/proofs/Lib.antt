@@ -4,6 +4,7 @@ pub mod SameEntry
 pub mod Claiming
 pub mod Putting
 pub mod Floors
+pub mod First
 pub mod Judged
 pub mod Owned
 pub mod Unlocked

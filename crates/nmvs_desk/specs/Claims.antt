@@ -107,12 +107,16 @@ pub record IsTaken (receipts : List Receipt) (number : ℕ) (claims : Claimed) :
   pub by : Owner
   pub taken : at claims receipt.shard receipt.place ≡ Some (Some by)
 
--- why the receipts of a clerk are refused
+-- the first n receipts of a clerk could claim their places
+abbrev pub MayClaim : List (List Entry) → ℕ → List Receipt → ℕ → Claimed → Type 0
+MayClaim trails clerk receipts n old = (new : Claimed) × IsJudged trails clerk receipts n old new
+
+-- why the receipts of a clerk are refused, those before could claim their places
 abbrev pub IsRefused : List (List Entry) → ℕ → List Receipt → Claimed → SettleFault → Type 0
 IsRefused trails clerk receipts claims Memory = ⊥
-IsRefused trails clerk receipts claims (Stranger c number) = (c ≡ clerk) × IsStranger trails receipts number
-IsRefused trails clerk receipts claims (Order c number) = (c ≡ clerk) × IsOutOfOrder receipts number
-IsRefused trails clerk receipts claims (Double c number) = (c ≡ clerk) × IsTaken receipts number claims
+IsRefused trails clerk receipts claims (Stranger c number) = (c ≡ clerk) × IsStranger trails receipts number × MayClaim trails clerk receipts number claims
+IsRefused trails clerk receipts claims (Order c number) = (c ≡ clerk) × IsOutOfOrder receipts number × MayClaim trails clerk receipts number claims
+IsRefused trails clerk receipts claims (Double c number) = (c ≡ clerk) × IsTaken receipts number claims × MayClaim trails clerk receipts number claims
 
 -- the receipts of the first n clerks have claimed their places, and no other place is claimed
 pub record AreJudged (trails : List (List Entry)) (lists : List (List Receipt)) (n : ℕ) (claims : Claimed) : Type 0 where

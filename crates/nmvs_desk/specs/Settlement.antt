@@ -56,12 +56,23 @@ pub record IsDouble (lists : List (List Receipt)) (clerk number : ℕ) : Type 0 
   pub shard : other.shard ≡ receipt.shard
   pub place : other.place ≡ receipt.place
 
--- what a fault says
+-- nothing is wrong with a clerk's receipt
+pub record IsGood (trails : List (List Entry)) (lists : List (List Receipt)) (clerk number : ℕ) : Type 0 where
+  pub known : IsStranger trails (row lists clerk) number → ⊥
+  pub in_order : IsOutOfOrder (row lists clerk) number → ⊥
+  pub single : IsDouble lists clerk number → ⊥
+
+-- nothing is wrong with the receipts before a clerk's receipt: those of earlier clerks, and its clerk's earlier ones
+pub record IsFirst (trails : List (List Entry)) (lists : List (List Receipt)) (clerk number : ℕ) : Type 0 where
+  pub clerks : (c k : ℕ) → c < clerk → IsGood trails lists c k
+  pub own : (k : ℕ) → k < number → IsGood trails lists clerk k
+
+-- what a fault says: what is wrong with a receipt, which is the first with which something is
 abbrev pub IsFault : List (List Entry) → List (List Receipt) → SettleFault → Type 0
 IsFault trails lists Memory = Unit {0}
-IsFault trails lists (Stranger clerk number) = IsStranger trails (row lists clerk) number
-IsFault trails lists (Order clerk number) = IsOutOfOrder (row lists clerk) number
-IsFault trails lists (Double clerk number) = IsDouble lists clerk number
+IsFault trails lists (Stranger clerk number) = IsStranger trails (row lists clerk) number × IsFirst trails lists clerk number
+IsFault trails lists (Order clerk number) = IsOutOfOrder (row lists clerk) number × IsFirst trails lists clerk number
+IsFault trails lists (Double clerk number) = IsDouble lists clerk number × IsFirst trails lists clerk number
 
 -- the places of a clerk's receipts rise in each shard, in the order of the receipts
 abbrev pub Rises : List Receipt → Type 0

@@ -1,5 +1,5 @@
 -- Users files and commands of the registrar (own).
-use Rattle.std.specs.Prelude.{◌≡◌, ◌≢◌, ◌+◌, ◌<◌, ◌⊎◌, ℕ, List, [], ◌∷◌, ◌++◌, length, map, slice_index, Some, None, true}
+use Rattle.std.specs.Prelude.{◌≡◌, ◌≢◌, ◌+◌, ◌<◌, ◌⊎◌, ℕ, List, [], ◌∷◌, ◌++◌, length, map, slice_index, Some, None, true, false}
 use Rattle.std.specs.List.{flat_map}
 use Rattle.nmvs_directory.specs.declared.change.Change.{Change}
 use Rattle.nmvs_protocol.specs.Commands.{command_line, first_command_fault}
@@ -49,7 +49,7 @@ pub record StopsAt (bytes : List ℕ) (number : ℕ) (fault : CommandFault) : Ty
 -- what a fault tells of a users file
 abbrev pub Tells : List ℕ → LoadFault → Type 0
 Tells bytes (load.Line number fault) = StopsAt bytes number fault
-Tells bytes load.Read = Unit {0}
+Tells bytes load.Read = ⊥
 Tells bytes load.Memory = Unit {0}
 
 -- the users file that was read to its end, and the changes that it added to those pending, are published
@@ -61,12 +61,16 @@ pub record Loads (source source' : Told) (published pending published' : List Ch
   pub adds : Adds bytes pending added
   pub all : published' ≡ published ++ added
 
--- what a fault tells of the users file that was read
-abbrev pub Fails : Told → Told → LoadFault → Type 0
-Fails source source' (load.Line number fault) =
+-- a read failed, or so many reads did not reach the end
+abbrev pub CannotRead : Told → Told → ℕ → Type 0
+CannotRead source source' reads = (source'.failed ≡ true) ⊎ ((source'.reads ≡ source.reads + reads) × (source'.ended ≡ false))
+
+-- what a fault tells of the users file, of which at most so many reads were to be made
+abbrev pub Fails : Told → Told → ℕ → LoadFault → Type 0
+Fails source source' reads (load.Line number fault) =
     (bytes : List ℕ) × (source'.bytes ≡ source.bytes ++ bytes) × (source'.ended ≡ true) × StopsAt bytes number fault
-Fails source source' load.Read = Unit {0}
-Fails source source' load.Memory = Unit {0}
+Fails source source' reads load.Read = CannotRead source source' reads
+Fails source source' reads load.Memory = Unit {0}
 
 -- a command was carried out: its change is published, behind all that were pending
 pub record Obeys (line : List ℕ) (published pending published' pending' : List Change) : Type 0 where

@@ -1,5 +1,5 @@
 //! What time it is.
-ghost use Rattle.std.specs.Prelude.{◌≡◌, ◌+◌, ℕ, ℤ, ◌∷◌, length};
+ghost use Rattle.std.specs.Prelude.{◌≡◌, ◌+◌, ℕ, ℤ, ◌∷◌, length, pos, IfSome};
 
 use boxcar::tag::{Names, Tag};
 use nmvs_identifier::Moment;
@@ -28,7 +28,10 @@ pub struct ProgramClock<'a, R: std::rt::Clock> {
 
 impl<'a, R: std::rt::Clock> ProgramClock<'a, R> {
     /// The system's clock, or one that stands still at the moment.
-    pub fn new(rt: &'a R, still: Option<Moment>) -> ProgramClock<'a, R> {
+    pub fn new(rt: &'a R, still: Option<Moment>) -> ProgramClock<'a, R>
+        ensures still { result.still ≡ still }
+        ensures asked { length result.asked.numbers ≡ 0 }
+    {
         ProgramClock {
             rt,
             still,
@@ -61,7 +64,13 @@ impl<'a, R: std::rt::Clock> Clock for ProgramClock<'a, R> {
 
     ghost gave = { λ clock. clock.gave };
 
-    fn seconds(&mut self) -> i64 {
+    /// A clock that stands still gives its moment at each call.
+    fn seconds(&mut self) -> i64
+        ensures asked { length self.new.asked.numbers ≡ length self.old.asked.numbers + 1 }
+        ensures gave { self.new.gave ≡ result }
+        ensures still { IfSome self.old.still (λ moment. result ≡ pos moment) }
+        ensures kept { self.new.still ≡ self.old.still }
+    {
         self.asked = Tag::of::<Tag, OneMore>(&self.asked);
         self.gave = match self.still {
             Some(moment) => moment.seconds(),
