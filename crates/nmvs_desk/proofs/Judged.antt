@@ -1,18 +1,18 @@
 -- One more receipt judged, one more clerk judged, and why one is refused.
-use Rattle.std.proofs.Common.{◌≡◌, ◌≢◌, ◌==◌, ◌<◌, ◌+◌, ℕ, suc, zero, List, [], ◌∷◌, sym, refl, ap, subst, ◌∙◌, arith, inl, inr, get_or, take, replicate, length}
+use Rattle.std.proofs.Common.{◌≡◌, ◌≢◌, ◌==◌, ◌<◌, ◌+◌, ◌≤◌, ℕ, suc, zero, List, [], ◌∷◌, sym, refl, ap, subst, ◌∙◌, arith, inl, inr, get_or, take, replicate, length}
 use Rattle.std.specs.Prelude.{None, Some}
 use Rattle.std.specs.List.{slice_get, count_by}
 use Rattle.std.proofs.lemmas.Bool.Decides.{eqb_tells}
 use Rattle.std.proofs.lemmas.List.{length-replicate, length-map, take_all}
 use Rattle.std.proofs.lemmas.List.Sums.{sum_by_more, sum_by-cons, count_by_more_yes, count_by_more_no}
-use Rattle.std.proofs.lemmas.Option.{slice_get_within, get_or_from_slice_get}
+use Rattle.std.proofs.lemmas.Option.{slice_get_within, get_or_from_slice_get, same_Some}
 use Rattle.nmvs_rules.specs.declared.entry.Entry.{Entry}
 use Rattle.nmvs_desk.specs.declared.receipt.Receipt.{Receipt}
 use Rattle.nmvs_desk.specs.declared.owner.Owner.{Owner}
 use Rattle.nmvs_desk.specs.declared.settle_fault.SettleFault.{SettleFault}
 use Rattle.nmvs_desk.specs.declared.settle_fault.SettleFault.TheVariants.{Memory, Stranger, Order, Double}
-use Rattle.nmvs_desk.specs.Settlement.{row, at, owner, IsOutOfOrder, IsDouble, IsFirst, IsFault}
-use Rattle.nmvs_desk.specs.Claims.{Claimed, claims_in, claimed, fresh, HasPlaces, IsClaim, IsRaised, IsRefusal, AreFloors, IsJudged, IsRefused, AreJudged}
+use Rattle.nmvs_desk.specs.Settlement.{row, at, owner, IsStranger, IsOutOfOrder, IsDouble, IsFirst, IsFault}
+use Rattle.nmvs_desk.specs.Claims.{Claimed, claims_in, claimed, fresh, HasPlaces, IsClaim, IsRaised, IsRefusal, IsFloor, AreFloors, IsJudged, IsRefused, AreJudged}
 use Rattle.nmvs_desk.proofs.Claiming.{claimed_put, claims_in_same, claims_in_other}
 use Rattle.nmvs_desk.proofs.First.{first_of}
 use Rattle.nmvs_desk.proofs.Putting.{at_within, put_same, put_cases, put_kept}
@@ -91,6 +91,22 @@ judged_more trails clerk receipts n r floors raised old mid new so_far is floor 
           ];
     }
 
+-- a receipt that stands at its place is no stranger
+no_stranger : (trails : List (List Entry)) (receipts : List Receipt) (n : ℕ) (r : Receipt) → slice_get receipts n ≡ Some r → at trails r.shard r.place ≡ Some r.entry
+    → IsStranger trails receipts n → ⊥
+no_stranger trails receipts n r is stands s =
+    let it : r ≡ s.receipt = same_Some _ _ (sym is ∙ s.is) in
+    let P : Receipt → Type 0 = λ q. at trails q.shard q.place ≡ Some q.entry in
+    s.stranger (subst P it stands)
+
+-- a receipt that is not below its floor is not out of order
+in_order : (receipts : List Receipt) (n : ℕ) (r : Receipt) (floor : ℕ) → slice_get receipts n ≡ Some r → IsFloor receipts n r.shard floor → floor ≤ r.place
+    → IsOutOfOrder receipts n → ⊥
+in_order receipts n r floor is floors not_below o =
+    let it : o.receipt ≡ r = same_Some _ _ (sym o.is ∙ is) in
+    let before = floors.above o.before o.previous o.earlier o.was (o.shard ∙ ap (λ (q : Receipt). q.shard) it) in
+    omega (arith, before, not_below, o.not_above, ap (λ (q : Receipt). q.place) it)
+
 -- why a clerk's receipt, after those that were judged, claims nothing
 pub refused_at : (trails : List (List Entry)) (clerk : ℕ) (receipts : List Receipt) (n : ℕ) (r : Receipt) (floors : List ℕ) (old mid : Claimed) (fault : SettleFault)
     → IsJudged trails clerk receipts n old mid → slice_get receipts n ≡ Some r → AreFloors receipts n floors → IsRefusal trails r (owner clerk n) floors mid fault
@@ -117,16 +133,18 @@ refused_at trails clerk receipts n r floors old mid (Order c m) so_far is floor 
         not_above = omega (arith, l.just_above, why.2);
       }
     ] in
-    (ap (λ (o : Owner). o.clerk) why.0, subst P (sym it) out, (mid, rw it so_far))
+    (ap (λ (o : Owner). o.clerk) why.0, subst P (sym it) out, rw it (no_stranger trails receipts n r is why.3), (mid, rw it so_far))
 refused_at trails clerk receipts n r floors old mid (Double c m) so_far is floor why =
     let it : m ≡ n = ap (λ (o : Owner). o.receipt) why.0 in
-    let o = why.3 in
+    let o = why.4 in
     let taken : at old r.shard r.place ≡ Some (Some o) =
-    elim (so_far.whose r.shard r.place o why.4) [
+    elim (so_far.whose r.shard r.place o why.5) [
       | inl e ↦ e
       | inr e ↦ absurd (omega (arith, (floor r.shard why.1).above o.receipt e.1.receipt e.1.among e.1.is e.1.shard, e.1.place, why.2))
     ] in
-    (ap (λ (z : Owner). z.clerk) why.0, record { receipt = r; is = rw it is; by = o; taken = taken }, (mid, rw it so_far))
+    let known = no_stranger trails receipts n r is why.3 in
+    let ordered = in_order receipts n r _ is (floor r.shard why.1) why.2 in
+    (ap (λ (z : Owner). z.clerk) why.0, record { receipt = r; is = rw it is; by = o; taken = taken }, rw it known, rw it ordered, (mid, rw it so_far))
 
 fresh_rows : (trails : List (List Entry)) (i : ℕ) → length (row (fresh trails) i) ≡ length (row trails i)
 fresh_rows [] i = refl
@@ -208,9 +226,9 @@ pub fault_of : (trails : List (List Entry)) (lists : List (List Receipt)) (n : �
     → AreJudged trails lists n claims → IsRefused trails n (row lists n) claims fault → IsFault trails lists fault
 fault_of trails lists n claims Memory judged why = tt
 fault_of trails lists n claims (Stranger c m) judged why = rw why.0 (why.1, first_of trails lists n m claims why.2.0 judged why.2.1)
-fault_of trails lists n claims (Order c m) judged why = rw why.0 (why.1, first_of trails lists n m claims why.2.0 judged why.2.1)
+fault_of trails lists n claims (Order c m) judged why = rw why.0 (why.1, why.2, first_of trails lists n m claims why.3.0 judged why.3.1)
 fault_of trails lists n claims (Double c m) judged why =
-    let P : ℕ → Type 0 = λ z. IsDouble lists z m × IsFirst trails lists z m in
+    let P : ℕ → Type 0 = λ z. IsDouble lists z m × (IsStranger trails (row lists z) m → ⊥) × (IsOutOfOrder (row lists z) m → ⊥) × IsFirst trails lists z m in
     let r = why.1.receipt in
     let by = why.1.by in
     let whose = judged.whose r.shard r.place by why.1.taken in
@@ -224,4 +242,4 @@ fault_of trails lists n claims (Double c m) judged why =
       shard = whose.1.shard;
       place = whose.1.place;
     } in
-    subst P (sym why.0) (double, first_of trails lists n m claims why.2.0 judged why.2.1)
+    subst P (sym why.0) (double, why.2, why.3, first_of trails lists n m claims why.4.0 judged why.4.1)

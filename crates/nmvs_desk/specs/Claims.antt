@@ -60,9 +60,11 @@ pub record IsRaised (receipt : Receipt) (old new : List ℕ) : Type 0 where
 abbrev pub IsRefusal : List (List Entry) → Receipt → Owner → List ℕ → Claimed → SettleFault → Type 0
 IsRefusal trails r by floors claims Memory = ⊥
 IsRefusal trails r by floors claims (Stranger clerk number) = (owner clerk number ≡ by) × (at trails r.shard r.place ≢ Some r.entry)
-IsRefusal trails r by floors claims (Order clerk number) = (owner clerk number ≡ by) × (r.shard < 8) × (r.place < slice_index floors r.shard)
+IsRefusal trails r by floors claims (Order clerk number) =
+    (owner clerk number ≡ by) × (r.shard < 8) × (r.place < slice_index floors r.shard) × (at trails r.shard r.place ≡ Some r.entry)
 IsRefusal trails r by floors claims (Double clerk number) =
-    (owner clerk number ≡ by) × (r.shard < 8) × (slice_index floors r.shard ≤ r.place) × (o : Owner) × (at claims r.shard r.place ≡ Some (Some o))
+    (owner clerk number ≡ by) × (r.shard < 8) × (slice_index floors r.shard ≤ r.place) × (at trails r.shard r.place ≡ Some r.entry)
+    × (o : Owner) × (at claims r.shard r.place ≡ Some (Some o))
 
 -- of the first n receipts one is the last in a shard, and a floor is just above its place
 pub record IsLast (receipts : List Receipt) (n s floor : ℕ) : Type 0 where
@@ -115,8 +117,11 @@ MayClaim trails clerk receipts n old = (new : Claimed) × IsJudged trails clerk 
 abbrev pub IsRefused : List (List Entry) → ℕ → List Receipt → Claimed → SettleFault → Type 0
 IsRefused trails clerk receipts claims Memory = ⊥
 IsRefused trails clerk receipts claims (Stranger c number) = (c ≡ clerk) × IsStranger trails receipts number × MayClaim trails clerk receipts number claims
-IsRefused trails clerk receipts claims (Order c number) = (c ≡ clerk) × IsOutOfOrder receipts number × MayClaim trails clerk receipts number claims
-IsRefused trails clerk receipts claims (Double c number) = (c ≡ clerk) × IsTaken receipts number claims × MayClaim trails clerk receipts number claims
+IsRefused trails clerk receipts claims (Order c number) =
+    (c ≡ clerk) × IsOutOfOrder receipts number × (IsStranger trails receipts number → ⊥) × MayClaim trails clerk receipts number claims
+IsRefused trails clerk receipts claims (Double c number) =
+    (c ≡ clerk) × IsTaken receipts number claims × (IsStranger trails receipts number → ⊥) × (IsOutOfOrder receipts number → ⊥)
+    × MayClaim trails clerk receipts number claims
 
 -- the receipts of the first n clerks have claimed their places, and no other place is claimed
 pub record AreJudged (trails : List (List Entry)) (lists : List (List Receipt)) (n : ℕ) (claims : Claimed) : Type 0 where

@@ -67,12 +67,16 @@ pub record IsFirst (trails : List (List Entry)) (lists : List (List Receipt)) (c
   pub clerks : (c k : ℕ) → c < clerk → IsGood trails lists c k
   pub own : (k : ℕ) → k < number → IsGood trails lists clerk k
 
--- what a fault says: what is wrong with a receipt, which is the first with which something is
+-- what a fault says: what is wrong with a receipt, which is the first with which something is. Of a receipt with two
+-- faults the one that comes first here is told
 abbrev pub IsFault : List (List Entry) → List (List Receipt) → SettleFault → Type 0
 IsFault trails lists Memory = Unit {0}
 IsFault trails lists (Stranger clerk number) = IsStranger trails (row lists clerk) number × IsFirst trails lists clerk number
-IsFault trails lists (Order clerk number) = IsOutOfOrder (row lists clerk) number × IsFirst trails lists clerk number
-IsFault trails lists (Double clerk number) = IsDouble lists clerk number × IsFirst trails lists clerk number
+IsFault trails lists (Order clerk number) =
+    IsOutOfOrder (row lists clerk) number × (IsStranger trails (row lists clerk) number → ⊥) × IsFirst trails lists clerk number
+IsFault trails lists (Double clerk number) =
+    IsDouble lists clerk number × (IsStranger trails (row lists clerk) number → ⊥) × (IsOutOfOrder (row lists clerk) number → ⊥)
+    × IsFirst trails lists clerk number
 
 -- the places of a clerk's receipts rise in each shard, in the order of the receipts
 abbrev pub Rises : List Receipt → Type 0

@@ -192,8 +192,8 @@ fn judge_slots<'a, B: Allocator, J: Naming, S: EntryLedger, C: ReceiptLedger>(
 ///
 /// # Errors
 ///
-/// `Memory` where a growth was refused, else the first receipt that cannot be settled. Repository and clerks are then
-/// given back as they were.
+/// `Memory` where a growth was refused, else the first receipt that cannot be settled, and the first of the faults that it
+/// has: `Stranger`, `Order`, `Double`. Repository and clerks are then given back as they were.
 pub fn settle<'a, B: Allocator, J: Naming, S: EntryLedger, C: ReceiptLedger>(
     alloc: &'a B,
     repository: Repository<'a, B, S, C>,

@@ -16,7 +16,7 @@ returns-then-not-claim-clause-refused g c =
     let place = place_within (trails_of locked) c.args.claims.now.items _ _ _ c.index_mut.result.now c.requires.places c.if-not-stands.ensures c.index_mut.ensures.value in
     let by = claimed_by c.index_mut.result.now c.args.receipt.now.place place.0 c.if-not-claim.ensures.claimed.1 in
     let few : c.args.receipt.now.shard < 8 = omega (arith, at_within (trails_of locked) _ _ _ c.if-not-stands.ensures, length-map locked (λ (h : Held). h.trail), c.requires.few) in
-    (refl, few, c.if-receipt-floors.false, by.0, place.1 ∙ by.1)
+    (refl, few, c.if-receipt-floors.false, c.if-not-stands.ensures, by.0, place.1 ∙ by.1)
 
 pub overflow_add-floors : goal.overflow_add-floors
 overflow_add-floors g c =
