@@ -11,7 +11,7 @@ use arrayvec::ArrayString;
 use itoa::Buffer;
 use nmvs_identifier::{Batch, Expiry};
 use nmvs_record::entry_line;
-use nmvs_rules::{BatchLock, Cause, Entry, Onward, Own, Refusal, Reply};
+use nmvs_rules::{BatchLock, Cause, Entry, Onward, OwnStatus, Refusal, Reply};
 use nmvs_words::{
     cause_word, flag_word, lock_word, onward_word, own_word, refusal_word, validity_word,
 };
@@ -122,7 +122,7 @@ fn alert(cause: Cause, flagged: bool, number: u64) -> ArrayString<LONGEST_REPLY>
 }
 
 fn status(
-    own: Own,
+    own: OwnStatus,
     lock: BatchLock,
     onward: Onward,
     batch: Batch,

@@ -14,7 +14,7 @@ use Rattle.nmvs_rules.specs.declared.cause.Cause.{Cause}
 use Rattle.nmvs_rules.specs.declared.cause.Cause.TheVariants as cause
 use Rattle.nmvs_rules.specs.declared.entry.Entry.{Entry}
 use Rattle.nmvs_rules.specs.declared.facts.Known.{Known}
-use Rattle.nmvs_rules.specs.declared.own.Own.{Own}
+use Rattle.nmvs_rules.specs.declared.own_status.OwnStatus.{OwnStatus}
 use Rattle.nmvs_rules.specs.declared.question.Question.{Question}
 use Rattle.nmvs_rules.specs.declared.question.Question.TheVariants.{Verify, Decommission, Handover, Recall, Withdraw, Theft}
 use Rattle.nmvs_rules.specs.declared.reason.Reason.{Reason}
@@ -64,7 +64,7 @@ uploaded-known t p b x m uploaded last =
     let upload = birth-of t p b x uploaded in
     known-made t p upload.2.0 upload.0 m b x upload.1 upload.2.1 (sym (last-operation t p) ∙ last)
 
-tells-lock : (c : ProductCode) (b : Batch) (q : Question) (o : Own) (w : Cause × Bool) → locks_batch c b q ≡ true → alarm q ≡ Some w → (cause_of o (lock_by q) ≡ w.0) × (is_flagged o (lock_by q) ≡ w.1)
+tells-lock : (c : ProductCode) (b : Batch) (q : Question) (o : OwnStatus) (w : Cause × Bool) → locks_batch c b q ≡ true → alarm q ≡ Some w → (cause_of o (lock_by q) ≡ w.0) × (is_flagged o (lock_by q) ≡ w.1)
 tells-lock c b (Recall d l) o w locks is = let same : (cause.Recalled, false) ≡ w = cc in (ap (λ z. z.0) same, ap (λ z. z.1) same)
 tells-lock c b (Withdraw d l) o w locks is = let same : (cause.Withdrawn, false) ≡ w = cc in (ap (λ z. z.0) same, ap (λ z. z.1) same)
 tells-lock c b q o w locks is = let none : false ≡ true = locks in (cc, cc)
@@ -74,7 +74,7 @@ pub locked-alerts : (t : List Entry) (q : Put) (p : Pack) (b : Batch) (x : Expir
 locked-alerts t q p b x l w asks may uploaded locked is =
     let upload = birth-of t p b x uploaded in
     let marked = mark-of-born t p upload.0 upload.1 in
-    let own : Own = own_given marked.0.question in
+    let own : OwnStatus = own_given marked.0.question in
     let found : find (accepted_lock p.code b) t ≡ Some l = (λ i. find (λ e. sym (binds-is p.code b e) i) t) ∙ locked in
     let locks : locks_batch p.code b l.question ≡ true = first_so _ _ (find-passes (accepted_lock p.code b) t l found) in
     let tells = tells-lock p.code b l.question own w locks is in

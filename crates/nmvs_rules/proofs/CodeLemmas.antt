@@ -17,8 +17,8 @@ use Rattle.nmvs_rules.specs.declared.facts.Known.{Known}
 use Rattle.nmvs_rules.specs.declared.reply.Reply.{Reply}
 use Rattle.nmvs_rules.specs.declared.reply.Reply.TheVariants as reply
 use Rattle.nmvs_rules.specs.declared.refusal.Refusal.TheVariants as refusal
-use Rattle.nmvs_rules.specs.declared.own.Own.{Own}
-use Rattle.nmvs_rules.specs.declared.own.Own.TheVariants as own
+use Rattle.nmvs_rules.specs.declared.own_status.OwnStatus.{OwnStatus}
+use Rattle.nmvs_rules.specs.declared.own_status.OwnStatus.TheVariants as own
 use Rattle.nmvs_rules.specs.declared.batch_lock.BatchLock.{BatchLock}
 use Rattle.nmvs_rules.specs.declared.batch_lock.BatchLock.TheVariants as lock
 use Rattle.nmvs_rules.specs.Questions.{Put, may_ask, pack_of, code_of, names}
@@ -143,7 +143,7 @@ known_batch-code : (t : List Entry) (c : ProductCode) (b : Batch) → is_known_b
 known_batch-code t c b = list_any-filter (is_birth_in c b) (has_code c) (λ e h. uploads-code c b e.question (first_so _ _ h)) t
 
 -- an entry counts alike on the trail and on the code's part of it
-stands-code : (t : List Entry) (c : ProductCode) (b : Batch) (s : Own) (q : Question) (a : Bool) → (uploads_batch c b q && a && stands_at (part_of t c) s (pack_of q)) ≡ (uploads_batch c b q && a && stands_at t s (pack_of q))
+stands-code : (t : List Entry) (c : ProductCode) (b : Batch) (s : OwnStatus) (q : Question) (a : Bool) → (uploads_batch c b q && a && stands_at (part_of t c) s (pack_of q)) ≡ (uploads_batch c b q && a && stands_at t s (pack_of q))
 stands-code t c b s (Upload p d x) a = by (same_text c p.code) refl
   where
     by : (v : Bool) → same_text c p.code ≡ v → ((same_text c p.code && same_text b d) && a && stands_at (part_of t c) s (Some p)) ≡ ((same_text c p.code && same_text b d) && a && stands_at t s (Some p))
@@ -151,7 +151,7 @@ stands-code t c b s (Upload p d x) a = by (same_text c p.code) refl
     by false h = rw h refl
 stands-code t c b s q a = refl
 
-count-code : (t : List Entry) (c : ProductCode) (b : Batch) (s : Own) → count_of (part_of t c) c b s ≡ count_of t c b s
+count-code : (t : List Entry) (c : ProductCode) (b : Batch) (s : OwnStatus) → count_of (part_of t c) c b s ≡ count_of t c b s
 count-code t c b s =
     (λ j. count_by (λ e. stands-code t c b s e.question (is_accepted e) j) (part_of t c))
     ∙ count_by-filter (λ e. is_birth_in c b e && stands_at t s (pack_of e.question)) (has_code c) (λ e h. uploads-code c b e.question (first_so _ _ (first_so _ _ h))) t

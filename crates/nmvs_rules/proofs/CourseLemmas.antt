@@ -10,8 +10,8 @@ use Rattle.nmvs_rules.specs.declared.reason.Reason.{Reason}
 use Rattle.nmvs_rules.specs.declared.reason.Reason.TheVariants as reason
 use Rattle.nmvs_rules.specs.declared.question.Question.{Question}
 use Rattle.nmvs_rules.specs.declared.question.Question.TheVariants.{Upload, Decommission, Handover, Revert, Recall, Withdraw, Theft}
-use Rattle.nmvs_rules.specs.declared.own.Own.{Own}
-use Rattle.nmvs_rules.specs.declared.own.Own.TheVariants as own
+use Rattle.nmvs_rules.specs.declared.own_status.OwnStatus.{OwnStatus}
+use Rattle.nmvs_rules.specs.declared.own_status.OwnStatus.TheVariants as own
 use Rattle.nmvs_rules.specs.declared.entry.Entry.{Entry}
 use Rattle.nmvs_rules.specs.declared.facts.Known.{Known}
 use Rattle.nmvs_rules.specs.Questions.{pack_of, names}
@@ -33,7 +33,7 @@ decommissioned-not_active (Decommission p reason.Sample) h = refl
 decommissioned-not_active (Decommission p reason.Destroy) h = refl
 decommissioned-not_active q h = cc
 
-decommissioned : (o : Own) (w : Reason) → is_active o ≡ true → may_become o (own_by_reason w) ≡ true
+decommissioned : (o : OwnStatus) (w : Reason) → is_active o ≡ true → may_become o (own_by_reason w) ≡ true
 decommissioned own.Active reason.Supply h = refl
 decommissioned own.Active reason.Hold h = refl
 decommissioned own.Active reason.Export h = refl
@@ -41,11 +41,11 @@ decommissioned own.Active reason.Sample h = refl
 decommissioned own.Active reason.Destroy h = refl
 decommissioned o w h = cc
 
-handed_over : (o : Own) → is_held o ≡ true → may_become o own.Supplied ≡ true
+handed_over : (o : OwnStatus) → is_held o ≡ true → may_become o own.Supplied ≡ true
 handed_over own.Held h = refl
 handed_over o h = cc
 
-reverted : (o : Own) → is_active o ≡ false → is_stolen o ≡ false → is_destroyed o ≡ false → is_supplied o ≡ false → may_become o own.Active ≡ true
+reverted : (o : OwnStatus) → is_active o ≡ false → is_stolen o ≡ false → is_destroyed o ≡ false → is_supplied o ≡ false → may_become o own.Active ≡ true
 reverted own.Active active stolen destroyed supplied = sym active
 reverted own.Held active stolen destroyed supplied = refl
 reverted own.Supplied active stolen destroyed supplied = sym supplied
@@ -54,7 +54,7 @@ reverted own.Sampled active stolen destroyed supplied = refl
 reverted own.Destroyed active stolen destroyed supplied = sym destroyed
 reverted own.Stolen active stolen destroyed supplied = sym stolen
 
-stolen : (o : Own) → is_stolen o ≡ false → may_become o own.Stolen ≡ true
+stolen : (o : OwnStatus) → is_stolen o ≡ false → may_become o own.Stolen ≡ true
 stolen own.Stolen h = sym h
 stolen own.Active h = refl
 stolen o h = refl
@@ -140,11 +140,11 @@ stays-unknown t e p unknown other = known-push t e p ∙ by (is_mark p e) refl
     by false marks = unknown
 
 -- the pack is known, and its own status passes a test
-abbrev pub Stands : (Own → Bool) → List Entry → Pack → Type 0
+abbrev pub Stands : (OwnStatus → Bool) → List Entry → Pack → Type 0
 Stands passes t p = KnownAnd t p (λ k. passes k.own ≡ true)
 
 -- a test on own statuses that holds along the course holds of a pack for ever
-Stands-push : (passes : Own → Bool) → ((o w : Own) → passes o ≡ true → may_become o w ≡ true → passes w ≡ true) → (t : List Entry) (e : Entry) (p : Pack) → Stands passes t p → e.reply ≡ reply_of t (put_of e) → Stands passes (t ++ e ∷ []) p
+Stands-push : (passes : OwnStatus → Bool) → ((o w : OwnStatus) → passes o ≡ true → may_become o w ≡ true → passes w ≡ true) → (t : List Entry) (e : Entry) (p : Pack) → Stands passes t p → e.reply ≡ reply_of t (put_of e) → Stands passes (t ++ e ∷ []) p
 Stands-push passes keeps t e p h lawful = by (is_mark p e) refl
   where
     by : (b : Bool) → is_mark p e ≡ b → Stands passes (t ++ e ∷ []) p
@@ -156,10 +156,10 @@ Stands-push passes keeps t e p h lawful = by (is_mark p e) refl
     by false other = (h.0, known-after-other t e p other ∙ h.1, h.2)
 
 -- a pack that was supplied: it is Supplied, or else Stolen
-abbrev is_gone : Own → Bool
+abbrev is_gone : OwnStatus → Bool
 is_gone o = is_supplied o || is_stolen o
 
-gone-keeps : (o w : Own) → is_gone o ≡ true → may_become o w ≡ true → is_gone w ≡ true
+gone-keeps : (o w : OwnStatus) → is_gone o ≡ true → may_become o w ≡ true → is_gone w ≡ true
 gone-keeps own.Supplied own.Active h m = m
 gone-keeps own.Supplied own.Held h m = m
 gone-keeps own.Supplied own.Supplied h m = refl
@@ -175,15 +175,15 @@ supply-gone (Decommission s reason.Supply) h = (inl refl, refl)
 supply-gone (Handover s) h = (inr refl, refl)
 supply-gone q h = let none : false ≡ true = h in (inl cc, cc)
 
-gone-not_active : (o : Own) → is_gone o ≡ true → is_active o ≡ true → true ≡ false
+gone-not_active : (o : OwnStatus) → is_gone o ≡ true → is_active o ≡ true → true ≡ false
 gone-not_active own.Active gone active = sym gone
 gone-not_active o gone active = sym active
 
-gone-not_held : (o : Own) → is_gone o ≡ true → is_held o ≡ true → true ≡ false
+gone-not_held : (o : OwnStatus) → is_gone o ≡ true → is_held o ≡ true → true ≡ false
 gone-not_held own.Held gone held = sym gone
 gone-not_held o gone held = sym held
 
-gone-not_reversible : (o : Own) → is_gone o ≡ true → is_supplied o ≡ false → is_stolen o ≡ false → true ≡ false
+gone-not_reversible : (o : OwnStatus) → is_gone o ≡ true → is_supplied o ≡ false → is_stolen o ≡ false → true ≡ false
 gone-not_reversible own.Supplied gone supplied robbed = supplied
 gone-not_reversible own.Stolen gone supplied robbed = robbed
 gone-not_reversible o gone supplied robbed = sym gone
@@ -244,7 +244,7 @@ supplied-once before between after supply later p lawful supplied_by = (
     gone = behind-keeps (λ z. Stands is_gone z p) (λ z e k l. Stands-push is_gone gone-keeps z e p k l) before between supply supplied at.between
 
 -- an accepted operation other than a reversion leaves a known pack out of circulation
-abbrev is_out : Own → Bool
+abbrev is_out : OwnStatus → Bool
 is_out o = not (is_active o)
 
 out-keeps : (t : List Entry) (e : Entry) (p : Pack) → Stands is_out t p → e.reply ≡ reply_of t (put_of e) → accepted_reversion p e ≡ false → Stands is_out (t ++ e ∷ []) p

@@ -12,8 +12,8 @@ use Rattle.nmvs_rules.specs.declared.batch_lock.BatchLock.{BatchLock}
 use Rattle.nmvs_rules.specs.declared.batch_lock.BatchLock.TheVariants as lock
 use Rattle.nmvs_rules.specs.declared.entry.Entry.{Entry}
 use Rattle.nmvs_rules.specs.declared.facts.Known.{Known}
-use Rattle.nmvs_rules.specs.declared.own.Own.{Own}
-use Rattle.nmvs_rules.specs.declared.own.Own.TheVariants as own
+use Rattle.nmvs_rules.specs.declared.own_status.OwnStatus.{OwnStatus}
+use Rattle.nmvs_rules.specs.declared.own_status.OwnStatus.TheVariants as own
 use Rattle.nmvs_rules.specs.declared.question.Question.{Question}
 use Rattle.nmvs_rules.specs.declared.question.Question.TheVariants.{Upload, Verify, Status, Decommission, Handover, Revert, Recall, Withdraw, Theft, Audit}
 use Rattle.nmvs_rules.specs.declared.refusal.Refusal.TheVariants as refusal
@@ -161,11 +161,11 @@ module _ (t : List Entry) (none : list_any asks_handover t ≡ false) where
   known_batch-alike : (c : ProductCode) (b : Batch) → is_known_batch t c b ≡ past.is_known_batch t c b
   known_batch-alike c b = list_any-alike asks_handover (is_birth_in c b) (past.is_birth_in c b) (birth-alike c b) t none
 
-  stands-alike : (s : Own) (o : Option Pack) → stands_at t s o ≡ past.stands_at t s o
+  stands-alike : (s : OwnStatus) (o : Option Pack) → stands_at t s o ≡ past.stands_at t s o
   stands-alike s None = refl
   stands-alike s (Some p) = ap (is_own s) (own-alike p)
 
-  count-alike : (c : ProductCode) (b : Batch) (s : Own) → count_of t c b s ≡ past.count_of t c b s
+  count-alike : (c : ProductCode) (b : Batch) (s : OwnStatus) → count_of t c b s ≡ past.count_of t c b s
   count-alike c b s =
       count_by-alike asks_handover _ _ (λ e h. λ i. birth-alike c b e h i && stands-alike s (pack_of e.question) i) t none
 

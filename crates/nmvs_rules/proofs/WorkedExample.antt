@@ -14,8 +14,8 @@ use Rattle.nmvs_rules.specs.declared.reply.Reply.TheVariants as reply
 use Rattle.nmvs_rules.specs.declared.refusal.Refusal.TheVariants as refusal
 use Rattle.nmvs_rules.specs.declared.cause.Cause.TheVariants as cause
 use Rattle.nmvs_rules.specs.declared.onward.Onward.TheVariants as onward
-use Rattle.nmvs_rules.specs.declared.own.Own.{Own}
-use Rattle.nmvs_rules.specs.declared.own.Own.TheVariants as own
+use Rattle.nmvs_rules.specs.declared.own_status.OwnStatus.{OwnStatus}
+use Rattle.nmvs_rules.specs.declared.own_status.OwnStatus.TheVariants as own
 use Rattle.nmvs_rules.specs.declared.batch_lock.BatchLock.{BatchLock}
 use Rattle.nmvs_rules.specs.declared.batch_lock.BatchLock.TheVariants as lock
 use Rattle.nmvs_rules.specs.declared.entry.Entry.{Entry}
@@ -64,7 +64,7 @@ abbrev after : List Entry → Put → List Entry
 after t q = t ++ answered q (reply_of t q) ∷ []
 
 -- what is known of the pack where a mark of this actor at this place gave it an own status
-abbrev known_as : Own → ℕ → Actor → Option Known
+abbrev known_as : OwnStatus → ℕ → Actor → Option Known
 known_as s place a = Some (record {
   batch = batch;
   expiry = expiry;

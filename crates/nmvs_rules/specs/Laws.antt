@@ -9,8 +9,8 @@ use Rattle.nmvs_identifier.specs.ProductCode.{ProductCode}
 use Rattle.nmvs_identifier.specs.declared.pack.Pack.{Pack}
 use Rattle.nmvs_rules.specs.declared.entry.Entry.{Entry}
 use Rattle.nmvs_rules.specs.declared.facts.Known.{Known}
-use Rattle.nmvs_rules.specs.declared.own.Own.{Own}
-use Rattle.nmvs_rules.specs.declared.own.Own.TheVariants as own
+use Rattle.nmvs_rules.specs.declared.own_status.OwnStatus.{OwnStatus}
+use Rattle.nmvs_rules.specs.declared.own_status.OwnStatus.TheVariants as own
 use Rattle.nmvs_rules.specs.declared.question.Question.{Question}
 use Rattle.nmvs_rules.specs.declared.question.Question.TheVariants.{Upload, Verify, Decommission, Handover, Recall, Withdraw}
 use Rattle.nmvs_rules.specs.declared.reason.Reason.{Reason}
@@ -81,7 +81,7 @@ IsHeldBy t c n = IsSomeAnd (find (uploads_code c) t) (λ u. u.actor.authorisatio
 -- whether one own status may follow another: an active pack goes any way, a held one is supplied, a held, exported or
 -- sampled one comes back or is stolen, a supplied or destroyed one is stolen at most, and a stolen one stays so
 -- (Articles 12, 13, 22, 25 and 40)
-abbrev pub may_become : Own → Own → Bool
+abbrev pub may_become : OwnStatus → OwnStatus → Bool
 may_become own.Active own.Active = false
 may_become own.Active _ = true
 may_become own.Held own.Active = true

@@ -9,8 +9,8 @@ use Rattle.nmvs_identifier.specs.Texts.{same_text}
 use Rattle.nmvs_rules.specs.declared.cause.Cause.{Cause}
 use Rattle.nmvs_rules.specs.declared.cause.Cause.TheVariants as cause
 use Rattle.nmvs_rules.specs.declared.entry.Entry.{Entry}
-use Rattle.nmvs_rules.specs.declared.own.Own.{Own}
-use Rattle.nmvs_rules.specs.declared.own.Own.TheVariants as own
+use Rattle.nmvs_rules.specs.declared.own_status.OwnStatus.{OwnStatus}
+use Rattle.nmvs_rules.specs.declared.own_status.OwnStatus.TheVariants as own
 use Rattle.nmvs_rules.specs.declared.question.Question.{Question}
 use Rattle.nmvs_rules.specs.declared.question.Question.TheVariants.{Upload, Verify, Decommission, Handover, Revert, Recall, Withdraw, Theft}
 use Rattle.nmvs_rules.specs.declared.reason.Reason.TheVariants as reason
@@ -109,7 +109,7 @@ abbrev pub last_operation : List Entry → Pack → Option Entry
 last_operation t p = find (operates p) (reverse t)
 
 -- the own status that an operation leaves its pack with (Articles 11, 13, 22, 25 and 40)
-abbrev pub own_left : Question → Option Own
+abbrev pub own_left : Question → Option OwnStatus
 own_left (Upload _ _ _) = Some own.Active
 own_left (Revert _) = Some own.Active
 own_left (Decommission _ reason.Supply) = Some own.Supplied

@@ -16,8 +16,8 @@ use Rattle.nmvs_rules.specs.declared.cause.Cause.{Cause}
 use Rattle.nmvs_rules.specs.declared.cause.Cause.TheVariants as cause
 use Rattle.nmvs_rules.specs.declared.onward.Onward.{Onward}
 use Rattle.nmvs_rules.specs.declared.onward.Onward.TheVariants as onward
-use Rattle.nmvs_rules.specs.declared.own.Own.{Own}
-use Rattle.nmvs_rules.specs.declared.own.Own.TheVariants as own
+use Rattle.nmvs_rules.specs.declared.own_status.OwnStatus.{OwnStatus}
+use Rattle.nmvs_rules.specs.declared.own_status.OwnStatus.TheVariants as own
 use Rattle.nmvs_rules.specs.declared.batch_lock.BatchLock.{BatchLock}
 use Rattle.nmvs_rules.specs.declared.batch_lock.BatchLock.TheVariants as lock
 use Rattle.nmvs_rules.specs.declared.entry.Entry.{Entry}
@@ -37,33 +37,33 @@ is_free lock.Free = true
 is_free _ = false
 
 -- whether the pack is active: neither decommissioned nor reported stolen (Article 11)
-abbrev pub is_active : Own → Bool
+abbrev pub is_active : OwnStatus → Bool
 is_active own.Active = true
 is_active _ = false
 
 -- whether the pack was decommissioned for supply and is still in possession (Article 25)
-abbrev pub is_held : Own → Bool
+abbrev pub is_held : OwnStatus → Bool
 is_held own.Held = true
 is_held _ = false
 
 -- whether the pack was decommissioned for destruction (Articles 13(1)(d), 22 and 25)
-abbrev pub is_destroyed : Own → Bool
+abbrev pub is_destroyed : OwnStatus → Bool
 is_destroyed own.Destroyed = true
 is_destroyed _ = false
 
 -- whether the pack was reported stolen (Articles 13(1)(d) and 40)
-abbrev pub is_stolen : Own → Bool
+abbrev pub is_stolen : OwnStatus → Bool
 is_stolen own.Stolen = true
 is_stolen _ = false
 
 -- whether the pack was supplied to the public (Articles 13(1)(e) and 25)
-abbrev pub is_supplied : Own → Bool
+abbrev pub is_supplied : OwnStatus → Bool
 is_supplied own.Supplied = true
 is_supplied _ = false
 
 -- why a pack of a free batch is not authentic: its own status. An active one is authentic and has no alert (after
 -- Article 36)
-abbrev pub cause_by_own : Own → Cause
+abbrev pub cause_by_own : OwnStatus → Cause
 cause_by_own own.Active = cause.Unknown
 cause_by_own own.Held = cause.Held
 cause_by_own own.Supplied = cause.Supplied
@@ -73,18 +73,18 @@ cause_by_own own.Destroyed = cause.Destroyed
 cause_by_own own.Stolen = cause.Stolen
 
 -- why a known pack is not authentic: its batch's lock where that is not free, else its own status (after Article 36)
-abbrev pub cause_of : Own → BatchLock → Cause
+abbrev pub cause_of : OwnStatus → BatchLock → Cause
 cause_of o lock.Free = cause_by_own o
 cause_of o lock.Recalled = cause.Recalled
 cause_of o lock.Withdrawn = cause.Withdrawn
 
 -- whether an alert on a known pack is flagged as a potential falsification: not where the pack is recalled, withdrawn
 -- or decommissioned for destruction (after Article 36)
-abbrev pub is_flagged : Own → BatchLock → Bool
+abbrev pub is_flagged : OwnStatus → BatchLock → Bool
 is_flagged o l = is_free l && not (is_destroyed o)
 
 -- where a pack of a free batch may go (Article 12; the words, and what a held and a supplied pack give, are own)
-abbrev pub onward_by_own : Own → Onward
+abbrev pub onward_by_own : OwnStatus → Onward
 onward_by_own own.Active = onward.Stock
 onward_by_own own.Held = onward.Supply
 onward_by_own own.Supplied = onward.Nowhere
@@ -94,13 +94,13 @@ onward_by_own own.Destroyed = onward.Disposal
 onward_by_own own.Stolen = onward.Disposal
 
 -- where a pack may go: one of a recalled or withdrawn batch only to disposal (Articles 12 and 40)
-abbrev pub onward_by : Own → BatchLock → Onward
+abbrev pub onward_by : OwnStatus → BatchLock → Onward
 onward_by o lock.Free = onward_by_own o
 onward_by o _ = onward.Disposal
 
 -- whether a known pack is authentic: its identifier is active, and its batch neither recalled nor withdrawn (Articles
 -- 11 and 40)
-abbrev pub is_authentic : Own → BatchLock → Bool
+abbrev pub is_authentic : OwnStatus → BatchLock → Bool
 is_authentic o l = is_active o && is_free l
 
 -- whether the actor is covered by the same authorisation and operates in the same premises as the mark's (Article

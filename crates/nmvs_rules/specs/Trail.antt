@@ -14,8 +14,8 @@ use Rattle.nmvs_rules.specs.declared.question.Question.{Question}
 use Rattle.nmvs_rules.specs.declared.question.Question.TheVariants.{Upload, Decommission, Handover, Revert, Recall, Withdraw, Theft}
 use Rattle.nmvs_rules.specs.declared.reply.Reply.{Reply}
 use Rattle.nmvs_rules.specs.declared.reply.Reply.TheVariants as reply
-use Rattle.nmvs_rules.specs.declared.own.Own.{Own}
-use Rattle.nmvs_rules.specs.declared.own.Own.TheVariants as own
+use Rattle.nmvs_rules.specs.declared.own_status.OwnStatus.{OwnStatus}
+use Rattle.nmvs_rules.specs.declared.own_status.OwnStatus.TheVariants as own
 use Rattle.nmvs_rules.specs.declared.batch_lock.BatchLock.{BatchLock}
 use Rattle.nmvs_rules.specs.declared.batch_lock.BatchLock.TheVariants as lock
 use Rattle.nmvs_rules.specs.declared.entry.Entry.{Entry}
@@ -90,7 +90,7 @@ abbrev pub mark_place : List Entry → Pack → ℕ
 mark_place t p = length t - suffix_len (λ e. not (is_mark p e)) t - 1
 
 -- the own status that a decommissioning for this reason gives (own, after Articles 22 and 25)
-abbrev pub own_by_reason : Reason → Own
+abbrev pub own_by_reason : Reason → OwnStatus
 own_by_reason reason.Supply = own.Supplied
 own_by_reason reason.Hold = own.Held
 own_by_reason reason.Export = own.Exported
@@ -99,14 +99,14 @@ own_by_reason reason.Destroy = own.Destroyed
 
 -- the own status that a question gives once it is accepted: supplied by a handover, active by an upload or a reversion
 -- (Articles 11, 13, 25 and 40)
-abbrev pub own_given : Question → Own
+abbrev pub own_given : Question → OwnStatus
 own_given (Decommission _ r) = own_by_reason r
 own_given (Handover _) = own.Supplied
 own_given (Theft _) = own.Stolen
 own_given _ = own.Active
 
 -- a pack's own status, where it has a mark (Articles 22, 25 and 40)
-abbrev pub own_of : List Entry → Pack → Option Own
+abbrev pub own_of : List Entry → Pack → Option OwnStatus
 own_of t p = option_map (λ m. own_given m.question) (mark t p)
 
 -- the lock that a recall or withdrawal puts on its batch (Article 40)
@@ -183,7 +183,7 @@ abbrev pub is_known_batch : List Entry → ProductCode → Batch → Bool
 is_known_batch t c b = list_any (is_birth_in c b) t
 
 -- whether two own statuses are the same
-abbrev pub same_own : Own → Own → Bool
+abbrev pub same_own : OwnStatus → OwnStatus → Bool
 same_own own.Active own.Active = true
 same_own own.Held own.Held = true
 same_own own.Supplied own.Supplied = true
@@ -194,17 +194,17 @@ same_own own.Stolen own.Stolen = true
 same_own _ _ = false
 
 -- whether the own status, if there is one, is s
-abbrev pub is_own : Own → Option Own → Bool
+abbrev pub is_own : OwnStatus → Option OwnStatus → Bool
 is_own s None = false
 is_own s (Some o) = same_own s o
 
 -- whether the pack that is named, if any, has the own status s now
-abbrev pub stands_at : List Entry → Own → Option Pack → Bool
+abbrev pub stands_at : List Entry → OwnStatus → Option Pack → Bool
 stands_at t s None = false
 stands_at t s (Some p) = is_own s (own_of t p)
 
 -- how many packs of the batch have the own status s now: a lawful trail has one accepted upload for each known pack
-abbrev pub count_of : List Entry → ProductCode → Batch → Own → ℕ
+abbrev pub count_of : List Entry → ProductCode → Batch → OwnStatus → ℕ
 count_of t c b s = count_by (λ e. is_birth_in c b e && stands_at t s (pack_of e.question)) t
 
 -- how many packs of the batch have each own status now

@@ -2,7 +2,7 @@
 ghost use Rattle.std.specs.Prelude.{◌≡◌, ◌+◌, ◌<◌, ◌^◌};
 ghost use Rattle.nmvs_rules.specs.Rules.{alert_on, alert_unknown, cause_of, is_flagged};
 
-use crate::{BatchLock, Cause, Known, Own, Reply};
+use crate::{BatchLock, Cause, Known, OwnStatus, Reply};
 
 /// The alert on a known pack, `alerts` being those of its product code so far.
 pub(crate) fn alert_on(known: &Known, lock: BatchLock, alerts: u64) -> Reply
@@ -28,24 +28,24 @@ pub(crate) fn alert_unknown(alerts: u64) -> Reply
     }
 }
 
-fn cause_of(own: Own, lock: BatchLock) -> Cause
+fn cause_of(own: OwnStatus, lock: BatchLock) -> Cause
     ensures { result ≡ cause_of own lock }
 {
     match (lock, own) {
         (BatchLock::Recalled, _) => Cause::Recalled,
         (BatchLock::Withdrawn, _) => Cause::Withdrawn,
-        (BatchLock::Free, Own::Active) => Cause::Unknown,
-        (BatchLock::Free, Own::Held) => Cause::Held,
-        (BatchLock::Free, Own::Supplied) => Cause::Supplied,
-        (BatchLock::Free, Own::Exported) => Cause::Exported,
-        (BatchLock::Free, Own::Sampled) => Cause::Sampled,
-        (BatchLock::Free, Own::Destroyed) => Cause::Destroyed,
-        (BatchLock::Free, Own::Stolen) => Cause::Stolen,
+        (BatchLock::Free, OwnStatus::Active) => Cause::Unknown,
+        (BatchLock::Free, OwnStatus::Held) => Cause::Held,
+        (BatchLock::Free, OwnStatus::Supplied) => Cause::Supplied,
+        (BatchLock::Free, OwnStatus::Exported) => Cause::Exported,
+        (BatchLock::Free, OwnStatus::Sampled) => Cause::Sampled,
+        (BatchLock::Free, OwnStatus::Destroyed) => Cause::Destroyed,
+        (BatchLock::Free, OwnStatus::Stolen) => Cause::Stolen,
     }
 }
 
-fn is_flagged(own: Own, lock: BatchLock) -> bool
+fn is_flagged(own: OwnStatus, lock: BatchLock) -> bool
     ensures { result ≡ is_flagged own lock }
 {
-    matches!(lock, BatchLock::Free) && !matches!(own, Own::Destroyed)
+    matches!(lock, BatchLock::Free) && !matches!(own, OwnStatus::Destroyed)
 }

@@ -4,21 +4,21 @@ ghost use Rattle.std.specs.Prelude.{◌≡◌, ◌+◌, ◌<◌, ◌^◌};
 ghost use Rattle.nmvs_rules.specs.Rules.{onward_by, verify_reply, status_reply, decommission_reply, is_past, is_authentic};
 
 use crate::alerting::alert_on;
-use crate::{BatchLock, Known, Onward, Own, Reply};
+use crate::{BatchLock, Known, Onward, OwnStatus, Reply};
 use nmvs_identifier::{Expiry, Moment};
 
 /// Where a pack with this own status and batch lock may go (Article 12).
-pub fn onward_of(own: Own, lock: BatchLock) -> Onward
+pub fn onward_of(own: OwnStatus, lock: BatchLock) -> Onward
     ensures { result ≡ onward_by own lock }
 {
     match (lock, own) {
         (BatchLock::Recalled | BatchLock::Withdrawn, _) => Onward::Disposal,
-        (BatchLock::Free, Own::Active) => Onward::Stock,
-        (BatchLock::Free, Own::Held) => Onward::Supply,
-        (BatchLock::Free, Own::Supplied) => Onward::Nowhere,
-        (BatchLock::Free, Own::Exported) => Onward::Export,
-        (BatchLock::Free, Own::Sampled) => Onward::Authorities,
-        (BatchLock::Free, Own::Destroyed | Own::Stolen) => Onward::Disposal,
+        (BatchLock::Free, OwnStatus::Active) => Onward::Stock,
+        (BatchLock::Free, OwnStatus::Held) => Onward::Supply,
+        (BatchLock::Free, OwnStatus::Supplied) => Onward::Nowhere,
+        (BatchLock::Free, OwnStatus::Exported) => Onward::Export,
+        (BatchLock::Free, OwnStatus::Sampled) => Onward::Authorities,
+        (BatchLock::Free, OwnStatus::Destroyed | OwnStatus::Stolen) => Onward::Disposal,
     }
 }
 
@@ -68,8 +68,8 @@ pub(crate) fn is_past(expiry: &Expiry, moment: Moment) -> bool
     expiry.day() < moment.day()
 }
 
-fn is_authentic(own: Own, lock: BatchLock) -> bool
+fn is_authentic(own: OwnStatus, lock: BatchLock) -> bool
     ensures { result ≡ is_authentic own lock }
 {
-    matches!((own, lock), (Own::Active, BatchLock::Free))
+    matches!((own, lock), (OwnStatus::Active, BatchLock::Free))
 }

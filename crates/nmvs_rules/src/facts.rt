@@ -1,6 +1,6 @@
 //! What a reply rests on.
 
-use crate::{BatchLock, Own};
+use crate::{BatchLock, OwnStatus};
 use nmvs_identifier::{Batch, Expiry, Moment, Name};
 
 /// The last accepted entry about a pack.
@@ -18,7 +18,7 @@ pub struct Mark {
 pub struct Known {
     pub batch: Batch,
     pub expiry: Expiry,
-    pub own: Own,
+    pub own: OwnStatus,
     pub mark: Mark,
 }
 

@@ -3,7 +3,7 @@ ghost use Rattle.std.specs.Prelude.{◌≡◌};
 ghost use Rattle.nmvs_rules.specs.Rules.{handover_reply};
 
 use crate::reversion::is_same_place;
-use crate::{Actor, BatchLock, Known, Own, Refusal, Reply};
+use crate::{Actor, BatchLock, Known, OwnStatus, Refusal, Reply};
 
 /// The reply to the handover of a known pack, an expired one too.
 pub(crate) fn handover_reply(actor: &Actor, known: &Known, lock: BatchLock) -> Reply
@@ -12,7 +12,7 @@ pub(crate) fn handover_reply(actor: &Actor, known: &Known, lock: BatchLock) -> R
     if !matches!(lock, BatchLock::Free) {
         return Reply::Refused(Refusal::Locked);
     }
-    if !matches!(known.own, Own::Held) {
+    if !matches!(known.own, OwnStatus::Held) {
         return Reply::Refused(Refusal::NotHeld);
     }
     if !is_same_place(actor, &known.mark) {

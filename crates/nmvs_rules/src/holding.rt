@@ -4,7 +4,7 @@ ghost use Rattle.std.specs.Prelude.{◌≡◌, is_some};
 ghost use Rattle.nmvs_rules.specs.Rules.{upload_reply, lock_reply, theft_reply, is_held_by, has_other_holder};
 ghost use Rattle.nmvs_rules.specs.Facts.{lock_in, active_in};
 
-use crate::{Actor, BatchLock, Facts, Known, Own, Refusal, Reply};
+use crate::{Actor, BatchLock, Facts, Known, OwnStatus, Refusal, Reply};
 use nmvs_identifier::Name;
 
 /// The reply to an upload.
@@ -44,7 +44,7 @@ pub(crate) fn theft_reply(actor: &Actor, holder: Option<Name>, known: &Known) ->
     if !is_held_by(holder, &actor.authorisation) {
         return Reply::Refused(Refusal::NotHolder);
     }
-    if matches!(known.own, Own::Stolen) {
+    if matches!(known.own, OwnStatus::Stolen) {
         return Reply::Refused(Refusal::Already);
     }
     Reply::MarkedStolen

@@ -9,7 +9,7 @@
 //! replies.
 //!
 //! "Own" after a rule says that the Regulation leaves the point open and this project chose. The own status of a pack,
-//! [`Own`], is another thing: the status that the pack has by itself, whatever its batch.
+//! [`OwnStatus`], is another thing: the status that the pack has by itself, whatever its batch.
 #![tactic(auto)]
 
 mod actor;
@@ -25,7 +25,7 @@ mod handing_over;
 mod holding;
 pub mod laws;
 mod onward;
-mod own;
+mod own_status;
 mod question;
 mod reason;
 mod refusal;
@@ -44,7 +44,7 @@ pub use decision::decide;
 pub use entry::Entry;
 pub use facts::{BatchRecord, Counts, Facts, Known, Mark};
 pub use onward::Onward;
-pub use own::Own;
+pub use own_status::OwnStatus;
 pub use question::Question;
 pub use reason::Reason;
 pub use refusal::Refusal;

@@ -2,7 +2,7 @@
 ghost use Rattle.std.specs.Prelude.{IsTrue};
 ghost use Rattle.nmvs_rules.specs.Entries.{is_reply};
 
-use crate::{BatchLock, Cause, Onward, Own, Refusal};
+use crate::{BatchLock, Cause, Onward, OwnStatus, Refusal};
 use nmvs_identifier::{Batch, Expiry};
 
 /// The reply to a question.
@@ -23,7 +23,7 @@ pub enum Reply {
         number: u64,
     },
     StatusIs {
-        own: Own,
+        own: OwnStatus,
         lock: BatchLock,
         onward: Onward,
         batch: Batch,

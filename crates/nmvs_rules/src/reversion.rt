@@ -3,7 +3,7 @@ ghost use Rattle.std.specs.Prelude.{◌≡◌};
 ghost use Rattle.nmvs_rules.specs.Rules.{revert_reply, is_same_place, is_in_time};
 
 use crate::circulation::is_past;
-use crate::{Actor, BatchLock, Known, Mark, Own, Refusal, Reply};
+use crate::{Actor, BatchLock, Known, Mark, OwnStatus, Refusal, Reply};
 use nmvs_identifier::Moment;
 
 /// The days after a decommissioning within which it may be reverted (Article 13(1)(b)).
@@ -17,11 +17,11 @@ pub(crate) fn revert_reply(moment: Moment, actor: &Actor, known: &Known, lock: B
         return Reply::Refused(Refusal::Locked);
     }
     match known.own {
-        Own::Active => return Reply::Refused(Refusal::StillActive),
-        Own::Stolen => return Reply::Refused(Refusal::IsStolen),
-        Own::Destroyed => return Reply::Refused(Refusal::IsDestroyed),
-        Own::Supplied => return Reply::Refused(Refusal::WasSupplied),
-        Own::Held | Own::Exported | Own::Sampled => {}
+        OwnStatus::Active => return Reply::Refused(Refusal::StillActive),
+        OwnStatus::Stolen => return Reply::Refused(Refusal::IsStolen),
+        OwnStatus::Destroyed => return Reply::Refused(Refusal::IsDestroyed),
+        OwnStatus::Supplied => return Reply::Refused(Refusal::WasSupplied),
+        OwnStatus::Held | OwnStatus::Exported | OwnStatus::Sampled => {}
     }
     if !is_same_place(actor, &known.mark) {
         return Reply::Refused(Refusal::Other);

@@ -1,5 +1,5 @@
 use crate::{
-    Actor, BatchLock, BatchRecord, Cause, Counts, Facts, Known, Mark, Onward, Own, Question,
+    Actor, BatchLock, BatchRecord, Cause, Counts, Facts, Known, Mark, Onward, OwnStatus, Question,
     Reason, Refusal, Reply, Role, decide, may, onward_of,
 };
 use nmvs_identifier::{Batch, Expiry, Moment, Name, Pack, ProductCode, Serial};
@@ -65,7 +65,7 @@ fn nothing() -> Facts {
 }
 
 /// What it knows once the pack was uploaded and the pharmacy gave it this own status at the new year.
-fn facts(rt: &impl Abort, own: Own, lock: BatchLock, expiry: &str) -> Facts {
+fn facts(rt: &impl Abort, own: OwnStatus, lock: BatchLock, expiry: &str) -> Facts {
     let by = pharmacy(rt);
     let known = Known {
         batch: batch(rt),
@@ -146,13 +146,13 @@ fn only_the_named_roles_may_ask(rt: HostRuntime) {
 #[test]
 fn packs_go_on_by_their_status(rt: HostRuntime) {
     let table = [
-        (Own::Active, Onward::Stock),
-        (Own::Held, Onward::Supply),
-        (Own::Supplied, Onward::Nowhere),
-        (Own::Exported, Onward::Export),
-        (Own::Sampled, Onward::Authorities),
-        (Own::Destroyed, Onward::Disposal),
-        (Own::Stolen, Onward::Disposal),
+        (OwnStatus::Active, Onward::Stock),
+        (OwnStatus::Held, Onward::Supply),
+        (OwnStatus::Supplied, Onward::Nowhere),
+        (OwnStatus::Exported, Onward::Export),
+        (OwnStatus::Sampled, Onward::Authorities),
+        (OwnStatus::Destroyed, Onward::Disposal),
+        (OwnStatus::Stolen, Onward::Disposal),
     ];
     for (own, onward) in table {
         assert!(rt; onward_of(own, BatchLock::Free) == onward);
@@ -188,7 +188,7 @@ fn authentic_packs_expire_after_their_last_day(rt: HostRuntime) {
     let verify = Question::Verify(pack(&rt));
     let batch = batch(&rt);
     let expiry = Expiry::read("280200").expect(&rt, "an expiry date");
-    let active = facts(&rt, Own::Active, BatchLock::Free, "280200");
+    let active = facts(&rt, OwnStatus::Active, BatchLock::Free, "280200");
     let last_second = decide_at(&rt, 1_835_481_599, &active, &by, &verify);
     assert!(rt;
         last_second
@@ -222,7 +222,7 @@ fn verifications_of_packs_that_are_not_authentic(rt: HostRuntime) {
                 number: 1
             }
     );
-    let destroyed = facts(&rt, Own::Destroyed, BatchLock::Free, "280200");
+    let destroyed = facts(&rt, OwnStatus::Destroyed, BatchLock::Free, "280200");
     let destroyed = decide_at(&rt, NEW_YEAR, &destroyed, &by, &verify);
     assert!(rt;
         destroyed
@@ -232,7 +232,7 @@ fn verifications_of_packs_that_are_not_authentic(rt: HostRuntime) {
                 number: 1
             }
     );
-    let recalled = facts(&rt, Own::Held, BatchLock::Recalled, "280200");
+    let recalled = facts(&rt, OwnStatus::Held, BatchLock::Recalled, "280200");
     let recalled = decide_at(&rt, NEW_YEAR, &recalled, &by, &verify);
     assert!(rt;
         recalled
@@ -248,13 +248,13 @@ fn verifications_of_packs_that_are_not_authentic(rt: HostRuntime) {
 fn reversions(rt: HostRuntime) {
     let by = pharmacy(&rt);
     let revert = Question::Revert(pack(&rt));
-    let held = facts(&rt, Own::Held, BatchLock::Free, "280200");
+    let held = facts(&rt, OwnStatus::Held, BatchLock::Free, "280200");
     assert!(rt; decide_at(&rt, NEW_YEAR + 10 * DAY, &held, &by, &revert) == Reply::Reverted);
     assert!(rt; decide_at(&rt, NEW_YEAR - 20 * DAY, &held, &by, &revert) == Reply::Reverted);
     let late = decide_at(&rt, NEW_YEAR + 11 * DAY, &held, &by, &revert);
     assert!(rt; late == Reply::Refused(Refusal::Late));
 
-    let short = facts(&rt, Own::Held, BatchLock::Free, "260105");
+    let short = facts(&rt, OwnStatus::Held, BatchLock::Free, "260105");
     assert!(rt; decide_at(&rt, NEW_YEAR + 4 * DAY, &short, &by, &revert) == Reply::Reverted);
     let expired = decide_at(&rt, NEW_YEAR + 6 * DAY, &short, &by, &revert);
     assert!(rt; expired == Reply::Refused(Refusal::Expired));
@@ -262,10 +262,10 @@ fn reversions(rt: HostRuntime) {
     let other = decide_at(&rt, NEW_YEAR + 11 * DAY, &short, &elsewhere, &revert);
     assert!(rt; other == Reply::Refused(Refusal::Other));
 
-    let recalled = facts(&rt, Own::Held, BatchLock::Recalled, "280200");
+    let recalled = facts(&rt, OwnStatus::Held, BatchLock::Recalled, "280200");
     let locked = decide_at(&rt, NEW_YEAR, &recalled, &by, &revert);
     assert!(rt; locked == Reply::Refused(Refusal::Locked));
-    let supplied = facts(&rt, Own::Supplied, BatchLock::Free, "280200");
+    let supplied = facts(&rt, OwnStatus::Supplied, BatchLock::Free, "280200");
     let refused = decide_at(&rt, NEW_YEAR, &supplied, &by, &revert);
     assert!(rt; refused == Reply::Refused(Refusal::WasSupplied));
 }
@@ -274,7 +274,7 @@ fn reversions(rt: HostRuntime) {
 fn handovers(rt: HostRuntime) {
     let by = pharmacy(&rt);
     let handover = Question::Handover(pack(&rt));
-    let held = facts(&rt, Own::Held, BatchLock::Free, "260105");
+    let held = facts(&rt, OwnStatus::Held, BatchLock::Free, "260105");
     assert!(rt; decide_at(&rt, NEW_YEAR, &held, &by, &handover) == Reply::HandedOver);
     let expired = decide_at(&rt, NEW_YEAR + 11 * DAY, &held, &by, &handover);
     assert!(rt; expired == Reply::HandedOver);
@@ -284,7 +284,7 @@ fn handovers(rt: HostRuntime) {
     assert!(rt; refused == Reply::Refused(Refusal::Role));
     let unknown = decide_at(&rt, NEW_YEAR, &nothing(), &by, &handover);
     assert!(rt; unknown == Reply::Refused(Refusal::Unknown));
-    let recalled = facts(&rt, Own::Supplied, BatchLock::Recalled, "280200");
+    let recalled = facts(&rt, OwnStatus::Supplied, BatchLock::Recalled, "280200");
     let locked = decide_at(&rt, NEW_YEAR, &recalled, &by, &handover);
     assert!(rt; locked == Reply::Refused(Refusal::Locked));
 
@@ -294,10 +294,10 @@ fn handovers(rt: HostRuntime) {
     let another = actor(&rt, Role::Pharmacy, "PH-2", "P1");
     let other = decide_at(&rt, NEW_YEAR, &held, &another, &handover);
     assert!(rt; other == Reply::Refused(Refusal::Other));
-    let active = facts(&rt, Own::Active, BatchLock::Free, "280200");
+    let active = facts(&rt, OwnStatus::Active, BatchLock::Free, "280200");
     let unheld = decide_at(&rt, NEW_YEAR, &active, &elsewhere, &handover);
     assert!(rt; unheld == Reply::Refused(Refusal::NotHeld));
-    let supplied = facts(&rt, Own::Supplied, BatchLock::Free, "280200");
+    let supplied = facts(&rt, OwnStatus::Supplied, BatchLock::Free, "280200");
     let again = decide_at(&rt, NEW_YEAR, &supplied, &by, &handover);
     assert!(rt; again == Reply::Refused(Refusal::NotHeld));
 }
@@ -311,7 +311,7 @@ fn uploads_recalls_and_thefts(rt: HostRuntime) {
         batch: batch(&rt),
         expiry: Expiry::read("280200").expect(&rt, "an expiry date"),
     };
-    let active = facts(&rt, Own::Active, BatchLock::Free, "280200");
+    let active = facts(&rt, OwnStatus::Active, BatchLock::Free, "280200");
     assert!(rt; decide_at(&rt, NEW_YEAR, &nothing(), &by, &upload) == Reply::Uploaded);
     let again = decide_at(&rt, NEW_YEAR, &active, &by, &upload);
     assert!(rt; again == Reply::Refused(Refusal::Duplicate));
@@ -319,14 +319,14 @@ fn uploads_recalls_and_thefts(rt: HostRuntime) {
     assert!(rt; foreign == Reply::Refused(Refusal::NotHolder));
 
     let recall = Question::Recall(pack(&rt).code, batch(&rt));
-    let recalled = facts(&rt, Own::Active, BatchLock::Recalled, "280200");
+    let recalled = facts(&rt, OwnStatus::Active, BatchLock::Recalled, "280200");
     assert!(rt; decide_at(&rt, NEW_YEAR, &active, &by, &recall) == Reply::LockedNow(1));
     let twice = decide_at(&rt, NEW_YEAR, &recalled, &by, &recall);
     assert!(rt; twice == Reply::Refused(Refusal::Already));
     let unknown = decide_at(&rt, NEW_YEAR, &nothing(), &by, &recall);
     assert!(rt; unknown == Reply::Refused(Refusal::UnknownBatch));
 
-    let destroyed = facts(&rt, Own::Destroyed, BatchLock::Free, "280200");
+    let destroyed = facts(&rt, OwnStatus::Destroyed, BatchLock::Free, "280200");
     let theft = decide_at(&rt, NEW_YEAR, &destroyed, &by, &Question::Theft(pack(&rt)));
     assert!(rt; theft == Reply::MarkedStolen);
 }
@@ -335,12 +335,12 @@ fn uploads_recalls_and_thefts(rt: HostRuntime) {
 fn decommissionings_statuses_and_audits(rt: HostRuntime) {
     let by = pharmacy(&rt);
     let supply = Question::Decommission(pack(&rt), Reason::Supply);
-    let active = facts(&rt, Own::Active, BatchLock::Free, "280200");
+    let active = facts(&rt, OwnStatus::Active, BatchLock::Free, "280200");
     assert!(rt; decide_at(&rt, NEW_YEAR, &active, &by, &supply) == Reply::Decommissioned);
     let wholesaler = actor(&rt, Role::Wholesaler, "WH-1", "W1");
     let refused = decide_at(&rt, NEW_YEAR, &active, &wholesaler, &supply);
     assert!(rt; refused == Reply::Refused(Refusal::Role));
-    let supplied = facts(&rt, Own::Supplied, BatchLock::Free, "280200");
+    let supplied = facts(&rt, OwnStatus::Supplied, BatchLock::Free, "280200");
     let again = decide_at(&rt, NEW_YEAR, &supplied, &by, &supply);
     assert!(rt;
         again
@@ -354,11 +354,11 @@ fn decommissionings_statuses_and_audits(rt: HostRuntime) {
     let status = Question::Status(pack(&rt));
     let authority = actor(&rt, Role::Authority, "AU-1", "A1");
     assert!(rt; decide_at(&rt, NEW_YEAR, &nothing(), &by, &status) == Reply::NoPack);
-    let recalled = facts(&rt, Own::Held, BatchLock::Recalled, "280200");
+    let recalled = facts(&rt, OwnStatus::Held, BatchLock::Recalled, "280200");
     let told = decide_at(&rt, NEW_YEAR, &recalled, &authority, &status);
     assert!(rt;
         told == Reply::StatusIs {
-            own: Own::Held,
+            own: OwnStatus::Held,
             lock: BatchLock::Recalled,
             onward: Onward::Disposal,
             batch: batch(&rt),

@@ -8,8 +8,8 @@ use Rattle.nmvs_identifier.specs.Batch.{Batch}
 use Rattle.nmvs_identifier.specs.Texts.{same_text}
 use Rattle.nmvs_rules.specs.declared.question.Question.{Question}
 use Rattle.nmvs_rules.specs.declared.question.Question.TheVariants.{Upload, Recall, Withdraw}
-use Rattle.nmvs_rules.specs.declared.own.Own.{Own}
-use Rattle.nmvs_rules.specs.declared.own.Own.TheVariants as own
+use Rattle.nmvs_rules.specs.declared.own_status.OwnStatus.{OwnStatus}
+use Rattle.nmvs_rules.specs.declared.own_status.OwnStatus.TheVariants as own
 use Rattle.nmvs_rules.specs.declared.batch_lock.BatchLock.{BatchLock}
 use Rattle.nmvs_rules.specs.declared.batch_lock.BatchLock.TheVariants as lock
 use Rattle.nmvs_rules.specs.declared.entry.Entry.{Entry}
@@ -48,7 +48,7 @@ pub record AreBatchesOf {S : Type 0} (m : HashMap BatchKey BatchRecord S) (t : L
   pub order : keys m ≡ batches_of t
 
 -- how many packs have an own status, by the counts
-abbrev pub count_in : Counts → Own → ℕ
+abbrev pub count_in : Counts → OwnStatus → ℕ
 count_in n own.Active = n.active
 count_in n own.Held = n.held
 count_in n own.Supplied = n.supplied
@@ -71,11 +71,11 @@ abbrev pub batch_changed : Entry → Option Known → Option BatchKey
 batch_changed e k = if is_accepted e then batch_meant e.question k else None
 
 -- the own status that a pack has before an accepted question, where it is known
-abbrev pub own_before : Option Known → Option Own
+abbrev pub own_before : Option Known → Option OwnStatus
 own_before k = option_map (λ x. x.own) k
 
 -- the own status that an accepted question gives the pack that it names, if it names one
-abbrev pub own_after : Question → Option Own
+abbrev pub own_after : Question → Option OwnStatus
 own_after q = option_map (λ _. own_given q) (pack_of q)
 
 -- the lock of a batch after an accepted question that changes the batch (Article 40)
@@ -93,8 +93,8 @@ abbrev pub no_packs : BatchRecord
 no_packs = record { lock = lock.Free; counts = no_counts }
 
 -- the counts after a pack went from one own status to another, from none or to none
-abbrev pub Moves : Counts → Option Own → Option Own → Counts → Type 0
-Moves old from to new = (s : Own) → count_in new s + one_if (is_own s from) ≡ count_in old s + one_if (is_own s to)
+abbrev pub Moves : Counts → Option OwnStatus → Option OwnStatus → Counts → Type 0
+Moves old from to new = (s : OwnStatus) → count_in new s + one_if (is_own s from) ≡ count_in old s + one_if (is_own s to)
 
 -- whether an entry changes the batch
 abbrev pub changes_batch : BatchKey → Entry → Option Known → Bool

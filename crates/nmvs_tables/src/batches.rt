@@ -2,7 +2,7 @@
 ghost use Rattle.std.specs.Prelude.{◌≡◌, ◌+◌, ◌<◌, ◌≤◌, ◌^◌, true, false, IsSomeAnd};
 ghost use Rattle.indexmap.specs.IndexMap.{get, keys, spare};
 ghost use Rattle.std.specs.Option.{ForSome};
-ghost use Rattle.nmvs_rules.specs.declared.own.Own.{Own};
+ghost use Rattle.nmvs_rules.specs.declared.own_status.OwnStatus.{OwnStatus};
 ghost use Rattle.nmvs_tables.specs.declared.batches.BatchKey.{BatchKey};
 ghost use Rattle.nmvs_rules.specs.Questions.{code_of, locked_batch};
 ghost use Rattle.nmvs_tables.specs.Batches.{same_batch, batch_asked, batch_in, batch_meant, batch_changed, batches_after, changes_batch, count_in, own_before, own_after, NotesBatch, lock_after, first_of};
@@ -11,7 +11,7 @@ use crate::counts::moved;
 use crate::writes::{find, put};
 use indexmap::IndexMap;
 use nmvs_identifier::{Batch, ProductCode};
-use nmvs_rules::{BatchLock, BatchRecord, Counts, Entry, Known, Own, Question};
+use nmvs_rules::{BatchLock, BatchRecord, Counts, Entry, Known, OwnStatus, Question};
 use std::alloc::Allocator;
 use std::hash::{BuildHasherDefault, FoldHasher};
 
@@ -93,7 +93,7 @@ fn lock_after(question: &Question, lock: BatchLock) -> BatchLock
 }
 
 /// The own status that a pack has, where it is known.
-fn own_before(known: &Option<Known>) -> Option<Own>
+fn own_before(known: &Option<Known>) -> Option<OwnStatus>
     ensures { result ≡ own_before known.now }
 {
     match known {
@@ -103,7 +103,7 @@ fn own_before(known: &Option<Known>) -> Option<Own>
 }
 
 /// The own status that an accepted question gives the pack that it names.
-fn own_after(question: &Question) -> Option<Own>
+fn own_after(question: &Question) -> Option<OwnStatus>
     ensures { result ≡ own_after question.now }
 {
     match question.pack() {
@@ -134,7 +134,7 @@ pub(crate) fn note<A: Allocator>(
     requires room { 0 < spare batches.old }
     requires from { (b : BatchKey) → changes_batch b entry.now known ≡ true →
         ForSome (own_before known) (λ own. 1 ≤ count_in (batch_in batches.old b).counts own) }
-    requires to { (b : BatchKey) → (own : Own) → count_in (batch_in batches.old b).counts own + 1 < 2 ^ 64 }
+    requires to { (b : BatchKey) → (own : OwnStatus) → count_in (batch_in batches.old b).counts own + 1 < 2 ^ 64 }
     ensures changed { (b : BatchKey) → changes_batch b entry.now known ≡ true →
         IsSomeAnd (get same_batch batches.new b) (λ r. NotesBatch entry.now.question known (batch_in batches.old b) r) }
     ensures others { (b : BatchKey) → changes_batch b entry.now known ≡ false →

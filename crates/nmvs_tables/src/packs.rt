@@ -9,7 +9,7 @@ ghost use Rattle.nmvs_tables.specs.Packs.{row_in, row_by, record_by, row_after, 
 use crate::writes::{find, put};
 use indexmap::IndexMap;
 use nmvs_identifier::Pack;
-use nmvs_rules::{Entry, Known, Mark, Own, Question};
+use nmvs_rules::{Entry, Known, Mark, OwnStatus, Question};
 use std::alloc::Allocator;
 use std::hash::{BuildHasherDefault, FoldHasher};
 
@@ -90,7 +90,7 @@ fn marked(place: u64, entry: &Entry, known: Option<Known>) -> Option<Known>
         (None, Question::Upload { batch, expiry, .. }) => Some(Known {
             batch,
             expiry,
-            own: Own::Active,
+            own: OwnStatus::Active,
             mark,
         }),
         (None, _) => None,

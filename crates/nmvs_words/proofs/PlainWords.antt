@@ -4,8 +4,8 @@ use Rattle.nmvs_identifier.proofs.PlainTexts.{IsPlain}
 use Rattle.nmvs_rules.specs.declared.role.Role.{Role}
 use Rattle.nmvs_rules.specs.declared.role.Role.TheVariants as role
 use Rattle.nmvs_rules.specs.declared.reason.Reason.TheVariants as reason
-use Rattle.nmvs_rules.specs.declared.own.Own.{Own}
-use Rattle.nmvs_rules.specs.declared.own.Own.TheVariants as own
+use Rattle.nmvs_rules.specs.declared.own_status.OwnStatus.{OwnStatus}
+use Rattle.nmvs_rules.specs.declared.own_status.OwnStatus.TheVariants as own
 use Rattle.nmvs_rules.specs.declared.batch_lock.BatchLock.{BatchLock}
 use Rattle.nmvs_rules.specs.declared.batch_lock.BatchLock.TheVariants as lock
 use Rattle.nmvs_rules.specs.declared.onward.Onward.{Onward}
@@ -45,7 +45,7 @@ role_plain role.Wholesaler = (lit≤ tt, lit≤ tt, refl)
 role_plain role.Pharmacy = (lit≤ tt, lit≤ tt, refl)
 role_plain role.Authority = (lit≤ tt, lit≤ tt, refl)
 
-pub own_plain : (o : Own) → IsPlain (own_word o)
+pub own_plain : (o : OwnStatus) → IsPlain (own_word o)
 own_plain own.Active = (lit≤ tt, lit≤ tt, refl)
 own_plain own.Held = (lit≤ tt, lit≤ tt, refl)
 own_plain own.Supplied = (lit≤ tt, lit≤ tt, refl)

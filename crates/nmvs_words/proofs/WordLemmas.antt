@@ -6,8 +6,8 @@ use Rattle.std.proofs.lemmas.Slice.Eq.{bytes_eq-Decides}
 use Rattle.nmvs_rules.specs.declared.role.Role.{Role}
 use Rattle.nmvs_rules.specs.declared.role.Role.TheVariants as role
 use Rattle.nmvs_rules.specs.declared.reason.Reason.TheVariants as reason
-use Rattle.nmvs_rules.specs.declared.own.Own.{Own}
-use Rattle.nmvs_rules.specs.declared.own.Own.TheVariants as own
+use Rattle.nmvs_rules.specs.declared.own_status.OwnStatus.{OwnStatus}
+use Rattle.nmvs_rules.specs.declared.own_status.OwnStatus.TheVariants as own
 use Rattle.nmvs_rules.specs.declared.batch_lock.BatchLock.{BatchLock}
 use Rattle.nmvs_rules.specs.declared.batch_lock.BatchLock.TheVariants as lock
 use Rattle.nmvs_rules.specs.declared.onward.Onward.{Onward}
@@ -67,7 +67,7 @@ pub role_word-one : (r r' : Role) → role_word r ≡ role_word r' → r ≡ r'
 role_word-one r r' e = same_Some r r' (sym (role_named-of_word r) ∙ ap role_named e ∙ role_named-of_word r')
 
 -- each other word finds what it is the word of
-pub own_named-of_word : (x : Own) → own_named (own_word x) ≡ Some x
+pub own_named-of_word : (x : OwnStatus) → own_named (own_word x) ≡ Some x
 own_named-of_word own.Active = refl
 own_named-of_word own.Held = refl
 own_named-of_word own.Supplied = refl

@@ -6,8 +6,8 @@ use Rattle.nmvs_rules.specs.declared.role.Role.{Role}
 use Rattle.nmvs_rules.specs.declared.role.Role.TheVariants as role
 use Rattle.nmvs_rules.specs.declared.reason.Reason.{Reason}
 use Rattle.nmvs_rules.specs.declared.reason.Reason.TheVariants as reason
-use Rattle.nmvs_rules.specs.declared.own.Own.{Own}
-use Rattle.nmvs_rules.specs.declared.own.Own.TheVariants as own
+use Rattle.nmvs_rules.specs.declared.own_status.OwnStatus.{OwnStatus}
+use Rattle.nmvs_rules.specs.declared.own_status.OwnStatus.TheVariants as own
 use Rattle.nmvs_rules.specs.declared.batch_lock.BatchLock.{BatchLock}
 use Rattle.nmvs_rules.specs.declared.batch_lock.BatchLock.TheVariants as lock
 use Rattle.nmvs_rules.specs.declared.onward.Onward.{Onward}
@@ -42,7 +42,7 @@ reason_word reason.Sample = codes "SAMPLE"
 reason_word reason.Destroy = codes "DESTROY"
 
 -- the word of an own status
-abbrev pub own_word : Own → List ℕ
+abbrev pub own_word : OwnStatus → List ℕ
 own_word own.Active = codes "ACTIVE"
 own_word own.Held = codes "HELD"
 own_word own.Supplied = codes "SUPPLIED"
@@ -52,11 +52,11 @@ own_word own.Destroyed = codes "DESTROYED"
 own_word own.Stolen = codes "STOLEN"
 
 -- all own statuses
-abbrev pub owns : List Own
+abbrev pub owns : List OwnStatus
 owns = own.Active ∷ own.Held ∷ own.Supplied ∷ own.Exported ∷ own.Sampled ∷ own.Destroyed ∷ own.Stolen ∷ []
 
 -- the own status that has a word
-abbrev pub own_named : List ℕ → Option Own
+abbrev pub own_named : List ℕ → Option OwnStatus
 own_named w = find (λ o. bytes_eq w (own_word o)) owns
 
 -- the word of a batch lock

@@ -4,12 +4,12 @@ use crate::{
     role_named, role_word, validity_named, validity_word,
 };
 use nmvs_identifier::{Batch, Pack, ProductCode, Serial};
-use nmvs_rules::{BatchLock, Cause, Onward, Own, Question, Reason, Refusal, Role};
+use nmvs_rules::{BatchLock, Cause, Onward, OwnStatus, Question, Reason, Refusal, Role};
 use std::rt::HostRuntime;
 
 #[test]
 fn words_of_replies(rt: HostRuntime) {
-    assert!(rt; own_word(Own::Held) == "HELD");
+    assert!(rt; own_word(OwnStatus::Held) == "HELD");
     assert!(rt; lock_word(BatchLock::Recalled) == "RECALLED");
     assert!(rt; onward_word(Onward::Disposal) == "DISPOSAL");
     assert!(rt; cause_word(Cause::Unknown) == "UNKNOWN");
@@ -23,7 +23,7 @@ fn words_of_replies(rt: HostRuntime) {
 
 #[test]
 fn words_are_read_back(rt: HostRuntime) {
-    assert!(rt; own_named("HELD") == Some(Own::Held));
+    assert!(rt; own_named("HELD") == Some(OwnStatus::Held));
     assert!(rt; lock_named("RECALLED") == Some(BatchLock::Recalled));
     assert!(rt; onward_named("DISPOSAL") == Some(Onward::Disposal));
     assert!(rt; cause_named("UNKNOWN") == Some(Cause::Unknown));

@@ -2,7 +2,7 @@
 ghost use Rattle.std.specs.Prelude.{◌≡◌};
 ghost use Rattle.nmvs_words.specs.Words as words;
 
-use nmvs_rules::{BatchLock, Cause, Onward, Own, Reason, Refusal, Role};
+use nmvs_rules::{BatchLock, Cause, Onward, OwnStatus, Reason, Refusal, Role};
 
 /// The word of a role.
 pub fn role_word(role: Role) -> &'static str
@@ -45,32 +45,32 @@ pub fn reason_word(reason: Reason) -> &'static str
 }
 
 /// The word of an own status.
-pub fn own_word(own: Own) -> &'static str
+pub fn own_word(own: OwnStatus) -> &'static str
     ensures { result.now ≡ words.own_word own }
 {
     match own {
-        Own::Active => "ACTIVE",
-        Own::Held => "HELD",
-        Own::Supplied => "SUPPLIED",
-        Own::Exported => "EXPORTED",
-        Own::Sampled => "SAMPLED",
-        Own::Destroyed => "DESTROYED",
-        Own::Stolen => "STOLEN",
+        OwnStatus::Active => "ACTIVE",
+        OwnStatus::Held => "HELD",
+        OwnStatus::Supplied => "SUPPLIED",
+        OwnStatus::Exported => "EXPORTED",
+        OwnStatus::Sampled => "SAMPLED",
+        OwnStatus::Destroyed => "DESTROYED",
+        OwnStatus::Stolen => "STOLEN",
     }
 }
 
 /// The own status that has this word.
-pub fn own_named(word: &str) -> Option<Own>
+pub fn own_named(word: &str) -> Option<OwnStatus>
     ensures { result ≡ words.own_named word.now }
 {
     match word {
-        "ACTIVE" => Some(Own::Active),
-        "HELD" => Some(Own::Held),
-        "SUPPLIED" => Some(Own::Supplied),
-        "EXPORTED" => Some(Own::Exported),
-        "SAMPLED" => Some(Own::Sampled),
-        "DESTROYED" => Some(Own::Destroyed),
-        "STOLEN" => Some(Own::Stolen),
+        "ACTIVE" => Some(OwnStatus::Active),
+        "HELD" => Some(OwnStatus::Held),
+        "SUPPLIED" => Some(OwnStatus::Supplied),
+        "EXPORTED" => Some(OwnStatus::Exported),
+        "SAMPLED" => Some(OwnStatus::Sampled),
+        "DESTROYED" => Some(OwnStatus::Destroyed),
+        "STOLEN" => Some(OwnStatus::Stolen),
         _ => None,
     }
 }

@@ -1,6 +1,6 @@
 use crate::{Answer, LineFault, Text, Turn, reply_text};
 use nmvs_identifier::{Batch, Expiry};
-use nmvs_rules::{BatchLock, Cause, Onward, Own, Refusal, Reply};
+use nmvs_rules::{BatchLock, Cause, Onward, OwnStatus, Refusal, Reply};
 use std::alloc::Global;
 use std::process::Abort;
 use std::rt::HostRuntime;
@@ -35,7 +35,7 @@ fn replies_with_a_batch_or_a_cause_have_their_texts(rt: HostRuntime) {
         ),
         (
             Reply::StatusIs {
-                own: Own::Destroyed,
+                own: OwnStatus::Destroyed,
                 lock: BatchLock::Withdrawn,
                 onward: Onward::Authorities,
                 batch,

@@ -6,7 +6,7 @@ use Rattle.nmvs_rules.specs.declared.actor.Actor.{Actor}
 use Rattle.nmvs_rules.specs.declared.batch_lock.BatchLock.{BatchLock}
 use Rattle.nmvs_rules.specs.declared.entry.Entry.{Entry}
 use Rattle.nmvs_rules.specs.declared.facts.Known.{Known}
-use Rattle.nmvs_rules.specs.declared.own.Own.TheVariants as own
+use Rattle.nmvs_rules.specs.declared.own_status.OwnStatus.TheVariants as own
 use Rattle.nmvs_rules.specs.declared.question.Question.{Question}
 use Rattle.nmvs_rules.specs.declared.question.Question.TheVariants.{Upload, Verify, Status, Decommission, Revert, Recall, Withdraw, Theft, Audit}
 use Rattle.nmvs_rules.specs.declared.refusal.Refusal.TheVariants as refusal

@@ -11,8 +11,8 @@ use Rattle.nmvs_rules.specs.declared.batch_lock.BatchLock.{BatchLock}
 use Rattle.nmvs_rules.specs.declared.batch_lock.BatchLock.TheVariants as lock
 use Rattle.nmvs_rules.specs.declared.entry.Entry.{Entry}
 use Rattle.nmvs_rules.specs.declared.facts.Known.{Known}
-use Rattle.nmvs_rules.specs.declared.own.Own.{Own}
-use Rattle.nmvs_rules.specs.declared.own.Own.TheVariants as own
+use Rattle.nmvs_rules.specs.declared.own_status.OwnStatus.{OwnStatus}
+use Rattle.nmvs_rules.specs.declared.own_status.OwnStatus.TheVariants as own
 use Rattle.nmvs_rules.specs.declared.question.Question.{Question}
 use Rattle.nmvs_rules.specs.declared.question.Question.TheVariants.{Upload, Decommission, Revert, Recall, Withdraw, Theft}
 use Rattle.nmvs_rules.specs.declared.reply.Reply.{Reply}
@@ -31,7 +31,7 @@ accepts (Theft _) reply.MarkedStolen = true
 accepts _ _ = false
 
 -- the own status that a question gave once it was accepted
-abbrev pub own_given : Question → Own
+abbrev pub own_given : Question → OwnStatus
 own_given (Decommission _ r) = own_by_reason r
 own_given (Theft _) = own.Stolen
 own_given _ = own.Active
@@ -51,7 +51,7 @@ mark t p = last (is_mark p) t
 abbrev pub mark_place : List Entry → Pack → ℕ
 mark_place t p = length t - suffix_len (λ e. not (is_mark p e)) t - 1
 
-abbrev pub own_of : List Entry → Pack → Option Own
+abbrev pub own_of : List Entry → Pack → Option OwnStatus
 own_of t p = option_map (λ m. own_given m.question) (mark t p)
 
 abbrev pub lock_of : List Entry → ProductCode → Batch → BatchLock
@@ -84,9 +84,9 @@ is_birth_in c b e = uploads_batch c b e.question && is_accepted e
 abbrev pub is_known_batch : List Entry → ProductCode → Batch → Bool
 is_known_batch t c b = list_any (is_birth_in c b) t
 
-abbrev pub stands_at : List Entry → Own → Option Pack → Bool
+abbrev pub stands_at : List Entry → OwnStatus → Option Pack → Bool
 stands_at t s None = false
 stands_at t s (Some p) = is_own s (own_of t p)
 
-abbrev pub count_of : List Entry → ProductCode → Batch → Own → ℕ
+abbrev pub count_of : List Entry → ProductCode → Batch → OwnStatus → ℕ
 count_of t c b s = count_by (λ e. is_birth_in c b e && stands_at t s (pack_of e.question)) t

@@ -1,6 +1,6 @@
 /// The status that a pack has by its own last accepted operation, whatever its batch (Articles 22, 25 and 40).
 #[derive(Clone, Copy, Debug, PartialEq, Eq)]
-pub enum Own {
+pub enum OwnStatus {
     Active,
     /// Decommissioned for supply, still in possession.
     Held,
