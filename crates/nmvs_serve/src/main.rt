@@ -12,10 +12,7 @@ fn main(rt: HostRuntime) -> ExitCode {
     let Ok(words) = words(&rt) else {
         return ended(&rt, &[Some(Fault::Memory)]);
     };
-    let mut console = Console {
-        source: Device::new(rt.stdin()),
-        sink: Device::new(rt.stdout()),
-    };
+    let mut console = Console::new(Device::new(rt.stdin()), Device::new(rt.stdout()));
     if words.is_empty() {
         let rehearsed = serve_rehearsal(alloc, &mut console.source, &mut console.sink);
         return ended(&rt, &[rehearsed.err()]);

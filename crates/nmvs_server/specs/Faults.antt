@@ -44,6 +44,7 @@ fault_text (faults.ImportUnlawful number) = codes "import line " ++ decimal numb
 fault_text faults.Directory = codes "directory refused"
 fault_text (faults.CannotListen port) = codes "cannot listen on port " ++ decimal port
 fault_text faults.Settlement = codes "settlement fault"
+fault_text faults.LostClerk = codes "a clerk was lost"
 fault_text faults.Memory = codes "out of memory"
 fault_text faults.SessionRead = codes "session read fault"
 fault_text faults.SessionWrite = codes "session write fault"

@@ -1,3 +1,4 @@
+pub mod Console
 pub mod Audits
 pub mod Roster
 pub mod Rehearsal

@@ -2,8 +2,8 @@
 ghost use Rattle.std.specs.Prelude.{◌≡◌, None, false};
 ghost use Rattle.nmvs_server.specs.Faults.{command_text};
 
-use crate::rehearsal::LIMITS;
-use crate::{Console, ObeyFault, obey};
+use crate::limits::LIMITS;
+use crate::{Console, ObeyFault, Sides, obey};
 use arrayvec::ArrayVec;
 use nmvs_directory::{Naming, Notice, Registrar};
 use nmvs_protocol::CommandFault;
@@ -16,11 +16,11 @@ type PendingCommand = ArrayVec<u8, 201>;
 
 /// Carries out the console's commands one by one, as they come, publishes each at once and answers it, to the end of the
 /// commands, a failed read or the limits of a session. A failed write changes nothing.
-pub(crate) fn obey_all<J: Naming, R: Wait + Drop, A: Allocator, I: Source, W: Sink>(
+pub(crate) fn obey_all<J: Naming, R: Wait + Drop, A: Allocator, T: Sides>(
     rt: &impl Wait,
-    console: &mut Console<I, W>,
+    console: &mut Console<T>,
     registrar: &mut Registrar<J, R, A>,
-    latest: &Mutex<Option<Notice<J>>>,
+    latest: &Mutex<Notice<J>>,
 ) {
     let mut line = PendingCommand::new();
     let mut left = LIMITS.lines;
@@ -51,11 +51,11 @@ pub(crate) fn obey_one<J: Naming, R: Wait + Drop, A: Allocator>(
     rt: &impl Wait,
     line: &[u8],
     registrar: &mut Registrar<J, R, A>,
-    latest: &Mutex<Option<Notice<J>>>,
+    latest: &Mutex<Notice<J>>,
 ) -> Option<ObeyFault> {
     match obey(line, registrar) {
         Ok(notice) => {
-            *latest.lock(rt) = Some(notice);
+            *latest.lock(rt) = notice;
             None
         }
         Err(fault) => Some(fault),

@@ -15,6 +15,9 @@ use std::alloc::{AllocError, Global};
 use std::marker::Model;
 use std::sync::{Mutex, Wait};
 
+#[cfg(test)]
+mod tests;
+
 /// Answers lines by a clerk of a repository, at the moments of a clock, which it asks once a line. Before each question the
 /// clerk learns the latest notice (own).
 #[derive(Drop)]
@@ -22,7 +25,7 @@ pub struct ClerkDesk<'r, 'a, R: Wait, J: Naming, S: EntryLedger, C: ReceiptLedge
     rt: &'r R,
     clerk: Clerk<'a, Global, J, C>,
     repository: &'r Repository<'a, Global, S, C>,
-    latest: &'r Mutex<Option<Notice<J>>>,
+    latest: &'r Mutex<Notice<J>>,
     clock: K,
 }
 
@@ -56,12 +59,14 @@ impl<'r, 'a, R: Wait, J: Naming, S: EntryLedger, C: ReceiptLedger, K: Clock> Cle
         rt: &'r R,
         clerk: Clerk<'a, Global, J, C>,
         repository: &'r Repository<'a, Global, S, C>,
-        latest: &'r Mutex<Option<Notice<J>>>,
+        latest: &'r Mutex<Notice<J>>,
         clock: K,
     ) -> ClerkDesk<'r, 'a, R, J, S, C, K>
         ensures seen { result.seen ≡ clerk.entry.seen }
         ensures receipts { result.receipts ≡ clerk.entry.receipts }
         ensures shards { result.shards ≡ repository.now.shards }
+        ensures asked { result.asked ≡ K.asked clock }
+        ensures gave { result.gave ≡ K.gave clock }
     {
         ClerkDesk {
             rt,
@@ -90,10 +95,7 @@ impl<'r, 'a, R: Wait, J: Naming, S: EntryLedger, C: ReceiptLedger, K: Clock> Cle
         ensures asked { self.new.asked ≡ self.old.asked }
         ensures gave { self.new.gave ≡ self.old.gave }
     {
-        match &*self.latest.lock(self.rt) {
-            Some(notice) => self.clerk.learn(notice),
-            None => {}
-        }
+        self.clerk.learn(&*self.latest.lock(self.rt));
     }
 
     /// Puts a question by the clerk.

@@ -1,8 +1,8 @@
 //! Why the program ends in failure.
-ghost use Rattle.std.specs.Prelude.{◌≡◌, Some};
-ghost use Rattle.nmvs_server.specs.Faults.{command_word, fault_text};
+ghost use Rattle.std.specs.Prelude.{◌≡◌, None, Some};
+ghost use Rattle.nmvs_server.specs.Faults.{command_word, fault_text, outcome};
 
-use nmvs_protocol::CommandFault;
+use nmvs_protocol::{CommandFault, End};
 use std::fmt;
 
 /// Why the program ends in failure (own). It is told on standard error, and the status is 1.
@@ -24,6 +24,8 @@ pub enum Fault<'a> {
     CannotListen(u16),
     /// A receipt could not be found in the trails.
     Settlement,
+    /// Fewer workers gave their clerk back than there are clerks.
+    LostClerk,
     /// Memory was wanting, or a thread for a worker.
     Memory,
     /// A read of the session over standard input failed.
@@ -50,11 +52,44 @@ impl<'a> fmt::Display for Fault<'a> {
             Fault::Directory => f.write_str("directory refused"),
             Fault::CannotListen(port) => write!(f, "cannot listen on port {port}"),
             Fault::Settlement => f.write_str("settlement fault"),
+            Fault::LostClerk => f.write_str("a clerk was lost"),
             Fault::Memory => f.write_str("out of memory"),
             Fault::SessionRead => f.write_str("session read fault"),
             Fault::SessionWrite => f.write_str("session write fault"),
             Fault::SessionLimit => f.write_str("session limit"),
         }
+    }
+}
+
+/// How the program ended: the fault of the session over standard input, and then any other. None of them is success.
+#[derive(Clone, Copy, Debug, PartialEq, Eq)]
+pub struct Outcome<'a> {
+    pub session: Option<Fault<'a>>,
+    pub program: Option<Fault<'a>>,
+}
+
+impl<'a> Outcome<'a> {
+    /// No session was served.
+    pub(crate) fn of(program: Fault<'a>) -> Outcome<'a>
+        ensures { result ≡ record { session = None; program = Some program.entry } }
+    {
+        Outcome {
+            session: None,
+            program: Some(program),
+        }
+    }
+}
+
+/// What the end of the program's session makes of the program.
+pub(crate) fn outcome_of(end: End) -> Result<(), Fault<'static>>
+    ensures { result ≡ outcome end }
+{
+    match end {
+        End::Quit | End::Ended => Ok(()),
+        End::ReadFault => Err(Fault::SessionRead),
+        End::WriteFault => Err(Fault::SessionWrite),
+        End::Limit => Err(Fault::SessionLimit),
+        End::Memory => Err(Fault::Memory),
     }
 }
 

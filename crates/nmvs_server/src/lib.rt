@@ -11,30 +11,26 @@ mod clock;
 mod commands;
 mod console;
 mod desk;
+#[cfg(test)]
+mod examples;
 mod exports;
 mod fault;
+mod host;
 mod launch;
-mod office;
-mod opened;
+mod limits;
 mod opening;
-mod outcome;
-mod plan;
-mod program;
 mod rehearsal;
 mod roster;
-mod service;
-#[cfg(test)]
-mod tests;
 mod workers;
 
 pub use clock::{Clock, ProgramClock};
-pub use console::Console;
+pub use console::{Console, Sides};
 pub use desk::ClerkDesk;
-pub use fault::Fault;
+pub use fault::{Fault, Outcome};
+pub use host::Host;
 pub use launch::{run, start};
+pub use limits::{MOST_LINES, MOST_READS};
 pub use nmvs_operator::{
     LoadFault, ObeyFault, OptionFault, Options, load_users, obey, read_options,
 };
-pub use outcome::Outcome;
-pub use program::serve_rehearsal;
-pub use rehearsal::rehearse;
+pub use rehearsal::{rehearse, serve_rehearsal};

@@ -1,11 +1,17 @@
 //! The rehearsal: a session to learn the repository by, whose every answer is proved.
-ghost use Rattle.std.specs.Prelude.{◌≡◌, ◌<◌, [], false, length};
+ghost use Rattle.std.specs.Prelude.{◌≡◌, ◌<◌, [], ◌∷◌, length};
+ghost use Rattle.nmvs_protocol.specs.declared.end.End.{End as TheEnd};
 ghost use Rattle.nmvs_protocol.specs.Session.{Session};
+ghost use Rattle.nmvs_server.specs.Console.{IsFresh};
+ghost use Rattle.nmvs_server.specs.Faults.{outcome};
 ghost use Rattle.nmvs_server.specs.Rehearsal.{Rehearsal, Judges};
 
+use crate::Fault;
+use crate::fault::outcome_of;
+use crate::limits::{LIMITS, MOST_LINES, MOST_READS};
 use crate::roster::actor_of;
 use nmvs_identifier::{Moment, Name, ProductCode};
-use nmvs_protocol::{Answer, Ask, Desk, End, Entries, Limits, Text, Turn, serve};
+use nmvs_protocol::{Answer, Ask, Desk, End, Entries, Text, Turn, serve};
 use nmvs_record::report;
 use nmvs_rules::{Question, Reply, Role};
 use nmvs_shard::Shard;
@@ -13,11 +19,30 @@ use nmvs_stream::{Sink, Source};
 use std::alloc::Global;
 use std::marker::Model;
 
-/// How far one session may go (own).
-pub(crate) const LIMITS: Limits = Limits {
-    lines: 10_000,
-    reads: 4_000_000,
-};
+#[cfg(test)]
+mod tests;
+
+/// 1 January 2026, 00:00:00 UTC, in seconds: the one moment of the program's rehearsal (own).
+const NEW_YEAR: i64 = 1_767_225_600;
+
+/// The program without any option: one rehearsal, each of its lines at 1 January 2026, 00:00:00 UTC (own).
+///
+/// # Errors
+///
+/// The fault of a session that neither QUIT nor the end of the input ended.
+pub fn serve_rehearsal<R: Source, W: Sink>(
+    alloc: Global,
+    source: &mut R,
+    sink: &mut W,
+) -> Result<(), Fault<'static>>
+    requires { IsFresh (R.told source.old) (W.taken sink.old) }
+    ensures { (last : Rehearsal) × (end : TheEnd) × Session Judges (record { lines = MOST_LINES; reads = MOST_READS })
+        (record { trail = []; moments = 1_767_225_600 ∷ [] }) (R.told source.old) (W.taken sink.old)
+        last (R.told source.new) (W.taken sink.new) end × (result ≡ outcome end) }
+{
+    let moment = Moment::new(NEW_YEAR).unwrap();
+    outcome_of(rehearse(alloc, source, sink, &[moment]))
+}
 
 /// One session over one empty shard, with eight users of its own (own).
 ///
@@ -30,10 +55,8 @@ pub fn rehearse<R: Source, W: Sink>(
     moments: &[Moment],
 ) -> End
     requires moments { 0 < length moments.now }
-    requires source_sound { (R.told source.old).failed ≡ false }
-    requires source_open { (R.told source.old).ended ≡ false }
-    requires sink_sound { (W.taken sink.old).failed ≡ false }
-    ensures { (last : Rehearsal) × Session Judges (record { lines = 10_000; reads = 4_000_000 })
+    requires fresh { IsFresh (R.told source.old) (W.taken sink.old) }
+    ensures { (last : Rehearsal) × Session Judges (record { lines = MOST_LINES; reads = MOST_READS })
         (record { trail = []; moments = moments.now }) (R.told source.old) (W.taken sink.old)
         last (R.told source.new) (W.taken sink.new) result }
 {

@@ -1,11 +1,6 @@
 //! Sessions of lines and their replies.
-mod clock;
-mod connections;
-mod desk;
-mod examples;
-
-use crate::rehearse;
-use examples::{Example, NEW_YEAR};
+use crate::examples::{Example, NEW_YEAR};
+use crate::{examples, rehearse};
 use nmvs_identifier::Moment;
 use nmvs_protocol::End;
 use nmvs_stream::Device;

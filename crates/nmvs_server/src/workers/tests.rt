@@ -1,5 +1,5 @@
 //! A run over connections.
-use super::examples::NEW_YEAR;
+use crate::examples::NEW_YEAR;
 use crate::{Console, Options, Outcome, run};
 use nmvs_identifier::Moment;
 use nmvs_stream::Device;
@@ -105,15 +105,13 @@ fn two_connections_are_served_at_once(rt: HostRuntime) -> Result<(), Fail> {
     let port = address.port();
     let served = Cell::new(false);
     let mut output = Vec::new(alloc);
-    let mut console = Console {
-        source: Device::new(Script {
-            rt: &rt,
-            address,
-            commands: COMMANDS.as_bytes(),
-            served: &served,
-        }),
-        sink: Device::new(&mut output),
+    let script = Script {
+        rt: &rt,
+        address,
+        commands: COMMANDS.as_bytes(),
+        served: &served,
     };
+    let mut console = Console::new(Device::new(script), Device::new(&mut output));
     let outcome = run(&rt, alloc, &options, &listener, &mut console);
     drop(console);
     assert_eq!(rt;

@@ -1,4 +1,4 @@
-use Rattle.nmvs_server.proofs.tests.desk.get_their_answers.Given as goal
+use Rattle.nmvs_server.proofs.desk.tests.get_their_answers.Given as goal
 
 -- the directory that was just made
 abbrev pub ghosts-at_directory : goal.ghosts-at_directory

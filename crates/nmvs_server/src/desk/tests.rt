@@ -2,13 +2,12 @@
 ghost use Rattle.std.specs.Prelude.{◌≡◌, ◌≤◌, length, vec_len};
 ghost use Rattle.nmvs_directory.specs.Directory.{directory_book};
 
-use super::examples;
-use super::examples::{Example, NEW_YEAR};
 use crate::clock::OneMore;
 use crate::commands::{answer_text, obey_one};
+use crate::examples::{Example, NEW_YEAR};
+use crate::limits::{LIMITS, MOST_CLERKS, PARTS};
 use crate::opening::Opening;
-use crate::rehearsal::LIMITS;
-use crate::{ClerkDesk, Clock, load_users};
+use crate::{ClerkDesk, Clock, examples, load_users};
 use boxcar::tag::Tag;
 use nmvs_desk::{EntryLedger, ReceiptLedger};
 use nmvs_directory::{Directory, Naming, Notice, Registrar};
@@ -113,15 +112,15 @@ fn is_put(answer: &str) -> bool {
 
 fn at_desk<'a, J: Naming, S: EntryLedger, C: ReceiptLedger, R: Wait + Abort>(
     rt: &R,
-    latest: &Mutex<Option<Notice<J>>>,
-    opening: Opening<'a, '_, J>,
+    latest: &Mutex<Notice<J>>,
+    opening: Opening<'a, J>,
     registrar: &mut Registrar<J, &R, &Global>,
     example: &Example,
 ) -> Result<(), Fail>
-    requires entries { (opening.entries.name ≡ S.name) × (opening.entries.parts ≡ S.parts) × (S.parts ≡ 9) }
-    requires receipts { (opening.receipts.name ≡ C.name) × (opening.receipts.parts ≡ C.parts) × (C.parts ≡ 9) }
-    requires named { (S.shards ≡ 1) × (C.clerks ≡ vec_len opening.windows) × (C.opening ≡ length opening.import.now) }
-    requires few { vec_len opening.windows ≤ 8 }
+    requires entries { (opening.entries.name ≡ S.name) × (opening.entries.parts ≡ S.parts) × (S.parts ≡ PARTS) }
+    requires receipts { (opening.receipts.name ≡ C.name) × (opening.receipts.parts ≡ C.parts) × (C.parts ≡ PARTS) }
+    requires named { (S.shards ≡ 1) × (C.clerks ≡ vec_len opening.windows) × (C.opening ≡ length opening.import) }
+    requires few { vec_len opening.windows ≤ MOST_CLERKS }
 {
     let alloc = *opening.windows.allocator();
     let Ok(mut opened) = opening.open::<S, C>(alloc, 1) else {
@@ -160,11 +159,11 @@ fn at_directory<J: Naming, R: Wait + Abort + Sync>(
     let notice = load_users(*alloc, &mut users, &mut registrar, 2)?;
     let opening = Opening {
         windows,
-        import: &Shard::new(alloc),
-        entries: Blank::new(9),
-        receipts: Blank::new(9),
+        import: Shard::new(alloc),
+        entries: Blank::new(PARTS),
+        receipts: Blank::new(PARTS),
     };
-    let latest = Mutex::new(Some(notice));
+    let latest = Mutex::new(notice);
     let done = at_desk::<J, Brand, Brand, _>(rt, &latest, opening, &mut registrar, example);
     registrar.close();
     done
