@@ -4,7 +4,7 @@ use Rattle.std.proofs.lemmas.List.{append-nil, append_assoc, flat_map_more, leng
 use Rattle.nmvs_directory.specs.declared.change.Change.{Change}
 use Rattle.nmvs_protocol.specs.Commands.{command_line, first_command_fault}
 use Rattle.nmvs_protocol.specs.declared.command.Command.{Command}
-use Rattle.nmvs_protocol.specs.declared.command_fault.CommandFault.{CommandFault}
+use Rattle.nmvs_protocol.specs.declared.command.CommandFault.{CommandFault}
 use Rattle.nmvs_operator.specs.Users.{change_of, commands_text, Adds, IsWhole, StopsAt, Tells}
 use Rattle.nmvs_operator.specs.declared.load_fault.LoadFault.{LoadFault}
 use Rattle.nmvs_operator.specs.declared.load_fault.LoadFault.TheVariants as load

@@ -5,7 +5,7 @@ use Rattle.nmvs_directory.specs.declared.change.Change.{Change}
 use Rattle.nmvs_protocol.specs.Commands.{command_line, first_command_fault}
 use Rattle.nmvs_protocol.specs.declared.command.Command.{Command}
 use Rattle.nmvs_protocol.specs.declared.command.Command.TheVariants.{Enrol, Suspend}
-use Rattle.nmvs_protocol.specs.declared.command_fault.CommandFault.{CommandFault}
+use Rattle.nmvs_protocol.specs.declared.command.CommandFault.{CommandFault}
 use Rattle.nmvs_stream.specs.Source.{Told}
 use Rattle.nmvs_operator.specs.declared.load_fault.LoadFault.{LoadFault}
 use Rattle.nmvs_operator.specs.declared.load_fault.LoadFault.TheVariants as load

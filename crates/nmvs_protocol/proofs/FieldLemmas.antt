@@ -17,7 +17,7 @@ use Rattle.std.proofs.lemmas.Iterator.{YieldsList}
 use Rattle.std.proofs.lemmas.Iterator.Splits.{YieldsList-from_str_split}
 use Rattle.std.proofs.lemmas.Str.{IsUtf8-from_ascii}
 use Rattle.std.proofs.lemmas.Str.Ascii.{IsAscii-from_all}
-use Rattle.nmvs_protocol.specs.Fields.{is_printable, is_empty, fields_in, joined}
+use Rattle.nmvs_protocol.specs.Fields.{is_printable, is_empty, fields_in, line_of_fields}
 
 printable-small : (b : ℕ) → is_printable b ≡ true → b < 128
 printable-small b e = grind (arith, nat_tests)
@@ -61,11 +61,11 @@ pub full : {A : Type 0} (kept all : List A) → kept ≡ take 7 all → (length 
 full kept all same is_full = let n = eqb-true (length kept) 7 is_full in let m = ap length same in omega arith
 
 -- a line of which fewer fields than could be are kept has these fields, and is made of them
-pub line_of_kept : (x : List ℕ) (fs : List (List ℕ)) → take 7 (fields_in x) ≡ fs → length fs < 7 → x ≡ joined fs
+pub line_of_kept : (x : List ℕ) (fs : List (List ℕ)) → take 7 (fields_in x) ≡ fs → length fs < 7 → x ≡ line_of_fields fs
 line_of_kept x fs kept few =
     let counted = length-take 7 (fields_in x) in
     let same = ap length kept in
-    sym (join_with_byte-slice_split 32 x) ∙ ap joined (sym (take_all 7 (fields_in x) (omega arith)) ∙ kept)
+    sym (join_with_byte-slice_split 32 x) ∙ ap line_of_fields (sym (take_all 7 (fields_in x) (omega arith)) ∙ kept)
 
 -- the texts of a slice of one, of two and of four
 pub one : (ts : List (Bor (List ℕ))) (a : Bor (List ℕ)) → 1 ≤ length ts → length ts < 2 → map (λ t. t.now) ts ≡ (get_or ts 0 a).now ∷ []

@@ -3,10 +3,8 @@ ghost use Rattle.std.specs.Prelude.{◌≡◌, ◌↔◌, ℕ, List, Option, Som
 ghost use Rattle.std.specs.List.{list_any, list_all};
 ghost use Rattle.nmvs_protocol.specs.Fields.{is_printable, is_empty, fields_in, line_fault};
 
+use crate::LONGEST_LINE;
 use arrayvec::ArrayVec;
-
-/// The most bytes that a line may have, its LF not among them (own).
-pub(crate) const LONGEST_LINE: usize = 200;
 
 /// How many fields of a line are kept: no line has more than six, and a seventh tells that there are too many.
 pub(crate) const KEPT_FIELDS: usize = 7;

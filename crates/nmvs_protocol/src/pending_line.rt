@@ -1,7 +1,7 @@
 ghost use Rattle.std.specs.Prelude.{◌≡◌, ◌++◌, ◌==◌, [], length};
-ghost use Rattle.nmvs_protocol.specs.Progress.{kept};
+ghost use Rattle.nmvs_protocol.specs.Progress.{kept_part};
 
-use crate::fields::LONGEST_LINE;
+use crate::LONGEST_LINE;
 use arrayvec::ArrayVec;
 use std::marker::Model;
 
@@ -44,7 +44,7 @@ impl PendingLine {
     }
 
     pub(crate) fn extend(&mut self, bytes: &[u8])
-        ensures { self.new ≡ kept (self.old ++ bytes.now) }
+        ensures { self.new ≡ kept_part (self.old ++ bytes.now) }
     {
         let count = self.bytes.remaining_capacity().min(bytes.len());
         self.bytes.try_extend_from_slice(&bytes[..count]).unwrap();

@@ -1,8 +1,6 @@
-use crate::{
-    Ask, Command, CommandFault, LineFault, ask_line, one_spelling, read_command, read_line,
-};
+use crate::{Ask, Line, LineFault, line_text, read_line};
 use nmvs_identifier::{Batch, Expiry, Name, Pack, ProductCode, Serial};
-use nmvs_rules::{Actor, Question, Role};
+use nmvs_rules::Question;
 use std::alloc::Global;
 use std::rt::HostRuntime;
 
@@ -11,35 +9,34 @@ fn lines_are_read_and_written(rt: HostRuntime) {
     let user = Name::read("ph1").expect(&rt, "a name");
     let code = ProductCode::read("09506000134352").expect(&rt, "a code");
     let serial = Serial::read("SN1").expect(&rt, "a serial number");
-    let verify = Ask::Put(user, Question::Verify(Pack { code, serial }));
+    let verify = Line::Ask(Ask::Question(user, Question::Verify(Pack { code, serial })));
     let line = "ph1 VERIFY 09506000134352 SN1";
     assert!(rt; read_line(line.as_bytes()) == Ok(verify));
-    let written = ask_line(rt.alloc(), &verify).expect(&rt, "ample memory");
+    let written = line_text(rt.alloc(), &verify).expect(&rt, "ample memory");
     assert!(rt; written.as_str() == line);
-    assert!(rt; read_line(b"QUIT") == Ok(Ask::Quit));
+    assert!(rt; read_line(b"QUIT") == Ok(Line::Quit));
 
     let holder = Name::read("mah1").expect(&rt, "a name");
     let serial = Serial::read("ABC/DEF%GHI/JKL%MN12").expect(&rt, "20 characters");
     let batch = Batch::read("B1").expect(&rt, "a batch number");
     let expiry = Expiry::read("280200").expect(&rt, "an expiry date");
     let pack = Pack { code, serial };
-    let upload = Ask::Put(
+    let upload = Line::Ask(Ask::Question(
         holder,
         Question::Upload {
             pack,
             batch,
             expiry,
         },
-    );
+    ));
     let line = "mah1 UPLOAD 09506000134352 ABC/DEF%GHI/JKL%MN12 B1 280200";
     assert!(rt; read_line(line.as_bytes()) == Ok(upload));
-    one_spelling();
 }
 
 /// Whether the line is read, and written again as it was.
 fn is_written_again(alloc: Global, line: &str) -> bool {
     match read_line(line.as_bytes()) {
-        Ok(ask) => match ask_line(alloc, &ask) {
+        Ok(read) => match line_text(alloc, &read) {
             Ok(written) => written.as_str() == line,
             Err(_) => false,
         },
@@ -48,7 +45,7 @@ fn is_written_again(alloc: Global, line: &str) -> bool {
 }
 
 #[test]
-fn each_kind_of_ask_has_its_line(rt: HostRuntime) {
+fn each_kind_of_line_has_its_text(rt: HostRuntime) {
     for line in [
         "mah1 UPLOAD 09506000134352 SN1 B1 280200",
         "ph1 VERIFY 04012345678901 SN1",
@@ -110,28 +107,6 @@ fn faults_of_lines(rt: HostRuntime) {
 }
 
 #[test]
-fn commands_are_read(rt: HostRuntime) {
-    let user = Name::read("ph9").expect(&rt, "a name");
-    let actor = Actor {
-        role: Role::Pharmacy,
-        authorisation: Name::read("PH-9").expect(&rt, "a name"),
-        premises: Name::read("P9").expect(&rt, "a name"),
-    };
-    assert!(rt; read_command(b"ENROL ph9 PHARMACY PH-9 P9") == Ok(Command::Enrol(user, actor)));
-    assert!(rt; read_command(b"SUSPEND ph9") == Ok(Command::Suspend(user)));
-    for (line, fault) in [
-        ("ENROL ph9 DOCTOR PH-9 P9", CommandFault::Role),
-        ("SUSPEND", CommandFault::Fields),
-        ("enrol x", CommandFault::Word),
-        ("SUSPEND -x", CommandFault::Name),
-        ("SUSPEND ph9\r", CommandFault::Bytes),
-    ] {
-        assert!(rt; read_command(line.as_bytes()) == Err(fault), "{line}");
-    }
-    assert!(rt; read_command(&[b'A'; 201]) == Err(CommandFault::Long));
-}
-
-#[test]
 fn texts_of_faults_of_lines(rt: HostRuntime) {
     for (fault, text) in [
         (LineFault::Long, "the line has more than 200 bytes"),
@@ -149,30 +124,6 @@ fn texts_of_faults_of_lines(rt: HostRuntime) {
         (LineFault::Batch, "the line's batch is no batch number"),
         (LineFault::Expiry, "the line's expiry is no expiry date"),
         (LineFault::User, "the line's user is no name"),
-    ] {
-        let written = format!(in rt.alloc(); "{fault}").expect(&rt, "ample memory");
-        assert!(rt; written.as_str() == text, "{text}");
-    }
-}
-
-#[test]
-fn texts_of_faults_of_commands(rt: HostRuntime) {
-    for (fault, text) in [
-        (CommandFault::Long, "the command has more than 200 bytes"),
-        (
-            CommandFault::Bytes,
-            "the command has a byte that is no printable ASCII character",
-        ),
-        (
-            CommandFault::Fields,
-            "the command has an empty field or the wrong number of fields",
-        ),
-        (CommandFault::Word, "the command's word is unknown"),
-        (CommandFault::Role, "the command's role is unknown"),
-        (
-            CommandFault::Name,
-            "the command's user, authorisation or premises is no name",
-        ),
     ] {
         let written = format!(in rt.alloc(); "{fault}").expect(&rt, "ample memory");
         assert!(rt; written.as_str() == text, "{text}");

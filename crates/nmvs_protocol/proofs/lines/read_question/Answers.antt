@@ -5,11 +5,11 @@ use Rattle.nmvs_identifier.specs.Name.{Name, is_name}
 use Rattle.nmvs_words.specs.declared.question_kind.QuestionKind.TheVariants.{Upload, OfPack, OfBatch}
 use Rattle.nmvs_words.specs.Kinds.{kind_named}
 use Rattle.nmvs_words.proofs.WordLemmas.{kind_named-word}
-use Rattle.nmvs_protocol.specs.declared.line_fault.LineFault.{LineFault}
-use Rattle.nmvs_protocol.specs.declared.line_fault.LineFault.TheVariants as fault
+use Rattle.nmvs_protocol.specs.declared.ask.LineFault.{LineFault}
+use Rattle.nmvs_protocol.specs.declared.ask.LineFault.TheVariants as fault
 use Rattle.nmvs_protocol.proofs.FieldLemmas.{read_or, two, four}
-use Rattle.nmvs_protocol.proofs.SpellingLemmas.{no_put_fault}
-use Rattle.nmvs_protocol.proofs.lines.read_put.Goals as goal
+use Rattle.nmvs_protocol.proofs.SpellingLemmas.{no_question_fault}
+use Rattle.nmvs_protocol.proofs.lines.read_question.Goals as goal
 
 user_read : {E : Type 0} (user : List ℕ) (r : Result Name E) (s : Result Name LineFault) (name : Name)
     → (IsOk r ↔ IsTrue (is_name user)) → IfOk r (λ n. n.bytes ≡ user) → s ≡ result_or r (Err fault.User) → s ≡ Ok name → (name.bytes ≡ user) × (is_name user ≡ true)
@@ -26,7 +26,7 @@ returns-in_ok-read_upload-in-Upload-len4 c =
     record {
       fields = λ i. user.0 i ∷ sym word i ∷ texts i;
       valid = search rules;
-      fault = no_put_fault c.args.user.now c.args.word.now Upload _ _ kind user.1 given refl read.fault;
+      fault = no_question_fault c.args.user.now c.args.word.now Upload _ _ kind user.1 given refl read.fault;
     }
 
 pub returns-in_ok-read_pack-in-OfPack-len2 : goal.returns-in_ok-read_pack-in-OfPack-len2
@@ -40,7 +40,7 @@ returns-in_ok-read_pack-in-OfPack-len2 c =
     record {
       fields = λ i. user.0 i ∷ sym word i ∷ texts i;
       valid = search rules;
-      fault = no_put_fault c.args.user.now c.args.word.now (OfPack c.in-OfPack-len2.asked) _ _ kind user.1 given refl read.fault;
+      fault = no_question_fault c.args.user.now c.args.word.now (OfPack c.in-OfPack-len2.asked) _ _ kind user.1 given refl read.fault;
     }
 
 pub returns-in_ok-read_of_batch-in-OfBatch-len2 : goal.returns-in_ok-read_of_batch-in-OfBatch-len2
@@ -54,5 +54,5 @@ returns-in_ok-read_of_batch-in-OfBatch-len2 c =
     record {
       fields = λ i. user.0 i ∷ sym word i ∷ texts i;
       valid = search rules;
-      fault = no_put_fault c.args.user.now c.args.word.now (OfBatch c.in-OfBatch-len2.asked) _ _ kind user.1 given refl read.fault;
+      fault = no_question_fault c.args.user.now c.args.word.now (OfBatch c.in-OfBatch-len2.asked) _ _ kind user.1 given refl read.fault;
     }
