@@ -28,6 +28,7 @@ all_small (b ∷ bs) e =
     let parts = and_parts (is_printable b) (list_all is_printable bs) e in
     (printable-small b parts.0, all_small bs parts.1)
 
+-- printable text is UTF-8
 pub printable-utf8 : (x : List ℕ) → list_all is_printable x ≡ true → IsUtf8 x
 printable-utf8 x e = IsUtf8-from_ascii x (IsAscii-from_all x (All-from_recursion _ x (all_small x e)))
 
@@ -54,9 +55,11 @@ take_push xs x room =
     let more = length_push xs x in
     take_all 7 (xs ++ x ∷ []) (omega arith) ∙ ap (λ ys. ys ++ x ∷ []) (sym (take_all 7 xs (omega arith)))
 
+-- with no room one more is not kept
 pub take_push_full : {A : Type 0} (xs : List A) (x : A) → 7 ≤ length (take 7 xs) → take 7 (xs ++ x ∷ []) ≡ take 7 xs
 take_push_full xs x full = let kept = length-take 7 xs in take-append-le 7 xs (x ∷ []) (omega arith)
 
+-- as many are kept as there is room for
 pub full : {A : Type 0} (kept all : List A) → kept ≡ take 7 all → (length kept == 7) ≡ true → 7 ≤ length (take 7 all)
 full kept all same is_full = let n = eqb-true (length kept) 7 is_full in let m = ap length same in omega arith
 

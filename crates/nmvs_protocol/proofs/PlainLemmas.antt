@@ -64,6 +64,7 @@ pub record IsPlainLine (fs : List (List ℕ)) : Type 0 where
   pub fields : fields_in (line_of_fields fs) ≡ fs
   pub filled : list_any is_empty (fields_in (line_of_fields fs)) ≡ false
 
+-- one to nine plain fields make such a line
 pub plain_line : (fs : List (List ℕ)) → 1 ≤ length fs → length fs ≤ 9 → AllByRecursion IsPlain fs → IsPlainLine fs
 plain_line fs some few plain =
     let own = fields_in-line_of_fields fs some plain in

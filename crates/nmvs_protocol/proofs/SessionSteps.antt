@@ -16,20 +16,23 @@ use Rattle.nmvs_protocol.specs.Lines.{line_text, ReadsLine}
 use Rattle.nmvs_protocol.specs.Texts.{text}
 use Rattle.nmvs_protocol.specs.InputLines.{input_lines, lines_after, rest_after}
 use Rattle.nmvs_stream.specs.Delivery.{Delivers, DeliversPart}
-use Rattle.nmvs_protocol.specs.Session.{Answers, AnswersLine, AnswersLines, NoQuit, DeliversAll, BreaksOff, Closes, Session, is_input_end, is_read_fault}
+use Rattle.nmvs_protocol.specs.Session.{Answers, AnswersLine, AnswersLines, NoQuit, DeliversAll, BreaksOffInLast, Closes, Session, is_input_end, is_read_fault}
 use Rattle.nmvs_protocol.specs.Progress.{Stands, Answered, kept_part, has_write_fault}
 use Rattle.nmvs_protocol.proofs.KeptLines.{kept_reads}
 
+-- one line more that is not QUIT
 pub no_quit_more : (xs : List (List ℕ)) (x : List ℕ) → NoQuit xs → x ≢ line_text lines.Quit → NoQuit (xs ++ x ∷ [])
 no_quit_more xs x none other = All-append (λ (y : List ℕ). y ≢ line_text lines.Quit) xs (x ∷ []) none (All-cons (λ (y : List ℕ). y ≢ line_text lines.Quit) x [] other (All-nil (λ (y : List ℕ). y ≢ line_text lines.Quit)))
 
+-- one answer more, delivered
 pub delivers_more : (start now new : Taken) (said : List Answer) (a : Answer) → DeliversAll start now said → Delivers now new (text a) → DeliversAll start new (said ++ a ∷ [])
 delivers_more start now new said a d p = record {
   bytes = p.bytes ∙ ap (λ (t : List ℕ). t ++ text a) d.bytes ∙ flat_map_more text start.bytes said a;
   flushed = λ _. p.flushed;
 }
 
-pub breaks_off : (start now new : Taken) (said : List Answer) (a : Answer) → DeliversAll start now said → DeliversPart now new (text a) → BreaksOff start new (said ++ a ∷ [])
+-- one answer more, which a failed write broke off
+pub breaks_off : (start now new : Taken) (said : List Answer) (a : Answer) → DeliversAll start now said → DeliversPart now new (text a) → BreaksOffInLast start new (said ++ a ∷ [])
 breaks_off start now new said a d p = record {
   before = said;
   last = a;
@@ -78,6 +81,7 @@ module _ {D : Type 0} (takes : D → Ask → Answer → D → Type 0) where
   answers_more first [] (b ∷ bs) now new x a r s = absurd r
   answers_more first (y ∷ ys) [] now new x a r s = absurd r
 
+  -- the same of equal lines
   pub same_lines : {limit : ℕ} {first : D} {start : Taken} {now : D} {sink : Taken} {count : ℕ} {xs ys : List (List ℕ)} {end : Option End}
       → xs ≡ ys → Answered takes limit first start now sink count xs end → Answered takes limit first start now sink count ys end
   same_lines {limit} {first} {start} {now} {sink} {count} {end = end} e h = subst (λ (t : List (List ℕ)). Answered takes limit first start now sink count t end) e h

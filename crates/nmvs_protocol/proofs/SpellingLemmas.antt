@@ -152,6 +152,7 @@ texts_fault-none gs user ts e =
 no_report : (word : List ℕ) → word ≢ report_word → bytes_eq word report_word ≡ false
 no_report word other = false_from_ne_true (bytes_eq word report_word) (λ e. other ((bytes_eq-Decides word report_word).0 e))
 
+-- the fault of a word that asks for no report
 pub ask_fault-question : (user word : List ℕ) (ts : List (List ℕ)) → word ≢ report_word → ask_fault user word ts ≡ question_fault user (kind_named word) ts
 ask_fault-question user word ts other =
     let no = no_report word other in λ i. cond (no i) (texts_fault report_grammars user ts) (question_fault user (kind_named word) ts)

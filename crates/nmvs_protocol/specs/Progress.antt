@@ -6,7 +6,7 @@ use Rattle.nmvs_protocol.specs.declared.answer.Answer.{Answer}
 use Rattle.nmvs_protocol.specs.declared.end.End.{End}
 use Rattle.nmvs_protocol.specs.declared.end.End.TheVariants as ends
 use Rattle.nmvs_protocol.specs.declared.pending_line.TheConstants.{KEPT}
-use Rattle.nmvs_protocol.specs.Session.{AnswersLines, AnswersAll, NoQuit, EndsWithQuit, NoQuitBeforeLast, DeliversAll, BreaksOff, LacksLast, LineLimit, is_write_fault}
+use Rattle.nmvs_protocol.specs.Session.{AnswersLines, AnswersAll, NoQuit, EndsWithQuit, NoQuitBeforeLast, DeliversAll, BreaksOffInLast, LacksLast, LineLimit, is_write_fault}
 
 -- what is kept of a line: enough to judge it, since one byte more than a line may have tells that it is too long
 abbrev pub kept_part : List ℕ → List ℕ
@@ -16,7 +16,7 @@ kept_part x = take KEPT x
 abbrev pub Stands : Option End → ℕ → ℕ → List (List ℕ) → List (List ℕ) → List Answer → Taken → Taken → Type 0
 Stands None limit count answered left said sink sink' = AnswersAll answered left × DeliversAll sink sink' said × (count ≡ length said)
 Stands (Some ends.Quit) limit count answered left said sink sink' = EndsWithQuit answered × DeliversAll sink sink' said
-Stands (Some ends.WriteFault) limit count answered left said sink sink' = NoQuitBeforeLast answered × BreaksOff sink sink' said
+Stands (Some ends.WriteFault) limit count answered left said sink sink' = NoQuitBeforeLast answered × BreaksOffInLast sink sink' said
 Stands (Some ends.Limit) limit count answered left said sink sink' = NoQuit answered × DeliversAll sink sink' said × LineLimit limit left said
 Stands (Some ends.Memory) limit count answered left said sink sink' = NoQuitBeforeLast answered × LacksLast sink sink' said
 Stands (Some ends.Ended) limit count answered left said sink sink' = ⊥

@@ -62,7 +62,7 @@ pub record DeliversAll (old new : Taken) (said : List Answer) : Type 0 where
   pub flushed : 0 < length said → new.flushed ≡ true
 
 -- the sink took the text of these answers up to some point in the text of the last one
-pub record BreaksOff (old new : Taken) (said : List Answer) : Type 0 where
+pub record BreaksOffInLast (old new : Taken) (said : List Answer) : Type 0 where
   pub before : List Answer
   pub last : Answer
   pub these : said ≡ before ++ last ∷ []
@@ -101,7 +101,7 @@ abbrev pub Closes : End → Limits → List (List ℕ) → List (List ℕ) → L
 Closes ends.Quit limits answered left said source source' sink sink' = EndsWithQuit answered × DeliversAll sink sink' said
 Closes ends.Ended limits answered left said source source' sink sink' = AnswersAll answered left × DeliversAll sink sink' said
 Closes ends.ReadFault limits answered left said source source' sink sink' = AnswersAll answered left × DeliversAll sink sink' said
-Closes ends.WriteFault limits answered left said source source' sink sink' = NoQuitBeforeLast answered × BreaksOff sink sink' said
+Closes ends.WriteFault limits answered left said source source' sink sink' = NoQuitBeforeLast answered × BreaksOffInLast sink sink' said
 Closes ends.Limit limits answered left said source source' sink sink' =
     NoQuit answered × DeliversAll sink sink' said × (LineLimit limits.lines left said ⊎ ReadLimit limits.reads left source source')
 Closes ends.Memory limits answered left said source source' sink sink' = NoQuitBeforeLast answered × LacksLast sink sink' said

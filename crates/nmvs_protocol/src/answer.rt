@@ -9,7 +9,8 @@ use std::marker::Model;
 /// The answer to a line.
 #[derive(Drop)]
 pub enum Answer<'a> {
-    /// The repository's reply to a question, and the entries that it shows: none for all but a shown audit.
+    /// The repository's reply to a question, and the entries that it shows: none for all but a shown
+    /// audit.
     Replied(Reply, Entries<'a>),
     /// The report of a product code.
     Reported(Text),

@@ -14,8 +14,8 @@ use nmvs_words::role_named;
 #[cfg(test)]
 mod tests;
 
-/// Reads a command, given without its LF: it is read as what it says where it is the line of that, and else answered by
-/// the first fault that it has.
+/// Reads a command, given without its LF: it is read as what it says where it is the line of that, and
+/// else answered by the first fault that it has.
 #[tactic(auto, unfolding(crate::specs::Commands::first_command_fault))]
 pub fn read_command(bytes: &[u8]) -> Result<Command, CommandFault>
     ensures { ReadsCommand bytes.now result }
@@ -46,7 +46,8 @@ fn read_fields(fields: &[&str]) -> Result<Command, CommandFault>
 }
 
 fn read_enrol(texts: &[&str]) -> Result<Command, CommandFault>
-    ensures fields { IfOk result (λ command. command_fields command ≡ codes "ENROL" ∷ map (λ t. t.now) texts.now) }
+    ensures fields { IfOk result (λ command.
+        command_fields command ≡ codes "ENROL" ∷ map (λ t. t.now) texts.now) }
     ensures valid { IfOk result (λ command. IsTrue (is_command command)) }
     ensures fault { result_err result ≡ enrol_fault (map (λ t. t.now) texts.now) }
 {
@@ -57,7 +58,8 @@ fn read_enrol(texts: &[&str]) -> Result<Command, CommandFault>
 }
 
 fn read_suspend(texts: &[&str]) -> Result<Command, CommandFault>
-    ensures fields { IfOk result (λ command. command_fields command ≡ codes "SUSPEND" ∷ map (λ t. t.now) texts.now) }
+    ensures fields { IfOk result (λ command.
+        command_fields command ≡ codes "SUSPEND" ∷ map (λ t. t.now) texts.now) }
     ensures valid { IfOk result (λ command. IsTrue (is_command command)) }
     ensures fault { result_err result ≡ suspend_fault (map (λ t. t.now) texts.now) }
 {
@@ -73,9 +75,11 @@ fn read_enrolment(
     authorisation: &str,
     premises: &str,
 ) -> Result<Command, CommandFault>
-    ensures fields { IfOk result (λ command. command_fields command ≡ codes "ENROL" ∷ user.now ∷ role.now ∷ authorisation.now ∷ premises.now ∷ []) }
+    ensures fields { IfOk result (λ command. command_fields command
+        ≡ codes "ENROL" ∷ user.now ∷ role.now ∷ authorisation.now ∷ premises.now ∷ []) }
     ensures valid { IfOk result (λ command. IsTrue (is_command command)) }
-    ensures fault { result_err result ≡ enrol_fault (user.now ∷ role.now ∷ authorisation.now ∷ premises.now ∷ []) }
+    ensures fault { result_err result
+        ≡ enrol_fault (user.now ∷ role.now ∷ authorisation.now ∷ premises.now ∷ []) }
 {
     let actor = Actor {
         role: read_role(role)?,
@@ -89,7 +93,8 @@ fn read_enrolment(
 fn read_role(word: &str) -> Result<Role, CommandFault>
     ensures accepts { IsOk result ↔ IsTrue (is_role word.now) }
     ensures kept { IfOk result (λ role. role_word role ≡ word.now) }
-    ensures fault { IfErr result (λ fault. (fault ≡ CommandFault.Role) × (is_role word.now ≡ false)) }
+    ensures fault { IfErr result (λ fault.
+        (fault ≡ CommandFault.Role) × (is_role word.now ≡ false)) }
 {
     role_named(word).ok_or(CommandFault::Role)
 }
@@ -97,7 +102,8 @@ fn read_role(word: &str) -> Result<Role, CommandFault>
 fn read_name(text: &str) -> Result<Name, CommandFault>
     ensures accepts { IsOk result ↔ IsTrue (is_name text.now) }
     ensures kept { IfOk result (λ name. name.bytes ≡ text.now) }
-    ensures fault { IfErr result (λ fault. (fault ≡ CommandFault.Name) × (is_name text.now ≡ false)) }
+    ensures fault { IfErr result (λ fault.
+        (fault ≡ CommandFault.Name) × (is_name text.now ≡ false)) }
 {
     Name::read(text).or(Err(CommandFault::Name))
 }

@@ -25,5 +25,6 @@ pub use end::End;
 pub use laws::{commands_are_read, lines_are_read};
 pub use limits::{LONGEST_LINE, Limits, MOST_LINES, MOST_READS, SESSION_LIMITS};
 pub use lines::{line_text, read_line};
+pub use pending_line::PendingLine;
 pub use replies::reply_text;
 pub use session::serve;

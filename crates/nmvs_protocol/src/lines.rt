@@ -14,8 +14,8 @@ use std::alloc::{AllocError, Global};
 #[cfg(test)]
 mod tests;
 
-/// Reads a line, given without its LF: it is read as what it says where it is the text of that, and else answered by
-/// the first fault that it has.
+/// Reads a line, given without its LF: it is read as what it says where it is the text of that, and
+/// else answered by the first fault that it has.
 #[tactic(auto, unfolding(crate::specs::Lines::first_fault))]
 pub fn read_line(bytes: &[u8]) -> Result<Line, LineFault>
     ensures { ReadsLine bytes.now result }
@@ -42,7 +42,8 @@ fn read_fields(fields: &[&str]) -> Result<Line, LineFault>
 
 /// What a user asks by this word and the texts after it.
 fn read_ask(user: &str, word: &str, texts: &[&str]) -> Result<Ask, LineFault>
-    ensures fields { IfOk result (λ ask. ask_fields ask ≡ user.now ∷ word.now ∷ map (λ t. t.now) texts.now) }
+    ensures fields { IfOk result (λ ask.
+        ask_fields ask ≡ user.now ∷ word.now ∷ map (λ t. t.now) texts.now) }
     ensures valid { IfOk result (λ ask. IsTrue (is_ask ask)) }
     ensures fault { result_err result ≡ ask_fault user.now word.now (map (λ t. t.now) texts.now) }
 {
@@ -54,11 +55,14 @@ fn read_ask(user: &str, word: &str, texts: &[&str]) -> Result<Ask, LineFault>
 
 /// The question that a user puts by this word and the texts after it.
 fn read_question(user: &str, word: &str, texts: &[&str]) -> Result<Ask, LineFault>
-    ensures fields { IfOk result (λ ask. ask_fields ask ≡ user.now ∷ word.now ∷ map (λ t. t.now) texts.now) }
+    ensures fields { IfOk result (λ ask.
+        ask_fields ask ≡ user.now ∷ word.now ∷ map (λ t. t.now) texts.now) }
     ensures valid { IfOk result (λ ask. IsTrue (is_ask ask)) }
-    ensures fault { result_err result ≡ question_fault user.now (kind_named word.now) (map (λ t. t.now) texts.now) }
+    ensures fault { result_err result
+        ≡ question_fault user.now (kind_named word.now) (map (λ t. t.now) texts.now) }
 {
     let kind = QuestionKind::named(word).ok_or(LineFault::Word)?;
+    // Whether the user is no name is told only where the number of texts is right.
     let user = Name::read(user).or(Err(LineFault::User));
     match (kind, texts) {
         (QuestionKind::Upload, [code, serial, batch, expiry]) => {
@@ -76,9 +80,11 @@ fn read_question(user: &str, word: &str, texts: &[&str]) -> Result<Ask, LineFaul
 
 /// The report that a user asks for by the texts after its word.
 fn read_report(user: &str, texts: &[&str]) -> Result<Ask, LineFault>
-    ensures fields { IfOk result (λ ask. ask_fields ask ≡ user.now ∷ report_word ∷ map (λ t. t.now) texts.now) }
+    ensures fields { IfOk result (λ ask.
+        ask_fields ask ≡ user.now ∷ report_word ∷ map (λ t. t.now) texts.now) }
     ensures valid { IfOk result (λ ask. IsTrue (is_ask ask)) }
-    ensures fault { result_err result ≡ texts_fault report_grammars user.now (map (λ t. t.now) texts.now) }
+    ensures fault { result_err result
+        ≡ texts_fault report_grammars user.now (map (λ t. t.now) texts.now) }
 {
     let [code] = texts else {
         return Err(LineFault::Fields);
@@ -90,8 +96,10 @@ fn read_report(user: &str, texts: &[&str]) -> Result<Ask, LineFault>
 
 fn read_upload(code: &str, serial: &str, batch: &str, expiry: &str) -> Result<Question, LineFault>
     ensures kind { IfOk result (λ question. kind_of question ≡ QuestionKind.Upload) }
-    ensures texts { IfOk result (λ question. texts_of question ≡ code.now ∷ serial.now ∷ batch.now ∷ expiry.now ∷ []) }
-    ensures fault { result_err result ≡ first_misread (grammars QuestionKind.Upload) (code.now ∷ serial.now ∷ batch.now ∷ expiry.now ∷ []) }
+    ensures texts { IfOk result (λ question.
+        texts_of question ≡ code.now ∷ serial.now ∷ batch.now ∷ expiry.now ∷ []) }
+    ensures fault { result_err result ≡ first_misread (grammars QuestionKind.Upload)
+        (code.now ∷ serial.now ∷ batch.now ∷ expiry.now ∷ []) }
 {
     let pack = read_pack(code, serial)?;
     let batch = Batch::read(batch).or(Err(LineFault::Batch))?;
@@ -106,7 +114,8 @@ fn read_upload(code: &str, serial: &str, batch: &str, expiry: &str) -> Result<Qu
 fn read_of_batch(asked: BatchQuestion, code: &str, batch: &str) -> Result<Question, LineFault>
     ensures kind { IfOk result (λ question. kind_of question ≡ QuestionKind.OfBatch asked) }
     ensures texts { IfOk result (λ question. texts_of question ≡ code.now ∷ batch.now ∷ []) }
-    ensures fault { result_err result ≡ first_misread (grammars (QuestionKind.OfBatch asked)) (code.now ∷ batch.now ∷ []) }
+    ensures fault { result_err result
+        ≡ first_misread (grammars (QuestionKind.OfBatch asked)) (code.now ∷ batch.now ∷ []) }
 {
     let code = ProductCode::read(code).or(Err(LineFault::Code))?;
     let batch = Batch::read(batch).or(Err(LineFault::Batch))?;
@@ -114,7 +123,8 @@ fn read_of_batch(asked: BatchQuestion, code: &str, batch: &str) -> Result<Questi
 }
 
 fn read_pack(code: &str, serial: &str) -> Result<Pack, LineFault>
-    ensures texts { IfOk result (λ pack. (pack.code.bytes ≡ code.now) × (pack.serial.bytes ≡ serial.now)) }
+    ensures texts { IfOk result (λ pack.
+        (pack.code.bytes ≡ code.now) × (pack.serial.bytes ≡ serial.now)) }
     ensures fault { result_err result ≡ first_misread pack_grammars (code.now ∷ serial.now ∷ []) }
 {
     let code = ProductCode::read(code).or(Err(LineFault::Code))?;
@@ -137,7 +147,8 @@ pub fn line_text(alloc: Global, line: &Line) -> Result<String, AllocError>
 }
 
 fn question_text(alloc: Global, user: &Name, question: &Question) -> Result<String, AllocError>
-    ensures line { IfOk result (λ text. string_bytes text ≡ text_of_line (Line.Ask (Ask.Question user.now question.now))) }
+    ensures line { IfOk result (λ text.
+        string_bytes text ≡ text_of_line (Line.Ask (Ask.Question user.now question.now))) }
     ensures grammar { IsTrue (is_ask (Ask.Question user.now question.now)) }
 {
     let user = user.text();

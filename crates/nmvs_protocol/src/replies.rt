@@ -20,7 +20,8 @@ use std::alloc::{AllocError, Global};
 #[cfg(test)]
 mod tests;
 
-/// The most bytes that the text of a short answer has: those of a status with the longest words and values, and LF.
+/// The most bytes that the text of a short answer has: those of a status with the longest words and
+/// values, and LF.
 pub(crate) const LONGEST_REPLY: usize = 67;
 
 /// The text of a reply and of the entries that it shows: its line, and then the line of each entry.
@@ -62,7 +63,8 @@ fn reply_wording<'w>(
     reply: &Reply,
     shown: &[Entry],
 ) -> Result<Wording<'w>, AllocError>
-    ensures text { IfOk result (λ wording. wording_text wording ≡ text_of_reply reply.now shown.now) }
+    ensures text { IfOk result (λ wording.
+        wording_text wording ≡ text_of_reply reply.now shown.now) }
     ensures memory { OnErr result (0 < length shown.now) }
 {
     if shown.is_empty() {

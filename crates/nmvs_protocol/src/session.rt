@@ -14,8 +14,8 @@ use std::alloc::Global;
 #[cfg(test)]
 mod tests;
 
-/// How far a session has come: the line that was begun, and how many lines were answered. The texts of audits are made in
-/// its memory.
+/// How far a session has come: the line that was begun, and how many lines were answered. The texts of
+/// shown audits are made in its memory.
 #[derive(Drop)]
 struct Progress {
     alloc: Global,
@@ -27,8 +27,8 @@ struct Progress {
 /// and flushed before the next line is served and before more is read (own).
 ///
 /// A line of more than 200 bytes is answered once, at its LF, and takes no memory. Bytes after the
-/// last LF get no answer. QUIT ends the session. Memory is taken for the text of a shown audit alone, which
-/// may be of any length; a report is written as it is, and all other texts are composed in place.
+/// last LF get no answer. QUIT ends the session. Memory is taken for the text of a shown audit alone,
+/// which may be of any length; a report is written as it is, and all other texts are composed in place.
 pub fn serve<'a, R: Source, W: Sink, D: Desk<'a>>(
     alloc: Global,
     source: &mut R,
@@ -39,7 +39,8 @@ pub fn serve<'a, R: Source, W: Sink, D: Desk<'a>>(
     requires source_sound { (R.told source.old).failed ≡ false }
     requires source_open { (R.told source.old).ended ≡ false }
     requires sink_sound { (W.taken sink.old).failed ≡ false }
-    ensures { Session D.takes limits desk.old (R.told source.old) (W.taken sink.old) desk.new (R.told source.new) (W.taken sink.new) result }
+    ensures { Session D.takes limits desk.old (R.told source.old) (W.taken sink.old)
+        desk.new (R.told source.new) (W.taken sink.new) result }
 {
     let mut progress = Progress {
         alloc,
@@ -71,9 +72,12 @@ fn serve_chunk<'a, W: Sink, D: Desk<'a>>(
     sink: &mut W,
     desk: &mut D,
 ) -> Option<End>
-    ensures { (first : D) (start : Taken) (lines : List (List ℕ)) (begun : List ℕ) → progress.old.line ≡ kept_part begun
-        → Answered D.takes limit first start desk.old (W.taken sink.old) progress.old.answered lines None
-        → Answered D.takes limit first start desk.new (W.taken sink.new) progress.new.answered (lines ++ lines_after begun chunk.now) result
+    ensures { (first : D) (start : Taken) (lines : List (List ℕ)) (begun : List ℕ)
+        → progress.old.line ≡ kept_part begun
+        → Answered D.takes limit first start desk.old (W.taken sink.old)
+        progress.old.answered lines None
+        → Answered D.takes limit first start desk.new (W.taken sink.new)
+        progress.new.answered (lines ++ lines_after begun chunk.now) result
         × IfNone result (progress.new.line ≡ kept_part (rest_after begun chunk.now)) }
 {
     let mut rest = chunk;
@@ -102,9 +106,11 @@ fn serve_tail<'a, W: Sink, D: Desk<'a>>(
     desk: &mut D,
 ) -> Option<End>
     ensures begun { line.new ≡ [] }
-    ensures answered { (limit count : ℕ) (first : D) (start : Taken) (lines : List (List ℕ)) (begun : List ℕ) → count < limit → line.old ≡ kept_part begun
+    ensures answered { (limit count : ℕ) (first : D) (start : Taken) (lines : List (List ℕ)) (begun : List ℕ)
+        → count < limit → line.old ≡ kept_part begun
         → Answered D.takes limit first start desk.old (W.taken sink.old) count lines None
-        → Answered D.takes limit first start desk.new (W.taken sink.new) (count + 1) (lines ++ (begun ++ tail.now) ∷ []) result }
+        → Answered D.takes limit first start desk.new (W.taken sink.new) (count + 1)
+        (lines ++ (begun ++ tail.now) ∷ []) result }
 {
     // A line that lies in one read is not copied.
     if line.is_empty() {
@@ -123,9 +129,11 @@ fn serve_line<'a, W: Sink, D: Desk<'a>>(
     sink: &mut W,
     desk: &mut D,
 ) -> Option<End>
-    ensures { (limit count : ℕ) (first : D) (start : Taken) (lines : List (List ℕ)) (x : List ℕ) → count < limit → kept_part line.now ≡ kept_part x
+    ensures { (limit count : ℕ) (first : D) (start : Taken) (lines : List (List ℕ)) (x : List ℕ)
+        → count < limit → kept_part line.now ≡ kept_part x
         → Answered D.takes limit first start desk.old (W.taken sink.old) count lines None
-        → Answered D.takes limit first start desk.new (W.taken sink.new) (count + 1) (lines ++ x ∷ []) result }
+        → Answered D.takes limit first start desk.new (W.taken sink.new) (count + 1)
+        (lines ++ x ∷ []) result }
 {
     let reading = read_line(line);
     let said = answer(&reading, desk);

@@ -16,11 +16,20 @@ pub enum LoadFault {
 
 impl From<AllocError> for LoadFault {
     ghost use Rattle.std.specs.Prelude.{◌≡◌};
-    ghost use Rattle.nmvs_operator.specs.declared.load_fault.LoadFault.TheVariants.{Memory};
+    ghost use Rattle.nmvs_operator.specs.declared.faults.LoadFault.TheVariants.{Memory};
 
     ghost from_gives = { λ e f. f ≡ Memory };
 
     fn from(_: AllocError) -> LoadFault {
         LoadFault::Memory
     }
+}
+
+/// Why a command was not carried out.
+#[derive(Clone, Copy, Debug, PartialEq, Eq, Error)]
+pub enum ObeyFault {
+    #[error("{0}")]
+    Unread(CommandFault),
+    #[error("there is no memory for the change")]
+    Memory,
 }
