@@ -1,15 +1,15 @@
--- Writing a text to a sink (own).
+-- The delivery of a text to a sink (own).
 use Rattle.std.specs.Prelude.{◌≡◌, ℕ, List, [], ◌++◌, true}
 use Rattle.nmvs_stream.specs.Sink.{Taken}
 
 -- the sink took the text and flushed it
-pub record Puts (old new : Taken) (text : List ℕ) : Type 0 where
+pub record Delivers (old new : Taken) (text : List ℕ) : Type 0 where
   pub bytes : new.bytes ≡ old.bytes ++ text
   pub flushed : new.flushed ≡ true
   pub failed : new.failed ≡ old.failed
 
--- the sink took some of the text and failed
-pub record PutsPart (old new : Taken) (text : List ℕ) : Type 0 where
+-- the sink took some of the text from the front, and failed
+pub record DeliversPart (old new : Taken) (text : List ℕ) : Type 0 where
   pub written : List ℕ
   pub unwritten : List ℕ
   pub cut : text ≡ written ++ unwritten
