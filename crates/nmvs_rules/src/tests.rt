@@ -1,6 +1,6 @@
 use crate::{
-    Actor, BatchLock, BatchRecord, Cause, Counts, Facts, Known, Mark, Onward, OwnStatus, Question,
-    Reason, Refusal, Reply, Role, decide, may, onward_of,
+    Actor, BatchLock, BatchRecord, Cause, Counts, Facts, Known, Mark, Onward, OwnStatus, Put,
+    Question, Reason, Refusal, Reply, Role, decide, may, may_report, onward_of,
 };
 use nmvs_identifier::{Batch, Expiry, Moment, Name, Pack, ProductCode, Serial};
 use std::process::Abort;
@@ -50,6 +50,17 @@ fn may_each(question: &Question) -> [bool; 5] {
         may(Role::Wholesaler, question),
         may(Role::Pharmacy, question),
         may(Role::Authority, question),
+    ]
+}
+
+/// Whether they get the report of a product code.
+fn may_report_each() -> [bool; 5] {
+    [
+        may_report(Role::Holder),
+        may_report(Role::Manufacturer),
+        may_report(Role::Wholesaler),
+        may_report(Role::Pharmacy),
+        may_report(Role::Authority),
     ]
 }
 
@@ -105,7 +116,13 @@ fn decide_at(
     question: &Question,
 ) -> Reply {
     assert!(rt; facts.alerts == 0);
-    decide(facts, at(rt, seconds), by, question)
+    let put = Put {
+        moment: at(rt, seconds),
+        user: Name::read("user-1").expect(rt, "a user"),
+        actor: *by,
+        question: *question,
+    };
+    decide(facts, &put)
 }
 
 #[test]
@@ -141,6 +158,7 @@ fn only_the_named_roles_may_ask(rt: HostRuntime) {
     assert!(rt; may_each(&Question::Handover(pack(&rt))) == [false, false, false, true, false]);
     assert!(rt; may_each(&Question::Status(pack(&rt))) == [true, true, true, true, true]);
     assert!(rt; may_each(&Question::Audit(pack(&rt))) == [false, false, false, false, true]);
+    assert!(rt; may_report_each() == [false, false, false, false, true]);
 }
 
 #[test]
