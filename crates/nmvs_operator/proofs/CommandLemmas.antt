@@ -6,7 +6,6 @@ use Rattle.std.proofs.Math.Seq.{drop-cons}
 use Rattle.nmvs_directory.specs.Registrar.{Register}
 use Rattle.nmvs_stream.specs.Source.{Told, Gives}
 use Rattle.nmvs_stream.specs.Sink.{Taken}
-use Rattle.nmvs_stream.specs.Delivery.{Delivers, DeliversPart}
 use Rattle.nmvs_protocol.specs.declared.limits.Limits.{Limits}
 use Rattle.nmvs_protocol.specs.InputLines.{lines_after, rest_after, input_lines, unfinished_line}
 use Rattle.nmvs_protocol.specs.Progress.{kept_part}
@@ -14,7 +13,7 @@ use Rattle.nmvs_protocol.proofs.LinesOfPieces.{lines_after-append, rest_after-ap
 use Rattle.nmvs_protocol.proofs.KeptLines.{kept_reads_command}
 use Rattle.nmvs_operator.specs.declared.faults.ObeyFault.{ObeyFault}
 use Rattle.nmvs_operator.specs.declared.faults.ObeyFault.TheVariants as obey
-use Rattle.nmvs_operator.specs.Commands.{AnswersCommand, AnswersCommands, TellsAnswers, CarriesOut, command_text}
+use Rattle.nmvs_operator.specs.Commands.{AnswersCommand, AnswersCommands, Tries, TellsAnswers, CarriesOut, command_text}
 use Rattle.nmvs_operator.specs.Progress.{Answered, Stops}
 
 -- what is kept of a command is answered as the command is
@@ -32,10 +31,6 @@ answers_more first (y ∷ ys) (b ∷ bs) now new x a r s = (r.0, r.1, answers_mo
 answers_more first [] (b ∷ bs) now new x a r s = absurd r
 answers_more first (y ∷ ys) [] now new x a r s = absurd r
 
--- the text was delivered, or a part of it
-abbrev Tries : Taken → Taken → List ℕ → Type 0
-Tries now new text = Delivers now new text ⊎ DeliversPart now new text
-
 told_more : (start : Taken) (said : List (Option ObeyFault)) (now new : Taken) (a : Option ObeyFault)
     → TellsAnswers start said now → Tries now new (command_text a) → TellsAnswers start (said ++ a ∷ []) new
 told_more start [] now new a r s = (new, subst (λ (t : Taken). Tries t new (command_text a)) r s, refl)
@@ -44,7 +39,7 @@ told_more start (b ∷ bs) now new a r s = (r.0, r.1, told_more r.0 bs now new a
 -- one command more
 pub one_more : {limit count : ℕ} {first now : Register} {start sink : Taken} {lines : List (List ℕ)} (new : Register) (sink' : Taken) (x : List ℕ) (a : Option ObeyFault)
     → Answered limit first start now sink count lines → count < limit → AnswersCommand now (kept_part x) a new
-    → Delivers sink sink' (command_text a) ⊎ DeliversPart sink sink' (command_text a) → Answered limit first start new sink' (count + 1) (lines ++ x ∷ [])
+    → Tries sink sink' (command_text a) → Answered limit first start new sink' (count + 1) (lines ++ x ∷ [])
 one_more {first = first} {now = now} {start = start} {sink = sink} {lines = lines} new sink' x a so_far lt answers told = record {
   said = so_far.said ++ a ∷ [];
   answers = answers_more first lines so_far.said now new x a so_far.answers (kept_answers now x a new answers);
@@ -72,6 +67,7 @@ pub same_lines : {limit count : ℕ} {first now : Register} {start sink : Taken}
     → Answered limit first start now sink count xs → Answered limit first start now sink count ys
 same_lines {limit} {count} {first} {now} {start} {sink} e h = subst (λ (t : List (List ℕ)). Answered limit first start now sink count t) e h
 
+-- the same of equal lines, where the commands stop
 pub same_stop : {limit : ℕ} {first now : Register} {start sink : Taken} {xs ys : List (List ℕ)} → xs ≡ ys
     → Stops limit first start now sink xs → Stops limit first start now sink ys
 same_stop {limit} {first} {now} {start} {sink} e h = subst (λ (t : List (List ℕ)). Stops limit first start now sink t) e h
@@ -140,6 +136,7 @@ lines-byte input b other =
     let none : lines_after (unfinished_line input) (b ∷ []) ≡ [] = rw other refl in
     lines_after-append [] input (b ∷ []) ∙ ap (λ (t : List (List ℕ)). input_lines input ++ t) none ∙ append-nil (input_lines input)
 
+-- what is begun then has that byte more
 pub unfinished-byte : (input : List ℕ) (b : ℕ) → (b == 10) ≡ false → unfinished_line (input ++ b ∷ []) ≡ unfinished_line input ++ b ∷ []
 unfolding rest_after
 unfinished-byte input b other = rest_after-append [] input (b ∷ []) ∙ rw other refl
@@ -149,10 +146,12 @@ pub lines-lf : (input later : List ℕ) → input_lines (input ++ 10 ∷ later) 
 unfolding lines_after
 lines-lf input later = lines_after-append [] input (10 ∷ later)
 
+-- the same of an LF that comes last
 pub lines-last_lf : (input : List ℕ) → input_lines (input ++ 10 ∷ []) ≡ input_lines input ++ unfinished_line input ∷ []
 unfolding lines_after
 lines-last_lf input = lines_after-append [] input (10 ∷ [])
 
+-- after an LF no line is begun
 pub unfinished-lf : (input : List ℕ) → unfinished_line (input ++ 10 ∷ []) ≡ []
 unfolding rest_after
 unfinished-lf input = rest_after-append [] input (10 ∷ [])

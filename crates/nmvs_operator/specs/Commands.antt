@@ -60,11 +60,15 @@ command_text None = codes "DONE\n"
 command_text (Some (obey.Unread fault)) = codes "FAULT " ++ command_word fault ++ codes "\n"
 command_text (Some obey.Memory) = codes "FAULT MEMORY\n"
 
+-- a text was delivered, but for what a failed write left of it
+abbrev pub Tries : Taken → Taken → List ℕ → Type 0
+Tries old new text = Delivers old new text ⊎ DeliversPart old new text
+
 -- the texts of these answers were delivered one by one, but for what a failed write left of one
 abbrev pub TellsAnswers : Taken → List (Option ObeyFault) → Taken → Type 0
 TellsAnswers old [] new = new ≡ old
 TellsAnswers old (a ∷ said) new =
-    (mid : Taken) × (Delivers old mid (command_text a) ⊎ DeliversPart old mid (command_text a)) × TellsAnswers mid said new
+    (mid : Taken) × Tries old mid (command_text a) × TellsAnswers mid said new
 
 -- the commands ended: the input ended, a read failed, or one line or read more than the limits allow was there
 abbrev pub CommandsEnd : Limits → List (List ℕ) → ℕ → Told → Told → Type 0

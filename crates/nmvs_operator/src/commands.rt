@@ -1,14 +1,13 @@
 //! The registrar's commands.
-ghost use Rattle.std.specs.Prelude.{◌≡◌, ◌++◌, ◌∷◌, [], ◌⊎◌, ℕ, List, Option, OnOk, OnErr, IfOk, IfErr, MatchBool};
+ghost use Rattle.std.specs.Prelude.{◌≡◌, ◌++◌, ◌∷◌, [], ℕ, List, Option, OnOk, OnErr, IfOk, IfErr, MatchBool};
 ghost use Rattle.nmvs_directory.specs.Changes.{pending_changes, KeepsPublished};
 ghost use Rattle.nmvs_directory.specs.Registrar.{Register, register_of, published};
 ghost use Rattle.nmvs_protocol.specs.InputLines.{input_lines, unfinished_line};
 ghost use Rattle.nmvs_protocol.specs.Progress.{kept_part};
 ghost use Rattle.nmvs_stream.specs.Sink.{Taken};
-ghost use Rattle.nmvs_stream.specs.Delivery.{Delivers, DeliversPart};
 ghost use Rattle.nmvs_operator.specs.declared.faults.ObeyFault.{ObeyFault as AFault};
 ghost use Rattle.nmvs_operator.specs.Users.{change_of};
-ghost use Rattle.nmvs_operator.specs.Commands.{Obeys, Refuses, AnswersCommand, command_word as word_of_command, command_text as text_of_answer, CarriesOut};
+ghost use Rattle.nmvs_operator.specs.Commands.{Obeys, Refuses, AnswersCommand, command_word as word_of_command, command_text as text_of_answer, Tries, CarriesOut};
 ghost use Rattle.nmvs_operator.specs.Progress.{Answered, Stops};
 
 use crate::ObeyFault;
@@ -25,15 +24,17 @@ mod tests;
 ///
 /// # Errors
 ///
-/// The line is no command, and nothing changes; or memory is wanting, and nothing is published: the change may be
-/// pending, and the next publication then carries it.
+/// The line is no command, and nothing changes; or memory is wanting, and nothing is published: the
+/// change may be pending, and the next publication then carries it.
 pub fn obey<J: Naming, R: Wait + Drop, A: Allocator>(
     line: &[u8],
     registrar: &mut Registrar<J, R, A>,
 ) -> Result<Notice<J>, ObeyFault>
-    ensures obeyed { OnOk result (Obeys (register_of registrar.old) line.now (register_of registrar.new)) }
+    ensures obeyed { OnOk result
+        (Obeys (register_of registrar.old) line.now (register_of registrar.new)) }
     ensures told { IfOk result (λ notice. notice ≡ published registrar.new) }
-    ensures refused { IfErr result (Refuses (register_of registrar.old) line.now (register_of registrar.new)) }
+    ensures refused { IfErr result
+        (Refuses (register_of registrar.old) line.now (register_of registrar.new)) }
 {
     let command = read_command(line).map_err(ObeyFault::Unread)?;
     if add(&mut registrar.changes, command).is_err() {
@@ -51,7 +52,8 @@ pub(crate) fn add<J: Naming, A: Allocator>(
     command: Command,
 ) -> Result<(), AllocError>
     ensures published { KeepsPublished changes.old changes.new }
-    ensures ok { OnOk result (pending_changes changes.new ≡ pending_changes changes.old ++ change_of command ∷ []) }
+    ensures ok { OnOk result
+        (pending_changes changes.new ≡ pending_changes changes.old ++ change_of command ∷ []) }
     ensures err { OnErr result (pending_changes changes.new ≡ pending_changes changes.old) }
 {
     match command {
@@ -67,9 +69,9 @@ struct Progress {
     answered: u64,
 }
 
-/// Carries out the commands of a source one by one, as they come: publishes the change of each at once, keeps its notice
-/// as the latest, and answers it. It ends with the input, at a failed read or at the limits; a failed write changes
-/// nothing. It waits for the lock of the latest notice, and lets it go.
+/// Carries out the commands of a source one by one, as they come: publishes the change of each at once,
+/// keeps its notice as the latest, and answers it. It ends with the input, at a failed read or at the
+/// limits; a failed write changes nothing. It waits for the lock of the latest notice, and lets it go.
 pub fn obey_all<J: Naming, R: Wait + Drop, A: Allocator, I: Source, W: Sink>(
     rt: &R,
     source: &mut I,
@@ -118,12 +120,16 @@ fn obey_chunk<J: Naming, R: Wait + Drop, A: Allocator, W: Sink>(
     registrar: &mut Registrar<J, R, A>,
     latest: &Mutex<Notice<J>>,
 ) -> bool
-    ensures { (first : Register) (start : Taken) (input : List ℕ) → progress.old.line ≡ kept_part (unfinished_line input)
-        → Answered limit first start (register_of registrar.old) (W.taken sink.old) progress.old.answered (input_lines input)
+    ensures { (first : Register) (start : Taken) (input : List ℕ)
+        → progress.old.line ≡ kept_part (unfinished_line input)
+        → Answered limit first start (register_of registrar.old) (W.taken sink.old)
+        progress.old.answered (input_lines input)
         → MatchBool result
         ((progress.new.line ≡ kept_part (unfinished_line (input ++ chunk.now)))
-        × Answered limit first start (register_of registrar.new) (W.taken sink.new) progress.new.answered (input_lines (input ++ chunk.now)))
-        (Stops limit first start (register_of registrar.new) (W.taken sink.new) (input_lines (input ++ chunk.now))) }
+        × Answered limit first start (register_of registrar.new) (W.taken sink.new)
+        progress.new.answered (input_lines (input ++ chunk.now)))
+        (Stops limit first start (register_of registrar.new) (W.taken sink.new)
+        (input_lines (input ++ chunk.now))) }
 {
     for byte in chunk {
         if *byte != b'\n' {
@@ -140,7 +146,8 @@ fn obey_chunk<J: Naming, R: Wait + Drop, A: Allocator, W: Sink>(
     true
 }
 
-/// Carries out one command, of which as much is given as is kept of it, and answers it. A failed write changes nothing.
+/// Carries out one command, of which as much is given as is kept of it, and answers it. A failed write
+/// changes nothing.
 fn obey_line<J: Naming, R: Wait + Drop, A: Allocator, W: Sink>(
     rt: &R,
     line: &[u8],
@@ -148,8 +155,9 @@ fn obey_line<J: Naming, R: Wait + Drop, A: Allocator, W: Sink>(
     registrar: &mut Registrar<J, R, A>,
     latest: &Mutex<Notice<J>>,
 )
-    ensures { (said : Option AFault) × AnswersCommand (register_of registrar.old) line.now said (register_of registrar.new)
-        × (Delivers (W.taken sink.old) (W.taken sink.new) (text_of_answer said) ⊎ DeliversPart (W.taken sink.old) (W.taken sink.new) (text_of_answer said)) }
+    ensures { (said : Option AFault)
+        × AnswersCommand (register_of registrar.old) line.now said (register_of registrar.new)
+        × Tries (W.taken sink.old) (W.taken sink.new) (text_of_answer said) }
 {
     let fault = obey_one(rt, line, registrar, latest);
     let _failed = deliver(sink, answer_text(fault).as_bytes());
@@ -162,7 +170,8 @@ fn obey_one<J: Naming, R: Wait + Drop, A: Allocator>(
     registrar: &mut Registrar<J, R, A>,
     latest: &Mutex<Notice<J>>,
 ) -> Option<ObeyFault>
-    ensures { AnswersCommand (register_of registrar.old) line.now result (register_of registrar.new) }
+    ensures { AnswersCommand (register_of registrar.old) line.now result
+        (register_of registrar.new) }
 {
     match obey(line, registrar) {
         Ok(notice) => {

@@ -1,7 +1,8 @@
-//! What the operator hands to the server: the options of its command line, a users file, the registrar's commands.
+//! What the operator hands to the server: the options of its command line, a users file, the
+//! registrar's commands.
 //!
-//! [`read_options`] takes a command line; [`load_users`] publishes the users of a file, all at once, [`obey`] the change
-//! of one command, and [`obey_all`] those of all commands of a source, each as it comes, by a `nmvs_directory::Registrar`.
+//! [`read_options`] takes a command line; [`load_users`] publishes the users of a file, all at once, and
+//! [`obey_all`] the change of each command of a source as it comes, by a `nmvs_directory::Registrar`.
 //!
 //! It serves nobody: what is served, and when commands are read, is `nmvs_server`'s.
 #![tactic(auto)]
