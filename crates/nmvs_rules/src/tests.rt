@@ -107,7 +107,7 @@ fn facts(rt: &impl Abort, own: OwnStatus, lock: BatchLock, expiry: &str) -> Fact
     }
 }
 
-/// Decides on facts without alerts, so many seconds after 1970-01-01.
+/// Decides on facts without alerts, `seconds` after 1970-01-01.
 fn decide_at(
     rt: &impl Abort,
     seconds: i64,
