@@ -1,5 +1,5 @@
 //! The command line.
-ghost use Rattle.std.specs.Prelude.{◌≤◌, IfOk, IfSome};
+ghost use Rattle.std.specs.Prelude.{◌≤◌, IfOk};
 ghost use Rattle.nmvs_identifier.specs.Moment.{last_moment};
 ghost use Rattle.nmvs_operator.specs.Options.{AreInRange};
 

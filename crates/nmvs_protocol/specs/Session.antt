@@ -1,5 +1,5 @@
 -- Sessions: which lines were answered and how, what was written, and what each end means (own).
-use Rattle.std.specs.Prelude.{◌≡◌, ◌≢◌, ◌<◌, ◌≤◌, ◌+◌, ◌⊎◌, ℕ, Bool, true, false, List, [], ◌∷◌, ◌++◌, length, All, Some, None, Result, Ok, Err, IsTrue}
+use Rattle.std.specs.Prelude.{◌≡◌, ◌≢◌, ◌<◌, ◌≤◌, ◌+◌, ◌⊎◌, ℕ, Bool, true, false, List, [], ◌∷◌, ◌++◌, length, All, Result, Ok, Err, IsTrue}
 use Rattle.std.specs.List.{flat_map}
 use Rattle.nmvs_stream.specs.Source.{Told}
 use Rattle.nmvs_stream.specs.Sink.{Taken}

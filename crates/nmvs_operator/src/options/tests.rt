@@ -1,19 +1,20 @@
-//! What command lines are taken and refused.
 use crate::{OptionFault, Options, read_options};
-use std::alloc::{AllocError, Global};
+use std::alloc::Global;
+use std::process::Abort;
 use std::test::*;
 
-fn read(alloc: Global, words: &[&str]) -> Result<Result<Options, OptionFault>, AllocError> {
+fn read(rt: &impl Abort, alloc: Global, words: &[&str]) -> Result<Options, OptionFault> {
     let mut texts = Vec::new(alloc);
     for word in words {
-        texts.push(String::from_str(alloc, *word)?)?;
+        let text = String::from_str(alloc, *word).expect(rt, "memory");
+        texts.push(text).expect(rt, "memory");
     }
-    Ok(read_options(alloc, &texts))
+    read_options(alloc, &texts)
 }
 
 #[test]
-fn options_have_defaults(rt: HostRuntime) -> Result<(), Fail> {
-    let Ok(options) = read(rt.alloc(), &["--users", "F"])? else {
+fn options_have_defaults(rt: HostRuntime) {
+    let Ok(options) = read(&rt, rt.alloc(), &["--users", "F"]) else {
         panic!(rt; "refused");
     };
     assert!(rt;
@@ -27,11 +28,18 @@ fn options_have_defaults(rt: HostRuntime) -> Result<(), Fail> {
         (options.port, options.moment, options.stdin),
         (7161, None, false)
     );
-    Ok(())
+}
+
+/// Whether a path is this one.
+fn is_path(path: &Option<String>, text: &str) -> bool {
+    match path {
+        Some(path) => path.as_str() == text,
+        None => false,
+    }
 }
 
 #[test]
-fn all_options_are_taken_together(rt: HostRuntime) -> Result<(), Fail> {
+fn all_options_are_taken_together(rt: HostRuntime) {
     let words = [
         "--users=F",
         "--import=I",
@@ -43,28 +51,20 @@ fn all_options_are_taken_together(rt: HostRuntime) -> Result<(), Fail> {
         "--moment=4102444799",
         "--stdin",
     ];
-    let Ok(options) = read(rt.alloc(), &words)? else {
+    let Ok(options) = read(&rt, rt.alloc(), &words) else {
         panic!(rt; "refused");
     };
     assert!(rt; options.moment.is_some());
-    let Some(import) = &options.import else {
-        panic!(rt; "no import");
-    };
-    assert!(rt; import.as_str() == "I");
-    let Some(export) = &options.export else {
-        panic!(rt; "no export");
-    };
-    assert!(rt; export.as_str() == "E");
+    assert!(rt; is_path(&options.import, "I") && is_path(&options.export, "E"));
     assert_eq!(rt;
         (options.shards, options.workers, options.sessions),
         (1, 8, 1_000_000)
     );
     assert_eq!(rt; (options.port, options.stdin), (65_535, true));
-    Ok(())
 }
 
 #[test]
-fn other_lines_are_refused(rt: HostRuntime) -> Result<(), Fail> {
+fn other_lines_are_refused(rt: HostRuntime) {
     for word in [
         "--shards=9",
         "--shards=0",
@@ -79,18 +79,17 @@ fn other_lines_are_refused(rt: HostRuntime) -> Result<(), Fail> {
         "stray",
         "--users=G",
     ] {
-        let refused = read(rt.alloc(), &["--users", "F", word])?;
+        let refused = read(&rt, rt.alloc(), &["--users", "F", word]);
         assert!(rt; matches!(refused, Err(OptionFault::Refused(_))), "{word}");
     }
-    assert!(rt;
-        matches!(
-            read(rt.alloc(), &["--stdin"])?,
-            Err(OptionFault::Refused(_))
-        )
-    );
-    let Err(OptionFault::Help(text)) = read(rt.alloc(), &["--help"])? else {
+    let refused = read(&rt, rt.alloc(), &["--stdin"]);
+    assert!(rt; matches!(refused, Err(OptionFault::Refused(_))));
+}
+
+#[test]
+fn help_is_told(rt: HostRuntime) {
+    let Err(OptionFault::Help(text)) = read(&rt, rt.alloc(), &["--help"]) else {
         panic!(rt; "no help");
     };
-    assert!(rt; text.contains("--users <FILE>"));
-    Ok(())
+    assert!(rt; text.contains("--users <FILE>") && text.contains("[default: 7161]"));
 }
