@@ -14,7 +14,7 @@ use Rattle.nmvs_tables.specs.Packs.{last_of, pack_row, no_entries, row_in, row_a
 use Rattle.nmvs_tables.proofs.BoolLemmas.{not-so}
 
 -- a table that has the new row of the entry's pack, and all others as before, notes the entry
-pub row_in-noted : {S : Type 0} (m n : HashMap Pack PackRow S) (pack : Pack) (w : PackRow) (e : Entry) (place : ℕ) → pack_of e.question ≡ Some pack → ((q : Pack) → get same_pack n q ≡ cond (same_pack pack q) (Some w) (get same_pack m q)) → w ≡ row_after place e (row_in m pack) → (p : Pack) → row_in n p ≡ pack_after p place e (row_in m p)
+pub row_in-noted : {S : Type 0} (m n : HashMap Pack PackRow S) (pack : Pack) (w : PackRow) (e : Entry) (place : ℕ) → pack_of e.put.question ≡ Some pack → ((q : Pack) → get same_pack n q ≡ cond (same_pack pack q) (Some w) (get same_pack m q)) → w ≡ row_after place e (row_in m pack) → (p : Pack) → row_in n p ≡ pack_after p place e (row_in m p)
 row_in-noted m n pack w e place named updates noted p = ap (λ o. unwrap_or o no_entries) (updates p) ∙ by (is_about p e) refl
   where
     by : (b : Bool) → is_about p e ≡ b → unwrap_or (cond (same_pack pack p) (Some w) (get same_pack m p)) no_entries ≡ pack_after p place e (row_in m p)
@@ -33,10 +33,12 @@ last_arith : (b : Bool) (n s s' m : ℕ) → m ≡ n + 1 → s' ≡ cond (not b)
 last_arith true n s s' m e f = omega arith
 last_arith false n s s' m e f = omega arith
 
+-- the last entry about a pack, after one more
 pub last_of-push : (t : List Entry) (e : Entry) (p : Pack) → last_of (t ++ e ∷ []) p ≡ cond (is_about p e) (length t + 1) (last_of t p)
 last_of-push t e p =
     last_arith (is_about p e) (length t) (suffix_len (λ x. not (is_about p x)) t) _ _ (length-append t (e ∷ [])) (suffix_len-push (λ x. not (is_about p x)) t e)
 
+-- it stands in the trail
 pub last_of-le : (t : List Entry) (p : Pack) → last_of t p ≤ length t
 last_of-le t p = omega arith
 
