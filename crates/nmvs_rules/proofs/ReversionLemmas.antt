@@ -68,7 +68,7 @@ revertible t p q k by tells =
           ∙ both_true marks (decommissioned-last by.last.put.question (sym (ap is_active status) ∙ tells.not_active) (sym (ap is_stolen status) ∙ tells.not_stolen) (sym (ap is_supplied status) ∙ tells.not_supplied));
       same_authorisation = same_text-bytes q.actor.authorisation by.last.put.actor.authorisation (first_so _ _ place);
       same_premises = same_text-bytes q.actor.premises by.last.put.actor.premises (second_so (same_text q.actor.authorisation by.last.put.actor.authorisation) _ place);
-      within_ten_days = in_time _ _ time;
+      within_days = in_time _ _ time;
       not_expired = not_past _ _ tells.not_expired;
       unlocked = unlocked-free t p.code k.batch tells.free;
       not_destroyed = never _ (λ d. sym (destroyed-by p _ _ d) ∙ sym (ap is_destroyed status) ∙ tells.not_destroyed);
@@ -95,8 +95,9 @@ reversion t p q h =
     (not-stolen_by p h.last.put.question h.last.reply h.decommissioned)
     (not-destroyed_by p h.last.put.question h.last.reply h.decommissioned h.not_destroyed)
     (not-supplied_by p h.last.put.question h.last.reply h.decommissioned h.not_supplied)
-    place (time_in _ _ h.within_ten_days) (past_not _ _ h.not_expired)
+    place (time_in _ _ h.within_days) (past_not _ _ h.not_expired)
 
+-- the law of reversions
 pub reversion-exact : (t : List Entry) (q : Put) (p : Pack) → q.question ≡ Revert p → (reply_of t q ≡ reply.Reverted) ↔ (IsTrue (may_ask q.actor.role q.question) × IsRevertible t p q)
 reversion-exact t q p is = (forward, backward)
   where

@@ -15,6 +15,7 @@ use Rattle.nmvs_rules.specs.declared.question.Question.{Question}
 use Rattle.nmvs_rules.specs.declared.question.Question.TheVariants.{Upload, Verify, Decommission, Handover, Recall, Withdraw}
 use Rattle.nmvs_rules.specs.declared.reason.Reason.{Reason}
 use Rattle.nmvs_rules.specs.declared.put.Put.{Put}
+use Rattle.nmvs_rules.specs.Limits.{reversion_days}
 use Rattle.nmvs_rules.specs.Questions.{code_of}
 use Rattle.nmvs_rules.specs.Trail.{has_code}
 use Rattle.nmvs_rules.specs.Operations.{uploads, uploads_code, decommissions, supplies, destroys, reverts, steals, binds, last_operation, own_left, alert_number}
@@ -93,7 +94,7 @@ may_become own.Stolen _ = false
 may_become _ own.Stolen = true
 may_become _ _ = false
 
--- what an operation e, before which so many entries stand, makes of what is known of its pack: from k to n
+-- what an operation e, before which `place` entries stand, makes of what is known of its pack: from k to n
 pub record IsMovedOn (k : Known) (place : ℕ) (e : Entry) (n : Known) : Type 0 where
   pub left : own_left e.put.question ≡ Some n.own
   pub course : IsTrue (may_become k.own n.own)
@@ -101,7 +102,7 @@ pub record IsMovedOn (k : Known) (place : ℕ) (e : Entry) (n : Known) : Type 0 
   pub expiry : n.expiry ≡ k.expiry
   pub mark : n.mark ≡ record { place = place; moment = e.put.moment; authorisation = e.put.actor.authorisation; premises = e.put.actor.premises }
 
--- what is known of a pack after its upload e, before which so many entries stand
+-- what is known of a pack after its upload e, before which `place` entries stand
 pub record IsBorn (place : ℕ) (e : Entry) (n : Known) : Type 0 where
   pub pack : Pack
   pub question : e.put.question ≡ Upload pack n.batch n.expiry
@@ -132,8 +133,8 @@ pub record IsRevertible (t : List Entry) (p : Pack) (q : Put) : Type 0 where
   -- (a) the same authorisation or entitlement, and the same premises
   pub same_authorisation : q.actor.authorisation.bytes ≡ last.put.actor.authorisation.bytes
   pub same_premises : q.actor.premises.bytes ≡ last.put.actor.premises.bytes
-  -- (b) not more than ten days after the decommissioning
-  pub within_ten_days : day_of q.moment ≤ day_of last.put.moment + 10
+  -- (b) within the limit of ten days after the decommissioning
+  pub within_days : day_of q.moment ≤ day_of last.put.moment + reversion_days
   -- (c) the pack has not expired
   pub not_expired : pos (day_of q.moment) ≤ℤ expiry_day expiry.bytes
   -- (d) neither recalled nor withdrawn, nor intended for destruction, nor stolen

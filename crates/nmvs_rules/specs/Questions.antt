@@ -97,3 +97,7 @@ may_ask r (Decommission _ reason) = may_decommission r reason
 may_ask r (Handover _) = is_supplier r
 may_ask r (Status _) = true
 may_ask r (Audit _) = is_authority r
+
+-- who gets the report of a product code, which is no question of a trail (own, after Articles 36 and 39)
+abbrev pub may_report : Role → Bool
+may_report r = is_authority r

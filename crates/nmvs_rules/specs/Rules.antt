@@ -25,6 +25,7 @@ use Rattle.nmvs_rules.specs.declared.entry.Entry.{Entry}
 use Rattle.nmvs_rules.specs.declared.facts.Mark.{Mark}
 use Rattle.nmvs_rules.specs.declared.facts.Known.{Known}
 use Rattle.nmvs_rules.specs.declared.put.Put.{Put}
+use Rattle.nmvs_rules.specs.Limits.{reversion_days}
 use Rattle.nmvs_rules.specs.Questions.{may_ask}
 use Rattle.nmvs_rules.specs.Trail.{is_about, known, lock_of, holder_of, alerts_of, about_of, count_of, is_known_batch}
 
@@ -110,10 +111,13 @@ is_authentic o l = is_active o && is_free l
 abbrev pub is_same_place : Actor → Mark → Bool
 is_same_place a m = same_text a.authorisation m.authorisation && same_text a.premises m.premises
 
--- whether the moment is not more than 10 days after the mark (Article 13(1)(b)); it may be before it, and days are of
--- UTC (own)
+-- whether the moment is not more than this number of days after the mark; it may be before it, and days are of UTC (own)
+abbrev pub is_within : ℕ → ℕ → Mark → Bool
+is_within days moment m = nat_le (day_of moment) (day_of m.moment + days)
+
+-- whether the moment is in time for a reversion (Article 13(1)(b))
 abbrev pub is_in_time : ℕ → Mark → Bool
-is_in_time moment m = nat_le (day_of moment) (day_of m.moment + 10)
+is_in_time moment m = is_within reversion_days moment m
 
 -- whether the product code has a holder, and another one than this authorisation (own)
 abbrev pub has_other_holder : Option Name → Name → Bool

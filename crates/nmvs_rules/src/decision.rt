@@ -33,7 +33,8 @@ pub fn decide(facts: &Facts, put: &Put) -> Reply
 
 fn admitted_reply(facts: &Facts, put: &Put) -> Reply
     requires { facts.now.alerts + 1 < 2 ^ 64 }
-    ensures { result ≡ admitted_reply_by_facts facts.now put.now.moment put.now.actor put.now.question }
+    ensures { result ≡
+        admitted_reply_by_facts facts.now put.now.moment put.now.actor put.now.question }
 {
     let lock = lock_in(&facts.batch);
     let actor = &put.actor;

@@ -37,7 +37,7 @@ mod role;
 mod tests;
 
 pub use actor::Actor;
-pub use admission::may;
+pub use admission::{may, may_report};
 pub use batch_lock::BatchLock;
 pub use cause::Cause;
 pub use circulation::onward_of;

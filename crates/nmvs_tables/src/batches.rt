@@ -37,7 +37,8 @@ pub(crate) fn record_named<A: Allocator>(
     question: &Question,
     known: &Option<Known>,
 ) -> Option<BatchRecord>
-    ensures { result ≡ batch_named_in batches.now (code_of question.now) (locked_batch question.now) known.now }
+    ensures { result ≡
+        batch_named_in batches.now (code_of question.now) (locked_batch question.now) known.now }
 {
     let batch = match (question.locked_batch(), known) {
         (Some(batch), _) => batch,
@@ -115,7 +116,8 @@ fn own_after(question: &Question) -> Option<OwnStatus>
 /// The record of a batch after an accepted question that changes it, about a pack that is known or not.
 fn record_after(old: &BatchRecord, question: &Question, known: &Option<Known>) -> BatchRecord
     requires from { ForSome (own_before known.now) (λ own. 1 ≤ count_in old.now.counts own) }
-    requires to { ForSome (own_after question.now) (λ own. count_in old.now.counts own + 1 < 2 ^ 64) }
+    requires to { ForSome (own_after question.now) (λ own.
+        count_in old.now.counts own + 1 < 2 ^ 64) }
     ensures { NotesBatch question.now known.now old.now result }
 {
     BatchRecord {
@@ -134,12 +136,15 @@ pub(crate) fn note<A: Allocator>(
     requires room { 0 < spare batches.old }
     requires from { (b : BatchKey) → changes_batch b entry.now known ≡ true →
         ForSome (own_before known) (λ own. 1 ≤ count_in (batch_in batches.old b).counts own) }
-    requires to { (b : BatchKey) → (own : OwnStatus) → count_in (batch_in batches.old b).counts own + 1 < 2 ^ 64 }
+    requires to { (b : BatchKey) → (own : OwnStatus) →
+        count_in (batch_in batches.old b).counts own + 1 < 2 ^ 64 }
     ensures changed { (b : BatchKey) → changes_batch b entry.now known ≡ true →
-        IsSomeAnd (get same_batch batches.new b) (λ r. NotesBatch entry.now.put.question known (batch_in batches.old b) r) }
+        IsSomeAnd (get same_batch batches.new b) (λ r.
+        NotesBatch entry.now.put.question known (batch_in batches.old b) r) }
     ensures others { (b : BatchKey) → changes_batch b entry.now known ≡ false →
         get same_batch batches.new b ≡ get same_batch batches.old b }
-    ensures order { keys batches.new ≡ batches_after (keys batches.old) (batch_changed entry.now known) }
+    ensures order { keys batches.new ≡
+        batches_after (keys batches.old) (batch_changed entry.now known) }
     ensures first { result ≡ first_of (keys batches.old) (batch_changed entry.now known) }
 {
     if !entry.is_accepted() {

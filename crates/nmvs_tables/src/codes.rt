@@ -70,7 +70,8 @@ pub(crate) fn note<A: Allocator>(codes: &mut Codes<A>, entry: &Entry)
     requires room { 0 < spare codes.old }
     requires alerts { (c : ProductCode) → (code_in codes.old c).alerts + 1 < 2 ^ 64 }
     requires flagged { (c : ProductCode) → (code_in codes.old c).flagged + 1 < 2 ^ 64 }
-    ensures { (c : ProductCode) → code_in codes.new c ≡ code_after c entry.now (code_in codes.old c) }
+    ensures { (c : ProductCode) →
+        code_in codes.new c ≡ code_after c entry.now (code_in codes.old c) }
 {
     let code = entry.put.question.code();
     let (index, old) = find(codes, &code);

@@ -67,7 +67,8 @@ impl<A: Allocator> Listing<A> {
     pub fn note(&mut self, batch: &BatchKey)
         requires room { HasRoomToList self.old }
         requires fits { (c : ProductCode) → listed_in self.old.counts c + 1 < 2 ^ 64 }
-        ensures { (bs : List BatchKey) → AreListed self.old bs → AreListed self.new (bs ++ batch.now ∷ []) }
+        ensures { (bs : List BatchKey) →
+            AreListed self.old bs → AreListed self.new (bs ++ batch.now ∷ []) }
     {
         let (found, old) = find(&self.counts, &batch.code);
         let index = old.unwrap_or(0);

@@ -119,7 +119,8 @@ pub(crate) fn note<A: Allocator>(packs: &mut Packs<A>, place: u64, entry: &Entry
     requires room { 0 < spare packs.old }
     requires about { (p : Pack) → (row_in packs.old p).about + 1 < 2 ^ 64 }
     requires place { place + 1 < 2 ^ 64 }
-    ensures noted { (p : Pack) → row_in packs.new p ≡ pack_after p place entry.now (row_in packs.old p) }
+    ensures noted { (p : Pack) →
+        row_in packs.new p ≡ pack_after p place entry.now (row_in packs.old p) }
     ensures before { result ≡ row_named packs.old (pack_of entry.now.put.question) }
 {
     let Some(pack) = entry.put.question.pack() else {

@@ -41,5 +41,6 @@ pub fn parts()
 /// A trail in which no question is a handover is lawful exactly where it was lawful before packs could be handed over,
 /// by the rules of then (`specs/before_handover`). So the exports of that time stay what they were.
 pub fn old_trails()
-    ensures { (t : List Entry) → IsFalse (list_any asks_handover t) → IsLawful t ↔ before_handover.IsLawful t }
+    ensures { (t : List Entry) → IsFalse (list_any asks_handover t) →
+        IsLawful t ↔ before_handover.IsLawful t }
 {}
