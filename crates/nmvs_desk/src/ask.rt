@@ -102,7 +102,8 @@ impl<'a, J: Naming, C: ReceiptLedger, B: Allocator> Clerk<'a, J, C, B> {
 
     /// In what capacity the user asks. It waits for nobody.
     pub fn actor_of(&mut self, user: &Name) -> Result<Actor, AskFault>
-        ensures known { IfOk result (λ actor. Reads self.old.seen self.new.seen user.now (Known actor)) }
+        ensures known { IfOk result (λ actor.
+            Reads self.old.seen self.new.seen user.now (Known actor)) }
         ensures turned_away { IfErr result (TurnedAway self.old.seen self.new.seen user.now) }
         ensures looked { IfErr result (λ fault. fault ≢ AskFault.Memory) }
         ensures receipts { self.new.receipts ≡ self.old.receipts }
@@ -128,12 +129,14 @@ impl<'a, J: Naming, C: ReceiptLedger, B: Allocator> Clerk<'a, J, C, B> {
         question: &Question,
     ) -> Result<Served<'a, B>, AskFault>
         ensures kept { IfOk result (λ s. self.new.receipts ≡ self.old.receipts ++ s.receipt ∷ []) }
-        ensures shard { IfOk result (λ s. s.receipt.shard ≡ shard_of repository.now.shards (code_of question.now)) }
+        ensures shard { IfOk result (λ s.
+            s.receipt.shard ≡ shard_of repository.now.shards (code_of question.now)) }
         ensures put { IfOk result (λ s.
             let put = s.receipt.entry.put in
             (put.moment ≡ moment) × (put.user ≡ user.now) × (put.question ≡ question.now)
             × Reads self.old.seen self.new.seen user.now (Known put.actor)) }
-        ensures answered { IfOk result (λ s. IsAnswered repository.now.shards s.receipt s.shown.items) }
+        ensures answered { IfOk result (λ s.
+            IsAnswered repository.now.shards s.receipt s.shown.items) }
         ensures unchanged { OnErr result (self.new.receipts ≡ self.old.receipts) }
         ensures turned_away { IfErr result (TurnedAway self.old.seen self.new.seen user.now) }
     {

@@ -122,10 +122,12 @@ impl<'a, S: EntryLedger, C: ReceiptLedger, B: Allocator> Repository<'a, S, C, B>
     ) -> Result<(Repository<'a, S, C, B>, Vec<Clerk<'a, J, C, B>, &'a B>), OpenFault>
         requires entries { (entries.name ≡ S.name) × (entries.parts ≡ S.parts) × (S.parts ≡ PARTS) }
         requires receipts { (receipts.name ≡ C.name) × (receipts.parts ≡ C.parts) × (C.parts ≡ PARTS) }
-        requires named { (S.shards ≡ shards) × (C.clerks ≡ vec_len windows.old) × (C.opening ≡ length opening.now) }
+        requires named { (S.shards ≡ shards) × (C.clerks ≡ vec_len windows.old)
+            × (C.opening ≡ length opening.now) }
         requires few { vec_len windows.old ≤ MOST_CLERKS }
         ensures shards { IfOk result (λ r. r.0.shards ≡ shards) }
-        ensures clerks { IfOk result (λ r. (r.0.clerks ≡ vec_len windows.old) × (r.1.items ≡ map new_clerk windows.old.items)) }
+        ensures clerks { IfOk result (λ r. (r.0.clerks ≡ vec_len windows.old)
+            × (r.1.items ≡ map new_clerk windows.old.items)) }
         ensures opening { IfOk result (λ r. r.0.opening ≡ deal shards opening.now) }
         ensures count { IsErrOf result OpenFault.Count ↔ ((shards ≡ 0) ⊎ (MOST_SHARDS < shards)) }
         ensures taken { OnOk result (windows.new.items ≡ []) }
@@ -153,10 +155,12 @@ impl<'a, S: EntryLedger, C: ReceiptLedger, B: Allocator> Repository<'a, S, C, B>
         clerks: usize,
         opening: &Shard<&'a B>,
     ) -> Result<Repository<'a, S, C, B>, AllocError>
-        requires entries { (entries.name ≡ S.name) × (entries.parts ≡ S.parts) × (S.parts ≡ PARTS) × (C.parts ≡ PARTS) }
+        requires entries { (entries.name ≡ S.name) × (entries.parts ≡ S.parts)
+            × (S.parts ≡ PARTS) × (C.parts ≡ PARTS) }
         requires named { (S.shards ≡ shards) × (C.clerks ≡ clerks) × (C.opening ≡ length opening.now) }
         requires count { (0 < shards) × (shards ≤ MOST_SHARDS) }
-        requires importer { (importer.parts + clerks ≡ PARTS) × (clerks ≤ MOST_CLERKS) × (importer.amount ≡ 0) }
+        requires importer { (importer.parts + clerks ≡ PARTS) × (clerks ≤ MOST_CLERKS)
+            × (importer.amount ≡ 0) }
         requires book { book.total ≡ 0 }
         ensures shards { IfOk result (λ r. (r.shards ≡ shards) × (r.clerks ≡ clerks)) }
         ensures opening { IfOk result (λ r. r.opening ≡ deal shards opening.now) }

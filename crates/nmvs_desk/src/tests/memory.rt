@@ -2,7 +2,7 @@
 ghost use Rattle.std.specs.Prelude.{◌≡◌, ◌≤◌, length, vec_len};
 ghost use Rattle.nmvs_directory.specs.Directory.{directory_book};
 
-use super::asking::{Line, first_trail};
+use super::asking::{Copied, Line};
 use super::crew::{enrol_all, opening_of};
 use super::market::{P, Q, audit, authentic, new_year, upload, verify};
 use crate::{
@@ -11,7 +11,7 @@ use crate::{
 };
 use linked_list_allocator::LocalHeap;
 use nmvs_directory::{Directory, Naming, Window};
-use nmvs_rules::Reply;
+use nmvs_rules::{Entry, Reply};
 use nmvs_shard::Shard;
 use std::alloc::Global;
 use std::marker::Brand;
@@ -46,6 +46,18 @@ impl FullHeap<'_> {
         assert!(rt; self.pieces.pop().is_some());
         self.refused = self.refused.wrapping_add(1);
     }
+}
+
+/// The trail of shard 0.
+fn first_trail<S: EntryLedger, C: ReceiptLedger, R: Wait + Abort>(
+    rt: &R,
+    alloc: Global,
+    repository: &Repository<'_, S, C, LocalHeap>,
+) -> Vec<Entry> {
+    assert!(rt; 0 < repository.shards());
+    repository
+        .with_shard(rt, 0, Copied(alloc))
+        .expect(rt, "memory")
 }
 
 /// Puts the question once. Where it is refused, it is for want of memory, and receipts and shard are as they were.
