@@ -1,5 +1,5 @@
 -- How the program's desk answers.
-use Rattle.std.proofs.Common.{◌≡◌, ◌≢◌, ◌∙◌, ◌∷◌, ◌++◌, ℕ, ℤ, pos, List, [], refl, ap}
+use Rattle.std.proofs.Common.{◌≡◌, ◌≢◌, ◌∙◌, ◌∷◌, ◌++◌, ℕ, pos, List, [], refl, ap}
 use Rattle.nmvs_identifier.specs.Name.{Name}
 use Rattle.nmvs_directory.specs.Window.{Reads}
 use Rattle.nmvs_directory.specs.declared.look.Look.TheVariants.{Known}
