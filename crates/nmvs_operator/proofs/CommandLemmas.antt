@@ -14,7 +14,7 @@ use Rattle.nmvs_protocol.proofs.KeptLines.{kept_reads_command}
 use Rattle.nmvs_operator.specs.declared.faults.ObeyFault.{ObeyFault}
 use Rattle.nmvs_operator.specs.declared.faults.ObeyFault.TheVariants as obey
 use Rattle.nmvs_operator.specs.Commands.{AnswersCommand, AnswersCommands, Tries, TellsAnswers, CarriesOut, command_text}
-use Rattle.nmvs_operator.specs.Progress.{Answered, Stops}
+use Rattle.nmvs_operator.specs.Progress.{AnsweredCommands, Stops}
 
 -- what is kept of a command is answered as the command is
 kept_answers : (old : Register) (x : List ℕ) (a : Option ObeyFault) (new : Register) → AnswersCommand old (kept_part x) a new → AnswersCommand old x a new
@@ -38,8 +38,8 @@ told_more start (b ∷ bs) now new a r s = (r.0, r.1, told_more r.0 bs now new a
 
 -- one command more
 pub one_more : {limit count : ℕ} {first now : Register} {start sink : Taken} {lines : List (List ℕ)} (new : Register) (sink' : Taken) (x : List ℕ) (a : Option ObeyFault)
-    → Answered limit first start now sink count lines → count < limit → AnswersCommand now (kept_part x) a new
-    → Tries sink sink' (command_text a) → Answered limit first start new sink' (count + 1) (lines ++ x ∷ [])
+    → AnsweredCommands limit first start now sink count lines → count < limit → AnswersCommand now (kept_part x) a new
+    → Tries sink sink' (command_text a) → AnsweredCommands limit first start new sink' (count + 1) (lines ++ x ∷ [])
 one_more {first = first} {now = now} {start = start} {sink = sink} {lines = lines} new sink' x a so_far lt answers told = record {
   said = so_far.said ++ a ∷ [];
   answers = answers_more first lines so_far.said now new x a so_far.answers (kept_answers now x a new answers);
@@ -50,7 +50,7 @@ one_more {first = first} {now = now} {start = start} {sink = sink} {lines = line
 
 -- as many were answered as the limit allows, and another command is there
 pub at_limit : {limit count : ℕ} {first now : Register} {start sink : Taken} {lines : List (List ℕ)} (x : List ℕ) (more : List (List ℕ))
-    → Answered limit first start now sink count lines → limit ≤ count → Stops limit first start now sink (lines ++ x ∷ more)
+    → AnsweredCommands limit first start now sink count lines → limit ≤ count → Stops limit first start now sink (lines ++ x ∷ more)
 at_limit {lines = lines} x more so_far le = record {
   answered = lines;
   left = x ∷ more;
@@ -64,8 +64,8 @@ at_limit {lines = lines} x more so_far le = record {
 
 -- the same of equal lines
 pub same_lines : {limit count : ℕ} {first now : Register} {start sink : Taken} {xs ys : List (List ℕ)} → xs ≡ ys
-    → Answered limit first start now sink count xs → Answered limit first start now sink count ys
-same_lines {limit} {count} {first} {now} {start} {sink} e h = subst (λ (t : List (List ℕ)). Answered limit first start now sink count t) e h
+    → AnsweredCommands limit first start now sink count xs → AnsweredCommands limit first start now sink count ys
+same_lines {limit} {count} {first} {now} {start} {sink} e h = subst (λ (t : List (List ℕ)). AnsweredCommands limit first start now sink count t) e h
 
 -- the same of equal lines, where the commands stop
 pub same_stop : {limit : ℕ} {first now : Register} {start sink : Taken} {xs ys : List (List ℕ)} → xs ≡ ys
@@ -76,7 +76,7 @@ same_stop {limit} {first} {now} {start} {sink} e h = subst (λ (t : List (List �
 pub carried : (limits : Limits) (old new : Register) (source source' : Told) (sink sink' : Taken) (count : ℕ) (input : List ℕ)
     → source'.bytes ≡ source.bytes ++ input → source'.reads ≤ source.reads + limits.reads
     → (source'.ended ≡ true) ⊎ ((source'.failed ≡ true) ⊎ (source'.reads ≡ source.reads + limits.reads))
-    → Answered limits.lines old sink new sink' count (input_lines input) → CarriesOut limits old source sink new source' sink'
+    → AnsweredCommands limits.lines old sink new sink' count (input_lines input) → CarriesOut limits old source sink new source' sink'
 carried limits old new source source' sink sink' count input read reads why so_far = record {
   input = input;
   read = read;

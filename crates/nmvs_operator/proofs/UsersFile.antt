@@ -8,7 +8,7 @@ use Rattle.nmvs_protocol.specs.Commands.{command_line, first_command_fault, is_c
 use Rattle.nmvs_protocol.specs.declared.command.Command.{Command}
 use Rattle.nmvs_protocol.specs.declared.command.CommandFault.{CommandFault}
 use Rattle.nmvs_stream.specs.Source.{Told}
-use Rattle.nmvs_operator.specs.Users.{change_of, commands_text, AreCommands, Adds, AddsFirst, IsWhole, StopsAt, Tells, ReadFails, LoadFails}
+use Rattle.nmvs_operator.specs.Users.{change_of, commands_text, AreCommands, AddsAll, AddsFirst, IsWhole, StopsAt, Tells, ReadFails, LoadFails}
 use Rattle.nmvs_operator.specs.declared.faults.LoadFault.{LoadFault}
 use Rattle.nmvs_operator.specs.declared.faults.LoadFault.TheVariants as load
 
@@ -56,7 +56,7 @@ added_more {bytes} {rest} {number} {before} {now} line behind now' c p cut is mo
 
 -- the last line, without LF
 pub adds_last : {bytes rest : List ℕ} {number : ℕ} {before now : List Change} (now' : List Change) (c : Command)
-    → Added bytes rest number before now → ReadsCommand rest (Ok c) → now' ≡ now ++ change_of c ∷ [] → Adds bytes before now'
+    → Added bytes rest number before now → ReadsCommand rest (Ok c) → now' ≡ now ++ change_of c ∷ [] → AddsAll bytes before now'
 adds_last {bytes} {rest} {number} {before} {now} now' c p is more = record {
   commands = p.commands ++ c ∷ [];
   valid = valid_more p.commands c p.valid is.2;
@@ -68,7 +68,7 @@ adds_last {bytes} {rest} {number} {before} {now} now' c p is more = record {
 }
 
 -- no line is left
-pub adds_all : {bytes rest : List ℕ} {number : ℕ} {before now : List Change} → Added bytes rest number before now → rest ≡ [] → Adds bytes before now
+pub adds_all : {bytes rest : List ℕ} {number : ℕ} {before now : List Change} → Added bytes rest number before now → rest ≡ [] → AddsAll bytes before now
 adds_all p none = record {
   commands = p.commands;
   valid = p.valid;
@@ -92,7 +92,7 @@ adds_first {bytes} {rest} after p same = record {
 }
 
 -- the changes of all its lines are those of its first ones
-pub adds_first-adds : {bytes : List ℕ} {before now : List Change} (after : List Change) → Adds bytes before now → after ≡ now → AddsFirst bytes before after
+pub adds_first-adds : {bytes : List ℕ} {before now : List Change} (after : List Change) → AddsAll bytes before now → after ≡ now → AddsFirst bytes before after
 adds_first-adds {bytes} after p same = elim p.file [
   | inl e ↦ record {
     commands = p.commands;

@@ -6,7 +6,7 @@ use Rattle.nmvs_operator.specs.declared.faults.ObeyFault.{ObeyFault}
 use Rattle.nmvs_operator.specs.Commands.{AnswersCommands, TellsAnswers}
 
 -- these lines were answered, count of them
-pub record Answered (limit : ℕ) (first : Register) (start : Taken) (now : Register) (sink : Taken) (count : ℕ) (lines : List (List ℕ)) : Type 0 where
+pub record AnsweredCommands (limit : ℕ) (first : Register) (start : Taken) (now : Register) (sink : Taken) (count : ℕ) (lines : List (List ℕ)) : Type 0 where
   pub said : List (Option ObeyFault)
   pub answers : AnswersCommands first lines said now
   pub told : TellsAnswers start said sink

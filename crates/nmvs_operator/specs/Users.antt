@@ -28,7 +28,7 @@ abbrev pub IsUsersFile : List ℕ → List Command → Type 0
 IsUsersFile bytes commands = (bytes ≡ commands_text commands) ⊎ (bytes ++ 10 ∷ [] ≡ commands_text commands)
 
 -- the changes of a users file are added to those that were pending
-pub record Adds (bytes : List ℕ) (before after : List Change) : Type 0 where
+pub record AddsAll (bytes : List ℕ) (before after : List Change) : Type 0 where
   pub commands : List Command
   pub valid : AreCommands commands
   pub file : IsUsersFile bytes commands
@@ -72,7 +72,7 @@ pub record Loads (source source' : Told) (published pending published' : List Ch
   pub read : source'.bytes ≡ source.bytes ++ bytes
   pub ended : source'.ended ≡ true
   pub added : List Change
-  pub adds : Adds bytes pending added
+  pub adds : AddsAll bytes pending added
   pub all : published' ≡ published ++ added
 
 -- a read failed, or so many reads did not reach the end

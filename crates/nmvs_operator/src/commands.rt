@@ -8,7 +8,7 @@ ghost use Rattle.nmvs_stream.specs.Sink.{Taken};
 ghost use Rattle.nmvs_operator.specs.declared.faults.ObeyFault.{ObeyFault as AFault};
 ghost use Rattle.nmvs_operator.specs.Users.{change_of};
 ghost use Rattle.nmvs_operator.specs.Commands.{Obeys, Refuses, AnswersCommand, command_word as word_of_command, command_text as text_of_answer, Tries, CarriesOut};
-ghost use Rattle.nmvs_operator.specs.Progress.{Answered, Stops};
+ghost use Rattle.nmvs_operator.specs.Progress.{AnsweredCommands, Stops};
 
 use crate::ObeyFault;
 use nmvs_directory::{Changes, Naming, Notice, Registrar};
@@ -122,11 +122,11 @@ fn obey_chunk<J: Naming, R: Wait + Drop, A: Allocator, W: Sink>(
 ) -> bool
     ensures { (first : Register) (start : Taken) (input : List ℕ)
         → progress.old.line ≡ kept_part (unfinished_line input)
-        → Answered limit first start (register_of registrar.old) (W.taken sink.old)
+        → AnsweredCommands limit first start (register_of registrar.old) (W.taken sink.old)
         progress.old.answered (input_lines input)
         → MatchBool result
         ((progress.new.line ≡ kept_part (unfinished_line (input ++ chunk.now)))
-        × Answered limit first start (register_of registrar.new) (W.taken sink.new)
+        × AnsweredCommands limit first start (register_of registrar.new) (W.taken sink.new)
         progress.new.answered (input_lines (input ++ chunk.now)))
         (Stops limit first start (register_of registrar.new) (W.taken sink.new)
         (input_lines (input ++ chunk.now))) }
