@@ -21,7 +21,7 @@ use Rattle.nmvs_rules.specs.declared.batch_lock.BatchLock.TheVariants as lock
 use Rattle.nmvs_rules.specs.declared.entry.Entry.{Entry}
 use Rattle.nmvs_rules.specs.declared.facts.Known.{Known}
 use Rattle.nmvs_rules.specs.declared.facts.BatchRecord.{BatchRecord}
-use Rattle.nmvs_rules.specs.Questions.{Put}
+use Rattle.nmvs_rules.specs.declared.put.Put.{Put}
 use Rattle.nmvs_rules.specs.Trail.{known, lock_of, holder_of, alerts_of, about_of, batch_record}
 use Rattle.nmvs_rules.specs.Rules.{reply_of, answered, IsLawful}
 use Rattle.nmvs_rules.specs.Facts.{facts_of}

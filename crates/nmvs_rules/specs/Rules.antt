@@ -23,7 +23,8 @@ use Rattle.nmvs_rules.specs.declared.batch_lock.BatchLock.TheVariants as lock
 use Rattle.nmvs_rules.specs.declared.entry.Entry.{Entry}
 use Rattle.nmvs_rules.specs.declared.facts.Mark.{Mark}
 use Rattle.nmvs_rules.specs.declared.facts.Known.{Known}
-use Rattle.nmvs_rules.specs.Questions.{Put, may_ask}
+use Rattle.nmvs_rules.specs.declared.put.Put.{Put}
+use Rattle.nmvs_rules.specs.Questions.{may_ask}
 use Rattle.nmvs_rules.specs.Trail.{known, lock_of, holder_of, alerts_of, about_of, count_of, is_known_batch}
 
 -- whether the expiry date is past: the day of the moment, by UTC, comes after it (Article 13(1)(c); days of UTC are
@@ -223,18 +224,14 @@ abbrev pub reply_of : List Entry → Put → Reply
 reply_of t q =
     if may_ask q.actor.role q.question then admitted_reply t q.moment q.actor q.question else reply.Refused refusal.Role
 
--- an entry's question as it was put
-abbrev pub put_of : Entry → Put
-put_of e = record { moment = e.moment; user = e.user; actor = e.actor; question = e.question }
-
 -- the entry that records a question as it was put, with its reply (Article 35)
 abbrev pub answered : Put → Reply → Entry
-answered q r = record { moment = q.moment; user = q.user; actor = q.actor; question = q.question; reply = r }
+answered q r = record { put = q; reply = r }
 
 -- each of the entries es, which follow the entries u, has the reply of the rules on all entries before it
 abbrev pub IsLawfulAfter : List Entry → List Entry → Type 0
 IsLawfulAfter u [] = Unit {0}
-IsLawfulAfter u (e ∷ es) = (e.reply ≡ reply_of u (put_of e)) × IsLawfulAfter (u ++ e ∷ []) es
+IsLawfulAfter u (e ∷ es) = (e.reply ≡ reply_of u e.put) × IsLawfulAfter (u ++ e ∷ []) es
 
 -- a lawful trail: each entry has the reply of the rules on the entries before it (own)
 abbrev pub IsLawful : List Entry → Type 0

@@ -1,6 +1,6 @@
 use crate::{
-    Actor, BatchLock, BatchRecord, Cause, Counts, Facts, Known, Mark, Onward, OwnStatus, Question,
-    Reason, Refusal, Reply, Role, decide, may, onward_of,
+    Actor, BatchLock, BatchRecord, Cause, Counts, Facts, Known, Mark, Onward, OwnStatus, Put,
+    Question, Reason, Refusal, Reply, Role, decide, may, onward_of,
 };
 use nmvs_identifier::{Batch, Expiry, Moment, Name, Pack, ProductCode, Serial};
 use std::process::Abort;
@@ -105,7 +105,13 @@ fn decide_at(
     question: &Question,
 ) -> Reply {
     assert!(rt; facts.alerts == 0);
-    decide(facts, at(rt, seconds), by, question)
+    let put = Put {
+        moment: at(rt, seconds),
+        user: Name::read("user-1").expect(rt, "a user"),
+        actor: *by,
+        question: *question,
+    };
+    decide(facts, &put)
 }
 
 #[test]

@@ -45,7 +45,11 @@ fn with_one_less(counts: &Counts, own: OwnStatus) -> Counts
 }
 
 /// The counts after a pack went from one own status to another, from none or to none.
-pub(crate) fn moved(counts: &Counts, from: Option<OwnStatus>, to: Option<OwnStatus>) -> Counts
+pub(crate) fn counts_after(
+    counts: &Counts,
+    from: Option<OwnStatus>,
+    to: Option<OwnStatus>,
+) -> Counts
     requires from { ForSome from (λ own. 1 ≤ count_in counts.now own) }
     requires to { ForSome to (λ own. count_in counts.now own + 1 < 2 ^ 64) }
     ensures { Moves counts.now from to result }

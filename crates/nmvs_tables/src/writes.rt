@@ -34,7 +34,7 @@ pub(crate) fn insert<K: Eq + Hash + Copy, V: Copy, S: BuildHasher, A: Allocator>
 }
 
 /// Gives a key its value, at the index where it was found. A new key, for which room was made, goes last.
-pub(crate) fn put<K: Eq + Hash + Copy, V: Copy, S: BuildHasher, A: Allocator>(
+pub(crate) fn write<K: Eq + Hash + Copy, V: Copy, S: BuildHasher, A: Allocator>(
     table: &mut IndexMap<K, V, S, A>,
     index: Option<usize>,
     key: K,

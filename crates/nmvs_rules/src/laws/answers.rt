@@ -12,7 +12,8 @@ ghost use Rattle.nmvs_rules.specs.declared.entry.Entry.{Entry};
 ghost use Rattle.nmvs_rules.specs.declared.question.Question.TheVariants.{Upload, Verify, Decommission, Revert, Theft};
 ghost use Rattle.nmvs_rules.specs.declared.reason.Reason.{Reason};
 ghost use Rattle.nmvs_rules.specs.declared.reply.Reply.TheVariants as reply;
-ghost use Rattle.nmvs_rules.specs.Questions.{Put, may_ask};
+ghost use Rattle.nmvs_rules.specs.declared.put.Put.{Put};
+ghost use Rattle.nmvs_rules.specs.Questions.{may_ask};
 ghost use Rattle.nmvs_rules.specs.Trail.{alerts_of};
 ghost use Rattle.nmvs_rules.specs.Rules.{reply_of, IsLawful};
 ghost use Rattle.nmvs_rules.specs.Operations.{uploads, uploads_code, binds, last_operation, alarm, alert_number};
@@ -63,11 +64,11 @@ pub fn alerting()
         reply_of t q ≡ reply.Alert cause.Unknown true (alerts_of t p.code + 1) }
     ensures locked { (t : List Entry) (q : Put) (p : Pack) (b : Batch) (x : Expiry) (lock : Entry) (tells : Cause × Bool) →
         AsksAuthenticity p q.question → IsTrue (may_ask q.actor.role q.question) → IsUploadedWith t p b x →
-        find (binds p.code b) t ≡ Some lock → alarm lock.question ≡ Some tells →
+        find (binds p.code b) t ≡ Some lock → alarm lock.put.question ≡ Some tells →
         reply_of t q ≡ reply.Alert tells.0 tells.1 (alerts_of t p.code + 1) }
     ensures own { (t : List Entry) (q : Put) (p : Pack) (b : Batch) (x : Expiry) (last : Entry) (tells : Cause × Bool) →
         AsksAuthenticity p q.question → IsTrue (may_ask q.actor.role q.question) → IsUploadedWith t p b x →
-        IsUnlocked t p.code b → last_operation t p ≡ Some last → alarm last.question ≡ Some tells →
+        IsUnlocked t p.code b → last_operation t p ≡ Some last → alarm last.put.question ≡ Some tells →
         reply_of t q ≡ reply.Alert tells.0 tells.1 (alerts_of t p.code + 1) }
 {}
 

@@ -3,15 +3,16 @@ ghost use Rattle.std.specs.Prelude.{◌≡◌, ◌↔◌, ℕ, Bool, IsFalse, Li
 ghost use Rattle.std.specs.List.{list_any};
 ghost use Rattle.nmvs_rules.specs.declared.entry.Entry.{Entry};
 ghost use Rattle.nmvs_rules.specs.declared.reply.Reply.{Reply};
-ghost use Rattle.nmvs_rules.specs.Questions.{Put, code_of};
-ghost use Rattle.nmvs_rules.specs.Rules.{reply_of, put_of, answered, IsLawful};
+ghost use Rattle.nmvs_rules.specs.declared.put.Put.{Put};
+ghost use Rattle.nmvs_rules.specs.Questions.{code_of};
+ghost use Rattle.nmvs_rules.specs.Rules.{reply_of, answered, IsLawful};
 ghost use Rattle.nmvs_rules.specs.Laws.{part_of, kept, placed_at, asks_handover, IsMerging, IsApart};
 ghost use Rattle.nmvs_rules.specs.before_handover.Rules as before_handover;
 
 /// An entry keeps the question as it was put, with its moment, its user and in what capacity the user asked, and the
 /// reply (Article 35).
 pub fn recording()
-    ensures { (q : Put) (r : Reply) → (put_of (answered q r) ≡ q) × ((answered q r).reply ≡ r) }
+    ensures { (q : Put) (r : Reply) → ((answered q r).put ≡ q) × ((answered q r).reply ≡ r) }
 {}
 
 /// The reply to a question rests on the entries with its product code alone. On every trail.

@@ -18,7 +18,7 @@ returns g c = λ bs are.
     let b = c.args.batch.now in
     let count : c.unwrap_or-index.result ≡ listed_in self.counts b.code = c.unwrap_or-index.ensures ∙ ap (λ o. unwrap_or o 0) c.find-found.ensures.value in
     record {
-      counts = listed_in-push self.counts c.put.new.table bs b are.counts
-          (λ d. c.put.ensures.updates d ∙ ap (λ n. cond (same_text b.code d) (Some (n + 1)) (get same_text self.counts d)) count);
+      counts = listed_in-push self.counts c.write.new.table bs b are.counts
+          (λ d. c.write.ensures.updates d ∙ ap (λ n. cond (same_text b.code d) (Some (n + 1)) (get same_text self.counts d)) count);
       batches = placed-push self.batches c.insert.new.table bs b c.unwrap_or-index.result (count ∙ are.counts b.code) are.batches c.insert.ensures.updates;
     }
