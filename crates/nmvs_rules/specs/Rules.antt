@@ -1,6 +1,6 @@
 -- The reply that the rules give to a question on a trail. Of the conditions on a question the first that fails decides;
 -- their order is own.
-use Rattle.std.specs.Prelude.{ℕ, ◌+◌, ◌≡◌, pos, int_lt, nat_le, Bool, true, false, not, ◌&&◌, List, [], ◌∷◌, ◌++◌, Option, Some, None, is_some, if◌then◌else◌}
+use Rattle.std.specs.Prelude.{ℕ, ◌+◌, ◌≡◌, pos, int_lt, nat_le, Bool, true, false, not, ◌&&◌, List, [], ◌∷◌, ◌++◌, filter, Option, Some, None, is_some, if◌then◌else◌}
 use Rattle.nmvs_identifier.specs.Name.{Name}
 use Rattle.nmvs_identifier.specs.Expiry.{Expiry, expiry_day}
 use Rattle.nmvs_identifier.specs.Moment.{day_of}
@@ -9,6 +9,7 @@ use Rattle.nmvs_identifier.specs.Texts.{same_text}
 use Rattle.nmvs_rules.specs.declared.actor.Actor.{Actor}
 use Rattle.nmvs_rules.specs.declared.question.Question.{Question}
 use Rattle.nmvs_rules.specs.declared.question.Question.TheVariants.{Upload, Verify, Status, Decommission, Handover, Revert, Recall, Withdraw, Theft, Audit}
+use Rattle.nmvs_rules.specs.declared.role.Role.{Role}
 use Rattle.nmvs_rules.specs.declared.reply.Reply.{Reply}
 use Rattle.nmvs_rules.specs.declared.reply.Reply.TheVariants as reply
 use Rattle.nmvs_rules.specs.declared.refusal.Refusal.TheVariants as refusal
@@ -25,7 +26,7 @@ use Rattle.nmvs_rules.specs.declared.facts.Mark.{Mark}
 use Rattle.nmvs_rules.specs.declared.facts.Known.{Known}
 use Rattle.nmvs_rules.specs.declared.put.Put.{Put}
 use Rattle.nmvs_rules.specs.Questions.{may_ask}
-use Rattle.nmvs_rules.specs.Trail.{known, lock_of, holder_of, alerts_of, about_of, count_of, is_known_batch}
+use Rattle.nmvs_rules.specs.Trail.{is_about, known, lock_of, holder_of, alerts_of, about_of, count_of, is_known_batch}
 
 -- whether the expiry date is past: the day of the moment, by UTC, comes after it (Article 13(1)(c); days of UTC are
 -- own)
@@ -223,6 +224,16 @@ admitted_reply t moment a (Audit p) = reply.Shown (about_of t p)
 abbrev pub reply_of : List Entry → Put → Reply
 reply_of t q =
     if may_ask q.actor.role q.question then admitted_reply t q.moment q.actor q.question else reply.Refused refusal.Role
+
+-- the entries that an audit shows to a role
+abbrev pub shown_to : List Entry → Role → Question → List Entry
+shown_to t r (Audit p) = if may_ask r (Audit p) then filter (is_about p) t else []
+shown_to t r _ = []
+
+-- the entries that are shown with the reply: those about the pack of an audit that its role may ask, oldest first, and
+-- none with the reply to any other question (Article 35)
+abbrev pub shown_of : List Entry → Put → List Entry
+shown_of t q = shown_to t q.actor.role q.question
 
 -- the entry that records a question as it was put, with its reply (Article 35)
 abbrev pub answered : Put → Reply → Entry
