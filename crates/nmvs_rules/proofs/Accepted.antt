@@ -45,25 +45,25 @@ is_confirmed _ _ = false
 
 -- whether the entry is accepted, about the pack, and of this kind
 abbrev pub accepted_upload : Pack → Entry → Bool
-accepted_upload p e = (is_upload e.question && is_about p e) && is_accepted e
+accepted_upload p e = (is_upload e.put.question && is_about p e) && is_accepted e
 
 abbrev pub accepted_decommissioning : Pack → Entry → Bool
-accepted_decommissioning p e = is_mark p e && is_decommissioning e.question
+accepted_decommissioning p e = is_mark p e && is_decommissioning e.put.question
 
 abbrev pub accepted_handover : Pack → Entry → Bool
-accepted_handover p e = is_mark p e && is_handover e.question
+accepted_handover p e = is_mark p e && is_handover e.put.question
 
 abbrev pub accepted_supply : Pack → Entry → Bool
-accepted_supply p e = is_mark p e && is_supply e.question
+accepted_supply p e = is_mark p e && is_supply e.put.question
 
 abbrev pub accepted_reversion : Pack → Entry → Bool
-accepted_reversion p e = is_mark p e && is_reversion e.question
+accepted_reversion p e = is_mark p e && is_reversion e.put.question
 
 abbrev pub accepted_lock : ProductCode → Batch → Entry → Bool
-accepted_lock c b e = locks_batch c b e.question && is_accepted e
+accepted_lock c b e = locks_batch c b e.put.question && is_accepted e
 
 abbrev pub authentic_answer : Pack → Entry → Bool
-authentic_answer p e = is_about p e && is_confirmed e.question e.reply
+authentic_answer p e = is_about p e && is_confirmed e.put.question e.reply
 
 twice-true : (b : Bool) → ((b && true) && true) ≡ b
 twice-true b = and-true (b && true) ∙ and-true b
@@ -129,28 +129,28 @@ operation-is p (Theft s) r = sym (and-false (same_pack p s))
 operation-is p q r = sym (and-false (names p (pack_of q)))
 
 pub uploads-is : (p : Pack) (e : Entry) → uploads p e ≡ accepted_upload p e
-uploads-is p e = upload-is p e.question e.reply
+uploads-is p e = upload-is p e.put.question e.reply
 
 pub decommissions-is : (p : Pack) (e : Entry) → decommissions p e ≡ accepted_decommissioning p e
-decommissions-is p e = decommissioning-is p e.question e.reply
+decommissions-is p e = decommissioning-is p e.put.question e.reply
 
 pub hands_over-is : (p : Pack) (e : Entry) → hands_over p e ≡ accepted_handover p e
-hands_over-is p e = handover-is p e.question e.reply
+hands_over-is p e = handover-is p e.put.question e.reply
 
 pub supplies-is : (p : Pack) (e : Entry) → supplies p e ≡ accepted_supply p e
-supplies-is p e = supply-is p e.question e.reply
+supplies-is p e = supply-is p e.put.question e.reply
 
 pub reverts-is : (p : Pack) (e : Entry) → reverts p e ≡ accepted_reversion p e
-reverts-is p e = reversion-is p e.question e.reply
+reverts-is p e = reversion-is p e.put.question e.reply
 
 pub confirms-is : (p : Pack) (e : Entry) → confirms p e ≡ authentic_answer p e
-confirms-is p e = confirmation-is p e.question e.reply
+confirms-is p e = confirmation-is p e.put.question e.reply
 
 pub binds-is : (c : ProductCode) (b : Batch) (e : Entry) → binds c b e ≡ accepted_lock c b e
-binds-is c b e = lock-is c b e.question e.reply
+binds-is c b e = lock-is c b e.put.question e.reply
 
 pub operates-is : (p : Pack) (e : Entry) → operates p e ≡ is_mark p e
-operates-is p e = operation-is p e.question e.reply
+operates-is p e = operation-is p e.put.question e.reply
 
 -- the first upload and the last operation are those of the rules
 pub first-upload : (t : List Entry) (p : Pack) → find (uploads p) t ≡ born t p
@@ -159,8 +159,8 @@ first-upload t p = λ i. find (λ e. uploads-is p e i) t
 pub last-operation : (t : List Entry) (p : Pack) → last_operation t p ≡ mark t p
 last-operation t p = λ i. find (λ e. operates-is p e i) (reverse t)
 
-pub first-upload_of_code : (t : List Entry) (c : ProductCode) → find (uploads_code c) t ≡ find (λ e. (is_upload e.question && has_code c e) && is_accepted e) t
-first-upload_of_code t c = λ i. find (λ e. code_upload-is c e.question e.reply i) t
+pub first-upload_of_code : (t : List Entry) (c : ProductCode) → find (uploads_code c) t ≡ find (λ e. (is_upload e.put.question && has_code c e) && is_accepted e) t
+first-upload_of_code t c = λ i. find (λ e. code_upload-is c e.put.question e.reply i) t
 
 -- the own status that an operation leaves
 pub left : (p : Pack) (q : Question) (r : Reply) → (names p (pack_of q) && accepts q r) ≡ true → own_left q ≡ Some (own_given q)

@@ -11,9 +11,10 @@ use Rattle.nmvs_rules.specs.declared.entry.Entry.{Entry}
 use Rattle.nmvs_rules.specs.declared.facts.Known.{Known}
 use Rattle.nmvs_rules.specs.declared.reply.Reply.{Reply}
 use Rattle.nmvs_rules.specs.declared.reply.Reply.TheVariants as reply
-use Rattle.nmvs_rules.specs.Questions.{Put, may_ask, code_of}
+use Rattle.nmvs_rules.specs.declared.put.Put.{Put}
+use Rattle.nmvs_rules.specs.Questions.{may_ask, code_of}
 use Rattle.nmvs_rules.specs.Trail.{known, has_code, is_alert, alerts_of}
-use Rattle.nmvs_rules.specs.Rules.{on_pack, admitted_reply, reply_of, put_of, IsLawful}
+use Rattle.nmvs_rules.specs.Rules.{on_pack, admitted_reply, reply_of, IsLawful}
 use Rattle.nmvs_rules.specs.Laws.{part_of, alert_numbers}
 use Rattle.nmvs_rules.specs.Operations.{alert_number}
 use Rattle.nmvs_rules.proofs.TextLemmas.{same_text-equal}
@@ -68,12 +69,12 @@ alerts-numbered t c lawful = IsLawful-keeps P step refl t lawful
     P : List Entry → Type 0
     P u = alert_numbers u c ≡ range_with_len 1 (alerts_of u c)
 
-    step : (u : List Entry) (e : Entry) → P u → e.reply ≡ reply_of u (put_of e) → P (u ++ e ∷ [])
+    step : (u : List Entry) (e : Entry) → P u → e.reply ≡ reply_of u e.put → P (u ++ e ∷ [])
     step u e h is =
         ap (filter_map (λ x. alert_number x.reply)) (filter-append (has_code c) u (e ∷ []))
         ∙ filter_map-append (λ x. alert_number x.reply) (part_of u c) (part_of (e ∷ []) c)
         ∙ ap (λ ns. alert_numbers u c ++ ns) (one (has_code c e))
-        ∙ numbers-more (alert_numbers u c) (has_code c e) e.reply (alerts_of u c) h (λ code m a. alert-numbered u (put_of e) m (sym (ap alert_number is) ∙ a) ∙ ap (λ n. n + 1) (sym (ap (alerts_of u) (same_text-equal c (code_of e.question) code))))
+        ∙ numbers-more (alert_numbers u c) (has_code c e) e.reply (alerts_of u c) h (λ code m a. alert-numbered u e.put m (sym (ap alert_number is) ∙ a) ∙ ap (λ n. n + 1) (sym (ap (alerts_of u) (same_text-equal c (code_of e.put.question) code))))
         ∙ ap (range_with_len 1) (sym (alerts_of-push u e c))
       where
         one : (b : Bool) → filter_map (λ x. alert_number x.reply) (cond b (e ∷ []) []) ≡ cond b (cons_option (alert_number e.reply) []) []

@@ -21,7 +21,8 @@ use Rattle.nmvs_rules.specs.declared.reason.Reason.{Reason}
 use Rattle.nmvs_rules.specs.declared.reason.Reason.TheVariants as reason
 use Rattle.nmvs_rules.specs.declared.reply.Reply.{Reply}
 use Rattle.nmvs_rules.specs.declared.reply.Reply.TheVariants as reply
-use Rattle.nmvs_rules.specs.Questions.{Put, may_ask, pack_of, names}
+use Rattle.nmvs_rules.specs.declared.put.Put.{Put}
+use Rattle.nmvs_rules.specs.Questions.{may_ask, pack_of, names}
 use Rattle.nmvs_rules.specs.Trail.{born, known, known_from, accepts, is_mark, mark_place, mark_after, own_given, lock_by, lock_of, locks_batch, alerts_of}
 use Rattle.nmvs_rules.specs.Rules.{is_active, is_past, is_authentic, cause_of, is_flagged, lock_on, on_pack, alert_on, alert_unknown, verify_reply, decommission_reply, reply_of}
 use Rattle.nmvs_rules.specs.Operations.{uploads, binds, last_operation, alarm, alert_number}
@@ -59,7 +60,7 @@ known-alerts t q p k l (inr is) may known_as locked h =
     ∙ ap (λ b. cond b reply.Decommissioned (alert_on k l (alerts_of t p.code))) h
 
 -- what is known of a pack that was uploaded
-uploaded-known : (t : List Entry) (p : Pack) (b : Batch) (x : Expiry) (m : Entry) → IsUploadedWith t p b x → last_operation t p ≡ Some m → known t p ≡ Some (record { batch = b; expiry = x; own = own_given m.question; mark = mark_after (mark_place t p) m })
+uploaded-known : (t : List Entry) (p : Pack) (b : Batch) (x : Expiry) (m : Entry) → IsUploadedWith t p b x → last_operation t p ≡ Some m → known t p ≡ Some (record { batch = b; expiry = x; own = own_given m.put.question; mark = mark_after (mark_place t p) m })
 uploaded-known t p b x m uploaded last =
     let upload = birth-of t p b x uploaded in
     known-made t p upload.2.0 upload.0 m b x upload.1 upload.2.1 (sym (last-operation t p) ∙ last)
@@ -70,18 +71,18 @@ tells-lock c b (Withdraw d l) o w locks is = let same : (cause.Withdrawn, false)
 tells-lock c b q o w locks is = let none : false ≡ true = locks in (cc, cc)
 
 -- a pack of a recalled or withdrawn batch has the alert of the first recall or withdrawal
-pub locked-alerts : (t : List Entry) (q : Put) (p : Pack) (b : Batch) (x : Expiry) (l : Entry) (w : Cause × Bool) → AsksAuthenticity p q.question → may_ask q.actor.role q.question ≡ true → IsUploadedWith t p b x → find (binds p.code b) t ≡ Some l → alarm l.question ≡ Some w → reply_of t q ≡ reply.Alert w.0 w.1 (alerts_of t p.code + 1)
+pub locked-alerts : (t : List Entry) (q : Put) (p : Pack) (b : Batch) (x : Expiry) (l : Entry) (w : Cause × Bool) → AsksAuthenticity p q.question → may_ask q.actor.role q.question ≡ true → IsUploadedWith t p b x → find (binds p.code b) t ≡ Some l → alarm l.put.question ≡ Some w → reply_of t q ≡ reply.Alert w.0 w.1 (alerts_of t p.code + 1)
 locked-alerts t q p b x l w asks may uploaded locked is =
     let upload = birth-of t p b x uploaded in
     let marked = mark-of-born t p upload.0 upload.1 in
-    let own : OwnStatus = own_given marked.0.question in
+    let own : OwnStatus = own_given marked.0.put.question in
     let found : find (accepted_lock p.code b) t ≡ Some l = (λ i. find (λ e. sym (binds-is p.code b e) i) t) ∙ locked in
-    let locks : locks_batch p.code b l.question ≡ true = first_so _ _ (find-passes (accepted_lock p.code b) t l found) in
-    let tells = tells-lock p.code b l.question own w locks is in
-    known-alerts t q p _ (lock_by l.question) asks may
+    let locks : locks_batch p.code b l.put.question ≡ true = first_so _ _ (find-passes (accepted_lock p.code b) t l found) in
+    let tells = tells-lock p.code b l.put.question own w locks is in
+    known-alerts t q p _ (lock_by l.put.question) asks may
     (known-made t p upload.2.0 upload.0 marked.0 b x upload.1 upload.2.1 marked.1)
-    (ap (λ o. option_map_or (λ e. lock_by e.question) o lock.Free) found)
-    (ap (λ f. is_active own && f) (locks_batch-binds p.code b l.question locks) ∙ and-false (is_active own))
+    (ap (λ o. option_map_or (λ e. lock_by e.put.question) o lock.Free) found)
+    (ap (λ f. is_active own && f) (locks_batch-binds p.code b l.put.question locks) ∙ and-false (is_active own))
     ∙ (λ i. reply.Alert (tells.0 i) (tells.1 i) (alerts_of t p.code + 1))
 
 tells-own : (p : Pack) (q : Question) (r : Reply) (w : Cause × Bool) → (names p (pack_of q) && accepts q r) ≡ true → alarm q ≡ Some w → (cause_of (own_given q) lock.Free ≡ w.0) × (is_flagged (own_given q) lock.Free ≡ w.1) × (is_active (own_given q) ≡ false)
@@ -97,10 +98,10 @@ tells-own p (Withdraw c b) r w h is = let none : false ≡ true = h in (cc, cc, 
 tells-own p q r w h is = (cc, cc, cc)
 
 -- a pack of a free batch has the alert of the last operation on it
-pub own-alerts : (t : List Entry) (q : Put) (p : Pack) (b : Batch) (x : Expiry) (m : Entry) (w : Cause × Bool) → AsksAuthenticity p q.question → may_ask q.actor.role q.question ≡ true → IsUploadedWith t p b x → IsUnlocked t p.code b → last_operation t p ≡ Some m → alarm m.question ≡ Some w → reply_of t q ≡ reply.Alert w.0 w.1 (alerts_of t p.code + 1)
+pub own-alerts : (t : List Entry) (q : Put) (p : Pack) (b : Batch) (x : Expiry) (m : Entry) (w : Cause × Bool) → AsksAuthenticity p q.question → may_ask q.actor.role q.question ≡ true → IsUploadedWith t p b x → IsUnlocked t p.code b → last_operation t p ≡ Some m → alarm m.put.question ≡ Some w → reply_of t q ≡ reply.Alert w.0 w.1 (alerts_of t p.code + 1)
 own-alerts t q p b x m w asks may uploaded unlocked last is =
     let marks : is_mark p m ≡ true = find-passes (is_mark p) (reverse t) m (sym (last-operation t p) ∙ last) in
-    let tells = tells-own p m.question m.reply w marks is in
+    let tells = tells-own p m.put.question m.reply w marks is in
     known-alerts t q p _ lock.Free asks may (uploaded-known t p b x m uploaded last)
     (free-lock (lock_of t p.code b) (free-unlocked t p.code b unlocked))
     (ap (λ a. a && true) tells.2)

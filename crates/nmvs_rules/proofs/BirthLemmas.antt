@@ -8,7 +8,7 @@ use Rattle.nmvs_rules.specs.declared.question.Question.{Question}
 use Rattle.nmvs_rules.specs.declared.question.Question.TheVariants.{Upload}
 use Rattle.nmvs_rules.specs.declared.entry.Entry.{Entry}
 use Rattle.nmvs_rules.specs.Trail.{born, mark, known, known_from, known_at, is_upload}
-use Rattle.nmvs_rules.specs.Rules.{reply_of, put_of, IsLawful}
+use Rattle.nmvs_rules.specs.Rules.{reply_of, IsLawful}
 use Rattle.nmvs_rules.specs.Operations.{uploads}
 use Rattle.nmvs_rules.proofs.Accepted.{accepted_upload, uploads-is}
 use Rattle.nmvs_rules.proofs.FindLemmas.{find-passes}
@@ -23,7 +23,7 @@ is_some-known_at t p m q h = cc
 is_some-known_from : (t : List Entry) (p : Pack) (o : Option Entry) → born t p ≡ o → is_some (known_from t p o) ≡ is_some o
 is_some-known_from t p None h = refl
 is_some-known_from t p (Some u) h =
-    is_some-known_at t p (unwrap_or (mark t p) u) u.question (first_so _ _ (first_so _ _ (find-passes (accepted_upload p) t u h)))
+    is_some-known_at t p (unwrap_or (mark t p) u) u.put.question (first_so _ _ (first_so _ _ (find-passes (accepted_upload p) t u h)))
 
 -- a pack is known where it was uploaded
 is_some-known : (t : List Entry) (p : Pack) → is_some (known t p) ≡ is_some (born t p)
@@ -42,7 +42,7 @@ births-exact t p lawful = IsLawful-keeps P step refl t lawful
     P : List Entry → Type 0
     P u = count_by (accepted_upload p) u ≡ cond (is_some (born u p)) 1 0
 
-    step : (u : List Entry) (e : Entry) → P u → e.reply ≡ reply_of u (put_of e) → P (u ++ e ∷ [])
+    step : (u : List Entry) (e : Entry) → P u → e.reply ≡ reply_of u e.put → P (u ++ e ∷ [])
     step u e h is =
         births-more (born u p) (accepted_upload p e) e _ _ (λ b. sym (is_some-known u p) ∙ accepted_upload-tells u e p is b) h (count_by-push (accepted_upload p) u e)
         ∙ ap (λ o. cond (is_some o) 1 0) (sym (born-push u e p))

@@ -21,7 +21,8 @@ use Rattle.nmvs_rules.specs.declared.own_status.OwnStatus.{OwnStatus}
 use Rattle.nmvs_rules.specs.declared.own_status.OwnStatus.TheVariants as own
 use Rattle.nmvs_rules.specs.declared.batch_lock.BatchLock.{BatchLock}
 use Rattle.nmvs_rules.specs.declared.batch_lock.BatchLock.TheVariants as lock
-use Rattle.nmvs_rules.specs.Questions.{Put, may_ask, pack_of, code_of, names}
+use Rattle.nmvs_rules.specs.declared.put.Put.{Put}
+use Rattle.nmvs_rules.specs.Questions.{may_ask, pack_of, code_of, names}
 use Rattle.nmvs_rules.specs.Trail.{born, mark, known, known_from, known_at, is_mark, is_about, has_code, is_accepted, alerts_of, holder_of, about_of, own_given, lock_of, lock_by, locks_batch, uploads_batch, is_birth_in, is_known_batch, count_of, stands_at, is_own}
 use Rattle.nmvs_rules.specs.Rules.{on_pack, lock_on, revert_reply, verify_reply, status_reply, decommission_reply, handover_reply, theft_reply, lock_reply, upload_reply, alert_unknown, has_other_holder, admitted_reply, reply_of}
 use Rattle.nmvs_rules.specs.Laws.{part_of}
@@ -72,7 +73,7 @@ reverse-filter {X} c (x ∷ xs) =
 
 -- an entry about a pack has its code
 about-code : (p : Pack) (e : Entry) → is_about p e ≡ true → has_code p.code e ≡ true
-about-code p e h = by e.question h
+about-code p e h = by e.put.question h
   where
     by : (q : Question) → names p (pack_of q) ≡ true → same_text p.code (code_of q) ≡ true
     by (Recall c b) n = cc
@@ -101,7 +102,7 @@ about-filter : (t : List Entry) (p : Pack) → about_of (part_of t p.code) p ≡
 about-filter t p = count_by-filter (is_about p) (has_code p.code) (λ e h. about-code p e h) t
 
 holder-code : (t : List Entry) (c : ProductCode) → holder_of (part_of t c) c ≡ holder_of t c
-holder-code t c = ap (option_map (λ e. e.actor.authorisation)) (find-filter _ (has_code c) (λ e h. second_so _ _ (first_so _ _ h)) t)
+holder-code t c = ap (option_map (λ e. e.put.actor.authorisation)) (find-filter _ (has_code c) (λ e h. second_so _ _ (first_so _ _ h)) t)
 
 -- what is known of a pack, but for the place of its mark
 abbrev forget : Known → Known
@@ -114,7 +115,7 @@ forget_at t u p m q = refl
 forget_from : (t u : List Entry) (p : Pack) (o : Option Entry) → mark u p ≡ mark t p → option_map forget (known_from u p o) ≡ option_map forget (known_from t p o)
 forget_from t u p None m = refl
 forget_from t u p (Some first) m =
-    ap (λ k. option_map forget (known_at u p (unwrap_or k first) first.question)) m ∙ forget_at t u p (unwrap_or (mark t p) first) first.question
+    ap (λ k. option_map forget (known_at u p (unwrap_or k first) first.put.question)) m ∙ forget_at t u p (unwrap_or (mark t p) first) first.put.question
 
 known-code : (t : List Entry) (p : Pack) → option_map forget (known (part_of t p.code) p) ≡ option_map forget (known t p)
 known-code t p =
@@ -137,24 +138,24 @@ uploads-code c b q h = cc
 
 lock-code : (t : List Entry) (c : ProductCode) (b : Batch) → lock_of (part_of t c) c b ≡ lock_of t c b
 lock-code t c b =
-    ap (λ o. option_map_or (λ e. lock_by e.question) o lock.Free) (find-filter (λ e. locks_batch c b e.question && is_accepted e) (has_code c) (λ e h. locks-code c b e.question (first_so _ _ h)) t)
+    ap (λ o. option_map_or (λ e. lock_by e.put.question) o lock.Free) (find-filter (λ e. locks_batch c b e.put.question && is_accepted e) (has_code c) (λ e h. locks-code c b e.put.question (first_so _ _ h)) t)
 
 known_batch-code : (t : List Entry) (c : ProductCode) (b : Batch) → is_known_batch (part_of t c) c b ≡ is_known_batch t c b
-known_batch-code t c b = list_any-filter (is_birth_in c b) (has_code c) (λ e h. uploads-code c b e.question (first_so _ _ h)) t
+known_batch-code t c b = list_any-filter (is_birth_in c b) (has_code c) (λ e h. uploads-code c b e.put.question (first_so _ _ h)) t
 
 -- an entry counts alike on the trail and on the code's part of it
 stands-code : (t : List Entry) (c : ProductCode) (b : Batch) (s : OwnStatus) (q : Question) (a : Bool) → (uploads_batch c b q && a && stands_at (part_of t c) s (pack_of q)) ≡ (uploads_batch c b q && a && stands_at t s (pack_of q))
 stands-code t c b s (Upload p d x) a = by (same_text c p.code) refl
   where
     by : (v : Bool) → same_text c p.code ≡ v → ((same_text c p.code && same_text b d) && a && stands_at (part_of t c) s (Some p)) ≡ ((same_text c p.code && same_text b d) && a && stands_at t s (Some p))
-    by true h = ap (λ o. (same_text c p.code && same_text b d) && a && is_own s (option_map (λ m. own_given m.question) o)) (ap (λ f. mark (filter f t) p) (ap has_code (same_text-equal c p.code h)) ∙ mark-code t p)
+    by true h = ap (λ o. (same_text c p.code && same_text b d) && a && is_own s (option_map (λ m. own_given m.put.question) o)) (ap (λ f. mark (filter f t) p) (ap has_code (same_text-equal c p.code h)) ∙ mark-code t p)
     by false h = rw h refl
 stands-code t c b s q a = refl
 
 count-code : (t : List Entry) (c : ProductCode) (b : Batch) (s : OwnStatus) → count_of (part_of t c) c b s ≡ count_of t c b s
 count-code t c b s =
-    (λ j. count_by (λ e. stands-code t c b s e.question (is_accepted e) j) (part_of t c))
-    ∙ count_by-filter (λ e. is_birth_in c b e && stands_at t s (pack_of e.question)) (has_code c) (λ e h. uploads-code c b e.question (first_so _ _ (first_so _ _ h))) t
+    (λ j. count_by (λ e. stands-code t c b s e.put.question (is_accepted e) j) (part_of t c))
+    ∙ count_by-filter (λ e. is_birth_in c b e && stands_at t s (pack_of e.put.question)) (has_code c) (λ e h. uploads-code c b e.put.question (first_so _ _ (first_so _ _ h))) t
 
 on_pack-code : (t u : List Entry) (p : Pack) (un : Reply) (f : Known → BatchLock → Reply) → option_map forget (known u p) ≡ option_map forget (known t p) → ((b : Batch) → lock_of u p.code b ≡ lock_of t p.code b) → ((k : Known) (l : BatchLock) → f (forget k) l ≡ f k l) → on_pack (known u p) un (λ k. f k (lock_on u p k)) ≡ on_pack (known t p) un (λ k. f k (lock_on t p k))
 on_pack-code t u p un f same locks h =

@@ -16,10 +16,10 @@ use Rattle.nmvs_rules.specs.declared.entry.Entry.{Entry}
 use Rattle.nmvs_rules.specs.declared.facts.Known.{Known}
 use Rattle.nmvs_rules.specs.Questions.{pack_of, names}
 use Rattle.nmvs_rules.specs.Trail.{known, marked_by, born_by, mark_after, accepts, is_about, is_mark, is_upload, own_given, own_by_reason}
-use Rattle.nmvs_rules.specs.Rules.{is_active, is_held, is_stolen, is_destroyed, is_supplied, reply_of, put_of, IsLawfulAfter, IsLawful}
+use Rattle.nmvs_rules.specs.Rules.{is_active, is_held, is_stolen, is_destroyed, is_supplied, reply_of, IsLawfulAfter, IsLawful}
 use Rattle.nmvs_rules.specs.Operations.{uploads, decommissions, hands_over, supplies, reverts, confirms, operates}
 use Rattle.nmvs_rules.specs.Laws.{is_handover, may_become, IsMovedOn, IsBorn}
-use Rattle.nmvs_rules.proofs.Accepted.{accepted_upload, accepted_decommissioning, accepted_handover, accepted_supply, accepted_reversion, is_decommissioning, is_supply, is_reversion, is_theft, uploads-is, decommissions-is, hands_over-is, supplies-is, reverts-is, confirms-is, operates-is, left}
+use Rattle.nmvs_rules.proofs.Accepted.{accepted_upload, accepted_decommissioning, accepted_supply, accepted_reversion, is_decommissioning, is_supply, is_reversion, is_theft, uploads-is, decommissions-is, hands_over-is, supplies-is, reverts-is, confirms-is, operates-is, left}
 use Rattle.nmvs_rules.proofs.PushLemmas.{known-push}
 use Rattle.nmvs_rules.proofs.LawfulLemmas.{IsLawful-rest, IsLawfulAfter-first, IsLawfulAfter-keeps}
 use Rattle.nmvs_rules.proofs.ReplyLemmas.{KnownAnd, known-holds, accepted_upload-tells, accepted_decommissioning-tells, accepted_handover-tells, accepted_reversion-tells, authentic_answer-tells, thefts-tells}
@@ -60,10 +60,10 @@ stolen own.Active h = refl
 stolen o h = refl
 
 -- an accepted operation on a known pack moves it on along its course
-course : (t : List Entry) (e : Entry) (p : Pack) (k : Known) → e.reply ≡ reply_of t (put_of e) → known t p ≡ Some k → is_mark p e ≡ true → may_become k.own (own_given e.question) ≡ true
-course t e p k lawful is marks = by e.question refl
+course : (t : List Entry) (e : Entry) (p : Pack) (k : Known) → e.reply ≡ reply_of t e.put → known t p ≡ Some k → is_mark p e ≡ true → may_become k.own (own_given e.put.question) ≡ true
+course t e p k lawful is marks = by e.put.question refl
   where
-    by : (q : Question) → e.question ≡ q → may_become k.own (own_given q) ≡ true
+    by : (q : Question) → e.put.question ≡ q → may_become k.own (own_given q) ≡ true
     by (Upload s b x) h =
         let born : accepted_upload p e ≡ true = both_true (both_true (ap is_upload h) (first_so _ _ marks)) (second_so (is_about p e) _ marks) in
         let none : true ≡ false = sym (ap is_some is) ∙ accepted_upload-tells t e p lawful born in cc
@@ -82,7 +82,7 @@ course t e p k lawful is marks = by e.question refl
         let none : false ≡ true = second_so (names p (pack_of q)) (accepts q e.reply) (sym (ap (λ q. names p (pack_of q) && accepts q e.reply) h) ∙ marks) in cc
 
 -- what is known of a pack after an accepted operation on it
-known-after-mark : (t : List Entry) (e : Entry) (p : Pack) (k : Known) → known t p ≡ Some k → is_mark p e ≡ true → known (t ++ e ∷ []) p ≡ Some (record k { own = own_given e.question; mark = mark_after (length t) e })
+known-after-mark : (t : List Entry) (e : Entry) (p : Pack) (k : Known) → known t p ≡ Some k → is_mark p e ≡ true → known (t ++ e ∷ []) p ≡ Some (record k { own = own_given e.put.question; mark = mark_after (length t) e })
 known-after-mark t e p k is marks =
     known-push t e p
     ∙ ap (λ b. cond b (marked_by (length t) e (known t p)) (known t p)) marks
@@ -102,7 +102,7 @@ moved-on before after e p k lawful is operation =
     let P : Option Known → Type 0 = λ o. IsSomeAnd o (IsMovedOn k (length before) e) in
     subst P (sym (known-after-mark before e p k is marks))
     (record {
-      left = left p e.question e.reply marks;
+      left = left p e.put.question e.reply marks;
       course = course before e p k (IsLawful-rest before (e ∷ after) lawful).0 is marks;
       batch = refl;
       expiry = refl;
@@ -111,32 +111,32 @@ moved-on before after e p k lawful is operation =
 
 -- an unknown pack becomes known by its upload, and by nothing else
 pub born-known : (t : List Entry) (e : Entry) (p : Pack) → known t p ≡ None → uploads p e ≡ true → IsSomeAnd (known (t ++ e ∷ []) p) (IsBorn (length t) e)
-born-known t e p unknown uploaded = by e.question refl (sym (uploads-is p e) ∙ uploaded)
+born-known t e p unknown uploaded = by e.put.question refl (sym (uploads-is p e) ∙ uploaded)
   where
     P : Option Known → Type 0
     P o = IsSomeAnd o (IsBorn (length t) e)
 
-    by : (q : Question) → e.question ≡ q → accepted_upload p e ≡ true → P (known (t ++ e ∷ []) p)
+    by : (q : Question) → e.put.question ≡ q → accepted_upload p e ≡ true → P (known (t ++ e ∷ []) p)
     by (Upload s b x) is born =
-        let marks : is_mark p e ≡ true = both_true (second_so (is_upload e.question) _ (first_so _ _ born)) (second_so (is_upload e.question && is_about p e) _ born) in
+        let marks : is_mark p e ≡ true = both_true (second_so (is_upload e.put.question) _ (first_so _ _ born)) (second_so (is_upload e.put.question && is_about p e) _ born) in
         let made : known (t ++ e ∷ []) p ≡ Some (record { batch = b; expiry = x; own = own.Active; mark = mark_after (length t) e }) =
         known-push t e p
         ∙ (λ i. cond (marks i) (marked_by (length t) e (unknown i)) (known t p))
         ∙ ap (born_by (length t) e) is in
         subst P (sym made) (record { pack = s; question = is; active = refl; mark = refl })
-    by q is born = let none : false ≡ true = sym (ap is_upload is) ∙ first_so (is_upload e.question) _ (first_so _ _ born) in cc
+    by q is born = let none : false ≡ true = sym (ap is_upload is) ∙ first_so (is_upload e.put.question) _ (first_so _ _ born) in cc
 
 pub stays-unknown : (t : List Entry) (e : Entry) (p : Pack) → known t p ≡ None → uploads p e ≡ false → known (t ++ e ∷ []) p ≡ None
 stays-unknown t e p unknown other = known-push t e p ∙ by (is_mark p e) refl
   where
-    none : (q : Question) → e.question ≡ q → is_mark p e ≡ true → born_by (length t) e q ≡ None
+    none : (q : Question) → e.put.question ≡ q → is_mark p e ≡ true → born_by (length t) e q ≡ None
     none (Upload s b x) is marks =
         let born : accepted_upload p e ≡ true = both_true (both_true (ap is_upload is) (first_so _ _ marks)) (second_so (is_about p e) _ marks) in
         let wrong : false ≡ true = sym other ∙ uploads-is p e ∙ born in cc
     none q is marks = refl
 
     by : (b : Bool) → is_mark p e ≡ b → cond b (marked_by (length t) e (known t p)) (known t p) ≡ None
-    by true marks = ap (marked_by (length t) e) unknown ∙ none e.question refl marks
+    by true marks = ap (marked_by (length t) e) unknown ∙ none e.put.question refl marks
     by false marks = unknown
 
 -- the pack is known, and its own status passes a test
@@ -144,14 +144,14 @@ abbrev pub Stands : (OwnStatus → Bool) → List Entry → Pack → Type 0
 Stands passes t p = KnownAnd t p (λ k. passes k.own ≡ true)
 
 -- a test on own statuses that holds along the course holds of a pack for ever
-Stands-push : (passes : OwnStatus → Bool) → ((o w : OwnStatus) → passes o ≡ true → may_become o w ≡ true → passes w ≡ true) → (t : List Entry) (e : Entry) (p : Pack) → Stands passes t p → e.reply ≡ reply_of t (put_of e) → Stands passes (t ++ e ∷ []) p
+Stands-push : (passes : OwnStatus → Bool) → ((o w : OwnStatus) → passes o ≡ true → may_become o w ≡ true → passes w ≡ true) → (t : List Entry) (e : Entry) (p : Pack) → Stands passes t p → e.reply ≡ reply_of t e.put → Stands passes (t ++ e ∷ []) p
 Stands-push passes keeps t e p h lawful = by (is_mark p e) refl
   where
     by : (b : Bool) → is_mark p e ≡ b → Stands passes (t ++ e ∷ []) p
     by true marks = (
-      record h.0 { own = own_given e.question; mark = mark_after (length t) e },
+      record h.0 { own = own_given e.put.question; mark = mark_after (length t) e },
       known-after-mark t e p h.0 h.1 marks,
-      keeps h.0.own (own_given e.question) h.2 (course t e p h.0 lawful h.1 marks),
+      keeps h.0.own (own_given e.put.question) h.2 (course t e p h.0 lawful h.1 marks),
     )
     by false other = (h.0, known-after-other t e p other ∙ h.1, h.2)
 
@@ -194,9 +194,9 @@ never false h = refl
 
 -- what a lawful trail tells of an entry d that stands behind an entry e
 pub record Behind (u v : List Entry) (e d : Entry) : Type 0 where
-  pub first : e.reply ≡ reply_of u (put_of e)
+  pub first : e.reply ≡ reply_of u e.put
   pub between : IsLawfulAfter (u ++ e ∷ []) v
-  pub later : d.reply ≡ reply_of (u ++ e ∷ v) (put_of d)
+  pub later : d.reply ≡ reply_of (u ++ e ∷ v) d.put
 
 pub behind : (before between after : List Entry) (e later : Entry) → IsLawful (before ++ e ∷ between ++ later ∷ after) → Behind before between e later
 behind before between after e later lawful =
@@ -204,7 +204,7 @@ behind before between after e later lawful =
     record { first = at_e.0; between = at_e.1; later = (IsLawful-rest (before ++ e ∷ between) (later ∷ after) lawful).0 }
 
 -- what an entry makes true, and what each lawful entry behind it keeps, is true behind it
-pub behind-keeps : (P : List Entry → Type 0) → ((t : List Entry) (e : Entry) → P t → e.reply ≡ reply_of t (put_of e) → P (t ++ e ∷ [])) → (u v : List Entry) (e : Entry) → P (u ++ e ∷ []) → IsLawfulAfter (u ++ e ∷ []) v → P (u ++ e ∷ v)
+pub behind-keeps : (P : List Entry → Type 0) → ((t : List Entry) (e : Entry) → P t → e.reply ≡ reply_of t e.put → P (t ++ e ∷ [])) → (u v : List Entry) (e : Entry) → P (u ++ e ∷ []) → IsLawfulAfter (u ++ e ∷ []) v → P (u ++ e ∷ v)
 behind-keeps P step u v e h lawful = subst P (append_assoc u (e ∷ []) v) (IsLawfulAfter-keeps P step (u ++ e ∷ []) v h lawful)
 
 -- after the supply of a pack it is neither decommissioned nor handed over nor reverted nor confirmed
@@ -228,17 +228,17 @@ supplied-once before between after supply later p lawful supplied_by = (
     marks : is_mark p supply ≡ true
     marks = first_so (is_mark p supply) _ h
 
-    kind : ((is_decommissioning supply.question ≡ true) ⊎ (is_handover supply.question ≡ true)) × (is_gone (own_given supply.question) ≡ true)
-    kind = supply-gone supply.question (second_so (is_mark p supply) _ h)
+    kind : ((is_decommissioning supply.put.question ≡ true) ⊎ (is_handover supply.put.question ≡ true)) × (is_gone (own_given supply.put.question) ≡ true)
+    kind = supply-gone supply.put.question (second_so (is_mark p supply) _ h)
 
-    pack : (is_decommissioning supply.question ≡ true) ⊎ (is_handover supply.question ≡ true) → (k : Known) × (known before p ≡ Some k)
+    pack : (is_decommissioning supply.put.question ≡ true) ⊎ (is_handover supply.put.question ≡ true) → (k : Known) × (known before p ≡ Some k)
     pack (inl d) = let k = accepted_decommissioning-tells before supply p at.first (both_true marks d) in (k.0, k.1)
     pack (inr h) = let k = accepted_handover-tells before supply p at.first (both_true marks h) in (k.0, k.1)
 
     supplied : Stands is_gone (before ++ supply ∷ []) p
     supplied =
         let k = pack kind.0 in
-        (record k.0 { own = own_given supply.question; mark = mark_after (length before) supply }, known-after-mark before supply p k.0 k.1 marks, kind.1)
+        (record k.0 { own = own_given supply.put.question; mark = mark_after (length before) supply }, known-after-mark before supply p k.0 k.1 marks, kind.1)
 
     gone : Stands is_gone t p
     gone = behind-keeps (λ z. Stands is_gone z p) (λ z e k l. Stands-push is_gone gone-keeps z e p k l) before between supply supplied at.between
@@ -247,10 +247,10 @@ supplied-once before between after supply later p lawful supplied_by = (
 abbrev is_out : OwnStatus → Bool
 is_out o = not (is_active o)
 
-out-keeps : (t : List Entry) (e : Entry) (p : Pack) → Stands is_out t p → e.reply ≡ reply_of t (put_of e) → accepted_reversion p e ≡ false → Stands is_out (t ++ e ∷ []) p
+out-keeps : (t : List Entry) (e : Entry) (p : Pack) → Stands is_out t p → e.reply ≡ reply_of t e.put → accepted_reversion p e ≡ false → Stands is_out (t ++ e ∷ []) p
 out-keeps t e p h lawful unreverted = by (is_mark p e) refl
   where
-    out : (q : Question) → e.question ≡ q → is_mark p e ≡ true → is_out (own_given q) ≡ true
+    out : (q : Question) → e.put.question ≡ q → is_mark p e ≡ true → is_out (own_given q) ≡ true
     out (Decommission s w) is marks = ap not (decommissioned-not_active (Decommission s w) refl)
     out (Handover s) is marks = refl
     out (Theft s) is marks = refl
@@ -265,7 +265,7 @@ out-keeps t e p h lawful unreverted = by (is_mark p e) refl
 
     by : (b : Bool) → is_mark p e ≡ b → Stands is_out (t ++ e ∷ []) p
     by true marks =
-        (record h.0 { own = own_given e.question; mark = mark_after (length t) e }, known-after-mark t e p h.0 h.1 marks, out e.question refl marks)
+        (record h.0 { own = own_given e.put.question; mark = mark_after (length t) e }, known-after-mark t e p h.0 h.1 marks, out e.put.question refl marks)
     by false other = (h.0, known-after-other t e p other ∙ h.1, h.2)
 
 -- where no entry reverts a pack that is out of circulation, it stays out
@@ -294,9 +294,9 @@ reverted-between before between after first second p lawful at_first at_second =
     out : Stands is_out (before ++ first ∷ []) p
     out =
         let pack = accepted_decommissioning-tells before first p at.first h in (
-          record pack.0 { own = own_given first.question; mark = mark_after (length before) first },
+          record pack.0 { own = own_given first.put.question; mark = mark_after (length before) first },
           known-after-mark before first p pack.0 pack.1 (first_so (is_mark p first) _ h),
-          ap not (decommissioned-not_active first.question (second_so (is_mark p first) _ h)),
+          ap not (decommissioned-not_active first.put.question (second_so (is_mark p first) _ h)),
         )
 
     by : (b : Bool) → list_any (accepted_reversion p) between ≡ b → b ≡ true

@@ -21,7 +21,8 @@ use Rattle.nmvs_rules.specs.declared.facts.BatchRecord.{BatchRecord}
 use Rattle.nmvs_rules.specs.declared.facts.Facts.{Facts}
 use Rattle.nmvs_rules.proofs.FindLemmas.{find-passes, find-any}
 use Rattle.nmvs_rules.proofs.TextLemmas.{same_text-refl}
-use Rattle.nmvs_rules.specs.Questions.{Put, pack_of, names, may_ask}
+use Rattle.nmvs_rules.specs.declared.put.Put.{Put}
+use Rattle.nmvs_rules.specs.Questions.{pack_of, names, may_ask}
 use Rattle.nmvs_rules.specs.Trail.{born, mark, known, known_from, known_at, is_upload, is_about, is_accepted, uploads_batch, is_birth_in, is_known_batch, lock_of, batch_record, alerts_of, holder_of, counts_of}
 use Rattle.nmvs_rules.specs.Rules.{reply_of, admitted_reply, on_pack, lock_on, lock_reply, verify_reply, status_reply, decommission_reply, handover_reply, revert_reply}
 use Rattle.nmvs_rules.specs.Facts.{facts_of, reply_by_facts, admitted_reply_by_facts, lock_in, active_in, batch_by_known}
@@ -44,9 +45,9 @@ known_at-batch t p m (Audit _) k e h = cc
 pub known_from-batch : (t : List Entry) (p : Pack) (o : Option Entry) (k : Known) → born t p ≡ o → known_from t p o ≡ Some k → is_known_batch t p.code k.batch ≡ true
 known_from-batch t p None k b e = cc
 known_from-batch t p (Some u) k b e =
-    let passes : ((is_upload u.question && is_about p u) && is_accepted u) ≡ true = find-passes _ t u b in
-    let about : names p (pack_of u.question) ≡ true = second_so _ _ (first_so _ _ passes) in
-    let here : uploads_batch p.code k.batch u.question ≡ true = known_at-batch t p (unwrap_or (mark t p) u) u.question k e about in
+    let passes : ((is_upload u.put.question && is_about p u) && is_accepted u) ≡ true = find-passes _ t u b in
+    let about : names p (pack_of u.put.question) ≡ true = second_so _ _ (first_so _ _ passes) in
+    let here : uploads_batch p.code k.batch u.put.question ≡ true = known_at-batch t p (unwrap_or (mark t p) u) u.put.question k e about in
     find-any _ (is_birth_in p.code k.batch) t u b (both_true here (second_so _ _ passes))
 
 -- the batch of a known pack is a known batch
@@ -79,9 +80,8 @@ admitted_reply-facts t n a (Theft p) = refl
 admitted_reply-facts t n a (Audit p) = refl
 
 -- the reply of the rules on a trail is the reply by the trail's facts
-pub reply-by : (t : List Entry) (q : Put) → reply_of t q ≡ reply_by_facts (facts_of t q.question) q.moment q.actor q.question
-reply-by t q =
-    ap (λ r. cond (may_ask q.actor.role q.question) r (reply.Refused refusal.Role)) (admitted_reply-facts t q.moment q.actor q.question)
-
-pub reply_by_facts-trail : (t : List Entry) (q : Put) (f : Facts) (n : ℕ) (a : Actor) (qn : Question) → q.moment ≡ n → q.actor ≡ a → q.question ≡ qn → facts_of t q.question ≡ f → reply_by_facts f n a qn ≡ reply_of t q
-reply_by_facts-trail t q f n a qn en ea eq ef = rw (← ef, ← en, ← ea, ← eq) (sym (reply-by t q))
+pub reply_by_facts-trail : (t : List Entry) (q : Put) (f : Facts) → facts_of t q.question ≡ f → reply_by_facts f q ≡ reply_of t q
+reply_by_facts-trail t q f is =
+    let P : Facts → Type 0 = λ g. reply_by_facts g q ≡ reply_of t q in
+    let admitted = admitted_reply-facts t q.moment q.actor q.question in
+    subst P is (sym (ap (λ r. cond (may_ask q.actor.role q.question) r (reply.Refused refusal.Role)) admitted))

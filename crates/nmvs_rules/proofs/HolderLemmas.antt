@@ -11,7 +11,7 @@ use Rattle.nmvs_identifier.specs.declared.pack.Pack.{Pack}
 use Rattle.nmvs_rules.specs.declared.entry.Entry.{Entry}
 use Rattle.nmvs_rules.specs.declared.question.Question.TheVariants.{Upload, Recall, Withdraw, Theft}
 use Rattle.nmvs_rules.specs.declared.reply.Reply.TheVariants as reply
-use Rattle.nmvs_rules.specs.Questions.{Put}
+use Rattle.nmvs_rules.specs.declared.put.Put.{Put}
 use Rattle.nmvs_rules.specs.Trail.{holder_of}
 use Rattle.nmvs_rules.specs.Rules.{is_held_by, has_other_holder, reply_of}
 use Rattle.nmvs_rules.specs.Operations.{uploads_code}
@@ -22,22 +22,22 @@ use Rattle.nmvs_rules.proofs.TextLemmas.{same_text-bytes}
 use Rattle.nmvs_rules.proofs.ReplyLemmas.{upload-holder, theft-holder, lock-holder, reply-question}
 
 -- the holder is the authorisation of the first upload of the product code
-holder-first : (t : List Entry) (c : ProductCode) → holder_of t c ≡ option_map (λ e. e.actor.authorisation) (find (uploads_code c) t)
-holder-first t c = ap (option_map (λ e. e.actor.authorisation)) (sym (first-upload_of_code t c))
+holder-first : (t : List Entry) (c : ProductCode) → holder_of t c ≡ option_map (λ e. e.put.actor.authorisation) (find (uploads_code c) t)
+holder-first t c = ap (option_map (λ e. e.put.actor.authorisation)) (sym (first-upload_of_code t c))
 
 held : (t : List Entry) (c : ProductCode) (n : Name) → is_held_by (holder_of t c) n ≡ true → IsHeldBy t c n
 held t c n h = by (find (uploads_code c) t) (sym (ap (λ o. is_held_by o n) (holder-first t c)) ∙ h)
   where
-    by : (o : Option Entry) → is_held_by (option_map (λ e. e.actor.authorisation) o) n ≡ true → IsSomeAnd o (λ u. u.actor.authorisation.bytes ≡ n.bytes)
+    by : (o : Option Entry) → is_held_by (option_map (λ e. e.put.actor.authorisation) o) n ≡ true → IsSomeAnd o (λ u. u.put.actor.authorisation.bytes ≡ n.bytes)
     by None wrong = cc
-    by (Some u) same = same_text-bytes u.actor.authorisation n same
+    by (Some u) same = same_text-bytes u.put.actor.authorisation n same
 
 not-other : (t : List Entry) (c : ProductCode) (n : Name) → has_other_holder (holder_of t c) n ≡ false → list_any (uploads_code c) t ≡ true → IsHeldBy t c n
 not-other t c n h some = by (find (uploads_code c) t) (is_some-find (uploads_code c) t ∙ some) (sym (ap (λ o. has_other_holder o n) (holder-first t c)) ∙ h)
   where
-    by : (o : Option Entry) → is_some o ≡ true → has_other_holder (option_map (λ e. e.actor.authorisation) o) n ≡ false → IsSomeAnd o (λ u. u.actor.authorisation.bytes ≡ n.bytes)
+    by : (o : Option Entry) → is_some o ≡ true → has_other_holder (option_map (λ e. e.put.actor.authorisation) o) n ≡ false → IsSomeAnd o (λ u. u.put.actor.authorisation.bytes ≡ n.bytes)
     by None wrong h = cc
-    by (Some u) one same = same_text-bytes u.actor.authorisation n (not-false _ same)
+    by (Some u) one same = same_text-bytes u.put.actor.authorisation n (not-false _ same)
 
 pub holder-uploads : (t : List Entry) (q : Put) (p : Pack) (b : Batch) (x : Expiry) → q.question ≡ Upload p b x → list_any (uploads_code p.code) t ≡ true → reply_of t q ≡ reply.Uploaded → IsHeldBy t p.code q.actor.authorisation
 holder-uploads t q p b x is some h =

@@ -32,7 +32,7 @@ abbrev pharmacy : Actor
 pharmacy = record { role = role.Pharmacy; authorisation = text (codes "PH-1"); premises = text (codes "P1") }
 
 abbrev entry : Question → Reply → Entry
-entry q r = record { moment = 0; user = text (codes "user"); actor = pharmacy; question = q; reply = r }
+entry q r = record { put = record { moment = 0; user = text (codes "user"); actor = pharmacy; question = q }; reply = r }
 
 abbrev batch : Text
 batch = text (codes "B1")
@@ -92,7 +92,7 @@ operates-trail = refl
 last-trail : last_operation trail first ≡ Some supply
 last-trail = refl
 
-alarm-trail : alarm supply.question ≡ Some (cause.Supplied, true)
+alarm-trail : alarm supply.put.question ≡ Some (cause.Supplied, true)
 alarm-trail = refl
 
 -- a held pack is supplied by its handover
@@ -114,7 +114,7 @@ decommissions-handed_over = refl
 last-handed_over : last_operation handed_over first ≡ Some handover
 last-handed_over = refl
 
-alarm-handed_over : alarm handover.question ≡ Some (cause.Supplied, true)
+alarm-handed_over : alarm handover.put.question ≡ Some (cause.Supplied, true)
 alarm-handed_over = refl
 
 binds-other : binds first.code (text (codes "B2")) recall ≡ false

@@ -15,6 +15,7 @@ pub mod ReversionLemmas
 pub mod VerificationLemmas
 pub mod RecallLemmas
 pub mod AlertLemmas
+pub mod AuditLemmas
 pub mod AlertingLemmas
 pub mod HolderLemmas
 pub mod OldTrails

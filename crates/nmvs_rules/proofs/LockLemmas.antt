@@ -16,13 +16,13 @@ use Rattle.nmvs_rules.proofs.Accepted.{accepted_lock, binds-is}
 use Rattle.nmvs_rules.proofs.FindLemmas.{find-passes, is_some-find}
 use Rattle.nmvs_rules.proofs.PushLemmas.{locks_batch-binds}
 
-lock-found : (o : Option Entry) → ((x : Entry) → o ≡ Some x → is_free (lock_by x.question) ≡ false) → is_free (option_map_or (λ e. lock_by e.question) o lock.Free) ≡ not (is_some o)
+lock-found : (o : Option Entry) → ((x : Entry) → o ≡ Some x → is_free (lock_by x.put.question) ≡ false) → is_free (option_map_or (λ e. lock_by e.put.question) o lock.Free) ≡ not (is_some o)
 lock-found None h = refl
 lock-found (Some x) h = h x refl
 
 is_free-lock_of : (t : List Entry) (c : ProductCode) (b : Batch) → is_free (lock_of t c b) ≡ not (list_any (binds c b) t)
 is_free-lock_of t c b =
-    lock-found (find (accepted_lock c b) t) (λ x found. locks_batch-binds c b x.question (first_so _ _ (find-passes (accepted_lock c b) t x found)))
+    lock-found (find (accepted_lock c b) t) (λ x found. locks_batch-binds c b x.put.question (first_so _ _ (find-passes (accepted_lock c b) t x found)))
     ∙ ap not (is_some-find (accepted_lock c b) t)
     ∙ (λ i. not (list_any (λ e. sym (binds-is c b e) i) t))
 

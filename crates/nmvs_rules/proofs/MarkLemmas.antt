@@ -42,8 +42,8 @@ is-some (Some x) h = (x, refl)
 pub mark-of-born : (t : List Entry) (p : Pack) (u : Entry) → born t p ≡ Some u → (m : Entry) × (mark t p ≡ Some m)
 mark-of-born t p u h =
     let passes : accepted_upload p u ≡ true = find-passes (accepted_upload p) t u h in
-    let about = second_so (is_upload u.question) _ (first_so _ _ passes) in
-    let marks : is_mark p u ≡ true = both_true about (second_so (is_upload u.question && is_about p u) _ passes) in
+    let about = second_so (is_upload u.put.question) _ (first_so _ _ passes) in
+    let marks : is_mark p u ≡ true = both_true about (second_so (is_upload u.put.question && is_about p u) _ passes) in
     is-some (mark t p) (is_some-find-reverse (is_mark p) t ∙ find-any (accepted_upload p) (is_mark p) t u h marks)
 
 -- the entries that a known pack is known by
@@ -52,14 +52,14 @@ pub record KnownBy (t : List Entry) (p : Pack) (k : Known) : Type 0 where
   pub pack : Pack
   pub last : Entry
   pub born : born t p ≡ Some upload
-  pub question : upload.question ≡ Upload pack k.batch k.expiry
+  pub question : upload.put.question ≡ Upload pack k.batch k.expiry
   pub marked : mark t p ≡ Some last
-  pub known : k ≡ record { batch = k.batch; expiry = k.expiry; own = own_given last.question; mark = mark_after (mark_place t p) last }
+  pub known : k ≡ record { batch = k.batch; expiry = k.expiry; own = own_given last.put.question; mark = mark_after (mark_place t p) last }
 
-known_at-by : (t : List Entry) (p : Pack) (u m : Entry) (q : Question) (k : Known) → u.question ≡ q → born t p ≡ Some u → mark t p ≡ Some m → known_at t p m q ≡ Some k → KnownBy t p k
+known_at-by : (t : List Entry) (p : Pack) (u m : Entry) (q : Question) (k : Known) → u.put.question ≡ q → born t p ≡ Some u → mark t p ≡ Some m → known_at t p m q ≡ Some k → KnownBy t p k
 known_at-by t p u m (Upload r b x) k is birth marked h =
     let P : Known → Type 0 = λ k. KnownBy t p k in
-    let made : Known = record { batch = b; expiry = x; own = own_given m.question; mark = mark_after (mark_place t p) m } in
+    let made : Known = record { batch = b; expiry = x; own = own_given m.put.question; mark = mark_after (mark_place t p) m } in
     let same : made ≡ k = cc in
     subst P same (record { upload = u; pack = r; last = m; born = birth; question = is; marked = marked; known = refl })
 known_at-by t p u m q k is birth marked h = cc
@@ -71,21 +71,21 @@ known-by t p k h = by (born t p) refl h
     by None birth is = cc
     by (Some u) birth is =
         let marked = mark-of-born t p u birth in
-        known_at-by t p u marked.0 u.question k refl birth marked.1
-        (ap (λ m. known_at t p (unwrap_or m u) u.question) (sym marked.1) ∙ is)
+        known_at-by t p u marked.0 u.put.question k refl birth marked.1
+        (ap (λ m. known_at t p (unwrap_or m u) u.put.question) (sym marked.1) ∙ is)
 
 -- what is known of a pack that was uploaded and marked
-pub known-made : (t : List Entry) (p r : Pack) (u m : Entry) (b : Batch) (x : Expiry) → born t p ≡ Some u → u.question ≡ Upload r b x → mark t p ≡ Some m → known t p ≡ Some (record { batch = b; expiry = x; own = own_given m.question; mark = mark_after (mark_place t p) m })
+pub known-made : (t : List Entry) (p r : Pack) (u m : Entry) (b : Batch) (x : Expiry) → born t p ≡ Some u → u.put.question ≡ Upload r b x → mark t p ≡ Some m → known t p ≡ Some (record { batch = b; expiry = x; own = own_given m.put.question; mark = mark_after (mark_place t p) m })
 known-made t p r u m b x birth question marked =
     ap (known_from t p) birth
-    ∙ ap (λ o. known_at t p (unwrap_or o u) u.question) marked
+    ∙ ap (λ o. known_at t p (unwrap_or o u) u.put.question) marked
     ∙ ap (known_at t p m) question
 
 -- the upload of a known pack, and of a pack that was uploaded
 pub uploaded-with : (t : List Entry) (p : Pack) (k : Known) → KnownBy t p k → IsUploadedWith t p k.batch k.expiry
 uploaded-with t p k by =
-    let P : Option Entry → Type 0 = λ o. IsSomeAnd o (λ u. (r : Pack) × (u.question ≡ Upload r k.batch k.expiry)) in
+    let P : Option Entry → Type 0 = λ o. IsSomeAnd o (λ u. (r : Pack) × (u.put.question ≡ Upload r k.batch k.expiry)) in
     subst P (sym by.born ∙ sym (first-upload t p)) (by.pack, by.question)
 
-pub birth-of : (t : List Entry) (p : Pack) (b : Batch) (x : Expiry) → IsUploadedWith t p b x → (u : Entry) × (born t p ≡ Some u) × ((r : Pack) × (u.question ≡ Upload r b x))
+pub birth-of : (t : List Entry) (p : Pack) (b : Batch) (x : Expiry) → IsUploadedWith t p b x → (u : Entry) × (born t p ≡ Some u) × ((r : Pack) × (u.put.question ≡ Upload r b x))
 birth-of t p b x h = let found = from-some (find (uploads p) t) _ h in (found.0, sym (first-upload t p) ∙ found.1, found.2)

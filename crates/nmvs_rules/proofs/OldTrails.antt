@@ -20,9 +20,10 @@ use Rattle.nmvs_rules.specs.declared.refusal.Refusal.TheVariants as refusal
 use Rattle.nmvs_rules.specs.declared.reply.Reply.{Reply}
 use Rattle.nmvs_rules.specs.declared.reply.Reply.TheVariants as reply
 use Rattle.nmvs_rules.specs.declared.role.Role.{Role}
-use Rattle.nmvs_rules.specs.Questions.{Put, may_ask, pack_of}
+use Rattle.nmvs_rules.specs.declared.put.Put.{Put}
+use Rattle.nmvs_rules.specs.Questions.{may_ask, pack_of}
 use Rattle.nmvs_rules.specs.Trail.{accepts, own_given, is_accepted, is_upload, is_about, has_code, born, is_mark, mark, mark_place, mark_after, own_of, lock_of, lock_by, locks_batch, holder_of, alerts_of, known_at, known_from, known, is_birth_in, is_known_batch, uploads_batch, stands_at, is_own, count_of}
-use Rattle.nmvs_rules.specs.Rules.{on_pack, upload_reply, verify_reply, status_reply, decommission_reply, revert_reply, lock_reply, theft_reply, admitted_reply, reply_of, put_of, IsLawfulAfter, IsLawful}
+use Rattle.nmvs_rules.specs.Rules.{on_pack, upload_reply, verify_reply, status_reply, decommission_reply, revert_reply, lock_reply, theft_reply, admitted_reply, reply_of, IsLawfulAfter, IsLawful}
 use Rattle.nmvs_rules.specs.Laws.{is_handover, asks_handover}
 use Rattle.nmvs_rules.specs.before_handover.Trail as past
 use Rattle.nmvs_rules.specs.before_handover.Rules as past_rules
@@ -107,12 +108,12 @@ may-alike r (Theft p) h = refl
 may-alike r (Audit p) h = refl
 
 accepted-alike : (e : Entry) → asks_handover e ≡ false → is_accepted e ≡ past.is_accepted e
-accepted-alike e h = accepts-alike e.question e.reply h
+accepted-alike e h = accepts-alike e.put.question e.reply h
 
 -- a trail that has no handover
 module _ (t : List Entry) (none : list_any asks_handover t ≡ false) where
   born-alike : (p : Pack) → born t p ≡ past.born t p
-  born-alike p = find-alike asks_handover _ _ (λ e h. ap (λ a. (is_upload e.question && is_about p e) && a) (accepted-alike e h)) t none
+  born-alike p = find-alike asks_handover _ _ (λ e h. ap (λ a. (is_upload e.put.question && is_about p e) && a) (accepted-alike e h)) t none
 
   marks-alike : (p : Pack) (e : Entry) → asks_handover e ≡ false → is_mark p e ≡ past.is_mark p e
   marks-alike p e h = ap (λ a. is_about p e && a) (accepted-alike e h)
@@ -125,28 +126,28 @@ module _ (t : List Entry) (none : list_any asks_handover t ≡ false) where
       ap (λ n. length t - n - 1) (prefix_len-alike asks_handover (is_mark p) (past.is_mark p) (marks-alike p) (reverse t) (reverse-none asks_handover t none))
 
   own-alike : (p : Pack) → own_of t p ≡ past.own_of t p
-  own-alike p = by (mark t p) refl ∙ ap (option_map (λ m. past.own_given m.question)) (mark-alike p)
+  own-alike p = by (mark t p) refl ∙ ap (option_map (λ m. past.own_given m.put.question)) (mark-alike p)
     where
-      by : (o : Option Entry) → mark t p ≡ o → option_map (λ m. own_given m.question) o ≡ option_map (λ m. past.own_given m.question) o
+      by : (o : Option Entry) → mark t p ≡ o → option_map (λ m. own_given m.put.question) o ≡ option_map (λ m. past.own_given m.put.question) o
       by None is = refl
-      by (Some m) is = ap Some (given-alike m.question (found-none asks_handover (is_mark p) (reverse t) m (reverse-none asks_handover t none) is))
+      by (Some m) is = ap Some (given-alike m.put.question (found-none asks_handover (is_mark p) (reverse t) m (reverse-none asks_handover t none) is))
 
   lock-alike : (c : ProductCode) (b : Batch) → lock_of t c b ≡ past.lock_of t c b
   lock-alike c b =
-      ap (λ o. option_map_or (λ e. lock_by e.question) o lock.Free) (find-alike asks_handover _ _ (λ e h. ap (λ a. locks_batch c b e.question && a) (accepted-alike e h)) t none)
+      ap (λ o. option_map_or (λ e. lock_by e.put.question) o lock.Free) (find-alike asks_handover _ _ (λ e h. ap (λ a. locks_batch c b e.put.question && a) (accepted-alike e h)) t none)
 
   holder-alike : (c : ProductCode) → holder_of t c ≡ past.holder_of t c
   holder-alike c =
-      ap (option_map (λ e. e.actor.authorisation)) (find-alike asks_handover _ _ (λ e h. ap (λ a. (is_upload e.question && has_code c e) && a) (accepted-alike e h)) t none)
+      ap (option_map (λ e. e.put.actor.authorisation)) (find-alike asks_handover _ _ (λ e h. ap (λ a. (is_upload e.put.question && has_code c e) && a) (accepted-alike e h)) t none)
 
   known_at-alike : (p : Pack) (m : Entry) (q : Question) → asks_handover m ≡ false → known_at t p m q ≡ past.known_at t p m q
-  known_at-alike p m (Upload r b x) h = λ i. Some (record { batch = b; expiry = x; own = given-alike m.question h i; mark = mark_after (mark_place-alike p i) m })
+  known_at-alike p m (Upload r b x) h = λ i. Some (record { batch = b; expiry = x; own = given-alike m.put.question h i; mark = mark_after (mark_place-alike p i) m })
   known_at-alike p m q h = refl
 
   known_from-alike : (p : Pack) (o : Option Entry) → born t p ≡ o → known_from t p o ≡ past.known_from t p o
   known_from-alike p None is = refl
   known_from-alike p (Some u) is =
-      known_at-alike p (unwrap_or (mark t p) u) u.question (by (mark t p) refl) ∙ ap (λ o. past.known_at t p (unwrap_or o u) u.question) (mark-alike p)
+      known_at-alike p (unwrap_or (mark t p) u) u.put.question (by (mark t p) refl) ∙ ap (λ o. past.known_at t p (unwrap_or o u) u.put.question) (mark-alike p)
     where
       by : (o : Option Entry) → mark t p ≡ o → asks_handover (unwrap_or o u) ≡ false
       by None marked = found-none asks_handover _ t u none is
@@ -156,7 +157,7 @@ module _ (t : List Entry) (none : list_any asks_handover t ≡ false) where
   known-alike p = known_from-alike p (born t p) refl ∙ ap (past.known_from t p) (born-alike p)
 
   birth-alike : (c : ProductCode) (b : Batch) (e : Entry) → asks_handover e ≡ false → is_birth_in c b e ≡ past.is_birth_in c b e
-  birth-alike c b e h = ap (λ a. uploads_batch c b e.question && a) (accepted-alike e h)
+  birth-alike c b e h = ap (λ a. uploads_batch c b e.put.question && a) (accepted-alike e h)
 
   known_batch-alike : (c : ProductCode) (b : Batch) → is_known_batch t c b ≡ past.is_known_batch t c b
   known_batch-alike c b = list_any-alike asks_handover (is_birth_in c b) (past.is_birth_in c b) (birth-alike c b) t none
@@ -167,7 +168,7 @@ module _ (t : List Entry) (none : list_any asks_handover t ≡ false) where
 
   count-alike : (c : ProductCode) (b : Batch) (s : OwnStatus) → count_of t c b s ≡ past.count_of t c b s
   count-alike c b s =
-      count_by-alike asks_handover _ _ (λ e h. λ i. birth-alike c b e h i && stands-alike s (pack_of e.question) i) t none
+      count_by-alike asks_handover _ _ (λ e h. λ i. birth-alike c b e h i && stands-alike s (pack_of e.put.question) i) t none
 
   on_pack-alike : (p : Pack) (un : Reply) (f : Known → BatchLock → Reply) → on_pack (known t p) un (λ k. f k (lock_of t p.code k.batch)) ≡ on_pack (past.known t p) un (λ k. f k (past.lock_of t p.code k.batch))
   on_pack-alike p un f = λ i. on_pack (known-alike p i) un (λ k. f k (lock-alike p.code k.batch i))
@@ -195,7 +196,7 @@ after-alike : (u es : List Entry) → list_any asks_handover u ≡ false → lis
 after-alike u [] none rest = (λ h. h, λ h. h)
 after-alike u (e ∷ es) none rest =
     let neither = or_parts (asks_handover e) (list_any asks_handover es) rest in
-    let same = reply-alike u none (put_of e) neither.0 in
+    let same = reply-alike u none e.put neither.0 in
     let behind = after-alike (u ++ e ∷ []) es (push-none u e none neither.0) neither.1 in
     (λ h. (h.0 ∙ same, behind.0 h.1), λ h. (h.0 ∙ sym same, behind.1 h.1))
 

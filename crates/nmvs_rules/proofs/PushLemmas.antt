@@ -32,7 +32,7 @@ count_by-push {X} p xs x = sum_by-append (λ y. cond (p y) 1 0) xs (x ∷ []) �
 pub count_by-cons : {X : Type 0} (p : X → Bool) (x : X) (xs : List X) → count_by p (x ∷ xs) ≡ cond (p x) 1 0 + count_by p xs
 count_by-cons {X} p x xs = sum_by-append (λ y. cond (p y) 1 0) (x ∷ []) xs ∙ ap (λ n. n + count_by {X = X} p xs) (zero-add (cond (p x) 1 0))
 
-pub born-push : (t : List Entry) (e : Entry) (p : Pack) → born (t ++ e ∷ []) p ≡ option_or (born t p) (cond ((is_upload e.question && is_about p e) && is_accepted e) (Some e) None)
+pub born-push : (t : List Entry) (e : Entry) (p : Pack) → born (t ++ e ∷ []) p ≡ option_or (born t p) (cond ((is_upload e.put.question && is_about p e) && is_accepted e) (Some e) None)
 born-push t e p = find-push _ t e
 
 pub mark-push : (t : List Entry) (e : Entry) (p : Pack) → mark (t ++ e ∷ []) p ≡ cond (is_mark p e) (Some e) (mark t p)
@@ -62,33 +62,33 @@ known_at-push t u p e first n false (Upload r b x) h m k = rw (m, k) refl
 known_at-push t u p e first n b q h m k = cc
 
 -- a pack that was not known is known by an accepted upload
-known_from-birth : (t u : List Entry) (p : Pack) (e : Entry) (n : ℕ) (a c : Bool) (q : Question) → e.question ≡ q → mark u p ≡ cond (a && c) (Some e) (mark t p) → mark_place u p ≡ cond (a && c) n (mark_place t p) → known_from u p (cond ((is_upload q && a) && c) (Some e) None) ≡ cond (a && c) (born_by n e q) None
+known_from-birth : (t u : List Entry) (p : Pack) (e : Entry) (n : ℕ) (a c : Bool) (q : Question) → e.put.question ≡ q → mark u p ≡ cond (a && c) (Some e) (mark t p) → mark_place u p ≡ cond (a && c) n (mark_place t p) → known_from u p (cond ((is_upload q && a) && c) (Some e) None) ≡ cond (a && c) (born_by n e q) None
 known_from-birth t u p e n true true (Upload r b x) is m k = rw (is, m, k, is) refl
 known_from-birth t u p e n true false (Upload r b x) is m k = refl
 known_from-birth t u p e n false c (Upload r b x) is m k = refl
 known_from-birth t u p e n a c q is m k = refl
 
-known_from-push : (t : List Entry) (e : Entry) (p : Pack) (o : Option Entry) → born t p ≡ o → known_from (t ++ e ∷ []) p (option_or o (cond ((is_upload e.question && is_about p e) && is_accepted e) (Some e) None)) ≡ known_after p (length t) e (known_from t p o)
+known_from-push : (t : List Entry) (e : Entry) (p : Pack) (o : Option Entry) → born t p ≡ o → known_from (t ++ e ∷ []) p (option_or o (cond ((is_upload e.put.question && is_about p e) && is_accepted e) (Some e) None)) ≡ known_after p (length t) e (known_from t p o)
 known_from-push t e p None b =
-    known_from-birth t (t ++ e ∷ []) p e (length t) (is_about p e) (is_accepted e) e.question refl (mark-push t e p) (mark_place-push t e p)
+    known_from-birth t (t ++ e ∷ []) p e (length t) (is_about p e) (is_accepted e) e.put.question refl (mark-push t e p) (mark_place-push t e p)
 known_from-push t e p (Some first) b =
-    let passes : ((is_upload first.question && is_about p first) && is_accepted first) ≡ true = find-passes _ t first b in
-    known_at-push t (t ++ e ∷ []) p e first (length t) (is_mark p e) first.question (first_so _ _ (first_so _ _ passes)) (mark-push t e p) (mark_place-push t e p)
+    let passes : ((is_upload first.put.question && is_about p first) && is_accepted first) ≡ true = find-passes _ t first b in
+    known_at-push t (t ++ e ∷ []) p e first (length t) (is_mark p e) first.put.question (first_so _ _ (first_so _ _ passes)) (mark-push t e p) (mark_place-push t e p)
 
 -- one more entry changes what is known of a pack by its mark alone
 pub known-push : (t : List Entry) (e : Entry) (p : Pack) → known (t ++ e ∷ []) p ≡ known_after p (length t) e (known t p)
 known-push t e p = ap (known_from (t ++ e ∷ []) p) (born-push t e p) ∙ known_from-push t e p (born t p) refl
 
-holder-more : (o : Option Entry) (b : Bool) (e : Entry) → option_map (λ x. x.actor.authorisation) (option_or o (cond b (Some e) None)) ≡ option_or (option_map (λ x. x.actor.authorisation) o) (cond b (Some e.actor.authorisation) None)
+holder-more : (o : Option Entry) (b : Bool) (e : Entry) → option_map (λ x. x.put.actor.authorisation) (option_or o (cond b (Some e) None)) ≡ option_or (option_map (λ x. x.put.actor.authorisation) o) (cond b (Some e.put.actor.authorisation) None)
 holder-more None true e = refl
 holder-more None false e = refl
 holder-more (Some x) b e = refl
 
 -- the first accepted upload of a product code gives its holder
-pub holder_of-push : (t : List Entry) (e : Entry) (c : ProductCode) → holder_of (t ++ e ∷ []) c ≡ option_or (holder_of t c) (cond ((is_upload e.question && has_code c e) && is_accepted e) (Some e.actor.authorisation) None)
+pub holder_of-push : (t : List Entry) (e : Entry) (c : ProductCode) → holder_of (t ++ e ∷ []) c ≡ option_or (holder_of t c) (cond ((is_upload e.put.question && has_code c e) && is_accepted e) (Some e.put.actor.authorisation) None)
 holder_of-push t e c =
-    ap (option_map (λ x. x.actor.authorisation)) (find-push (λ x. (is_upload x.question && has_code c x) && is_accepted x) t e)
-    ∙ holder-more (find (λ x. (is_upload x.question && has_code c x) && is_accepted x) t) _ e
+    ap (option_map (λ x. x.put.actor.authorisation)) (find-push (λ x. (is_upload x.put.question && has_code c x) && is_accepted x) t e)
+    ∙ holder-more (find (λ x. (is_upload x.put.question && has_code c x) && is_accepted x) t) _ e
 
 -- a recall or withdrawal leaves no batch free
 pub locks_batch-binds : (c : ProductCode) (b : Batch) (q : Question) → locks_batch c b q ≡ true → is_free (lock_by q) ≡ false
@@ -96,14 +96,14 @@ locks_batch-binds c b (Recall d g) locks = refl
 locks_batch-binds c b (Withdraw d g) locks = refl
 locks_batch-binds c b q locks = cc
 
-lock-more : (o : Option Entry) (a : Bool) (e : Entry) → ((x : Entry) → o ≡ Some x → is_free (lock_by x.question) ≡ false) → option_map_or (λ x. lock_by x.question) (option_or o (cond a (Some e) None)) lock.Free ≡ cond (is_free (option_map_or (λ x. lock_by x.question) o lock.Free)) (cond a (lock_by e.question) lock.Free) (option_map_or (λ x. lock_by x.question) o lock.Free)
+lock-more : (o : Option Entry) (a : Bool) (e : Entry) → ((x : Entry) → o ≡ Some x → is_free (lock_by x.put.question) ≡ false) → option_map_or (λ x. lock_by x.put.question) (option_or o (cond a (Some e) None)) lock.Free ≡ cond (is_free (option_map_or (λ x. lock_by x.put.question) o lock.Free)) (cond a (lock_by e.put.question) lock.Free) (option_map_or (λ x. lock_by x.put.question) o lock.Free)
 lock-more None true e binds = refl
 lock-more None false e binds = refl
 lock-more (Some x) a e binds = rw (binds x refl) refl
 
 -- the first accepted recall or withdrawal of a batch binds it, and stays
-pub lock_of-push : (t : List Entry) (e : Entry) (c : ProductCode) (b : Batch) → lock_of (t ++ e ∷ []) c b ≡ cond (is_free (lock_of t c b)) (cond (locks_batch c b e.question && is_accepted e) (lock_by e.question) lock.Free) (lock_of t c b)
+pub lock_of-push : (t : List Entry) (e : Entry) (c : ProductCode) (b : Batch) → lock_of (t ++ e ∷ []) c b ≡ cond (is_free (lock_of t c b)) (cond (locks_batch c b e.put.question && is_accepted e) (lock_by e.put.question) lock.Free) (lock_of t c b)
 lock_of-push t e c b =
-    ap (λ o. option_map_or (λ x. lock_by x.question) o lock.Free) (find-push (λ x. locks_batch c b x.question && is_accepted x) t e)
-    ∙ lock-more (find (λ x. locks_batch c b x.question && is_accepted x) t) _ e
-    (λ x found. locks_batch-binds c b x.question (first_so _ _ (find-passes _ t x found)))
+    ap (λ o. option_map_or (λ x. lock_by x.put.question) o lock.Free) (find-push (λ x. locks_batch c b x.put.question && is_accepted x) t e)
+    ∙ lock-more (find (λ x. locks_batch c b x.put.question && is_accepted x) t) _ e
+    (λ x found. locks_batch-binds c b x.put.question (first_so _ _ (find-passes _ t x found)))

@@ -40,8 +40,8 @@ bound-push c b t e h = ap is_free (lock_of-push t e c b) ∙ bound-keeps (lock_o
 bound-first : (c : ProductCode) (b : Batch) (t : List Entry) (e : Entry) → accepted_lock c b e ≡ true → is_free (lock_of (t ++ e ∷ []) c b) ≡ false
 bound-first c b t e h =
     ap is_free (lock_of-push t e c b)
-    ∙ ap (λ a. is_free (cond (is_free (lock_of t c b)) (cond a (lock_by e.question) lock.Free) (lock_of t c b))) h
-    ∙ bound (lock_of t c b) (lock_by e.question) (locks_batch-binds c b e.question (first_so _ _ h))
+    ∙ ap (λ a. is_free (cond (is_free (lock_of t c b)) (cond a (lock_by e.put.question) lock.Free) (lock_of t c b))) h
+    ∙ bound (lock_of t c b) (lock_by e.put.question) (locks_batch-binds c b e.put.question (first_so _ _ h))
 
 -- the batch of a known pack is the one that it was uploaded in
 of-batch : (t v : List Entry) (p : Pack) (b : Batch) (x : Expiry) (k : Known) → known t p ≡ Some k → IsUploadedWith (t ++ v) p b x → k.batch ≡ b
@@ -50,7 +50,7 @@ of-batch t v p b x k is h =
     let upload = birth-of (t ++ v) p b x h in
     let same : Some by.upload ≡ Some upload.0 = sym (find-append (accepted_upload p) t v ∙ ap (λ o. option_or o (born v p)) by.born) ∙ upload.1 in
     let entry : by.upload ≡ upload.0 = cc in
-    let question : Upload by.pack k.batch k.expiry ≡ Upload upload.2.0 b x = sym by.question ∙ ap (λ e. e.question) entry ∙ upload.2.1 in
+    let question : Upload by.pack k.batch k.expiry ≡ Upload upload.2.0 b x = sym by.question ∙ ap (λ e. e.put.question) entry ∙ upload.2.1 in
     cc
 
 -- after a recall or withdrawal no pack of the batch is decommissioned, reverted or confirmed

@@ -18,9 +18,10 @@ use Rattle.nmvs_rules.specs.declared.facts.Known.{Known}
 use Rattle.nmvs_rules.specs.declared.reply.Reply.{Reply}
 use Rattle.nmvs_rules.specs.declared.reply.Reply.TheVariants as reply
 use Rattle.nmvs_rules.specs.declared.refusal.Refusal.TheVariants as refusal
-use Rattle.nmvs_rules.specs.Questions.{Put, may_ask, pack_of, names}
+use Rattle.nmvs_rules.specs.declared.put.Put.{Put}
+use Rattle.nmvs_rules.specs.Questions.{may_ask, pack_of, names}
 use Rattle.nmvs_rules.specs.Trail.{known, accepts, is_mark, is_upload, holder_of, lock_of, count_of, is_known_batch}
-use Rattle.nmvs_rules.specs.Rules.{on_pack, lock_on, is_active, is_free, is_held, is_stolen, is_destroyed, is_supplied, is_authentic, is_past, is_same_place, is_in_time, is_held_by, has_other_holder, lock_reply, admitted_reply, reply_of, put_of}
+use Rattle.nmvs_rules.specs.Rules.{on_pack, lock_on, is_active, is_free, is_held, is_stolen, is_destroyed, is_supplied, is_authentic, is_past, is_same_place, is_in_time, is_held_by, has_other_holder, lock_reply, admitted_reply, reply_of}
 use Rattle.nmvs_rules.specs.Laws.{is_handover}
 use Rattle.nmvs_rules.proofs.Accepted.{is_decommissioning, is_reversion, is_theft, is_confirmed, accepted_upload, accepted_decommissioning, accepted_handover, accepted_reversion, authentic_answer}
 use Rattle.nmvs_rules.proofs.TextLemmas.{same_pack-equal}
@@ -158,56 +159,56 @@ KnownAnd-map : (t : List Entry) (p : Pack) (P Q : Known → Type 0) → ((k : Kn
 KnownAnd-map t p P Q f h = (h.0, h.1, f h.0 h.2)
 
 -- a pack is confirmed only where it is authentic
-pub authentic_answer-tells : (t : List Entry) (e : Entry) (p : Pack) → e.reply ≡ reply_of t (put_of e) → authentic_answer p e ≡ true → KnownAnd t p (IsAuthentic t p)
-authentic_answer-tells t e p lawful h = by e.question e.reply lawful h
+pub authentic_answer-tells : (t : List Entry) (e : Entry) (p : Pack) → e.reply ≡ reply_of t e.put → authentic_answer p e ≡ true → KnownAnd t p (IsAuthentic t p)
+authentic_answer-tells t e p lawful h = by e.put.question e.reply lawful h
   where
-    by : (q : Question) (r : Reply) → IsReply t e.moment e.actor q r → (names p (pack_of q) && is_confirmed q r) ≡ true → KnownAnd t p (IsAuthentic t p)
+    by : (q : Question) (r : Reply) → IsReply t e.put.moment e.put.actor q r → (names p (pack_of q) && is_confirmed q r) ≡ true → KnownAnd t p (IsAuthentic t p)
     by (Verify s) (reply.Authentic b x late) is c =
         let same : s ≡ p = sym (same_pack-equal p s (first_so _ _ c)) in
         subst (λ r. KnownAnd t r (IsAuthentic t r)) same
-        (KnownAnd-map t s _ _ (λ k tells. tells.0) (verify-tells t e.moment e.actor s b x late is))
+        (KnownAnd-map t s _ _ (λ k tells. tells.0) (verify-tells t e.put.moment e.put.actor s b x late is))
     by q r is c = let none : false ≡ true = second_so (names p (pack_of q)) (is_confirmed q r) c in cc
 
 -- a pack is decommissioned only where it is authentic
-pub accepted_decommissioning-tells : (t : List Entry) (e : Entry) (p : Pack) → e.reply ≡ reply_of t (put_of e) → accepted_decommissioning p e ≡ true → KnownAnd t p (IsAuthentic t p)
-accepted_decommissioning-tells t e p lawful h = by e.question e.reply lawful h
+pub accepted_decommissioning-tells : (t : List Entry) (e : Entry) (p : Pack) → e.reply ≡ reply_of t e.put → accepted_decommissioning p e ≡ true → KnownAnd t p (IsAuthentic t p)
+accepted_decommissioning-tells t e p lawful h = by e.put.question e.reply lawful h
   where
-    by : (q : Question) (r : Reply) → IsReply t e.moment e.actor q r → ((names p (pack_of q) && accepts q r) && is_decommissioning q) ≡ true → KnownAnd t p (IsAuthentic t p)
+    by : (q : Question) (r : Reply) → IsReply t e.put.moment e.put.actor q r → ((names p (pack_of q) && accepts q r) && is_decommissioning q) ≡ true → KnownAnd t p (IsAuthentic t p)
     by (Decommission s w) reply.Decommissioned is c =
         let same : s ≡ p = sym (same_pack-equal p s (first_so _ _ (first_so _ _ c))) in
-        subst (λ r. KnownAnd t r (IsAuthentic t r)) same (decommission-tells t e.moment e.actor s w is)
+        subst (λ r. KnownAnd t r (IsAuthentic t r)) same (decommission-tells t e.put.moment e.put.actor s w is)
     by (Decommission s w) r is c = let none : false ≡ true = second_so (same_pack p s) false (first_so (same_pack p s && false) true c) in cc
     by q r is c = let none : false ≡ true = second_so (names p (pack_of q) && accepts q r) (is_decommissioning q) c in cc
 
 -- a pack is handed over only where it is held by the same authorisation and in the same premises
-pub accepted_handover-tells : (t : List Entry) (e : Entry) (p : Pack) → e.reply ≡ reply_of t (put_of e) → accepted_handover p e ≡ true → KnownAnd t p (IsHeldHere t e.actor p)
-accepted_handover-tells t e p lawful h = by e.question e.reply lawful h
+pub accepted_handover-tells : (t : List Entry) (e : Entry) (p : Pack) → e.reply ≡ reply_of t e.put → accepted_handover p e ≡ true → KnownAnd t p (IsHeldHere t e.put.actor p)
+accepted_handover-tells t e p lawful h = by e.put.question e.reply lawful h
   where
-    by : (q : Question) (r : Reply) → IsReply t e.moment e.actor q r → ((names p (pack_of q) && accepts q r) && is_handover q) ≡ true → KnownAnd t p (IsHeldHere t e.actor p)
+    by : (q : Question) (r : Reply) → IsReply t e.put.moment e.put.actor q r → ((names p (pack_of q) && accepts q r) && is_handover q) ≡ true → KnownAnd t p (IsHeldHere t e.put.actor p)
     by (Handover s) reply.HandedOver is c =
         let same : s ≡ p = sym (same_pack-equal p s (first_so _ _ (first_so _ _ c))) in
-        subst (λ r. KnownAnd t r (IsHeldHere t e.actor r)) same (handover-tells t e.moment e.actor s is)
+        subst (λ r. KnownAnd t r (IsHeldHere t e.put.actor r)) same (handover-tells t e.put.moment e.put.actor s is)
     by (Handover s) r is c = let none : false ≡ true = second_so (same_pack p s) false (first_so (same_pack p s && false) true c) in cc
     by q r is c = let none : false ≡ true = second_so (names p (pack_of q) && accepts q r) (is_handover q) c in cc
 
 -- a pack is reverted only where Article 13 lets it be
-pub accepted_reversion-tells : (t : List Entry) (e : Entry) (p : Pack) → e.reply ≡ reply_of t (put_of e) → accepted_reversion p e ≡ true → KnownAnd t p (IsReversible t e.moment e.actor p)
-accepted_reversion-tells t e p lawful h = by e.question e.reply lawful h
+pub accepted_reversion-tells : (t : List Entry) (e : Entry) (p : Pack) → e.reply ≡ reply_of t e.put → accepted_reversion p e ≡ true → KnownAnd t p (IsReversible t e.put.moment e.put.actor p)
+accepted_reversion-tells t e p lawful h = by e.put.question e.reply lawful h
   where
-    by : (q : Question) (r : Reply) → IsReply t e.moment e.actor q r → ((names p (pack_of q) && accepts q r) && is_reversion q) ≡ true → KnownAnd t p (IsReversible t e.moment e.actor p)
+    by : (q : Question) (r : Reply) → IsReply t e.put.moment e.put.actor q r → ((names p (pack_of q) && accepts q r) && is_reversion q) ≡ true → KnownAnd t p (IsReversible t e.put.moment e.put.actor p)
     by (Revert s) reply.Reverted is c =
         let same : s ≡ p = sym (same_pack-equal p s (first_so _ _ (first_so _ _ c))) in
-        subst (λ r. KnownAnd t r (IsReversible t e.moment e.actor r)) same (revert-tells t e.moment e.actor s is)
+        subst (λ r. KnownAnd t r (IsReversible t e.put.moment e.put.actor r)) same (revert-tells t e.put.moment e.put.actor s is)
     by (Revert s) r is c = let none : false ≡ true = second_so (same_pack p s) false (first_so (same_pack p s && false) true c) in cc
     by q r is c = let none : false ≡ true = second_so (names p (pack_of q) && accepts q r) (is_reversion q) c in cc
 
 -- a pack is uploaded only where it is not known
-pub accepted_upload-tells : (t : List Entry) (e : Entry) (p : Pack) → e.reply ≡ reply_of t (put_of e) → accepted_upload p e ≡ true → is_some (known t p) ≡ false
-accepted_upload-tells t e p lawful h = by e.question e.reply lawful h
+pub accepted_upload-tells : (t : List Entry) (e : Entry) (p : Pack) → e.reply ≡ reply_of t e.put → accepted_upload p e ≡ true → is_some (known t p) ≡ false
+accepted_upload-tells t e p lawful h = by e.put.question e.reply lawful h
   where
-    by : (q : Question) (r : Reply) → IsReply t e.moment e.actor q r → ((is_upload q && names p (pack_of q)) && accepts q r) ≡ true → is_some (known t p) ≡ false
+    by : (q : Question) (r : Reply) → IsReply t e.put.moment e.put.actor q r → ((is_upload q && names p (pack_of q)) && accepts q r) ≡ true → is_some (known t p) ≡ false
     by (Upload s b x) reply.Uploaded is c =
-        ap (λ r. is_some (known t r)) (same_pack-equal p s (first_so _ _ c)) ∙ upload-tells t e.moment e.actor s b x is
+        ap (λ r. is_some (known t r)) (same_pack-equal p s (first_so _ _ c)) ∙ upload-tells t e.put.moment e.put.actor s b x is
     by (Upload s b x) r is c = let none : false ≡ true = second_so (same_pack p s) false c in cc
     by q r is c = let none : false ≡ true = first_so (is_upload q) (names p (pack_of q)) (first_so (is_upload q && names p (pack_of q)) (accepts q r) c) in cc
 
@@ -225,13 +226,13 @@ pub may-tells : (t : List Entry) (n : ℕ) (a : Actor) (q : Question) (r : Reply
 may-tells t n a q r other h = (cond-then (may_ask a.role q) _ _ _ other (sym h)).0
 
 -- a pack is reported as stolen only once
-pub thefts-tells : (t : List Entry) (e : Entry) (p : Pack) → e.reply ≡ reply_of t (put_of e) → (is_mark p e && is_theft e.question) ≡ true → KnownAnd t p (λ k. is_stolen k.own ≡ false)
-thefts-tells t e p lawful h = by e.question e.reply lawful h
+pub thefts-tells : (t : List Entry) (e : Entry) (p : Pack) → e.reply ≡ reply_of t e.put → (is_mark p e && is_theft e.put.question) ≡ true → KnownAnd t p (λ k. is_stolen k.own ≡ false)
+thefts-tells t e p lawful h = by e.put.question e.reply lawful h
   where
-    by : (q : Question) (r : Reply) → IsReply t e.moment e.actor q r → ((names p (pack_of q) && accepts q r) && is_theft q) ≡ true → KnownAnd t p (λ k. is_stolen k.own ≡ false)
+    by : (q : Question) (r : Reply) → IsReply t e.put.moment e.put.actor q r → ((names p (pack_of q) && accepts q r) && is_theft q) ≡ true → KnownAnd t p (λ k. is_stolen k.own ≡ false)
     by (Theft s) reply.MarkedStolen is c =
         let same : s ≡ p = sym (same_pack-equal p s (first_so _ _ (first_so _ _ c))) in
-        subst (λ r. KnownAnd t r (λ k. is_stolen k.own ≡ false)) same (theft-tells t e.moment e.actor s is)
+        subst (λ r. KnownAnd t r (λ k. is_stolen k.own ≡ false)) same (theft-tells t e.put.moment e.put.actor s is)
     by (Theft s) r is c = let none : false ≡ true = second_so (same_pack p s) false (first_so (same_pack p s && false) true c) in cc
     by q r is c = let none : false ≡ true = second_so (names p (pack_of q) && accepts q r) (is_theft q) c in cc
 

@@ -15,7 +15,8 @@ use Rattle.nmvs_rules.specs.declared.entry.Entry.{Entry}
 use Rattle.nmvs_rules.specs.declared.facts.Known.{Known}
 use Rattle.nmvs_rules.specs.declared.reply.Reply.TheVariants as reply
 use Rattle.nmvs_rules.specs.declared.refusal.Refusal.TheVariants as refusal
-use Rattle.nmvs_rules.specs.Questions.{Put, may_ask}
+use Rattle.nmvs_rules.specs.declared.put.Put.{Put}
+use Rattle.nmvs_rules.specs.Questions.{may_ask}
 use Rattle.nmvs_rules.specs.Trail.{mark_place, mark_after, known, is_mark, own_given}
 use Rattle.nmvs_rules.specs.Rules.{is_free, is_active, is_stolen, is_destroyed, is_supplied, is_past, is_same_place, is_in_time, lock_on, on_pack, revert_reply, reply_of, admitted_reply}
 use Rattle.nmvs_rules.specs.Laws.{IsRevertible}
@@ -52,7 +53,7 @@ decommissioned-last q active stolen supplied = sym active
 
 revertible : (t : List Entry) (p : Pack) (q : Put) (k : Known) → KnownBy t p k → IsReversible t q.moment q.actor p k → IsRevertible t p q
 revertible t p q k by tells =
-    let status : k.own ≡ own_given by.last.question = ap (λ z. z.own) by.known in
+    let status : k.own ≡ own_given by.last.put.question = ap (λ z. z.own) by.known in
     let made : k.mark ≡ mark_after (mark_place t p) by.last = ap (λ z. z.mark) by.known in
     let place : is_same_place q.actor (mark_after (mark_place t p) by.last) ≡ true = sym (ap (is_same_place q.actor) made) ∙ tells.same_place in
     let time : is_in_time q.moment (mark_after (mark_place t p) by.last) ≡ true = sym (ap (is_in_time q.moment) made) ∙ tells.in_time in
@@ -64,10 +65,10 @@ revertible t p q k by tells =
       last = by.last;
       latest = last-operation t p ∙ by.marked;
       decommissioned = decommissions-is p by.last
-          ∙ both_true marks (decommissioned-last by.last.question (sym (ap is_active status) ∙ tells.not_active) (sym (ap is_stolen status) ∙ tells.not_stolen) (sym (ap is_supplied status) ∙ tells.not_supplied));
-      same_authorisation = same_text-bytes q.actor.authorisation by.last.actor.authorisation (first_so _ _ place);
-      same_premises = same_text-bytes q.actor.premises by.last.actor.premises (second_so (same_text q.actor.authorisation by.last.actor.authorisation) _ place);
-      within_ten_days = in_time _ _ time;
+          ∙ both_true marks (decommissioned-last by.last.put.question (sym (ap is_active status) ∙ tells.not_active) (sym (ap is_stolen status) ∙ tells.not_stolen) (sym (ap is_supplied status) ∙ tells.not_supplied));
+      same_authorisation = same_text-bytes q.actor.authorisation by.last.put.actor.authorisation (first_so _ _ place);
+      same_premises = same_text-bytes q.actor.premises by.last.put.actor.premises (second_so (same_text q.actor.authorisation by.last.put.actor.authorisation) _ place);
+      within_days = in_time _ _ time;
       not_expired = not_past _ _ tells.not_expired;
       unlocked = unlocked-free t p.code k.batch tells.free;
       not_destroyed = never _ (λ d. sym (destroyed-by p _ _ d) ∙ sym (ap is_destroyed status) ∙ tells.not_destroyed);
@@ -81,20 +82,20 @@ reverted n a k l free active stolen destroyed supplied place time past = rw (fre
 reversion : (t : List Entry) (p : Pack) (q : Put) → IsRevertible t p q → admitted_reply t q.moment q.actor (Revert p) ≡ reply.Reverted
 reversion t p q h =
     let upload = birth-of t p h.batch h.expiry h.uploaded in
-    let k : Known = record { batch = h.batch; expiry = h.expiry; own = own_given h.last.question; mark = mark_after (mark_place t p) h.last } in
+    let k : Known = record { batch = h.batch; expiry = h.expiry; own = own_given h.last.put.question; mark = mark_after (mark_place t p) h.last } in
     let is : known t p ≡ Some k = known-made t p upload.2.0 upload.0 h.last h.batch h.expiry upload.1 upload.2.1 (sym (last-operation t p) ∙ h.latest) in
     let accepted : accepted_decommissioning p h.last ≡ true = sym (decommissions-is p h.last) ∙ h.decommissioned in
     let place : is_same_place q.actor k.mark ≡ true =
-    both_true (same_text-from_bytes q.actor.authorisation h.last.actor.authorisation h.same_authorisation)
-    (same_text-from_bytes q.actor.premises h.last.actor.premises h.same_premises) in
+    both_true (same_text-from_bytes q.actor.authorisation h.last.put.actor.authorisation h.same_authorisation)
+    (same_text-from_bytes q.actor.premises h.last.put.actor.premises h.same_premises) in
     ap (λ o. on_pack o (reply.Refused refusal.Unknown) (λ k. revert_reply q.moment q.actor k (lock_on t p k))) is
     ∙ reverted q.moment q.actor k (lock_on t p k)
     (free-unlocked t p.code h.batch h.unlocked)
-    (decommissioned-not_active h.last.question (second_so (is_mark p h.last) _ accepted))
-    (not-stolen_by p h.last.question h.last.reply h.decommissioned)
-    (not-destroyed_by p h.last.question h.last.reply h.decommissioned h.not_destroyed)
-    (not-supplied_by p h.last.question h.last.reply h.decommissioned h.not_supplied)
-    place (time_in _ _ h.within_ten_days) (past_not _ _ h.not_expired)
+    (decommissioned-not_active h.last.put.question (second_so (is_mark p h.last) _ accepted))
+    (not-stolen_by p h.last.put.question h.last.reply h.decommissioned)
+    (not-destroyed_by p h.last.put.question h.last.reply h.decommissioned h.not_destroyed)
+    (not-supplied_by p h.last.put.question h.last.reply h.decommissioned h.not_supplied)
+    place (time_in _ _ h.within_days) (past_not _ _ h.not_expired)
 
 pub reversion-exact : (t : List Entry) (q : Put) (p : Pack) → q.question ≡ Revert p → (reply_of t q ≡ reply.Reverted) ↔ (IsTrue (may_ask q.actor.role q.question) × IsRevertible t p q)
 reversion-exact t q p is = (forward, backward)

@@ -16,7 +16,8 @@ use Rattle.nmvs_rules.specs.declared.entry.Entry.{Entry}
 use Rattle.nmvs_rules.specs.declared.facts.Known.{Known}
 use Rattle.nmvs_rules.specs.declared.reply.Reply.{Reply}
 use Rattle.nmvs_rules.specs.declared.reply.Reply.TheVariants as reply
-use Rattle.nmvs_rules.specs.Questions.{Put, may_ask, pack_of, names}
+use Rattle.nmvs_rules.specs.declared.put.Put.{Put}
+use Rattle.nmvs_rules.specs.Questions.{may_ask, pack_of, names}
 use Rattle.nmvs_rules.specs.Trail.{mark_place, mark_after, known, accepts, is_mark, own_given, alerts_of}
 use Rattle.nmvs_rules.specs.Rules.{is_free, is_active, is_past, lock_on, on_pack, alert_unknown, verify_reply, decommission_reply, reply_of}
 use Rattle.nmvs_rules.specs.Operations.{upload_done, reversion_done, uploads, reverts, last_operation}
@@ -51,12 +52,12 @@ genuine-known : (t : List Entry) (p : Pack) (b : Batch) (x : Expiry) → IsGenui
 genuine-known t p b x h =
     let upload = birth-of t p b x h.uploaded in
     let last = from-some (last_operation t p) _ h.moving in
-    let k : Known = record { batch = b; expiry = x; own = own_given last.0.question; mark = mark_after (mark_place t p) last.0 } in (
+    let k : Known = record { batch = b; expiry = x; own = own_given last.0.put.question; mark = mark_after (mark_place t p) last.0 } in (
       k,
       known-made t p upload.2.0 upload.0 last.0 b x upload.1 upload.2.1 (sym (last-operation t p) ∙ last.1),
       refl,
       refl,
-      record { active = active-by p last.0.question last.0.reply last.2; free = free-unlocked t p.code b h.unlocked },
+      record { active = active-by p last.0.put.question last.0.reply last.2; free = free-unlocked t p.code b h.unlocked },
     )
 
 -- a known pack that is authentic is genuine
@@ -67,7 +68,7 @@ known-genuine t p k is h =
     record {
       uploaded = uploaded-with t p k by;
       moving = subst P (sym by.marked ∙ sym (last-operation t p))
-          (active-last p by.last.question by.last.reply (find-passes (is_mark p) (reverse t) by.last by.marked) (sym (ap (λ z. is_active z.own) by.known) ∙ h.active));
+          (active-last p by.last.put.question by.last.reply (find-passes (is_mark p) (reverse t) by.last by.marked) (sym (ap (λ z. is_active z.own) by.known) ∙ h.active));
       unlocked = unlocked-free t p.code k.batch h.free;
     }
 

@@ -9,7 +9,7 @@ use Rattle.nmvs_rules.specs.declared.actor.Actor.{Actor}
 use Rattle.nmvs_rules.specs.declared.role.Role.TheVariants as role
 use Rattle.nmvs_rules.specs.declared.reason.Reason.TheVariants as reason
 use Rattle.nmvs_rules.specs.declared.question.Question.{Question}
-use Rattle.nmvs_rules.specs.declared.question.Question.TheVariants.{Upload, Verify, Status, Decommission, Handover, Revert, Recall}
+use Rattle.nmvs_rules.specs.declared.question.Question.TheVariants.{Upload, Verify, Status, Decommission, Handover, Revert, Recall, Audit}
 use Rattle.nmvs_rules.specs.declared.reply.Reply.TheVariants as reply
 use Rattle.nmvs_rules.specs.declared.refusal.Refusal.TheVariants as refusal
 use Rattle.nmvs_rules.specs.declared.cause.Cause.TheVariants as cause
@@ -21,9 +21,9 @@ use Rattle.nmvs_rules.specs.declared.batch_lock.BatchLock.TheVariants as lock
 use Rattle.nmvs_rules.specs.declared.entry.Entry.{Entry}
 use Rattle.nmvs_rules.specs.declared.facts.Known.{Known}
 use Rattle.nmvs_rules.specs.declared.facts.BatchRecord.{BatchRecord}
-use Rattle.nmvs_rules.specs.Questions.{Put}
+use Rattle.nmvs_rules.specs.declared.put.Put.{Put}
 use Rattle.nmvs_rules.specs.Trail.{known, lock_of, holder_of, alerts_of, about_of, batch_record}
-use Rattle.nmvs_rules.specs.Rules.{reply_of, answered, IsLawful}
+use Rattle.nmvs_rules.specs.Rules.{reply_of, shown_of, answered, IsLawful}
 use Rattle.nmvs_rules.specs.Facts.{facts_of}
 use Rattle.nmvs_rules.specs.before_handover.Rules as before_handover
 
@@ -183,6 +183,22 @@ status-reply = refl
 
 alerts-read : alerts_of (after verified status) code ≡ 1
 alerts-read = refl
+
+-- it is shown the entries about the pack, the recall of its batch not among them, and told how many they are; the
+-- pharmacy is shown none
+abbrev audit : Put
+audit = put (codes "au1") authority (Audit pack)
+
+audit-reply : reply_of verified audit ≡ reply.Shown 4
+audit-reply = refl
+
+audit-shown : shown_of verified audit ≡
+    answered upload reply.Uploaded ∷ answered hold reply.Decommissioned
+    ∷ answered revert (reply.Refused refusal.Locked) ∷ answered verify (reply.Alert cause.Recalled false 1) ∷ []
+audit-shown = refl
+
+audit-hidden : shown_of verified (put (codes "ph1") pharmacy (Audit pack)) ≡ []
+audit-hidden = refl
 
 -- the whole trail is lawful
 lawful : IsLawful (after verified status)

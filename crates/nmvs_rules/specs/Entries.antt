@@ -9,6 +9,7 @@ use Rattle.nmvs_identifier.specs.Name.{is_name}
 use Rattle.nmvs_identifier.specs.Pack.{is_pack}
 use Rattle.nmvs_identifier.specs.ProductCode.{is_product_code}
 use Rattle.nmvs_rules.specs.declared.actor.Actor.{Actor}
+use Rattle.nmvs_rules.specs.declared.put.Put.{Put}
 use Rattle.nmvs_rules.specs.declared.question.Question.{Question}
 use Rattle.nmvs_rules.specs.declared.question.Question.TheVariants.{Upload, Verify, Status, Decommission, Handover, Revert, Recall, Withdraw, Theft, Audit}
 use Rattle.nmvs_rules.specs.declared.reply.Reply.{Reply}
@@ -49,9 +50,13 @@ is_reply (reply.LockedNow active) = is_count active
 is_reply (reply.Shown about) = is_count about
 is_reply _ = true
 
+-- whether the texts of a question as it is put are in their grammars, and its moment in its range
+abbrev pub is_put : Put → Bool
+is_put q = is_moment q.moment && (is_name q.user.bytes && (is_actor q.actor && is_question q.question))
+
 -- whether the texts and the numbers of an entry are in their grammars and ranges
 abbrev pub is_entry : Entry → Bool
-is_entry e = is_moment e.moment && (is_name e.user.bytes && (is_actor e.actor && (is_question e.question && is_reply e.reply)))
+is_entry e = is_put e.put && is_reply e.reply
 
 -- all entries of a trail are such
 abbrev pub AreEntries : List Entry → Type 0

@@ -4,6 +4,7 @@ use Rattle.nmvs_identifier.specs.ProductCode.{ProductCode}
 use Rattle.nmvs_identifier.specs.Batch.{Batch}
 use Rattle.nmvs_identifier.specs.declared.pack.Pack.{Pack}
 use Rattle.nmvs_rules.specs.declared.actor.Actor.{Actor}
+use Rattle.nmvs_rules.specs.declared.put.Put.{Put}
 use Rattle.nmvs_rules.specs.declared.question.Question.{Question}
 use Rattle.nmvs_rules.specs.declared.question.Question.TheVariants.{Upload, Verify, Status, Decommission, Handover, Revert, Recall, Withdraw, Theft, Audit}
 use Rattle.nmvs_rules.specs.declared.reply.Reply.{Reply}
@@ -85,5 +86,6 @@ admitted_reply_by_facts f moment a (Theft p) =
 admitted_reply_by_facts f moment a (Audit p) = reply.Shown f.about
 
 -- the reply of the rules by the facts
-abbrev pub reply_by_facts : Facts → ℕ → Actor → Question → Reply
-reply_by_facts f moment a q = if may_ask a.role q then admitted_reply_by_facts f moment a q else reply.Refused refusal.Role
+abbrev pub reply_by_facts : Facts → Put → Reply
+reply_by_facts f q =
+    if may_ask q.actor.role q.question then admitted_reply_by_facts f q.moment q.actor q.question else reply.Refused refusal.Role

@@ -14,7 +14,9 @@ use Rattle.nmvs_rules.specs.declared.own_status.OwnStatus.TheVariants as own
 use Rattle.nmvs_rules.specs.declared.question.Question.{Question}
 use Rattle.nmvs_rules.specs.declared.question.Question.TheVariants.{Upload, Verify, Decommission, Handover, Recall, Withdraw}
 use Rattle.nmvs_rules.specs.declared.reason.Reason.{Reason}
-use Rattle.nmvs_rules.specs.Questions.{Put, code_of}
+use Rattle.nmvs_rules.specs.declared.put.Put.{Put}
+use Rattle.nmvs_rules.specs.Limits.{reversion_days}
+use Rattle.nmvs_rules.specs.Questions.{code_of}
 use Rattle.nmvs_rules.specs.Trail.{has_code}
 use Rattle.nmvs_rules.specs.Operations.{uploads, uploads_code, decommissions, supplies, destroys, reverts, steals, binds, last_operation, own_left, alert_number}
 
@@ -24,7 +26,7 @@ part_of t c = filter (has_code c) t
 
 -- the entries whose product code is kept by its text, in order (own)
 abbrev pub kept : (List ℕ → Bool) → List Entry → List Entry
-kept keep t = filter (λ e. keep (code_of e.question).bytes) t
+kept keep t = filter (λ e. keep (code_of e.put.question).bytes) t
 
 -- the entries whose product code has a place by its text, in order (own)
 abbrev pub placed_at : (List ℕ → ℕ) → ℕ → List Entry → List Entry
@@ -37,7 +39,7 @@ is_handover _ = false
 
 -- whether the entry's question does
 abbrev pub asks_handover : Entry → Bool
-asks_handover e = is_handover e.question
+asks_handover e = is_handover e.put.question
 
 -- the entries of one owner, in order, where the owners are listed beside the entries (own)
 abbrev pub owned : List ℕ → List Entry → ℕ → List Entry
@@ -57,7 +59,7 @@ IsApart lists =
 
 -- the pack was uploaded, with this batch and this expiry date (Article 4)
 abbrev pub IsUploadedWith : List Entry → Pack → Batch → Expiry → Type 0
-IsUploadedWith t p b x = IsSomeAnd (find (uploads p) t) (λ u. (r : Pack) × (u.question ≡ Upload r b x))
+IsUploadedWith t p b x = IsSomeAnd (find (uploads p) t) (λ u. (r : Pack) × (u.put.question ≡ Upload r b x))
 
 -- the last operation on the pack is its upload or a reversion (Article 11)
 abbrev pub IsInCirculation : List Entry → Pack → Type 0
@@ -76,7 +78,7 @@ pub record IsGenuine (t : List Entry) (p : Pack) (b : Batch) (x : Expiry) : Type
 
 -- the product code was uploaded first by this authorisation, which is its holder (own)
 abbrev pub IsHeldBy : List Entry → ProductCode → Name → Type 0
-IsHeldBy t c n = IsSomeAnd (find (uploads_code c) t) (λ u. u.actor.authorisation.bytes ≡ n.bytes)
+IsHeldBy t c n = IsSomeAnd (find (uploads_code c) t) (λ u. u.put.actor.authorisation.bytes ≡ n.bytes)
 
 -- whether one own status may follow another: an active pack goes any way, a held one is supplied, a held, exported or
 -- sampled one comes back or is stolen, a supplied or destroyed one is stolen at most, and a stolen one stays so
@@ -92,20 +94,20 @@ may_become own.Stolen _ = false
 may_become _ own.Stolen = true
 may_become _ _ = false
 
--- what an operation e, before which so many entries stand, makes of what is known of its pack: from k to n
+-- what an operation e, before which `place` entries stand, makes of what is known of its pack: from k to n
 pub record IsMovedOn (k : Known) (place : ℕ) (e : Entry) (n : Known) : Type 0 where
-  pub left : own_left e.question ≡ Some n.own
+  pub left : own_left e.put.question ≡ Some n.own
   pub course : IsTrue (may_become k.own n.own)
   pub batch : n.batch ≡ k.batch
   pub expiry : n.expiry ≡ k.expiry
-  pub mark : n.mark ≡ record { place = place; moment = e.moment; authorisation = e.actor.authorisation; premises = e.actor.premises }
+  pub mark : n.mark ≡ record { place = place; moment = e.put.moment; authorisation = e.put.actor.authorisation; premises = e.put.actor.premises }
 
--- what is known of a pack after its upload e, before which so many entries stand
+-- what is known of a pack after its upload e, before which `place` entries stand
 pub record IsBorn (place : ℕ) (e : Entry) (n : Known) : Type 0 where
   pub pack : Pack
-  pub question : e.question ≡ Upload pack n.batch n.expiry
+  pub question : e.put.question ≡ Upload pack n.batch n.expiry
   pub active : n.own ≡ own.Active
-  pub mark : n.mark ≡ record { place = place; moment = e.moment; authorisation = e.actor.authorisation; premises = e.actor.premises }
+  pub mark : n.mark ≡ record { place = place; moment = e.put.moment; authorisation = e.put.actor.authorisation; premises = e.put.actor.premises }
 
 -- a question that is answered with an alert where the pack is not authentic (Article 36)
 abbrev pub AsksAuthenticity : Pack → Question → Type 0
@@ -129,10 +131,10 @@ pub record IsRevertible (t : List Entry) (p : Pack) (q : Put) : Type 0 where
   pub latest : last_operation t p ≡ Some last
   pub decommissioned : IsTrue (decommissions p last)
   -- (a) the same authorisation or entitlement, and the same premises
-  pub same_authorisation : q.actor.authorisation.bytes ≡ last.actor.authorisation.bytes
-  pub same_premises : q.actor.premises.bytes ≡ last.actor.premises.bytes
-  -- (b) not more than ten days after the decommissioning
-  pub within_ten_days : day_of q.moment ≤ day_of last.moment + 10
+  pub same_authorisation : q.actor.authorisation.bytes ≡ last.put.actor.authorisation.bytes
+  pub same_premises : q.actor.premises.bytes ≡ last.put.actor.premises.bytes
+  -- (b) within the limit of ten days after the decommissioning
+  pub within_days : day_of q.moment ≤ day_of last.put.moment + reversion_days
   -- (c) the pack has not expired
   pub not_expired : pos (day_of q.moment) ≤ℤ expiry_day expiry.bytes
   -- (d) neither recalled nor withdrawn, nor intended for destruction, nor stolen

@@ -71,34 +71,34 @@ confirmation_done p _ _ = false
 
 -- whether this was done by the entry
 abbrev pub uploads : Pack → Entry → Bool
-uploads p e = upload_done p e.question e.reply
+uploads p e = upload_done p e.put.question e.reply
 
 abbrev pub uploads_code : ProductCode → Entry → Bool
-uploads_code c e = code_upload_done c e.question e.reply
+uploads_code c e = code_upload_done c e.put.question e.reply
 
 abbrev pub decommissions : Pack → Entry → Bool
-decommissions p e = decommissioning_done p e.question e.reply
+decommissions p e = decommissioning_done p e.put.question e.reply
 
 abbrev pub hands_over : Pack → Entry → Bool
-hands_over p e = handover_done p e.question e.reply
+hands_over p e = handover_done p e.put.question e.reply
 
 abbrev pub supplies : Pack → Entry → Bool
-supplies p e = supply_done p e.question e.reply
+supplies p e = supply_done p e.put.question e.reply
 
 abbrev pub destroys : Pack → Entry → Bool
-destroys p e = destruction_done p e.question e.reply
+destroys p e = destruction_done p e.put.question e.reply
 
 abbrev pub reverts : Pack → Entry → Bool
-reverts p e = reversion_done p e.question e.reply
+reverts p e = reversion_done p e.put.question e.reply
 
 abbrev pub steals : Pack → Entry → Bool
-steals p e = theft_done p e.question e.reply
+steals p e = theft_done p e.put.question e.reply
 
 abbrev pub binds : ProductCode → Batch → Entry → Bool
-binds c b e = lock_done c b e.question e.reply
+binds c b e = lock_done c b e.put.question e.reply
 
 abbrev pub confirms : Pack → Entry → Bool
-confirms p e = confirmation_done p e.question e.reply
+confirms p e = confirmation_done p e.put.question e.reply
 
 -- whether the entry is an operation that was carried out on the pack
 abbrev pub operates : Pack → Entry → Bool

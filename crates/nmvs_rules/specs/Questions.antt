@@ -1,25 +1,15 @@
 -- What a question names, and who may ask it.
-use Rattle.std.specs.Prelude.{ℕ, Bool, true, false, Option, Some, None}
+use Rattle.std.specs.Prelude.{Bool, true, false, Option, Some, None}
 use Rattle.nmvs_identifier.specs.ProductCode.{ProductCode}
 use Rattle.nmvs_identifier.specs.Batch.{Batch}
-use Rattle.nmvs_identifier.specs.Name.{Name}
 use Rattle.nmvs_identifier.specs.declared.pack.Pack.{Pack}
 use Rattle.nmvs_identifier.specs.Pack.{same_pack}
-use Rattle.nmvs_rules.specs.declared.actor.Actor.{Actor}
 use Rattle.nmvs_rules.specs.declared.role.Role.{Role}
 use Rattle.nmvs_rules.specs.declared.role.Role.TheVariants as role
 use Rattle.nmvs_rules.specs.declared.reason.Reason.{Reason}
 use Rattle.nmvs_rules.specs.declared.reason.Reason.TheVariants as reason
 use Rattle.nmvs_rules.specs.declared.question.Question.{Question}
 use Rattle.nmvs_rules.specs.declared.question.Question.TheVariants.{Upload, Verify, Status, Decommission, Handover, Revert, Recall, Withdraw, Theft, Audit}
-
--- a question put: with its moment, its user, and in what capacity the user asks (Article 35: users and nature of each
--- operation)
-pub record Put : Type 0 where
-  pub moment : ℕ
-  pub user : Name
-  pub actor : Actor
-  pub question : Question
 
 -- the pack that a question names; a recall or withdrawal names none, for it binds a whole batch (Article 40)
 abbrev pub pack_of : Question → Option Pack
@@ -107,3 +97,7 @@ may_ask r (Decommission _ reason) = may_decommission r reason
 may_ask r (Handover _) = is_supplier r
 may_ask r (Status _) = true
 may_ask r (Audit _) = is_authority r
+
+-- who gets the report of a product code, which is no question of a trail (own, after Articles 36 and 39)
+abbrev pub may_report : Role → Bool
+may_report r = is_authority r

@@ -1,6 +1,6 @@
 -- The reply that the rules give to a question on a trail. Of the conditions on a question the first that fails decides;
 -- their order is own.
-use Rattle.std.specs.Prelude.{ℕ, ◌+◌, ◌≡◌, pos, int_lt, nat_le, Bool, true, false, not, ◌&&◌, List, [], ◌∷◌, ◌++◌, Option, Some, None, is_some, if◌then◌else◌}
+use Rattle.std.specs.Prelude.{ℕ, ◌+◌, ◌≡◌, pos, int_lt, nat_le, Bool, true, false, not, ◌&&◌, List, [], ◌∷◌, ◌++◌, filter, Option, Some, None, is_some, if◌then◌else◌}
 use Rattle.nmvs_identifier.specs.Name.{Name}
 use Rattle.nmvs_identifier.specs.Expiry.{Expiry, expiry_day}
 use Rattle.nmvs_identifier.specs.Moment.{day_of}
@@ -9,6 +9,7 @@ use Rattle.nmvs_identifier.specs.Texts.{same_text}
 use Rattle.nmvs_rules.specs.declared.actor.Actor.{Actor}
 use Rattle.nmvs_rules.specs.declared.question.Question.{Question}
 use Rattle.nmvs_rules.specs.declared.question.Question.TheVariants.{Upload, Verify, Status, Decommission, Handover, Revert, Recall, Withdraw, Theft, Audit}
+use Rattle.nmvs_rules.specs.declared.role.Role.{Role}
 use Rattle.nmvs_rules.specs.declared.reply.Reply.{Reply}
 use Rattle.nmvs_rules.specs.declared.reply.Reply.TheVariants as reply
 use Rattle.nmvs_rules.specs.declared.refusal.Refusal.TheVariants as refusal
@@ -23,8 +24,10 @@ use Rattle.nmvs_rules.specs.declared.batch_lock.BatchLock.TheVariants as lock
 use Rattle.nmvs_rules.specs.declared.entry.Entry.{Entry}
 use Rattle.nmvs_rules.specs.declared.facts.Mark.{Mark}
 use Rattle.nmvs_rules.specs.declared.facts.Known.{Known}
-use Rattle.nmvs_rules.specs.Questions.{Put, may_ask}
-use Rattle.nmvs_rules.specs.Trail.{known, lock_of, holder_of, alerts_of, about_of, count_of, is_known_batch}
+use Rattle.nmvs_rules.specs.declared.put.Put.{Put}
+use Rattle.nmvs_rules.specs.Limits.{reversion_days}
+use Rattle.nmvs_rules.specs.Questions.{may_ask}
+use Rattle.nmvs_rules.specs.Trail.{is_about, known, lock_of, holder_of, alerts_of, about_of, count_of, is_known_batch}
 
 -- whether the expiry date is past: the day of the moment, by UTC, comes after it (Article 13(1)(c); days of UTC are
 -- own)
@@ -108,10 +111,13 @@ is_authentic o l = is_active o && is_free l
 abbrev pub is_same_place : Actor → Mark → Bool
 is_same_place a m = same_text a.authorisation m.authorisation && same_text a.premises m.premises
 
--- whether the moment is not more than 10 days after the mark (Article 13(1)(b)); it may be before it, and days are of
--- UTC (own)
+-- whether the moment is not more than this number of days after the mark; it may be before it, and days are of UTC (own)
+abbrev pub is_within : ℕ → ℕ → Mark → Bool
+is_within days moment m = nat_le (day_of moment) (day_of m.moment + days)
+
+-- whether the moment is in time for a reversion (Article 13(1)(b))
 abbrev pub is_in_time : ℕ → Mark → Bool
-is_in_time moment m = nat_le (day_of moment) (day_of m.moment + 10)
+is_in_time moment m = is_within reversion_days moment m
 
 -- whether the product code has a holder, and another one than this authorisation (own)
 abbrev pub has_other_holder : Option Name → Name → Bool
@@ -223,18 +229,24 @@ abbrev pub reply_of : List Entry → Put → Reply
 reply_of t q =
     if may_ask q.actor.role q.question then admitted_reply t q.moment q.actor q.question else reply.Refused refusal.Role
 
--- an entry's question as it was put
-abbrev pub put_of : Entry → Put
-put_of e = record { moment = e.moment; user = e.user; actor = e.actor; question = e.question }
+-- the entries that an audit shows to a role
+abbrev pub shown_to : List Entry → Role → Question → List Entry
+shown_to t r (Audit p) = if may_ask r (Audit p) then filter (is_about p) t else []
+shown_to t r _ = []
+
+-- the entries that are shown with the reply: those about the pack of an audit that its role may ask, oldest first, and
+-- none with the reply to any other question (Article 35)
+abbrev pub shown_of : List Entry → Put → List Entry
+shown_of t q = shown_to t q.actor.role q.question
 
 -- the entry that records a question as it was put, with its reply (Article 35)
 abbrev pub answered : Put → Reply → Entry
-answered q r = record { moment = q.moment; user = q.user; actor = q.actor; question = q.question; reply = r }
+answered q r = record { put = q; reply = r }
 
 -- each of the entries es, which follow the entries u, has the reply of the rules on all entries before it
 abbrev pub IsLawfulAfter : List Entry → List Entry → Type 0
 IsLawfulAfter u [] = Unit {0}
-IsLawfulAfter u (e ∷ es) = (e.reply ≡ reply_of u (put_of e)) × IsLawfulAfter (u ++ e ∷ []) es
+IsLawfulAfter u (e ∷ es) = (e.reply ≡ reply_of u e.put) × IsLawfulAfter (u ++ e ∷ []) es
 
 -- a lawful trail: each entry has the reply of the rules on the entries before it (own)
 abbrev pub IsLawful : List Entry → Type 0

@@ -42,15 +42,15 @@ accepts _ _ = false
 
 -- whether the entry's question was accepted
 abbrev pub is_accepted : Entry → Bool
-is_accepted e = accepts e.question e.reply
+is_accepted e = accepts e.put.question e.reply
 
 -- whether the entry is about the pack: its question names it
 abbrev pub is_about : Pack → Entry → Bool
-is_about p e = names p (pack_of e.question)
+is_about p e = names p (pack_of e.put.question)
 
 -- whether the entry is about the product code
 abbrev pub has_code : ProductCode → Entry → Bool
-has_code c e = same_text c (code_of e.question)
+has_code c e = same_text c (code_of e.put.question)
 
 -- whether the question uploads a pack
 abbrev pub is_upload : Question → Bool
@@ -75,7 +75,7 @@ is_alert _ = false
 
 -- the first accepted upload of a pack, which makes it known and gives its batch and expiry (Article 4)
 abbrev pub born : List Entry → Pack → Option Entry
-born t p = find (λ e. (is_upload e.question && is_about p e) && is_accepted e) t
+born t p = find (λ e. (is_upload e.put.question && is_about p e) && is_accepted e) t
 
 -- whether the entry is accepted and about the pack
 abbrev pub is_mark : Pack → Entry → Bool
@@ -107,7 +107,7 @@ own_given _ = own.Active
 
 -- a pack's own status, where it has a mark (Articles 22, 25 and 40)
 abbrev pub own_of : List Entry → Pack → Option OwnStatus
-own_of t p = option_map (λ m. own_given m.question) (mark t p)
+own_of t p = option_map (λ m. own_given m.put.question) (mark t p)
 
 -- the lock that a recall or withdrawal puts on its batch (Article 40)
 abbrev pub lock_by : Question → BatchLock
@@ -118,12 +118,12 @@ lock_by _ = lock.Free
 -- the lock of a batch: its first accepted recall or withdrawal, which stays and binds packs uploaded later too (Article
 -- 40)
 abbrev pub lock_of : List Entry → ProductCode → Batch → BatchLock
-lock_of t c b = option_map_or (λ e. lock_by e.question) (find (λ e. locks_batch c b e.question && is_accepted e) t) lock.Free
+lock_of t c b = option_map_or (λ e. lock_by e.put.question) (find (λ e. locks_batch c b e.put.question && is_accepted e) t) lock.Free
 
 -- the holder of a product code: the authorisation of its first accepted upload (own)
 abbrev pub holder_of : List Entry → ProductCode → Option Name
 holder_of t c =
-    option_map (λ e. e.actor.authorisation) (find (λ e. (is_upload e.question && has_code c e) && is_accepted e) t)
+    option_map (λ e. e.put.actor.authorisation) (find (λ e. (is_upload e.put.question && has_code c e) && is_accepted e) t)
 
 -- how many alerts a product code has had (own)
 abbrev pub alerts_of : List Entry → ProductCode → ℕ
@@ -137,7 +137,7 @@ about_of t p = count_by (is_about p) t
 -- 13(1))
 abbrev pub mark_after : ℕ → Entry → Mark
 mark_after place e =
-    record { place = place; moment = e.moment; authorisation = e.actor.authorisation; premises = e.actor.premises }
+    record { place = place; moment = e.put.moment; authorisation = e.put.actor.authorisation; premises = e.put.actor.premises }
 
 -- what is known by an accepted upload and a mark m: batch and expiry from the upload, the rest from m
 abbrev pub known_at : List Entry → Pack → Entry → Question → Option Known
@@ -145,7 +145,7 @@ known_at t p m (Upload _ b x) =
     Some (record {
       batch = b;
       expiry = x;
-      own = own_given m.question;
+      own = own_given m.put.question;
       mark = mark_after (mark_place t p) m;
     })
 known_at t p m _ = None
@@ -154,7 +154,7 @@ known_at t p m _ = None
 -- on u
 abbrev pub known_from : List Entry → Pack → Option Entry → Option Known
 known_from t p None = None
-known_from t p (Some u) = known_at t p (unwrap_or (mark t p) u) u.question
+known_from t p (Some u) = known_at t p (unwrap_or (mark t p) u) u.put.question
 
 -- what is known of a pack: nothing before its accepted upload (Articles 4 and 11)
 abbrev pub known : List Entry → Pack → Option Known
@@ -167,8 +167,8 @@ born_by place e _ = None
 
 -- what is known of a pack after one more accepted entry about it
 abbrev pub marked_by : ℕ → Entry → Option Known → Option Known
-marked_by place e None = born_by place e e.question
-marked_by place e (Some k) = Some (record k { own = own_given e.question; mark = mark_after place e })
+marked_by place e None = born_by place e e.put.question
+marked_by place e (Some k) = Some (record k { own = own_given e.put.question; mark = mark_after place e })
 
 -- what is known of a pack after one more entry
 abbrev pub known_after : Pack → ℕ → Entry → Option Known → Option Known
@@ -176,7 +176,7 @@ known_after p place e k = if is_mark p e then marked_by place e k else k
 
 -- whether the entry is an accepted upload of a pack of the batch
 abbrev pub is_birth_in : ProductCode → Batch → Entry → Bool
-is_birth_in c b e = uploads_batch c b e.question && is_accepted e
+is_birth_in c b e = uploads_batch c b e.put.question && is_accepted e
 
 -- whether a pack of the batch is known
 abbrev pub is_known_batch : List Entry → ProductCode → Batch → Bool
@@ -205,7 +205,7 @@ stands_at t s (Some p) = is_own s (own_of t p)
 
 -- how many packs of the batch have the own status s now: a lawful trail has one accepted upload for each known pack
 abbrev pub count_of : List Entry → ProductCode → Batch → OwnStatus → ℕ
-count_of t c b s = count_by (λ e. is_birth_in c b e && stands_at t s (pack_of e.question)) t
+count_of t c b s = count_by (λ e. is_birth_in c b e && stands_at t s (pack_of e.put.question)) t
 
 -- how many packs of the batch have each own status now
 abbrev pub counts_of : List Entry → ProductCode → Batch → Counts

@@ -1,7 +1,7 @@
 //! Who may ask what. Each `match` on a role names every one, so that a new role is decided on here before anything
 //! compiles.
 ghost use Rattle.std.specs.Prelude.{◌≡◌};
-ghost use Rattle.nmvs_rules.specs.Questions.{may_ask, may_decommission, is_handler, is_supplier, is_holder, is_authority};
+ghost use Rattle.nmvs_rules.specs.Questions.{may_ask, may_report, may_decommission, is_handler, is_supplier, is_holder, is_authority};
 
 use crate::{Question, Reason, Role};
 
@@ -20,6 +20,14 @@ pub fn may(role: Role, question: &Question) -> bool
         Question::Status(_) => true,
         Question::Audit(_) => is_authority(role),
     }
+}
+
+/// Whether a user in this role gets the report of a product code, which is no question of a trail (own, after Articles 36
+/// and 39).
+pub fn may_report(role: Role) -> bool
+    ensures { result ≡ may_report role }
+{
+    is_authority(role)
 }
 
 fn may_decommission(role: Role, reason: Reason) -> bool

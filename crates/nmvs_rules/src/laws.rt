@@ -6,6 +6,6 @@ mod answers;
 mod packs;
 mod trails;
 
-pub use answers::{alerting, alerts, decommissioning, holders, reversion, verification};
+pub use answers::{alerting, alerts, auditing, decommissioning, holders, reversion, verification};
 pub use packs::{course, decommissioned_once, one_birth, recall_binds, supplied_once};
 pub use trails::{locality, merging, old_trails, parts, placing, recording};

@@ -1,9 +1,9 @@
 //! The rules of the repository: what may be asked, and the reply that the Regulation gives on a trail.
 //!
-//! A [`Question`] is put by an [`Actor`] at a moment. [`decide`] gives the [`Reply`] from the [`Facts`], the few things
-//! that it rests on: `decide(&facts, moment, &actor, &Question::Verify(pack))`. Its contract says that this is the
-//! reply of the definitions in `specs` on every trail that has these facts. An [`Entry`] is a question with its reply,
-//! and a trail is a list of them, oldest first. [`laws`] has what follows from the rules.
+//! A [`Put`] is a [`Question`] as an [`Actor`] puts it at a moment. [`decide`] gives the [`Reply`] from the [`Facts`],
+//! the few things that it rests on: `decide(&facts, &put)`. Its contract says that this is the reply of the definitions
+//! in `specs` on every trail that has these facts. An [`Entry`] is a put with its reply, and a trail is a list of them,
+//! oldest first. [`laws`] has what follows from the rules.
 //!
 //! It keeps no trail and finds no facts in one: `nmvs_tables` and `nmvs_shard` do. It knows no texts of lines or
 //! replies.
@@ -26,6 +26,7 @@ mod holding;
 pub mod laws;
 mod onward;
 mod own_status;
+mod put;
 mod question;
 mod reason;
 mod refusal;
@@ -36,7 +37,7 @@ mod role;
 mod tests;
 
 pub use actor::Actor;
-pub use admission::may;
+pub use admission::{may, may_report};
 pub use batch_lock::BatchLock;
 pub use cause::Cause;
 pub use circulation::onward_of;
@@ -45,6 +46,7 @@ pub use entry::Entry;
 pub use facts::{BatchRecord, Counts, Facts, Known, Mark};
 pub use onward::Onward;
 pub use own_status::OwnStatus;
+pub use put::Put;
 pub use question::Question;
 pub use reason::Reason;
 pub use refusal::Refusal;

@@ -34,10 +34,10 @@ pub enum Reply {
     Decommissioned,
     HandedOver,
     Reverted,
-    /// The batch is recalled or withdrawn from now on; so many of its packs were active.
+    /// The batch is recalled or withdrawn from now on; the number tells how many of its packs were active.
     LockedNow(u64),
     MarkedStolen,
-    /// So many earlier entries are about the pack.
+    /// The number tells how many earlier entries are about the pack.
     Shown(u64),
     Refused(Refusal),
 }
@@ -53,9 +53,11 @@ impl Reply {
                 expiry.tell_grammar();
             }
             Reply::Alert { number, .. } => {
+                // A number behind a reference is known to fit its type once it is read.
                 let _number = *number;
             }
             Reply::LockedNow(count) | Reply::Shown(count) => {
+                // Read for its range, as above.
                 let _count = *count;
             }
             _ => {}

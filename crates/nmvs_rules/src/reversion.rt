@@ -1,13 +1,13 @@
 //! Reverting a decommissioned pack to active (Article 13).
 ghost use Rattle.std.specs.Prelude.{◌≡◌};
-ghost use Rattle.nmvs_rules.specs.Rules.{revert_reply, is_same_place, is_in_time};
+ghost use Rattle.nmvs_rules.specs.Rules.{revert_reply, is_same_place, is_within};
 
 use crate::circulation::is_past;
 use crate::{Actor, BatchLock, Known, Mark, OwnStatus, Refusal, Reply};
 use nmvs_identifier::Moment;
 
 /// The days after a decommissioning within which it may be reverted (Article 13(1)(b)).
-const REVERSION_DAYS: i32 = 10;
+const REVERSION_DAYS: u16 = 10;
 
 /// The reply to a reversion of a known pack.
 pub(crate) fn revert_reply(moment: Moment, actor: &Actor, known: &Known, lock: BatchLock) -> Reply
@@ -43,7 +43,7 @@ pub(crate) fn is_same_place(actor: &Actor, mark: &Mark) -> bool
 }
 
 fn is_in_time(moment: Moment, mark: &Mark) -> bool
-    ensures { result ≡ is_in_time moment mark.now }
+    ensures { result ≡ is_within REVERSION_DAYS moment mark.now }
 {
-    moment.day() - mark.moment.day() <= REVERSION_DAYS
+    moment.day() - mark.moment.day() <= i32::from(REVERSION_DAYS)
 }

@@ -1,6 +1,6 @@
 use crate::{
-    Actor, BatchLock, BatchRecord, Cause, Counts, Facts, Known, Mark, Onward, OwnStatus, Question,
-    Reason, Refusal, Reply, Role, decide, may, onward_of,
+    Actor, BatchLock, BatchRecord, Cause, Counts, Facts, Known, Mark, Onward, OwnStatus, Put,
+    Question, Reason, Refusal, Reply, Role, decide, may, may_report, onward_of,
 };
 use nmvs_identifier::{Batch, Expiry, Moment, Name, Pack, ProductCode, Serial};
 use std::process::Abort;
@@ -23,6 +23,14 @@ fn pack(rt: &impl Abort) -> Pack {
     Pack {
         code: ProductCode::read("09506000134352").expect(rt, "the GS1 example"),
         serial: Serial::read("SN1").expect(rt, "a serial number"),
+    }
+}
+
+fn upload(rt: &impl Abort) -> Question {
+    Question::Upload {
+        pack: pack(rt),
+        batch: batch(rt),
+        expiry: Expiry::read("280200").expect(rt, "an expiry date"),
     }
 }
 
@@ -50,6 +58,17 @@ fn may_each(question: &Question) -> [bool; 5] {
         may(Role::Wholesaler, question),
         may(Role::Pharmacy, question),
         may(Role::Authority, question),
+    ]
+}
+
+/// Whether they get the report of a product code.
+fn may_report_each() -> [bool; 5] {
+    [
+        may_report(Role::Holder),
+        may_report(Role::Manufacturer),
+        may_report(Role::Wholesaler),
+        may_report(Role::Pharmacy),
+        may_report(Role::Authority),
     ]
 }
 
@@ -96,7 +115,7 @@ fn facts(rt: &impl Abort, own: OwnStatus, lock: BatchLock, expiry: &str) -> Fact
     }
 }
 
-/// Decides on facts without alerts, so many seconds after 1970-01-01.
+/// Decides on facts without alerts, `seconds` after 1970-01-01.
 fn decide_at(
     rt: &impl Abort,
     seconds: i64,
@@ -105,42 +124,54 @@ fn decide_at(
     question: &Question,
 ) -> Reply {
     assert!(rt; facts.alerts == 0);
-    decide(facts, at(rt, seconds), by, question)
+    let put = Put {
+        moment: at(rt, seconds),
+        user: Name::read("user-1").expect(rt, "a user"),
+        actor: *by,
+        question: *question,
+    };
+    decide(facts, &put)
+}
+
+const HOLDER: [bool; 5] = [true, false, false, false, false];
+
+const HANDLERS: [bool; 5] = [false, true, true, true, false];
+
+const PHARMACY: [bool; 5] = [false, false, false, true, false];
+
+const AUTHORITY: [bool; 5] = [false, false, false, false, true];
+
+/// Questions about the pack, with who may ask them.
+fn pack_questions(pack: &Pack) -> [(Question, [bool; 5]); 11] {
+    let by_reason = |reason| Question::Decommission(*pack, reason);
+    [
+        (Question::Theft(*pack), HOLDER),
+        (Question::Verify(*pack), HANDLERS),
+        (Question::Revert(*pack), HANDLERS),
+        (by_reason(Reason::Sample), HANDLERS),
+        (by_reason(Reason::Destroy), HANDLERS),
+        (by_reason(Reason::Export), [false, true, true, false, false]),
+        (by_reason(Reason::Hold), [false, false, true, true, false]),
+        (by_reason(Reason::Supply), PHARMACY),
+        (Question::Handover(*pack), PHARMACY),
+        (Question::Status(*pack), [true, true, true, true, true]),
+        (Question::Audit(*pack), AUTHORITY),
+    ]
 }
 
 #[test]
 fn only_the_named_roles_may_ask(rt: HostRuntime) {
-    let expiry = Expiry::read("280200").expect(&rt, "an expiry date");
-    let holder = [true, false, false, false, false];
-    let handlers = [false, true, true, true, false];
-    let upload = Question::Upload {
-        pack: pack(&rt),
-        batch: batch(&rt),
-        expiry,
-    };
-    assert!(rt; may_each(&upload) == holder);
-    assert!(rt; may_each(&Question::Recall(pack(&rt).code, batch(&rt))) == holder);
-    assert!(rt; may_each(&Question::Withdraw(pack(&rt).code, batch(&rt))) == holder);
-    assert!(rt; may_each(&Question::Theft(pack(&rt))) == holder);
-    assert!(rt; may_each(&Question::Verify(pack(&rt))) == handlers);
-    assert!(rt; may_each(&Question::Revert(pack(&rt))) == handlers);
-    assert!(rt; may_each(&Question::Decommission(pack(&rt), Reason::Sample)) == handlers);
-    assert!(rt; may_each(&Question::Decommission(pack(&rt), Reason::Destroy)) == handlers);
-    assert!(rt;
-        may_each(&Question::Decommission(pack(&rt), Reason::Export))
-            == [false, true, true, false, false]
-    );
-    assert!(rt;
-        may_each(&Question::Decommission(pack(&rt), Reason::Hold))
-            == [false, false, true, true, false]
-    );
-    assert!(rt;
-        may_each(&Question::Decommission(pack(&rt), Reason::Supply))
-            == [false, false, false, true, false]
-    );
-    assert!(rt; may_each(&Question::Handover(pack(&rt))) == [false, false, false, true, false]);
-    assert!(rt; may_each(&Question::Status(pack(&rt))) == [true, true, true, true, true]);
-    assert!(rt; may_each(&Question::Audit(pack(&rt))) == [false, false, false, false, true]);
+    for (question, roles) in &pack_questions(&pack(&rt)) {
+        assert!(rt; may_each(question) == *roles);
+    }
+    assert!(rt; may_report_each() == AUTHORITY);
+}
+
+#[test]
+fn a_holder_may_upload_and_lock(rt: HostRuntime) {
+    assert!(rt; may_each(&upload(&rt)) == HOLDER);
+    assert!(rt; may_each(&Question::Recall(pack(&rt).code, batch(&rt))) == HOLDER);
+    assert!(rt; may_each(&Question::Withdraw(pack(&rt).code, batch(&rt))) == HOLDER);
 }
 
 #[test]
@@ -182,192 +213,175 @@ fn questions_name_a_code_and_mostly_a_pack(rt: HostRuntime) {
     assert!(rt; recall.pack() == None);
 }
 
-#[test]
-fn authentic_packs_expire_after_their_last_day(rt: HostRuntime) {
-    let by = pharmacy(&rt);
-    let verify = Question::Verify(pack(&rt));
-    let batch = batch(&rt);
-    let expiry = Expiry::read("280200").expect(&rt, "an expiry date");
-    let active = facts(&rt, OwnStatus::Active, BatchLock::Free, "280200");
-    let last_second = decide_at(&rt, 1_835_481_599, &active, &by, &verify);
-    assert!(rt;
-        last_second
-            == Reply::Authentic {
-                batch,
-                expiry,
-                expired: false
-            }
-    );
-    let next_second = decide_at(&rt, 1_835_481_600, &active, &by, &verify);
-    assert!(rt;
-        next_second
-            == Reply::Authentic {
-                batch,
-                expiry,
-                expired: true
-            }
-    );
+/// Who asks on which facts, how many seconds after 1970-01-01, and what is answered.
+type Case<'a> = (&'a Actor, &'a Facts, i64, Reply);
+
+fn are_answered(rt: &impl Abort, question: &Question, cases: &[Case]) {
+    for (by, facts, seconds, reply) in cases {
+        assert!(rt; decide_at(rt, *seconds, *facts, *by, question) == *reply);
+    }
 }
 
+fn refused(refusal: Refusal) -> Reply {
+    Reply::Refused(refusal)
+}
+
+fn alert(cause: Cause, flagged: bool) -> Reply {
+    Reply::Alert {
+        cause,
+        flagged,
+        number: 1,
+    }
+}
+
+/// The pack, which is authentic, as it is told.
+fn authentic(rt: &impl Abort, expired: bool) -> Reply {
+    Reply::Authentic {
+        batch: batch(rt),
+        expiry: Expiry::read("280200").expect(rt, "an expiry date"),
+        expired,
+    }
+}
+
+/// A pack expires after the last second of its last day.
 #[test]
-fn verifications_of_packs_that_are_not_authentic(rt: HostRuntime) {
+fn verifications(rt: HostRuntime) {
+    let nothing = nothing();
     let by = pharmacy(&rt);
-    let verify = Question::Verify(pack(&rt));
-    let unknown = decide_at(&rt, NEW_YEAR, &nothing(), &by, &verify);
-    assert!(rt;
-        unknown
-            == Reply::Alert {
-                cause: Cause::Unknown,
-                flagged: true,
-                number: 1
-            }
-    );
+    let active = facts(&rt, OwnStatus::Active, BatchLock::Free, "280200");
     let destroyed = facts(&rt, OwnStatus::Destroyed, BatchLock::Free, "280200");
-    let destroyed = decide_at(&rt, NEW_YEAR, &destroyed, &by, &verify);
-    assert!(rt;
-        destroyed
-            == Reply::Alert {
-                cause: Cause::Destroyed,
-                flagged: false,
-                number: 1
-            }
-    );
     let recalled = facts(&rt, OwnStatus::Held, BatchLock::Recalled, "280200");
-    let recalled = decide_at(&rt, NEW_YEAR, &recalled, &by, &verify);
-    assert!(rt;
-        recalled
-            == Reply::Alert {
-                cause: Cause::Recalled,
-                flagged: false,
-                number: 1
-            }
-    );
+    let cases = [
+        (&by, &active, 1_835_481_599, authentic(&rt, false)),
+        (&by, &active, 1_835_481_600, authentic(&rt, true)),
+        (&by, &nothing, NEW_YEAR, alert(Cause::Unknown, true)),
+        (&by, &destroyed, NEW_YEAR, alert(Cause::Destroyed, false)),
+        (&by, &recalled, NEW_YEAR, alert(Cause::Recalled, false)),
+    ];
+    are_answered(&rt, &Question::Verify(pack(&rt)), &cases);
 }
 
 #[test]
 fn reversions(rt: HostRuntime) {
     let by = pharmacy(&rt);
-    let revert = Question::Revert(pack(&rt));
-    let held = facts(&rt, OwnStatus::Held, BatchLock::Free, "280200");
-    assert!(rt; decide_at(&rt, NEW_YEAR + 10 * DAY, &held, &by, &revert) == Reply::Reverted);
-    assert!(rt; decide_at(&rt, NEW_YEAR - 20 * DAY, &held, &by, &revert) == Reply::Reverted);
-    let late = decide_at(&rt, NEW_YEAR + 11 * DAY, &held, &by, &revert);
-    assert!(rt; late == Reply::Refused(Refusal::Late));
-
-    let short = facts(&rt, OwnStatus::Held, BatchLock::Free, "260105");
-    assert!(rt; decide_at(&rt, NEW_YEAR + 4 * DAY, &short, &by, &revert) == Reply::Reverted);
-    let expired = decide_at(&rt, NEW_YEAR + 6 * DAY, &short, &by, &revert);
-    assert!(rt; expired == Reply::Refused(Refusal::Expired));
     let elsewhere = actor(&rt, Role::Pharmacy, "PH-1", "P2");
-    let other = decide_at(&rt, NEW_YEAR + 11 * DAY, &short, &elsewhere, &revert);
-    assert!(rt; other == Reply::Refused(Refusal::Other));
-
+    let held = facts(&rt, OwnStatus::Held, BatchLock::Free, "280200");
+    let short = facts(&rt, OwnStatus::Held, BatchLock::Free, "260105");
     let recalled = facts(&rt, OwnStatus::Held, BatchLock::Recalled, "280200");
-    let locked = decide_at(&rt, NEW_YEAR, &recalled, &by, &revert);
-    assert!(rt; locked == Reply::Refused(Refusal::Locked));
     let supplied = facts(&rt, OwnStatus::Supplied, BatchLock::Free, "280200");
-    let refused = decide_at(&rt, NEW_YEAR, &supplied, &by, &revert);
-    assert!(rt; refused == Reply::Refused(Refusal::WasSupplied));
+    let cases = [
+        (&by, &held, NEW_YEAR + 10 * DAY, Reply::Reverted),
+        (&by, &held, NEW_YEAR - 20 * DAY, Reply::Reverted),
+        (&by, &held, NEW_YEAR + 11 * DAY, refused(Refusal::Late)),
+        (&by, &short, NEW_YEAR + 4 * DAY, Reply::Reverted),
+        (&by, &short, NEW_YEAR + 6 * DAY, refused(Refusal::Expired)),
+        (
+            &elsewhere,
+            &short,
+            NEW_YEAR + 11 * DAY,
+            refused(Refusal::Other),
+        ),
+        (&by, &recalled, NEW_YEAR, refused(Refusal::Locked)),
+        (&by, &supplied, NEW_YEAR, refused(Refusal::WasSupplied)),
+    ];
+    are_answered(&rt, &Question::Revert(pack(&rt)), &cases);
 }
 
 #[test]
 fn handovers(rt: HostRuntime) {
+    let nothing = nothing();
     let by = pharmacy(&rt);
-    let handover = Question::Handover(pack(&rt));
-    let held = facts(&rt, OwnStatus::Held, BatchLock::Free, "260105");
-    assert!(rt; decide_at(&rt, NEW_YEAR, &held, &by, &handover) == Reply::HandedOver);
-    let expired = decide_at(&rt, NEW_YEAR + 11 * DAY, &held, &by, &handover);
-    assert!(rt; expired == Reply::HandedOver);
-
     let wholesaler = actor(&rt, Role::Wholesaler, "PH-1", "P1");
-    let refused = decide_at(&rt, NEW_YEAR, &held, &wholesaler, &handover);
-    assert!(rt; refused == Reply::Refused(Refusal::Role));
-    let unknown = decide_at(&rt, NEW_YEAR, &nothing(), &by, &handover);
-    assert!(rt; unknown == Reply::Refused(Refusal::Unknown));
-    let recalled = facts(&rt, OwnStatus::Supplied, BatchLock::Recalled, "280200");
-    let locked = decide_at(&rt, NEW_YEAR, &recalled, &by, &handover);
-    assert!(rt; locked == Reply::Refused(Refusal::Locked));
-
     let elsewhere = actor(&rt, Role::Pharmacy, "PH-1", "P2");
-    let other = decide_at(&rt, NEW_YEAR, &held, &elsewhere, &handover);
-    assert!(rt; other == Reply::Refused(Refusal::Other));
     let another = actor(&rt, Role::Pharmacy, "PH-2", "P1");
-    let other = decide_at(&rt, NEW_YEAR, &held, &another, &handover);
-    assert!(rt; other == Reply::Refused(Refusal::Other));
+    let held = facts(&rt, OwnStatus::Held, BatchLock::Free, "260105");
+    let recalled = facts(&rt, OwnStatus::Supplied, BatchLock::Recalled, "280200");
     let active = facts(&rt, OwnStatus::Active, BatchLock::Free, "280200");
-    let unheld = decide_at(&rt, NEW_YEAR, &active, &elsewhere, &handover);
-    assert!(rt; unheld == Reply::Refused(Refusal::NotHeld));
     let supplied = facts(&rt, OwnStatus::Supplied, BatchLock::Free, "280200");
-    let again = decide_at(&rt, NEW_YEAR, &supplied, &by, &handover);
-    assert!(rt; again == Reply::Refused(Refusal::NotHeld));
+    let cases = [
+        (&by, &held, NEW_YEAR, Reply::HandedOver),
+        (&by, &held, NEW_YEAR + 11 * DAY, Reply::HandedOver),
+        (&wholesaler, &held, NEW_YEAR, refused(Refusal::Role)),
+        (&by, &nothing, NEW_YEAR, refused(Refusal::Unknown)),
+        (&by, &recalled, NEW_YEAR, refused(Refusal::Locked)),
+        (&elsewhere, &held, NEW_YEAR, refused(Refusal::Other)),
+        (&another, &held, NEW_YEAR, refused(Refusal::Other)),
+        (&elsewhere, &active, NEW_YEAR, refused(Refusal::NotHeld)),
+        (&by, &supplied, NEW_YEAR, refused(Refusal::NotHeld)),
+    ];
+    are_answered(&rt, &Question::Handover(pack(&rt)), &cases);
 }
 
 #[test]
-fn uploads_recalls_and_thefts(rt: HostRuntime) {
+fn uploads(rt: HostRuntime) {
+    let nothing = nothing();
     let by = holder(&rt);
     let another = actor(&rt, Role::Holder, "MAH-2", "HQ2");
-    let upload = Question::Upload {
-        pack: pack(&rt),
+    let active = facts(&rt, OwnStatus::Active, BatchLock::Free, "280200");
+    let cases = [
+        (&by, &nothing, NEW_YEAR, Reply::Uploaded),
+        (&by, &active, NEW_YEAR, refused(Refusal::Duplicate)),
+        (&another, &active, NEW_YEAR, refused(Refusal::NotHolder)),
+    ];
+    are_answered(&rt, &upload(&rt), &cases);
+}
+
+#[test]
+fn recalls_and_thefts(rt: HostRuntime) {
+    let nothing = nothing();
+    let by = holder(&rt);
+    let active = facts(&rt, OwnStatus::Active, BatchLock::Free, "280200");
+    let recalled = facts(&rt, OwnStatus::Active, BatchLock::Recalled, "280200");
+    let destroyed = facts(&rt, OwnStatus::Destroyed, BatchLock::Free, "280200");
+    let recalls = [
+        (&by, &active, NEW_YEAR, Reply::LockedNow(1)),
+        (&by, &recalled, NEW_YEAR, refused(Refusal::Already)),
+        (&by, &nothing, NEW_YEAR, refused(Refusal::UnknownBatch)),
+    ];
+    are_answered(&rt, &Question::Recall(pack(&rt).code, batch(&rt)), &recalls);
+    let thefts = [(&by, &destroyed, NEW_YEAR, Reply::MarkedStolen)];
+    are_answered(&rt, &Question::Theft(pack(&rt)), &thefts);
+}
+
+#[test]
+fn decommissionings(rt: HostRuntime) {
+    let by = pharmacy(&rt);
+    let wholesaler = actor(&rt, Role::Wholesaler, "WH-1", "W1");
+    let active = facts(&rt, OwnStatus::Active, BatchLock::Free, "280200");
+    let supplied = facts(&rt, OwnStatus::Supplied, BatchLock::Free, "280200");
+    let cases = [
+        (&by, &active, NEW_YEAR, Reply::Decommissioned),
+        (&wholesaler, &active, NEW_YEAR, refused(Refusal::Role)),
+        (&by, &supplied, NEW_YEAR, alert(Cause::Supplied, true)),
+    ];
+    are_answered(
+        &rt,
+        &Question::Decommission(pack(&rt), Reason::Supply),
+        &cases,
+    );
+}
+
+#[test]
+fn statuses_and_audits(rt: HostRuntime) {
+    let nothing = nothing();
+    let by = pharmacy(&rt);
+    let authority = actor(&rt, Role::Authority, "AU-1", "A1");
+    let recalled = facts(&rt, OwnStatus::Held, BatchLock::Recalled, "280200");
+    let told = Reply::StatusIs {
+        own: OwnStatus::Held,
+        lock: BatchLock::Recalled,
+        onward: Onward::Disposal,
         batch: batch(&rt),
         expiry: Expiry::read("280200").expect(&rt, "an expiry date"),
     };
-    let active = facts(&rt, OwnStatus::Active, BatchLock::Free, "280200");
-    assert!(rt; decide_at(&rt, NEW_YEAR, &nothing(), &by, &upload) == Reply::Uploaded);
-    let again = decide_at(&rt, NEW_YEAR, &active, &by, &upload);
-    assert!(rt; again == Reply::Refused(Refusal::Duplicate));
-    let foreign = decide_at(&rt, NEW_YEAR, &active, &another, &upload);
-    assert!(rt; foreign == Reply::Refused(Refusal::NotHolder));
-
-    let recall = Question::Recall(pack(&rt).code, batch(&rt));
-    let recalled = facts(&rt, OwnStatus::Active, BatchLock::Recalled, "280200");
-    assert!(rt; decide_at(&rt, NEW_YEAR, &active, &by, &recall) == Reply::LockedNow(1));
-    let twice = decide_at(&rt, NEW_YEAR, &recalled, &by, &recall);
-    assert!(rt; twice == Reply::Refused(Refusal::Already));
-    let unknown = decide_at(&rt, NEW_YEAR, &nothing(), &by, &recall);
-    assert!(rt; unknown == Reply::Refused(Refusal::UnknownBatch));
-
-    let destroyed = facts(&rt, OwnStatus::Destroyed, BatchLock::Free, "280200");
-    let theft = decide_at(&rt, NEW_YEAR, &destroyed, &by, &Question::Theft(pack(&rt)));
-    assert!(rt; theft == Reply::MarkedStolen);
-}
-
-#[test]
-fn decommissionings_statuses_and_audits(rt: HostRuntime) {
-    let by = pharmacy(&rt);
-    let supply = Question::Decommission(pack(&rt), Reason::Supply);
-    let active = facts(&rt, OwnStatus::Active, BatchLock::Free, "280200");
-    assert!(rt; decide_at(&rt, NEW_YEAR, &active, &by, &supply) == Reply::Decommissioned);
-    let wholesaler = actor(&rt, Role::Wholesaler, "WH-1", "W1");
-    let refused = decide_at(&rt, NEW_YEAR, &active, &wholesaler, &supply);
-    assert!(rt; refused == Reply::Refused(Refusal::Role));
-    let supplied = facts(&rt, OwnStatus::Supplied, BatchLock::Free, "280200");
-    let again = decide_at(&rt, NEW_YEAR, &supplied, &by, &supply);
-    assert!(rt;
-        again
-            == Reply::Alert {
-                cause: Cause::Supplied,
-                flagged: true,
-                number: 1
-            }
-    );
-
-    let status = Question::Status(pack(&rt));
-    let authority = actor(&rt, Role::Authority, "AU-1", "A1");
-    assert!(rt; decide_at(&rt, NEW_YEAR, &nothing(), &by, &status) == Reply::NoPack);
-    let recalled = facts(&rt, OwnStatus::Held, BatchLock::Recalled, "280200");
-    let told = decide_at(&rt, NEW_YEAR, &recalled, &authority, &status);
-    assert!(rt;
-        told == Reply::StatusIs {
-            own: OwnStatus::Held,
-            lock: BatchLock::Recalled,
-            onward: Onward::Disposal,
-            batch: batch(&rt),
-            expiry: Expiry::read("280200").expect(&rt, "an expiry date"),
-        }
-    );
-
-    let audit = Question::Audit(pack(&rt));
-    assert!(rt; decide_at(&rt, NEW_YEAR, &active, &authority, &audit) == Reply::Shown(2));
-    let hidden = decide_at(&rt, NEW_YEAR, &active, &by, &audit);
-    assert!(rt; hidden == Reply::Refused(Refusal::Role));
+    let statuses = [
+        (&by, &nothing, NEW_YEAR, Reply::NoPack),
+        (&authority, &recalled, NEW_YEAR, told),
+    ];
+    are_answered(&rt, &Question::Status(pack(&rt)), &statuses);
+    let audits = [
+        (&authority, &recalled, NEW_YEAR, Reply::Shown(2)),
+        (&by, &recalled, NEW_YEAR, refused(Refusal::Role)),
+    ];
+    are_answered(&rt, &Question::Audit(pack(&rt)), &audits);
 }

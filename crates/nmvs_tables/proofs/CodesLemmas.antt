@@ -14,7 +14,7 @@ use Rattle.nmvs_tables.specs.Codes.{code_in, code_noted, code_after, code_record
 use Rattle.nmvs_tables.proofs.BoolLemmas.{not-so}
 
 -- a table that has the new record of the entry's product code, and all others as before, notes the entry
-pub code_in-noted : {S : Type 0} (m n : HashMap ProductCode CodeRecord S) (k : ProductCode) (w : CodeRecord) (e : Entry) → k ≡ code_of e.question → ((c : ProductCode) → get same_text n c ≡ cond (same_text k c) (Some w) (get same_text m c)) → w ≡ code_noted e (code_in m k) → (c : ProductCode) → code_in n c ≡ code_after c e (code_in m c)
+pub code_in-noted : {S : Type 0} (m n : HashMap ProductCode CodeRecord S) (k : ProductCode) (w : CodeRecord) (e : Entry) → k ≡ code_of e.put.question → ((c : ProductCode) → get same_text n c ≡ cond (same_text k c) (Some w) (get same_text m c)) → w ≡ code_noted e (code_in m k) → (c : ProductCode) → code_in n c ≡ code_after c e (code_in m c)
 code_in-noted m n k w e named updates noted c = ap (λ o. unwrap_or o no_code) (updates c) ∙ by (has_code c e) refl
   where
     by : (b : Bool) → has_code c e ≡ b → unwrap_or (cond (same_text k c) (Some w) (get same_text m c)) no_code ≡ code_after c e (code_in m c)
@@ -30,7 +30,7 @@ code_in-noted m n k w e named updates noted c = ap (λ o. unwrap_or o no_code) (
         ∙ ap (λ b. cond b (code_noted e (code_in m c)) (code_in m c)) (sym h)
 
 -- an entry that leaves its product code's record leaves every record
-pub code_in-kept : {S : Type 0} (m : HashMap ProductCode CodeRecord S) (k : ProductCode) (e : Entry) → k ≡ code_of e.question → code_in m k ≡ code_noted e (code_in m k) → (c : ProductCode) → code_in m c ≡ code_after c e (code_in m c)
+pub code_in-kept : {S : Type 0} (m : HashMap ProductCode CodeRecord S) (k : ProductCode) (e : Entry) → k ≡ code_of e.put.question → code_in m k ≡ code_noted e (code_in m k) → (c : ProductCode) → code_in m c ≡ code_after c e (code_in m c)
 code_in-kept m k e named kept c = by (has_code c e) refl
   where
     by : (b : Bool) → has_code c e ≡ b → code_in m c ≡ code_after c e (code_in m c)
@@ -41,7 +41,7 @@ code_in-kept m k e named kept c = by (has_code c e) refl
 
 abbrev record_more : (e : Entry) (b u a f : Bool) (r : CodeRecord) → CodeRecord
 record_more e b u a f r = record {
-  holder = option_or r.holder (cond ((u && b) && is_accepted e) (Some e.actor.authorisation) None);
+  holder = option_or r.holder (cond ((u && b) && is_accepted e) (Some e.put.actor.authorisation) None);
   alerts = r.alerts + cond (b && a) 1 0;
   flagged = r.flagged + cond (b && f) 1 0;
 }
@@ -54,9 +54,9 @@ option_or-none (Some x) = refl
 pub code_record-push : (t : List Entry) (e : Entry) (c : ProductCode) → code_record (t ++ e ∷ []) c ≡ code_after c e (code_record t c)
 code_record-push t e c =
     (λ i. record { holder = holder_of-push t e c i; alerts = alerts_of-push t e c i; flagged = count_by-push (λ x. has_code c x && is_flagged_alert x.reply) t e i })
-    ∙ by (has_code c e) (is_upload e.question) (code_record t c)
+    ∙ by (has_code c e) (is_upload e.put.question) (code_record t c)
   where
-    by : (b u : Bool) (r : CodeRecord) → record_more e b u (is_alert e.reply) (is_flagged_alert e.reply) r ≡ cond b (record { holder = option_or r.holder (cond (u && is_accepted e) (Some e.actor.authorisation) None); alerts = r.alerts + one_if (is_alert e.reply); flagged = r.flagged + one_if (is_flagged_alert e.reply) }) r
+    by : (b u : Bool) (r : CodeRecord) → record_more e b u (is_alert e.reply) (is_flagged_alert e.reply) r ≡ cond b (record { holder = option_or r.holder (cond (u && is_accepted e) (Some e.put.actor.authorisation) None); alerts = r.alerts + one_if (is_alert e.reply); flagged = r.flagged + one_if (is_flagged_alert e.reply) }) r
     by true true r = refl
     by true false r = refl
     by false true r = rw (option_or-none r.holder, add-zero r.alerts, add-zero r.flagged) refl

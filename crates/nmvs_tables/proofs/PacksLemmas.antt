@@ -14,7 +14,7 @@ use Rattle.nmvs_tables.specs.Packs.{last_of, pack_row, no_entries, row_in, row_a
 use Rattle.nmvs_tables.proofs.BoolLemmas.{not-so}
 
 -- a table that has the new row of the entry's pack, and all others as before, notes the entry
-pub row_in-noted : {S : Type 0} (m n : HashMap Pack PackRow S) (pack : Pack) (w : PackRow) (e : Entry) (place : ℕ) → pack_of e.question ≡ Some pack → ((q : Pack) → get same_pack n q ≡ cond (same_pack pack q) (Some w) (get same_pack m q)) → w ≡ row_after place e (row_in m pack) → (p : Pack) → row_in n p ≡ pack_after p place e (row_in m p)
+pub row_in-noted : {S : Type 0} (m n : HashMap Pack PackRow S) (pack : Pack) (w : PackRow) (e : Entry) (place : ℕ) → pack_of e.put.question ≡ Some pack → ((q : Pack) → get same_pack n q ≡ cond (same_pack pack q) (Some w) (get same_pack m q)) → w ≡ row_after place e (row_in m pack) → (p : Pack) → row_in n p ≡ pack_after p place e (row_in m p)
 row_in-noted m n pack w e place named updates noted p = ap (λ o. unwrap_or o no_entries) (updates p) ∙ by (is_about p e) refl
   where
     by : (b : Bool) → is_about p e ≡ b → unwrap_or (cond (same_pack pack p) (Some w) (get same_pack m p)) no_entries ≡ pack_after p place e (row_in m p)

@@ -32,7 +32,7 @@ uploaded_batch _ = None
 
 -- the batch of an accepted upload
 abbrev pub batch_born : Entry → Option BatchKey
-batch_born e = if is_accepted e then uploaded_batch e.question else None
+batch_born e = if is_accepted e then uploaded_batch e.put.question else None
 
 -- the batches with one more, unless it is among them
 abbrev pub with_batch : List BatchKey → BatchKey → List BatchKey
@@ -68,7 +68,7 @@ batch_meant _ None = None
 
 -- the batch that an entry changes: none where the question was not accepted
 abbrev pub batch_changed : Entry → Option Known → Option BatchKey
-batch_changed e k = if is_accepted e then batch_meant e.question k else None
+batch_changed e k = if is_accepted e then batch_meant e.put.question k else None
 
 -- the own status that a pack has before an accepted question, where it is known
 abbrev pub own_before : Option Known → Option OwnStatus
@@ -120,7 +120,7 @@ abbrev pub batch_in : {S : Type 0} → HashMap BatchKey BatchRecord S → BatchK
 batch_in m b = unwrap_or (get same_batch m b) no_packs
 
 -- the batch of a known pack, or the one that a recall or withdrawal names, by a table
-abbrev pub batch_asked : {S : Type 0} → HashMap BatchKey BatchRecord S → ProductCode → Option Batch → Option Known → Option BatchRecord
-batch_asked m c (Some b) k = get same_batch m (record { code = c; batch = b })
-batch_asked m c None (Some k) = get same_batch m (record { code = c; batch = k.batch })
-batch_asked m c None None = None
+abbrev pub batch_named_in : {S : Type 0} → HashMap BatchKey BatchRecord S → ProductCode → Option Batch → Option Known → Option BatchRecord
+batch_named_in m c (Some b) k = get same_batch m (record { code = c; batch = b })
+batch_named_in m c None (Some k) = get same_batch m (record { code = c; batch = k.batch })
+batch_named_in m c None None = None

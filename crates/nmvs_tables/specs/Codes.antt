@@ -42,7 +42,7 @@ one_if b = if b then 1 else 0
 
 -- the authorisation that an accepted upload makes holder, where there is none yet (own)
 abbrev pub uploader : Entry → Option Name
-uploader e = if is_upload e.question && is_accepted e then Some e.actor.authorisation else None
+uploader e = if is_upload e.put.question && is_accepted e then Some e.put.actor.authorisation else None
 
 -- the record of the product code that an entry names, after it
 abbrev pub code_noted : Entry → CodeRecord → CodeRecord

@@ -39,9 +39,9 @@ abbrev pub record_by : PackRow → Option PackRecord
 record_by r = if r.about == 0 then None else Some (record { about = r.about; known = r.known })
 
 -- the row of the pack that a question names, in a table
-abbrev pub row_by : {S : Type 0} → HashMap Pack PackRow S → Option Pack → PackRow
-row_by m None = no_entries
-row_by m (Some p) = row_in m p
+abbrev pub row_named : {S : Type 0} → HashMap Pack PackRow S → Option Pack → PackRow
+row_named m None = no_entries
+row_named m (Some p) = row_in m p
 
 -- the row of the pack that an entry at a place is about, after it
 abbrev pub row_after : ℕ → Entry → PackRow → PackRow

@@ -5,10 +5,10 @@ ghost use Rattle.std.specs.Option.{ForSome};
 ghost use Rattle.nmvs_rules.specs.declared.own_status.OwnStatus.{OwnStatus};
 ghost use Rattle.nmvs_tables.specs.declared.batches.BatchKey.{BatchKey};
 ghost use Rattle.nmvs_rules.specs.Questions.{code_of, locked_batch};
-ghost use Rattle.nmvs_tables.specs.Batches.{same_batch, batch_asked, batch_in, batch_meant, batch_changed, batches_after, changes_batch, count_in, own_before, own_after, NotesBatch, lock_after, first_of};
+ghost use Rattle.nmvs_tables.specs.Batches.{same_batch, batch_named_in, batch_in, batch_meant, batch_changed, batches_after, changes_batch, count_in, own_before, own_after, NotesBatch, lock_after, first_of};
 
-use crate::counts::moved;
-use crate::writes::{find, put};
+use crate::counts::counts_after;
+use crate::writes::{find, write};
 use indexmap::IndexMap;
 use nmvs_identifier::{Batch, ProductCode};
 use nmvs_rules::{BatchLock, BatchRecord, Counts, Entry, Known, OwnStatus, Question};
@@ -32,12 +32,13 @@ pub(crate) fn record_of<A: Allocator>(batches: &Batches<A>, key: &BatchKey) -> O
 }
 
 /// The record of the batch that a recall or withdrawal names, or else that of the known pack.
-pub(crate) fn asked<A: Allocator>(
+pub(crate) fn record_named<A: Allocator>(
     batches: &Batches<A>,
     question: &Question,
     known: &Option<Known>,
 ) -> Option<BatchRecord>
-    ensures { result ≡ batch_asked batches.now (code_of question.now) (locked_batch question.now) known.now }
+    ensures { result ≡
+        batch_named_in batches.now (code_of question.now) (locked_batch question.now) known.now }
 {
     let batch = match (question.locked_batch(), known) {
         (Some(batch), _) => batch,
@@ -113,14 +114,15 @@ fn own_after(question: &Question) -> Option<OwnStatus>
 }
 
 /// The record of a batch after an accepted question that changes it, about a pack that is known or not.
-fn noted(old: &BatchRecord, question: &Question, known: &Option<Known>) -> BatchRecord
+fn record_after(old: &BatchRecord, question: &Question, known: &Option<Known>) -> BatchRecord
     requires from { ForSome (own_before known.now) (λ own. 1 ≤ count_in old.now.counts own) }
-    requires to { ForSome (own_after question.now) (λ own. count_in old.now.counts own + 1 < 2 ^ 64) }
+    requires to { ForSome (own_after question.now) (λ own.
+        count_in old.now.counts own + 1 < 2 ^ 64) }
     ensures { NotesBatch question.now known.now old.now result }
 {
     BatchRecord {
         lock: lock_after(question, old.lock),
-        counts: moved(&old.counts, own_before(known), own_after(question)),
+        counts: counts_after(&old.counts, own_before(known), own_after(question)),
     }
 }
 
@@ -134,22 +136,30 @@ pub(crate) fn note<A: Allocator>(
     requires room { 0 < spare batches.old }
     requires from { (b : BatchKey) → changes_batch b entry.now known ≡ true →
         ForSome (own_before known) (λ own. 1 ≤ count_in (batch_in batches.old b).counts own) }
-    requires to { (b : BatchKey) → (own : OwnStatus) → count_in (batch_in batches.old b).counts own + 1 < 2 ^ 64 }
+    requires to { (b : BatchKey) → (own : OwnStatus) →
+        count_in (batch_in batches.old b).counts own + 1 < 2 ^ 64 }
     ensures changed { (b : BatchKey) → changes_batch b entry.now known ≡ true →
-        IsSomeAnd (get same_batch batches.new b) (λ r. NotesBatch entry.now.question known (batch_in batches.old b) r) }
+        IsSomeAnd (get same_batch batches.new b) (λ r.
+        NotesBatch entry.now.put.question known (batch_in batches.old b) r) }
     ensures others { (b : BatchKey) → changes_batch b entry.now known ≡ false →
         get same_batch batches.new b ≡ get same_batch batches.old b }
-    ensures order { keys batches.new ≡ batches_after (keys batches.old) (batch_changed entry.now known) }
+    ensures order { keys batches.new ≡
+        batches_after (keys batches.old) (batch_changed entry.now known) }
     ensures first { result ≡ first_of (keys batches.old) (batch_changed entry.now known) }
 {
     if !entry.is_accepted() {
         return None;
     }
-    let Some(key) = batch_meant(&entry.question, &known) else {
+    let Some(key) = batch_meant(&entry.put.question, &known) else {
         return None;
     };
     let (index, old) = find(batches, &key);
     let old = old.unwrap_or(NO_PACKS);
-    put(batches, index, key, noted(&old, &entry.question, &known));
+    write(
+        batches,
+        index,
+        key,
+        record_after(&old, &entry.put.question, &known),
+    );
     index.is_none().then_some(key)
 }

@@ -4,7 +4,7 @@ ghost use Rattle.indexmap.specs.IndexMap.{spare};
 ghost use Rattle.nmvs_identifier.specs.ProductCode.{ProductCode};
 ghost use Rattle.nmvs_tables.specs.Codes.{code_in, code_noted, code_after};
 
-use crate::writes::{find, put};
+use crate::writes::{find, write};
 use indexmap::IndexMap;
 use nmvs_identifier::{Name, ProductCode};
 use nmvs_rules::{Entry, Question, Reply};
@@ -39,12 +39,12 @@ pub(crate) fn record_of<A: Allocator>(codes: &Codes<A>, code: &ProductCode) -> C
 
 impl CodeRecord {
     /// The record after an entry that names the product code, or None where the entry leaves it as it is.
-    fn noted(&self, entry: &Entry) -> Option<CodeRecord>
+    fn changed_by(&self, entry: &Entry) -> Option<CodeRecord>
         requires alerts { self.now.alerts + 1 < 2 ^ 64 }
         requires flagged { self.now.flagged + 1 < 2 ^ 64 }
         ensures { unwrap_or result self.now ≡ code_noted entry.now self.now }
     {
-        match (&entry.question, &entry.reply) {
+        match (&entry.put.question, &entry.reply) {
             (_, Reply::Alert { flagged, .. }) => Some(CodeRecord {
                 alerts: self.alerts + 1,
                 flagged: if *flagged {
@@ -56,7 +56,7 @@ impl CodeRecord {
             }),
             (Question::Upload { .. }, Reply::Uploaded) if self.holder.is_none() => Some(
                 CodeRecord {
-                    holder: Some(entry.actor.authorisation),
+                    holder: Some(entry.put.actor.authorisation),
                     ..*self
                 },
             ),
@@ -70,12 +70,13 @@ pub(crate) fn note<A: Allocator>(codes: &mut Codes<A>, entry: &Entry)
     requires room { 0 < spare codes.old }
     requires alerts { (c : ProductCode) → (code_in codes.old c).alerts + 1 < 2 ^ 64 }
     requires flagged { (c : ProductCode) → (code_in codes.old c).flagged + 1 < 2 ^ 64 }
-    ensures { (c : ProductCode) → code_in codes.new c ≡ code_after c entry.now (code_in codes.old c) }
+    ensures { (c : ProductCode) →
+        code_in codes.new c ≡ code_after c entry.now (code_in codes.old c) }
 {
-    let code = entry.question.code();
+    let code = entry.put.question.code();
     let (index, old) = find(codes, &code);
     let old = old.unwrap_or(NO_CODE);
-    if let Some(record) = old.noted(entry) {
-        put(codes, index, code, record);
+    if let Some(record) = old.changed_by(entry) {
+        write(codes, index, code, record);
     }
 }

@@ -11,7 +11,8 @@ use nmvs_rules::{Counts, OwnStatus};
 /// The counts with one pack more of an own status.
 fn with_one_more(counts: &Counts, own: OwnStatus) -> Counts
     requires { count_in counts.now own + 1 < 2 ^ 64 }
-    ensures { (s : OwnStatus) → count_in result s ≡ count_in counts.now s + one_if (same_own s own) }
+    ensures { (s : OwnStatus) →
+        count_in result s ≡ count_in counts.now s + one_if (same_own s own) }
 {
     let mut counts = *counts;
     match own {
@@ -29,7 +30,8 @@ fn with_one_more(counts: &Counts, own: OwnStatus) -> Counts
 /// The counts with one pack less of an own status.
 fn with_one_less(counts: &Counts, own: OwnStatus) -> Counts
     requires { 1 ≤ count_in counts.now own }
-    ensures { (s : OwnStatus) → count_in result s + one_if (same_own s own) ≡ count_in counts.now s }
+    ensures { (s : OwnStatus) →
+        count_in result s + one_if (same_own s own) ≡ count_in counts.now s }
 {
     let mut counts = *counts;
     match own {
@@ -45,7 +47,11 @@ fn with_one_less(counts: &Counts, own: OwnStatus) -> Counts
 }
 
 /// The counts after a pack went from one own status to another, from none or to none.
-pub(crate) fn moved(counts: &Counts, from: Option<OwnStatus>, to: Option<OwnStatus>) -> Counts
+pub(crate) fn counts_after(
+    counts: &Counts,
+    from: Option<OwnStatus>,
+    to: Option<OwnStatus>,
+) -> Counts
     requires from { ForSome from (λ own. 1 ≤ count_in counts.now own) }
     requires to { ForSome to (λ own. count_in counts.now own + 1 < 2 ^ 64) }
     ensures { Moves counts.now from to result }

@@ -6,7 +6,7 @@ ghost use Rattle.nmvs_tables.specs.declared.batches.BatchKey.{BatchKey};
 ghost use Rattle.nmvs_tables.specs.Listing.{same_place, listed_in, AreListed, HasRoomToList};
 
 use crate::batches::BatchKey;
-use crate::writes::{find, insert, put};
+use crate::writes::{find, insert, write};
 use indexmap::IndexMap;
 use nmvs_identifier::{Batch, ProductCode};
 use std::alloc::{AllocError, Allocator};
@@ -67,11 +67,12 @@ impl<A: Allocator> Listing<A> {
     pub fn note(&mut self, batch: &BatchKey)
         requires room { HasRoomToList self.old }
         requires fits { (c : ProductCode) → listed_in self.old.counts c + 1 < 2 ^ 64 }
-        ensures { (bs : List BatchKey) → AreListed self.old bs → AreListed self.new (bs ++ batch.now ∷ []) }
+        ensures { (bs : List BatchKey) →
+            AreListed self.old bs → AreListed self.new (bs ++ batch.now ∷ []) }
     {
         let (found, old) = find(&self.counts, &batch.code);
         let index = old.unwrap_or(0);
-        put(&mut self.counts, found, batch.code, index + 1);
+        write(&mut self.counts, found, batch.code, index + 1);
         let place = BatchPlace {
             code: batch.code,
             index,

@@ -3,10 +3,10 @@ ghost use Rattle.std.specs.Prelude.{◌≡◌, ◌+◌, ◌<◌, ◌^◌};
 ghost use Rattle.indexmap.specs.IndexMap.{spare};
 ghost use Rattle.nmvs_identifier.specs.declared.pack.Pack.{Pack};
 ghost use Rattle.nmvs_rules.specs.Questions.{pack_of};
-ghost use Rattle.nmvs_rules.specs.Trail as trails;
-ghost use Rattle.nmvs_tables.specs.Packs.{row_in, row_by, record_by, row_after, pack_after};
+ghost use Rattle.nmvs_rules.specs.Trail.{marked_by};
+ghost use Rattle.nmvs_tables.specs.Packs.{row_in, row_named, record_by, row_after, pack_after};
 
-use crate::writes::{find, put};
+use crate::writes::{find, write};
 use indexmap::IndexMap;
 use nmvs_identifier::Pack;
 use nmvs_rules::{Entry, Known, Mark, OwnStatus, Question};
@@ -62,8 +62,8 @@ pub(crate) fn record_of<A: Allocator>(packs: &Packs<A>, pack: &Pack) -> Option<P
 }
 
 /// The row of the pack that a question names, or one of no entries.
-pub(crate) fn asked<A: Allocator>(packs: &Packs<A>, question: &Question) -> PackRow
-    ensures { result ≡ row_by packs.now (pack_of question.now) }
+pub(crate) fn row_named<A: Allocator>(packs: &Packs<A>, question: &Question) -> PackRow
+    ensures { result ≡ row_named packs.now (pack_of question.now) }
 {
     match question.pack() {
         Some(pack) => row_of(packs, &pack),
@@ -72,16 +72,16 @@ pub(crate) fn asked<A: Allocator>(packs: &Packs<A>, question: &Question) -> Pack
 }
 
 /// What is known of a pack after an accepted entry at a place about it.
-fn marked(place: u64, entry: &Entry, known: Option<Known>) -> Option<Known>
-    ensures { result ≡ trails.marked_by place entry.now known }
+fn marked_by(place: u64, entry: &Entry, known: Option<Known>) -> Option<Known>
+    ensures { result ≡ marked_by place entry.now known }
 {
     let mark = Mark {
         place,
-        moment: entry.moment,
-        authorisation: entry.actor.authorisation,
-        premises: entry.actor.premises,
+        moment: entry.put.moment,
+        authorisation: entry.put.actor.authorisation,
+        premises: entry.put.actor.premises,
     };
-    match (known, entry.question) {
+    match (known, entry.put.question) {
         (Some(known), question) => Some(Known {
             own: question.own_given(),
             mark,
@@ -98,7 +98,7 @@ fn marked(place: u64, entry: &Entry, known: Option<Known>) -> Option<Known>
 }
 
 /// The row of a pack after an entry at a place about it.
-fn noted(place: u64, entry: &Entry, old: &PackRow) -> PackRow
+fn row_after(place: u64, entry: &Entry, old: &PackRow) -> PackRow
     requires about { old.now.about + 1 < 2 ^ 64 }
     requires place { place + 1 < 2 ^ 64 }
     ensures { result ≡ row_after place entry.now old.now }
@@ -106,7 +106,7 @@ fn noted(place: u64, entry: &Entry, old: &PackRow) -> PackRow
     PackRow {
         about: old.about + 1,
         known: if entry.is_accepted() {
-            marked(place, entry, old.known)
+            marked_by(place, entry, old.known)
         } else {
             old.known
         },
@@ -119,14 +119,15 @@ pub(crate) fn note<A: Allocator>(packs: &mut Packs<A>, place: u64, entry: &Entry
     requires room { 0 < spare packs.old }
     requires about { (p : Pack) → (row_in packs.old p).about + 1 < 2 ^ 64 }
     requires place { place + 1 < 2 ^ 64 }
-    ensures noted { (p : Pack) → row_in packs.new p ≡ pack_after p place entry.now (row_in packs.old p) }
-    ensures before { result ≡ row_by packs.old (pack_of entry.now.question) }
+    ensures noted { (p : Pack) →
+        row_in packs.new p ≡ pack_after p place entry.now (row_in packs.old p) }
+    ensures before { result ≡ row_named packs.old (pack_of entry.now.put.question) }
 {
-    let Some(pack) = entry.question.pack() else {
+    let Some(pack) = entry.put.question.pack() else {
         return NO_ENTRIES;
     };
     let (index, old) = find(packs, &pack);
     let old = old.unwrap_or(NO_ENTRIES);
-    put(packs, index, pack, noted(place, entry, &old));
+    write(packs, index, pack, row_after(place, entry, &old));
     old
 }

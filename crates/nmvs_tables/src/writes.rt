@@ -27,14 +27,15 @@ pub(crate) fn insert<K: Eq + Hash + Copy, V: Copy, S: BuildHasher, A: Allocator>
     value: V,
 )
     requires { 0 < spare table.old }
-    ensures updates { (q : K) → get K.eq table.new q ≡ cond (K.eq key q) (Some value) (get K.eq table.old q) }
+    ensures updates { (q : K) → get K.eq table.new q ≡
+        cond (K.eq key q) (Some value) (get K.eq table.old q) }
     ensures entries { table.new.entries ≡ insert_entry K.eq table.old.entries key value }
 {
     table.insert(key, value).unwrap();
 }
 
 /// Gives a key its value, at the index where it was found. A new key, for which room was made, goes last.
-pub(crate) fn put<K: Eq + Hash + Copy, V: Copy, S: BuildHasher, A: Allocator>(
+pub(crate) fn write<K: Eq + Hash + Copy, V: Copy, S: BuildHasher, A: Allocator>(
     table: &mut IndexMap<K, V, S, A>,
     index: Option<usize>,
     key: K,
@@ -42,7 +43,8 @@ pub(crate) fn put<K: Eq + Hash + Copy, V: Copy, S: BuildHasher, A: Allocator>(
 )
     requires room { 0 < spare table.old }
     requires found { index ≡ index_of K.eq table.old key }
-    ensures updates { (q : K) → get K.eq table.new q ≡ cond (K.eq key q) (Some value) (get K.eq table.old q) }
+    ensures updates { (q : K) → get K.eq table.new q ≡
+        cond (K.eq key q) (Some value) (get K.eq table.old q) }
     ensures entries { table.new.entries ≡ insert_entry K.eq table.old.entries key value }
 {
     match index {

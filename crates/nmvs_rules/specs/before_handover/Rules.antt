@@ -13,9 +13,10 @@ use Rattle.nmvs_rules.specs.declared.refusal.Refusal.TheVariants as refusal
 use Rattle.nmvs_rules.specs.declared.reply.Reply.{Reply}
 use Rattle.nmvs_rules.specs.declared.reply.Reply.TheVariants as reply
 use Rattle.nmvs_rules.specs.declared.role.Role.{Role}
-use Rattle.nmvs_rules.specs.Questions.{Put, may_decommission, is_handler, is_holder, is_authority}
+use Rattle.nmvs_rules.specs.declared.put.Put.{Put}
+use Rattle.nmvs_rules.specs.Questions.{may_decommission, is_handler, is_holder, is_authority}
 use Rattle.nmvs_rules.specs.Trail.{alerts_of, about_of}
-use Rattle.nmvs_rules.specs.Rules.{on_pack, upload_reply, alert_unknown, verify_reply, status_reply, decommission_reply, revert_reply, lock_reply, theft_reply, put_of}
+use Rattle.nmvs_rules.specs.Rules.{on_pack, upload_reply, alert_unknown, verify_reply, status_reply, decommission_reply, revert_reply, lock_reply, theft_reply}
 use Rattle.nmvs_rules.specs.before_handover.Trail.{known, lock_of, holder_of, count_of, is_known_batch}
 
 -- who might ask what; nobody might hand over a pack
@@ -59,7 +60,7 @@ reply_of t q =
 
 abbrev pub IsLawfulAfter : List Entry → List Entry → Type 0
 IsLawfulAfter u [] = Unit {0}
-IsLawfulAfter u (e ∷ es) = (e.reply ≡ reply_of u (put_of e)) × IsLawfulAfter (u ++ e ∷ []) es
+IsLawfulAfter u (e ∷ es) = (e.reply ≡ reply_of u e.put) × IsLawfulAfter (u ++ e ∷ []) es
 
 -- a trail that was lawful
 abbrev pub IsLawful : List Entry → Type 0

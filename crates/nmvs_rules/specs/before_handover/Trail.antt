@@ -37,10 +37,10 @@ own_given (Theft _) = own.Stolen
 own_given _ = own.Active
 
 abbrev pub is_accepted : Entry → Bool
-is_accepted e = accepts e.question e.reply
+is_accepted e = accepts e.put.question e.reply
 
 abbrev pub born : List Entry → Pack → Option Entry
-born t p = find (λ e. (is_upload e.question && is_about p e) && is_accepted e) t
+born t p = find (λ e. (is_upload e.put.question && is_about p e) && is_accepted e) t
 
 abbrev pub is_mark : Pack → Entry → Bool
 is_mark p e = is_about p e && is_accepted e
@@ -52,34 +52,34 @@ abbrev pub mark_place : List Entry → Pack → ℕ
 mark_place t p = length t - suffix_len (λ e. not (is_mark p e)) t - 1
 
 abbrev pub own_of : List Entry → Pack → Option OwnStatus
-own_of t p = option_map (λ m. own_given m.question) (mark t p)
+own_of t p = option_map (λ m. own_given m.put.question) (mark t p)
 
 abbrev pub lock_of : List Entry → ProductCode → Batch → BatchLock
-lock_of t c b = option_map_or (λ e. lock_by e.question) (find (λ e. locks_batch c b e.question && is_accepted e) t) lock.Free
+lock_of t c b = option_map_or (λ e. lock_by e.put.question) (find (λ e. locks_batch c b e.put.question && is_accepted e) t) lock.Free
 
 abbrev pub holder_of : List Entry → ProductCode → Option Name
 holder_of t c =
-    option_map (λ e. e.actor.authorisation) (find (λ e. (is_upload e.question && has_code c e) && is_accepted e) t)
+    option_map (λ e. e.put.actor.authorisation) (find (λ e. (is_upload e.put.question && has_code c e) && is_accepted e) t)
 
 abbrev pub known_at : List Entry → Pack → Entry → Question → Option Known
 known_at t p m (Upload _ b x) =
     Some (record {
       batch = b;
       expiry = x;
-      own = own_given m.question;
+      own = own_given m.put.question;
       mark = mark_after (mark_place t p) m;
     })
 known_at t p m _ = None
 
 abbrev pub known_from : List Entry → Pack → Option Entry → Option Known
 known_from t p None = None
-known_from t p (Some u) = known_at t p (unwrap_or (mark t p) u) u.question
+known_from t p (Some u) = known_at t p (unwrap_or (mark t p) u) u.put.question
 
 abbrev pub known : List Entry → Pack → Option Known
 known t p = known_from t p (born t p)
 
 abbrev pub is_birth_in : ProductCode → Batch → Entry → Bool
-is_birth_in c b e = uploads_batch c b e.question && is_accepted e
+is_birth_in c b e = uploads_batch c b e.put.question && is_accepted e
 
 abbrev pub is_known_batch : List Entry → ProductCode → Batch → Bool
 is_known_batch t c b = list_any (is_birth_in c b) t
@@ -89,4 +89,4 @@ stands_at t s None = false
 stands_at t s (Some p) = is_own s (own_of t p)
 
 abbrev pub count_of : List Entry → ProductCode → Batch → OwnStatus → ℕ
-count_of t c b s = count_by (λ e. is_birth_in c b e && stands_at t s (pack_of e.question)) t
+count_of t c b s = count_by (λ e. is_birth_in c b e && stands_at t s (pack_of e.put.question)) t

@@ -1,5 +1,5 @@
 //! Laws on what is answered.
-ghost use Rattle.std.specs.Prelude.{◌≡◌, ◌≢◌, ◌↔◌, ◌+◌, ℕ, Bool, true, IsTrue, IsFalse, List, find, Some, pos, int_lt};
+ghost use Rattle.std.specs.Prelude.{◌≡◌, ◌≢◌, ◌↔◌, ◌+◌, ℕ, Bool, true, IsTrue, IsFalse, List, [], length, filter, find, Some, pos, int_lt};
 ghost use Rattle.std.specs.List.{list_any, range_with_len};
 ghost use Rattle.nmvs_identifier.specs.Batch.{Batch};
 ghost use Rattle.nmvs_identifier.specs.Expiry.{Expiry, expiry_day};
@@ -9,12 +9,13 @@ ghost use Rattle.nmvs_identifier.specs.declared.pack.Pack.{Pack};
 ghost use Rattle.nmvs_rules.specs.declared.cause.Cause.{Cause};
 ghost use Rattle.nmvs_rules.specs.declared.cause.Cause.TheVariants as cause;
 ghost use Rattle.nmvs_rules.specs.declared.entry.Entry.{Entry};
-ghost use Rattle.nmvs_rules.specs.declared.question.Question.TheVariants.{Upload, Verify, Decommission, Revert, Theft};
+ghost use Rattle.nmvs_rules.specs.declared.question.Question.TheVariants.{Upload, Verify, Decommission, Revert, Theft, Audit};
 ghost use Rattle.nmvs_rules.specs.declared.reason.Reason.{Reason};
 ghost use Rattle.nmvs_rules.specs.declared.reply.Reply.TheVariants as reply;
-ghost use Rattle.nmvs_rules.specs.Questions.{Put, may_ask};
-ghost use Rattle.nmvs_rules.specs.Trail.{alerts_of};
-ghost use Rattle.nmvs_rules.specs.Rules.{reply_of, IsLawful};
+ghost use Rattle.nmvs_rules.specs.declared.put.Put.{Put};
+ghost use Rattle.nmvs_rules.specs.Questions.{may_ask};
+ghost use Rattle.nmvs_rules.specs.Trail.{alerts_of, is_about};
+ghost use Rattle.nmvs_rules.specs.Rules.{reply_of, shown_of, IsLawful};
 ghost use Rattle.nmvs_rules.specs.Operations.{uploads, uploads_code, binds, last_operation, alarm, alert_number};
 ghost use Rattle.nmvs_rules.specs.Laws.{IsUploadedWith, IsUnlocked, IsGenuine, IsHeldBy, IsRevertible, AsksAuthenticity, AsksLock, alert_numbers};
 
@@ -34,7 +35,8 @@ pub fn verification()
 pub fn decommissioning()
     ensures { (t : List Entry) (q : Put) (p : Pack) (w : Reason) → q.question ≡ Decommission p w →
         (reply_of t q ≡ reply.Decommissioned) ↔
-        (IsTrue (may_ask q.actor.role q.question) × ((b : Batch) × (x : Expiry) × IsGenuine t p b x)) }
+        (IsTrue (may_ask q.actor.role q.question)
+        × ((b : Batch) × (x : Expiry) × IsGenuine t p b x)) }
 {}
 
 /// A reversion is accepted exactly where the role may revert and all that Article 13(1) asks for is met. On every
@@ -59,15 +61,19 @@ pub fn alerting()
         reply_of t q ≢ reply.Decommissioned →
         alert_number (reply_of t q) ≡ Some (alerts_of t p.code + 1) }
     ensures unknown { (t : List Entry) (q : Put) (p : Pack) →
-        AsksAuthenticity p q.question → IsTrue (may_ask q.actor.role q.question) → IsFalse (list_any (uploads p) t) →
+        AsksAuthenticity p q.question → IsTrue (may_ask q.actor.role q.question) →
+        IsFalse (list_any (uploads p) t) →
         reply_of t q ≡ reply.Alert cause.Unknown true (alerts_of t p.code + 1) }
-    ensures locked { (t : List Entry) (q : Put) (p : Pack) (b : Batch) (x : Expiry) (lock : Entry) (tells : Cause × Bool) →
-        AsksAuthenticity p q.question → IsTrue (may_ask q.actor.role q.question) → IsUploadedWith t p b x →
-        find (binds p.code b) t ≡ Some lock → alarm lock.question ≡ Some tells →
+    ensures locked { (t : List Entry) (q : Put) (p : Pack) (b : Batch) (x : Expiry) (lock : Entry)
+        (tells : Cause × Bool) →
+        AsksAuthenticity p q.question → IsTrue (may_ask q.actor.role q.question) →
+        IsUploadedWith t p b x → find (binds p.code b) t ≡ Some lock → alarm lock.put.question ≡ Some tells →
         reply_of t q ≡ reply.Alert tells.0 tells.1 (alerts_of t p.code + 1) }
-    ensures own { (t : List Entry) (q : Put) (p : Pack) (b : Batch) (x : Expiry) (last : Entry) (tells : Cause × Bool) →
-        AsksAuthenticity p q.question → IsTrue (may_ask q.actor.role q.question) → IsUploadedWith t p b x →
-        IsUnlocked t p.code b → last_operation t p ≡ Some last → alarm last.question ≡ Some tells →
+    ensures own { (t : List Entry) (q : Put) (p : Pack) (b : Batch) (x : Expiry) (last : Entry)
+        (tells : Cause × Bool) →
+        AsksAuthenticity p q.question → IsTrue (may_ask q.actor.role q.question) →
+        IsUploadedWith t p b x → IsUnlocked t p.code b →
+        last_operation t p ≡ Some last → alarm last.put.question ≡ Some tells →
         reply_of t q ≡ reply.Alert tells.0 tells.1 (alerts_of t p.code + 1) }
 {}
 
@@ -84,7 +90,22 @@ pub fn holders()
         q.question ≡ Upload p b x → IsTrue (list_any (uploads_code p.code) t) →
         reply_of t q ≡ reply.Uploaded → IsHeldBy t p.code q.actor.authorisation }
     ensures locks { (t : List Entry) (q : Put) (c : ProductCode) (b : Batch) (active : ℕ) →
-        AsksLock c b q.question → reply_of t q ≡ reply.LockedNow active → IsHeldBy t c q.actor.authorisation }
+        AsksLock c b q.question → reply_of t q ≡ reply.LockedNow active →
+        IsHeldBy t c q.actor.authorisation }
     ensures thefts { (t : List Entry) (q : Put) (p : Pack) →
-        q.question ≡ Theft p → reply_of t q ≡ reply.MarkedStolen → IsHeldBy t p.code q.actor.authorisation }
+        q.question ≡ Theft p → reply_of t q ≡ reply.MarkedStolen →
+        IsHeldBy t p.code q.actor.authorisation }
+{}
+
+/// An audit by one who may ask it shows the entries about its pack, in their order, and is answered with how many they
+/// are (Article 35). One who may not is shown none, and no other question shows any. On every trail.
+pub fn auditing()
+    ensures shown { (t : List Entry) (q : Put) (p : Pack) →
+        q.question ≡ Audit p → IsTrue (may_ask q.actor.role q.question) →
+        (shown_of t q ≡ filter (is_about p) t)
+        × (reply_of t q ≡ reply.Shown (length (shown_of t q))) }
+    ensures hidden { (t : List Entry) (q : Put) →
+        IsFalse (may_ask q.actor.role q.question) → shown_of t q ≡ [] }
+    ensures others { (t : List Entry) (q : Put) →
+        ((p : Pack) → q.question ≢ Audit p) → shown_of t q ≡ [] }
 {}

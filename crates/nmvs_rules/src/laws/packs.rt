@@ -24,9 +24,10 @@ pub fn one_birth()
 pub fn course()
     ensures kept { (t : List Entry) (e : Entry) (p : Pack) → IsFalse (operates p e) →
         known (t ++ e ∷ []) p ≡ known t p }
-    ensures unknown { (t : List Entry) (e : Entry) (p : Pack) → known t p ≡ None → IsFalse (uploads p e) →
-        known (t ++ e ∷ []) p ≡ None }
-    ensures born { (t : List Entry) (e : Entry) (p : Pack) → known t p ≡ None → IsTrue (uploads p e) →
+    ensures unknown { (t : List Entry) (e : Entry) (p : Pack) →
+        known t p ≡ None → IsFalse (uploads p e) → known (t ++ e ∷ []) p ≡ None }
+    ensures born { (t : List Entry) (e : Entry) (p : Pack) →
+        known t p ≡ None → IsTrue (uploads p e) →
         IsSomeAnd (known (t ++ e ∷ []) p) (IsBorn (length t) e) }
     ensures moved { (before after : List Entry) (e : Entry) (p : Pack) (k : Known) →
         IsLawful (before ++ e ∷ after) → known before p ≡ Some k → IsTrue (operates p e) →
@@ -53,7 +54,8 @@ pub fn supplied_once()
 /// A recall or withdrawal binds for ever: after it in a lawful trail no pack of its batch, uploaded before it or later,
 /// is decommissioned, reverted or answered Authentic (Articles 13 and 40).
 pub fn recall_binds()
-    ensures { (before between after : List Entry) (recall later : Entry) (p : Pack) (b : Batch) (x : Expiry) →
+    ensures { (before between after : List Entry) (recall later : Entry)
+        (p : Pack) (b : Batch) (x : Expiry) →
         IsLawful (before ++ recall ∷ between ++ later ∷ after) → IsTrue (binds p.code b recall) →
         IsUploadedWith (before ++ recall ∷ between ++ later ∷ after) p b x →
         IsFalse (decommissions p later) × IsFalse (reverts p later) × IsFalse (confirms p later) }

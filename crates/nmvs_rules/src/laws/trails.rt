@@ -3,15 +3,16 @@ ghost use Rattle.std.specs.Prelude.{◌≡◌, ◌↔◌, ℕ, Bool, IsFalse, Li
 ghost use Rattle.std.specs.List.{list_any};
 ghost use Rattle.nmvs_rules.specs.declared.entry.Entry.{Entry};
 ghost use Rattle.nmvs_rules.specs.declared.reply.Reply.{Reply};
-ghost use Rattle.nmvs_rules.specs.Questions.{Put, code_of};
-ghost use Rattle.nmvs_rules.specs.Rules.{reply_of, put_of, answered, IsLawful};
+ghost use Rattle.nmvs_rules.specs.declared.put.Put.{Put};
+ghost use Rattle.nmvs_rules.specs.Questions.{code_of};
+ghost use Rattle.nmvs_rules.specs.Rules.{reply_of, answered, IsLawful};
 ghost use Rattle.nmvs_rules.specs.Laws.{part_of, kept, placed_at, asks_handover, IsMerging, IsApart};
 ghost use Rattle.nmvs_rules.specs.before_handover.Rules as before_handover;
 
 /// An entry keeps the question as it was put, with its moment, its user and in what capacity the user asked, and the
 /// reply (Article 35).
 pub fn recording()
-    ensures { (q : Put) (r : Reply) → (put_of (answered q r) ≡ q) × ((answered q r).reply ≡ r) }
+    ensures { (q : Put) (r : Reply) → ((answered q r).put ≡ q) × ((answered q r).reply ≡ r) }
 {}
 
 /// The reply to a question rests on the entries with its product code alone. On every trail.
@@ -40,5 +41,6 @@ pub fn parts()
 /// A trail in which no question is a handover is lawful exactly where it was lawful before packs could be handed over,
 /// by the rules of then (`specs/before_handover`). So the exports of that time stay what they were.
 pub fn old_trails()
-    ensures { (t : List Entry) → IsFalse (list_any asks_handover t) → IsLawful t ↔ before_handover.IsLawful t }
+    ensures { (t : List Entry) → IsFalse (list_any asks_handover t) →
+        IsLawful t ↔ before_handover.IsLawful t }
 {}

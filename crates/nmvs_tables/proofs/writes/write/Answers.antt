@@ -1,7 +1,7 @@
 use Rattle.std.proofs.Common.{◌∙◌, sym, ap}
 use Rattle.std.specs.Map.{lookup}
 use Rattle.nmvs_tables.proofs.EntryLemmas.{lookup-insert_entry, set_value_at-found}
-use Rattle.nmvs_tables.proofs.writes.put.Goals as goal
+use Rattle.nmvs_tables.proofs.writes.write.Goals as goal
 
 pub returns-in-Some-clause-updates : goal.returns-in-Some-clause-updates
 returns-in-Some-clause-updates g c = λ q.
