@@ -1,5 +1,5 @@
 //! Those who ask, and what they are answered.
-ghost use Rattle.std.specs.Prelude.{◌≡◌, ◌⊎◌, [], ◌∷◌, ◌++◌, length, IfOk, IfErr, OnErr};
+ghost use Rattle.std.specs.Prelude.{◌≡◌, ◌≢◌, ◌⊎◌, [], ◌∷◌, ◌++◌, length, IfOk, IfErr, OnErr};
 ghost use mathlib.Core.List.{IsPrefix};
 ghost use Rattle.nmvs_directory.specs.Window.{Reads};
 ghost use Rattle.nmvs_directory.specs.declared.look.Look.TheVariants.{Known};
@@ -105,6 +105,7 @@ impl<'a, J: Naming, C: ReceiptLedger, B: Allocator> Clerk<'a, J, C, B> {
         ensures known { IfOk result (λ actor.
             Reads self.old.seen self.new.seen user.now (Known actor)) }
         ensures turned_away { IfErr result (TurnedAway self.old.seen self.new.seen user.now) }
+        ensures looked { IfErr result (λ fault. fault ≢ AskFault.Memory) }
         ensures receipts { self.new.receipts ≡ self.old.receipts }
     {
         match self.look(user) {

@@ -1,8 +1,10 @@
 //! Why the program ends in failure.
 ghost use Rattle.std.specs.Prelude.{◌≡◌, None, Some};
-ghost use Rattle.nmvs_server.specs.Faults.{command_word, fault_text, outcome};
+ghost use Rattle.nmvs_server.specs.Faults.{fault_text, import_text, outcome};
 
+use nmvs_operator::command_word;
 use nmvs_protocol::{CommandFault, End};
+use nmvs_record::{Finding, Objection};
 use std::fmt;
 
 /// Why the program ends in failure (own). It is told on standard error, and the status is 1.
@@ -44,7 +46,7 @@ impl<'a> fmt::Display for Fault<'a> {
             Fault::CannotRead(path) => write!(f, "cannot read {path}"),
             Fault::CannotWrite(path) => write!(f, "cannot write {path}"),
             Fault::UsersLine(number, fault) => {
-                let word = word_of(*fault);
+                let word = command_word(*fault);
                 write!(f, "users line {number}: {word}")
             }
             Fault::ImportLine(number) => write!(f, "import line {number}"),
@@ -80,6 +82,22 @@ impl<'a> Outcome<'a> {
     }
 }
 
+impl<'a> Fault<'a> {
+    /// Why the import of this path, in which this was found, is not taken. (In this toolchain a fault that holds the finding,
+    /// and so a reply, gets no generated proof.)
+    pub(crate) fn of_import(path: &'a str, finding: Finding) -> Fault<'a>
+        ensures { fault_text result ≡ import_text path.now finding }
+    {
+        match finding {
+            Finding::Read => Fault::CannotRead(path),
+            Finding::Unended(number) => Fault::ImportLine(number),
+            Finding::Line(_, Objection::Memory) => Fault::Memory,
+            Finding::Line(number, Objection::Unlawful { .. }) => Fault::ImportUnlawful(number),
+            Finding::Line(number, _) => Fault::ImportLine(number),
+        }
+    }
+}
+
 /// What the end of the program's session makes of the program.
 pub(crate) fn outcome_of(end: End) -> Result<(), Fault<'static>>
     ensures { result ≡ outcome end }
@@ -90,19 +108,5 @@ pub(crate) fn outcome_of(end: End) -> Result<(), Fault<'static>>
         End::WriteFault => Err(Fault::SessionWrite),
         End::Limit => Err(Fault::SessionLimit),
         End::Memory => Err(Fault::Memory),
-    }
-}
-
-/// The word of a command that can't be read.
-pub(crate) fn word_of(fault: CommandFault) -> &'static str
-    ensures { result.now ≡ command_word fault }
-{
-    match fault {
-        CommandFault::Long => "LONG",
-        CommandFault::Bytes => "BYTES",
-        CommandFault::Fields => "FIELDS",
-        CommandFault::Word => "WORD",
-        CommandFault::Role => "ROLE",
-        CommandFault::Name => "NAME",
     }
 }

@@ -4,11 +4,10 @@
 //! their sessions by a clerk of a repository, at the moments of a [`Clock`]. [`rehearse`] is one session over an empty trail,
 //! with users of its own.
 //!
-//! `main` is `nmvs_serve`'s; options, users files and commands are `nmvs_operator`'s, and handed on here.
+//! `main` is `nmvs_serve`'s; options, users files and commands are `nmvs_operator`'s.
 #![tactic(auto)]
 
 mod clock;
-mod commands;
 mod console;
 mod desk;
 #[cfg(test)]
@@ -17,7 +16,6 @@ mod exports;
 mod fault;
 mod host;
 mod launch;
-mod limits;
 mod opening;
 mod rehearsal;
 mod roster;
@@ -29,8 +27,4 @@ pub use desk::ClerkDesk;
 pub use fault::{Fault, Outcome};
 pub use host::Host;
 pub use launch::{run, start};
-pub use limits::{MOST_LINES, MOST_READS};
-pub use nmvs_operator::{
-    LoadFault, ObeyFault, OptionFault, Options, load_users, obey, read_options,
-};
 pub use rehearsal::{rehearse, serve_rehearsal};

@@ -1,8 +1,7 @@
 //! A repository as it is opened.
 ghost use Rattle.std.specs.Prelude.{◌≡◌, ◌≤◌, length, vec_len, IfOk};
 
-use crate::limits::{MOST_CLERKS, PARTS};
-use nmvs_desk::{Clerk, EntryLedger, OpenFault, ReceiptLedger, Repository};
+use nmvs_desk::{Clerk, EntryLedger, MOST_CLERKS, OpenFault, PARTS, ReceiptLedger, Repository};
 use nmvs_directory::{Naming, Window};
 use nmvs_shard::Shard;
 use std::alloc::Global;
@@ -23,8 +22,8 @@ pub(crate) struct Opening<'a, J: Naming> {
 /// An open repository, and its clerks.
 #[derive(Drop)]
 pub(crate) struct Opened<'a, J: Naming, S: EntryLedger, C: ReceiptLedger> {
-    pub(crate) repository: Repository<'a, Global, S, C>,
-    pub(crate) clerks: Vec<Clerk<'a, Global, J, C>, &'a Global>,
+    pub(crate) repository: Repository<'a, S, C>,
+    pub(crate) clerks: Vec<Clerk<'a, J, C>, &'a Global>,
 }
 
 impl<'a, J: Naming> Opening<'a, J> {

@@ -1,12 +1,11 @@
 //! The workers that serve connections, and the registrar beside them.
-use crate::commands::obey_all;
 use crate::host::Shared;
-use crate::limits::LIMITS;
 use crate::{ClerkDesk, Console, ProgramClock, Sides};
 use nmvs_desk::{Clerk, EntryLedger, ReceiptLedger};
 use nmvs_directory::{Naming, Registrar};
-use nmvs_protocol::{Desk, serve};
-use nmvs_stream::{Device, Sink, put};
+use nmvs_operator::obey_all;
+use nmvs_protocol::{Desk, SESSION_LIMITS, serve};
+use nmvs_stream::{Device, Sink, deliver};
 use std::alloc::{AllocError, Global};
 use std::net::TcpListener;
 use std::rt::Clock;
@@ -20,8 +19,8 @@ mod tests;
 /// Serves connections, one after another, and gives the clerk back. A failed accept counts as one.
 fn work<'r, H: Wait + Clock, J: Naming, S: EntryLedger, C: ReceiptLedger>(
     shared: &Shared<'_, 'r, '_, H, J, S, C>,
-    clerk: Clerk<'r, Global, J, C>,
-) -> Clerk<'r, Global, J, C> {
+    clerk: Clerk<'r, J, C>,
+) -> Clerk<'r, J, C> {
     let run = shared.run;
     if !*shared.ready.lock(run.rt) {
         return clerk;
@@ -46,7 +45,7 @@ fn serve_next<'a, D: Desk<'a>>(alloc: Global, listener: &TcpListener, desk: &mut
     let _slow = stream.set_nodelay(true);
     let mut source = Device::new(&stream);
     let mut sink = Device::new(&stream);
-    let _end = serve(alloc, &mut source, &mut sink, desk, LIMITS);
+    let _end = serve(alloc, &mut source, &mut sink, desk, SESSION_LIMITS);
 }
 
 /// Serves connections in as many threads as there are clerks, and carries out the registrar's commands in this one. It
@@ -65,10 +64,10 @@ pub(crate) fn serve_connections<
     T: Sides,
 >(
     shared: &Shared<'_, 'r, '_, H, J, S, C>,
-    clerks: Vec<Clerk<'r, Global, J, C>, &'r Global>,
-    registrar: &mut Registrar<J, &H, &Global>,
+    clerks: Vec<Clerk<'r, J, C>, &'r Global>,
+    registrar: &mut Registrar<J, &'r H, &'r Global>,
     console: &mut Console<T>,
-) -> Result<Vec<Clerk<'r, Global, J, C>, &'r Global>, AllocError> {
+) -> Result<Vec<Clerk<'r, J, C>, &'r Global>, AllocError> {
     let run = shared.run;
     thread::scope(thread::scope_env(), run.rt, |scope| {
         let mut ready = shared.ready.lock(run.rt);
@@ -84,7 +83,15 @@ pub(crate) fn serve_connections<
         *ready = true;
         drop(ready);
         tell_port(*run.alloc, shared.listener, &mut console.sink);
-        obey_all(run.rt, console, registrar, shared.latest);
+        let (commands, answers) = (&mut console.source, &mut console.sink);
+        obey_all(
+            &run.rt,
+            commands,
+            answers,
+            registrar,
+            shared.latest,
+            SESSION_LIMITS,
+        );
         for worker in workers {
             back.push(worker.join(run.rt))?;
         }
@@ -97,7 +104,7 @@ fn tell_port<W: Sink>(alloc: Global, listener: &TcpListener, out: &mut W) {
     if let Ok(address) = listener.local_addr() {
         let port = address.port();
         if let Ok(text) = format!(in alloc; "LISTENING {port}\n") {
-            let _failed = put(out, text.as_bytes());
+            let _failed = deliver(out, text.as_bytes());
         }
     }
 }

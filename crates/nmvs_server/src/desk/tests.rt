@@ -3,15 +3,14 @@ ghost use Rattle.std.specs.Prelude.{◌≡◌, ◌≤◌, length, vec_len};
 ghost use Rattle.nmvs_directory.specs.Directory.{directory_book};
 
 use crate::clock::OneMore;
-use crate::commands::{answer_text, obey_one};
 use crate::examples::{Example, NEW_YEAR};
-use crate::limits::{LIMITS, MOST_CLERKS, PARTS};
 use crate::opening::Opening;
-use crate::{ClerkDesk, Clock, examples, load_users};
+use crate::{ClerkDesk, Clock, examples};
 use boxcar::tag::Tag;
-use nmvs_desk::{EntryLedger, ReceiptLedger};
+use nmvs_desk::{EntryLedger, MOST_CLERKS, PARTS, ReceiptLedger};
 use nmvs_directory::{Directory, Naming, Notice, Registrar};
-use nmvs_protocol::{Desk, serve};
+use nmvs_operator::{load_users, obey_all};
+use nmvs_protocol::{Desk, SESSION_LIMITS, serve};
 use nmvs_shard::Shard;
 use nmvs_stream::Device;
 use std::alloc::Global;
@@ -97,7 +96,28 @@ fn asked<'a, D: Desk<'a>>(alloc: Global, desk: &mut D, line: &str) -> Result<Vec
         &mut Device::new(input.as_bytes()),
         &mut Device::new(&mut output),
         desk,
-        LIMITS,
+        SESSION_LIMITS,
+    );
+    Ok(output)
+}
+
+/// What the registrar is answered to one command.
+fn commanded<'r, J: Naming, R: Wait>(
+    rt: &'r R,
+    alloc: Global,
+    registrar: &mut Registrar<J, &'r R, &Global>,
+    latest: &Mutex<Notice<J>>,
+    line: &str,
+) -> Result<Vec<u8>, Fail> {
+    let input = format!(in alloc; "{line}\n")?;
+    let mut output = Vec::new(alloc);
+    obey_all(
+        &rt,
+        &mut Device::new(input.as_bytes()),
+        &mut Device::new(&mut output),
+        registrar,
+        latest,
+        SESSION_LIMITS,
     );
     Ok(output)
 }
@@ -110,11 +130,11 @@ fn is_put(answer: &str) -> bool {
         || answer == "DONE")
 }
 
-fn at_desk<'a, J: Naming, S: EntryLedger, C: ReceiptLedger, R: Wait + Abort>(
-    rt: &R,
+fn at_desk<'r, 'a, J: Naming, S: EntryLedger, C: ReceiptLedger, R: Wait + Abort>(
+    rt: &'r R,
     latest: &Mutex<Notice<J>>,
     opening: Opening<'a, J>,
-    registrar: &mut Registrar<J, &R, &Global>,
+    registrar: &mut Registrar<J, &'r R, &Global>,
     example: &Example,
 ) -> Result<(), Fail>
     requires entries { (opening.entries.name ≡ S.name) × (opening.entries.parts ≡ S.parts) × (S.parts ≡ PARTS) }
@@ -131,13 +151,12 @@ fn at_desk<'a, J: Naming, S: EntryLedger, C: ReceiptLedger, R: Wait + Abort>(
     let mut desk = ClerkDesk::new(rt, clerk, &opened.repository, latest, clock);
     for (line, answer) in example.lines {
         let wanted = format!(in *alloc; "{answer}\n")?;
-        if line.starts_with("SUSPEND") {
-            let said = answer_text(obey_one(rt, line.as_bytes(), registrar, latest));
-            assert_eq!(rt; said, wanted.as_str(), "{}", example.shows);
+        let said = if line.starts_with("SUSPEND") {
+            commanded(rt, *alloc, registrar, latest, line)?
         } else {
-            let said = asked(*alloc, &mut desk, line)?;
-            assert_eq!(rt; said.as_slice(), wanted.as_bytes(), "{}", example.shows);
-        }
+            asked(*alloc, &mut desk, line)?
+        };
+        assert_eq!(rt; said.as_slice(), wanted.as_bytes(), "{}", example.shows);
     }
     let answers = example.lines.iter().map(|(_, answer)| *answer);
     let put = answers.filter(|answer| is_put(*answer)).count();

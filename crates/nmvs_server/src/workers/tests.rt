@@ -1,9 +1,9 @@
 //! A run over connections.
 use crate::examples::NEW_YEAR;
-use crate::{Console, Options, Outcome, run};
+use crate::{Console, Outcome, run};
 use nmvs_identifier::Moment;
+use nmvs_operator::Options;
 use nmvs_stream::Device;
-use std::cell::Cell;
 use std::io;
 use std::io::{ErrorKind, Read, Write};
 use std::net::{SocketAddr, TcpListener, TcpStream};
@@ -47,14 +47,19 @@ fn is_filled(mut stream: &TcpStream, into: &mut [u8]) -> io::Result<bool> {
     Ok(got == into.len())
 }
 
+/// Whether this text comes.
+fn is_heard(stream: &TcpStream, text: &str) -> io::Result<bool> {
+    let mut buffer = [0u8; 80];
+    let Some(told) = buffer.get_mut(..text.len()) else {
+        return Ok(false);
+    };
+    Ok(is_filled(stream, told)? && &*told == text.as_bytes())
+}
+
 /// Whether these lines get these replies.
 fn is_answered(mut stream: &TcpStream, lines: &str, replies: &str) -> io::Result<bool> {
     stream.write_all(lines.as_bytes())?;
-    let mut buffer = [0u8; 80];
-    let Some(told) = buffer.get_mut(..replies.len()) else {
-        return Ok(false);
-    };
-    Ok(is_filled(stream, told)? && &*told == replies.as_bytes())
+    is_heard(stream, replies)
 }
 
 /// A terminal that has its first reply, and is then answered only after a second one's whole session.
@@ -67,22 +72,28 @@ fn are_served_at_once(rt: &HostRuntime, address: SocketAddr) -> io::Result<bool>
     Ok(begun && other && rest)
 }
 
-/// Gives commands, then puts the terminals to the server, and ends.
+/// Gives commands, then puts the terminals to the server, and ends. Where they are not served at once it gives a command
+/// more, which is none. (It owns what it needs: in this toolchain a run's console may hold no references.)
 #[derive(Drop)]
-struct Script<'s> {
-    rt: &'s HostRuntime,
+struct Script {
+    rt: HostRuntime,
     address: SocketAddr,
-    commands: &'s [u8],
-    served: &'s Cell<bool>,
+    given: usize,
+    ended: bool,
 }
 
-impl<'s> Read for Script<'s> {
+impl Read for Script {
     fn read(&mut self, buffer: &mut [u8]) -> io::Result<usize> {
-        let given = self.commands.read(buffer)?;
-        if given == 0 {
-            self.served.set(are_served_at_once(self.rt, self.address)?);
+        let mut left = COMMANDS.as_bytes().get(self.given..).unwrap_or(&[]);
+        if left.is_empty() && !self.ended {
+            self.ended = true;
+            if !are_served_at_once(&self.rt, self.address)? {
+                left = b"UNSERVED\n";
+            }
         }
-        Ok(given)
+        let count = left.read(buffer)?;
+        self.given = self.given.saturating_add(count);
+        Ok(count)
     }
 }
 
@@ -103,15 +114,16 @@ fn two_connections_are_served_at_once(rt: HostRuntime) -> Result<(), Fail> {
     let listener = TcpListener::bind(&rt, "127.0.0.1:0")?;
     let address = listener.local_addr()?;
     let port = address.port();
-    let served = Cell::new(false);
-    let mut output = Vec::new(alloc);
+    let heard = TcpListener::bind(&rt, "127.0.0.1:0")?;
     let script = Script {
-        rt: &rt,
+        rt: rt.clone()?,
         address,
-        commands: COMMANDS.as_bytes(),
-        served: &served,
+        given: 0,
+        ended: false,
     };
-    let mut console = Console::new(Device::new(script), Device::new(&mut output));
+    let said = TcpStream::connect(&rt, heard.local_addr()?)?;
+    let (hearing, _peer) = heard.accept()?;
+    let mut console = Console::new(Device::new(script), Device::new(said));
     let outcome = run(&rt, alloc, &options, &listener, &mut console);
     drop(console);
     assert_eq!(rt;
@@ -121,8 +133,7 @@ fn two_connections_are_served_at_once(rt: HostRuntime) -> Result<(), Fail> {
             program: None
         }
     );
-    assert!(rt; served.get());
     let told = format!(in alloc; "LISTENING {port}\nDONE\nDONE\nSETTLED 3 3\n")?;
-    assert_eq!(rt; output.as_slice(), told.as_bytes());
+    assert!(rt; is_heard(&hearing, &told)?);
     Ok(())
 }
