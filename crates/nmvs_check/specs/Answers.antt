@@ -7,11 +7,12 @@ use Rattle.nmvs_identifier.specs.declared.pack.Pack.{Pack}
 use Rattle.nmvs_rules.specs.declared.entry.Entry.{Entry}
 use Rattle.nmvs_rules.specs.Questions.{code_of}
 use Rattle.nmvs_rules.specs.Trail.{is_about}
-use Rattle.nmvs_record.specs.Export.{export_text}
+use Rattle.nmvs_rules.specs.declared.reply.Reply.TheVariants.{Shown}
+use Rattle.nmvs_protocol.specs.Texts.{reply_text}
 use Rattle.nmvs_record.specs.Lines.{Imported, newer}
 use Rattle.nmvs_record.specs.Report.{product_line, report_text}
-use Rattle.nmvs_check.specs.declared.asked.Asked.{Asked}
-use Rattle.nmvs_check.specs.declared.asked.Asked.TheVariants as asked
+use Rattle.nmvs_check.specs.declared.request.Request.{Request}
+use Rattle.nmvs_check.specs.declared.request.Request.TheVariants as request
 
 -- the product codes so far, and one more behind them where it is new
 abbrev pub with_code : List ProductCode → ProductCode → List ProductCode
@@ -19,7 +20,7 @@ with_code seen c = if list_any (same_text c) seen then seen else seen ++ c ∷ [
 
 -- the product codes that the entries name, in order of first appearance
 abbrev pub codes_named : List Entry → List ProductCode
-codes_named t = fold (λ seen e. with_code seen (code_of e.question)) [] t
+codes_named t = fold (λ seen e. with_code seen (code_of e.put.question)) [] t
 
 -- how many lines there are, and how many of them in each version
 abbrev pub counts_text : Imported → List ℕ
@@ -30,11 +31,11 @@ counts_text it =
 abbrev pub summary_text : Imported → List ℕ
 summary_text it = counts_text it ++ flat_map (product_line it.trail) (codes_named it.trail)
 
--- how many entries are about a pack, and their lines
+-- the reply that shows the entries about a pack, and their lines
 abbrev pub audit_text : List Entry → Pack → List ℕ
-audit_text t p = codes "SHOWN " ++ (decimal (length (filter (is_about p) t)) ++ 10 ∷ export_text (filter (is_about p) t))
+audit_text t p = let shown = filter (is_about p) t in reply_text (Shown (length shown)) shown
 
-abbrev pub answer_text : Imported → Asked → List ℕ
-answer_text it asked.Summary = summary_text it
-answer_text it (asked.Report c) = report_text it.trail c
-answer_text it (asked.Audit p) = audit_text it.trail p
+abbrev pub answer_text : Imported → Request → List ℕ
+answer_text it request.Summary = summary_text it
+answer_text it (request.Report c) = report_text it.trail c
+answer_text it (request.Audit p) = audit_text it.trail p

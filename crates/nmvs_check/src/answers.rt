@@ -1,15 +1,15 @@
 //! What is told of a lawful export.
 ghost use Rattle.std.specs.Prelude.{◌≡◌, ◌++◌, IfOk, OnOk, string_bytes};
 ghost use Rattle.std.specs.List.{flat_map};
-ghost use Rattle.nmvs_record.specs.Export.{export_text};
 ghost use Rattle.nmvs_record.specs.Report as reports;
 ghost use Rattle.nmvs_check.specs.Answers as answers;
 
-use crate::asked::Asked;
+use crate::request::Request;
 use indexmap::IndexSet;
 use nmvs_identifier::{Pack, ProductCode};
-use nmvs_record::{Importer, entry_line, product_line, report};
-use nmvs_rules::Entry;
+use nmvs_protocol::reply_text;
+use nmvs_record::{Importer, product_line, report};
+use nmvs_rules::{Entry, Reply};
 use nmvs_shard::Shard;
 use std::alloc::{AllocError, Global};
 
@@ -21,14 +21,14 @@ use std::alloc::{AllocError, Global};
 pub(crate) fn answer_text(
     alloc: Global,
     importer: &Importer<Global>,
-    asked: &Asked,
+    request: &Request,
 ) -> Result<String, AllocError>
-    ensures { IfOk result (λ text. string_bytes text ≡ answers.answer_text importer.now asked.now) }
+    ensures { IfOk result (λ text. string_bytes text ≡ answers.answer_text importer.now request.now) }
 {
-    match asked {
-        Asked::Summary => summary(alloc, importer),
-        Asked::Report(code) => report(alloc, importer.shard(), code),
-        Asked::Audit(pack) => audit(alloc, importer.shard(), pack),
+    match request {
+        Request::Summary => summary(alloc, importer),
+        Request::Report(code) => report(alloc, importer.shard(), code),
+        Request::Audit(pack) => audit(alloc, importer.shard(), pack),
     }
 }
 
@@ -57,7 +57,7 @@ fn codes_named(alloc: Global, entries: &[Entry]) -> Result<IndexSet<ProductCode>
 {
     let mut codes = IndexSet::new(alloc);
     for entry in entries {
-        match codes.insert(entry.question.code()) {
+        match codes.insert(entry.put.question.code()) {
             Ok(_) => {}
             Err(_) => return Err(AllocError),
         }
@@ -85,19 +85,5 @@ fn audit(alloc: Global, shard: &Shard<Global>, pack: &Pack) -> Result<String, Al
     ensures { IfOk result (λ text. string_bytes text ≡ answers.audit_text shard.now pack.now) }
 {
     let entries = shard.entries_of(pack)?;
-    let mut text = format!(in alloc; "SHOWN {}\n", entries.len())?;
-    append_entries(alloc, &entries, &mut text)?;
-    Ok(text)
-}
-
-/// Puts the lines of entries at the end of a text.
-fn append_entries(alloc: Global, entries: &[Entry], text: &mut String) -> Result<(), AllocError>
-    ensures { OnOk result (string_bytes text.new ≡ string_bytes text.old ++ export_text entries.now) }
-{
-    for entry in entries {
-        let line = entry_line(alloc, entry)?;
-        text.push_str(&line)?;
-        text.push_str("\n")?;
-    }
-    Ok(())
+    reply_text(alloc, &Reply::Shown(entries.len() as u64), &entries)
 }

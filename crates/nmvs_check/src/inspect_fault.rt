@@ -1,5 +1,5 @@
 //! Why nothing is told of an export.
-use nmvs_protocol::{Answer, reply_text};
+use nmvs_protocol::reply_text;
 use nmvs_record::{Finding, Objection};
 use nmvs_rules::Reply;
 use std::alloc::{AllocError, Global};
@@ -42,8 +42,8 @@ fn unlawful_text(
     stored: &Reply,
     rules: &Reply,
 ) -> Result<String, AllocError> {
-    let stored = reply_text(alloc, &Answer::Replied(*stored))?;
-    let rules = reply_text(alloc, &Answer::Replied(*rules))?;
+    let stored = reply_text(alloc, stored, &[])?;
+    let rules = reply_text(alloc, rules, &[])?;
     format!(in alloc;
         "line {number} is unlawful: stored {}, the rules give {}",
         stored.trim_end(),

@@ -2,12 +2,12 @@
 ghost use Rattle.std.specs.Prelude.{◌≡◌, false, string_bytes, IfOk, IfErr};
 ghost use Rattle.nmvs_record.specs.declared.finding.Finding.{Finding as AFinding};
 ghost use Rattle.nmvs_record.specs.Lines.{Imported};
-ghost use Rattle.nmvs_record.specs.Import.{Imports, Fails};
+ghost use Rattle.nmvs_record.specs.Import.{Imports, FailsToImport};
 ghost use Rattle.nmvs_check.specs.Answers as answers;
 
 use crate::answers::answer_text;
-use crate::asked::Asked;
 use crate::inspect_fault::InspectFault;
+use crate::request::Request;
 use nmvs_record::examine;
 use nmvs_stream::Source;
 use std::alloc::Global;
@@ -21,16 +21,16 @@ use std::alloc::Global;
 pub(crate) fn inspect<R: Source>(
     alloc: Global,
     source: &mut R,
-    asked: &Asked,
+    request: &Request,
     reads: u64,
 ) -> Result<String, InspectFault>
     requires source_open { (R.told source.old).ended ≡ false }
-    ensures lawful { IfOk result (λ text. (it : Imported) × Imports (R.told source.old) (R.told source.new) it × (string_bytes text ≡ answers.answer_text it asked.now)) }
-    ensures found { IfErr result (λ fault. (finding : AFinding) → fault ≡ InspectFault.Found finding → Fails (R.told source.old) (R.told source.new) reads finding) }
+    ensures lawful { IfOk result (λ text. (it : Imported) × Imports (R.told source.old) (R.told source.new) it × (string_bytes text ≡ answers.answer_text it request.now)) }
+    ensures found { IfErr result (λ fault. (finding : AFinding) → fault ≡ InspectFault.Found finding → FailsToImport (R.told source.old) (R.told source.new) reads finding) }
 {
     match examine(alloc, alloc, source, reads) {
         Err(finding) => Err(InspectFault::Found(finding)),
-        Ok(importer) => match answer_text(alloc, &importer, asked) {
+        Ok(importer) => match answer_text(alloc, &importer, request) {
             Ok(text) => Ok(text),
             Err(_) => Err(InspectFault::Memory),
         },

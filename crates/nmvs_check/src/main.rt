@@ -4,10 +4,10 @@
 ghost use Rattle.std.specs.Prelude.{◌≡◌, false};
 
 mod answers;
-mod asked;
 mod inspect_fault;
 mod inspection;
 mod options;
+mod request;
 #[cfg(test)]
 mod tests;
 
@@ -26,7 +26,7 @@ const READS: u64 = 1_000_000_000;
 fn main(rt: HostRuntime) -> ExitCode {
     let alloc = rt.alloc();
     let Ok(words) = words(&rt) else {
-        return failed(&rt, "out of memory");
+        return fail(&rt, "out of memory");
     };
     match read_options(alloc, &words) {
         Ok(options) => check(&rt, alloc, &options),
@@ -38,7 +38,7 @@ fn main(rt: HostRuntime) -> ExitCode {
             let _ = eprint!(rt; "{text}");
             ExitCode::from(2)
         }
-        Err(OptionFault::Memory) => failed(&rt, "out of memory"),
+        Err(OptionFault::Memory) => fail(&rt, "out of memory"),
     }
 }
 
@@ -51,32 +51,32 @@ fn words<R: Env + AllocGlobal>(rt: &R) -> io::Result<Vec<String>> {
 /// Checks the export that the options name, tells the answer or the fault, and gives the status.
 fn check(rt: &HostRuntime, alloc: Global, options: &Options) -> ExitCode {
     match &options.file {
-        None => told(rt, alloc, &mut Device::new(rt.stdin()), options),
+        None => tell(rt, alloc, &mut Device::new(rt.stdin()), options),
         Some(path) => match fs::open(rt, path) {
-            Ok(file) => told(rt, alloc, &mut Device::new(file), options),
-            Err(_) => failed(rt, "the file cannot be opened"),
+            Ok(file) => tell(rt, alloc, &mut Device::new(file), options),
+            Err(_) => fail(rt, "the file cannot be opened"),
         },
     }
 }
 
 /// Tells what is asked of an export or the fault, and gives the status.
-fn told<S: Source>(rt: &HostRuntime, alloc: Global, source: &mut S, options: &Options) -> ExitCode
+fn tell<S: Source>(rt: &HostRuntime, alloc: Global, source: &mut S, options: &Options) -> ExitCode
     requires source_open { (S.told source.old).ended ≡ false }
 {
-    match inspect(alloc, source, &options.asked, READS) {
+    match inspect(alloc, source, &options.request, READS) {
         Ok(text) => match print!(rt; "{text}") {
             Ok(()) => ExitCode::SUCCESS,
-            Err(_) => failed(rt, "the answer cannot be written"),
+            Err(_) => fail(rt, "the answer cannot be written"),
         },
         Err(fault) => match fault_text(alloc, &fault) {
-            Ok(text) => failed(rt, &text),
-            Err(AllocError) => failed(rt, "out of memory"),
+            Ok(text) => fail(rt, &text),
+            Err(AllocError) => fail(rt, "out of memory"),
         },
     }
 }
 
 /// Tells a fault, and gives the status that it makes.
-fn failed(rt: &HostRuntime, fault: &str) -> ExitCode {
+fn fail(rt: &HostRuntime, fault: &str) -> ExitCode {
     let _ = eprintln!(rt; "{fault}");
     ExitCode::FAILURE
 }

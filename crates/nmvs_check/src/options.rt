@@ -1,5 +1,5 @@
 //! The command line.
-use crate::asked::Asked;
+use crate::request::Request;
 use clap::error::ErrorKind;
 use clap::{Arg, ArgMatches, Command, Error};
 use nmvs_identifier::{Pack, ProductCode, Serial};
@@ -10,7 +10,7 @@ use std::alloc::{AllocError, Global};
 pub(crate) struct Options {
     /// Path of the export; standard input where there is none.
     pub file: Option<String>,
-    pub asked: Asked,
+    pub request: Request,
 }
 
 /// Why a command line gives no options.
@@ -48,7 +48,7 @@ pub(crate) fn read_options(alloc: Global, words: &[String]) -> Result<Options, O
         .no_binary_name(true)
         .try_get_matches_from(words)
     {
-        Ok(matches) => taken(alloc, &matches),
+        Ok(matches) => options_of(alloc, &matches),
         Err(error) => Err(fault_of(alloc, &error)),
     }
 }
@@ -75,25 +75,25 @@ fn command<'a>(alloc: Global) -> Result<Command<'a>, AllocError> {
         .arg(audit)
 }
 
-fn taken(alloc: Global, matches: &ArgMatches<'_>) -> Result<Options, OptionFault> {
+fn options_of(alloc: Global, matches: &ArgMatches<'_>) -> Result<Options, OptionFault> {
     let file = match matches.get_str("file") {
         Some(path) => Some(String::from_str(alloc, path)?),
         None => None,
     };
-    let asked = asked(alloc, matches)?;
-    Ok(Options { file, asked })
+    let request = request_of(alloc, matches)?;
+    Ok(Options { file, request })
 }
 
-fn asked(alloc: Global, matches: &ArgMatches<'_>) -> Result<Asked, OptionFault> {
+fn request_of(alloc: Global, matches: &ArgMatches<'_>) -> Result<Request, OptionFault> {
     if let Some(code) = matches.get_str("report") {
-        return Ok(Asked::Report(code_of(alloc, code)?));
+        return Ok(Request::Report(code_of(alloc, code)?));
     }
     match matches.get_strs("audit") {
-        Some([code, serial]) => Ok(Asked::Audit(Pack {
+        Some([code, serial]) => Ok(Request::Audit(Pack {
             code: code_of(alloc, code)?,
             serial: serial_of(alloc, serial)?,
         })),
-        _ => Ok(Asked::Summary),
+        _ => Ok(Request::Summary),
     }
 }
 

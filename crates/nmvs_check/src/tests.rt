@@ -1,7 +1,7 @@
-use crate::asked::Asked;
 use crate::inspect_fault::fault_text;
 use crate::inspection::inspect;
 use crate::options::{OptionFault, Options, read_options};
+use crate::request::Request;
 use nmvs_identifier::{Pack, ProductCode, Serial};
 use nmvs_stream::Device;
 use std::alloc::{AllocError, Global};
@@ -20,7 +20,7 @@ const EXPORT: &str =
 "#;
 
 /// What is told of these bytes, or why nothing is.
-fn told(alloc: Global, export: &str, asked: &Asked) -> Result<String, AllocError> {
+fn told(alloc: Global, export: &str, asked: &Request) -> Result<String, AllocError> {
     match inspect(alloc, &mut Device::new(export.as_bytes()), asked, 1_000) {
         Ok(text) => Ok(text),
         Err(fault) => fault_text(alloc, &fault),
@@ -43,12 +43,12 @@ fn serial(rt: &impl Abort, text: &str) -> Serial {
 
 #[test]
 fn a_lawful_export_is_summed_up(rt: HostRuntime) -> Result<(), Fail> {
-    let text = told(rt.alloc(), EXPORT, &Asked::Summary)?;
+    let text = told(rt.alloc(), EXPORT, &Request::Summary)?;
     assert_eq!(rt;
         text.as_str(),
         "LAWFUL 6\nVERSION 1 0\nVERSION 2 6\nPRODUCT 09506000134352 HOLDER MAH-1 ALERTS 1 FLAGGED 0\n"
     );
-    let text = told(rt.alloc(), "", &Asked::Summary)?;
+    let text = told(rt.alloc(), "", &Request::Summary)?;
     assert_eq!(rt; text.as_str(), "LAWFUL 0\nVERSION 1 0\nVERSION 2 0\n");
     Ok(())
 }
@@ -59,7 +59,7 @@ fn product_codes_come_in_order_of_first_appearance(rt: HostRuntime) -> Result<()
     let line = format!(in rt.alloc();
         "[1767225600,\"ph1\",\"PHARMACY\",\"PH-1\",\"P1\",{alert}\n{EXPORT}"
     )?;
-    let text = told(rt.alloc(), &line, &Asked::Summary)?;
+    let text = told(rt.alloc(), &line, &Request::Summary)?;
     assert_eq!(rt;
         text.as_str(),
         "LAWFUL 7\nVERSION 1 1\nVERSION 2 6\nPRODUCT 04012345678901 HOLDER - ALERTS 1 FLAGGED 1\n\
@@ -70,7 +70,7 @@ fn product_codes_come_in_order_of_first_appearance(rt: HostRuntime) -> Result<()
 
 #[test]
 fn a_product_code_and_a_pack_are_looked_up(rt: HostRuntime) -> Result<(), Fail> {
-    let text = told(rt.alloc(), EXPORT, &Asked::Report(code(&rt)))?;
+    let text = told(rt.alloc(), EXPORT, &Request::Report(code(&rt)))?;
     assert_eq!(rt;
         text.as_str(),
         "PRODUCT 09506000134352 HOLDER MAH-1 ALERTS 1 FLAGGED 0\n\
@@ -81,14 +81,14 @@ fn a_product_code_and_a_pack_are_looked_up(rt: HostRuntime) -> Result<(), Fail> 
         code,
         serial: serial(&rt, "SN1"),
     };
-    let text = told(rt.alloc(), EXPORT, &Asked::Audit(pack))?;
+    let text = told(rt.alloc(), EXPORT, &Request::Audit(pack))?;
     assert!(rt; text.starts_with("SHOWN 5\n[2,1767225600,\"mah1\""));
     assert!(rt; text.ends_with("\"B1\",\"280200\"]]\n"));
     let other = Pack {
         code,
         serial: serial(&rt, "SN2"),
     };
-    let text = told(rt.alloc(), EXPORT, &Asked::Audit(other))?;
+    let text = told(rt.alloc(), EXPORT, &Request::Audit(other))?;
     assert_eq!(rt; text.as_str(), "SHOWN 0\n");
     Ok(())
 }
@@ -131,7 +131,7 @@ fn what_is_wrong_with_a_line_is_told(rt: HostRuntime) -> Result<(), Fail> {
             panic!(rt; "{from} is not in the export");
         };
         let export = format!(in rt.alloc(); "{before}{to}{after}")?;
-        let text = told(rt.alloc(), &export, &Asked::Summary)?;
+        let text = told(rt.alloc(), &export, &Request::Summary)?;
         assert_eq!(rt; text.as_str(), fault);
     }
     Ok(())
@@ -153,15 +153,15 @@ fn a_command_line_is_taken(rt: HostRuntime) -> Result<(), Fail> {
         code,
         serial: serial(&rt, "SN1"),
     };
-    for (line, asked) in [
-        ("export", Asked::Summary),
-        ("--report 09506000134352 export", Asked::Report(code)),
-        ("export --audit 09506000134352 SN1", Asked::Audit(pack)),
+    for (line, request) in [
+        ("export", Request::Summary),
+        ("--report 09506000134352 export", Request::Report(code)),
+        ("export --audit 09506000134352 SN1", Request::Audit(pack)),
     ] {
         let Ok(options) = options(rt.alloc(), line)? else {
             panic!(rt; "{line} is refused");
         };
-        assert!(rt; options.asked == asked, "{line}");
+        assert!(rt; options.request == request, "{line}");
         assert!(rt;
             options.file.is_some_and(|path| path.as_str() == "export"),
             "{line}"

@@ -7,7 +7,7 @@ use Rattle.std.proofs.lemmas.List.{get_or-set_same, get_or-set_other, length-set
 use Rattle.std.proofs.lemmas.List.Sums.{sum_by-set, sum_by-cons, count_by-le-length}
 use Rattle.std.proofs.lemmas.Option.{slice_get_within, slice_get_read, get_or_from_slice_get}
 use Rattle.nmvs_rules.specs.declared.entry.Entry.{Entry}
-use Rattle.nmvs_desk.specs.declared.owner.Owner.{Owner}
+use Rattle.nmvs_desk.specs.declared.settled.Owner.{Owner}
 use Rattle.nmvs_desk.specs.Settlement.{row, at, places}
 use Rattle.nmvs_desk.specs.Claims.{Claimed, put, claims_in, claimed, HasPlaces}
 use Rattle.nmvs_desk.proofs.Putting.{at_within}

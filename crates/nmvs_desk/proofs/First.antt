@@ -3,8 +3,8 @@ use Rattle.std.proofs.Common.{◌≡◌, ◌<◌, ℕ, List, sym, ap, subst, ◌
 use Rattle.std.specs.Prelude.{Some}
 use Rattle.std.proofs.lemmas.Option.{same_Some}
 use Rattle.nmvs_rules.specs.declared.entry.Entry.{Entry}
-use Rattle.nmvs_desk.specs.declared.receipt.Receipt.{Receipt}
-use Rattle.nmvs_desk.specs.declared.owner.Owner.{Owner}
+use Rattle.nmvs_desk.specs.declared.ask.Receipt.{Receipt}
+use Rattle.nmvs_desk.specs.declared.settled.Owner.{Owner}
 use Rattle.nmvs_desk.specs.Settlement.{row, at, owner, IsDouble, IsGood, IsFirst}
 use Rattle.nmvs_desk.specs.Claims.{Claimed, IsJudged, AreJudged}
 

@@ -4,7 +4,7 @@ use Rattle.std.specs.Prelude.{Some, slice_index}
 use Rattle.std.specs.List.{slice_get}
 use Rattle.std.proofs.lemmas.List.{get_or-set_same, get_or-set_other}
 use Rattle.std.proofs.lemmas.Bool.Decides.{eqb_tells}
-use Rattle.nmvs_desk.specs.declared.receipt.Receipt.{Receipt}
+use Rattle.nmvs_desk.specs.declared.ask.Receipt.{Receipt}
 use Rattle.nmvs_desk.specs.Claims.{IsFloor, AreFloors, IsRaised}
 
 pub floors_none : (receipts : List Receipt) (floors : List ℕ) → ((s : ℕ) → s < 8 → slice_index floors s ≡ 0) → AreFloors receipts 0 floors

@@ -7,10 +7,10 @@ use Rattle.std.proofs.lemmas.List.{length-replicate, length-map, take_all}
 use Rattle.std.proofs.lemmas.List.Sums.{sum_by_more, sum_by-cons, count_by_more_yes, count_by_more_no}
 use Rattle.std.proofs.lemmas.Option.{slice_get_within, get_or_from_slice_get, same_Some}
 use Rattle.nmvs_rules.specs.declared.entry.Entry.{Entry}
-use Rattle.nmvs_desk.specs.declared.receipt.Receipt.{Receipt}
-use Rattle.nmvs_desk.specs.declared.owner.Owner.{Owner}
-use Rattle.nmvs_desk.specs.declared.settle_fault.SettleFault.{SettleFault}
-use Rattle.nmvs_desk.specs.declared.settle_fault.SettleFault.TheVariants.{Memory, Stranger, Order, Double}
+use Rattle.nmvs_desk.specs.declared.ask.Receipt.{Receipt}
+use Rattle.nmvs_desk.specs.declared.settled.Owner.{Owner}
+use Rattle.nmvs_desk.specs.declared.faults.SettleFault.{SettleFault}
+use Rattle.nmvs_desk.specs.declared.faults.SettleFault.TheVariants.{Memory, Stranger, Order, Double}
 use Rattle.nmvs_desk.specs.Settlement.{row, at, owner, IsStranger, IsOutOfOrder, IsDouble, IsFirst, IsFault}
 use Rattle.nmvs_desk.specs.Claims.{Claimed, claims_in, claimed, fresh, HasPlaces, IsClaim, IsRaised, IsRefusal, IsFloor, AreFloors, IsJudged, IsRefused, AreJudged}
 use Rattle.nmvs_desk.proofs.Claiming.{claimed_put, claims_in_same, claims_in_other}

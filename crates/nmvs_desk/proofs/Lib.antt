@@ -1,4 +1,5 @@
 pub mod Lists
+pub mod Serving
 pub mod Dealing
 pub mod SameEntry
 pub mod Claiming

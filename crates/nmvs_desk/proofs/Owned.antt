@@ -8,8 +8,8 @@ use Rattle.std.proofs.lemmas.List.{take_all, length-map}
 use Rattle.std.proofs.lemmas.List.Sums.{sum_by-cons}
 use Rattle.std.proofs.lemmas.Option.{slice_get-get_or, slice_get-map, get_or_from_slice_get, same_Some}
 use Rattle.nmvs_rules.specs.declared.entry.Entry.{Entry}
-use Rattle.nmvs_desk.specs.declared.receipt.Receipt.{Receipt}
-use Rattle.nmvs_desk.specs.declared.owner.Owner.{Owner}
+use Rattle.nmvs_desk.specs.declared.ask.Receipt.{Receipt}
+use Rattle.nmvs_desk.specs.declared.settled.Owner.{Owner}
 use Rattle.nmvs_desk.specs.Settlement.{row, at, places, owner, naming, IsOwned}
 use Rattle.nmvs_desk.specs.Claims.{Claimed, claimed, AreSettled}
 use Rattle.nmvs_desk.proofs.Claiming.{none_free, all_claimed_in}

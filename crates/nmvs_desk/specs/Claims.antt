@@ -3,11 +3,11 @@ use Rattle.std.specs.Prelude.{ℕ, ◌≡◌, ◌≢◌, ◌+◌, ◌<◌, ◌�
 use Rattle.std.specs.List.{slice_get, sum_by, count_by}
 use Rattle.std.specs.Option.{is_some}
 use Rattle.nmvs_rules.specs.declared.entry.Entry.{Entry}
-use Rattle.nmvs_desk.specs.declared.owner.Owner.{Owner}
-use Rattle.nmvs_desk.specs.declared.receipt.Receipt.{Receipt}
-use Rattle.nmvs_desk.specs.declared.settle_fault.SettleFault.{SettleFault}
-use Rattle.nmvs_desk.specs.declared.settle_fault.SettleFault.TheVariants.{Memory, Stranger, Order, Double}
-use Rattle.nmvs_desk.specs.Locks.{Held, Asker}
+use Rattle.nmvs_desk.specs.declared.settled.Owner.{Owner}
+use Rattle.nmvs_desk.specs.declared.ask.Receipt.{Receipt}
+use Rattle.nmvs_desk.specs.declared.faults.SettleFault.{SettleFault}
+use Rattle.nmvs_desk.specs.declared.faults.SettleFault.TheVariants.{Memory, Stranger, Order, Double}
+use Rattle.nmvs_desk.specs.Views.{LockedView, ClerkView}
 use Rattle.nmvs_desk.specs.Settlement.{row, at, places, owner, naming, IsStranger, IsOutOfOrder, IsOwner, Rises}
 
 -- for each place of each trail the owner that claims it, if any
@@ -15,12 +15,12 @@ abbrev pub Claimed : Type 0
 Claimed = List (List (Option Owner))
 
 -- the trails of locked shards
-abbrev pub trails_of : List Held → List (List Entry)
-trails_of shards = map (λ (h : Held). h.trail) shards
+abbrev pub trails_of : List LockedView → List (List Entry)
+trails_of shards = map (λ (h : LockedView). h.trail) shards
 
 -- the receipts of all clerks, clerk 0 first
-abbrev pub lists_of : List Receipt → List Asker → List (List Receipt)
-lists_of opening clerks = opening ∷ map (λ (c : Asker). c.receipts) clerks
+abbrev pub lists_of : List Receipt → List ClerkView → List (List Receipt)
+lists_of opening clerks = opening ∷ map (λ (c : ClerkView). c.receipts) clerks
 
 -- the same lists with another element at this place of this list
 abbrev pub put : {X : Type 0} → List (List X) → ℕ → ℕ → X → List (List X)

@@ -1,7 +1,8 @@
 pub mod Placing
-pub mod Locks
+pub mod Views
 pub mod Numbers
 pub mod Answers
+pub mod Counts
 pub mod Opening
 pub mod Settlement
 pub mod Claims

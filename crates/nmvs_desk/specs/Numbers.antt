@@ -4,7 +4,7 @@ use Rattle.nmvs_desk.specs.declared.ledgers.EntryLedger.{Ghosts}
 use Rattle.nmvs_desk.specs.declared.lock.Lock.{Lock}
 use Rattle.nmvs_desk.specs.declared.lock.Lock.TheVariants.{Zero, One, Two, Three, Four, Five, Six, Seven}
 
-abbrev pub number_of : {B S : Type 0} {g : Ghosts S} → Lock B S g → ℕ
+abbrev pub number_of : {S B : Type 0} {g : Ghosts S} → Lock S B g → ℕ
 number_of (Zero l) = 0
 number_of (One l) = 1
 number_of (Two l) = 2

@@ -3,8 +3,8 @@ use Rattle.std.specs.Prelude.{ℕ, ◌≡◌, Some, List, [], ◌∷◌, ◌++�
 use Rattle.nmvs_rules.specs.declared.entry.Entry.{Entry}
 use Rattle.nmvs_rules.specs.Laws.{placed_at}
 use Rattle.nmvs_rules.specs.Questions.{code_of}
-use Rattle.nmvs_desk.specs.declared.receipt.Receipt.{Receipt}
-use Rattle.nmvs_desk.specs.Locks.{Held}
+use Rattle.nmvs_desk.specs.declared.ask.Receipt.{Receipt}
+use Rattle.nmvs_desk.specs.Views.{LockedView}
 use Rattle.nmvs_desk.specs.Placing.{place_of, shard_of}
 
 -- the trail of a shard, of so many, after these entries
@@ -14,7 +14,7 @@ trail_of count index entries = placed_at (place_of count) index entries
 -- the receipt of an entry that follows these entries: it stands in the shard of its product code, at the next place
 abbrev pub dealt : ℕ → List Entry → Entry → Receipt
 dealt count before e =
-    let index = shard_of count (code_of e.question) in
+    let index = shard_of count (code_of e.put.question) in
     record { shard = index; place = length (trail_of count index before); entry = e }
 
 -- the receipts of entries that follow others
@@ -27,6 +27,6 @@ abbrev pub deal : ℕ → List Entry → List Receipt
 deal count opening = dealt_after count [] opening
 
 -- the first n locked shards are numbered from 0 on, and these entries are dealt to them
-pub record AreDealt (count n : ℕ) (entries : List Entry) (shards : List Held) : Type 0 where
+pub record AreDealt (count n : ℕ) (entries : List Entry) (shards : List LockedView) : Type 0 where
   pub length : length shards ≡ n
-  pub each : (i : ℕ) (h : Held) → slice_get shards i ≡ Some h → (h.index ≡ i) × (h.trail ≡ trail_of count i entries)
+  pub each : (i : ℕ) (h : LockedView) → slice_get shards i ≡ Some h → (h.index ≡ i) × (h.trail ≡ trail_of count i entries)

@@ -15,4 +15,4 @@ shard_of count code = place_of count code.bytes
 
 -- each entry's product code belongs to this shard
 abbrev pub IsPlaced : ℕ → ℕ → List Entry → Type 0
-IsPlaced count index trail = All (λ e. shard_of count (code_of e.question) ≡ index) trail
+IsPlaced count index trail = All (λ e. shard_of count (code_of e.put.question) ≡ index) trail

@@ -3,10 +3,10 @@
 use Rattle.std.specs.Prelude.{ℕ, ◌≡◌, ◌≢◌, ◌<◌, ◌≤◌, ◌==◌, List, [], Option, Some, length}
 use Rattle.std.specs.List.{slice_get, slice_index_or, sum_by, count_by}
 use Rattle.nmvs_rules.specs.declared.entry.Entry.{Entry}
-use Rattle.nmvs_desk.specs.declared.owner.Owner.{Owner}
-use Rattle.nmvs_desk.specs.declared.receipt.Receipt.{Receipt}
-use Rattle.nmvs_desk.specs.declared.settle_fault.SettleFault.{SettleFault}
-use Rattle.nmvs_desk.specs.declared.settle_fault.SettleFault.TheVariants.{Memory, Stranger, Order, Double}
+use Rattle.nmvs_desk.specs.declared.settled.Owner.{Owner}
+use Rattle.nmvs_desk.specs.declared.ask.Receipt.{Receipt}
+use Rattle.nmvs_desk.specs.declared.faults.SettleFault.{SettleFault}
+use Rattle.nmvs_desk.specs.declared.faults.SettleFault.TheVariants.{Memory, Stranger, Order, Double}
 
 -- the list of this number, empty where there is none
 abbrev pub row : {X : Type 0} → List (List X) → ℕ → List X

@@ -3,16 +3,16 @@ use Rattle.std.specs.Prelude.{ℕ, ◌≡◌, List, length}
 use Rattle.nmvs_rules.specs.declared.entry.Entry.{Entry}
 use Rattle.nmvs_rules.specs.Laws.{IsMerging}
 use Rattle.nmvs_rules.specs.Rules.{IsLawful}
-use Rattle.nmvs_desk.specs.Locks.{Held}
+use Rattle.nmvs_desk.specs.Views.{LockedView}
 use Rattle.nmvs_desk.specs.Placing.{IsPlaced}
 use Rattle.nmvs_desk.specs.Settlement.{row}
 
--- the trail of a shard, of so many, is lawful, and each entry's product code belongs to the shard
-pub record IsKept (count : ℕ) (h : Held) : Type 0 where
+-- the trail of a shard, of `count`, is lawful, and each entry's product code belongs to the shard
+pub record IsKept (count : ℕ) (h : LockedView) : Type 0 where
   pub lawful : IsLawful h.trail
   pub placed : IsPlaced count h.index h.trail
 
--- the trails of so many shards, in order: each is lawful, each entry's product code belongs to its shard, and every
+-- the trails of `count` shards, in order: each is lawful, each entry's product code belongs to its shard, and every
 -- merging of them is one lawful trail
 pub record AreTrails (count : ℕ) (trails : List (List Entry)) : Type 0 where
   pub shards : length trails ≡ count

@@ -14,7 +14,7 @@ pub(crate) struct Claims<'a, B: Allocator> {
 
 impl<'a, B: Allocator> Model for Claims<'a, B> {
     ghost use Rattle.std.specs.Prelude.{◌≡◌, ◌≤◌, [], List, Option, length, vec_capacity};
-    ghost use Rattle.nmvs_desk.specs.declared.owner.Owner.{Owner};
+    ghost use Rattle.nmvs_desk.specs.declared.settled.Owner.{Owner};
 
     ghost Value = { List (Option Owner) };
 
@@ -24,7 +24,7 @@ impl<'a, B: Allocator> Model for Claims<'a, B> {
 }
 
 impl<'a, B: Allocator> Claims<'a, B> {
-    /// So many free places.
+    /// `count` free places.
     pub(crate) fn new(alloc: &'a B, count: usize) -> Result<Claims<'a, B>, AllocError>
         ensures { IfOk result (λ c. c ≡ replicate count None) }
     {
@@ -55,6 +55,7 @@ impl<'a, B: Allocator> Claims<'a, B> {
         ensures { map Some result ≡ self.entry }
     {
         let Claims { places, mut room } = self;
+        // By number: the loop's invariant speaks of the places before it.
         for place in 0..places.len() {
             if let Some(owner) = places[place] {
                 room.push_reserved(owner);

@@ -1,7 +1,7 @@
 //! How receipts are judged: which place of which trail each of them claims.
 ghost use Rattle.std.specs.Prelude.{◌≡◌, ◌≢◌, ◌≤◌, [], Some, List, MatchBool, IfOk, IfErr, OnOk, length, vec_len, vec_capacity};
 ghost use Rattle.nmvs_rules.specs.declared.entry.Entry.{Entry};
-ghost use Rattle.nmvs_desk.specs.declared.receipt.Receipt.{Receipt};
+ghost use Rattle.nmvs_desk.specs.declared.ask.Receipt.{Receipt};
 ghost use Rattle.nmvs_desk.specs.Settlement.{at, IsFault, IsOwned};
 ghost use Rattle.nmvs_desk.specs.Claims.{trails_of, lists_of, fresh, HasPlaces, IsClaim, IsRaised, IsRefusal, IsJudged, IsRefused, AreJudged, AreSettled};
 
@@ -10,18 +10,19 @@ mod tests;
 
 use crate::claims::Claims;
 use crate::locked::Locked;
-use crate::{Clerk, EntryLedger, Owner, Owners, Receipt, ReceiptLedger, SettleFault};
+use crate::{Clerk, EntryLedger, MOST_SHARDS, Owner, Owners, Receipt, ReceiptLedger, SettleFault};
 use nmvs_directory::Naming;
 use std::alloc::{AllocError, Allocator};
 
 /// Free places for the trails of the shards.
-fn claims_over<'a, B: Allocator, S: EntryLedger>(
+fn claims_over<'a, S: EntryLedger, B: Allocator>(
     alloc: &'a B,
-    locked: &Vec<Locked<'a, B, S>, &'a B>,
+    locked: &Vec<Locked<'a, S, B>, &'a B>,
 ) -> Result<Vec<Claims<'a, B>, &'a B>, AllocError>
     ensures { IfOk result (λ claims. claims.items ≡ fresh (trails_of locked.now.items)) }
 {
     let mut claims = Vec::with_capacity(alloc, locked.len())?;
+    // By number, as below: the invariants of these loops speak of the first elements of a list.
     for shard in 0..locked.len() {
         let count = locked[shard].trail().len();
         claims.push_reserved(Claims::new(alloc, count)?);
@@ -30,8 +31,8 @@ fn claims_over<'a, B: Allocator, S: EntryLedger>(
 }
 
 /// Whether the receipt's place holds its entry.
-fn stands<'a, B: Allocator, S: EntryLedger>(
-    locked: &Vec<Locked<'a, B, S>, &'a B>,
+fn stands<'a, S: EntryLedger, B: Allocator>(
+    locked: &Vec<Locked<'a, S, B>, &'a B>,
     receipt: &Receipt,
 ) -> bool
     ensures { let there = at (trails_of locked.now.items) receipt.now.shard receipt.now.place in
@@ -45,14 +46,14 @@ fn stands<'a, B: Allocator, S: EntryLedger>(
 
 /// The receipt claims its place for its owner. A floor is the least place that the clerk's next receipt in a shard may
 /// have.
-fn claim<'a, B: Allocator, S: EntryLedger>(
-    locked: &Vec<Locked<'a, B, S>, &'a B>,
+fn claim<'a, S: EntryLedger, B: Allocator>(
+    locked: &Vec<Locked<'a, S, B>, &'a B>,
     receipt: &Receipt,
     owner: Owner,
-    floors: &mut [usize; 8],
+    floors: &mut [usize; MOST_SHARDS],
     claims: &mut Vec<Claims<'a, B>, &'a B>,
 ) -> Result<(), SettleFault>
-    requires few { length locked.now.items ≤ 8 }
+    requires few { length locked.now.items ≤ MOST_SHARDS }
     requires places { HasPlaces (trails_of locked.now.items) claims.old.items }
     ensures places { HasPlaces (trails_of locked.now.items) claims.new.items }
     ensures claimed { OnOk result (IsClaim (trails_of locked.now.items) receipt.now owner claims.old.items claims.new.items) }
@@ -86,19 +87,19 @@ fn claim<'a, B: Allocator, S: EntryLedger>(
 }
 
 /// Judges the receipts of a clerk, in order.
-fn judge<'a, B: Allocator, S: EntryLedger>(
-    locked: &Vec<Locked<'a, B, S>, &'a B>,
+fn judge<'a, S: EntryLedger, B: Allocator>(
+    locked: &Vec<Locked<'a, S, B>, &'a B>,
     clerk: usize,
     receipts: &[Receipt],
     claims: &mut Vec<Claims<'a, B>, &'a B>,
 ) -> Result<(), SettleFault>
-    requires few { length locked.now.items ≤ 8 }
+    requires few { length locked.now.items ≤ MOST_SHARDS }
     requires places { HasPlaces (trails_of locked.now.items) claims.old.items }
     ensures places { HasPlaces (trails_of locked.now.items) claims.new.items }
     ensures judged { OnOk result (IsJudged (trails_of locked.now.items) clerk receipts.now (length receipts.now) claims.old.items claims.new.items) }
     ensures refused { IfErr result (IsRefused (trails_of locked.now.items) clerk receipts.now claims.old.items) }
 {
-    let mut floors = [0; 8];
+    let mut floors = [0; MOST_SHARDS];
     for receipt in 0..receipts.len() {
         claim(
             locked,
@@ -112,13 +113,13 @@ fn judge<'a, B: Allocator, S: EntryLedger>(
 }
 
 /// Judges the receipts of all clerks, in order, those of clerk 0 first. All growths are made before.
-pub(crate) fn judge_all<'a, B: Allocator, J: Naming, S: EntryLedger, C: ReceiptLedger>(
+pub(crate) fn judge_all<'a, J: Naming, S: EntryLedger, C: ReceiptLedger, B: Allocator>(
     alloc: &'a B,
-    locked: &Vec<Locked<'a, B, S>, &'a B>,
+    locked: &Vec<Locked<'a, S, B>, &'a B>,
     opening: &[Receipt],
-    clerks: &Vec<Clerk<'a, B, J, C>, &'a B>,
+    clerks: &Vec<Clerk<'a, J, C, B>, &'a B>,
 ) -> Result<Vec<Claims<'a, B>, &'a B>, SettleFault>
-    requires few { length locked.now.items ≤ 8 }
+    requires few { length locked.now.items ≤ MOST_SHARDS }
     ensures judged { let lists = lists_of opening.now clerks.now.items in
         IfOk result (λ claims. AreJudged (trails_of locked.now.items) lists (length lists) claims.items) }
     ensures refused { IfErr result (IsFault (trails_of locked.now.items) (lists_of opening.now clerks.now.items)) }
@@ -141,6 +142,7 @@ pub(crate) fn take_owners<'a, B: Allocator>(
     requires room { vec_len claims.old ≤ vec_capacity owners.old }
     ensures { (trails : List (List Entry)) (lists : List (List Receipt)) → AreSettled trails lists claims.old.items → IsOwned trails lists owners.new.items }
 {
+    // One by one, for the proof: the loop's invariant speaks of the list that is left.
     while !claims.is_empty() {
         owners.push_reserved(claims.remove(0).into_owners());
     }

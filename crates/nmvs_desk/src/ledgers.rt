@@ -2,6 +2,9 @@
 use std::marker::Brand;
 use std::sync::ledger::Ledger;
 
+/// Into how many parts each ledger is cut: one for each of the most shards or clerks that there may be, and one more.
+pub const PARTS: u64 = 9;
+
 /// The ledger of the shards. A shard's share of it is the length of its trail. The caller of `Repository::open` picks
 /// it with `Brand`.
 pub trait EntryLedger: Ledger {

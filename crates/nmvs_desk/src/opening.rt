@@ -1,29 +1,33 @@
 //! How a repository is opened.
 ghost use Rattle.std.specs.Prelude.{◌≡◌, ◌+◌, ◌<◌, ◌≤◌, ◌↔◌, ◌⊎◌, [], ◌++◌, All, map, vec_len, vec_capacity, length, IfOk, IsErrOf, OnOk, OnErr};
 ghost use Rattle.nmvs_rules.specs.Rules.{IsLawful};
-ghost use Rattle.nmvs_desk.specs.Locks.{asker_of, IsNumbered};
+ghost use Rattle.nmvs_desk.specs.Views.{new_clerk, IsNumbered};
 ghost use Rattle.nmvs_desk.specs.Opening.{deal, AreDealt};
 
 use crate::lock::Slot;
 use crate::locked::Locked;
+use crate::repository::shard_number;
 use crate::tally::{Books, Tally};
-use crate::{Clerk, EntryLedger, OpenFault, Receipt, ReceiptLedger, Repository};
+use crate::{
+    Clerk, EntryLedger, MOST_CLERKS, MOST_SHARDS, OpenFault, PARTS, Receipt, ReceiptLedger,
+    Repository,
+};
 use nmvs_directory::{Naming, Window};
 use nmvs_shard::Shard;
 use std::alloc::{AllocError, Allocator};
 use std::sync::Mutex;
 use std::sync::ledger::{Blank, Book, Share};
 
-/// So many empty shards, each with a share of one part.
-pub(crate) fn empty_shards<'a, B: Allocator, S: EntryLedger>(
+/// `count` empty shards, each with a share of one part.
+pub(crate) fn empty_shards<'a, S: EntryLedger, B: Allocator>(
     alloc: &'a B,
     rest: &mut Share<S>,
     count: usize,
-) -> Result<Vec<Locked<'a, B, S>, &'a B>, AllocError>
-    requires few { count ≤ 8 }
-    requires parts { rest.old.parts ≡ 9 }
+) -> Result<Vec<Locked<'a, S, B>, &'a B>, AllocError>
+    requires few { count ≤ MOST_SHARDS }
+    requires parts { rest.old.parts ≡ PARTS }
     requires amount { rest.old.amount ≡ 0 }
-    ensures parts { OnOk result (rest.new.parts + count ≡ 9) }
+    ensures parts { OnOk result (rest.new.parts + count ≡ PARTS) }
     ensures amount { rest.new.amount ≡ 0 }
     ensures empty { IfOk result (λ shards. AreDealt count count [] shards.items) }
 {
@@ -36,11 +40,11 @@ pub(crate) fn empty_shards<'a, B: Allocator, S: EntryLedger>(
 }
 
 /// Deals the opening's entries to the shards, in order, and gives the receipts.
-pub(crate) fn deal_all<'a, B: Allocator, S: EntryLedger, C: ReceiptLedger>(
+pub(crate) fn deal_all<'a, S: EntryLedger, C: ReceiptLedger, B: Allocator>(
     alloc: &'a B,
     books: &mut Books<S, C>,
     importer: &mut Share<C>,
-    shards: &mut Vec<Locked<'a, B, S>, &'a B>,
+    shards: &mut Vec<Locked<'a, S, B>, &'a B>,
     opening: &Shard<&'a B>,
 ) -> Result<Vec<Receipt, &'a B>, AllocError>
     requires some { 0 < S.shards }
@@ -54,9 +58,10 @@ pub(crate) fn deal_all<'a, B: Allocator, S: EntryLedger, C: ReceiptLedger>(
 {
     let trail = opening.trail();
     let mut receipts = Vec::with_capacity(alloc, trail.len())?;
+    // By place: the loop's invariant speaks of the entries before it.
     for place in 0..trail.len() {
         let entry = &trail[place];
-        let shard = (entry.question.code().number() % shards.len() as u64) as usize;
+        let shard = shard_number(&entry.put.question.code(), shards.len());
         let receipt = shards[shard].deal(books, importer, entry)?;
         receipts.push_reserved(receipt);
     }
@@ -64,47 +69,49 @@ pub(crate) fn deal_all<'a, B: Allocator, S: EntryLedger, C: ReceiptLedger>(
 }
 
 /// Locks the shards, in order.
-pub(crate) fn lock_all<'a, B: Allocator, S: EntryLedger>(
-    shards: &mut Vec<Locked<'a, B, S>, &'a B>,
-    slots: &mut Vec<Slot<'a, B, S>, &'a B>,
+pub(crate) fn lock_all<'a, S: EntryLedger, B: Allocator>(
+    shards: &mut Vec<Locked<'a, S, B>, &'a B>,
+    slots: &mut Vec<Slot<'a, S, B>, &'a B>,
 )
-    requires few { All (λ h. h.index < 8) shards.old.items }
+    requires few { All (λ h. h.index < MOST_SHARDS) shards.old.items }
     requires empty { slots.old.items ≡ [] }
     requires room { vec_len shards.old ≤ vec_capacity slots.old }
     ensures { slots.new.items ≡ map (λ h. h.index) shards.old.items }
 {
+    // One by one, for the proof: the loop's invariant speaks of the list that is left.
     while !shards.is_empty() {
         slots.push_reserved(Slot::new(shards.remove(0)));
     }
 }
 
 /// A clerk for each window, in order.
-fn clerks_over<'a, B: Allocator, J: Naming, C: ReceiptLedger>(
+fn clerks_over<'a, J: Naming, C: ReceiptLedger, B: Allocator>(
     alloc: &'a B,
     windows: &mut Vec<Window<J, &'a B>, &'a B>,
     rest: &mut Share<C>,
-    clerks: &mut Vec<Clerk<'a, B, J, C>, &'a B>,
+    clerks: &mut Vec<Clerk<'a, J, C, B>, &'a B>,
 )
     requires parts { rest.old.parts ≡ vec_len windows.old }
     requires amount { rest.old.amount ≡ 0 }
     requires empty { clerks.old.items ≡ [] }
     requires room { vec_len windows.old ≤ vec_capacity clerks.old }
-    ensures clerks { clerks.new.items ≡ map asker_of windows.old.items }
+    ensures clerks { clerks.new.items ≡ map new_clerk windows.old.items }
     ensures windows { windows.new.items ≡ [] }
 {
+    // One by one, for the proof: the loop's invariant speaks of the list that is left.
     while !windows.is_empty() {
         let share = rest.split_off(1, 0);
         clerks.push_reserved(Clerk::new(alloc, windows.remove(0), share));
     }
 }
 
-impl<'a, B: Allocator, S: EntryLedger, C: ReceiptLedger> Repository<'a, B, S, C> {
-    /// Opens a repository of so many shards, with a clerk for each window, numbered from 1 in the windows' order. The
+impl<'a, S: EntryLedger, C: ReceiptLedger, B: Allocator> Repository<'a, S, C, B> {
+    /// Opens a repository of `shards` shards, with a clerk for each window, numbered from 1 in the windows' order. The
     /// opening's entries are dealt to the shards in order; they are the receipts of clerk 0, which the repository
     /// keeps.
     ///
     /// It answers `Count` exactly where the shards are not 1 to 8, else `Memory` where a growth was refused; then the
-    /// windows stay in their list. The blanks, of 9 parts, name the two ledgers; a refusal spends them.
+    /// windows stay in their list. The blanks, of `PARTS` parts, name the two ledgers; a refusal spends them.
     pub fn open<J: Naming>(
         alloc: &'a B,
         entries: Blank,
@@ -112,19 +119,21 @@ impl<'a, B: Allocator, S: EntryLedger, C: ReceiptLedger> Repository<'a, B, S, C>
         shards: usize,
         windows: &mut Vec<Window<J, &'a B>, &'a B>,
         opening: &Shard<&'a B>,
-    ) -> Result<(Repository<'a, B, S, C>, Vec<Clerk<'a, B, J, C>, &'a B>), OpenFault>
-        requires entries { (entries.name ≡ S.name) × (entries.parts ≡ S.parts) × (S.parts ≡ 9) }
-        requires receipts { (receipts.name ≡ C.name) × (receipts.parts ≡ C.parts) × (C.parts ≡ 9) }
-        requires named { (S.shards ≡ shards) × (C.clerks ≡ vec_len windows.old) × (C.opening ≡ length opening.now) }
-        requires few { vec_len windows.old ≤ 8 }
+    ) -> Result<(Repository<'a, S, C, B>, Vec<Clerk<'a, J, C, B>, &'a B>), OpenFault>
+        requires entries { (entries.name ≡ S.name) × (entries.parts ≡ S.parts) × (S.parts ≡ PARTS) }
+        requires receipts { (receipts.name ≡ C.name) × (receipts.parts ≡ C.parts) × (C.parts ≡ PARTS) }
+        requires named { (S.shards ≡ shards) × (C.clerks ≡ vec_len windows.old)
+            × (C.opening ≡ length opening.now) }
+        requires few { vec_len windows.old ≤ MOST_CLERKS }
         ensures shards { IfOk result (λ r. r.0.shards ≡ shards) }
-        ensures clerks { IfOk result (λ r. (r.0.clerks ≡ vec_len windows.old) × (r.1.items ≡ map asker_of windows.old.items)) }
+        ensures clerks { IfOk result (λ r. (r.0.clerks ≡ vec_len windows.old)
+            × (r.1.items ≡ map new_clerk windows.old.items)) }
         ensures opening { IfOk result (λ r. r.0.opening ≡ deal shards opening.now) }
-        ensures count { IsErrOf result OpenFault.Count ↔ ((shards ≡ 0) ⊎ (8 < shards)) }
+        ensures count { IsErrOf result OpenFault.Count ↔ ((shards ≡ 0) ⊎ (MOST_SHARDS < shards)) }
         ensures taken { OnOk result (windows.new.items ≡ []) }
         ensures stay { OnErr result (windows.new ≡ windows.old) }
     {
-        if shards == 0 || shards > 8 {
+        if shards == 0 || shards > MOST_SHARDS {
             return Err(OpenFault::Count);
         }
         let (book, mut importer) = receipts.open::<C>();
@@ -145,11 +154,13 @@ impl<'a, B: Allocator, S: EntryLedger, C: ReceiptLedger> Repository<'a, B, S, C>
         shards: usize,
         clerks: usize,
         opening: &Shard<&'a B>,
-    ) -> Result<Repository<'a, B, S, C>, AllocError>
-        requires entries { (entries.name ≡ S.name) × (entries.parts ≡ S.parts) × (S.parts ≡ 9) × (C.parts ≡ 9) }
+    ) -> Result<Repository<'a, S, C, B>, AllocError>
+        requires entries { (entries.name ≡ S.name) × (entries.parts ≡ S.parts)
+            × (S.parts ≡ PARTS) × (C.parts ≡ PARTS) }
         requires named { (S.shards ≡ shards) × (C.clerks ≡ clerks) × (C.opening ≡ length opening.now) }
-        requires count { (0 < shards) × (shards ≤ 8) }
-        requires importer { (importer.parts + clerks ≡ 9) × (clerks ≤ 8) × (importer.amount ≡ 0) }
+        requires count { (0 < shards) × (shards ≤ MOST_SHARDS) }
+        requires importer { (importer.parts + clerks ≡ PARTS) × (clerks ≤ MOST_CLERKS)
+            × (importer.amount ≡ 0) }
         requires book { book.total ≡ 0 }
         ensures shards { IfOk result (λ r. (r.shards ≡ shards) × (r.clerks ≡ clerks)) }
         ensures opening { IfOk result (λ r. r.opening ≡ deal shards opening.now) }

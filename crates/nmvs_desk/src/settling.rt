@@ -2,7 +2,7 @@
 ghost use Rattle.std.specs.Prelude.{◌≡◌, ◌+◌, ◌<◌, ◌≤◌, [], ◌++◌, List, All, map, length, sum_by, vec_len, vec_capacity, IfOk, IfErr, OnErr};
 ghost use Rattle.nmvs_rules.specs.declared.entry.Entry.{Entry};
 ghost use Rattle.nmvs_desk.specs.Claims.{trails_of, lists_of, AreJudged};
-ghost use Rattle.nmvs_desk.specs.Locks.{IsNumbered};
+ghost use Rattle.nmvs_desk.specs.Views.{IsNumbered};
 ghost use Rattle.nmvs_desk.specs.Settlement.{places, IsFault, IsOwned, Rises};
 ghost use Rattle.nmvs_desk.specs.Trails.{IsKept, AreTrails};
 
@@ -11,10 +11,10 @@ use crate::judging::{judge_all, take_owners};
 use crate::lock::Slot;
 use crate::locked::Locked;
 use crate::opening::lock_all;
-use crate::receipts::Receipts;
 use crate::tally::Tally;
 use crate::{
-    Clerk, EntryLedger, Owners, Receipt, ReceiptLedger, Repository, SettleFault, Settled, Unsettled,
+    Clerk, EntryLedger, MOST_SHARDS, PARTS, Receipt, ReceiptLedger, Receipts, Repository,
+    SettleFault, Settled, Unsettled,
 };
 use nmvs_directory::Naming;
 use nmvs_shard::Shard;
@@ -23,9 +23,9 @@ use std::sync::Mutex;
 use std::sync::ledger::Share;
 
 /// Takes the shards out of their locks, in order. The list of locks keeps its room.
-fn unlock_all<'a, B: Allocator, S: EntryLedger>(
-    slots: &mut Vec<Slot<'a, B, S>, &'a B>,
-    shards: &mut Vec<Locked<'a, B, S>, &'a B>,
+fn unlock_all<'a, S: EntryLedger, B: Allocator>(
+    slots: &mut Vec<Slot<'a, S, B>, &'a B>,
+    shards: &mut Vec<Locked<'a, S, B>, &'a B>,
 )
     requires empty { shards.old.items ≡ [] }
     requires room { vec_len slots.old ≤ vec_capacity shards.old }
@@ -33,14 +33,15 @@ fn unlock_all<'a, B: Allocator, S: EntryLedger>(
     ensures empty { slots.new.items ≡ [] }
     ensures room { vec_len shards.new ≤ vec_capacity slots.new }
 {
+    // One by one, for the proof: the loop's invariant speaks of the list that is left.
     while !slots.is_empty() {
         shards.push_reserved(slots.remove(0).into_locked());
     }
 }
 
 /// The shards, in order, and their shares put together.
-fn join_shards<'a, B: Allocator, S: EntryLedger>(
-    locked: &mut Vec<Locked<'a, B, S>, &'a B>,
+fn join_shards<'a, S: EntryLedger, B: Allocator>(
+    locked: &mut Vec<Locked<'a, S, B>, &'a B>,
     all: &mut Share<S>,
     shards: &mut Vec<Shard<&'a B>, &'a B>,
 )
@@ -50,6 +51,7 @@ fn join_shards<'a, B: Allocator, S: EntryLedger>(
     ensures parts { all.new.parts ≡ all.old.parts + vec_len locked.old }
     ensures amount { all.new.amount ≡ all.old.amount + sum_by (λ h. length h.trail) locked.old.items }
 {
+    // One by one, for the proof: the loop's invariant speaks of the list that is left.
     while !locked.is_empty() {
         let (shard, share) = locked.remove(0).into_parts();
         shards.push_reserved(shard);
@@ -58,8 +60,8 @@ fn join_shards<'a, B: Allocator, S: EntryLedger>(
 }
 
 /// The clerks' receipts, in the clerks' order, and their shares put together.
-fn join_clerks<'a, B: Allocator, J: Naming, C: ReceiptLedger>(
-    clerks: &mut Vec<Clerk<'a, B, J, C>, &'a B>,
+fn join_clerks<'a, J: Naming, C: ReceiptLedger, B: Allocator>(
+    clerks: &mut Vec<Clerk<'a, J, C, B>, &'a B>,
     all: &mut Share<C>,
     receipts: &mut Vec<Receipts<'a, B>, &'a B>,
 )
@@ -68,6 +70,7 @@ fn join_clerks<'a, B: Allocator, J: Naming, C: ReceiptLedger>(
     ensures parts { all.new.parts ≡ all.old.parts + vec_len clerks.old }
     ensures amount { all.new.amount ≡ all.old.amount + sum_by (λ c. length c.receipts) clerks.old.items }
 {
+    // One by one, for the proof: the loop's invariant speaks of the list that is left.
     while !clerks.is_empty() {
         let (list, share) = clerks.remove(0).into_parts();
         receipts.push_reserved(Receipts::new(list));
@@ -77,14 +80,14 @@ fn join_clerks<'a, B: Allocator, J: Naming, C: ReceiptLedger>(
 
 /// The shards and receipts that a settlement hands out, once the shares of both ledgers are put together. Then the
 /// trails have as many entries as there are receipts.
-fn join_all<'a, B: Allocator, J: Naming, S: EntryLedger, C: ReceiptLedger>(
+fn join_all<'a, J: Naming, S: EntryLedger, C: ReceiptLedger, B: Allocator>(
     tally: Tally<S, C>,
-    locked: &mut Vec<Locked<'a, B, S>, &'a B>,
+    locked: &mut Vec<Locked<'a, S, B>, &'a B>,
     opening: Vec<Receipt, &'a B>,
-    clerks: &mut Vec<Clerk<'a, B, J, C>, &'a B>,
+    clerks: &mut Vec<Clerk<'a, J, C, B>, &'a B>,
     settled: &mut Settled<'a, B>,
 )
-    requires parts { (S.parts ≡ 9) × (C.parts ≡ 9) }
+    requires parts { (S.parts ≡ PARTS) × (C.parts ≡ PARTS) }
     requires shards { (vec_len locked.old ≡ S.shards) × IsNumbered (map (λ h. h.index) locked.old.items) }
     requires clerks { vec_len clerks.old ≡ C.clerks }
     requires opening { vec_len opening ≡ C.opening }
@@ -109,13 +112,13 @@ fn join_all<'a, B: Allocator, J: Naming, S: EntryLedger, C: ReceiptLedger>(
 
 /// The shards out of their locks, the claims of the receipts on their trails, and room for what is handed out.
 #[derive(Drop)]
-struct Judged<'a, B: Allocator, S: EntryLedger> {
-    locked: Vec<Locked<'a, B, S>, &'a B>,
+struct Judged<'a, S: EntryLedger, B: Allocator> {
+    locked: Vec<Locked<'a, S, B>, &'a B>,
     claims: Vec<Claims<'a, B>, &'a B>,
     settled: Settled<'a, B>,
 }
 
-/// Room for so many shards and lists of receipts.
+/// Room for this many shards and lists of receipts.
 fn room<'a, B: Allocator>(
     alloc: &'a B,
     shards: usize,
@@ -132,13 +135,13 @@ fn room<'a, B: Allocator>(
 }
 
 /// Makes room for what is handed out, and judges the receipts.
-fn judge_locked<'a, B: Allocator, J: Naming, S: EntryLedger, C: ReceiptLedger>(
+fn judge_locked<'a, J: Naming, S: EntryLedger, C: ReceiptLedger, B: Allocator>(
     alloc: &'a B,
-    locked: &Vec<Locked<'a, B, S>, &'a B>,
+    locked: &Vec<Locked<'a, S, B>, &'a B>,
     opening: &[Receipt],
-    clerks: &Vec<Clerk<'a, B, J, C>, &'a B>,
+    clerks: &Vec<Clerk<'a, J, C, B>, &'a B>,
 ) -> Result<(Vec<Claims<'a, B>, &'a B>, Settled<'a, B>), SettleFault>
-    requires few { (vec_len locked.now ≤ 8) × (vec_len clerks.now ≤ 9) }
+    requires few { (vec_len locked.now ≤ MOST_SHARDS) × (vec_len clerks.now ≤ PARTS) }
     ensures judged { let lists = lists_of opening.now clerks.now.items in
         IfOk result (λ r. AreJudged (trails_of locked.now.items) lists (length lists) r.0.items) }
     ensures empty { IfOk result (λ r. (r.1.shards.items ≡ []) × (r.1.receipts.items ≡ []) × (r.1.owners.items ≡ [])) }
@@ -151,14 +154,14 @@ fn judge_locked<'a, B: Allocator, J: Naming, S: EntryLedger, C: ReceiptLedger>(
 }
 
 /// Takes the shards out of their locks and judges the receipts. Where they are refused, the shards are put back.
-fn judge_slots<'a, B: Allocator, J: Naming, S: EntryLedger, C: ReceiptLedger>(
+fn judge_slots<'a, J: Naming, S: EntryLedger, C: ReceiptLedger, B: Allocator>(
     alloc: &'a B,
-    slots: &mut Vec<Slot<'a, B, S>, &'a B>,
+    slots: &mut Vec<Slot<'a, S, B>, &'a B>,
     opening: &[Receipt],
-    clerks: &Vec<Clerk<'a, B, J, C>, &'a B>,
-) -> Result<Judged<'a, B, S>, SettleFault>
+    clerks: &Vec<Clerk<'a, J, C, B>, &'a B>,
+) -> Result<Judged<'a, S, B>, SettleFault>
     requires numbered { IsNumbered slots.old.items }
-    requires few { (vec_len slots.old ≤ 8) × (vec_len clerks.now ≤ 9) }
+    requires few { (vec_len slots.old ≤ MOST_SHARDS) × (vec_len clerks.now ≤ PARTS) }
     ensures numbers { IfOk result (λ j. map (λ h. h.index) j.locked.items ≡ slots.old.items) }
     ensures judged { let lists = lists_of opening.now clerks.now.items in
         IfOk result (λ j. AreJudged (trails_of j.locked.items) lists (length lists) j.claims.items) }
@@ -194,11 +197,11 @@ fn judge_slots<'a, B: Allocator, J: Naming, S: EntryLedger, C: ReceiptLedger>(
 ///
 /// `Memory` where a growth was refused, else the first receipt that cannot be settled, and the first of the faults that it
 /// has: `Stranger`, `Order`, `Double`. Repository and clerks are then given back as they were.
-pub fn settle<'a, B: Allocator, J: Naming, S: EntryLedger, C: ReceiptLedger>(
+pub fn settle<'a, J: Naming, S: EntryLedger, C: ReceiptLedger, B: Allocator>(
     alloc: &'a B,
-    repository: Repository<'a, B, S, C>,
-    clerks: Vec<Clerk<'a, B, J, C>, &'a B>,
-) -> Result<Settled<'a, B>, (SettleFault, Unsettled<'a, B, J, S, C>)>
+    repository: Repository<'a, S, C, B>,
+    clerks: Vec<Clerk<'a, J, C, B>, &'a B>,
+) -> Result<Settled<'a, B>, (SettleFault, Unsettled<'a, J, S, C, B>)>
     requires { vec_len clerks ≡ repository.clerks }
     ensures trails { IfOk result (λ s. AreTrails repository.entry.shards s.shards.items) }
     ensures receipts { IfOk result (λ s. s.receipts.items ≡ lists_of repository.entry.opening clerks.entry.items) }
@@ -228,15 +231,15 @@ pub fn settle<'a, B: Allocator, J: Naming, S: EntryLedger, C: ReceiptLedger>(
     }
 }
 
-impl<'a, B: Allocator, S: EntryLedger> Judged<'a, B, S> {
+impl<'a, S: EntryLedger, B: Allocator> Judged<'a, S, B> {
     /// Joins the shares and hands all out. It takes no memory.
     fn join<J: Naming, C: ReceiptLedger>(
         self,
         tally: Tally<S, C>,
         opening: Vec<Receipt, &'a B>,
-        mut clerks: Vec<Clerk<'a, B, J, C>, &'a B>,
+        mut clerks: Vec<Clerk<'a, J, C, B>, &'a B>,
     ) -> Settled<'a, B>
-        requires parts { (S.parts ≡ 9) × (C.parts ≡ 9) }
+        requires parts { (S.parts ≡ PARTS) × (C.parts ≡ PARTS) }
         requires shards { (vec_len self.locked ≡ S.shards) × IsNumbered (map (λ h. h.index) self.locked.items) }
         requires clerks { vec_len clerks ≡ C.clerks }
         requires opening { vec_len opening ≡ C.opening }

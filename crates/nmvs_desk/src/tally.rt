@@ -1,5 +1,6 @@
 //! The count of all entries and of all receipts.
 ghost use Rattle.std.specs.Prelude.{◌≡◌, ◌+◌, ◌<◌};
+ghost use Rattle.nmvs_desk.specs.declared.ledgers.TheConstants.{PARTS};
 
 use crate::{EntryLedger, ReceiptLedger};
 use std::sync::ledger::{Book, Share};
@@ -45,8 +46,8 @@ pub(crate) struct Tally<S: EntryLedger, C: ReceiptLedger> {
     pub(crate) books: Books<S, C>,
     pub(crate) spare: Share<S>,
     pub(crate) importer: Share<C>,
-    ghost spare_parts: { spare.parts + S.shards ≡ 9 },
+    ghost spare_parts: { spare.parts + S.shards ≡ PARTS },
     ghost spare_amount: { spare.amount ≡ 0 },
-    ghost importer_parts: { importer.parts + C.clerks ≡ 9 },
+    ghost importer_parts: { importer.parts + C.clerks ≡ PARTS },
     ghost importer_amount: { importer.amount ≡ C.opening },
 }

@@ -1,9 +1,8 @@
 //! What no contract can say: that calls succeed where there is memory, that a look at a shard shows what was answered
-//! before, that a gate is told once, that shards are worked on side by side; and memory that is refused.
+//! before, that shards are worked on side by side; and memory that is refused.
 mod asking;
 mod crew;
-mod market;
+pub(crate) mod market;
 mod memory;
 mod settling;
-mod stage;
 mod threads;

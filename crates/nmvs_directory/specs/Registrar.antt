@@ -9,6 +9,11 @@ use Rattle.nmvs_directory.specs.declared.naming.Naming.{Ghosts}
 use Rattle.nmvs_directory.specs.declared.registrar.Registrar.{Registrar}
 use Rattle.nmvs_directory.specs.declared.users.Users.{Users}
 
+-- the changes that windows can see, and those that the next publication adds (own)
+pub record Register : Type 0 where
+  pub published : List Change
+  pub pending : List Change
+
 module _ {J R A : Type 0} {g : Ghosts J} {a : Absorb.Ghosts (Users J A) (History J) (List Change)} where
   -- the changes that windows can see (own)
   abbrev pub published : Registrar J R A g a → List Change
@@ -17,3 +22,7 @@ module _ {J R A : Type 0} {g : Ghosts J} {a : Absorb.Ghosts (Users J A) (History
   -- the changes that the next publication adds (own)
   abbrev pub pending : Registrar J R A g a → List Change
   pending r = pending_changes r.changes
+
+  -- both (own)
+  abbrev pub register_of : Registrar J R A g a → Register
+  register_of r = record { published = published r; pending = pending r }

@@ -46,7 +46,8 @@ impl<J: Naming, A: Allocator> Changes<J, A> {
 
     fn add(&mut self, change: Change) -> Result<(), AllocError>
         ensures published { KeepsPublished self.old self.new }
-        ensures ok { OnOk result (pending_changes self.new ≡ pending_changes self.old ++ change ∷ []) }
+        ensures ok { OnOk result
+            (pending_changes self.new ≡ pending_changes self.old ++ change ∷ []) }
         ensures err { OnErr result (pending_changes self.new ≡ pending_changes self.old) }
     {
         self.waiting.reserve(1)?;
@@ -64,7 +65,8 @@ impl<J: Naming, A: Allocator> Changes<J, A> {
     /// It answers `AllocError` where there is no memory for the change.
     pub fn enrol(&mut self, user: Name, actor: Actor) -> Result<(), AllocError>
         ensures published { KeepsPublished self.old self.new }
-        ensures ok { OnOk result (pending_changes self.new ≡ pending_changes self.old ++ record { user = user; actor = Some actor } ∷ []) }
+        ensures ok { OnOk result (pending_changes self.new
+            ≡ pending_changes self.old ++ record { user = user; actor = Some actor } ∷ []) }
         ensures err { OnErr result (pending_changes self.new ≡ pending_changes self.old) }
     {
         self.add(Change {
@@ -78,7 +80,8 @@ impl<J: Naming, A: Allocator> Changes<J, A> {
     /// It answers `AllocError` where there is no memory for the change.
     pub fn suspend(&mut self, user: Name) -> Result<(), AllocError>
         ensures published { KeepsPublished self.old self.new }
-        ensures ok { OnOk result (pending_changes self.new ≡ pending_changes self.old ++ record { user = user; actor = None } ∷ []) }
+        ensures ok { OnOk result (pending_changes self.new
+            ≡ pending_changes self.old ++ record { user = user; actor = None } ∷ []) }
         ensures err { OnErr result (pending_changes self.new ≡ pending_changes self.old) }
     {
         self.add(Change { user, actor: None })
@@ -86,14 +89,16 @@ impl<J: Naming, A: Allocator> Changes<J, A> {
 
     /// Whether a change is not published yet.
     pub(crate) fn has_pending(&self) -> bool
-        ensures { MatchBool result (0 < length (pending_changes self.now)) (pending_changes self.now ≡ []) }
+        ensures { MatchBool result (0 < length (pending_changes self.now))
+            (pending_changes self.now ≡ []) }
     {
         self.published.len() < self.all.len()
     }
 
     /// The list up to the first change that the writer does not have.
     pub(crate) fn first_waiting(&self) -> Option<History<J>>
-        ensures { MatchOption result (self.now.waiting.items ≡ []) (λ first. self.now.waiting.items ≡ first ∷ drop 1 self.now.waiting.items) }
+        ensures { MatchOption result (self.now.waiting.items ≡ [])
+            (λ first. self.now.waiting.items ≡ first ∷ drop 1 self.now.waiting.items) }
     {
         Some(self.waiting.front()?.again())
     }

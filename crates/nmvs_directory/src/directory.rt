@@ -3,7 +3,7 @@ ghost use Rattle.std.specs.Prelude.{◌≡◌, ◌≤◌, [], IfOk, All, vec_len
 ghost use Rattle.nmvs_directory.specs.Registrar.{published, pending};
 ghost use Rattle.nmvs_directory.specs.Window.{IsFresh};
 
-use crate::history::{History, Opened};
+use crate::history::{History, UnnamedHistory};
 use crate::users::Users;
 use crate::{Naming, Registrar, Window};
 use left_right::WriteHandle;
@@ -21,24 +21,26 @@ pub enum DirectoryFault {
     Window,
 }
 
+/// The most windows of a directory, since a publication visits the place of each (own).
+pub const MOST_WINDOWS: usize = 8;
+
 /// An empty directory that has no name yet. Its name is picked with `Brand` where `open` is called.
 #[derive(Drop)]
 pub struct Directory {
-    opened: Opened,
+    opened: UnnamedHistory,
 }
 
 impl Directory {
-    ghost use Rattle.nmvs_directory.specs.Directory.{directory_book, most_windows};
+    ghost use Rattle.nmvs_directory.specs.Directory.{directory_book};
 
     /// Makes one. It takes no memory: it has no allocator to take it from.
     pub fn new() -> Directory {
         Directory {
-            opened: Opened::new(),
+            opened: UnnamedHistory::new(),
         }
     }
 
-    /// Gives the directory its name, and its registrar and so many windows: 1 to 8, since a publication visits the
-    /// place of each.
+    /// Gives the directory its name, its registrar and its windows, 1 to 8 of them.
     ///
     /// It answers `Memory` where there is no memory for them, and `Window` where a window was refused its place.
     pub fn open<J: Naming, R: Wait + Drop, A: Allocator + Copy>(
@@ -48,13 +50,13 @@ impl Directory {
         windows: usize,
     ) -> Result<(Registrar<J, R, A>, Vec<Window<J, A>, A>), DirectoryFault>
         requires name { directory_book self ≡ J.book }
-        requires windows { (1 ≤ windows) × (windows ≤ most_windows) }
+        requires windows { (1 ≤ windows) × (windows ≤ MOST_WINDOWS) }
         ensures published { IfOk result (λ opened. published opened.0 ≡ []) }
         ensures pending { IfOk result (λ opened. pending opened.0 ≡ []) }
         ensures windows { IfOk result (λ opened. vec_len opened.1 ≡ windows) }
         ensures fresh { IfOk result (λ opened. All IsFresh opened.1.items) }
     {
-        let (tail, history) = self.opened.named::<J>();
+        let (tail, history) = self.opened.with_name::<J>();
         let first = Users::new(alloc, history.again());
         let second = Users::new(alloc, history.again());
         let Ok(writer) = WriteHandle::new(alloc, rt, first, second, windows) else {
@@ -65,7 +67,7 @@ impl Directory {
     }
 }
 
-/// So many windows that have seen nothing.
+/// As many windows as `count`, which have seen nothing.
 fn windows_over<J: Naming, R: Wait + Drop, A: Allocator + Copy>(
     writer: &WriteHandle<Users<J, A>, History<J>, R, A>,
     history: &History<J>,

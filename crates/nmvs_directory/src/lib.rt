@@ -34,7 +34,7 @@ mod window;
 
 pub use change::Change;
 pub use changes::Changes;
-pub use directory::{Directory, DirectoryFault};
+pub use directory::{Directory, DirectoryFault, MOST_WINDOWS};
 pub use look::Look;
 pub use naming::Naming;
 pub use notice::Notice;

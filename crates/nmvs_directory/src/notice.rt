@@ -27,7 +27,7 @@ impl<J: Naming> Notice<J> {
     }
 
     /// The published changes.
-    pub(crate) fn told(&self) -> &History<J>
+    pub(crate) fn history(&self) -> &History<J>
         ensures { result.now ≡ self.now }
     {
         &self.told

@@ -62,8 +62,11 @@ impl<J: Naming, R: Wait + Drop, A: Allocator> Registrar<J, R, A> {
     ///
     /// It answers `AllocError` where there is no memory to publish them; then none is published, and they stay pending.
     pub fn publish(&mut self) -> Result<Notice<J>, AllocError>
-        ensures published { MatchResult result (λ _. published self.new ≡ published self.old ++ pending self.old) (λ _. published self.new ≡ published self.old) }
-        ensures pending { MatchResult result (λ _. pending self.new ≡ []) (λ _. pending self.new ≡ pending self.old) }
+        ensures published { MatchResult result
+            (λ _. published self.new ≡ published self.old ++ pending self.old)
+            (λ _. published self.new ≡ published self.old) }
+        ensures pending { MatchResult result (λ _. pending self.new ≡ [])
+            (λ _. pending self.new ≡ pending self.old) }
         ensures told { IfOk result (λ notice. notice ≡ published self.new) }
         ensures succeeds { pending self.old ≡ [] → IsOk result }
     {

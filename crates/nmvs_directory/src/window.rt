@@ -41,8 +41,8 @@ impl<J: Naming, A: Allocator> Window<J, A> {
         ensures seen { IsPrefix self.old self.new }
         ensures told { IsPrefix notice.now self.new }
     {
-        if notice.told().covers(&self.seen) {
-            self.seen = notice.told().again();
+        if notice.history().covers(&self.seen) {
+            self.seen = notice.history().again();
         }
     }
 

@@ -1,1 +1,2 @@
 mod UsersFile
+mod CommandLemmas

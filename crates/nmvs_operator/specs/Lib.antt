@@ -1,2 +1,4 @@
 pub mod Options
 pub mod Users
+pub mod Commands
+pub mod Progress

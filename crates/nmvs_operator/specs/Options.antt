@@ -2,11 +2,12 @@
 use Rattle.std.specs.Prelude.{◌≤◌, IfSome}
 use Rattle.nmvs_identifier.specs.Moment.{last_moment}
 use Rattle.nmvs_operator.specs.declared.options.Options.{Options}
+use Rattle.nmvs_operator.specs.declared.options.TheConstants.{MOST_SHARDS, MOST_WORKERS, MOST_SESSIONS}
 
 -- each number of a command line is in its range
 pub record AreInRange (o : Options) : Type 0 where
-  pub shards : (1 ≤ o.shards) × (o.shards ≤ 8)
-  pub workers : (1 ≤ o.workers) × (o.workers ≤ 8)
-  pub sessions : o.sessions ≤ 1_000_000
+  pub shards : (1 ≤ o.shards) × (o.shards ≤ MOST_SHARDS)
+  pub workers : (1 ≤ o.workers) × (o.workers ≤ MOST_WORKERS)
+  pub sessions : o.sessions ≤ MOST_SESSIONS
   pub port : (1 ≤ o.port) × (o.port ≤ 65_535)
   pub moment : IfSome o.moment (λ m. m ≤ last_moment)

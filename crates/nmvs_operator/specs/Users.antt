@@ -1,21 +1,23 @@
--- Users files and commands of the registrar (own).
-use Rattle.std.specs.Prelude.{◌≡◌, ◌≢◌, ◌+◌, ◌<◌, ◌⊎◌, ℕ, List, [], ◌∷◌, ◌++◌, length, map, slice_index, Some, None, true, false}
+-- Users files (own).
+use Rattle.std.specs.Prelude.{◌≡◌, ◌≢◌, ◌+◌, ◌<◌, ◌⊎◌, ℕ, List, [], ◌∷◌, ◌++◌, length, map, slice_index, All, IsTrue, Some, None, true, false}
 use Rattle.std.specs.List.{flat_map}
 use Rattle.nmvs_directory.specs.declared.change.Change.{Change}
-use Rattle.nmvs_protocol.specs.Commands.{command_line, first_command_fault}
+use Rattle.nmvs_protocol.specs.Commands.{command_line, first_command_fault, is_command}
 use Rattle.nmvs_protocol.specs.declared.command.Command.{Command}
 use Rattle.nmvs_protocol.specs.declared.command.Command.TheVariants.{Enrol, Suspend}
-use Rattle.nmvs_protocol.specs.declared.command_fault.CommandFault.{CommandFault}
+use Rattle.nmvs_protocol.specs.declared.command.CommandFault.{CommandFault}
 use Rattle.nmvs_stream.specs.Source.{Told}
-use Rattle.nmvs_operator.specs.declared.load_fault.LoadFault.{LoadFault}
-use Rattle.nmvs_operator.specs.declared.load_fault.LoadFault.TheVariants as load
-use Rattle.nmvs_operator.specs.declared.obey_fault.ObeyFault.{ObeyFault}
-use Rattle.nmvs_operator.specs.declared.obey_fault.ObeyFault.TheVariants as obey
+use Rattle.nmvs_operator.specs.declared.faults.LoadFault.{LoadFault}
+use Rattle.nmvs_operator.specs.declared.faults.LoadFault.TheVariants as load
 
 -- the change that a command makes
 abbrev pub change_of : Command → Change
 change_of (Enrol user actor) = record { user = user; actor = Some actor }
 change_of (Suspend user) = record { user = user; actor = None }
+
+-- the texts of these commands are names
+abbrev pub AreCommands : List Command → Type 0
+AreCommands commands = All (λ c. IsTrue (is_command c)) commands
 
 -- the text of commands: the line of each, and LF behind it
 abbrev pub commands_text : List Command → List ℕ
@@ -26,18 +28,29 @@ abbrev pub IsUsersFile : List ℕ → List Command → Type 0
 IsUsersFile bytes commands = (bytes ≡ commands_text commands) ⊎ (bytes ++ 10 ∷ [] ≡ commands_text commands)
 
 -- the changes of a users file are added to those that were pending
-pub record Adds (bytes : List ℕ) (before after : List Change) : Type 0 where
+pub record AddsAll (bytes : List ℕ) (before after : List Change) : Type 0 where
   pub commands : List Command
+  pub valid : AreCommands commands
   pub file : IsUsersFile bytes commands
+  pub changes : after ≡ before ++ map change_of commands
+
+-- the changes of the first lines of a users file, to which an LF is added, are added to those that were pending
+pub record AddsFirst (bytes : List ℕ) (before after : List Change) : Type 0 where
+  pub commands : List Command
+  pub valid : AreCommands commands
+  pub rest : List ℕ
+  pub these : bytes ++ 10 ∷ [] ≡ commands_text commands ++ rest
   pub changes : after ≡ before ++ map change_of commands
 
 -- no LF is among these bytes
 abbrev pub IsWhole : List ℕ → Type 0
 IsWhole line = (k : ℕ) → k < length line → slice_index line k ≢ 10
 
--- the line of this number, counted from 1, has this fault, and the lines before it are commands
-pub record StopsAt (bytes : List ℕ) (number : ℕ) (fault : CommandFault) : Type 0 where
+-- the line of this number, counted from 1, has this fault; the lines before it are commands, whose changes are added to
+-- those that were pending
+pub record StopsAt (bytes : List ℕ) (number : ℕ) (fault : CommandFault) (before after : List Change) : Type 0 where
   pub commands : List Command
+  pub valid : AreCommands commands
   pub line : List ℕ
   pub behind : List ℕ
   pub these : bytes ≡ commands_text commands ++ (line ++ behind)
@@ -45,12 +58,13 @@ pub record StopsAt (bytes : List ℕ) (number : ℕ) (fault : CommandFault) : Ty
   pub whole : IsWhole line
   pub ended : (behind ≡ []) ⊎ ((rest : List ℕ) × (behind ≡ 10 ∷ rest))
   pub judged : first_command_fault line ≡ Some fault
+  pub changes : after ≡ before ++ map change_of commands
 
--- what a fault tells of a users file
-abbrev pub Tells : List ℕ → LoadFault → Type 0
-Tells bytes (load.Line number fault) = StopsAt bytes number fault
-Tells bytes load.Read = ⊥
-Tells bytes load.Memory = Unit {0}
+-- what a fault tells of a users file, and of what is pending since
+abbrev pub Tells : List ℕ → List Change → List Change → LoadFault → Type 0
+Tells bytes before after (load.Line number fault) = StopsAt bytes number fault before after
+Tells bytes before after load.Read = ⊥
+Tells bytes before after load.Memory = AddsFirst bytes before after
 
 -- the users file that was read to its end, and the changes that it added to those pending, are published
 pub record Loads (source source' : Told) (published pending published' : List Change) : Type 0 where
@@ -58,30 +72,23 @@ pub record Loads (source source' : Told) (published pending published' : List Ch
   pub read : source'.bytes ≡ source.bytes ++ bytes
   pub ended : source'.ended ≡ true
   pub added : List Change
-  pub adds : Adds bytes pending added
+  pub adds : AddsAll bytes pending added
   pub all : published' ≡ published ++ added
 
 -- a read failed, or so many reads did not reach the end
 abbrev pub CannotRead : Told → Told → ℕ → Type 0
 CannotRead source source' reads = (source'.failed ≡ true) ⊎ ((source'.reads ≡ source.reads + reads) × (source'.ended ≡ false))
 
--- what a fault tells of the users file, of which at most so many reads were to be made
-abbrev pub Fails : Told → Told → ℕ → LoadFault → Type 0
-Fails source source' reads (load.Line number fault) =
-    (bytes : List ℕ) × (source'.bytes ≡ source.bytes ++ bytes) × (source'.ended ≡ true) × StopsAt bytes number fault
-Fails source source' reads load.Read = CannotRead source source' reads
-Fails source source' reads load.Memory = Unit {0}
+-- why the bytes of a users file are not had: memory was wanting for those that were read, or they were not read to the end
+abbrev pub ReadFails : Told → Told → ℕ → LoadFault → Type 0
+ReadFails source source' reads load.Memory = (bytes : List ℕ) × (source'.bytes ≡ source.bytes ++ bytes)
+ReadFails source source' reads load.Read = CannotRead source source' reads
+ReadFails source source' reads (load.Line number fault) = ⊥
 
--- a command was carried out: its change is published, behind all that were pending
-pub record Obeys (line : List ℕ) (published pending published' pending' : List Change) : Type 0 where
-  pub command : Command
-  pub read : line ≡ command_line command
-  pub all : published' ≡ published ++ (pending ++ change_of command ∷ [])
-  pub none_left : pending' ≡ []
-
--- a command was not carried out: it can't be read, and nothing changed; or memory was wanting, and nothing was
--- published
-abbrev pub Refuses : List ℕ → List Change → List Change → List Change → List Change → ObeyFault → Type 0
-Refuses line published pending published' pending' (obey.Unread fault) =
-    (first_command_fault line ≡ Some fault) × (published' ≡ published) × (pending' ≡ pending)
-Refuses line published pending published' pending' obey.Memory = published' ≡ published
+-- what a fault tells of the users file, of which at most so many reads were to be made, and of what is pending since
+abbrev pub LoadFails : Told → Told → ℕ → List Change → List Change → LoadFault → Type 0
+LoadFails source source' reads before after (load.Line number fault) =
+    (bytes : List ℕ) × (source'.bytes ≡ source.bytes ++ bytes) × (source'.ended ≡ true) × StopsAt bytes number fault before after
+LoadFails source source' reads before after load.Read = CannotRead source source' reads × (after ≡ before)
+LoadFails source source' reads before after load.Memory =
+    (bytes : List ℕ) × (source'.bytes ≡ source.bytes ++ bytes) × AddsFirst bytes before after

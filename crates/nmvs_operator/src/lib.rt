@@ -1,21 +1,20 @@
-//! What the operator hands to the server: the options of its command line, a users file, the registrar's commands.
+//! What the operator hands to the server: the options of its command line, a users file, the
+//! registrar's commands.
 //!
-//! [`read_options`] takes a command line; [`load_users`] publishes the users of a file, all at once, and [`obey`] the change
-//! of one command, by a `nmvs_directory::Registrar`.
+//! [`read_options`] takes a command line; [`load_users`] publishes the users of a file, all at once, and
+//! [`obey_all`] the change of each command of a source as it comes, by a `nmvs_directory::Registrar`.
 //!
-//! It serves nobody: what is served, and when a command is read, is `nmvs_server`'s.
+//! It serves nobody: what is served, and when commands are read, is `nmvs_server`'s.
 #![tactic(auto)]
 
-mod load_fault;
-mod obey_fault;
-mod option_fault;
+mod commands;
+mod faults;
 mod options;
-#[cfg(test)]
-mod tests;
 mod users;
 
-pub use load_fault::LoadFault;
-pub use obey_fault::ObeyFault;
-pub use option_fault::OptionFault;
-pub use options::{Options, read_options};
-pub use users::{load_users, obey};
+pub use commands::{command_word, obey, obey_all};
+pub use faults::{LoadFault, ObeyFault};
+pub use options::{
+    DEFAULT_PORT, MOST_SESSIONS, MOST_SHARDS, MOST_WORKERS, OptionFault, Options, read_options,
+};
+pub use users::load_users;

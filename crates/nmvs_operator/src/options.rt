@@ -1,22 +1,27 @@
 //! The command line.
-ghost use Rattle.std.specs.Prelude.{◌≤◌, IfOk, IfSome};
+ghost use Rattle.std.specs.Prelude.{◌≤◌, IfOk};
 ghost use Rattle.nmvs_identifier.specs.Moment.{last_moment};
 ghost use Rattle.nmvs_operator.specs.Options.{AreInRange};
 
-use crate::OptionFault;
 use clap::error::ErrorKind;
 use clap::{Arg, ArgAction, ArgMatches, Command, Error, value_parser};
 use nmvs_identifier::{LAST_MOMENT, Moment};
 use std::alloc::{AllocError, Global};
 
+#[cfg(test)]
+mod tests;
+
 /// The most shards: a repository has at most so many locks, each of a type of its own.
-const MOST_SHARDS: i64 = 8;
+pub const MOST_SHARDS: u64 = 8;
 
 /// The most workers: each asks by a window of the directory, which has at most so many.
-const MOST_WORKERS: i64 = 8;
+pub const MOST_WORKERS: u64 = 8;
 
 /// The most connections that a worker serves before it ends (own).
-const MOST_SESSIONS: i64 = 1_000_000;
+pub const MOST_SESSIONS: u64 = 1_000_000;
+
+/// The port that is listened on where the command line names none (own).
+pub const DEFAULT_PORT: u16 = 7161;
 
 /// A command line that was taken (own).
 #[derive(Debug, Drop)]
@@ -41,6 +46,22 @@ pub struct Options {
     pub stdin: bool,
 }
 
+/// Why a command line gives no options.
+#[derive(Debug, Drop)]
+pub enum OptionFault {
+    Memory,
+    /// The line is refused, with the text that says why.
+    Refused(String),
+    /// The line asks for help, with its text.
+    Help(String),
+}
+
+impl From<AllocError> for OptionFault {
+    fn from(_: AllocError) -> OptionFault {
+        OptionFault::Memory
+    }
+}
+
 const ABOUT: &str =
     "The national medicines verification repository: answers lines of users on 127.0.0.1, and takes commands of its registrar \
     on standard input.";
@@ -57,18 +78,20 @@ const REHEARSAL: &str =
 pub fn read_options(alloc: Global, words: &[String]) -> Result<Options, OptionFault>
     ensures { IfOk result AreInRange }
 {
-    match command(alloc)?
+    let port = format!(in alloc; "{}", DEFAULT_PORT)?;
+    match command(alloc, &port)?
         .no_binary_name(true)
         .try_get_matches_from(words)
     {
-        Ok(matches) => taken(alloc, &matches),
+        Ok(matches) => options_of(alloc, &matches),
         Err(error) => Err(fault_of(alloc, &error)),
     }
 }
 
-fn command<'a>(alloc: Global) -> Result<Command<'a>, AllocError> {
+/// The command line, with the text of the default port.
+fn command<'a>(alloc: Global, default_port: &'a str) -> Result<Command<'a>, AllocError> {
     let port = number(alloc, "port", "Port on 127.0.0.1, 1 to 65535", 1, 65_535).default_value(
-        "7161",
+        default_port,
     );
     let moment = number(
         alloc,
@@ -123,7 +146,7 @@ fn with_counts<'a>(alloc: Global, command: Command<'a>) -> Result<Command<'a>, A
         "shards",
         "Parts of the repository that are worked on at once, 1 to 8",
         1,
-        MOST_SHARDS,
+        MOST_SHARDS as i64,
     )
     .default_value("8");
     let workers = number(
@@ -131,7 +154,7 @@ fn with_counts<'a>(alloc: Global, command: Command<'a>) -> Result<Command<'a>, A
         "workers",
         "Connections that are served at once, 1 to 8",
         1,
-        MOST_WORKERS,
+        MOST_WORKERS as i64,
     )
     .default_value("4");
     let sessions = number(
@@ -139,7 +162,7 @@ fn with_counts<'a>(alloc: Global, command: Command<'a>) -> Result<Command<'a>, A
         "sessions",
         "Connections that each worker serves before it ends, 0 to 1000000; 0 is without end",
         0,
-        MOST_SESSIONS,
+        MOST_SESSIONS as i64,
     )
     .default_value("0");
     command.arg(shards)?.arg(workers)?.arg(sessions)
@@ -156,11 +179,12 @@ fn number<'a>(alloc: Global, name: &'a str, help: &'a str, least: i64, most: i64
     option(alloc, name, "N", help).value_parser(value_parser!(u64).range(least..=most))
 }
 
-fn taken(alloc: Global, matches: &ArgMatches<'_>) -> Result<Options, OptionFault>
+/// The options of a line that the parser took.
+fn options_of(alloc: Global, matches: &ArgMatches<'_>) -> Result<Options, OptionFault>
     ensures { IfOk result AreInRange }
 {
     let Some(users) = matches.get_str("users") else {
-        return Err(unread(alloc));
+        return Err(unreadable(alloc));
     };
     let moment = if matches.contains_id("moment") {
         Some(moment_of(alloc, matches)?)
@@ -171,9 +195,9 @@ fn taken(alloc: Global, matches: &ArgMatches<'_>) -> Result<Options, OptionFault
         users: String::from_str(alloc, users)?,
         import: path_of(alloc, matches, "import")?,
         export: path_of(alloc, matches, "export")?,
-        shards: within(alloc, matches, "shards", 1, MOST_SHARDS as u64)? as usize,
-        workers: within(alloc, matches, "workers", 1, MOST_WORKERS as u64)? as usize,
-        sessions: within(alloc, matches, "sessions", 0, MOST_SESSIONS as u64)?,
+        shards: within(alloc, matches, "shards", 1, MOST_SHARDS)? as usize,
+        workers: within(alloc, matches, "workers", 1, MOST_WORKERS)? as usize,
+        sessions: within(alloc, matches, "sessions", 0, MOST_SESSIONS)?,
         port: within(alloc, matches, "port", 1, 65_535)? as u16,
         moment,
         stdin: matches.get_flag("stdin"),
@@ -196,7 +220,7 @@ fn moment_of(alloc: Global, matches: &ArgMatches<'_>) -> Result<Moment, OptionFa
     ensures { IfOk result (λ m. m ≤ last_moment) }
 {
     let seconds = within(alloc, matches, "moment", 0, LAST_MOMENT as u64)?;
-    Moment::new(seconds as i64).ok_or_else(|| unread(alloc))
+    Moment::new(seconds as i64).ok_or_else(|| unreadable(alloc))
 }
 
 /// The number of an option. The parser took it between these two already, and here it is shown.
@@ -211,12 +235,12 @@ fn within(
 {
     match matches.get_one::<u64>(name) {
         Some(number) if least <= number && number <= most => Ok(number),
-        _ => Err(unread(alloc)),
+        _ => Err(unreadable(alloc)),
     }
 }
 
 /// The fault of a value that the parser took and that is not what it has to be. No command line has one.
-fn unread(alloc: Global) -> OptionFault {
+fn unreadable(alloc: Global) -> OptionFault {
     match String::from_str(alloc, "an option could not be read") {
         Ok(text) => OptionFault::Refused(text),
         Err(AllocError) => OptionFault::Memory,

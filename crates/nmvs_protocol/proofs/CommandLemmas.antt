@@ -1,6 +1,6 @@
 -- The line of a command is read, and is the line of no other.
 use Rattle.std.proofs.Common.{◌≡◌, ◌≢◌, ◌&&◌, ◌<◌, not, ℕ, true, cond, List, [], ◌∷◌, length, get_or, take, drop, Some, None, Result, Ok, Err, refl, sym, ap, ◌∙◌, lit≤, codes}
-use Rattle.std.specs.Prelude.{IfOk, IsOkAnd, IsTrue}
+use Rattle.std.specs.Prelude.{IfOk, IsTrue}
 use Rattle.std.specs.Option.{is_some}
 use Rattle.std.specs.Str.{bytes_eq}
 use Rattle.std.specs.Result.{result_err}
@@ -12,10 +12,10 @@ use Rattle.nmvs_words.proofs.WordLemmas.{role_named-of_word, role_word-one}
 use Rattle.nmvs_words.proofs.PlainWords.{role_plain}
 use Rattle.nmvs_protocol.specs.declared.command.Command.{Command}
 use Rattle.nmvs_protocol.specs.declared.command.Command.TheVariants.{Enrol, Suspend}
-use Rattle.nmvs_protocol.specs.declared.command_fault.CommandFault.{CommandFault}
-use Rattle.nmvs_protocol.specs.declared.command_fault.CommandFault.TheVariants as fault
+use Rattle.nmvs_protocol.specs.declared.command.CommandFault.{CommandFault}
+use Rattle.nmvs_protocol.specs.declared.command.CommandFault.TheVariants as fault
 use Rattle.nmvs_protocol.specs.Fields.{fields_in}
-use Rattle.nmvs_protocol.specs.Commands.{command_fields, command_line, enrol_fault, suspend_fault, fields_fault, first_command_fault, is_role, is_command, IsSameCommand}
+use Rattle.nmvs_protocol.specs.Commands.{command_fields, command_line, enrol_fault, suspend_fault, fields_fault, first_command_fault, is_role, is_command, ReadsCommand, EachCommandIsRead, OneCommandSpelling}
 use Rattle.nmvs_identifier.proofs.PlainTexts.{IsPlain, plain_name}
 use Rattle.nmvs_protocol.proofs.PlainLemmas.{IsPlainLine, plain_line, line_fault-plain}
 use Rattle.nmvs_protocol.proofs.FieldLemmas.{line_of_kept}
@@ -42,20 +42,23 @@ plain_command : (c : Command) → is_command c ≡ true → IsPlainLine (command
 plain_command (Enrol user actor) e = plain_line (command_fields (Enrol user actor)) (lit≤ tt) (lit≤ tt) (fields_plain (Enrol user actor) e)
 plain_command (Suspend user) e = plain_line (command_fields (Suspend user)) (lit≤ tt) (lit≤ tt) (fields_plain (Suspend user) e)
 
-same_fields : (c d : Command) → command_fields c ≡ command_fields d → IsSameCommand c d
-same_fields (Enrol user a) (Enrol user' b) e = (
-  ap (λ fs. get_or fs 1 []) e,
-  role_word-one a.role b.role (ap (λ fs. get_or fs 2 []) e),
-  ap (λ fs. get_or fs 3 []) e,
-  ap (λ fs. get_or fs 4 []) e,
-)
-same_fields (Suspend user) (Suspend user') e = ap (λ fs. get_or fs 1 []) e
+abbrev name_of : List ℕ → Name
+name_of x = record { bytes = x }
+
+same_fields : (c d : Command) → command_fields c ≡ command_fields d → c ≡ d
+same_fields (Enrol user a) (Enrol user' b) e =
+    let name : user ≡ user' = ap (λ fs. name_of (get_or fs 1 [])) e in
+    let role = role_word-one a.role b.role (ap (λ fs. get_or fs 2 []) e) in
+    let authorisation : a.authorisation ≡ b.authorisation = ap (λ fs. name_of (get_or fs 3 [])) e in
+    let premises : a.premises ≡ b.premises = ap (λ fs. name_of (get_or fs 4 [])) e in
+    λ i. Enrol (name i) (record { role = role i; authorisation = authorisation i; premises = premises i })
+same_fields (Suspend user) (Suspend user') e = ap (λ fs. Suspend (name_of (get_or fs 1 []))) e
 same_fields (Enrol user a) (Suspend user') e = let shorter = ap (λ fs. drop 2 fs) e in absurd cc
 same_fields (Suspend user) (Enrol user' b) e = let shorter = ap (λ fs. drop 2 fs) e in absurd cc
 
 -- different commands have different lines
-same_command : (c d : Command) → is_command c ≡ true → is_command d ≡ true → command_line c ≡ command_line d → IsSameCommand c d
-same_command c d is_c is_d e = same_fields c d (sym (plain_command c is_c).fields ∙ ap fields_in e ∙ (plain_command d is_d).fields)
+pub one_spelling : OneCommandSpelling
+one_spelling c d is_c is_d e = same_fields c d (sym (plain_command c is_c).fields ∙ ap fields_in e ∙ (plain_command d is_d).fields)
 
 -- the line of a command has no fault
 first_fault-line : (c : Command) → is_command c ≡ true → first_command_fault (command_line c) ≡ None
@@ -68,22 +71,19 @@ first_fault-line (Suspend user) e =
     line_fault-plain fault.Long fault.Bytes fault.Fields fields_fault (command_fields (Suspend user)) (plain_command (Suspend user) e)
     ∙ (λ i. cond (e i) None (Some fault.Name))
 
--- a line that is read exactly is read as the command whose line it is
-pub read_complete : (x : List ℕ) (r : Result Command CommandFault) → IfOk r (λ c. x ≡ command_line c) → IfOk r (λ c. IsTrue (is_command c))
-    → result_err r ≡ first_command_fault x → (c : Command) → IsTrue (is_command c) → x ≡ command_line c → IsOkAnd r (λ d. IsSameCommand d c)
-read_complete x (Ok d) own valid exact c is_c e = same_command d c valid is_c (sym own ∙ e)
-read_complete x (Err f) own valid exact c is_c e =
-    let none = exact ∙ ap first_command_fault e ∙ first_fault-line c is_c in absurd cc
+-- the line of a command is read as that command
+pub each_is_read : EachCommandIsRead
+each_is_read c is_c = (refl, first_fault-line c is_c, is_c)
 
 few_fields : (c : Command) → length (command_fields c) < 7
 few_fields (Enrol user actor) = lit≤ tt
 few_fields (Suspend user) = lit≤ tt
 
--- a line whose fields are read as a command is its line
-pub line_of_command : (x : List ℕ) (fs : List (List ℕ)) (r : Result Command CommandFault) → fs ≡ take 7 (fields_in x)
-    → IfOk r (λ c. command_fields c ≡ fs) → IfOk r (λ c. x ≡ command_line c)
-line_of_command x fs (Ok c) kept same = line_of_kept x (command_fields c) (sym (same ∙ kept)) (few_fields c)
-line_of_command x fs (Err f) kept same = tt
+-- a line whose fields are read as a command, or have this fault, is read so
+pub reads_fields : (x : List ℕ) (fs : List (List ℕ)) (r : Result Command CommandFault) → fs ≡ take 7 (fields_in x)
+    → IfOk r (λ c. command_fields c ≡ fs) → IfOk r (λ c. IsTrue (is_command c)) → result_err r ≡ first_command_fault x → ReadsCommand x r
+reads_fields x fs (Ok c) kept same valid none = (line_of_kept x (command_fields c) (sym (same ∙ kept)) (few_fields c), sym none, valid)
+reads_fields x fs (Err f) kept same valid told = sym told
 
 -- an enrolment has four texts
 pub enrol_fault-count : (texts : List (List ℕ)) → length texts ≢ 4 → enrol_fault texts ≡ Some fault.Fields

@@ -17,7 +17,7 @@ use Rattle.std.proofs.lemmas.Iterator.{YieldsList}
 use Rattle.std.proofs.lemmas.Iterator.Splits.{YieldsList-from_str_split}
 use Rattle.std.proofs.lemmas.Str.{IsUtf8-from_ascii}
 use Rattle.std.proofs.lemmas.Str.Ascii.{IsAscii-from_all}
-use Rattle.nmvs_protocol.specs.Fields.{is_printable, is_empty, fields_in, joined}
+use Rattle.nmvs_protocol.specs.Fields.{is_printable, is_empty, fields_in, line_of_fields}
 
 printable-small : (b : ℕ) → is_printable b ≡ true → b < 128
 printable-small b e = grind (arith, nat_tests)
@@ -28,6 +28,7 @@ all_small (b ∷ bs) e =
     let parts = and_parts (is_printable b) (list_all is_printable bs) e in
     (printable-small b parts.0, all_small bs parts.1)
 
+-- printable text is UTF-8
 pub printable-utf8 : (x : List ℕ) → list_all is_printable x ≡ true → IsUtf8 x
 printable-utf8 x e = IsUtf8-from_ascii x (IsAscii-from_all x (All-from_recursion _ x (all_small x e)))
 
@@ -54,18 +55,20 @@ take_push xs x room =
     let more = length_push xs x in
     take_all 7 (xs ++ x ∷ []) (omega arith) ∙ ap (λ ys. ys ++ x ∷ []) (sym (take_all 7 xs (omega arith)))
 
+-- with no room one more is not kept
 pub take_push_full : {A : Type 0} (xs : List A) (x : A) → 7 ≤ length (take 7 xs) → take 7 (xs ++ x ∷ []) ≡ take 7 xs
 take_push_full xs x full = let kept = length-take 7 xs in take-append-le 7 xs (x ∷ []) (omega arith)
 
+-- as many are kept as there is room for
 pub full : {A : Type 0} (kept all : List A) → kept ≡ take 7 all → (length kept == 7) ≡ true → 7 ≤ length (take 7 all)
 full kept all same is_full = let n = eqb-true (length kept) 7 is_full in let m = ap length same in omega arith
 
 -- a line of which fewer fields than could be are kept has these fields, and is made of them
-pub line_of_kept : (x : List ℕ) (fs : List (List ℕ)) → take 7 (fields_in x) ≡ fs → length fs < 7 → x ≡ joined fs
+pub line_of_kept : (x : List ℕ) (fs : List (List ℕ)) → take 7 (fields_in x) ≡ fs → length fs < 7 → x ≡ line_of_fields fs
 line_of_kept x fs kept few =
     let counted = length-take 7 (fields_in x) in
     let same = ap length kept in
-    sym (join_with_byte-slice_split 32 x) ∙ ap joined (sym (take_all 7 (fields_in x) (omega arith)) ∙ kept)
+    sym (join_with_byte-slice_split 32 x) ∙ ap line_of_fields (sym (take_all 7 (fields_in x) (omega arith)) ∙ kept)
 
 -- the texts of a slice of one, of two and of four
 pub one : (ts : List (Bor (List ℕ))) (a : Bor (List ℕ)) → 1 ≤ length ts → length ts < 2 → map (λ t. t.now) ts ≡ (get_or ts 0 a).now ∷ []

@@ -3,45 +3,66 @@ use Rattle.std.proofs.Common.{◌≡◌, ◌<◌, ◌+◌, ◌++◌, List, ℕ, 
 use Rattle.std.proofs.lemmas.List.{take_at, take_all, take_min, take-append-le, length-take, length-take-le}
 use Rattle.std.proofs.Math.Seq.{take-append-add}
 use Rattle.std.proofs.lemmas.Bool.{lt-ltb, cases_lt}
-use Rattle.nmvs_protocol.specs.declared.ask.Ask.{Ask}
-use Rattle.nmvs_protocol.specs.declared.line_fault.LineFault.{LineFault}
-use Rattle.nmvs_protocol.specs.declared.line_fault.LineFault.TheVariants as faults
-use Rattle.nmvs_protocol.specs.Lines.{first_fault}
-use Rattle.nmvs_protocol.specs.Session.{Reads}
-use Rattle.nmvs_protocol.specs.Progress.{kept}
+use Rattle.nmvs_protocol.specs.declared.ask.Line.{Line}
+use Rattle.nmvs_protocol.specs.declared.ask.LineFault.{LineFault}
+use Rattle.nmvs_protocol.specs.declared.ask.LineFault.TheVariants as faults
+use Rattle.nmvs_protocol.specs.declared.command.Command.{Command}
+use Rattle.nmvs_protocol.specs.declared.command.CommandFault.{CommandFault}
+use Rattle.nmvs_protocol.specs.declared.command.CommandFault.TheVariants as commands
+use Rattle.nmvs_protocol.specs.Commands.{first_command_fault, ReadsCommand}
+use Rattle.nmvs_protocol.specs.Lines.{first_fault, ReadsLine}
+use Rattle.nmvs_protocol.specs.Progress.{kept_part}
 
 long_fault : (x : List ℕ) → 200 < length x → first_fault x ≡ Some faults.Long
 unfolding first_fault
 long_fault x long = rw (lt-ltb 200 (length x) long) refl
 
-long_reads : (x y : List ℕ) (r : Result Ask LineFault) → 200 < length x → 200 < length y → Reads x r → Reads y r
-long_reads x y (Ok ask) lx ly h = let e = long_fault x lx in let no = h.1 in absurd (cc (e, no))
+long_reads : (x y : List ℕ) (r : Result Line LineFault) → 200 < length x → 200 < length y → ReadsLine x r → ReadsLine y r
+long_reads x y (Ok l) lx ly h = let e = long_fault x lx in let no = h.1 in absurd (cc (e, no))
 long_reads x y (Err fault) lx ly h = long_fault y ly ∙ sym (long_fault x lx) ∙ h
 
-pub kept_reads : (x : List ℕ) (r : Result Ask LineFault) → Reads (kept x) r → Reads x r
+-- what is kept of a line is read as the line is
+pub kept_reads : (x : List ℕ) (r : Result Line LineFault) → ReadsLine (kept_part x) r → ReadsLine x r
 kept_reads x r h = elim (cases_lt 201 (length x)) [
-  | inr short ↦ subst (λ (t : List ℕ). Reads t r) (take_all 201 x short) h
-  | inl long ↦ let n = length-take-le 201 x (omega arith) in long_reads (kept x) x r (omega arith) (omega arith) h
+  | inr short ↦ subst (λ (t : List ℕ). ReadsLine t r) (take_all 201 x short) h
+  | inl long ↦ let n = length-take-le 201 x (omega arith) in long_reads (kept_part x) x r (omega arith) (omega arith) h
 ]
 
-pub reads_kept : (x : List ℕ) (r : Result Ask LineFault) → Reads x r → Reads (kept x) r
+-- and the other way round
+pub reads_kept : (x : List ℕ) (r : Result Line LineFault) → ReadsLine x r → ReadsLine (kept_part x) r
 reads_kept x r h = elim (cases_lt 201 (length x)) [
-  | inr short ↦ subst (λ (t : List ℕ). Reads t r) (sym (take_all 201 x short)) h
-  | inl long ↦ let n = length-take-le 201 x (omega arith) in long_reads x (kept x) r (omega arith) (omega arith) h
+  | inr short ↦ subst (λ (t : List ℕ). ReadsLine t r) (sym (take_all 201 x short)) h
+  | inl long ↦ let n = length-take-le 201 x (omega arith) in long_reads x (kept_part x) r (omega arith) (omega arith) h
+]
+
+long_command_fault : (x : List ℕ) → 200 < length x → first_command_fault x ≡ Some commands.Long
+unfolding first_command_fault
+long_command_fault x long = rw (lt-ltb 200 (length x) long) refl
+
+long_reads_command : (x y : List ℕ) (r : Result Command CommandFault) → 200 < length x → 200 < length y → ReadsCommand x r → ReadsCommand y r
+long_reads_command x y (Ok c) lx ly h = let e = long_command_fault x lx in let no = h.1 in absurd (cc (e, no))
+long_reads_command x y (Err fault) lx ly h = long_command_fault y ly ∙ sym (long_command_fault x lx) ∙ h
+
+-- what is kept of a command is read as the command is
+pub kept_reads_command : (x : List ℕ) (r : Result Command CommandFault) → ReadsCommand (kept_part x) r → ReadsCommand x r
+kept_reads_command x r h = elim (cases_lt 201 (length x)) [
+  | inr short ↦ subst (λ (t : List ℕ). ReadsCommand t r) (take_all 201 x short) h
+  | inl long ↦ let n = length-take-le 201 x (omega arith) in long_reads_command (kept_part x) x r (omega arith) (omega arith) h
 ]
 
 -- bytes more of what is kept
-pub kept_more : (x y : List ℕ) → kept (kept x ++ y) ≡ kept (x ++ y)
+pub kept_more : (x y : List ℕ) → kept_part (kept_part x ++ y) ≡ kept_part (x ++ y)
 kept_more x y = elim (cases_lt 201 (length x)) [
-  | inr short ↦ ap (λ (t : List ℕ). kept (t ++ y)) (take_all 201 x short)
-  | inl long ↦ take_at (kept x) y 201 (length-take-le 201 x (omega arith)) ∙ sym (take-append-le 201 x y (omega arith))
+  | inr short ↦ ap (λ (t : List ℕ). kept_part (t ++ y)) (take_all 201 x short)
+  | inl long ↦ take_at (kept_part x) y 201 (length-take-le 201 x (omega arith)) ∙ sym (take-append-le 201 x y (omega arith))
 ]
 
-pub kept_twice : (x : List ℕ) → kept (kept x) ≡ kept x
-kept_twice x = let n = length-take 201 x in take_all 201 (kept x) (omega arith)
+-- what is kept of what is kept
+pub kept_twice : (x : List ℕ) → kept_part (kept_part x) ≡ kept_part x
+kept_twice x = let n = length-take 201 x in take_all 201 (kept_part x) (omega arith)
 
 -- as many bytes more as there is room for
-pub kept_filled : (x y : List ℕ) (room : ℕ) → room + length x ≡ 201 → x ++ take (min room (length y)) y ≡ kept (x ++ y)
+pub kept_filled : (x y : List ℕ) (room : ℕ) → room + length x ≡ 201 → x ++ take (min room (length y)) y ≡ kept_part (x ++ y)
 kept_filled x y room whole =
     let n : length x + room ≡ 201 = omega arith in
     ap (λ (t : List ℕ). x ++ t) (take_min room y) ∙ sym (take-append-add x y room) ∙ ap (λ (k : ℕ). take k (x ++ y)) n

@@ -5,5 +5,5 @@ pub mod QuitLines
 pub mod SessionSteps
 pub mod PlainLemmas
 pub mod SpellingLemmas
-pub mod ReadingLemmas
+pub mod QuestionLemmas
 pub mod CommandLemmas

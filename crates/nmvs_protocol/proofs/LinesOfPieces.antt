@@ -5,6 +5,7 @@ use Rattle.std.proofs.lemmas.Bool.{false_from_ne_true}
 use Rattle.memchr.specs.Find.{Nowhere, NoneBefore, Passes, is_byte}
 use Rattle.nmvs_protocol.specs.InputLines.{lines_after, rest_after}
 
+-- the lines of bytes that come in two pieces, and what follows the last LF of them
 pub lines_after-append : (cur xs ys : List ℕ) → lines_after cur (xs ++ ys) ≡ lines_after cur xs ++ lines_after (rest_after cur xs) ys
 unfolding lines_after rest_after
 lines_after-append cur [] ys = refl
@@ -57,6 +58,7 @@ found_line begun xs tail later k front back h =
       line.1 ∙ ap (rest_after []) rest,
     )
 
+-- the same where no LF is found
 pub found_none : (begun xs : List ℕ) → Nowhere (Passes (is_byte 10) xs) 0 (length xs)
     → (lines_after begun xs ≡ []) × (rest_after begun xs ≡ begun ++ xs)
 found_none begun xs h = no_line begun xs (λ j lt. false_from_ne_true (slice_index xs j == 10) (h j (omega arith) lt))

@@ -7,7 +7,8 @@ use Rattle.std.proofs.lemmas.List.Elements.{All-from_recursion}
 use Rattle.std.proofs.lemmas.List.Folds.{list_all-append}
 use Rattle.std.proofs.lemmas.List.Splits.{slice_split_at, slice_split_none}
 use Rattle.nmvs_identifier.proofs.PlainTexts.{is_plain, IsPlain, all_weaker}
-use Rattle.nmvs_protocol.specs.Fields.{longest_line, is_printable, is_space, is_empty, fields_in, joined, line_fault}
+use Rattle.nmvs_protocol.specs.declared.limits.TheConstants.{LONGEST_LINE}
+use Rattle.nmvs_protocol.specs.Fields.{is_printable, is_space, is_empty, fields_in, line_of_fields, line_fault}
 
 not_space : (b : ℕ) → is_plain b ≡ true → is_space b ≡ false
 not_space b e = grind (arith, nat_tests)
@@ -26,57 +27,58 @@ all_printable : (t : List ℕ) → list_all is_plain t ≡ true → list_all is_
 all_printable t e = all_weaker is_plain is_printable plain_printable t e
 
 -- the fields of a line that is made of plain fields
-fields_in-joined : (fs : List (List ℕ)) → 1 ≤ length fs → AllByRecursion IsPlain fs → fields_in (joined fs) ≡ fs
-fields_in-joined [] some plain = absurd (omega arith)
-fields_in-joined (f ∷ []) some plain = slice_split_none is_space f (All-from_recursion _ f (no_space f plain.0.2))
-fields_in-joined (f ∷ g ∷ fs) some plain =
-    slice_split_at is_space f 32 (joined (g ∷ fs)) (All-from_recursion _ f (no_space f plain.0.2)) refl
-    ∙ ap (λ (rest : List (List ℕ)). f ∷ rest) (fields_in-joined (g ∷ fs) (omega arith) plain.1)
+fields_in-line_of_fields : (fs : List (List ℕ)) → 1 ≤ length fs → AllByRecursion IsPlain fs → fields_in (line_of_fields fs) ≡ fs
+fields_in-line_of_fields [] some plain = absurd (omega arith)
+fields_in-line_of_fields (f ∷ []) some plain = slice_split_none is_space f (All-from_recursion _ f (no_space f plain.0.2))
+fields_in-line_of_fields (f ∷ g ∷ fs) some plain =
+    slice_split_at is_space f 32 (line_of_fields (g ∷ fs)) (All-from_recursion _ f (no_space f plain.0.2)) refl
+    ∙ ap (λ (rest : List (List ℕ)). f ∷ rest) (fields_in-line_of_fields (g ∷ fs) (omega arith) plain.1)
 
 none_empty : (fs : List (List ℕ)) → AllByRecursion IsPlain fs → list_any is_empty fs ≡ false
 none_empty [] plain = refl
 none_empty (f ∷ fs) plain = λ i. not_empty (length f) plain.0.0 i || none_empty fs plain.1 i
 
-printable-joined : (fs : List (List ℕ)) → AllByRecursion IsPlain fs → list_all is_printable (joined fs) ≡ true
-printable-joined [] plain = refl
-printable-joined (f ∷ []) plain = all_printable f plain.0.2
-printable-joined (f ∷ g ∷ fs) plain =
-    list_all-append is_printable f (32 ∷ joined (g ∷ fs))
-    ∙ (λ i. all_printable f plain.0.2 i && printable-joined (g ∷ fs) plain.1 i)
+printable-line_of_fields : (fs : List (List ℕ)) → AllByRecursion IsPlain fs → list_all is_printable (line_of_fields fs) ≡ true
+printable-line_of_fields [] plain = refl
+printable-line_of_fields (f ∷ []) plain = all_printable f plain.0.2
+printable-line_of_fields (f ∷ g ∷ fs) plain =
+    list_all-append is_printable f (32 ∷ line_of_fields (g ∷ fs))
+    ∙ (λ i. all_printable f plain.0.2 i && printable-line_of_fields (g ∷ fs) plain.1 i)
 
-length-joined : (fs : List (List ℕ)) → AllByRecursion IsPlain fs → length (joined fs) ≤ 21 * length fs
-length-joined [] plain = lit≤ tt
-length-joined (f ∷ []) plain = let short = plain.0.1 in omega (arith, short)
-length-joined (f ∷ g ∷ fs) plain =
+length-line_of_fields : (fs : List (List ℕ)) → AllByRecursion IsPlain fs → length (line_of_fields fs) ≤ 21 * length fs
+length-line_of_fields [] plain = lit≤ tt
+length-line_of_fields (f ∷ []) plain = let short = plain.0.1 in omega (arith, short)
+length-line_of_fields (f ∷ g ∷ fs) plain =
     let short = plain.0.1 in
-    let rest = length-joined (g ∷ fs) plain.1 in
-    let whole = length-append f (32 ∷ joined (g ∷ fs)) in
+    let rest = length-line_of_fields (g ∷ fs) plain.1 in
+    let whole = length-append f (32 ∷ line_of_fields (g ∷ fs)) in
     omega (arith, short, rest, whole)
 
-not_long : (n : ℕ) → n ≤ longest_line → nat_lt longest_line n ≡ false
+not_long : (n : ℕ) → n ≤ LONGEST_LINE → nat_lt LONGEST_LINE n ≡ false
 not_long n short = grind (arith, nat_tests)
 
 -- a line of one to nine plain fields is short, printable, and has these fields, none of them empty
 pub record IsPlainLine (fs : List (List ℕ)) : Type 0 where
-  pub short : length (joined fs) ≤ longest_line
-  pub printable : list_all is_printable (joined fs) ≡ true
-  pub fields : fields_in (joined fs) ≡ fs
-  pub filled : list_any is_empty (fields_in (joined fs)) ≡ false
+  pub short : length (line_of_fields fs) ≤ LONGEST_LINE
+  pub printable : list_all is_printable (line_of_fields fs) ≡ true
+  pub fields : fields_in (line_of_fields fs) ≡ fs
+  pub filled : list_any is_empty (fields_in (line_of_fields fs)) ≡ false
 
+-- one to nine plain fields make such a line
 pub plain_line : (fs : List (List ℕ)) → 1 ≤ length fs → length fs ≤ 9 → AllByRecursion IsPlain fs → IsPlainLine fs
 plain_line fs some few plain =
-    let own = fields_in-joined fs some plain in
-    let bound = length-joined fs plain in
+    let own = fields_in-line_of_fields fs some plain in
+    let bound = length-line_of_fields fs plain in
     record {
       short = omega (arith, few, bound);
-      printable = printable-joined fs plain;
+      printable = printable-line_of_fields fs plain;
       fields = own;
       filled = ap (list_any is_empty) own ∙ none_empty fs plain;
     }
 
 -- it has no fault but that of its fields
 pub line_fault-plain : {F : Type 0} (long bytes empty : F) (of_fields : List (List ℕ) → Option F) (fs : List (List ℕ)) → IsPlainLine fs
-    → line_fault long bytes empty of_fields (joined fs) ≡ of_fields fs
+    → line_fault long bytes empty of_fields (line_of_fields fs) ≡ of_fields fs
 line_fault-plain long bytes empty of_fields fs plain =
-    let short = not_long (length (joined fs)) plain.short in
+    let short = not_long (length (line_of_fields fs)) plain.short in
     λ i. cond (short i) (Some long) (cond (not (plain.printable i)) (Some bytes) (cond (plain.filled i) (Some empty) (of_fields (plain.fields i))))

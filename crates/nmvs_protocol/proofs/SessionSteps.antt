@@ -5,30 +5,34 @@ use Rattle.std.proofs.lemmas.List.Elements.{All-append, All-cons, All-nil}
 use Rattle.nmvs_stream.specs.Source.{Told}
 use Rattle.nmvs_stream.specs.Sink.{Taken}
 use Rattle.nmvs_protocol.specs.declared.ask.Ask.{Ask}
-use Rattle.nmvs_protocol.specs.declared.ask.Ask.TheVariants as asks
-use Rattle.nmvs_protocol.specs.declared.line_fault.LineFault.{LineFault}
+use Rattle.nmvs_protocol.specs.declared.ask.Line.{Line}
+use Rattle.nmvs_protocol.specs.declared.ask.Line.TheVariants as lines
+use Rattle.nmvs_protocol.specs.declared.ask.LineFault.{LineFault}
 use Rattle.nmvs_protocol.specs.declared.answer.Answer.{Answer}
 use Rattle.nmvs_protocol.specs.declared.limits.Limits.{Limits}
 use Rattle.nmvs_protocol.specs.declared.end.End.{End}
 use Rattle.nmvs_protocol.specs.declared.end.End.TheVariants as ends
-use Rattle.nmvs_protocol.specs.Lines.{line}
+use Rattle.nmvs_protocol.specs.Lines.{line_text, ReadsLine}
 use Rattle.nmvs_protocol.specs.Texts.{text}
 use Rattle.nmvs_protocol.specs.InputLines.{input_lines, lines_after, rest_after}
-use Rattle.nmvs_stream.specs.Put.{Puts, PutsPart}
-use Rattle.nmvs_protocol.specs.Session.{Reads, Answers, AnswersLine, AnswersLines, NoQuit, Delivers, BreaksOff, Closes, Session, is_input_end, is_read_fault}
-use Rattle.nmvs_protocol.specs.Progress.{Stands, Answered, kept, has_write_fault}
+use Rattle.nmvs_stream.specs.Delivery.{Delivers, DeliversPart}
+use Rattle.nmvs_protocol.specs.Session.{Answers, AnswersLine, AnswersLines, NoQuit, DeliversAll, BreaksOffInLast, Closes, Session, is_input_end, is_read_fault}
+use Rattle.nmvs_protocol.specs.Progress.{Stands, Answered, kept_part, has_write_fault}
 use Rattle.nmvs_protocol.proofs.KeptLines.{kept_reads}
 
-pub no_quit_more : (xs : List (List ℕ)) (x : List ℕ) → NoQuit xs → x ≢ line asks.Quit → NoQuit (xs ++ x ∷ [])
-no_quit_more xs x none other = All-append (λ (y : List ℕ). y ≢ line asks.Quit) xs (x ∷ []) none (All-cons (λ (y : List ℕ). y ≢ line asks.Quit) x [] other (All-nil (λ (y : List ℕ). y ≢ line asks.Quit)))
+-- one line more that is not QUIT
+pub no_quit_more : (xs : List (List ℕ)) (x : List ℕ) → NoQuit xs → x ≢ line_text lines.Quit → NoQuit (xs ++ x ∷ [])
+no_quit_more xs x none other = All-append (λ (y : List ℕ). y ≢ line_text lines.Quit) xs (x ∷ []) none (All-cons (λ (y : List ℕ). y ≢ line_text lines.Quit) x [] other (All-nil (λ (y : List ℕ). y ≢ line_text lines.Quit)))
 
-pub delivers_more : (start now new : Taken) (said : List Answer) (a : Answer) → Delivers start now said → Puts now new (text a) → Delivers start new (said ++ a ∷ [])
+-- one answer more, delivered
+pub delivers_more : (start now new : Taken) (said : List Answer) (a : Answer) → DeliversAll start now said → Delivers now new (text a) → DeliversAll start new (said ++ a ∷ [])
 delivers_more start now new said a d p = record {
   bytes = p.bytes ∙ ap (λ (t : List ℕ). t ++ text a) d.bytes ∙ flat_map_more text start.bytes said a;
   flushed = λ _. p.flushed;
 }
 
-pub breaks_off : (start now new : Taken) (said : List Answer) (a : Answer) → Delivers start now said → PutsPart now new (text a) → BreaksOff start new (said ++ a ∷ [])
+-- one answer more, which a failed write broke off
+pub breaks_off : (start now new : Taken) (said : List Answer) (a : Answer) → DeliversAll start now said → DeliversPart now new (text a) → BreaksOffInLast start new (said ++ a ∷ [])
 breaks_off start now new said a d p = record {
   before = said;
   last = a;
@@ -77,13 +81,14 @@ module _ {D : Type 0} (takes : D → Ask → Answer → D → Type 0) where
   answers_more first [] (b ∷ bs) now new x a r s = absurd r
   answers_more first (y ∷ ys) [] now new x a r s = absurd r
 
+  -- the same of equal lines
   pub same_lines : {limit : ℕ} {first : D} {start : Taken} {now : D} {sink : Taken} {count : ℕ} {xs ys : List (List ℕ)} {end : Option End}
       → xs ≡ ys → Answered takes limit first start now sink count xs end → Answered takes limit first start now sink count ys end
   same_lines {limit} {first} {start} {now} {sink} {count} {end = end} e h = subst (λ (t : List (List ℕ)). Answered takes limit first start now sink count t end) e h
 
   -- one line more, whatever comes of it
-  pub one_more : {limit count count' : ℕ} {first now new : D} {start sink sink' : Taken} {lines : List (List ℕ)} (x : List ℕ) (r : Result Ask LineFault) (a : Answer) (end : Option End)
-      → (so_far : Answered takes limit first start now sink count lines None) → count < limit → Reads (kept x) r → Answers takes now r a new
+  pub one_more : {limit count count' : ℕ} {first now new : D} {start sink sink' : Taken} {lines : List (List ℕ)} (x : List ℕ) (r : Result Line LineFault) (a : Answer) (end : Option End)
+      → (so_far : Answered takes limit first start now sink count lines None) → count < limit → ReadsLine (kept_part x) r → Answers takes now r a new
       → Stands end limit count' (so_far.answered ++ x ∷ []) [] (so_far.said ++ a ∷ []) start sink' → sink'.failed ≡ has_write_fault end
       → Answered takes limit first start new sink' count' (lines ++ x ∷ []) end
   one_more {limit} {first = first} {now = now} {new = new} x r a end so_far lt reads answers stands mark =
@@ -157,7 +162,7 @@ module _ {D : Type 0} (takes : D → Ask → Answer → D → Type 0) where
   pub record Ahead (limit : ℕ) (first : D) (start : Taken) (now : D) (sink : Taken) (count : ℕ) (begun rest : List ℕ) (lines : List (List ℕ)) (unfinished : List ℕ) : Type 0 where
     pub served : List (List ℕ)
     pub line : List ℕ
-    pub keeps : begun ≡ kept line
+    pub keeps : begun ≡ kept_part line
     pub so_far : Answered takes limit first start now sink count served None
     pub ahead : served ++ lines_after line rest ≡ lines
     pub left : rest_after line rest ≡ unfinished

@@ -1,6 +1,6 @@
--- The line of an ask is read, and is the line of no other.
+-- The text of a line is read, and is the text of no other.
 use Rattle.std.proofs.Common.{◌≡◌, ◌≢◌, ◌≤◌, ◌<◌, ◌==◌, ◌&&◌, not, ℕ, true, false, List, [], ◌∷◌, length, map, take, drop, get_or, codes, Bor, Option, Some, None, inl, inr, refl, sym, ap, ◌∙◌, lit≤, cond, arith, Result, Ok, Err}
-use Rattle.std.specs.Prelude.{IfOk, IsOkAnd, IsTrue}
+use Rattle.std.specs.Prelude.{IfOk, IsTrue}
 use Rattle.std.specs.Result.{result_err}
 use Rattle.std.specs.List.{AllByRecursion}
 use Rattle.std.proofs.lemmas.Bool.{and_parts, ne_eqb, cases_lt, false_from_ne_true}
@@ -16,13 +16,16 @@ use Rattle.nmvs_words.specs.declared.question_kind.QuestionKind.TheVariants.{Upl
 use Rattle.nmvs_words.specs.Kinds.{kind_of, kind_word, kind_named, texts_of}
 use Rattle.nmvs_words.proofs.WordLemmas.{kind_named-of_word, kind_word-one}
 use Rattle.nmvs_protocol.specs.declared.ask.Ask.{Ask}
-use Rattle.nmvs_protocol.specs.declared.ask.Ask.TheVariants.{Put, Report, Quit}
-use Rattle.nmvs_protocol.specs.declared.line_fault.LineFault.TheVariants as fault
-use Rattle.nmvs_protocol.specs.declared.line_fault.LineFault.{LineFault}
+use Rattle.nmvs_protocol.specs.declared.ask.Ask.TheVariants as asks
+use Rattle.nmvs_protocol.specs.declared.ask.Line.{Line}
+use Rattle.nmvs_protocol.specs.declared.ask.Line.TheVariants as lines
+use Rattle.nmvs_protocol.specs.declared.ask.LineFault.TheVariants as fault
+use Rattle.nmvs_protocol.specs.declared.ask.LineFault.{LineFault}
 use Rattle.nmvs_protocol.specs.Fields.{fields_in}
-use Rattle.nmvs_protocol.specs.Lines.{fields, line, report_word, Grammar, grammars, report_grammars, all_read, first_misread, texts_fault, put_fault, asked_fault, fields_fault, first_fault, is_ask, IsSameAsk, OneSpelling, ShortLines}
+use Rattle.nmvs_protocol.specs.Lines.{ask_fields, fields, line_text, report_word, Grammar, grammars, report_grammars, all_read, first_misread, texts_fault, question_fault, ask_fault, fields_fault, first_fault, is_ask, is_line, ReadsLine, OneReading, EachIsRead, OneSpelling, ShortLines}
 use Rattle.nmvs_identifier.proofs.PlainTexts.{IsPlain, plain_name, plain_code, plain_serial, plain_batch, plain_expiry}
 use Rattle.nmvs_words.proofs.PlainWords.{word_plain}
+use Rattle.nmvs_protocol.proofs.QuestionLemmas.{written, same_question}
 use Rattle.nmvs_protocol.proofs.PlainLemmas.{IsPlainLine, plain_line, line_fault-plain}
 use Rattle.nmvs_protocol.proofs.FieldLemmas.{line_of_kept, one}
 
@@ -64,48 +67,62 @@ plain_asked user word gs ts plain accepts few e =
     let count = all_read-length gs ts parts.1 in
     plain_line (user ∷ word ∷ ts) (omega arith) (omega (arith, count, few)) (plain_name user parts.0, (plain, all_read-plain gs ts accepts parts.1))
 
--- the line of an ask is made of plain fields
-plain_ask : (a : Ask) → is_ask a ≡ true → IsPlainLine (fields a)
-plain_ask (Put user q) e =
+plain_ask : (a : Ask) → is_ask a ≡ true → IsPlainLine (ask_fields a)
+plain_ask (asks.Question user q) e =
     let kind = kind_of q in
     plain_asked user.bytes (kind_word kind) (grammars kind) (texts_of q) (word_plain kind) (grammars_plain kind) (few_grammars kind) e
-plain_ask (Report user c) e =
+plain_ask (asks.Report user c) e =
     plain_asked user.bytes report_word report_grammars (c.bytes ∷ []) (lit≤ tt, lit≤ tt, refl) (plain_code, tt) (lit≤ tt) e
-plain_ask Quit e = plain_line (fields Quit) (lit≤ tt) (lit≤ tt) ((lit≤ tt, lit≤ tt, refl), tt)
 
-same_fields : (a b : Ask) → is_ask a ≡ true → is_ask b ≡ true → line a ≡ line b → fields a ≡ fields b
-same_fields a b is_a is_b e = sym (plain_ask a is_a).fields ∙ ap fields_in e ∙ (plain_ask b is_b).fields
+-- the text of a line is made of plain fields
+plain_text : (l : Line) → is_line l ≡ true → IsPlainLine (fields l)
+plain_text (lines.Ask a) e = plain_ask a e
+plain_text lines.Quit e = plain_line (fields lines.Quit) (lit≤ tt) (lit≤ tt) ((lit≤ tt, lit≤ tt, refl), tt)
 
 -- the word of a report is that of no kind of question
 not_report : (kind : QuestionKind) → kind_word kind ≢ report_word
 not_report kind e = let own = kind_named-of_word kind in let same = ap kind_named e in absurd (cc (own, same))
 
-put_or_report : (user user' : Name) (q : Question) (c : ProductCode) → fields (Put user q) ≡ fields (Report user' c) → ⊥
-put_or_report user user' q c e = not_report (kind_of q) (ap (λ fs. get_or fs 1 []) e)
+question_or_report : (user user' : Name) (q : Question) (c : ProductCode) → ask_fields (asks.Question user q) ≡ ask_fields (asks.Report user' c) → ⊥
+question_or_report user user' q c e = not_report (kind_of q) (ap (λ fs. get_or fs 1 []) e)
 
-put_or_quit : (user : Name) (q : Question) → fields (Put user q) ≡ fields Quit → ⊥
-put_or_quit user q e = let empty = ap (λ fs. drop 1 fs) e in cc
+ask_or_quit : (a : Ask) → ask_fields a ≡ fields lines.Quit → ⊥
+ask_or_quit (asks.Question user q) e = let empty = ap (λ fs. drop 1 fs) e in cc
+ask_or_quit (asks.Report user c) e = let empty = ap (λ fs. drop 1 fs) e in cc
 
-report_or_quit : (user : Name) (c : ProductCode) → fields (Report user c) ≡ fields Quit → ⊥
-report_or_quit user c e = let empty = ap (λ fs. drop 1 fs) e in cc
+-- different asks have different fields
+same_ask : (a b : Ask) → ask_fields a ≡ ask_fields b → a ≡ b
+same_ask (asks.Question user q) (asks.Question user' q') e =
+    let name : user ≡ user' = ap (λ fs. written (get_or fs 0 [])) e in
+    let asked = same_question q q' (kind_word-one (kind_of q) (kind_of q') (ap (λ fs. get_or fs 1 []) e)) (ap (λ fs. drop 2 fs) e) in
+    λ i. asks.Question (name i) (asked i)
+same_ask (asks.Report user c) (asks.Report user' c') e =
+    let name : user ≡ user' = ap (λ fs. written (get_or fs 0 [])) e in
+    let code : c ≡ c' = ap (λ fs. written (get_or fs 2 [])) e in
+    λ i. asks.Report (name i) (code i)
+same_ask (asks.Question user q) (asks.Report user' c) e = absurd (question_or_report user user' q c e)
+same_ask (asks.Report user c) (asks.Question user' q) e = absurd (question_or_report user' user q c (sym e))
 
-same_asked : (a b : Ask) → fields a ≡ fields b → IsSameAsk a b
-same_asked (Put user q) (Put user' q') e =
-    (ap (λ fs. get_or fs 0 []) e, kind_word-one (kind_of q) (kind_of q') (ap (λ fs. get_or fs 1 []) e), ap (λ fs. drop 2 fs) e)
-same_asked (Put user q) (Report user' c) e = absurd (put_or_report user user' q c e)
-same_asked (Put user q) Quit e = absurd (put_or_quit user q e)
-same_asked (Report user c) (Put user' q) e = absurd (put_or_report user' user q c (sym e))
-same_asked (Report user c) (Report user' c') e = (ap (λ fs. get_or fs 0 []) e, ap (λ fs. get_or fs 2 []) e)
-same_asked (Report user c) Quit e = absurd (report_or_quit user c e)
-same_asked Quit (Put user q) e = absurd (put_or_quit user q (sym e))
-same_asked Quit (Report user c) e = absurd (report_or_quit user c (sym e))
-same_asked Quit Quit e = tt
+same_line : (l m : Line) → fields l ≡ fields m → l ≡ m
+same_line (lines.Ask a) (lines.Ask b) e = ap (λ (ask : Ask). lines.Ask ask) (same_ask a b e)
+same_line (lines.Ask a) lines.Quit e = absurd (ask_or_quit a e)
+same_line lines.Quit (lines.Ask a) e = absurd (ask_or_quit a (sym e))
+same_line lines.Quit lines.Quit e = refl
 
+-- different lines have different texts
 pub one_spelling : OneSpelling
-one_spelling a b is_a is_b e = same_asked a b (same_fields a b is_a is_b e)
+one_spelling l m is_l is_m e = same_line l m (sym (plain_text l is_l).fields ∙ ap fields_in e ∙ (plain_text m is_m).fields)
 
+-- no line is too long
 pub short_lines : ShortLines
-short_lines a e = (plain_ask a e).short
+short_lines l e = (plain_text l e).short
+
+-- a line is read in one way only
+pub one_reading : OneReading
+one_reading x (Ok l) (Ok m) r s = ap (λ (line : Line). Ok line) (one_spelling l m r.2 s.2 (sym r.0 ∙ s.0))
+one_reading x (Ok l) (Err f) r s = let no = r.1 in absurd (cc (no, s))
+one_reading x (Err f) (Ok l) r s = let no = s.1 in absurd (cc (no, r))
+one_reading x (Err f) (Err g) r s = let same : Some f ≡ Some g = sym r ∙ s in cc
 
 -- fields in their grammars are not misread
 all_read-none : (gs : List Grammar) (ts : List (List ℕ)) → all_read gs ts ≡ true → first_misread gs ts ≡ None
@@ -135,31 +152,32 @@ texts_fault-none gs user ts e =
 no_report : (word : List ℕ) → word ≢ report_word → bytes_eq word report_word ≡ false
 no_report word other = false_from_ne_true (bytes_eq word report_word) (λ e. other ((bytes_eq-Decides word report_word).0 e))
 
-pub asked_fault-put : (user word : List ℕ) (ts : List (List ℕ)) → word ≢ report_word → asked_fault user word ts ≡ put_fault user (kind_named word) ts
-asked_fault-put user word ts other =
-    let no = no_report word other in λ i. cond (no i) (texts_fault report_grammars user ts) (put_fault user (kind_named word) ts)
+-- the fault of a word that asks for no report
+pub ask_fault-question : (user word : List ℕ) (ts : List (List ℕ)) → word ≢ report_word → ask_fault user word ts ≡ question_fault user (kind_named word) ts
+ask_fault-question user word ts other =
+    let no = no_report word other in λ i. cond (no i) (texts_fault report_grammars user ts) (question_fault user (kind_named word) ts)
 
 -- the fields of an ask have no fault
-fields_fault-none : (a : Ask) → is_ask a ≡ true → fields_fault (fields a) ≡ None
-fields_fault-none (Put user q) e =
+ask_fault-none : (a : Ask) → is_ask a ≡ true → fields_fault (ask_fields a) ≡ None
+ask_fault-none (asks.Question user q) e =
     let kind = kind_of q in
-    asked_fault-put user.bytes (kind_word kind) (texts_of q) (not_report kind)
-    ∙ ap (λ k. put_fault user.bytes k (texts_of q)) (kind_named-of_word kind)
+    ask_fault-question user.bytes (kind_word kind) (texts_of q) (not_report kind)
+    ∙ ap (λ k. question_fault user.bytes k (texts_of q)) (kind_named-of_word kind)
     ∙ texts_fault-none (grammars kind) user.bytes (texts_of q) e
-fields_fault-none (Report user c) e = texts_fault-none report_grammars user.bytes (c.bytes ∷ []) e
-fields_fault-none Quit e = refl
+ask_fault-none (asks.Report user c) e = texts_fault-none report_grammars user.bytes (c.bytes ∷ []) e
 
--- the line of an ask has no fault
-first_fault-line : (a : Ask) → is_ask a ≡ true → first_fault (line a) ≡ None
+fields_fault-none : (l : Line) → is_line l ≡ true → fields_fault (fields l) ≡ None
+fields_fault-none (lines.Ask a) e = ask_fault-none a e
+fields_fault-none lines.Quit e = refl
+
+-- the text of a line has no fault
+first_fault-text : (l : Line) → is_line l ≡ true → first_fault (line_text l) ≡ None
 unfolding first_fault
-first_fault-line a e = line_fault-plain fault.Long fault.Bytes fault.Fields fields_fault (fields a) (plain_ask a e) ∙ fields_fault-none a e
+first_fault-text l e = line_fault-plain fault.Long fault.Bytes fault.Fields fields_fault (fields l) (plain_text l e) ∙ fields_fault-none l e
 
--- a line that is read exactly is read as the ask whose line it is
-pub read_complete : (x : List ℕ) (r : Result Ask LineFault) → IfOk r (λ a. x ≡ line a) → IfOk r (λ a. IsTrue (is_ask a))
-    → result_err r ≡ first_fault x → (a : Ask) → IsTrue (is_ask a) → x ≡ line a → IsOkAnd r (λ b. IsSameAsk b a)
-read_complete x (Ok b) own valid exact a is_a e = one_spelling b a valid is_a (sym own ∙ e)
-read_complete x (Err f) own valid exact a is_a e =
-    let none = exact ∙ ap first_fault e ∙ first_fault-line a is_a in absurd cc
+-- the text of a line is read as that line
+pub each_is_read : EachIsRead
+each_is_read l e = (refl, first_fault-text l e, e)
 
 -- the fields of an ask are fewer than could be kept
 few_asked : (user : List ℕ) (gs : List Grammar) (ts : List (List ℕ)) → length gs ≤ 4 → (is_name user && all_read gs ts) ≡ true → length ts ≤ 4
@@ -167,16 +185,17 @@ few_asked user gs ts few e =
     let count = all_read-length gs ts (and_parts (is_name user) (all_read gs ts) e).1 in
     omega (arith, count, few)
 
-few_fields : (a : Ask) → is_ask a ≡ true → length (fields a) < 7
-few_fields (Put user q) e = let few = few_asked user.bytes (grammars (kind_of q)) (texts_of q) (few_grammars (kind_of q)) e in omega (arith, few)
-few_fields (Report user c) e = lit≤ tt
-few_fields Quit e = lit≤ tt
+few_fields : (l : Line) → is_line l ≡ true → length (fields l) < 7
+few_fields (lines.Ask (asks.Question user q)) e =
+    let few = few_asked user.bytes (grammars (kind_of q)) (texts_of q) (few_grammars (kind_of q)) e in omega (arith, few)
+few_fields (lines.Ask (asks.Report user c)) e = lit≤ tt
+few_fields lines.Quit e = lit≤ tt
 
--- a line whose fields are read as an ask is its line
-pub line_of_ask : (x : List ℕ) (fs : List (List ℕ)) (r : Result Ask LineFault) → fs ≡ take 7 (fields_in x)
-    → IfOk r (λ a. fields a ≡ fs) → IfOk r (λ a. IsTrue (is_ask a)) → IfOk r (λ a. x ≡ line a)
-line_of_ask x fs (Ok a) kept same valid = line_of_kept x (fields a) (sym (same ∙ kept)) (few_fields a valid)
-line_of_ask x fs (Err f) kept same valid = tt
+-- a text whose fields are read as a line, or have this fault, is read so
+pub reads_fields : (x : List ℕ) (fs : List (List ℕ)) (r : Result Line LineFault) → fs ≡ take 7 (fields_in x)
+    → IfOk r (λ l. fields l ≡ fs) → IfOk r (λ l. IsTrue (is_line l)) → result_err r ≡ first_fault x → ReadsLine x r
+reads_fields x fs (Ok l) kept same valid none = (line_of_kept x (fields l) (sym (same ∙ kept)) (few_fields l valid), sym none, valid)
+reads_fields x fs (Err f) kept same valid told = sym told
 
 -- too many texts are too many, however many are kept
 wrong_count : (gs : List Grammar) (user : List ℕ) (ts : List (List ℕ)) → length ts ≢ length gs → texts_fault gs user ts ≡ Some fault.Fields
@@ -190,22 +209,22 @@ texts_fault-take gs user ts few = elim (cases_lt 5 (length ts)) [
       wrong_count gs user (take 5 ts) (omega arith) ∙ sym (wrong_count gs user ts (omega arith))
 ]
 
-put_fault-take : (user : List ℕ) (kind : Option QuestionKind) (ts : List (List ℕ)) → put_fault user kind (take 5 ts) ≡ put_fault user kind ts
-put_fault-take user None ts = refl
-put_fault-take user (Some kind) ts = texts_fault-take (grammars kind) user ts (few_grammars kind)
+question_fault-take : (user : List ℕ) (kind : Option QuestionKind) (ts : List (List ℕ)) → question_fault user kind (take 5 ts) ≡ question_fault user kind ts
+question_fault-take user None ts = refl
+question_fault-take user (Some kind) ts = texts_fault-take (grammars kind) user ts (few_grammars kind)
 
 -- what is kept of a line's fields tells their fault
 pub fields_fault-take : (fs : List (List ℕ)) → fields_fault (take 7 fs) ≡ fields_fault fs
 fields_fault-take [] = refl
 fields_fault-take (word ∷ []) = refl
 fields_fault-take (user ∷ word ∷ ts) =
-    λ i. cond (bytes_eq word report_word) (texts_fault-take report_grammars user ts (lit≤ tt) i) (put_fault-take user (kind_named word) ts i)
+    λ i. cond (bytes_eq word report_word) (texts_fault-take report_grammars user ts (lit≤ tt) i) (question_fault-take user (kind_named word) ts i)
 
 -- no fault of a question whose texts are read
-pub no_put_fault : (user word : List ℕ) (kind : QuestionKind) (texts read : List (List ℕ)) → kind_named word ≡ Some kind → is_name user ≡ true → texts ≡ read
-    → length read ≡ length (grammars kind) → None ≡ first_misread (grammars kind) read → None ≡ put_fault user (kind_named word) texts
-no_put_fault user word kind texts read word_is name same count none =
-    none ∙ sym (texts_fault-whole (grammars kind) user read count name) ∙ (λ i. put_fault user (sym word_is i) (sym same i))
+pub no_question_fault : (user word : List ℕ) (kind : QuestionKind) (texts read : List (List ℕ)) → kind_named word ≡ Some kind → is_name user ≡ true → texts ≡ read
+    → length read ≡ length (grammars kind) → None ≡ first_misread (grammars kind) read → None ≡ question_fault user (kind_named word) texts
+no_question_fault user word kind texts read word_is name same count none =
+    none ∙ sym (texts_fault-whole (grammars kind) user read count name) ∙ (λ i. question_fault user (sym word_is i) (sym same i))
 
 -- no fault of a report whose product code is read
 pub no_report_fault : (user : List ℕ) (ts : List (Bor (List ℕ))) (a : Bor (List ℕ)) → 1 ≤ length ts → length ts < 2 → is_name user ≡ true

@@ -1,14 +1,14 @@
 -- The one line of each command, and the first fault of a command (own).
-use Rattle.std.specs.Prelude.{ℕ, Bool, List, [], ◌∷◌, ◌&&◌, not, codes, Option, Some, None, if◌then◌else◌, ◌≡◌}
+use Rattle.std.specs.Prelude.{ℕ, Bool, List, [], ◌∷◌, ◌&&◌, not, codes, Option, Some, None, Result, Ok, Err, if◌then◌else◌, ◌≡◌, IsTrue}
 use Rattle.std.specs.Option.{is_some}
 use Rattle.std.specs.Str.{bytes_eq}
 use Rattle.nmvs_identifier.specs.Name.{is_name}
 use Rattle.nmvs_words.specs.Words.{role_word, role_named}
 use Rattle.nmvs_protocol.specs.declared.command.Command.{Command}
 use Rattle.nmvs_protocol.specs.declared.command.Command.TheVariants.{Enrol, Suspend}
-use Rattle.nmvs_protocol.specs.declared.command_fault.CommandFault.{CommandFault}
-use Rattle.nmvs_protocol.specs.declared.command_fault.CommandFault.TheVariants as fault
-use Rattle.nmvs_protocol.specs.Fields.{joined, line_fault}
+use Rattle.nmvs_protocol.specs.declared.command.CommandFault.{CommandFault}
+use Rattle.nmvs_protocol.specs.declared.command.CommandFault.TheVariants as fault
+use Rattle.nmvs_protocol.specs.Fields.{line_of_fields, line_fault}
 
 -- the fields of a command
 abbrev pub command_fields : Command → List (List ℕ)
@@ -18,7 +18,7 @@ command_fields (Suspend user) = codes "SUSPEND" ∷ user.bytes ∷ []
 
 -- the line of a command, without LF
 abbrev pub command_line : Command → List ℕ
-command_line c = joined (command_fields c)
+command_line c = line_of_fields (command_fields c)
 
 -- whether a text is the word of a role
 unfoldable pub is_role : List ℕ → Bool
@@ -54,9 +54,15 @@ abbrev pub is_command : Command → Bool
 is_command (Enrol user actor) = is_name user.bytes && is_name actor.authorisation.bytes && is_name actor.premises.bytes
 is_command (Suspend user) = is_name user.bytes
 
--- two commands are the same: they have the same role and texts
-abbrev pub IsSameCommand : Command → Command → Type 0
-IsSameCommand (Enrol user a) (Enrol user' b) =
-    (user.bytes ≡ user'.bytes) × (a.role ≡ b.role) × (a.authorisation.bytes ≡ b.authorisation.bytes) × (a.premises.bytes ≡ b.premises.bytes)
-IsSameCommand (Suspend user) (Suspend user') = user.bytes ≡ user'.bytes
-IsSameCommand _ _ = ⊥
+-- a line is read as the command whose line it is, else with its first fault
+abbrev pub ReadsCommand : List ℕ → Result Command CommandFault → Type 0
+ReadsCommand x (Ok c) = (x ≡ command_line c) × (first_command_fault x ≡ None) × IsTrue (is_command c)
+ReadsCommand x (Err f) = first_command_fault x ≡ Some f
+
+-- the line of each command is read as that command
+abbrev pub EachCommandIsRead : Type 0
+EachCommandIsRead = (c : Command) → IsTrue (is_command c) → ReadsCommand (command_line c) (Ok c)
+
+-- different commands have different lines
+abbrev pub OneCommandSpelling : Type 0
+OneCommandSpelling = (c d : Command) → IsTrue (is_command c) → IsTrue (is_command d) → command_line c ≡ command_line d → c ≡ d

@@ -1,5 +1,5 @@
--- The one line of each ask, and the first fault of a line (own).
-use Rattle.std.specs.Prelude.{ℕ, Bool, true, false, List, [], ◌∷◌, length, ◌==◌, ◌&&◌, not, codes, Option, Some, None, if◌then◌else◌, ◌≡◌, ◌≤◌, ⊤, IsTrue}
+-- The one text of each line, and the first fault of a line (own).
+use Rattle.std.specs.Prelude.{ℕ, Bool, true, false, List, [], ◌∷◌, length, ◌==◌, ◌&&◌, not, codes, Option, Some, None, Result, Ok, Err, if◌then◌else◌, ◌≡◌, ◌≤◌, IsTrue}
 use Rattle.std.specs.Str.{bytes_eq}
 use Rattle.nmvs_identifier.specs.Name.{is_name}
 use Rattle.nmvs_identifier.specs.ProductCode.{is_product_code}
@@ -10,24 +10,31 @@ use Rattle.nmvs_words.specs.declared.question_kind.QuestionKind.{QuestionKind}
 use Rattle.nmvs_words.specs.declared.question_kind.QuestionKind.TheVariants.{Upload, OfPack, OfBatch}
 use Rattle.nmvs_words.specs.Kinds.{kind_of, kind_word, kind_named, texts_of}
 use Rattle.nmvs_protocol.specs.declared.ask.Ask.{Ask}
-use Rattle.nmvs_protocol.specs.declared.ask.Ask.TheVariants.{Put, Report, Quit}
-use Rattle.nmvs_protocol.specs.declared.line_fault.LineFault.{LineFault}
-use Rattle.nmvs_protocol.specs.declared.line_fault.LineFault.TheVariants as fault
-use Rattle.nmvs_protocol.specs.Fields.{joined, line_fault, longest_line}
+use Rattle.nmvs_protocol.specs.declared.ask.Ask.TheVariants as asks
+use Rattle.nmvs_protocol.specs.declared.ask.Line.{Line}
+use Rattle.nmvs_protocol.specs.declared.ask.Line.TheVariants as lines
+use Rattle.nmvs_protocol.specs.declared.ask.LineFault.{LineFault}
+use Rattle.nmvs_protocol.specs.declared.ask.LineFault.TheVariants as fault
+use Rattle.nmvs_protocol.specs.declared.limits.TheConstants.{LONGEST_LINE}
+use Rattle.nmvs_protocol.specs.Fields.{line_of_fields, line_fault}
 
 -- the word that asks for a report
 abbrev pub report_word : List ℕ
 report_word = codes "REPORT"
 
 -- the fields of an ask: the user, the word of what is asked, and the texts of what it names
-abbrev pub fields : Ask → List (List ℕ)
-fields (Put user q) = user.bytes ∷ kind_word (kind_of q) ∷ texts_of q
-fields (Report user c) = user.bytes ∷ report_word ∷ c.bytes ∷ []
-fields Quit = codes "QUIT" ∷ []
+abbrev pub ask_fields : Ask → List (List ℕ)
+ask_fields (asks.Question user q) = user.bytes ∷ kind_word (kind_of q) ∷ texts_of q
+ask_fields (asks.Report user c) = user.bytes ∷ report_word ∷ c.bytes ∷ []
 
--- the line of an ask, without LF
-abbrev pub line : Ask → List ℕ
-line a = joined (fields a)
+-- the fields of a line
+abbrev pub fields : Line → List (List ℕ)
+fields (lines.Ask a) = ask_fields a
+fields lines.Quit = codes "QUIT" ∷ []
+
+-- the text of a line, without LF
+abbrev pub line_text : Line → List ℕ
+line_text l = line_of_fields (fields l)
 
 -- a field's grammar, and the fault where a text is not in it
 abbrev pub Grammar : Type 0
@@ -61,21 +68,21 @@ texts_fault gs user texts =
     else first_misread gs texts
 
 -- the first fault of a question that a user puts by a word of this kind
-abbrev pub put_fault : List ℕ → Option QuestionKind → List (List ℕ) → Option LineFault
-put_fault user None texts = Some fault.Word
-put_fault user (Some kind) texts = texts_fault (grammars kind) user texts
+abbrev pub question_fault : List ℕ → Option QuestionKind → List (List ℕ) → Option LineFault
+question_fault user None texts = Some fault.Word
+question_fault user (Some kind) texts = texts_fault (grammars kind) user texts
 
 -- the first fault of what a user asks by this word: a report, or else a question
-abbrev pub asked_fault : List ℕ → List ℕ → List (List ℕ) → Option LineFault
-asked_fault user word texts =
+abbrev pub ask_fault : List ℕ → List ℕ → List (List ℕ) → Option LineFault
+ask_fault user word texts =
     if bytes_eq word report_word then texts_fault report_grammars user texts
-    else put_fault user (kind_named word) texts
+    else question_fault user (kind_named word) texts
 
 -- the first fault of these fields
 abbrev pub fields_fault : List (List ℕ) → Option LineFault
 fields_fault [] = Some fault.Fields
 fields_fault (word ∷ []) = if bytes_eq word (codes "QUIT") then None else Some fault.Fields
-fields_fault (user ∷ word ∷ texts) = asked_fault user word texts
+fields_fault (user ∷ word ∷ texts) = ask_fault user word texts
 
 -- the first fault of a line
 unfoldable pub first_fault : List ℕ → Option LineFault
@@ -89,21 +96,31 @@ all_read _ _ = false
 
 -- whether the texts of an ask are in their grammars
 abbrev pub is_ask : Ask → Bool
-is_ask (Put user q) = is_name user.bytes && all_read (grammars (kind_of q)) (texts_of q)
-is_ask (Report user c) = is_name user.bytes && all_read report_grammars (c.bytes ∷ [])
-is_ask Quit = true
+is_ask (asks.Question user q) = is_name user.bytes && all_read (grammars (kind_of q)) (texts_of q)
+is_ask (asks.Report user c) = is_name user.bytes && all_read report_grammars (c.bytes ∷ [])
 
--- two asks are the same: the same user's question of the same kind with the same texts, or report of the same code
-abbrev pub IsSameAsk : Ask → Ask → Type 0
-IsSameAsk (Put user q) (Put user' q') = (user.bytes ≡ user'.bytes) × (kind_of q ≡ kind_of q') × (texts_of q ≡ texts_of q')
-IsSameAsk (Report user c) (Report user' c') = (user.bytes ≡ user'.bytes) × (c.bytes ≡ c'.bytes)
-IsSameAsk Quit Quit = ⊤
-IsSameAsk _ _ = ⊥
+-- whether the texts of a line are in their grammars
+abbrev pub is_line : Line → Bool
+is_line (lines.Ask a) = is_ask a
+is_line lines.Quit = true
 
--- different asks have different lines
+-- a line is read as what it says where it is the text of that, else with its first fault
+abbrev pub ReadsLine : List ℕ → Result Line LineFault → Type 0
+ReadsLine x (Ok l) = (x ≡ line_text l) × (first_fault x ≡ None) × IsTrue (is_line l)
+ReadsLine x (Err f) = first_fault x ≡ Some f
+
+-- a line is read in one way only
+abbrev pub OneReading : Type 0
+OneReading = (x : List ℕ) (r s : Result Line LineFault) → ReadsLine x r → ReadsLine x s → r ≡ s
+
+-- the text of each line is read as that line
+abbrev pub EachIsRead : Type 0
+EachIsRead = (l : Line) → IsTrue (is_line l) → ReadsLine (line_text l) (Ok l)
+
+-- different lines have different texts
 abbrev pub OneSpelling : Type 0
-OneSpelling = (a b : Ask) → IsTrue (is_ask a) → IsTrue (is_ask b) → line a ≡ line b → IsSameAsk a b
+OneSpelling = (l m : Line) → IsTrue (is_line l) → IsTrue (is_line m) → line_text l ≡ line_text m → l ≡ m
 
 -- no line is too long
 abbrev pub ShortLines : Type 0
-ShortLines = (a : Ask) → IsTrue (is_ask a) → length (line a) ≤ longest_line
+ShortLines = (l : Line) → IsTrue (is_line l) → length (line_text l) ≤ LONGEST_LINE

@@ -6,18 +6,18 @@ use Rattle.nmvs_protocol.specs.declared.answer.Answer.{Answer}
 use Rattle.nmvs_protocol.specs.declared.end.End.{End}
 use Rattle.nmvs_protocol.specs.declared.end.End.TheVariants as ends
 use Rattle.nmvs_protocol.specs.declared.pending_line.TheConstants.{KEPT}
-use Rattle.nmvs_protocol.specs.Session.{AnswersLines, AnswersAll, NoQuit, EndsWithQuit, NoQuitBeforeLast, Delivers, BreaksOff, LacksLast, LineLimit, is_write_fault}
+use Rattle.nmvs_protocol.specs.Session.{AnswersLines, AnswersAll, NoQuit, EndsWithQuit, NoQuitBeforeLast, DeliversAll, BreaksOffInLast, LacksLast, LineLimit, is_write_fault}
 
 -- what is kept of a line: enough to judge it, since one byte more than a line may have tells that it is too long
-abbrev pub kept : List ℕ → List ℕ
-kept x = take KEPT x
+abbrev pub kept_part : List ℕ → List ℕ
+kept_part x = take KEPT x
 
 -- what may be said between two lines, where None is to go on
 abbrev pub Stands : Option End → ℕ → ℕ → List (List ℕ) → List (List ℕ) → List Answer → Taken → Taken → Type 0
-Stands None limit count answered left said sink sink' = AnswersAll answered left × Delivers sink sink' said × (count ≡ length said)
-Stands (Some ends.Quit) limit count answered left said sink sink' = EndsWithQuit answered × Delivers sink sink' said
-Stands (Some ends.WriteFault) limit count answered left said sink sink' = NoQuitBeforeLast answered × BreaksOff sink sink' said
-Stands (Some ends.Limit) limit count answered left said sink sink' = NoQuit answered × Delivers sink sink' said × LineLimit limit left said
+Stands None limit count answered left said sink sink' = AnswersAll answered left × DeliversAll sink sink' said × (count ≡ length said)
+Stands (Some ends.Quit) limit count answered left said sink sink' = EndsWithQuit answered × DeliversAll sink sink' said
+Stands (Some ends.WriteFault) limit count answered left said sink sink' = NoQuitBeforeLast answered × BreaksOffInLast sink sink' said
+Stands (Some ends.Limit) limit count answered left said sink sink' = NoQuit answered × DeliversAll sink sink' said × LineLimit limit left said
 Stands (Some ends.Memory) limit count answered left said sink sink' = NoQuitBeforeLast answered × LacksLast sink sink' said
 Stands (Some ends.Ended) limit count answered left said sink sink' = ⊥
 Stands (Some ends.ReadFault) limit count answered left said sink sink' = ⊥

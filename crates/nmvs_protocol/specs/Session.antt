@@ -1,40 +1,31 @@
 -- Sessions: which lines were answered and how, what was written, and what each end means (own).
-use Rattle.std.specs.Prelude.{◌≡◌, ◌≢◌, ◌<◌, ◌≤◌, ◌+◌, ◌⊎◌, ℕ, Bool, true, false, List, [], ◌∷◌, ◌++◌, length, All, Some, None, Result, Ok, Err, IsTrue}
+use Rattle.std.specs.Prelude.{◌≡◌, ◌≢◌, ◌<◌, ◌≤◌, ◌+◌, ◌⊎◌, ℕ, Bool, true, false, List, [], ◌∷◌, ◌++◌, length, All, Result, Ok, Err, IsTrue}
 use Rattle.std.specs.List.{flat_map}
 use Rattle.nmvs_stream.specs.Source.{Told}
 use Rattle.nmvs_stream.specs.Sink.{Taken}
 use Rattle.nmvs_protocol.specs.declared.ask.Ask.{Ask}
-use Rattle.nmvs_protocol.specs.declared.ask.Ask.TheVariants as asks
-use Rattle.nmvs_protocol.specs.declared.line_fault.LineFault.{LineFault}
+use Rattle.nmvs_protocol.specs.declared.ask.Line.{Line}
+use Rattle.nmvs_protocol.specs.declared.ask.Line.TheVariants as lines
+use Rattle.nmvs_protocol.specs.declared.ask.LineFault.{LineFault}
 use Rattle.nmvs_protocol.specs.declared.answer.Answer.{Answer}
 use Rattle.nmvs_protocol.specs.declared.answer.Answer.TheVariants as answers
 use Rattle.nmvs_protocol.specs.declared.limits.Limits.{Limits}
 use Rattle.nmvs_protocol.specs.declared.end.End.{End}
 use Rattle.nmvs_protocol.specs.declared.end.End.TheVariants as ends
-use Rattle.nmvs_protocol.specs.Lines.{line, first_fault, is_ask}
+use Rattle.nmvs_protocol.specs.Lines.{line_text, ReadsLine}
 use Rattle.nmvs_protocol.specs.Texts.{text, takes_memory}
 use Rattle.nmvs_protocol.specs.InputLines.{input_lines}
 
--- a line is read as the ask whose line it is, else with its first fault
-abbrev pub Reads : List ℕ → Result Ask LineFault → Type 0
-Reads x (Ok ask) = (x ≡ line ask) × (first_fault x ≡ None) × IsTrue (is_ask ask)
-Reads x (Err fault) = first_fault x ≡ Some fault
-
--- a line is read in one way only
-abbrev pub OneReading : Type 0
-OneReading = (x : List ℕ) (r s : Result Ask LineFault) → Reads x r → Reads x s → r ≡ s
-
--- what may be answered where a line is read so, the desk going from old to new: it is asked whatever isn't QUIT
-abbrev pub Answers : {D : Type 0} → (D → Ask → Answer → D → Type 0) → D → Result Ask LineFault → Answer → D → Type 0
+-- what may be answered where a line is read so, the desk going from old to new: it is asked all but QUIT
+abbrev pub Answers : {D : Type 0} → (D → Ask → Answer → D → Type 0) → D → Result Line LineFault → Answer → D → Type 0
+Answers takes old (Ok (lines.Ask ask)) said new = takes old ask said new
+Answers takes old (Ok lines.Quit) said new = (said ≡ answers.Bye) × (new ≡ old)
 Answers takes old (Err fault) said new = (said ≡ answers.Unread fault) × (new ≡ old)
-Answers takes old (Ok asks.Quit) said new = (said ≡ answers.Bye) × (new ≡ old)
-Answers takes old (Ok (asks.Put user question)) said new = takes old (asks.Put user question) said new
-Answers takes old (Ok (asks.Report user code)) said new = takes old (asks.Report user code) said new
 
 -- a line is answered so, the desk going from old to new
 pub record AnswersLine {D : Type 0} (takes : D → Ask → Answer → D → Type 0) (old : D) (x : List ℕ) (said : Answer) (new : D) : Type 0 where
-  pub reading : Result Ask LineFault
-  pub reads : Reads x reading
+  pub reading : Result Line LineFault
+  pub reads : ReadsLine x reading
   pub answers : Answers takes old reading said new
 
 -- lines are answered so, one answer a line, in order, the desk going from old to new by exactly their takes
@@ -46,12 +37,12 @@ AnswersLines takes old (x ∷ xs) [] new = ⊥
 
 -- none of these lines is QUIT
 abbrev pub NoQuit : List (List ℕ) → Type 0
-NoQuit xs = All (λ x. x ≢ line asks.Quit) xs
+NoQuit xs = All (λ x. x ≢ line_text lines.Quit) xs
 
 -- the last of these lines, and it alone, is QUIT
 pub record EndsWithQuit (xs : List (List ℕ)) : Type 0 where
   pub before : List (List ℕ)
-  pub these : xs ≡ before ++ line asks.Quit ∷ []
+  pub these : xs ≡ before ++ line_text lines.Quit ∷ []
   pub no_quit : NoQuit before
 
 -- none of these lines but perhaps the last is QUIT
@@ -66,12 +57,12 @@ abbrev pub session_text : List Answer → List ℕ
 session_text said = flat_map text said
 
 -- the sink took the text of these answers, and flushed it
-pub record Delivers (old new : Taken) (said : List Answer) : Type 0 where
+pub record DeliversAll (old new : Taken) (said : List Answer) : Type 0 where
   pub bytes : new.bytes ≡ old.bytes ++ session_text said
   pub flushed : 0 < length said → new.flushed ≡ true
 
 -- the sink took the text of these answers up to some point in the text of the last one
-pub record BreaksOff (old new : Taken) (said : List Answer) : Type 0 where
+pub record BreaksOffInLast (old new : Taken) (said : List Answer) : Type 0 where
   pub before : List Answer
   pub last : Answer
   pub these : said ≡ before ++ last ∷ []
@@ -88,7 +79,7 @@ pub record LacksLast (old new : Taken) (said : List Answer) : Type 0 where
   pub last : Answer
   pub these : said ≡ before ++ last ∷ []
   pub memory : IsTrue (takes_memory last)
-  pub delivered : Delivers old new before
+  pub delivered : DeliversAll old new before
 
 -- all lines are answered, and none was QUIT
 pub record AnswersAll (answered left : List (List ℕ)) : Type 0 where
@@ -107,12 +98,12 @@ pub record ReadLimit (limit : ℕ) (left : List (List ℕ)) (source source' : To
 
 -- what an end means for the lines and the text
 abbrev pub Closes : End → Limits → List (List ℕ) → List (List ℕ) → List Answer → Told → Told → Taken → Taken → Type 0
-Closes ends.Quit limits answered left said source source' sink sink' = EndsWithQuit answered × Delivers sink sink' said
-Closes ends.Ended limits answered left said source source' sink sink' = AnswersAll answered left × Delivers sink sink' said
-Closes ends.ReadFault limits answered left said source source' sink sink' = AnswersAll answered left × Delivers sink sink' said
-Closes ends.WriteFault limits answered left said source source' sink sink' = NoQuitBeforeLast answered × BreaksOff sink sink' said
+Closes ends.Quit limits answered left said source source' sink sink' = EndsWithQuit answered × DeliversAll sink sink' said
+Closes ends.Ended limits answered left said source source' sink sink' = AnswersAll answered left × DeliversAll sink sink' said
+Closes ends.ReadFault limits answered left said source source' sink sink' = AnswersAll answered left × DeliversAll sink sink' said
+Closes ends.WriteFault limits answered left said source source' sink sink' = NoQuitBeforeLast answered × BreaksOffInLast sink sink' said
 Closes ends.Limit limits answered left said source source' sink sink' =
-    NoQuit answered × Delivers sink sink' said × (LineLimit limits.lines left said ⊎ ReadLimit limits.reads left source source')
+    NoQuit answered × DeliversAll sink sink' said × (LineLimit limits.lines left said ⊎ ReadLimit limits.reads left source source')
 Closes ends.Memory limits answered left said source source' sink sink' = NoQuitBeforeLast answered × LacksLast sink sink' said
 
 -- the end of the input was read at this end alone

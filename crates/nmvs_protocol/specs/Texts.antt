@@ -1,6 +1,5 @@
 -- The text of each answer: words and values joined by single spaces, then LF; entry lines and reports as they are (own).
-use Rattle.std.specs.Prelude.{ℕ, Bool, true, false, List, [], ◌∷◌, ◌++◌, length, codes}
-use Rattle.std.specs.List.{flat_map}
+use Rattle.std.specs.Prelude.{ℕ, Bool, true, false, List, [], ◌∷◌, ◌++◌, codes}
 use Rattle.std.specs.Fmt.{decimal}
 use Rattle.nmvs_rules.specs.declared.entry.Entry.{Entry}
 use Rattle.nmvs_rules.specs.declared.reply.Reply.{Reply}
@@ -9,11 +8,11 @@ use Rattle.nmvs_rules.specs.Replies.{refusal_number}
 use Rattle.nmvs_words.specs.Words.{own_word, lock_word, onward_word, cause_word, validity_word, flag_word, refusal_word, spaced}
 use Rattle.nmvs_words.specs.declared.reply_kind.ReplyKind.TheVariants as kinds
 use Rattle.nmvs_words.specs.ReplyKinds.{reply_word}
-use Rattle.nmvs_record.specs.Export.{ended_line}
-use Rattle.nmvs_protocol.specs.declared.line_fault.LineFault.{LineFault}
-use Rattle.nmvs_protocol.specs.declared.line_fault.LineFault.TheVariants as faults
-use Rattle.nmvs_protocol.specs.declared.turn.Turn.{Turn}
-use Rattle.nmvs_protocol.specs.declared.turn.Turn.TheVariants as turns
+use Rattle.nmvs_record.specs.Export.{export_text}
+use Rattle.nmvs_protocol.specs.declared.ask.LineFault.{LineFault}
+use Rattle.nmvs_protocol.specs.declared.ask.LineFault.TheVariants as faults
+use Rattle.nmvs_protocol.specs.declared.answer.Turn.{Turn}
+use Rattle.nmvs_protocol.specs.declared.answer.Turn.TheVariants as turns
 use Rattle.nmvs_protocol.specs.declared.answer.Answer.{Answer}
 use Rattle.nmvs_protocol.specs.declared.answer.Answer.TheVariants as answers
 
@@ -26,7 +25,7 @@ turn_word turns.Closed = codes "CLOSED"
 turn_word turns.Role = codes "ROLE"
 turn_word turns.Memory = codes "MEMORY"
 
--- why a line is no ask
+-- why a line cannot be read
 abbrev pub fault_word : LineFault → List ℕ
 fault_word faults.Long = codes "LONG"
 fault_word faults.Bytes = codes "BYTES"
@@ -54,20 +53,19 @@ reply_words replies.MarkedStolen = reply_word kinds.Stolen ∷ []
 reply_words (replies.Shown n) = reply_word kinds.Shown ∷ decimal n ∷ []
 reply_words (replies.Refused r) = reply_word kinds.Refused ∷ decimal (refusal_number r) ∷ refusal_word r ∷ []
 
--- the text of an audit that shows these entries: how many there are, and the line of each
-abbrev pub shown_text : List Entry → List ℕ
-shown_text entries = spaced (reply_words (replies.Shown (length entries))) ++ flat_map ended_line entries
+-- the text of a reply and of the entries that it shows: its words, and then the line of each entry
+abbrev pub reply_text : Reply → List Entry → List ℕ
+reply_text r shown = spaced (reply_words r) ++ export_text shown
 
 -- the text of an answer
 unfoldable pub text : Answer → List ℕ
-text (answers.Replied r) = spaced (reply_words r)
-text (answers.Audited entries) = shown_text entries
+text (answers.Replied r shown) = reply_text r shown
 text (answers.Reported t) = t
 text (answers.Turned t) = spaced (codes "FAULT" ∷ turn_word t ∷ [])
 text (answers.Unread f) = spaced (codes "FAULT" ∷ fault_word f ∷ [])
 text answers.Bye = spaced (codes "BYE" ∷ [])
 
--- whether the text of an answer takes memory: that of an audit alone; a report is a text, and all others are short
+-- whether the text of an answer takes memory: where entries are shown; a report is a text, and all others are short
 abbrev pub takes_memory : Answer → Bool
-takes_memory (answers.Audited entries) = true
+takes_memory (answers.Replied r (e ∷ es)) = true
 takes_memory _ = false

@@ -4,7 +4,7 @@ use Rattle.nmvs_protocol.specs.declared.wording.Wording.{Wording}
 use Rattle.nmvs_protocol.specs.declared.wording.Wording.TheVariants as wordings
 
 -- the bytes of a text that was composed, made or lent
-abbrev pub worded : Wording → List ℕ
-worded (wordings.Composed t) = t.bytes
-worded (wordings.Made t) = string_bytes t
-worded (wordings.Lent t) = t.now
+abbrev pub wording_text : Wording → List ℕ
+wording_text (wordings.Composed t) = t.bytes
+wording_text (wordings.Made t) = string_bytes t
+wording_text (wordings.Lent t) = t.now

@@ -1,13 +1,45 @@
+//! What lines say.
 use nmvs_identifier::{Name, ProductCode};
 use nmvs_rules::Question;
+use thiserror::Error;
 
-/// What a line asks for.
+/// What a line says.
+#[derive(Clone, Copy, Debug, PartialEq, Eq)]
+pub enum Line {
+    /// It asks something of the desk.
+    Ask(Ask),
+    /// QUIT: it ends the session.
+    Quit,
+}
+
+/// What a user asks.
 #[derive(Clone, Copy, Debug, PartialEq, Eq)]
 pub enum Ask {
     /// The question of a user, by name.
-    Put(Name, Question),
+    Question(Name, Question),
     /// The report of a product code, for a user.
     Report(Name, ProductCode),
-    /// The end of the session.
-    Quit,
+}
+
+/// Why a line cannot be read.
+#[derive(Clone, Copy, Debug, PartialEq, Eq, Error)]
+pub enum LineFault {
+    #[error("the line has more than 200 bytes")]
+    Long,
+    #[error("the line has a byte that is no printable ASCII character")]
+    Bytes,
+    #[error("the line has an empty field or the wrong number of fields")]
+    Fields,
+    #[error("the line's word is unknown")]
+    Word,
+    #[error("the line's code is no product code")]
+    Code,
+    #[error("the line's serial is no serial number")]
+    Serial,
+    #[error("the line's batch is no batch number")]
+    Batch,
+    #[error("the line's expiry is no expiry date")]
+    Expiry,
+    #[error("the line's user is no name")]
+    User,
 }

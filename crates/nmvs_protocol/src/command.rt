@@ -1,5 +1,7 @@
+//! The commands of a registrar.
 use nmvs_identifier::Name;
 use nmvs_rules::Actor;
+use thiserror::Error;
 
 /// A registrar's command.
 #[derive(Clone, Copy, Debug, PartialEq, Eq)]
@@ -8,4 +10,21 @@ pub enum Command {
     Enrol(Name, Actor),
     /// Turns a user away from now on.
     Suspend(Name),
+}
+
+/// Why a command cannot be read.
+#[derive(Clone, Copy, Debug, PartialEq, Eq, Error)]
+pub enum CommandFault {
+    #[error("the command has more than 200 bytes")]
+    Long,
+    #[error("the command has a byte that is no printable ASCII character")]
+    Bytes,
+    #[error("the command has an empty field or the wrong number of fields")]
+    Fields,
+    #[error("the command's word is unknown")]
+    Word,
+    #[error("the command's role is unknown")]
+    Role,
+    #[error("the command's user, authorisation or premises is no name")]
+    Name,
 }

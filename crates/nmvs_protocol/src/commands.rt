@@ -1,10 +1,9 @@
 //! The lines of commands.
-ghost use Rattle.std.specs.Prelude.{◌≡◌, ◌↔◌, [], ◌∷◌, map, IsTrue, false, IsOk, IfOk, IfErr, IsOkAnd, None, Some, codes};
+ghost use Rattle.std.specs.Prelude.{◌≡◌, ◌↔◌, [], ◌∷◌, map, IsTrue, false, IsOk, IfOk, IfErr, codes};
 ghost use Rattle.std.specs.Result.{result_err};
 ghost use Rattle.nmvs_identifier.specs.Name.{is_name};
 ghost use Rattle.nmvs_words.specs.Words.{role_word};
-ghost use Rattle.nmvs_protocol.specs.declared.command.Command.{Command as TheCommand};
-ghost use Rattle.nmvs_protocol.specs.Commands.{command_line, command_fields, is_command, IsSameCommand, first_command_fault, fields_fault, is_role, enrol_fault, suspend_fault};
+ghost use Rattle.nmvs_protocol.specs.Commands.{ReadsCommand, command_fields, is_command, fields_fault, is_role, enrol_fault, suspend_fault};
 
 use crate::fields::fields_of;
 use crate::{Command, CommandFault};
@@ -12,25 +11,14 @@ use nmvs_identifier::Name;
 use nmvs_rules::{Actor, Role};
 use nmvs_words::role_named;
 
-/// Reads a command, given without its LF: it is the line of the command that is read, and the line of every command
-/// is read as that command. Any other line is answered by the first fault that it has.
-pub fn read_command(bytes: &[u8]) -> Result<Command, CommandFault>
-    ensures line { IfOk result (λ command. bytes.now ≡ command_line command) }
-    ensures valid { IfOk result (λ command. IsTrue (is_command command)) }
-    ensures complete { (command : TheCommand) → IsTrue (is_command command) → bytes.now ≡ command_line command
-        → IsOkAnd result (λ read. IsSameCommand read command) }
-    ensures accepts { IsOk result ↔ (first_command_fault bytes.now ≡ None) }
-    ensures fault { IfErr result (λ fault. first_command_fault bytes.now ≡ Some fault) }
-{
-    read_exactly(bytes)
-}
+#[cfg(test)]
+mod tests;
 
-/// As `read_command`, whose converse follows from these clauses.
+/// Reads a command, given without its LF: it is read as what it says where it is the line of that, and
+/// else answered by the first fault that it has.
 #[tactic(auto, unfolding(crate::specs::Commands::first_command_fault))]
-fn read_exactly(bytes: &[u8]) -> Result<Command, CommandFault>
-    ensures line { IfOk result (λ command. bytes.now ≡ command_line command) }
-    ensures valid { IfOk result (λ command. IsTrue (is_command command)) }
-    ensures fault { result_err result ≡ first_command_fault bytes.now }
+pub fn read_command(bytes: &[u8]) -> Result<Command, CommandFault>
+    ensures { ReadsCommand bytes.now result }
 {
     let fields = fields_of(
         bytes,
@@ -58,7 +46,8 @@ fn read_fields(fields: &[&str]) -> Result<Command, CommandFault>
 }
 
 fn read_enrol(texts: &[&str]) -> Result<Command, CommandFault>
-    ensures fields { IfOk result (λ command. command_fields command ≡ codes "ENROL" ∷ map (λ t. t.now) texts.now) }
+    ensures fields { IfOk result (λ command.
+        command_fields command ≡ codes "ENROL" ∷ map (λ t. t.now) texts.now) }
     ensures valid { IfOk result (λ command. IsTrue (is_command command)) }
     ensures fault { result_err result ≡ enrol_fault (map (λ t. t.now) texts.now) }
 {
@@ -69,7 +58,8 @@ fn read_enrol(texts: &[&str]) -> Result<Command, CommandFault>
 }
 
 fn read_suspend(texts: &[&str]) -> Result<Command, CommandFault>
-    ensures fields { IfOk result (λ command. command_fields command ≡ codes "SUSPEND" ∷ map (λ t. t.now) texts.now) }
+    ensures fields { IfOk result (λ command.
+        command_fields command ≡ codes "SUSPEND" ∷ map (λ t. t.now) texts.now) }
     ensures valid { IfOk result (λ command. IsTrue (is_command command)) }
     ensures fault { result_err result ≡ suspend_fault (map (λ t. t.now) texts.now) }
 {
@@ -85,9 +75,11 @@ fn read_enrolment(
     authorisation: &str,
     premises: &str,
 ) -> Result<Command, CommandFault>
-    ensures fields { IfOk result (λ command. command_fields command ≡ codes "ENROL" ∷ user.now ∷ role.now ∷ authorisation.now ∷ premises.now ∷ []) }
+    ensures fields { IfOk result (λ command. command_fields command
+        ≡ codes "ENROL" ∷ user.now ∷ role.now ∷ authorisation.now ∷ premises.now ∷ []) }
     ensures valid { IfOk result (λ command. IsTrue (is_command command)) }
-    ensures fault { result_err result ≡ enrol_fault (user.now ∷ role.now ∷ authorisation.now ∷ premises.now ∷ []) }
+    ensures fault { result_err result
+        ≡ enrol_fault (user.now ∷ role.now ∷ authorisation.now ∷ premises.now ∷ []) }
 {
     let actor = Actor {
         role: read_role(role)?,
@@ -101,7 +93,8 @@ fn read_enrolment(
 fn read_role(word: &str) -> Result<Role, CommandFault>
     ensures accepts { IsOk result ↔ IsTrue (is_role word.now) }
     ensures kept { IfOk result (λ role. role_word role ≡ word.now) }
-    ensures fault { IfErr result (λ fault. (fault ≡ CommandFault.Role) × (is_role word.now ≡ false)) }
+    ensures fault { IfErr result (λ fault.
+        (fault ≡ CommandFault.Role) × (is_role word.now ≡ false)) }
 {
     role_named(word).ok_or(CommandFault::Role)
 }
@@ -109,7 +102,8 @@ fn read_role(word: &str) -> Result<Role, CommandFault>
 fn read_name(text: &str) -> Result<Name, CommandFault>
     ensures accepts { IsOk result ↔ IsTrue (is_name text.now) }
     ensures kept { IfOk result (λ name. name.bytes ≡ text.now) }
-    ensures fault { IfErr result (λ fault. (fault ≡ CommandFault.Name) × (is_name text.now ≡ false)) }
+    ensures fault { IfErr result (λ fault.
+        (fault ≡ CommandFault.Name) × (is_name text.now ≡ false)) }
 {
     Name::read(text).or(Err(CommandFault::Name))
 }

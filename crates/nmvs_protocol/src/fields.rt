@@ -3,21 +3,21 @@ ghost use Rattle.std.specs.Prelude.{◌≡◌, ◌↔◌, ℕ, List, Option, Som
 ghost use Rattle.std.specs.List.{list_any, list_all};
 ghost use Rattle.nmvs_protocol.specs.Fields.{is_printable, is_empty, fields_in, line_fault};
 
+use crate::LONGEST_LINE;
 use arrayvec::ArrayVec;
 
-/// The most bytes that a line may have, its LF not among them (own).
-pub(crate) const LONGEST_LINE: usize = 200;
-
-/// How many fields of a line are kept: no line has more than six, and a seventh tells that there are too many.
+/// How many fields of a line are kept: no line has more than six, and a seventh tells that there are
+/// too many.
 pub(crate) const KEPT_FIELDS: usize = 7;
 
 /// The fields of a line, or the first of them where there are more than are kept.
 pub(crate) type Fields<'a> = ArrayVec<&'a str, KEPT_FIELDS>;
 
-/// The fields of a line. Else the first of these that holds: it is too `long`, it has `bytes` that are no printable
-/// ASCII characters, it has an `empty` field.
+/// The fields of a line. Else the first of these that holds: it is too `long`, it has `bytes` that are
+/// no printable ASCII characters, it has an `empty` field.
 pub(crate) fn fields_of<F: Copy>(line: &[u8], long: F, bytes: F, empty: F) -> Result<Fields<'_>, F>
-    ensures fields { IfOk result (λ fields. map (λ f. f.now) fields.items ≡ take KEPT_FIELDS (fields_in line.now)) }
+    ensures fields { IfOk result (λ fields.
+        map (λ f. f.now) fields.items ≡ take KEPT_FIELDS (fields_in line.now)) }
     ensures fault { (of_fields : List (List ℕ) → Option F) → MatchResult result
         (λ fields. line_fault long bytes empty of_fields line.now ≡ of_fields (fields_in line.now))
         (λ fault. line_fault long bytes empty of_fields line.now ≡ Some fault) }
@@ -49,7 +49,8 @@ fn are_printable(bytes: &[u8]) -> bool
 /// The fields of a text, where none is empty.
 fn split(text: &str) -> Option<Fields<'_>>
     ensures filled { IsNone result ↔ IsTrue (list_any is_empty (fields_in text.now)) }
-    ensures fields { IfSome result (λ fields. map (λ f. f.now) fields.items ≡ take KEPT_FIELDS (fields_in text.now)) }
+    ensures fields { IfSome result (λ fields.
+        map (λ f. f.now) fields.items ≡ take KEPT_FIELDS (fields_in text.now)) }
 {
     let mut fields = Fields::new();
     for field in text.split(' ') {

@@ -1,16 +1,17 @@
 ghost use Rattle.std.specs.Prelude.{◌≡◌, ◌++◌, ◌==◌, [], length};
-ghost use Rattle.nmvs_protocol.specs.Progress.{kept};
+ghost use Rattle.nmvs_protocol.specs.Progress.{kept_part};
 
-use crate::fields::LONGEST_LINE;
+use crate::LONGEST_LINE;
 use arrayvec::ArrayVec;
 use std::marker::Model;
 
-/// How many bytes are kept of a line: one more than a line may have, which tells that it is too long.
+/// How many bytes are kept of a line: one more than a line may have, which tells that it is too
+/// long.
 pub(crate) const KEPT: usize = LONGEST_LINE + 1;
 
 /// A line whose LF hasn't come, as much of it as is kept.
 #[derive(Drop)]
-pub(crate) struct PendingLine {
+pub struct PendingLine {
     bytes: ArrayVec<u8, KEPT>,
 }
 
@@ -23,7 +24,8 @@ impl Model for PendingLine {
 }
 
 impl PendingLine {
-    pub(crate) fn new() -> PendingLine
+    /// One of which no byte came.
+    pub fn new() -> PendingLine
         ensures { result ≡ [] }
     {
         PendingLine {
@@ -31,26 +33,30 @@ impl PendingLine {
         }
     }
 
-    pub(crate) fn is_empty(&self) -> bool
+    /// Whether no byte is kept.
+    pub fn is_empty(&self) -> bool
         ensures { result ≡ (length self.now == 0) }
     {
         self.bytes.is_empty()
     }
 
-    pub(crate) fn as_slice(&self) -> &[u8]
+    /// What is kept of it.
+    pub fn as_slice(&self) -> &[u8]
         ensures { result.now ≡ self.now }
     {
         self.bytes.as_slice()
     }
 
-    pub(crate) fn extend(&mut self, bytes: &[u8])
-        ensures { self.new ≡ kept (self.old ++ bytes.now) }
+    /// Goes on with these bytes, as far as they are kept.
+    pub fn extend(&mut self, bytes: &[u8])
+        ensures { self.new ≡ kept_part (self.old ++ bytes.now) }
     {
         let count = self.bytes.remaining_capacity().min(bytes.len());
         self.bytes.try_extend_from_slice(&bytes[..count]).unwrap();
     }
 
-    pub(crate) fn clear(&mut self)
+    /// Begins the next line.
+    pub fn clear(&mut self)
         ensures { self.new ≡ [] }
     {
         self.bytes.clear();

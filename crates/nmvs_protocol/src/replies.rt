@@ -1,9 +1,9 @@
 //! The texts of answers.
-ghost use Rattle.std.specs.Prelude.{◌≡◌, ◌≤◌, [], ◌∷◌, length, map, IfOk, OnErr, IsTrue, string_bytes};
+ghost use Rattle.std.specs.Prelude.{◌≡◌, ◌≤◌, ◌<◌, [], ◌∷◌, length, map, IfOk, OnErr, IsTrue, string_bytes};
 ghost use Rattle.std.specs.Fmt.{decimal};
 ghost use Rattle.nmvs_words.specs.Words.{spaced};
-ghost use Rattle.nmvs_protocol.specs.Texts.{text, reply_words, shown_text, takes_memory, turn_word, fault_word};
-ghost use Rattle.nmvs_protocol.specs.Wordings.{worded};
+ghost use Rattle.nmvs_protocol.specs.Texts.{text, reply_words, reply_text as text_of_reply, takes_memory, turn_word, fault_word};
+ghost use Rattle.nmvs_protocol.specs.Wordings.{wording_text};
 
 use crate::wording::Wording;
 use crate::{Answer, LineFault, Turn};
@@ -20,47 +20,21 @@ use std::alloc::{AllocError, Global};
 #[cfg(test)]
 mod tests;
 
-/// The most bytes that the text of a short answer has: those of a status with the longest words and values, and LF.
+/// The most bytes that the text of a short answer has: those of a status with the longest words and
+/// values, and LF.
 pub(crate) const LONGEST_REPLY: usize = 67;
 
-/// The text of an answer on the heap, with the LF that ends it.
+/// The text of a reply and of the entries that it shows: its line, and then the line of each entry.
 ///
 /// # Errors
 ///
 /// There is no memory for the text.
-pub fn reply_text(alloc: Global, answer: &Answer<'_>) -> Result<String, AllocError>
-    ensures { IfOk result (λ t. string_bytes t ≡ text answer.now) }
+pub fn reply_text(alloc: Global, reply: &Reply, shown: &[Entry]) -> Result<String, AllocError>
+    ensures { IfOk result (λ t. string_bytes t ≡ text_of_reply reply.now shown.now) }
 {
-    match wording(alloc, answer)? {
-        Wording::Composed(text) => String::from_str(alloc, text.as_str()),
-        Wording::Made(text) => Ok(text),
-        Wording::Lent(text) => String::from_str(alloc, text),
-    }
-}
-
-/// The text of an answer, with the LF that ends it. That of an audit alone takes memory.
-#[tactic(auto, unfolding(crate::specs::Texts::text))]
-pub(crate) fn wording<'w>(alloc: Global, answer: &'w Answer<'_>) -> Result<Wording<'w>, AllocError>
-    ensures text { IfOk result (λ wording. worded wording ≡ text answer.now) }
-    ensures memory { OnErr result (IsTrue (takes_memory answer.now)) }
-{
-    Ok(match answer {
-        Answer::Replied(reply) => Wording::Composed(replied(reply)),
-        Answer::Audited(entries) => Wording::Made(shown(alloc, entries.entries())?),
-        Answer::Reported(report) => Wording::Lent(report.text()),
-        Answer::Turned(turn) => Wording::Composed(in_words("FAULT", &[word_of_turn(*turn)])),
-        Answer::Unread(fault) => Wording::Composed(in_words("FAULT", &[word_of_fault(*fault)])),
-        Answer::Bye => Wording::Composed(in_words("BYE", &[])),
-    })
-}
-
-/// How many entries an audit shows, and then the line of each.
-fn shown(alloc: Global, entries: &[Entry]) -> Result<String, AllocError>
-    ensures { IfOk result (λ t. string_bytes t ≡ shown_text entries.now) }
-{
-    let count = counted("SHOWN", entries.len() as u64);
-    let mut text = String::from_str(alloc, count.as_str())?;
-    for entry in entries {
+    let first = reply_line(reply);
+    let mut text = String::from_str(alloc, first.as_str())?;
+    for entry in shown {
         let line = entry_line(alloc, entry)?;
         text.push_str(&line)?;
         text.push_str("\n")?;
@@ -68,7 +42,38 @@ fn shown(alloc: Global, entries: &[Entry]) -> Result<String, AllocError>
     Ok(text)
 }
 
-fn replied(reply: &Reply) -> ArrayString<LONGEST_REPLY>
+/// The text of an answer, with the LF that ends it. That of a shown audit alone takes memory.
+#[tactic(auto, unfolding(crate::specs::Texts::text))]
+pub(crate) fn wording<'w>(alloc: Global, answer: &'w Answer<'_>) -> Result<Wording<'w>, AllocError>
+    ensures text { IfOk result (λ wording. wording_text wording ≡ text answer.now) }
+    ensures memory { OnErr result (IsTrue (takes_memory answer.now)) }
+{
+    Ok(match answer {
+        Answer::Replied(reply, shown) => reply_wording(alloc, reply, shown.entries())?,
+        Answer::Reported(report) => Wording::Lent(report.text()),
+        Answer::Turned(turn) => Wording::Composed(in_words("FAULT", &[word_of_turn(*turn)])),
+        Answer::Unread(fault) => Wording::Composed(in_words("FAULT", &[word_of_fault(*fault)])),
+        Answer::Bye => Wording::Composed(in_words("BYE", &[])),
+    })
+}
+
+/// The text of a reply, composed in place where it shows no entry.
+fn reply_wording<'w>(
+    alloc: Global,
+    reply: &Reply,
+    shown: &[Entry],
+) -> Result<Wording<'w>, AllocError>
+    ensures text { IfOk result (λ wording.
+        wording_text wording ≡ text_of_reply reply.now shown.now) }
+    ensures memory { OnErr result (0 < length shown.now) }
+{
+    if shown.is_empty() {
+        return Ok(Wording::Composed(reply_line(reply)));
+    }
+    Ok(Wording::Made(reply_text(alloc, reply, shown)?))
+}
+
+fn reply_line(reply: &Reply) -> ArrayString<LONGEST_REPLY>
     ensures { result.bytes ≡ spaced (reply_words reply.now) }
 {
     match reply {
@@ -77,31 +82,31 @@ fn replied(reply: &Reply) -> ArrayString<LONGEST_REPLY>
             batch,
             expiry,
             expired,
-        } => authentic(*batch, *expiry, *expired),
+        } => authentic_line(*batch, *expiry, *expired),
         Reply::Alert {
             cause,
             flagged,
             number,
-        } => alert(*cause, *flagged, *number),
+        } => alert_line(*cause, *flagged, *number),
         Reply::StatusIs {
             own,
             lock,
             onward,
             batch,
             expiry,
-        } => status(*own, *lock, *onward, *batch, *expiry),
+        } => status_line(*own, *lock, *onward, *batch, *expiry),
         Reply::NoPack => in_words("NOPACK", &[]),
         Reply::Decommissioned => in_words("DECOMMISSIONED", &[]),
         Reply::HandedOver => in_words("HANDED_OVER", &[]),
         Reply::Reverted => in_words("REVERTED", &[]),
-        Reply::LockedNow(count) => counted("LOCKED", *count),
+        Reply::LockedNow(count) => count_line("LOCKED", *count),
         Reply::MarkedStolen => in_words("STOLEN", &[]),
-        Reply::Shown(count) => counted("SHOWN", *count),
-        Reply::Refused(refusal) => refused(*refusal),
+        Reply::Shown(count) => count_line("SHOWN", *count),
+        Reply::Refused(refusal) => refusal_line(*refusal),
     }
 }
 
-fn authentic(batch: Batch, expiry: Expiry, expired: bool) -> ArrayString<LONGEST_REPLY>
+fn authentic_line(batch: Batch, expiry: Expiry, expired: bool) -> ArrayString<LONGEST_REPLY>
     ensures { result.bytes ≡ spaced (reply_words (Reply.Authentic batch expiry expired)) }
 {
     let expiry = expiry.text();
@@ -111,7 +116,7 @@ fn authentic(batch: Batch, expiry: Expiry, expired: bool) -> ArrayString<LONGEST
     )
 }
 
-fn alert(cause: Cause, flagged: bool, number: u64) -> ArrayString<LONGEST_REPLY>
+fn alert_line(cause: Cause, flagged: bool, number: u64) -> ArrayString<LONGEST_REPLY>
     ensures { result.bytes ≡ spaced (reply_words (Reply.Alert cause flagged number)) }
 {
     let mut digits = Buffer::new();
@@ -121,7 +126,7 @@ fn alert(cause: Cause, flagged: bool, number: u64) -> ArrayString<LONGEST_REPLY>
     )
 }
 
-fn status(
+fn status_line(
     own: OwnStatus,
     lock: BatchLock,
     onward: Onward,
@@ -143,7 +148,7 @@ fn status(
     )
 }
 
-fn counted(word: &str, count: u64) -> ArrayString<LONGEST_REPLY>
+fn count_line(word: &str, count: u64) -> ArrayString<LONGEST_REPLY>
     requires { length word.now ≤ 6 }
     ensures { result.bytes ≡ spaced (word.now ∷ decimal count ∷ []) }
 {
@@ -151,7 +156,7 @@ fn counted(word: &str, count: u64) -> ArrayString<LONGEST_REPLY>
     in_words(word, &[digits.format(count)])
 }
 
-fn refused(refusal: Refusal) -> ArrayString<LONGEST_REPLY>
+fn refusal_line(refusal: Refusal) -> ArrayString<LONGEST_REPLY>
     ensures { result.bytes ≡ spaced (reply_words (Reply.Refused refusal)) }
 {
     let mut digits = Buffer::new();

@@ -1,21 +1,21 @@
 ghost use Rattle.std.specs.Prelude.{◌≡◌, ◌++◌, ◌∷◌, ◌+◌, ◌<◌, ◌↔◌, [], ℕ, List, None, Ok, false, IsTrue, IfNone};
 ghost use Rattle.nmvs_stream.specs.Sink.{Taken};
 ghost use Rattle.nmvs_protocol.specs.InputLines.{lines_after, rest_after};
-ghost use Rattle.nmvs_protocol.specs.Session.{Reads, Answers, Session};
-ghost use Rattle.nmvs_protocol.specs.Progress.{Answered, kept};
+ghost use Rattle.nmvs_protocol.specs.Session.{Answers, Session};
+ghost use Rattle.nmvs_protocol.specs.Progress.{Answered, kept_part};
 
 use crate::pending_line::PendingLine;
 use crate::replies::wording;
-use crate::{Answer, Ask, Desk, End, Limits, LineFault, read_line};
+use crate::{Answer, Desk, End, Limits, Line, LineFault, read_line};
 use memchr::memchr;
-use nmvs_stream::{Failed, Sink, Source, put};
+use nmvs_stream::{Failed, Sink, Source, deliver};
 use std::alloc::Global;
 
 #[cfg(test)]
 mod tests;
 
-/// How far a session has come: the line that was begun, and how many lines were answered. The texts of audits are made in
-/// its memory.
+/// How far a session has come: the line that was begun, and how many lines were answered. The texts of
+/// shown audits are made in its memory.
 #[derive(Drop)]
 struct Progress {
     alloc: Global,
@@ -27,8 +27,8 @@ struct Progress {
 /// and flushed before the next line is served and before more is read (own).
 ///
 /// A line of more than 200 bytes is answered once, at its LF, and takes no memory. Bytes after the
-/// last LF get no answer. QUIT ends the session. Memory is taken for the text of an audit alone, which
-/// may be of any length; a report is written as it is, and all other texts are composed in place.
+/// last LF get no answer. QUIT ends the session. Memory is taken for the text of a shown audit alone,
+/// which may be of any length; a report is written as it is, and all other texts are composed in place.
 pub fn serve<'a, R: Source, W: Sink, D: Desk<'a>>(
     alloc: Global,
     source: &mut R,
@@ -39,7 +39,8 @@ pub fn serve<'a, R: Source, W: Sink, D: Desk<'a>>(
     requires source_sound { (R.told source.old).failed ≡ false }
     requires source_open { (R.told source.old).ended ≡ false }
     requires sink_sound { (W.taken sink.old).failed ≡ false }
-    ensures { Session D.takes limits desk.old (R.told source.old) (W.taken sink.old) desk.new (R.told source.new) (W.taken sink.new) result }
+    ensures { Session D.takes limits desk.old (R.told source.old) (W.taken sink.old)
+        desk.new (R.told source.new) (W.taken sink.new) result }
 {
     let mut progress = Progress {
         alloc,
@@ -71,10 +72,13 @@ fn serve_chunk<'a, W: Sink, D: Desk<'a>>(
     sink: &mut W,
     desk: &mut D,
 ) -> Option<End>
-    ensures { (first : D) (start : Taken) (lines : List (List ℕ)) (begun : List ℕ) → progress.old.line ≡ kept begun
-        → Answered D.takes limit first start desk.old (W.taken sink.old) progress.old.answered lines None
-        → Answered D.takes limit first start desk.new (W.taken sink.new) progress.new.answered (lines ++ lines_after begun chunk.now) result
-        × IfNone result (progress.new.line ≡ kept (rest_after begun chunk.now)) }
+    ensures { (first : D) (start : Taken) (lines : List (List ℕ)) (begun : List ℕ)
+        → progress.old.line ≡ kept_part begun
+        → Answered D.takes limit first start desk.old (W.taken sink.old)
+        progress.old.answered lines None
+        → Answered D.takes limit first start desk.new (W.taken sink.new)
+        progress.new.answered (lines ++ lines_after begun chunk.now) result
+        × IfNone result (progress.new.line ≡ kept_part (rest_after begun chunk.now)) }
 {
     let mut rest = chunk;
     while let Some(lf) = memchr(b'\n', rest) {
@@ -102,9 +106,11 @@ fn serve_tail<'a, W: Sink, D: Desk<'a>>(
     desk: &mut D,
 ) -> Option<End>
     ensures begun { line.new ≡ [] }
-    ensures answered { (limit count : ℕ) (first : D) (start : Taken) (lines : List (List ℕ)) (begun : List ℕ) → count < limit → line.old ≡ kept begun
+    ensures answered { (limit count : ℕ) (first : D) (start : Taken) (lines : List (List ℕ)) (begun : List ℕ)
+        → count < limit → line.old ≡ kept_part begun
         → Answered D.takes limit first start desk.old (W.taken sink.old) count lines None
-        → Answered D.takes limit first start desk.new (W.taken sink.new) (count + 1) (lines ++ (begun ++ tail.now) ∷ []) result }
+        → Answered D.takes limit first start desk.new (W.taken sink.new) (count + 1)
+        (lines ++ (begun ++ tail.now) ∷ []) result }
 {
     // A line that lies in one read is not copied.
     if line.is_empty() {
@@ -123,16 +129,18 @@ fn serve_line<'a, W: Sink, D: Desk<'a>>(
     sink: &mut W,
     desk: &mut D,
 ) -> Option<End>
-    ensures { (limit count : ℕ) (first : D) (start : Taken) (lines : List (List ℕ)) (x : List ℕ) → count < limit → kept line.now ≡ kept x
+    ensures { (limit count : ℕ) (first : D) (start : Taken) (lines : List (List ℕ)) (x : List ℕ)
+        → count < limit → kept_part line.now ≡ kept_part x
         → Answered D.takes limit first start desk.old (W.taken sink.old) count lines None
-        → Answered D.takes limit first start desk.new (W.taken sink.new) (count + 1) (lines ++ x ∷ []) result }
+        → Answered D.takes limit first start desk.new (W.taken sink.new) (count + 1)
+        (lines ++ x ∷ []) result }
 {
-    let reading = read(line);
+    let reading = read_line(line);
     let said = answer(&reading, desk);
     let Ok(text) = wording(alloc, &said) else {
         return Some(End::Memory);
     };
-    match put(sink, text.as_str().as_bytes()) {
+    match deliver(sink, text.as_str().as_bytes()) {
         Err(Failed) => Some(End::WriteFault),
         Ok(()) => if is_quit(&reading) {
             Some(End::Quit)
@@ -142,26 +150,19 @@ fn serve_line<'a, W: Sink, D: Desk<'a>>(
     }
 }
 
-/// Reads a line.
-fn read(line: &[u8]) -> Result<Ask, LineFault>
-    ensures { Reads line.now result }
-{
-    read_line(line)
-}
-
 /// The answer to what was read. The desk is asked all but QUIT.
-fn answer<'a, D: Desk<'a>>(reading: &Result<Ask, LineFault>, desk: &mut D) -> Answer<'a>
+fn answer<'a, D: Desk<'a>>(reading: &Result<Line, LineFault>, desk: &mut D) -> Answer<'a>
     ensures { Answers D.takes desk.old reading.now result desk.new }
 {
     match reading {
+        Ok(Line::Ask(ask)) => desk.take(ask),
+        Ok(Line::Quit) => Answer::Bye,
         Err(fault) => Answer::Unread(*fault),
-        Ok(Ask::Quit) => Answer::Bye,
-        Ok(ask) => desk.take(ask),
     }
 }
 
-fn is_quit(reading: &Result<Ask, LineFault>) -> bool
-    ensures { IsTrue result ↔ (reading.now ≡ Ok Ask.Quit) }
+fn is_quit(reading: &Result<Line, LineFault>) -> bool
+    ensures { IsTrue result ↔ (reading.now ≡ Ok Line.Quit) }
 {
-    matches!(reading, Ok(Ask::Quit))
+    matches!(reading, Ok(Line::Quit))
 }

@@ -1,5 +1,5 @@
 ghost use Rattle.std.specs.Prelude.{◌≡◌};
-ghost use Rattle.nmvs_protocol.specs.Wordings.{worded};
+ghost use Rattle.nmvs_protocol.specs.Wordings.{wording_text};
 
 use crate::replies::LONGEST_REPLY;
 use arrayvec::ArrayString;
@@ -17,7 +17,7 @@ pub(crate) enum Wording<'w> {
 
 impl<'w> Wording<'w> {
     pub(crate) fn as_str(&self) -> &str
-        ensures { result.now ≡ worded self.now }
+        ensures { result.now ≡ wording_text self.now }
     {
         match self {
             Wording::Composed(text) => text.as_str(),

@@ -128,27 +128,35 @@ operation-is p (Revert s) r = sym (and-false (same_pack p s))
 operation-is p (Theft s) r = sym (and-false (same_pack p s))
 operation-is p q r = sym (and-false (names p (pack_of q)))
 
+-- what the laws call an upload of the pack is an accepted upload of it
 pub uploads-is : (p : Pack) (e : Entry) → uploads p e ≡ accepted_upload p e
 uploads-is p e = upload-is p e.put.question e.reply
 
+-- so with its decommissioning
 pub decommissions-is : (p : Pack) (e : Entry) → decommissions p e ≡ accepted_decommissioning p e
 decommissions-is p e = decommissioning-is p e.put.question e.reply
 
+-- with its handover
 pub hands_over-is : (p : Pack) (e : Entry) → hands_over p e ≡ accepted_handover p e
 hands_over-is p e = handover-is p e.put.question e.reply
 
+-- with its supply
 pub supplies-is : (p : Pack) (e : Entry) → supplies p e ≡ accepted_supply p e
 supplies-is p e = supply-is p e.put.question e.reply
 
+-- with its reversion
 pub reverts-is : (p : Pack) (e : Entry) → reverts p e ≡ accepted_reversion p e
 reverts-is p e = reversion-is p e.put.question e.reply
 
+-- with a verification that is answered Authentic
 pub confirms-is : (p : Pack) (e : Entry) → confirms p e ≡ authentic_answer p e
 confirms-is p e = confirmation-is p e.put.question e.reply
 
+-- with a recall or withdrawal of the batch
 pub binds-is : (c : ProductCode) (b : Batch) (e : Entry) → binds c b e ≡ accepted_lock c b e
 binds-is c b e = lock-is c b e.put.question e.reply
 
+-- an operation on the pack is an accepted entry about it
 pub operates-is : (p : Pack) (e : Entry) → operates p e ≡ is_mark p e
 operates-is p e = operation-is p e.put.question e.reply
 
@@ -156,9 +164,11 @@ operates-is p e = operation-is p e.put.question e.reply
 pub first-upload : (t : List Entry) (p : Pack) → find (uploads p) t ≡ born t p
 first-upload t p = λ i. find (λ e. uploads-is p e i) t
 
+-- so the last operation on a pack is its mark
 pub last-operation : (t : List Entry) (p : Pack) → last_operation t p ≡ mark t p
 last-operation t p = λ i. find (λ e. operates-is p e i) (reverse t)
 
+-- the first upload of a product code is the one that made its holder
 pub first-upload_of_code : (t : List Entry) (c : ProductCode) → find (uploads_code c) t ≡ find (λ e. (is_upload e.put.question && has_code c e) && is_accepted e) t
 first-upload_of_code t c = λ i. find (λ e. code_upload-is c e.put.question e.reply i) t
 
@@ -182,15 +192,18 @@ pub destroyed-by : (p : Pack) (q : Question) (r : Reply) → destruction_done p 
 destroyed-by p (Decommission s reason.Destroy) reply.Decommissioned h = refl
 destroyed-by p q r h = let none : false ≡ true = h in cc
 
+-- a supply gives the own status Supplied
 pub supplied-by : (p : Pack) (q : Question) (r : Reply) → supply_done p q r ≡ true → is_supplied (own_given q) ≡ true
 supplied-by p (Decommission s reason.Supply) reply.Decommissioned h = refl
 supplied-by p (Handover s) reply.HandedOver h = refl
 supplied-by p q r h = let none : false ≡ true = h in cc
 
+-- a theft report gives Stolen
 pub stolen-by : (p : Pack) (q : Question) (r : Reply) → theft_done p q r ≡ true → is_stolen (own_given q) ≡ true
 stolen-by p (Theft s) reply.MarkedStolen h = refl
 stolen-by p q r h = let none : false ≡ true = h in cc
 
+-- a decommissioning that is not for destruction does not give Destroyed
 pub not-destroyed_by : (p : Pack) (q : Question) (r : Reply) → decommissioning_done p q r ≡ true → destruction_done p q r ≡ false → is_destroyed (own_given q) ≡ false
 not-destroyed_by p (Decommission s reason.Supply) reply.Decommissioned h n = refl
 not-destroyed_by p (Decommission s reason.Hold) reply.Decommissioned h n = refl
@@ -199,6 +212,7 @@ not-destroyed_by p (Decommission s reason.Sample) reply.Decommissioned h n = ref
 not-destroyed_by p (Decommission s reason.Destroy) reply.Decommissioned h n = sym h ∙ n
 not-destroyed_by p q r h n = let none : false ≡ true = h in cc
 
+-- one that is no supply does not give Supplied
 pub not-supplied_by : (p : Pack) (q : Question) (r : Reply) → decommissioning_done p q r ≡ true → supply_done p q r ≡ false → is_supplied (own_given q) ≡ false
 not-supplied_by p (Decommission s reason.Supply) reply.Decommissioned h n = sym h ∙ n
 not-supplied_by p (Decommission s reason.Hold) reply.Decommissioned h n = refl
@@ -207,6 +221,7 @@ not-supplied_by p (Decommission s reason.Sample) reply.Decommissioned h n = refl
 not-supplied_by p (Decommission s reason.Destroy) reply.Decommissioned h n = refl
 not-supplied_by p q r h n = let none : false ≡ true = h in cc
 
+-- and none gives Stolen
 pub not-stolen_by : (p : Pack) (q : Question) (r : Reply) → decommissioning_done p q r ≡ true → is_stolen (own_given q) ≡ false
 not-stolen_by p (Decommission s reason.Supply) reply.Decommissioned h = refl
 not-stolen_by p (Decommission s reason.Hold) reply.Decommissioned h = refl

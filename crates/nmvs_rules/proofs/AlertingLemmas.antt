@@ -38,6 +38,7 @@ use Rattle.nmvs_rules.proofs.ReplyLemmas.{reply-admitted}
 unknown : (t : List Entry) (p : Pack) → list_any (uploads p) t ≡ false → known t p ≡ None
 unknown t p h = ap (known_from t p) (is-none (born t p) (ap is_some (sym (first-upload t p)) ∙ is_some-find (uploads p) t ∙ h))
 
+-- of a pack that was never uploaded the alert says so
 pub unknown-alerts : (t : List Entry) (q : Put) (p : Pack) → AsksAuthenticity p q.question → may_ask q.actor.role q.question ≡ true → list_any (uploads p) t ≡ false → reply_of t q ≡ reply.Alert cause.Unknown true (alerts_of t p.code + 1)
 unknown-alerts t q p (inl is) may h =
     reply-admitted t q (Verify p) is may
@@ -125,6 +126,7 @@ verification-alerts t q p is may other = ap alert_number whole ∙ by (known t p
     by None wrong = refl
     by (Some k) wrong = either k (is_authentic k.own (lock_on t p k)) (wrong k)
 
+-- so with a decommissioning that is not carried out
 pub decommissioning-alerts : (t : List Entry) (q : Put) (p : Pack) (w : Reason) → q.question ≡ Decommission p w → may_ask q.actor.role q.question ≡ true → reply_of t q ≢ reply.Decommissioned → alert_number (reply_of t q) ≡ Some (alerts_of t p.code + 1)
 decommissioning-alerts t q p w is may other = ap alert_number whole ∙ by (known t p) (λ f. other (whole ∙ f))
   where

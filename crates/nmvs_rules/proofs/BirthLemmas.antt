@@ -51,5 +51,6 @@ births-exact t p lawful = IsLawful-keeps P step refl t lawful
 pub births-known : (t : List Entry) (p : Pack) → IsLawful t → count_by (accepted_upload p) t ≡ cond (is_some (known t p)) 1 0
 births-known t p lawful = births-exact t p lawful ∙ ap (λ b. cond b 1 0) (sym (is_some-known t p))
 
+-- a known pack has one accepted upload, an unknown one none
 pub uploads-known : (t : List Entry) (p : Pack) → IsLawful t → count_by (uploads p) t ≡ cond (is_some (known t p)) 1 0
 uploads-known t p lawful = (λ i. count_by (λ e. uploads-is p e i) t) ∙ births-known t p lawful

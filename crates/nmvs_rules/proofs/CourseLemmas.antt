@@ -126,6 +126,7 @@ born-known t e p unknown uploaded = by e.put.question refl (sym (uploads-is p e)
         subst P (sym made) (record { pack = s; question = is; active = refl; mark = refl })
     by q is born = let none : false ≡ true = sym (ap is_upload is) ∙ first_so (is_upload e.put.question) _ (first_so _ _ born) in cc
 
+-- an unknown pack becomes known by an upload alone
 pub stays-unknown : (t : List Entry) (e : Entry) (p : Pack) → known t p ≡ None → uploads p e ≡ false → known (t ++ e ∷ []) p ≡ None
 stays-unknown t e p unknown other = known-push t e p ∙ by (is_mark p e) refl
   where
@@ -188,6 +189,7 @@ gone-not_reversible own.Supplied gone supplied robbed = supplied
 gone-not_reversible own.Stolen gone supplied robbed = robbed
 gone-not_reversible o gone supplied robbed = sym gone
 
+-- a test whose passing is absurd fails
 pub never : (b : Bool) → (b ≡ true → true ≡ false) → b ≡ false
 never true h = h refl
 never false h = refl
@@ -198,6 +200,7 @@ pub record Behind (u v : List Entry) (e d : Entry) : Type 0 where
   pub between : IsLawfulAfter (u ++ e ∷ []) v
   pub later : d.reply ≡ reply_of (u ++ e ∷ v) d.put
 
+-- what stands behind an entry of a lawful trail
 pub behind : (before between after : List Entry) (e later : Entry) → IsLawful (before ++ e ∷ between ++ later ∷ after) → Behind before between e later
 behind before between after e later lawful =
     let at_e = IsLawful-rest before (e ∷ between) (IsLawfulAfter-first [] (before ++ e ∷ between) (later ∷ after) lawful) in

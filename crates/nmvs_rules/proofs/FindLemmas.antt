@@ -30,10 +30,12 @@ is_some-find {X} p (x ∷ xs) = by (p x) (is_some-find {X = X} p xs)
     by true h = refl
     by false h = h
 
+-- what is not some is none
 pub is-none : {X : Type 0} (o : Option X) → is_some o ≡ false → o ≡ None
 is-none None h = refl
 is-none (Some x) h = cc
 
+-- what holds of an option's value, where it has one, as a pair with that value
 pub from-some : {X : Type 0} (o : Option X) (P : X → Type 0) → IsSomeAnd o P → (x : X) × (o ≡ Some x) × P x
 from-some None P h = absurd h
 from-some (Some x) P h = (x, refl, h)

@@ -39,14 +39,17 @@ not-other t c n h some = by (find (uploads_code c) t) (is_some-find (uploads_cod
     by None wrong h = cc
     by (Some u) one same = same_text-bytes u.put.actor.authorisation n (not-false _ same)
 
+-- an upload of a product code that was uploaded before is accepted from its holder alone
 pub holder-uploads : (t : List Entry) (q : Put) (p : Pack) (b : Batch) (x : Expiry) → q.question ≡ Upload p b x → list_any (uploads_code p.code) t ≡ true → reply_of t q ≡ reply.Uploaded → IsHeldBy t p.code q.actor.authorisation
 holder-uploads t q p b x is some h =
     not-other t p.code q.actor.authorisation (upload-holder t q.moment q.actor p b x (sym h ∙ reply-question t q (Upload p b x) is)) some
 
+-- so is a theft report
 pub holder-thefts : (t : List Entry) (q : Put) (p : Pack) → q.question ≡ Theft p → reply_of t q ≡ reply.MarkedStolen → IsHeldBy t p.code q.actor.authorisation
 holder-thefts t q p is h =
     held t p.code q.actor.authorisation (theft-holder t q.moment q.actor p (sym h ∙ reply-question t q (Theft p) is))
 
+-- so is a recall or withdrawal
 pub holder-locks : (t : List Entry) (q : Put) (c : ProductCode) (b : Batch) (n : ℕ) → AsksLock c b q.question → reply_of t q ≡ reply.LockedNow n → IsHeldBy t c q.actor.authorisation
 holder-locks t q c b n (inl is) h =
     held t c q.actor.authorisation (lock-holder t q.actor c b n _ (sym h ∙ reply-question t q (Recall c b) is))

@@ -26,9 +26,11 @@ is_free-lock_of t c b =
     ∙ ap not (is_some-find (accepted_lock c b) t)
     ∙ (λ i. not (list_any (λ e. sym (binds-is c b e) i) t))
 
+-- a batch that nothing bound is free
 pub free-unlocked : (t : List Entry) (c : ProductCode) (b : Batch) → IsUnlocked t c b → is_free (lock_of t c b) ≡ true
 free-unlocked t c b h = is_free-lock_of t c b ∙ ap not h
 
+-- nothing bound a batch that is free
 pub unlocked-free : (t : List Entry) (c : ProductCode) (b : Batch) → is_free (lock_of t c b) ≡ true → IsUnlocked t c b
 unlocked-free t c b h = by _ (sym (is_free-lock_of t c b) ∙ h)
   where
@@ -36,6 +38,7 @@ unlocked-free t c b h = by _ (sym (is_free-lock_of t c b) ∙ h)
     by true wrong = sym wrong
     by false right = refl
 
+-- a lock that passes as free is Free
 pub free-lock : (l : BatchLock) → is_free l ≡ true → l ≡ lock.Free
 free-lock lock.Free h = refl
 free-lock lock.Recalled h = cc

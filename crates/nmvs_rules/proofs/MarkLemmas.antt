@@ -64,6 +64,7 @@ known_at-by t p u m (Upload r b x) k is birth marked h =
     subst P same (record { upload = u; pack = r; last = m; born = birth; question = is; marked = marked; known = refl })
 known_at-by t p u m q k is birth marked h = cc
 
+-- what is known of a pack comes from its first accepted upload and its mark
 pub known-by : (t : List Entry) (p : Pack) (k : Known) → known t p ≡ Some k → KnownBy t p k
 known-by t p k h = by (born t p) refl h
   where
@@ -87,5 +88,6 @@ uploaded-with t p k by =
     let P : Option Entry → Type 0 = λ o. IsSomeAnd o (λ u. (r : Pack) × (u.put.question ≡ Upload r k.batch k.expiry)) in
     subst P (sym by.born ∙ sym (first-upload t p)) (by.pack, by.question)
 
+-- the first upload of a pack, in the words of the laws, is the one that made it known
 pub birth-of : (t : List Entry) (p : Pack) (b : Batch) (x : Expiry) → IsUploadedWith t p b x → (u : Entry) × (born t p ≡ Some u) × ((r : Pack) × (u.put.question ≡ Upload r b x))
 birth-of t p b x h = let found = from-some (find (uploads p) t) _ h in (found.0, sym (first-upload t p) ∙ found.1, found.2)

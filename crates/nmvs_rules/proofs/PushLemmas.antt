@@ -23,27 +23,35 @@ find-push p xs x = find-append p xs (x ∷ [])
 pub last-push : (p : Entry → Bool) (t : List Entry) (e : Entry) → last p (t ++ e ∷ []) ≡ cond (p e) (Some e) (last p t)
 last-push p t e = ap (find p) (reverse-append t (e ∷ []))
 
+-- the run at the end of a list, after one more element
 pub suffix_len-push : {X : Type 0} (p : X → Bool) (xs : List X) (x : X) → suffix_len p (xs ++ x ∷ []) ≡ cond (p x) (1 + suffix_len p xs) 0
 suffix_len-push p xs x = ap (prefix_len p) (reverse-append xs (x ∷ []))
 
+-- a count after one more element at the end
 pub count_by-push : {X : Type 0} (p : X → Bool) (xs : List X) (x : X) → count_by p (xs ++ x ∷ []) ≡ count_by p xs + cond (p x) 1 0
 count_by-push {X} p xs x = sum_by-append (λ y. cond (p y) 1 0) xs (x ∷ []) ∙ ap (λ n. count_by {X = X} p xs + n) (zero-add (cond (p x) 1 0))
 
+-- and after one more at the front
 pub count_by-cons : {X : Type 0} (p : X → Bool) (x : X) (xs : List X) → count_by p (x ∷ xs) ≡ cond (p x) 1 0 + count_by p xs
 count_by-cons {X} p x xs = sum_by-append (λ y. cond (p y) 1 0) (x ∷ []) xs ∙ ap (λ n. n + count_by {X = X} p xs) (zero-add (cond (p x) 1 0))
 
+-- the first accepted upload of a pack, after one more entry
 pub born-push : (t : List Entry) (e : Entry) (p : Pack) → born (t ++ e ∷ []) p ≡ option_or (born t p) (cond ((is_upload e.put.question && is_about p e) && is_accepted e) (Some e) None)
 born-push t e p = find-push _ t e
 
+-- the mark of a pack, after one more entry
 pub mark-push : (t : List Entry) (e : Entry) (p : Pack) → mark (t ++ e ∷ []) p ≡ cond (is_mark p e) (Some e) (mark t p)
 mark-push t e p = last-push (is_mark p) t e
 
+-- how many entries are about a pack, after one more
 pub about_of-push : (t : List Entry) (e : Entry) (p : Pack) → about_of (t ++ e ∷ []) p ≡ about_of t p + cond (is_about p e) 1 0
 about_of-push t e p = count_by-push (is_about p) t e
 
+-- how many alerts a product code has had, after one more entry
 pub alerts_of-push : (t : List Entry) (e : Entry) (c : ProductCode) → alerts_of (t ++ e ∷ []) c ≡ alerts_of t c + cond (has_code c e && is_alert e.reply) 1 0
 alerts_of-push t e c = count_by-push (λ x. has_code c x && is_alert x.reply) t e
 
+-- whether a batch is known, after one more entry
 pub is_known_batch-push : (t : List Entry) (e : Entry) (c : ProductCode) (b : Batch) → is_known_batch (t ++ e ∷ []) c b ≡ (is_known_batch t c b || (is_birth_in c b e || false))
 is_known_batch-push t e c b = list_any-append (is_birth_in c b) t (e ∷ [])
 

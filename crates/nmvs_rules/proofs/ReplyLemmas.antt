@@ -72,6 +72,7 @@ pub record IsReversible (t : List Entry) (n : ℕ) (a : Actor) (p : Pack) (k : K
   pub in_time : is_in_time n k.mark ≡ true
   pub not_expired : is_past k.expiry n ≡ false
 
+-- a pack that is answered Authentic is known and authentic
 pub verify-tells : (t : List Entry) (n : ℕ) (a : Actor) (p : Pack) (b : Batch) (x : Expiry) (late : Bool) → IsReply t n a (Verify p) (reply.Authentic b x late) → KnownAnd t p (λ k. IsAuthentic t p k × (reply.Authentic k.batch k.expiry (is_past k.expiry n) ≡ reply.Authentic b x late))
 verify-tells t n a p b x late h =
     let admitted = cond-then (may_ask a.role (Verify p)) _ _ _ (λ e. cc) (sym h) in
@@ -79,6 +80,7 @@ verify-tells t n a p b x late h =
     let authentic = cond-then (is_authentic pack.0.own (lock_on t p pack.0)) _ _ _ (λ e. cc) pack.2 in
     (pack.0, pack.1, (record { active = first_so _ _ authentic.0; free = second_so (is_active pack.0.own) _ authentic.0 }, authentic.1))
 
+-- a pack that is decommissioned was authentic
 pub decommission-tells : (t : List Entry) (n : ℕ) (a : Actor) (p : Pack) (w : Reason) → IsReply t n a (Decommission p w) reply.Decommissioned → KnownAnd t p (IsAuthentic t p)
 decommission-tells t n a p w h =
     let admitted = cond-then (may_ask a.role (Decommission p w)) _ _ _ (λ e. cc) (sym h) in
@@ -96,6 +98,7 @@ handover-tells t n a p h =
     let place = cond-else (not (is_same_place a k.mark)) _ _ _ (λ e. cc) held.1 in
     (k, pack.1, record { free = not-false _ free.0; held = not-false _ held.0; same_place = not-false _ place.0 })
 
+-- a pack that is reverted met the conditions of Article 13(1)
 pub revert-tells : (t : List Entry) (n : ℕ) (a : Actor) (p : Pack) → IsReply t n a (Revert p) reply.Reverted → KnownAnd t p (IsReversible t n a p)
 revert-tells t n a p h =
     let admitted = cond-then (may_ask a.role (Revert p)) _ _ _ (λ e. cc) (sym h) in
@@ -123,12 +126,14 @@ revert-tells t n a p h =
       },
     )
 
+-- a theft report is accepted from the holder
 pub theft-holder : (t : List Entry) (n : ℕ) (a : Actor) (p : Pack) → IsReply t n a (Theft p) reply.MarkedStolen → is_held_by (holder_of t p.code) a.authorisation ≡ true
 theft-holder t n a p h =
     let admitted = cond-then (may_ask a.role (Theft p)) _ _ _ (λ e. cc) (sym h) in
     let pack = on_pack-known t p _ _ _ (λ e. cc) admitted.1 in
     not-false _ (cond-else (not (is_held_by (holder_of t p.code) a.authorisation)) _ _ _ (λ e. cc) pack.2).0
 
+-- an upload is not accepted against another holder
 pub upload-holder : (t : List Entry) (n : ℕ) (a : Actor) (p : Pack) (b : Batch) (x : Expiry) → IsReply t n a (Upload p b x) reply.Uploaded → has_other_holder (holder_of t p.code) a.authorisation ≡ false
 upload-holder t n a p b x h =
     let admitted = cond-then (may_ask a.role (Upload p b x)) _ _ _ (λ e. cc) (sym h) in
@@ -212,6 +217,7 @@ accepted_upload-tells t e p lawful h = by e.put.question e.reply lawful h
     by (Upload s b x) r is c = let none : false ≡ true = second_so (same_pack p s) false c in cc
     by q r is c = let none : false ≡ true = first_so (is_upload q) (names p (pack_of q)) (first_so (is_upload q && names p (pack_of q)) (accepts q r) c) in cc
 
+-- the reply to a put whose question is this one
 pub reply-question : (t : List Entry) (q : Put) (n : Question) → q.question ≡ n → reply_of t q ≡ cond (may_ask q.actor.role n) (admitted_reply t q.moment q.actor n) (reply.Refused refusal.Role)
 reply-question t q n is = ap (λ z. cond (may_ask q.actor.role z) (admitted_reply t q.moment q.actor z) (reply.Refused refusal.Role)) is
 

@@ -97,6 +97,7 @@ reversion t p q h =
     (not-supplied_by p h.last.put.question h.last.reply h.decommissioned h.not_supplied)
     place (time_in _ _ h.within_days) (past_not _ _ h.not_expired)
 
+-- the law of reversions
 pub reversion-exact : (t : List Entry) (q : Put) (p : Pack) → q.question ≡ Revert p → (reply_of t q ≡ reply.Reverted) ↔ (IsTrue (may_ask q.actor.role q.question) × IsRevertible t p q)
 reversion-exact t q p is = (forward, backward)
   where

@@ -78,6 +78,7 @@ confirmed n k l m active free = rw (active, free) refl
 taken : (k : Known) (l : BatchLock) (m : ℕ) → is_active k.own ≡ true → is_free l ≡ true → decommission_reply k l m ≡ reply.Decommissioned
 taken k l m active free = rw (active, free) refl
 
+-- the law of verifications
 pub verification-exact : (t : List Entry) (q : Put) (p : Pack) (b : Batch) (x : Expiry) (late : Bool) → q.question ≡ Verify p → (reply_of t q ≡ reply.Authentic b x late) ↔ (IsTrue (may_ask q.actor.role q.question) × IsGenuine t p b x × (late ≡ int_lt (expiry_day x.bytes) (pos (day_of q.moment))))
 verification-exact t q p b x late is = (forward, backward)
   where
@@ -105,6 +106,7 @@ verification-exact t q p b x late is = (forward, backward)
         ∙ (λ i. reply.Authentic (pack.2 i) (pack.3 i) (is_past (pack.3 i) q.moment))
         ∙ ap (reply.Authentic b x) (sym h.2)
 
+-- the law of decommissionings
 pub decommissioning-exact : (t : List Entry) (q : Put) (p : Pack) (w : Reason) → q.question ≡ Decommission p w → (reply_of t q ≡ reply.Decommissioned) ↔ (IsTrue (may_ask q.actor.role q.question) × ((b : Batch) × (x : Expiry) × IsGenuine t p b x))
 decommissioning-exact t q p w is = (forward, backward)
   where

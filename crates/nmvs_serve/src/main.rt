@@ -1,7 +1,8 @@
 //! The program of the repository.
 #![tactic(auto)]
 
-use nmvs_server::{Console, Fault, OptionFault, read_options, serve_rehearsal, start};
+use nmvs_operator::{OptionFault, read_options};
+use nmvs_server::{Console, Fault, serve_rehearsal, start};
 use nmvs_stream::Device;
 use std::process::ExitCode;
 use std::rt::Env;
@@ -12,10 +13,7 @@ fn main(rt: HostRuntime) -> ExitCode {
     let Ok(words) = words(&rt) else {
         return ended(&rt, &[Some(Fault::Memory)]);
     };
-    let mut console = Console {
-        source: Device::new(rt.stdin()),
-        sink: Device::new(rt.stdout()),
-    };
+    let mut console = Console::new(Device::new(rt.stdin()), Device::new(rt.stdout()));
     if words.is_empty() {
         let rehearsed = serve_rehearsal(alloc, &mut console.source, &mut console.sink);
         return ended(&rt, &[rehearsed.err()]);

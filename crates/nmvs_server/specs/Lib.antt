@@ -1,5 +1,6 @@
-pub mod Audits
+pub mod Console
 pub mod Roster
 pub mod Rehearsal
 pub mod Faults
 pub mod Desk
+pub mod Exports

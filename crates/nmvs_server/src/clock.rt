@@ -5,6 +5,9 @@ use boxcar::tag::{Names, Tag};
 use nmvs_identifier::Moment;
 use std::time::SystemTime;
 
+#[cfg(test)]
+mod tests;
+
 /// A clock. It tells contracts how often it was asked, and what it gave last.
 pub trait Clock {
     ghost asked: { Self → ℕ };
@@ -31,6 +34,7 @@ impl<'a, R: std::rt::Clock> ProgramClock<'a, R> {
     pub fn new(rt: &'a R, still: Option<Moment>) -> ProgramClock<'a, R>
         ensures still { result.still ≡ still }
         ensures asked { length result.asked.numbers ≡ 0 }
+        ensures gave { result.gave ≡ pos 0 }
     {
         ProgramClock {
             rt,

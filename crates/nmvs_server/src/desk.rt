@@ -1,36 +1,38 @@
 //! The program's desk.
 ghost use Rattle.std.specs.Prelude.{◌≡◌};
-ghost use mathlib.Core.List.{IsPrefix};
-ghost use Rattle.nmvs_server.specs.Desk.{Standing, turn_of_fault};
+ghost use Rattle.nmvs_server.specs.Desk.{turn_of_fault};
 
 use crate::Clock;
-use nmvs_desk::{AskFault, Clerk, EntryLedger, NoGate, Reader, ReceiptLedger, Repository};
-use nmvs_directory::{Look, Naming, Notice};
+use nmvs_desk::{AskFault, Clerk, EntryLedger, Reader, ReceiptLedger, Repository, Served};
+use nmvs_directory::{Naming, Notice};
 use nmvs_identifier::{Moment, Name, ProductCode};
 use nmvs_protocol::{Answer, Ask, Desk, Entries, Text, Turn};
 use nmvs_record::report;
-use nmvs_rules::{Question, Reply, Role};
+use nmvs_rules::{Question, may_report};
 use nmvs_shard::Shard;
 use std::alloc::{AllocError, Global};
 use std::marker::Model;
 use std::sync::{Mutex, Wait};
 
-/// Answers lines by a clerk of a repository, at the moments of a clock, which it asks once a line. Before each question the
-/// clerk learns the latest notice (own).
+#[cfg(test)]
+mod tests;
+
+/// Answers lines by a clerk of a repository, at the moments of a clock, which it asks once a line. Before each line is
+/// answered the clerk learns the latest notice (own).
 #[derive(Drop)]
 pub struct ClerkDesk<'r, 'a, R: Wait, J: Naming, S: EntryLedger, C: ReceiptLedger, K: Clock> {
     rt: &'r R,
-    clerk: Clerk<'a, Global, J, C>,
-    repository: &'r Repository<'a, Global, S, C>,
-    latest: &'r Mutex<Option<Notice<J>>>,
+    clerk: Clerk<'a, J, C>,
+    repository: &'r Repository<'a, S, C>,
+    latest: &'r Mutex<Notice<J>>,
     clock: K,
 }
 
 impl<'r, 'a, R: Wait, J: Naming, S: EntryLedger, C: ReceiptLedger, K: Clock> Model
     for ClerkDesk<'r, 'a, R, J, S, C, K> {
-    ghost use Rattle.nmvs_server.specs.Desk.{Standing};
+    ghost use Rattle.nmvs_server.specs.Desk.{DeskView};
 
-    ghost Value = { Standing };
+    ghost Value = { DeskView };
 
     ghost view = { λ d. record { seen = d.clerk.seen; receipts = d.clerk.receipts; shards = d.repository.now.shards; asked = K.asked d.clock; gave = K.gave d.clock } };
 }
@@ -44,24 +46,25 @@ impl<'r, 'a, R: Wait, J: Naming, S: EntryLedger, C: ReceiptLedger, K: Clock> Cle
     C,
     K,
 > {
-    ghost use Rattle.std.specs.Prelude.{◌≡◌};
-    ghost use mathlib.Core.List.{IsPrefix};
-    ghost use Rattle.nmvs_protocol.specs.declared.ask.Ask.TheVariants.{Put, Report};
-    ghost use Rattle.nmvs_server.specs.Desk.{Serves, IsReport};
+    ghost use Rattle.std.specs.Prelude.{◌≡◌, pos, IfOk, IfSome, IfNone, string_bytes};
+    ghost use Rattle.nmvs_protocol.specs.declared.ask.Ask.TheVariants as asks;
+    ghost use Rattle.nmvs_server.specs.Desk.{KeepsClock, StopsAtClock, IsTold, AnswersTold, Reports};
 
     /// A desk over a clerk of this repository, and the lock of the latest notice.
     ///
     /// Condition: the clerk is one that `open` gave with the repository, which the names of their ledgers say.
     pub fn new(
         rt: &'r R,
-        clerk: Clerk<'a, Global, J, C>,
-        repository: &'r Repository<'a, Global, S, C>,
-        latest: &'r Mutex<Option<Notice<J>>>,
+        clerk: Clerk<'a, J, C>,
+        repository: &'r Repository<'a, S, C>,
+        latest: &'r Mutex<Notice<J>>,
         clock: K,
     ) -> ClerkDesk<'r, 'a, R, J, S, C, K>
         ensures seen { result.seen ≡ clerk.entry.seen }
         ensures receipts { result.receipts ≡ clerk.entry.receipts }
         ensures shards { result.shards ≡ repository.now.shards }
+        ensures asked { result.asked ≡ K.asked clock }
+        ensures gave { result.gave ≡ K.gave clock }
     {
         ClerkDesk {
             rt,
@@ -73,7 +76,7 @@ impl<'r, 'a, R: Wait, J: Naming, S: EntryLedger, C: ReceiptLedger, K: Clock> Cle
     }
 
     /// The clerk, with all its receipts.
-    pub fn into_clerk(self) -> Clerk<'a, Global, J, C>
+    pub fn into_clerk(self) -> Clerk<'a, J, C>
     where
         K: Drop,
         ensures seen { result.seen ≡ self.entry.seen }
@@ -82,67 +85,46 @@ impl<'r, 'a, R: Wait, J: Naming, S: EntryLedger, C: ReceiptLedger, K: Clock> Cle
         self.clerk
     }
 
-    /// Tells the clerk of the latest publication. It waits for the lock, and lets it go.
-    fn learn_latest(&mut self)
-        ensures seen { IsPrefix self.old.seen self.new.seen }
-        ensures receipts { self.new.receipts ≡ self.old.receipts }
-        ensures shards { self.new.shards ≡ self.old.shards }
-        ensures asked { self.new.asked ≡ self.old.asked }
-        ensures gave { self.new.gave ≡ self.old.gave }
+    /// The moment of the next line, where the clock gives one. The clerk then learns the latest notice: it waits for the
+    /// notice's lock, and lets it go.
+    fn next_moment(&mut self) -> Option<Moment>
+        ensures none { IfNone result (StopsAtClock self.old self.new) }
+        ensures some { IfSome result (λ moment. (pos moment ≡ self.new.gave) × IsTold self.old self.new) }
     {
-        match &*self.latest.lock(self.rt) {
-            Some(notice) => self.clerk.learn(notice),
-            None => {}
-        }
+        let moment = Moment::new(self.clock.seconds())?;
+        self.clerk.learn(&*self.latest.lock(self.rt));
+        Some(moment)
     }
 
-    /// Puts a question by the clerk.
-    #[tactic(auto, using(crate::proofs::ShownAudits::not_audit, crate::proofs::DeskTurns::turned_by))]
-    fn put(&mut self, user: &Name, question: &Question) -> Answer<'a>
-        ensures { Serves self.old (Put user.now question.now) result self.new }
+    /// Puts a question by the clerk, at the moment that the clock gave.
+    #[tactic(auto, using(crate::proofs::DeskTurns::turned_by, crate::proofs::DeskTurns::received))]
+    fn ask(&mut self, moment: Moment, user: &Name, question: &Question) -> Answer<'a>
+        requires { pos moment ≡ self.old.gave }
+        ensures clock { KeepsClock self.old self.new }
+        ensures answers { AnswersTold self.old (asks.Question user.now question.now) result self.new }
     {
-        let Some(moment) = Moment::new(self.clock.seconds()) else {
-            return Answer::Turned(Turn::Clock);
-        };
-        self.learn_latest();
         let (rt, repository) = (self.rt, self.repository);
-        match question {
-            Question::Audit(pack) => {
-                match self
-                    .clerk
-                    .audit(rt, repository, &mut NoGate, moment, user, pack)
-                {
-                    Ok((receipt, entries)) => match receipt.entry.reply {
-                        Reply::Shown(_) => Answer::Audited(Entries::new(entries)),
-                        reply => Answer::Replied(reply),
-                    },
-                    Err(fault) => Answer::Turned(turn_by(fault)),
-                }
+        match self.clerk.ask(rt, repository, moment, user, question) {
+            Ok(Served { receipt, shown }) => {
+                Answer::Replied(receipt.entry.reply, Entries::new(shown))
             }
-            _ => match self
-                .clerk
-                .ask(rt, repository, &mut NoGate, moment, user, question)
-            {
-                Ok(receipt) => Answer::Replied(receipt.entry.reply),
-                Err(fault) => Answer::Turned(turn_by(fault)),
-            },
+            Err(fault) => Answer::Turned(turn_by(fault)),
         }
     }
 
-    /// Reports on a product code to an authority. It waits for the code's shard, and leaves no receipt.
+    /// Reports on a product code to those who may have it. It waits for the code's shard, and leaves no receipt.
+    #[tactic(auto, using(crate::proofs::DeskTurns::looked_away))]
     fn report(&mut self, user: &Name, code: &ProductCode) -> Answer<'a>
-        ensures { Serves self.old (Report user.now code.now) result self.new }
+        ensures clock { KeepsClock self.old self.new }
+        ensures answers { AnswersTold self.old (asks.Report user.now code.now) result self.new }
     {
-        if Moment::new(self.clock.seconds()).is_none() {
-            return Answer::Turned(Turn::Clock);
-        }
-        self.learn_latest();
-        match self.clerk.look(user) {
-            Look::Nobody => Answer::Turned(Turn::Nobody),
-            Look::Suspended => Answer::Turned(Turn::Suspended),
-            Look::Closed => Answer::Turned(Turn::Closed),
-            Look::Known(actor) => if actor.role == Role::Authority {
-                self.report_on(code)
+        match self.clerk.actor_of(user) {
+            Err(fault) => Answer::Turned(turn_by(fault)),
+            Ok(actor) => if may_report(actor.role) {
+                match self.report_on(code) {
+                    Ok(text) => Answer::Reported(Text::new(text)),
+                    Err(_) => Answer::Turned(Turn::Memory),
+                }
             } else {
                 Answer::Turned(Turn::Role)
             },
@@ -150,18 +132,13 @@ impl<'r, 'a, R: Wait, J: Naming, S: EntryLedger, C: ReceiptLedger, K: Clock> Cle
     }
 
     /// The report of a product code, by its shard.
-    fn report_on(&self, code: &ProductCode) -> Answer<'a>
-        ensures { IsReport self.now.shards code.now result }
+    fn report_on(&self, code: &ProductCode) -> Result<String, AllocError>
+        ensures { IfOk result (λ text. Reports self.now.shards code.now (string_bytes text)) }
     {
         let alloc = *self.clerk.allocator();
         let shard = self.repository.shard_of(code);
-        match self
-            .repository
+        self.repository
             .with_shard(self.rt, shard, ReportOf { alloc, code })
-        {
-            Ok(text) => Answer::Reported(Text::new(text)),
-            Err(_) => Answer::Turned(Turn::Memory),
-        }
     }
 }
 
@@ -204,10 +181,12 @@ impl<'r, 'a, R: Wait, J: Naming, S: EntryLedger, C: ReceiptLedger, K: Clock> Des
     ghost takes = { Serves };
 
     fn take(&mut self, ask: &Ask) -> Answer<'a> {
+        let Some(moment) = self.next_moment() else {
+            return Answer::Turned(Turn::Clock);
+        };
         match ask {
-            Ask::Put(user, question) => self.put(user, question),
+            Ask::Question(user, question) => self.ask(moment, user, question),
             Ask::Report(user, code) => self.report(user, code),
-            Ask::Quit => Answer::Bye,
         }
     }
 }

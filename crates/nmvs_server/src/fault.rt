@@ -1,8 +1,10 @@
 //! Why the program ends in failure.
-ghost use Rattle.std.specs.Prelude.{◌≡◌, Some};
-ghost use Rattle.nmvs_server.specs.Faults.{command_word, fault_text};
+ghost use Rattle.std.specs.Prelude.{◌≡◌, None, Some};
+ghost use Rattle.nmvs_server.specs.Faults.{fault_text, import_text, outcome};
 
-use nmvs_protocol::CommandFault;
+use nmvs_operator::command_word;
+use nmvs_protocol::{CommandFault, End};
+use nmvs_record::{Finding, Objection};
 use std::fmt;
 
 /// Why the program ends in failure (own). It is told on standard error, and the status is 1.
@@ -24,6 +26,8 @@ pub enum Fault<'a> {
     CannotListen(u16),
     /// A receipt could not be found in the trails.
     Settlement,
+    /// Fewer workers gave their clerk back than there are clerks.
+    LostClerk,
     /// Memory was wanting, or a thread for a worker.
     Memory,
     /// A read of the session over standard input failed.
@@ -42,7 +46,7 @@ impl<'a> fmt::Display for Fault<'a> {
             Fault::CannotRead(path) => write!(f, "cannot read {path}"),
             Fault::CannotWrite(path) => write!(f, "cannot write {path}"),
             Fault::UsersLine(number, fault) => {
-                let word = word_of(*fault);
+                let word = command_word(*fault);
                 write!(f, "users line {number}: {word}")
             }
             Fault::ImportLine(number) => write!(f, "import line {number}"),
@@ -50,6 +54,7 @@ impl<'a> fmt::Display for Fault<'a> {
             Fault::Directory => f.write_str("directory refused"),
             Fault::CannotListen(port) => write!(f, "cannot listen on port {port}"),
             Fault::Settlement => f.write_str("settlement fault"),
+            Fault::LostClerk => f.write_str("a clerk was lost"),
             Fault::Memory => f.write_str("out of memory"),
             Fault::SessionRead => f.write_str("session read fault"),
             Fault::SessionWrite => f.write_str("session write fault"),
@@ -58,16 +63,50 @@ impl<'a> fmt::Display for Fault<'a> {
     }
 }
 
-/// The word of a command that can't be read.
-pub(crate) fn word_of(fault: CommandFault) -> &'static str
-    ensures { result.now ≡ command_word fault }
+/// How the program ended: the fault of the session over standard input, and then any other. None of them is success.
+#[derive(Clone, Copy, Debug, PartialEq, Eq)]
+pub struct Outcome<'a> {
+    pub session: Option<Fault<'a>>,
+    pub program: Option<Fault<'a>>,
+}
+
+impl<'a> Outcome<'a> {
+    /// No session was served.
+    pub(crate) fn of(program: Fault<'a>) -> Outcome<'a>
+        ensures { result ≡ record { session = None; program = Some program.entry } }
+    {
+        Outcome {
+            session: None,
+            program: Some(program),
+        }
+    }
+}
+
+impl<'a> Fault<'a> {
+    /// Why the import of this path, in which this was found, is not taken. (In this toolchain a fault that holds the finding,
+    /// and so a reply, gets no generated proof.)
+    pub(crate) fn of_import(path: &'a str, finding: Finding) -> Fault<'a>
+        ensures { fault_text result ≡ import_text path.now finding }
+    {
+        match finding {
+            Finding::Read => Fault::CannotRead(path),
+            Finding::Unended(number) => Fault::ImportLine(number),
+            Finding::Line(_, Objection::Memory) => Fault::Memory,
+            Finding::Line(number, Objection::Unlawful { .. }) => Fault::ImportUnlawful(number),
+            Finding::Line(number, _) => Fault::ImportLine(number),
+        }
+    }
+}
+
+/// What the end of the program's session makes of the program.
+pub(crate) fn outcome_of(end: End) -> Result<(), Fault<'static>>
+    ensures { result ≡ outcome end }
 {
-    match fault {
-        CommandFault::Long => "LONG",
-        CommandFault::Bytes => "BYTES",
-        CommandFault::Fields => "FIELDS",
-        CommandFault::Word => "WORD",
-        CommandFault::Role => "ROLE",
-        CommandFault::Name => "NAME",
+    match end {
+        End::Quit | End::Ended => Ok(()),
+        End::ReadFault => Err(Fault::SessionRead),
+        End::WriteFault => Err(Fault::SessionWrite),
+        End::Limit => Err(Fault::SessionLimit),
+        End::Memory => Err(Fault::Memory),
     }
 }

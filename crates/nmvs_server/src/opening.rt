@@ -1,7 +1,7 @@
-ghost use Rattle.std.specs.Prelude.{◌≡◌, ◌≤◌, length, vec_len};
+//! A repository as it is opened.
+ghost use Rattle.std.specs.Prelude.{◌≡◌, ◌≤◌, length, vec_len, IfOk};
 
-use crate::opened::Opened;
-use nmvs_desk::{EntryLedger, OpenFault, ReceiptLedger, Repository};
+use nmvs_desk::{Clerk, EntryLedger, MOST_CLERKS, OpenFault, PARTS, ReceiptLedger, Repository};
 use nmvs_directory::{Naming, Window};
 use nmvs_shard::Shard;
 use std::alloc::Global;
@@ -9,27 +9,35 @@ use std::sync::ledger::Blank;
 
 /// What a repository is opened with.
 #[derive(Drop)]
-pub(crate) struct Opening<'a, 'i, J: Naming> {
+pub(crate) struct Opening<'a, J: Naming> {
     /// One for each clerk.
     pub(crate) windows: Vec<Window<J, &'a Global>, &'a Global>,
     /// Its entries are dealt to the shards.
-    pub(crate) import: &'i Shard<&'a Global>,
+    pub(crate) import: Shard<&'a Global>,
     /// They name the ledgers of entries and of receipts.
     pub(crate) entries: Blank,
     pub(crate) receipts: Blank,
 }
 
-impl<'a, 'i, J: Naming> Opening<'a, 'i, J> {
-    /// Opens the repository with so many shards.
+/// An open repository, and its clerks.
+#[derive(Drop)]
+pub(crate) struct Opened<'a, J: Naming, S: EntryLedger, C: ReceiptLedger> {
+    pub(crate) repository: Repository<'a, S, C>,
+    pub(crate) clerks: Vec<Clerk<'a, J, C>, &'a Global>,
+}
+
+impl<'a, J: Naming> Opening<'a, J> {
+    /// Opens the repository with this number of shards. The import is let go once its entries are dealt.
     pub(crate) fn open<S: EntryLedger, C: ReceiptLedger>(
         self,
         alloc: &'a Global,
         shards: usize,
     ) -> Result<Opened<'a, J, S, C>, OpenFault>
-        requires entries { (self.entries.name ≡ S.name) × (self.entries.parts ≡ S.parts) × (S.parts ≡ 9) }
-        requires receipts { (self.receipts.name ≡ C.name) × (self.receipts.parts ≡ C.parts) × (C.parts ≡ 9) }
-        requires named { (S.shards ≡ shards) × (C.clerks ≡ vec_len self.windows) × (C.opening ≡ length self.import.now) }
-        requires few { vec_len self.windows ≤ 8 }
+        requires entries { (self.entries.name ≡ S.name) × (self.entries.parts ≡ S.parts) × (S.parts ≡ PARTS) }
+        requires receipts { (self.receipts.name ≡ C.name) × (self.receipts.parts ≡ C.parts) × (C.parts ≡ PARTS) }
+        requires named { (S.shards ≡ shards) × (C.clerks ≡ vec_len self.windows) × (C.opening ≡ length self.import) }
+        requires few { vec_len self.windows ≤ MOST_CLERKS }
+        ensures { IfOk result (λ opened. vec_len opened.clerks ≡ vec_len self.entry.windows) }
     {
         let Opening {
             mut windows,
@@ -43,7 +51,7 @@ impl<'a, 'i, J: Naming> Opening<'a, 'i, J> {
             receipts,
             shards,
             &mut windows,
-            import,
+            &import,
         )?;
         Ok(Opened { repository, clerks })
     }

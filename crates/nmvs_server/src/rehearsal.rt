@@ -1,23 +1,47 @@
 //! The rehearsal: a session to learn the repository by, whose every answer is proved.
-ghost use Rattle.std.specs.Prelude.{◌≡◌, ◌<◌, [], false, length};
+ghost use Rattle.std.specs.Prelude.{◌≡◌, ◌<◌, [], ◌∷◌, length};
+ghost use Rattle.nmvs_protocol.specs.declared.end.End.{End as TheEnd};
 ghost use Rattle.nmvs_protocol.specs.Session.{Session};
+ghost use Rattle.nmvs_server.specs.Console.{IsFresh};
+ghost use Rattle.nmvs_server.specs.Faults.{outcome};
 ghost use Rattle.nmvs_server.specs.Rehearsal.{Rehearsal, Judges};
 
+use crate::Fault;
+use crate::fault::outcome_of;
 use crate::roster::actor_of;
 use nmvs_identifier::{Moment, Name, ProductCode};
-use nmvs_protocol::{Answer, Ask, Desk, End, Entries, Limits, Text, Turn, serve};
+use nmvs_protocol::{Answer, Ask, Desk, End, Entries, SESSION_LIMITS, Text, Turn, serve};
 use nmvs_record::report;
-use nmvs_rules::{Question, Reply, Role};
-use nmvs_shard::Shard;
+use nmvs_rules::{Put, Question, may_report};
+use nmvs_shard::{Answered, Shard};
 use nmvs_stream::{Sink, Source};
 use std::alloc::Global;
 use std::marker::Model;
 
-/// How far one session may go (own).
-pub(crate) const LIMITS: Limits = Limits {
-    lines: 10_000,
-    reads: 4_000_000,
-};
+#[cfg(test)]
+mod tests;
+
+/// 1 January 2026, 00:00:00 UTC, in seconds: the one moment of the program's rehearsal (own).
+const NEW_YEAR: i64 = 1_767_225_600;
+
+/// The program without any option: one rehearsal, each of its lines at 1 January 2026, 00:00:00 UTC (own).
+///
+/// # Errors
+///
+/// The fault of a session that neither QUIT nor the end of the input ended.
+pub fn serve_rehearsal<R: Source, W: Sink>(
+    alloc: Global,
+    source: &mut R,
+    sink: &mut W,
+) -> Result<(), Fault<'static>>
+    requires { IsFresh (R.told source.old) (W.taken sink.old) }
+    ensures { (last : Rehearsal) × (end : TheEnd) × Session Judges SESSION_LIMITS
+        (record { trail = []; moments = 1_767_225_600 ∷ [] }) (R.told source.old) (W.taken sink.old)
+        last (R.told source.new) (W.taken sink.new) end × (result ≡ outcome end) }
+{
+    let moment = Moment::new(NEW_YEAR).unwrap();
+    outcome_of(rehearse(alloc, source, sink, &[moment]))
+}
 
 /// One session over one empty shard, with eight users of its own (own).
 ///
@@ -30,10 +54,8 @@ pub fn rehearse<R: Source, W: Sink>(
     moments: &[Moment],
 ) -> End
     requires moments { 0 < length moments.now }
-    requires source_sound { (R.told source.old).failed ≡ false }
-    requires source_open { (R.told source.old).ended ≡ false }
-    requires sink_sound { (W.taken sink.old).failed ≡ false }
-    ensures { (last : Rehearsal) × Session Judges (record { lines = 10_000; reads = 4_000_000 })
+    requires fresh { IsFresh (R.told source.old) (W.taken sink.old) }
+    ensures { (last : Rehearsal) × Session Judges SESSION_LIMITS
         (record { trail = []; moments = moments.now }) (R.told source.old) (W.taken sink.old)
         last (R.told source.new) (W.taken sink.new) result }
 {
@@ -42,7 +64,7 @@ pub fn rehearse<R: Source, W: Sink>(
         shard: Shard::new(&alloc),
         moments,
     };
-    serve(alloc, source, sink, &mut desk, LIMITS)
+    serve(alloc, source, sink, &mut desk, SESSION_LIMITS)
 }
 
 /// Answers by the rules on one shard.
@@ -66,14 +88,11 @@ impl<'a> Model for RehearsalDesk<'a> {
 
 impl<'a> RehearsalDesk<'a> {
     ghost use Rattle.std.specs.Prelude.{◌≡◌};
-    ghost use Rattle.nmvs_protocol.specs.declared.ask.Ask.TheVariants.{Put, Report};
-    ghost use Rattle.nmvs_server.specs.Rehearsal.{now, later, Judges};
+    ghost use Rattle.nmvs_server.specs.Rehearsal.{TakesMoment, JudgesQuestion, JudgesReport};
 
     /// The moment of the next line, which counts as having reached the desk.
     fn next_moment(&mut self) -> Moment
-        ensures moment { result ≡ now self.old.moments }
-        ensures moments { self.new.moments ≡ later self.old.moments }
-        ensures trail { self.new.trail ≡ self.old.trail }
+        ensures { TakesMoment self.old result self.new }
     {
         match self.moments {
             [last] => *last,
@@ -85,42 +104,33 @@ impl<'a> RehearsalDesk<'a> {
         }
     }
 
-    /// Judges a question. The entries that an audit shows are gathered first, since a step cannot be taken back.
-    #[tactic(auto, using(crate::proofs::ShownAudits::not_audit))]
-    fn judge(&mut self, user: &Name, question: &Question) -> Answer<'a>
-        ensures { Judges self.old (Put user.now question.now) result self.new }
+    /// Judges a question that is put at the moment.
+    fn judge(&mut self, moment: Moment, user: &Name, question: &Question) -> Answer<'a>
+        ensures { JudgesQuestion moment self.old user.now question.now result self.new }
     {
-        let moment = self.next_moment();
         let Some(actor) = actor_of(user) else {
             return Answer::Turned(Turn::Nobody);
         };
-        match question {
-            Question::Audit(pack) => {
-                let Ok(entries) = self.shard.entries_of(pack) else {
-                    return Answer::Turned(Turn::Memory);
-                };
-                match self.shard.step(moment, user, &actor, question) {
-                    Ok(Reply::Shown(_)) => Answer::Audited(Entries::new(entries)),
-                    Ok(reply) => Answer::Replied(reply),
-                    Err(_) => Answer::Turned(Turn::Memory),
-                }
-            }
-            _ => match self.shard.step(moment, user, &actor, question) {
-                Ok(reply) => Answer::Replied(reply),
-                Err(_) => Answer::Turned(Turn::Memory),
-            },
-        }
+        let put = Put {
+            moment,
+            user: *user,
+            actor,
+            question: *question,
+        };
+        let Ok(Answered { reply, shown }) = self.shard.step(&put) else {
+            return Answer::Turned(Turn::Memory);
+        };
+        Answer::Replied(reply, Entries::new(shown))
     }
 
-    /// Reports on a product code to an authority. It takes the moment of its line and leaves no entry.
-    fn report(&mut self, user: &Name, code: &ProductCode) -> Answer<'a>
-        ensures { Judges self.old (Report user.now code.now) result self.new }
+    /// Reports on a product code to those who may have it. It leaves no entry.
+    fn report(&self, user: &Name, code: &ProductCode) -> Answer<'a>
+        ensures { JudgesReport self.now.trail user.now code.now result }
     {
-        self.next_moment();
         let Some(actor) = actor_of(user) else {
             return Answer::Turned(Turn::Nobody);
         };
-        if actor.role != Role::Authority {
+        if !may_report(actor.role) {
             return Answer::Turned(Turn::Role);
         }
         match report(*self.alloc, &self.shard, code) {
@@ -136,10 +146,10 @@ impl<'a> Desk<'a> for RehearsalDesk<'a> {
     ghost takes = { Judges };
 
     fn take(&mut self, ask: &Ask) -> Answer<'a> {
+        let moment = self.next_moment();
         match ask {
-            Ask::Put(user, question) => self.judge(user, question),
+            Ask::Question(user, question) => self.judge(moment, user, question),
             Ask::Report(user, code) => self.report(user, code),
-            Ask::Quit => Answer::Bye,
         }
     }
 }

@@ -1,4 +1,4 @@
 pub mod Source
 pub mod Sink
 pub mod Device
-pub mod Put
+pub mod Delivery

@@ -1,6 +1,6 @@
-//! Texts put to sinks.
+//! Texts delivered to sinks.
 ghost use Rattle.std.specs.Prelude.{◌≡◌, OnOk, OnErr};
-ghost use Rattle.nmvs_stream.specs.Put.{Puts, PutsPart};
+ghost use Rattle.nmvs_stream.specs.Delivery.{Delivers, DeliversPart};
 
 use crate::failed::Failed;
 use crate::sink::Sink;
@@ -10,9 +10,9 @@ use crate::sink::Sink;
 /// # Errors
 ///
 /// A write or the flush failed. Some of the text may have been taken, from the front.
-pub fn put<W: Sink>(sink: &mut W, text: &[u8]) -> Result<(), Failed>
-    ensures ok { OnOk result (Puts (W.taken sink.old) (W.taken sink.new) text.now) }
-    ensures err { OnErr result (PutsPart (W.taken sink.old) (W.taken sink.new) text.now) }
+pub fn deliver<W: Sink>(sink: &mut W, text: &[u8]) -> Result<(), Failed>
+    ensures ok { OnOk result (Delivers (W.taken sink.old) (W.taken sink.new) text.now) }
+    ensures err { OnErr result (DeliversPart (W.taken sink.old) (W.taken sink.new) text.now) }
 {
     let mut rest = text;
     while !rest.is_empty() {

@@ -10,7 +10,7 @@ mod tape;
 #[cfg(test)]
 mod tests;
 
-pub use delivery::put;
+pub use delivery::deliver;
 pub use device::Device;
 pub use failed::Failed;
 pub use sink::Sink;

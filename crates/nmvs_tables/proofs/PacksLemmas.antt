@@ -33,10 +33,12 @@ last_arith : (b : Bool) (n s s' m : ℕ) → m ≡ n + 1 → s' ≡ cond (not b)
 last_arith true n s s' m e f = omega arith
 last_arith false n s s' m e f = omega arith
 
+-- the last entry about a pack, after one more
 pub last_of-push : (t : List Entry) (e : Entry) (p : Pack) → last_of (t ++ e ∷ []) p ≡ cond (is_about p e) (length t + 1) (last_of t p)
 last_of-push t e p =
     last_arith (is_about p e) (length t) (suffix_len (λ x. not (is_about p x)) t) _ _ (length-append t (e ∷ [])) (suffix_len-push (λ x. not (is_about p x)) t e)
 
+-- it stands in the trail
 pub last_of-le : (t : List Entry) (p : Pack) → last_of t p ≤ length t
 last_of-le t p = omega arith
 

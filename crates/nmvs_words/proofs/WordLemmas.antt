@@ -76,11 +76,13 @@ own_named-of_word own.Sampled = refl
 own_named-of_word own.Destroyed = refl
 own_named-of_word own.Stolen = refl
 
+-- the word of a lock names it
 pub lock_named-of_word : (x : BatchLock) → lock_named (lock_word x) ≡ Some x
 lock_named-of_word lock.Free = refl
 lock_named-of_word lock.Recalled = refl
 lock_named-of_word lock.Withdrawn = refl
 
+-- so does that of where a pack may go
 pub onward_named-of_word : (x : Onward) → onward_named (onward_word x) ≡ Some x
 onward_named-of_word onward.Stock = refl
 onward_named-of_word onward.Supply = refl
@@ -89,6 +91,7 @@ onward_named-of_word onward.Disposal = refl
 onward_named-of_word onward.Authorities = refl
 onward_named-of_word onward.Nowhere = refl
 
+-- of a cause
 pub cause_named-of_word : (x : Cause) → cause_named (cause_word x) ≡ Some x
 cause_named-of_word cause.Unknown = refl
 cause_named-of_word cause.Recalled = refl
@@ -100,10 +103,12 @@ cause_named-of_word cause.Sampled = refl
 cause_named-of_word cause.Destroyed = refl
 cause_named-of_word cause.Stolen = refl
 
+-- of whether a pack has expired
 pub validity_named-of_word : (x : Bool) → validity_named (validity_word x) ≡ Some x
 validity_named-of_word true = refl
 validity_named-of_word false = refl
 
+-- and of whether an alert is flagged
 pub flag_named-of_word : (x : Bool) → flag_named (flag_word x) ≡ Some x
 flag_named-of_word true = refl
 flag_named-of_word false = refl

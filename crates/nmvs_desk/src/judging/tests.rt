@@ -5,9 +5,9 @@ use super::{claims_over, judge};
 use crate::locked::Locked;
 use crate::opening::{deal_all, empty_shards};
 use crate::tally::Books;
-use crate::{EntryLedger, Receipt, ReceiptLedger, SettleFault};
-use nmvs_identifier::{Batch, Expiry, Moment, Name, Pack, ProductCode, Serial};
-use nmvs_rules::{Actor, Entry, Question, Role};
+use crate::tests::market::{P, put, upload, verify};
+use crate::{EntryLedger, MOST_SHARDS, PARTS, Receipt, ReceiptLedger, SettleFault};
+use nmvs_rules::Entry;
 use nmvs_shard::Shard;
 use std::alloc::{Allocator, Global};
 use std::marker::Brand;
@@ -15,58 +15,26 @@ use std::process::Abort;
 use std::sync::ledger::Blank;
 use std::test::*;
 
-fn name(rt: &impl Abort, text: &str) -> Name {
-    Name::read(text).expect(rt, "a name")
-}
-
-fn actor(rt: &impl Abort, role: Role, authorisation: &str, premises: &str) -> Actor {
-    Actor {
-        role,
-        authorisation: name(rt, authorisation),
-        premises: name(rt, premises),
-    }
-}
-
-fn pack(rt: &impl Abort) -> Pack {
-    Pack {
-        code: ProductCode::read("09506000134352").expect(rt, "a code"),
-        serial: Serial::read("SN1").expect(rt, "a serial"),
-    }
-}
-
-fn upload(rt: &impl Abort) -> Question {
-    Question::Upload {
-        pack: pack(rt),
-        batch: Batch::read("B1").expect(rt, "a batch"),
-        expiry: Expiry::read("280200").expect(rt, "a date"),
-    }
-}
-
-fn verification(rt: &impl Abort) -> Question {
-    Question::Verify(pack(rt))
-}
-
 /// The trail of an upload and a verification of one pack.
 fn upload_and_verification<'a>(rt: &impl Abort, alloc: &'a Global) -> Shard<&'a Global> {
-    let moment = Moment::new(1_767_225_600).expect(rt, "a moment");
-    let holder = actor(rt, Role::Holder, "MAH-1", "HQ");
-    let pharmacy = actor(rt, Role::Pharmacy, "PH-1", "P1");
     let mut shard = Shard::new(alloc);
-    let uploaded = shard.step(moment, &name(rt, "mah1"), &holder, &upload(rt));
-    uploaded.expect(rt, "memory");
-    let verified = shard.step(moment, &name(rt, "ph1"), &pharmacy, &verification(rt));
-    verified.expect(rt, "memory");
+    for put in [
+        put(rt, "mah1", upload(rt, P)),
+        put(rt, "ph1", verify(rt, P)),
+    ] {
+        shard.step(&put).expect(rt, "memory");
+    }
     shard
 }
 
 /// Judges the receipts of clerk 1, and then those of clerk 2.
-fn judge_both<'a, B: Allocator, S: EntryLedger>(
+fn judge_both<'a, S: EntryLedger, B: Allocator>(
     alloc: &'a B,
-    locked: &Vec<Locked<'a, B, S>, &'a B>,
+    locked: &Vec<Locked<'a, S, B>, &'a B>,
     first: &[Receipt],
     second: &[Receipt],
 ) -> Result<(), SettleFault>
-    requires { length locked.now.items ≤ 8 }
+    requires { length locked.now.items ≤ MOST_SHARDS }
 {
     let mut claims = claims_over(alloc, locked)?;
     judge(locked, 1, first, &mut claims)?;
@@ -84,12 +52,12 @@ fn receipt(place: usize, entry: &Entry) -> Receipt {
 /// What is told of the receipts of clerk 1 and then those of clerk 2 is this.
 fn is_judged<'a, S: EntryLedger>(
     rt: &impl Abort,
-    locked: &Vec<Locked<'a, Global, S>, &'a Global>,
+    locked: &Vec<Locked<'a, S, Global>, &'a Global>,
     first: &[Receipt],
     second: &[Receipt],
     told: Result<(), SettleFault>,
 )
-    requires { length locked.now.items ≤ 8 }
+    requires { length locked.now.items ≤ MOST_SHARDS }
 {
     let alloc = *locked.allocator();
     assert!(rt; judge_both(alloc, locked, first, second) == told);
@@ -110,11 +78,11 @@ fn stranger(clerk: usize, receipt: usize) -> Result<(), SettleFault> {
 /// Judges lists of receipts over a shard with two entries.
 fn judge_lists<'a, S: EntryLedger>(
     rt: &impl Abort,
-    locked: &Vec<Locked<'a, Global, S>, &'a Global>,
+    locked: &Vec<Locked<'a, S, Global>, &'a Global>,
     x: &Entry,
     y: &Entry,
 )
-    requires { length locked.now.items ≤ 8 }
+    requires { length locked.now.items ≤ MOST_SHARDS }
 {
     let first = [receipt(0, x)];
     let second = [receipt(1, y)];
@@ -135,8 +103,8 @@ fn judge_by_hand<S: EntryLedger, C: ReceiptLedger>(
     entries: Blank,
     receipts: Blank,
 )
-    requires entries { (entries.name ≡ S.name) × (entries.parts ≡ S.parts) × (S.parts ≡ 9) × (S.shards ≡ 1) }
-    requires receipts { (receipts.name ≡ C.name) × (receipts.parts ≡ C.parts) × (C.parts ≡ 9) }
+    requires entries { (entries.name ≡ S.name) × (entries.parts ≡ S.parts) × (S.parts ≡ PARTS) × (S.shards ≡ 1) }
+    requires receipts { (receipts.name ≡ C.name) × (receipts.parts ≡ C.parts) × (C.parts ≡ PARTS) }
 {
     let (entry_book, mut rest) = entries.open::<S>();
     let (receipt_book, mut importer) = receipts.open::<C>();
@@ -155,5 +123,5 @@ fn judge_by_hand<S: EntryLedger, C: ReceiptLedger>(
 
 #[test]
 fn receipts_made_by_hand_are_judged(rt: HostRuntime) {
-    judge_by_hand::<Brand, Brand>(&rt, &rt.alloc(), Blank::new(9), Blank::new(9));
+    judge_by_hand::<Brand, Brand>(&rt, &rt.alloc(), Blank::new(PARTS), Blank::new(PARTS));
 }

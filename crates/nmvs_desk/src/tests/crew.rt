@@ -1,12 +1,11 @@
-//! How clerks ask in threads of their own, and are settled.
+//! How a test opens a repository, lets clerks work in it in threads of their own, and settles it.
 ghost use Rattle.std.specs.Prelude.{◌≡◌, ◌≤◌, length, vec_len};
 ghost use Rattle.nmvs_directory.specs.Directory.{directory_book};
 
-use super::market::new_year;
-use super::stage::{Stage, enrol_all, opening_of};
+use super::market::{actor, name, new_year, put, upload};
 use crate::{
-    AskFault, Clerk, EntryLedger, NoGate, Reader, Receipt, ReceiptLedger, Repository, Settled,
-    settle,
+    AskFault, Clerk, EntryLedger, MOST_CLERKS, PARTS, Reader, Receipt, ReceiptLedger, Repository,
+    Settled, settle,
 };
 use nmvs_directory::{Directory, Naming, Notice, Registrar, Window};
 use nmvs_identifier::{Moment, Name};
@@ -21,11 +20,43 @@ use std::sync::{Mutex, Wait};
 use std::thread;
 use std::thread::Threads;
 
+/// How the repository of a test is opened.
+#[derive(Drop)]
+pub struct Stage<'s> {
+    pub shards: usize,
+    pub clerks: usize,
+    pub users: &'s [&'s str],
+    /// The product codes of the opening, which has an upload of SN1 of each.
+    pub opening: &'s [&'s str],
+}
+
+pub fn opening_of<'a, B: Allocator>(rt: &impl Abort, alloc: &'a B, codes: &[&str]) -> Shard<&'a B> {
+    let mut opening = Shard::new(alloc);
+    for digits in codes {
+        let reply = opening.step(&put(rt, "mah1", upload(rt, digits)));
+        reply.expect(rt, "memory");
+    }
+    opening
+}
+
+/// Enrols the users, and publishes them.
+pub fn enrol_all<'a, B: Allocator, J: Naming, R: Wait + Abort>(
+    rt: &R,
+    registrar: &mut Registrar<J, &R, &'a B>,
+    users: &[&str],
+) {
+    for user in users {
+        let enrolled = registrar.changes.enrol(name(rt, user), actor(rt, user));
+        enrolled.expect(rt, "memory");
+    }
+    registrar.publish().expect(rt, "memory");
+}
+
 /// What those who work in a repository share.
 #[derive(Drop)]
 pub struct Place<'s, 'a, R, J: Naming, S: EntryLedger, C: ReceiptLedger> {
     pub rt: &'s R,
-    pub repository: &'s Repository<'a, Global, S, C>,
+    pub repository: &'s Repository<'a, S, C>,
     pub moment: Moment,
     /// What the registrar published last.
     pub latest: &'s Mutex<Option<Notice<J>>>,
@@ -34,10 +65,10 @@ pub struct Place<'s, 'a, R, J: Naming, S: EntryLedger, C: ReceiptLedger> {
 /// What clerks do, each in a thread of its own, and the registrar beside them.
 pub trait Crew {
     /// What the clerk of this number does, counted from 0.
-    fn work<'a, J: Naming, S: EntryLedger, C: ReceiptLedger, R: Wait>(
+    fn work<'a, J: Naming, S: EntryLedger, C: ReceiptLedger, R: Wait + Abort>(
         &self,
         place: &Place<'_, 'a, R, J, S, C>,
-        clerk: &mut Clerk<'a, Global, J, C>,
+        clerk: &mut Clerk<'a, J, C>,
         number: usize,
     ) -> Result<(), AskFault>;
 
@@ -50,7 +81,7 @@ pub trait Crew {
     }
 }
 
-/// A question that is put so many times.
+/// A question that is put `times` times.
 #[derive(Clone, Copy)]
 pub struct Errand {
     pub user: Name,
@@ -61,14 +92,13 @@ pub struct Errand {
 /// Puts the questions of an errand.
 fn run<'a, J: Naming, S: EntryLedger, C: ReceiptLedger, R: Wait>(
     place: &Place<'_, 'a, R, J, S, C>,
-    clerk: &mut Clerk<'a, Global, J, C>,
+    clerk: &mut Clerk<'a, J, C>,
     errand: &Errand,
 ) -> Result<(), AskFault> {
     for _ in 0..errand.times {
         clerk.ask(
             place.rt,
             place.repository,
-            &mut NoGate,
             place.moment,
             &errand.user,
             &errand.question,
@@ -80,7 +110,7 @@ fn run<'a, J: Naming, S: EntryLedger, C: ReceiptLedger, R: Wait>(
 /// Puts the questions of all errands, in order.
 fn run_all<'a, J: Naming, S: EntryLedger, C: ReceiptLedger, R: Wait>(
     place: &Place<'_, 'a, R, J, S, C>,
-    clerk: &mut Clerk<'a, Global, J, C>,
+    clerk: &mut Clerk<'a, J, C>,
     errands: &[Errand],
 ) -> Result<(), AskFault> {
     for errand in errands {
@@ -107,10 +137,10 @@ pub struct Errands<'s> {
 }
 
 impl Crew for Errands<'_> {
-    fn work<'a, J: Naming, S: EntryLedger, C: ReceiptLedger, R: Wait>(
+    fn work<'a, J: Naming, S: EntryLedger, C: ReceiptLedger, R: Wait + Abort>(
         &self,
         place: &Place<'_, 'a, R, J, S, C>,
-        clerk: &mut Clerk<'a, Global, J, C>,
+        clerk: &mut Clerk<'a, J, C>,
         number: usize,
     ) -> Result<(), AskFault> {
         match self.of_clerks.get(number) {
@@ -121,12 +151,12 @@ impl Crew for Errands<'_> {
 }
 
 /// Works, and gives the clerk back.
-fn worked<'a, W: Crew, J: Naming, S: EntryLedger, C: ReceiptLedger, R: Wait>(
+fn work_with<'a, W: Crew, J: Naming, S: EntryLedger, C: ReceiptLedger, R: Wait + Abort>(
     crew: &W,
     place: &Place<'_, 'a, R, J, S, C>,
-    mut clerk: Clerk<'a, Global, J, C>,
+    mut clerk: Clerk<'a, J, C>,
     number: usize,
-) -> (Clerk<'a, Global, J, C>, Result<(), AskFault>) {
+) -> (Clerk<'a, J, C>, Result<(), AskFault>) {
     let outcome = crew.work(place, &mut clerk, number);
     (clerk, outcome)
 }
@@ -144,8 +174,8 @@ fn in_threads<
     crew: &W,
     place: &Place<'_, 'a, R, J, S, C>,
     registrar: &mut Registrar<J, &R, &'a Global>,
-    clerks: Vec<Clerk<'a, Global, J, C>, &'a Global>,
-) -> Vec<Clerk<'a, Global, J, C>, &'a Global> {
+    clerks: Vec<Clerk<'a, J, C>, &'a Global>,
+) -> Vec<Clerk<'a, J, C>, &'a Global> {
     let rt = place.rt;
     thread::scope(thread::scope_env(), rt, |scope| {
         let mut workers = Vec::new(*alloc);
@@ -153,7 +183,7 @@ fn in_threads<
         let mut number = 0usize;
         for clerk in clerks {
             let its = number;
-            match scope.spawn(move || worked(crew, place, clerk, its)) {
+            match scope.spawn(move || work_with(crew, place, clerk, its)) {
                 Ok(worker) => workers.push(worker).expect(rt, "memory"),
                 Err(_) => panic!(rt; "no thread"),
             }
@@ -193,8 +223,8 @@ impl<'a, 'r, B: Allocator> Reader<Shard<&'a B>> for Standing<'r> {
 /// Each receipt of the clerk has its entry at its place.
 fn stand<'a, J: Naming, S: EntryLedger, C: ReceiptLedger, R: Wait + Abort>(
     rt: &R,
-    repository: &Repository<'a, Global, S, C>,
-    clerk: &Clerk<'a, Global, J, C>,
+    repository: &Repository<'a, S, C>,
+    clerk: &Clerk<'a, J, C>,
 ) {
     for shard in 0..repository.shards() {
         let reader = Standing {
@@ -205,14 +235,14 @@ fn stand<'a, J: Naming, S: EntryLedger, C: ReceiptLedger, R: Wait + Abort>(
     }
 }
 
-/// Lets the crew work in a repository of so many shards with these users and this opening, and settles it.
-pub fn settled<'a, W: Crew + Sync, R: Threads + Wait + Abort + Sync>(
+/// Lets the crew work in the repository of the stage, and settles it.
+pub fn play<'a, W: Crew + Sync, R: Threads + Wait + Abort + Sync>(
     rt: &R,
     alloc: &'a Global,
     stage: &Stage,
     crew: &W,
-) -> Settled<'a, Global> {
-    assert!(rt; 1 <= stage.clerks && stage.clerks <= 8);
+) -> Settled<'a> {
+    assert!(rt; 1 <= stage.clerks && stage.clerks <= MOST_CLERKS);
     in_directory::<Brand, _, _>(rt, alloc, stage, crew, Directory::new())
 }
 
@@ -222,30 +252,30 @@ fn in_directory<'a, J: Naming + Send + Sync, W: Crew + Sync, R: Threads + Wait +
     stage: &Stage,
     crew: &W,
     directory: Directory,
-) -> Settled<'a, Global>
+) -> Settled<'a>
     requires name { directory_book directory ≡ J.book }
-    requires windows { (1 ≤ stage.now.clerks) × (stage.now.clerks ≤ 8) }
+    requires windows { (1 ≤ stage.now.clerks) × (stage.now.clerks ≤ MOST_CLERKS) }
 {
     let opening = opening_of(rt, alloc, stage.opening);
     let made = directory.open::<J, _, _>(rt, alloc, stage.clerks);
     let (mut registrar, windows) = made.expect(rt, "a directory");
     enrol_all(rt, &mut registrar, stage.users);
-    let settled = opened(rt, stage.shards, crew, &mut registrar, windows, &opening);
+    let settled = open_and_play(rt, stage.shards, crew, &mut registrar, windows, &opening);
     registrar.close();
     settled
 }
 
-fn opened<'a, J: Naming + Send + Sync, W: Crew + Sync, R: Threads + Wait + Abort + Sync>(
+fn open_and_play<'a, J: Naming + Send + Sync, W: Crew + Sync, R: Threads + Wait + Abort + Sync>(
     rt: &R,
     shards: usize,
     crew: &W,
     registrar: &mut Registrar<J, &R, &'a Global>,
     mut windows: Vec<Window<J, &'a Global>, &'a Global>,
     opening: &Shard<&'a Global>,
-) -> Settled<'a, Global>
-    requires few { vec_len windows ≤ 8 }
+) -> Settled<'a>
+    requires few { vec_len windows ≤ MOST_CLERKS }
 {
-    let (entries, receipts) = (Blank::new(9), Blank::new(9));
+    let (entries, receipts) = (Blank::new(PARTS), Blank::new(PARTS));
     in_repository::<J, Brand, Brand, _, _>(
         rt,
         shards,
@@ -274,14 +304,14 @@ fn in_repository<
     opening: &Shard<&'a Global>,
     entries: Blank,
     receipts: Blank,
-) -> Settled<'a, Global>
-    requires entries { (entries.name ≡ S.name) × (entries.parts ≡ S.parts) × (S.parts ≡ 9) }
-    requires receipts { (receipts.name ≡ C.name) × (receipts.parts ≡ C.parts) × (C.parts ≡ 9) }
+) -> Settled<'a>
+    requires entries { (entries.name ≡ S.name) × (entries.parts ≡ S.parts) × (S.parts ≡ PARTS) }
+    requires receipts { (receipts.name ≡ C.name) × (receipts.parts ≡ C.parts) × (C.parts ≡ PARTS) }
     requires named { (S.shards ≡ shards) × (C.clerks ≡ vec_len windows.old) × (C.opening ≡ length opening.now) }
-    requires few { vec_len windows.old ≤ 8 }
+    requires few { vec_len windows.old ≤ MOST_CLERKS }
 {
     let alloc = *windows.allocator();
-    let opened = Repository::<_, S, C>::open(alloc, entries, receipts, shards, windows, opening);
+    let opened = Repository::<S, C, _>::open(alloc, entries, receipts, shards, windows, opening);
     let (repository, clerks) = opened.expect(rt, "a repository");
     let latest = Mutex::new(None);
     let place = Place {

@@ -2,17 +2,16 @@
 ghost use Rattle.std.specs.Prelude.{◌≡◌, ◌≤◌, length, vec_len};
 ghost use Rattle.nmvs_directory.specs.Directory.{directory_book};
 
-use super::asking::{Copied, Told};
-use super::market::{P, Q, authentic, name, new_year, pack, upload, verify};
-use super::stage::{enrol_all, opening_of};
+use super::asking::{Copied, Line};
+use super::crew::{enrol_all, opening_of};
+use super::market::{P, Q, audit, authentic, new_year, upload, verify};
 use crate::{
-    AskFault, Clerk, EntryLedger, OpenFault, Receipt, ReceiptLedger, Repository, SettleFault,
-    Settled, Unsettled, settle,
+    AskFault, Clerk, EntryLedger, MOST_CLERKS, OpenFault, PARTS, ReceiptLedger, Repository,
+    SettleFault, Settled, Unsettled, settle,
 };
 use linked_list_allocator::LocalHeap;
 use nmvs_directory::{Directory, Naming, Window};
-use nmvs_identifier::Name;
-use nmvs_rules::{Entry, Question, Reply};
+use nmvs_rules::{Entry, Reply};
 use nmvs_shard::Shard;
 use std::alloc::Global;
 use std::marker::Brand;
@@ -49,60 +48,11 @@ impl FullHeap<'_> {
     }
 }
 
-/// Who asks what, and what the reply is.
-#[derive(Clone, Copy)]
-struct Asked {
-    user: Name,
-    question: Question,
-    reply: Reply,
-}
-
-/// What is put to the repository, one after another.
-fn all_asked(rt: &impl Abort) -> [Asked; 3] {
-    let (holder, pharmacy, authority) = (name(rt, "mah1"), name(rt, "ph1"), name(rt, "au1"));
-    [
-        Asked {
-            user: holder,
-            question: upload(rt, P),
-            reply: Reply::Uploaded,
-        },
-        Asked {
-            user: pharmacy,
-            question: verify(rt, P),
-            reply: authentic(rt),
-        },
-        Asked {
-            user: authority,
-            question: Question::Audit(pack(rt, P)),
-            reply: Reply::Shown(2),
-        },
-    ]
-}
-
-/// Puts the question once; an audit shows as many entries as its reply says.
-fn put<'a, J: Naming, S: EntryLedger, C: ReceiptLedger, R: Wait + Abort>(
-    rt: &R,
-    repository: &Repository<'a, LocalHeap, S, C>,
-    clerk: &mut Clerk<'a, LocalHeap, J, C>,
-    gate: &mut Told,
-    asked: &Asked,
-) -> Result<Receipt, AskFault> {
-    let moment = new_year(rt);
-    match &asked.question {
-        Question::Audit(pack) => {
-            let (receipt, shown) = clerk.audit(rt, repository, gate, moment, &asked.user, pack)?;
-            assert_eq!(rt; receipt.entry.reply, Reply::Shown(shown.len() as u64));
-            Ok(receipt)
-        }
-        question => clerk.ask(rt, repository, gate, moment, &asked.user, question),
-    }
-}
-
 /// The trail of shard 0.
 fn first_trail<S: EntryLedger, C: ReceiptLedger, R: Wait + Abort>(
     rt: &R,
     alloc: Global,
-    repository: &Repository<'_, LocalHeap, S, C>,
+    repository: &Repository<'_, S, C, LocalHeap>,
 ) -> Vec<Entry> {
     assert!(rt; 0 < repository.shards());
     repository
@@ -110,38 +60,24 @@ fn first_trail<S: EntryLedger, C: ReceiptLedger, R: Wait + Abort>(
         .expect(rt, "memory")
 }
 
-/// Puts the question once. The gate is told once where it is answered, and never where it is refused.
-fn put_at_a_gate<'a, J: Naming, S: EntryLedger, C: ReceiptLedger, R: Wait + Abort>(
-    rt: &R,
-    repository: &Repository<'a, LocalHeap, S, C>,
-    clerk: &mut Clerk<'a, LocalHeap, J, C>,
-    asked: &Asked,
-) -> Result<Receipt, AskFault> {
-    let mut gate = Told { times: 0 };
-    let answer = put(rt, repository, clerk, &mut gate, asked);
-    assert_eq!(rt; gate.times, answer.is_ok() as u64);
-    answer
-}
-
 /// Puts the question once. Where it is refused, it is for want of memory, and receipts and shard are as they were.
 fn is_answered<'a, J: Naming, S: EntryLedger, C: ReceiptLedger, R: Wait + Abort>(
     rt: &R,
     alloc: Global,
-    repository: &Repository<'a, LocalHeap, S, C>,
-    clerk: &mut Clerk<'a, LocalHeap, J, C>,
-    asked: &Asked,
+    repository: &Repository<'a, S, C, LocalHeap>,
+    clerk: &mut Clerk<'a, J, C, LocalHeap>,
+    line: &Line,
 ) -> bool {
     let receipts = clerk.receipts().len();
     let before = first_trail(rt, alloc, repository);
-    match put_at_a_gate(rt, repository, clerk, asked) {
-        Ok(receipt) => {
-            assert_eq!(rt; receipt.entry.reply, asked.reply);
-            assert_eq!(rt; (receipt.shard, receipt.place), (0, receipts));
+    match clerk.ask(rt, repository, new_year(rt), &line.user, &line.question) {
+        Ok(served) => {
+            assert_eq!(rt; served.receipt.entry.reply, line.reply);
+            assert_eq!(rt; (served.receipt.shard, served.receipt.place), (0, receipts));
             true
         }
         Err(fault) => {
             assert_eq!(rt; fault, AskFault::Memory);
-            assert_eq!(rt; clerk.receipts().len(), receipts);
             assert!(rt; first_trail(rt, alloc, repository) == before);
             false
         }
@@ -153,19 +89,19 @@ fn is_answered_at_last<'a, J: Naming, S: EntryLedger, C: ReceiptLedger, R: Wait 
     rt: &R,
     alloc: Global,
     full: &mut FullHeap,
-    repository: &Repository<'a, LocalHeap, S, C>,
-    clerk: &mut Clerk<'a, LocalHeap, J, C>,
-    asked: &Asked,
+    repository: &Repository<'a, S, C, LocalHeap>,
+    clerk: &mut Clerk<'a, J, C, LocalHeap>,
+    line: &Line,
 ) -> usize {
     full.fill(rt);
     for _turn in 0..10_000 {
-        if is_answered(rt, alloc, repository, clerk, asked) {
+        if is_answered(rt, alloc, repository, clerk, line) {
             break;
         }
         full.give_back(rt);
     }
     let last = clerk.receipts().last().expect(rt, "a receipt");
-    assert_eq!(rt; last.entry.reply, asked.reply);
+    assert_eq!(rt; last.entry.reply, line.reply);
     full.refused
 }
 
@@ -174,24 +110,26 @@ fn are_answered_at_last<'a, J: Naming, S: EntryLedger, C: ReceiptLedger, R: Wait
     rt: &R,
     alloc: Global,
     full: &mut FullHeap,
-    repository: &Repository<'a, LocalHeap, S, C>,
-    clerk: &mut Clerk<'a, LocalHeap, J, C>,
+    repository: &Repository<'a, S, C, LocalHeap>,
+    clerk: &mut Clerk<'a, J, C, LocalHeap>,
 ) {
-    let [uploaded, verified, audited] = all_asked(rt);
-    // the receipts, the trail, its links, and three tables
-    let refused = is_answered_at_last(rt, alloc, full, repository, clerk, &uploaded);
-    assert!(rt; refused >= 6);
-    is_answered_at_last(rt, alloc, full, repository, clerk, &verified);
-    // the list
-    let refused = is_answered_at_last(rt, alloc, full, repository, clerk, &audited);
-    assert!(rt; refused >= 1);
+    for (least, line) in [
+        // the receipts, the trail, its links, and three tables
+        (6, Line::new(rt, "mah1", upload(rt, P), Reply::Uploaded)),
+        (0, Line::new(rt, "ph1", verify(rt, P), authentic(rt))),
+        // the list of what is shown
+        (1, Line::new(rt, "au1", audit(rt, P), Reply::Shown(2))),
+    ] {
+        let refused = is_answered_at_last(rt, alloc, full, repository, clerk, &line);
+        assert!(rt; refused >= least);
+    }
 }
 
 /// Settles once more. Where that is refused, it is for want of memory.
 fn settled_again<'a, J: Naming, S: EntryLedger, C: ReceiptLedger>(
     rt: &impl Abort,
-    unsettled: Unsettled<'a, LocalHeap, J, S, C>,
-) -> Result<Settled<'a, LocalHeap>, Unsettled<'a, LocalHeap, J, S, C>> {
+    unsettled: Unsettled<'a, J, S, C, LocalHeap>,
+) -> Result<Settled<'a, LocalHeap>, Unsettled<'a, J, S, C, LocalHeap>> {
     let Unsettled { repository, clerks } = unsettled;
     let heap = *clerks.allocator();
     match settle(heap, repository, clerks) {
@@ -207,7 +145,7 @@ fn settled_again<'a, J: Naming, S: EntryLedger, C: ReceiptLedger>(
 fn settled_at_last<'a, J: Naming, S: EntryLedger, C: ReceiptLedger>(
     rt: &impl Abort,
     full: &mut FullHeap,
-    mut unsettled: Unsettled<'a, LocalHeap, J, S, C>,
+    mut unsettled: Unsettled<'a, J, S, C, LocalHeap>,
 ) -> Settled<'a, LocalHeap> {
     full.fill(rt);
     for _turn in 0..10_000 {
@@ -232,7 +170,7 @@ fn have_lengths(rt: &impl Abort, settled: &Settled<'_, LocalHeap>, lengths: [usi
 fn is_settled<'a, J: Naming, S: EntryLedger, C: ReceiptLedger>(
     rt: &impl Abort,
     full: &mut FullHeap,
-    unsettled: Unsettled<'a, LocalHeap, J, S, C>,
+    unsettled: Unsettled<'a, J, S, C, LocalHeap>,
 ) {
     let settled = settled_at_last(rt, full, unsettled);
     // what is handed out, and a list of claims and one of owners a shard
@@ -250,14 +188,14 @@ fn is_opened<'a, J: Naming, S: EntryLedger, C: ReceiptLedger, R: Wait + Abort>(
     entries: Blank,
     receipts: Blank,
 ) -> bool
-    requires entries { (entries.name ≡ S.name) × (entries.parts ≡ S.parts) × (S.parts ≡ 9) }
-    requires receipts { (receipts.name ≡ C.name) × (receipts.parts ≡ C.parts) × (C.parts ≡ 9) }
+    requires entries { (entries.name ≡ S.name) × (entries.parts ≡ S.parts) × (S.parts ≡ PARTS) }
+    requires receipts { (receipts.name ≡ C.name) × (receipts.parts ≡ C.parts) × (C.parts ≡ PARTS) }
     requires named { (S.shards ≡ 2) × (C.clerks ≡ vec_len windows.old) × (C.opening ≡ length opening.now) }
-    requires few { vec_len windows.old ≤ 8 }
-    ensures few { vec_len windows.new ≤ 8 }
+    requires few { vec_len windows.old ≤ MOST_CLERKS }
+    ensures few { vec_len windows.new ≤ MOST_CLERKS }
 {
     let heap = *windows.allocator();
-    match Repository::<_, S, C>::open(heap, entries, receipts, 2, windows, opening) {
+    match Repository::<S, C, _>::open(heap, entries, receipts, 2, windows, opening) {
         Ok((repository, mut clerks)) => {
             // the clerks, the shards, the receipts of the opening, the locks
             assert!(rt; full.refused >= 4);
@@ -283,10 +221,10 @@ fn is_opened_anew<'a, J: Naming, R: Wait + Abort>(
     windows: &mut Vec<Window<J, &'a LocalHeap>, &'a LocalHeap>,
     opening: &Shard<&'a LocalHeap>,
 ) -> bool
-    requires few { vec_len windows.old ≤ 8 }
-    ensures few { vec_len windows.new ≤ 8 }
+    requires few { vec_len windows.old ≤ MOST_CLERKS }
+    ensures few { vec_len windows.new ≤ MOST_CLERKS }
 {
-    let (entries, receipts) = (Blank::new(9), Blank::new(9));
+    let (entries, receipts) = (Blank::new(PARTS), Blank::new(PARTS));
     is_opened::<J, Brand, Brand, _>(rt, alloc, full, windows, opening, entries, receipts)
 }
 

@@ -1,9 +1,9 @@
 //! What the settlement of an opening hands out.
 ghost use Rattle.std.specs.Prelude.{◌≡◌, length, vec_len};
 
+use super::crew::opening_of;
 use super::market::{P, Q};
-use super::stage::opening_of;
-use crate::{EntryLedger, Owner, ReceiptLedger, Repository, Settled, settle};
+use crate::{EntryLedger, Owner, PARTS, ReceiptLedger, Repository, Settled, settle};
 use nmvs_directory::Window;
 use nmvs_shard::Shard;
 use std::alloc::Global;
@@ -13,20 +13,20 @@ use std::rt::HostRuntime;
 use std::sync::ledger::Blank;
 
 /// Settles a repository of two shards, in which nobody asked.
-fn settled<'a, S: EntryLedger, C: ReceiptLedger>(
+fn settle_unasked<'a, S: EntryLedger, C: ReceiptLedger>(
     rt: &impl Abort,
     alloc: &'a Global,
     entries: Blank,
     receipts: Blank,
     windows: &mut Vec<Window<Brand, &'a Global>, &'a Global>,
     opening: &Shard<&'a Global>,
-) -> Settled<'a, Global>
-    requires entries { (entries.name ≡ S.name) × (entries.parts ≡ S.parts) × (S.parts ≡ 9) }
-    requires receipts { (receipts.name ≡ C.name) × (receipts.parts ≡ C.parts) × (C.parts ≡ 9) }
+) -> Settled<'a>
+    requires entries { (entries.name ≡ S.name) × (entries.parts ≡ S.parts) × (S.parts ≡ PARTS) }
+    requires receipts { (receipts.name ≡ C.name) × (receipts.parts ≡ C.parts) × (C.parts ≡ PARTS) }
     requires named { (S.shards ≡ 2) × (C.clerks ≡ 0) × (C.opening ≡ length opening.now) }
     requires nobody { vec_len windows.old ≡ 0 }
 {
-    let opened = Repository::<_, S, C>::open(alloc, entries, receipts, 2, windows, opening);
+    let opened = Repository::<S, C, _>::open(alloc, entries, receipts, 2, windows, opening);
     let (repository, clerks) = opened.expect(rt, "a repository");
     match settle(alloc, repository, clerks) {
         Ok(settled) => settled,
@@ -34,15 +34,15 @@ fn settled<'a, S: EntryLedger, C: ReceiptLedger>(
     }
 }
 
-fn settled_opening<'a>(rt: &impl Abort, alloc: &'a Global, codes: &[&str]) -> Settled<'a, Global> {
+fn settle_opening<'a>(rt: &impl Abort, alloc: &'a Global, codes: &[&str]) -> Settled<'a> {
     let opening = opening_of(rt, alloc, codes);
     let mut windows = Vec::new(alloc);
-    let (entries, receipts) = (Blank::new(9), Blank::new(9));
-    settled::<Brand, Brand>(rt, alloc, entries, receipts, &mut windows, &opening)
+    let (entries, receipts) = (Blank::new(PARTS), Blank::new(PARTS));
+    settle_unasked::<Brand, Brand>(rt, alloc, entries, receipts, &mut windows, &opening)
 }
 
 /// The owners of both shards' entries are these receipts of the importer.
-fn is_handed_out(rt: &impl Abort, settled: &Settled<'_, Global>, owners: [&[Owner]; 2]) {
+fn is_handed_out(rt: &impl Abort, settled: &Settled<'_>, owners: [&[Owner]; 2]) {
     assert_eq!(rt;
         (
             settled.shards.len(),
@@ -61,14 +61,14 @@ fn is_handed_out(rt: &impl Abort, settled: &Settled<'_, Global>, owners: [&[Owne
 #[test]
 fn without_an_entry_the_trails_are_empty(rt: HostRuntime) {
     let alloc = rt.alloc();
-    let settled = settled_opening(&rt, &alloc, &[]);
+    let settled = settle_opening(&rt, &alloc, &[]);
     is_handed_out(&rt, &settled, [&[], &[]]);
 }
 
 #[test]
 fn an_opening_belongs_to_the_importer(rt: HostRuntime) {
     let alloc = rt.alloc();
-    let settled = settled_opening(&rt, &alloc, &[Q, P]);
+    let settled = settle_opening(&rt, &alloc, &[Q, P]);
     let first = Owner {
         clerk: 0,
         receipt: 0,

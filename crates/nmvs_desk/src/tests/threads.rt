@@ -1,20 +1,20 @@
 //! What clerks in threads are answered, and settled to.
-use super::crew::{Crew, Errand, Errands, Place, is_raised, settled};
+use super::crew::{Crew, Errand, Errands, Place, Stage, is_raised, play};
 use super::market::{P, Q, USERS, authentic, decommission, name, pack, upload, verify};
-use super::stage::Stage;
-use crate::{AskFault, Clerk, EntryLedger, Gate, NoGate, ReceiptLedger, Settled};
+use crate::{AskFault, Clerk, EntryLedger, Reader, ReceiptLedger, Settled};
 use nmvs_directory::{Naming, Registrar};
 use nmvs_identifier::Name;
 use nmvs_rules::{Cause, Question, Reason, Reply};
-use std::alloc::{AllocError, Global};
+use nmvs_shard::Shard;
+use std::alloc::{AllocError, Allocator, Global};
 use std::process::Abort;
 use std::rt::HostRuntime;
 use std::sync::Wait;
 use std::sync::atomic::{AtomicBool, AtomicU64, Ordering};
 use std::thread::Threads;
 
-/// The trails have so many entries, shard by shard.
-fn have_lengths(rt: &impl Abort, settled: &Settled<'_, Global>, lengths: &[usize]) {
+/// The trails have these lengths, shard by shard.
+fn have_lengths(rt: &impl Abort, settled: &Settled<'_>, lengths: &[usize]) {
     assert_eq!(rt; settled.shards.len(), lengths.len());
     for shard in 0..lengths.len() {
         assert_eq!(rt; settled.shards[shard].trail().len(), lengths[shard]);
@@ -45,7 +45,7 @@ fn verifications(rt: &impl Abort, user: &str, digits: &str, times: u64) -> Erran
 fn replies(
     rt: &impl Abort,
     alloc: Global,
-    settled: &Settled<'_, Global>,
+    settled: &Settled<'_>,
     shard: usize,
     digits: &str,
 ) -> Vec<Reply> {
@@ -53,7 +53,7 @@ fn replies(
     let mut replies = Vec::new(alloc);
     assert!(rt; shard < settled.shards.len());
     for entry in settled.shards[shard].trail() {
-        if entry.question.code() == code {
+        if entry.put.question.code() == code {
             replies.push(entry.reply).expect(rt, "memory");
         }
     }
@@ -61,7 +61,7 @@ fn replies(
 }
 
 /// What a thousand is answered.
-fn told(rt: &impl Abort, alloc: Global) -> Vec<Reply> {
+fn thousand_replies(rt: &impl Abort, alloc: Global) -> Vec<Reply> {
     let mut replies = Vec::new(alloc);
     replies.push(Reply::Uploaded).expect(rt, "memory");
     for _ in 0..999 {
@@ -75,14 +75,14 @@ fn settled_apart<'a, R: Threads + Wait + Abort + Sync>(
     rt: &R,
     alloc: &'a Global,
     of_clerks: &[&[Errand]],
-) -> Settled<'a, Global> {
+) -> Settled<'a> {
     let stage = Stage {
         shards: 2,
         clerks: 2,
         users: &USERS,
         opening: &[],
     };
-    settled(rt, alloc, &stage, &Errands { of_clerks })
+    play(rt, alloc, &stage, &Errands { of_clerks })
 }
 
 /// The errands of one clerk, settled in one shard.
@@ -90,7 +90,7 @@ fn settled_alone<'a, R: Threads + Wait + Abort + Sync>(
     rt: &R,
     alloc: &'a Global,
     errands: &[Errand],
-) -> Settled<'a, Global> {
+) -> Settled<'a> {
     let stage = Stage {
         shards: 1,
         clerks: 1,
@@ -100,7 +100,7 @@ fn settled_alone<'a, R: Threads + Wait + Abort + Sync>(
     let crew = Errands {
         of_clerks: &[errands],
     };
-    settled(rt, alloc, &stage, &crew)
+    play(rt, alloc, &stage, &crew)
 }
 
 #[test]
@@ -111,14 +111,14 @@ fn clerks_in_threads_are_answered_as_one_alone(rt: HostRuntime) {
     have_lengths(&rt, &apart, &[1_000, 1_000]);
     let alone = settled_alone(&rt, &alloc, &[p[0], p[1], q[0], q[1]]);
     have_lengths(&rt, &alone, &[2_000]);
-    let told = told(&rt, alloc);
+    let told = thousand_replies(&rt, alloc);
     for (shard, digits) in [(0, P), (1, Q)] {
         assert!(&rt; replies(&rt, alloc, &apart, shard, digits) == told);
         assert!(&rt; replies(&rt, alloc, &alone, 0, digits) == told);
     }
 }
 
-/// Two clerks, of whom the first is answered, with its shard held, only once the second is.
+/// Two clerks, of whom the first is answered and then has its shard held until the second is answered, too.
 #[derive(Drop)]
 struct Meeting {
     user: Name,
@@ -129,40 +129,37 @@ struct Meeting {
     met: AtomicBool,
 }
 
+/// Holds the shard until the other clerk is answered.
 #[derive(Drop)]
-struct Door<'s> {
-    meeting: &'s Meeting,
+struct Door<'m> {
+    meeting: &'m Meeting,
 }
 
-impl Gate for Door<'_> {
-    fn held(&mut self) {
+impl<'a, B: Allocator> Reader<Shard<&'a B>> for Door<'_> {
+    type Output = bool;
+
+    fn read(self, _shard: &Shard<&'a B>) -> bool {
         self.meeting.held.store(true, Ordering::SeqCst);
-        let met = is_raised(&self.meeting.answered);
-        self.meeting.met.store(met, Ordering::SeqCst);
+        is_raised(&self.meeting.answered)
     }
 }
 
 impl Crew for Meeting {
-    fn work<'a, J: Naming, S: EntryLedger, C: ReceiptLedger, R: Wait>(
+    fn work<'a, J: Naming, S: EntryLedger, C: ReceiptLedger, R: Wait + Abort>(
         &self,
         place: &Place<'_, 'a, R, J, S, C>,
-        clerk: &mut Clerk<'a, Global, J, C>,
+        clerk: &mut Clerk<'a, J, C>,
         number: usize,
     ) -> Result<(), AskFault> {
         let (rt, repository, moment) = (place.rt, place.repository, place.moment);
         if number == 0 {
-            let mut door = Door { meeting: self };
-            clerk.ask(rt, repository, &mut door, moment, &self.user, &self.first)?;
+            clerk.ask(rt, repository, moment, &self.user, &self.first)?;
+            let shard = repository.shard_of(&self.first.code());
+            let met = repository.with_shard(rt, shard, Door { meeting: self });
+            self.met.store(met, Ordering::SeqCst);
         } else {
             is_raised(&self.held);
-            clerk.ask(
-                rt,
-                repository,
-                &mut NoGate,
-                moment,
-                &self.user,
-                &self.second,
-            )?;
+            clerk.ask(rt, repository, moment, &self.user, &self.second)?;
             self.answered.store(true, Ordering::SeqCst);
         }
         Ok(())
@@ -186,16 +183,17 @@ fn two_shards_are_worked_on_at_once(rt: HostRuntime) {
         answered: AtomicBool::new(false),
         met: AtomicBool::new(false),
     };
-    let settled = settled(&rt, &alloc, &stage, &meeting);
+    let settled = play(&rt, &alloc, &stage, &meeting);
     assert!(&rt; meeting.met.load(Ordering::SeqCst));
     have_lengths(&rt, &settled, &[1, 1]);
 }
 
-/// Eight clerks, one of whose users is suspended in the middle of its questions.
+/// Eight clerks, one of whose users is suspended in the middle of its questions; a stranger asks by the same clerk.
 #[derive(Drop)]
 struct Suspension<'s> {
     errands: Errands<'s>,
     user: Name,
+    stranger: Name,
     question: Question,
     due: AtomicBool,
     published: AtomicBool,
@@ -207,26 +205,21 @@ const FOURTH: usize = 3;
 
 impl Suspension<'_> {
     /// Sends word to the registrar, learns of the suspension, and asks again.
-    fn ask_on<'a, J: Naming, S: EntryLedger, C: ReceiptLedger, R: Wait>(
+    fn ask_on<'a, J: Naming, S: EntryLedger, C: ReceiptLedger, R: Wait + Abort>(
         &self,
         place: &Place<'_, 'a, R, J, S, C>,
-        clerk: &mut Clerk<'a, Global, J, C>,
+        clerk: &mut Clerk<'a, J, C>,
     ) {
         self.due.store(true, Ordering::SeqCst);
         is_raised(&self.published);
         if let Some(notice) = &*place.latest.lock(place.rt) {
             clerk.learn(notice);
         }
+        let (rt, repository, moment) = (place.rt, place.repository, place.moment);
+        let answer = clerk.ask(rt, repository, moment, &self.stranger, &self.question);
+        assert!(rt; answer.err() == Some(AskFault::Nobody));
         for _ in 0..125 {
-            let (rt, repository, moment) = (place.rt, place.repository, place.moment);
-            let answer = clerk.ask(
-                rt,
-                repository,
-                &mut NoGate,
-                moment,
-                &self.user,
-                &self.question,
-            );
+            let answer = clerk.ask(rt, repository, moment, &self.user, &self.question);
             if let Err(AskFault::Suspended) = answer {
                 self.turned_away.fetch_add(1, Ordering::SeqCst);
             }
@@ -235,10 +228,10 @@ impl Suspension<'_> {
 }
 
 impl Crew for Suspension<'_> {
-    fn work<'a, J: Naming, S: EntryLedger, C: ReceiptLedger, R: Wait>(
+    fn work<'a, J: Naming, S: EntryLedger, C: ReceiptLedger, R: Wait + Abort>(
         &self,
         place: &Place<'_, 'a, R, J, S, C>,
-        clerk: &mut Clerk<'a, Global, J, C>,
+        clerk: &mut Clerk<'a, J, C>,
         number: usize,
     ) -> Result<(), AskFault> {
         self.errands.work(place, clerk, number)?;
@@ -275,7 +268,7 @@ const CODES: [&str; 9] = [
     "04012345678987",
 ];
 
-/// So many verifications of two products each.
+/// 125 verifications of each of two products.
 fn of_two(rt: &impl Abort, first: &str, second: &str) -> [Errand; 2] {
     [
         verifications(rt, "ph1", first, 125),
@@ -288,7 +281,7 @@ fn settled_with_a_suspension<'a, R: Threads + Wait + Abort + Sync>(
     rt: &R,
     alloc: &'a Global,
     of_clerks: &[&[Errand]],
-) -> Settled<'a, Global> {
+) -> Settled<'a> {
     let stage = Stage {
         shards: 8,
         clerks: 8,
@@ -298,12 +291,13 @@ fn settled_with_a_suspension<'a, R: Threads + Wait + Abort + Sync>(
     let suspension = Suspension {
         errands: Errands { of_clerks },
         user: name(rt, "ph2"),
+        stranger: name(rt, "zed"),
         question: verify(rt, P),
         due: AtomicBool::new(false),
         published: AtomicBool::new(false),
         turned_away: AtomicU64::new(0),
     };
-    let settled = settled(rt, alloc, &stage, &suspension);
+    let settled = play(rt, alloc, &stage, &suspension);
     assert_eq!(rt; suspension.turned_away.load(Ordering::SeqCst), 125);
     settled
 }
@@ -341,7 +335,7 @@ fn note(rt: &impl Abort, reply: &Reply, counts: &mut [u64; 4]) {
 fn settled_supplies<'a, R: Threads + Wait + Abort + Sync>(
     rt: &R,
     alloc: &'a Global,
-) -> Settled<'a, Global> {
+) -> Settled<'a> {
     let stage = Stage {
         shards: 1,
         clerks: 4,
@@ -356,7 +350,7 @@ fn settled_supplies<'a, R: Threads + Wait + Abort + Sync>(
     let crew = Errands {
         of_clerks: &[&supply, &supply, &supply, &supply],
     };
-    settled(rt, alloc, &stage, &crew)
+    play(rt, alloc, &stage, &crew)
 }
 
 #[test]

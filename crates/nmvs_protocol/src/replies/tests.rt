@@ -1,4 +1,5 @@
-use crate::{Answer, LineFault, Text, Turn, reply_text};
+use crate::replies::wording;
+use crate::{Answer, Entries, LineFault, Text, Turn, reply_text};
 use nmvs_identifier::{Batch, Expiry};
 use nmvs_rules::{BatchLock, Cause, Onward, OwnStatus, Refusal, Reply};
 use std::alloc::Global;
@@ -7,9 +8,16 @@ use std::rt::HostRuntime;
 use std::test::Fail;
 
 /// Whether the answer has this text.
-fn is_told(rt: &impl Abort, alloc: Global, answer: Answer<'_>, text: &str) -> bool {
-    let told = reply_text(alloc, &answer).expect(rt, "ample memory");
+fn is_told(rt: &impl Abort, alloc: Global, answer: &Answer<'_>, text: &str) -> bool {
+    let told = wording(alloc, answer).expect(rt, "a text");
     told.as_str() == text
+}
+
+/// Whether the reply has this text, on the heap and as an answer.
+fn is_replied(rt: &impl Abort, alloc: Global, reply: Reply, text: &str) -> bool {
+    let line = reply_text(alloc, &reply, &[]).expect(rt, "ample memory");
+    let answer = Answer::Replied(reply, Entries::new(Vec::new(&alloc)));
+    line.as_str() == text && is_told(rt, alloc, &answer, text)
 }
 
 #[test]
@@ -44,10 +52,7 @@ fn replies_with_a_batch_or_a_cause_have_their_texts(rt: HostRuntime) {
             "STATUS DESTROYED WITHDRAWN AUTHORITIES ABC/DEF%GHI/JKL%MN12 280200\n",
         ),
     ] {
-        assert!(rt;
-            is_told(&rt, rt.alloc(), Answer::Replied(reply), text),
-            "{text}"
-        );
+        assert!(rt; is_replied(&rt, rt.alloc(), reply, text), "{text}");
     }
 }
 
@@ -71,10 +76,7 @@ fn replies_of_a_word_a_number_or_a_refusal_have_their_texts(rt: HostRuntime) {
         (Reply::Refused(Refusal::Expired), "REFUSED 14 EXPIRED\n"),
         (Reply::Refused(Refusal::NotHeld), "REFUSED 15 NOT_HELD\n"),
     ] {
-        assert!(rt;
-            is_told(&rt, rt.alloc(), Answer::Replied(reply), text),
-            "{text}"
-        );
+        assert!(rt; is_replied(&rt, rt.alloc(), reply, text), "{text}");
     }
 }
 
@@ -98,7 +100,7 @@ fn each_other_answer_has_its_text(rt: HostRuntime) {
         (Answer::Unread(LineFault::User), "FAULT USER\n"),
         (Answer::Bye, "BYE\n"),
     ] {
-        assert!(rt; is_told(&rt, rt.alloc(), answer, text), "{text}");
+        assert!(rt; is_told(&rt, rt.alloc(), &answer, text), "{text}");
     }
 }
 
@@ -107,6 +109,6 @@ fn a_report_is_told_as_it_is(rt: HostRuntime) -> Result<(), Fail> {
     let report = "PRODUCT 04012345678901 HOLDER - ALERTS 0 FLAGGED 0\nEND\n";
     let text = Text::new(String::from_str(rt.alloc(), report)?);
     assert!(rt; text.text() == report);
-    assert!(rt; is_told(&rt, rt.alloc(), Answer::Reported(text), report));
+    assert!(rt; is_told(&rt, rt.alloc(), &Answer::Reported(text), report));
     Ok(())
 }

@@ -1,4 +1,4 @@
-use crate::{Answer, Ask, Desk, End, Limits, serve};
+use crate::{Answer, Ask, Desk, End, Entries, Limits, serve};
 use nmvs_identifier::{Batch, Expiry};
 use nmvs_rules::{Question, Reply};
 use nmvs_stream::Device;
@@ -20,26 +20,29 @@ const AMPLE: Limits = Limits {
 
 /// Knows the batch and expiry that were uploaded last, and takes every pack for one of them.
 #[derive(Clone, Copy)]
-struct Shelf {
+struct Shelf<'a> {
+    alloc: &'a Global,
     uploaded: Option<(Batch, Expiry)>,
 }
 
-impl<'a> Desk<'a> for Shelf {
+impl<'a> Desk<'a> for Shelf<'a> {
     ghost takes = { λ _ _ _ _. Unit {0} };
 
     fn take(&mut self, ask: &Ask) -> Answer<'a> {
-        if let Ask::Put(_, Question::Upload { batch, expiry, .. }) = ask {
+        let none = Entries::new(Vec::new(self.alloc));
+        if let Ask::Question(_, Question::Upload { batch, expiry, .. }) = ask {
             self.uploaded = Some((*batch, *expiry));
-            return Answer::Replied(Reply::Uploaded);
+            return Answer::Replied(Reply::Uploaded, none);
         }
-        match self.uploaded {
-            Some((batch, expiry)) => Answer::Replied(Reply::Authentic {
+        let reply = match self.uploaded {
+            Some((batch, expiry)) => Reply::Authentic {
                 batch,
                 expiry,
                 expired: false,
-            }),
-            None => Answer::Replied(Reply::NoPack),
-        }
+            },
+            None => Reply::NoPack,
+        };
+        Answer::Replied(reply, none)
     }
 }
 
@@ -129,7 +132,10 @@ fn run<R: Read + Drop, W: Write + Drop>(
 ) -> End {
     let mut source = Device::new(reader);
     let mut sink = Device::new(writer);
-    let mut desk = Shelf { uploaded: None };
+    let mut desk = Shelf {
+        alloc: &alloc,
+        uploaded: None,
+    };
     serve(alloc, &mut source, &mut sink, &mut desk, limits)
 }
 
@@ -217,39 +223,6 @@ fn a_failed_write_ends_with_a_prefix(rt: HostRuntime) {
         );
         assert_eq!(rt; taken.as_slice(), &OUTPUT[..calls], "{calls}");
     }
-}
-
-#[test]
-fn a_write_that_takes_nothing_ends_with_a_prefix(rt: HostRuntime) {
-    let mut room = [0; 20];
-    let writer = room.as_mut_slice();
-    assert_eq!(rt; run(rt.alloc(), INPUT, writer, AMPLE), End::WriteFault);
-    assert_eq!(rt; room.as_slice(), &OUTPUT[..20]);
-}
-
-#[test]
-fn reads_are_counted(rt: HostRuntime) {
-    for (reads, end) in [(105, End::Limit), (106, End::Quit)] {
-        let reader = Pieces {
-            inner: INPUT,
-            piece: 1,
-            calls: 1_000,
-        };
-        let mut taken = Vec::new(rt.alloc());
-        assert_eq!(rt;
-            run(rt.alloc(), reader, &mut taken, Limits { lines: 4, reads }),
-            end
-        );
-        assert_eq!(rt; taken.as_slice(), answers_to(reads as usize));
-    }
-}
-
-#[test]
-fn an_endless_line_takes_no_memory(rt: HostRuntime) {
-    let reader = io::repeat(b'A').take(1_000_000);
-    let mut taken = Vec::new(rt.alloc());
-    assert_eq!(rt; run(rt.alloc(), reader, &mut taken, AMPLE), End::Ended);
-    assert!(rt; taken.is_empty());
 }
 
 #[test]

@@ -1,8 +1,8 @@
 use Rattle.std.proofs.Common.{◌≡◌, ◌<◌, ◌+◌, ℕ, [], add-one, arith, sym, ap, subst, ◌∙◌, length, List}
 use Rattle.std.proofs.lemmas.List.{get_or-map, length-map}
 use Rattle.std.proofs.lemmas.Result.{err_from_is_err_and}
-use Rattle.nmvs_desk.specs.declared.receipt.Receipt.{Receipt}
-use Rattle.nmvs_desk.specs.Locks.{Asker}
+use Rattle.nmvs_desk.specs.declared.ask.Receipt.{Receipt}
+use Rattle.nmvs_desk.specs.Views.{ClerkView}
 use Rattle.nmvs_desk.specs.Settlement.{row}
 use Rattle.nmvs_desk.specs.Claims.{Claimed, trails_of, lists_of, IsJudged, IsRefused, AreJudged}
 use Rattle.nmvs_desk.proofs.Judged.{are_judged_none, are_judged_more, fault_of}
@@ -31,7 +31,7 @@ returns-in_err-judge-2-clause-refused g c =
     let clerks = c.args.clerks.now.items in
     let trails = trails_of c.args.locked.now.items in
     let lists = lists_of c.args.opening.now clerks in
-    let of = λ (a : Asker). a.receipts in
+    let of = λ (a : ClerkView). a.receipts in
     let within : l.index < length clerks = omega arith in
     let here : row lists (l.index + 1) ≡ c.receipts.result.now =
     ap (λ n. row lists n) (add-one l.index) ∙ get_or-map of clerks l.index c.index.result.now [] within ∙ ap of (sym c.index.ensures) ∙ sym c.receipts.ensures in
@@ -45,7 +45,7 @@ loop-index-preserved g c =
     let clerks = c.args.clerks.now.items in
     let trails = trails_of c.args.locked.now.items in
     let lists = lists_of c.args.opening.now clerks in
-    let of = λ (a : Asker). a.receipts in
+    let of = λ (a : ClerkView). a.receipts in
     let within : l.index < length clerks = omega arith in
     let here : row lists (l.index + 1) ≡ c.receipts.result.now =
     ap (λ n. row lists n) (add-one l.index) ∙ get_or-map of clerks l.index c.index.result.now [] within ∙ ap of (sym c.index.ensures) ∙ sym c.receipts.ensures in
@@ -59,4 +59,4 @@ returns-clause-judged g c =
     let clerks = c.args.clerks.now.items in
     let lists = lists_of c.args.opening.now clerks in
     let P : ℕ → Type 0 = λ n. AreJudged (trails_of c.args.locked.now.items) lists n l.claims.items in
-    subst P (omega (arith, length-map clerks (λ (a : Asker). a.receipts))) l.invariant
+    subst P (omega (arith, length-map clerks (λ (a : ClerkView). a.receipts))) l.invariant

@@ -2,7 +2,7 @@ use Rattle.std.proofs.Common.{◌≡◌, ◌++◌, [], List, arith, map, sym, ap
 use Rattle.std.proofs.lemmas.Bool.{eqb-true}
 use Rattle.std.proofs.lemmas.List.{nil_from_length}
 use Rattle.std.specs.Prelude.{Some}
-use Rattle.nmvs_desk.specs.declared.owner.Owner.{Owner}
+use Rattle.nmvs_desk.specs.declared.settled.Owner.{Owner}
 use Rattle.nmvs_desk.proofs.Owned.{all_claimed, owned}
 use Rattle.nmvs_desk.proofs.judging.take_owners.Goals as goal
 

@@ -1,5 +1,5 @@
 use Rattle.std.specs.Prelude.{◌≡◌, ◌≢◌, ◌+◌, ◌≤◌, ◌++◌, All, None, Some, List, map, length, vec_len, vec_capacity}
-use Rattle.nmvs_desk.specs.declared.owner.Owner.{Owner}
+use Rattle.nmvs_desk.specs.declared.settled.Owner.{Owner}
 use Rattle.nmvs_desk.proofs.judging.take_owners.Given as goal
 
 abbrev pub invariant-loop-owners : goal.invariant-loop-owners

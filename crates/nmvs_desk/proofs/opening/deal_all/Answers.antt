@@ -1,26 +1,26 @@
 use Rattle.std.proofs.Common.{refl, sym, ap, ◌∙◌, arith, take}
-use Rattle.std.specs.Str.Parse.{digits_value}
 use Rattle.nmvs_identifier.specs.ProductCode.{ProductCode}
 use Rattle.nmvs_rules.specs.Questions.{code_of}
-use Rattle.nmvs_rules.specs.Rules.{reply_of, put_of}
+use Rattle.nmvs_rules.specs.Rules.{reply_of}
+use Rattle.nmvs_desk.specs.Placing.{shard_of}
 use Rattle.nmvs_desk.proofs.Dealing.{reply_dealt, at_shard, are_dealt-push, take-push, deal-push, deal_room}
 use Rattle.nmvs_desk.proofs.opening.deal_all.Goals as goal
 
 pub deal-requires-clause-placed : goal.deal-requires-clause-placed
 deal-requires-clause-placed g c =
     let l = c.loop-place in
-    let number = c.number.ensures ∙ ap (λ (z : ProductCode). digits_value 10 z.bytes) c.code.ensures in
-    sym (at_shard g.S.EntryLedger.shards _ l.shards.items _ _ c.index_mut.result.now (code_of c.index-trail-place.result.question) l.invariant.2 c.requires.some (c.len.ensures ∙ l.shards.ok.0) number c.index_mut.ensures.value).1.0
+    let is = c.shard_number-shard.ensures.shard ∙ ap (λ (z : ProductCode). shard_of c.len.result z) c.code.ensures in
+    sym (at_shard g.S.EntryLedger.shards _ l.shards.items _ _ c.index_mut.result.now (code_of c.index-trail-place.result.put.question) l.invariant.2 (c.len.ensures ∙ l.shards.ok.0) is c.shard_number-shard.ensures.below c.index_mut.ensures.value).1.0
 
 pub deal-requires-clause-reply : goal.deal-requires-clause-reply
 deal-requires-clause-reply g c =
     let l = c.loop-place in
     let entry = c.index-trail-place.result in
     let trail = c.trail-trail.result.now in
-    let number = c.number.ensures ∙ ap (λ (z : ProductCode). digits_value 10 z.bytes) c.code.ensures in
-    let at = at_shard g.S.EntryLedger.shards _ l.shards.items _ _ c.index_mut.result.now (code_of entry.question) l.invariant.2 c.requires.some (c.len.ensures ∙ l.shards.ok.0) number c.index_mut.ensures.value in
+    let is = c.shard_number-shard.ensures.shard ∙ ap (λ (z : ProductCode). shard_of c.len.result z) c.code.ensures in
+    let at = at_shard g.S.EntryLedger.shards _ l.shards.items _ _ c.index_mut.result.now (code_of entry.put.question) l.invariant.2 (c.len.ensures ∙ l.shards.ok.0) is c.shard_number-shard.ensures.below c.index_mut.ensures.value in
     reply_dealt g.S.EntryLedger.shards trail l.place entry (rw c.trail-trail.ensures.stored c.trail-trail.ensures.lawful) (omega (arith, c.loop-place-test.true)) (sym c.index-trail-place.is)
-    ∙ ap (λ t. reply_of t (put_of entry)) (sym at.1.1)
+    ∙ ap (λ t. reply_of t entry.put) (sym at.1.1)
 
 pub push_reserved-requires : goal.push_reserved-requires
 push_reserved-requires g c =
@@ -33,13 +33,13 @@ loop-place-preserved g c =
     let entry = c.index-trail-place.result in
     let trail = c.trail-trail.result.now in
     let count = g.S.EntryLedger.shards in
-    let number = c.number.ensures ∙ ap (λ (z : ProductCode). digits_value 10 z.bytes) c.code.ensures in
+    let is = c.shard_number-shard.ensures.shard ∙ ap (λ (z : ProductCode). shard_of c.len.result z) c.code.ensures in
     let old = c.index_mut.result.now in
-    let at = at_shard count _ l.shards.items _ _ old (code_of entry.question) l.invariant.2 c.requires.some (c.len.ensures ∙ l.shards.ok.0) number c.index_mut.ensures.value in
+    let at = at_shard count _ l.shards.items _ _ old (code_of entry.put.question) l.invariant.2 (c.len.ensures ∙ l.shards.ok.0) is c.shard_number-shard.ensures.below c.index_mut.ensures.value in
     let more = take-push trail l.place entry (omega (arith, c.loop-place-test.true)) (sym c.index-trail-place.is) in
     let dealt = c.in_ok-receipt.ensures in (
-      c.deal.ensures.parts ∙ l.invariant.0,
-      omega (arith, dealt.counted, l.invariant.1),
+      c.deal.ensures.counted.parts ∙ l.invariant.0,
+      omega (arith, dealt.counted.counted, l.invariant.1),
       rw more (are_dealt-push count count (take l.place trail) entry l.shards.items _ old c.deal.new.self l.invariant.2 at.0.0 at.0.1 at.0.2 c.deal.ensures.index dealt.trail),
       rw (more, c.push_reserved.ensures.items, l.invariant.3, deal-push count (take l.place trail) entry, dealt.receipt, at.1.0, at.1.1) refl,
       omega (arith, c.push_reserved.ensures.capacity, l.invariant.4),

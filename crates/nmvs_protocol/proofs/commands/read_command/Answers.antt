@@ -1,6 +1,17 @@
-use Rattle.nmvs_protocol.proofs.CommandLemmas.{read_complete}
+use Rattle.std.proofs.Common.{◌∙◌, ap, sym, map, rules}
+use Rattle.nmvs_protocol.specs.Fields.{fields_in}
+use Rattle.nmvs_protocol.specs.Commands.{fields_fault, first_command_fault}
+use Rattle.nmvs_protocol.proofs.CommandLemmas.{reads_fields, fields_fault-take}
 use Rattle.nmvs_protocol.proofs.commands.read_command.Goals as goal
 
-pub returns-clause-complete : goal.returns-clause-complete
-returns-clause-complete c =
-    read_complete c.args.bytes.now c.read_exactly.result c.read_exactly.ensures.line c.read_exactly.ensures.valid c.read_exactly.ensures.fault
+pub returns-in_err-fields : goal.returns-in_err-fields
+unfolding first_command_fault
+returns-in_err-fields c = let fault = c.in_err-fields.ensures.fault fields_fault in search (rules, fault)
+
+pub returns : goal.returns
+unfolding first_command_fault
+returns c =
+    let kept = ap (map (λ f. f.now)) c.deref.ensures.0 ∙ c.in_ok-fields.ensures.fields in
+    let read = c.read_fields.ensures in
+    reads_fields c.args.bytes.now _ c.read_fields.result kept read.fields read.valid
+    (read.fault ∙ ap fields_fault kept ∙ fields_fault-take (fields_in c.args.bytes.now) ∙ sym (c.in_ok-fields.ensures.fault fields_fault))

@@ -1,5 +1,5 @@
 use Rattle.std.proofs.Common.{◌∷◌, [], ◌∙◌, ap, sym}
-use Rattle.nmvs_protocol.specs.declared.line_fault.LineFault.TheVariants as fault
+use Rattle.nmvs_protocol.specs.declared.ask.LineFault.TheVariants as fault
 use Rattle.nmvs_protocol.specs.Lines.{report_word}
 use Rattle.nmvs_protocol.proofs.FieldLemmas.{read_or, one}
 use Rattle.nmvs_protocol.proofs.SpellingLemmas.{no_report_fault}

@@ -3,7 +3,7 @@ use Rattle.nmvs_identifier.specs.ProductCode.{is_product_code}
 use Rattle.nmvs_identifier.specs.Serial.{is_serial}
 use Rattle.nmvs_identifier.specs.Batch.{is_batch}
 use Rattle.nmvs_identifier.specs.Expiry.{is_expiry}
-use Rattle.nmvs_protocol.specs.declared.line_fault.LineFault.TheVariants as fault
+use Rattle.nmvs_protocol.specs.declared.ask.LineFault.TheVariants as fault
 use Rattle.nmvs_protocol.proofs.FieldLemmas.{read_or}
 use Rattle.nmvs_protocol.proofs.lines.read_upload.Goals as goal
 

@@ -2,7 +2,7 @@ use Rattle.std.proofs.Common.{◌-◌, ◌++◌, ◌∷◌, [], List, ℕ, lengt
 use Rattle.std.proofs.lemmas.List.{append_assoc, append-nil, take_all}
 use Rattle.std.proofs.lemmas.Grind.{common_steps}
 use Rattle.nmvs_protocol.specs.InputLines.{lines_after}
-use Rattle.nmvs_protocol.specs.Progress.{kept}
+use Rattle.nmvs_protocol.specs.Progress.{kept_part}
 use Rattle.nmvs_protocol.proofs.KeptLines.{kept_more}
 use Rattle.nmvs_protocol.proofs.LinesOfPieces.{found_line, found_none}
 use Rattle.nmvs_protocol.proofs.SessionSteps.{same_lines, at_limit, extended}
@@ -64,5 +64,5 @@ returns g c first start lines begun is so_far =
     let rest = c.loop-lf.rest.now in
     let none = found_none inv.line rest c.in_default.ensures in (
       same_lines g.D.Desk.takes (sym (append-nil inv.served) ∙ ap (λ (t : List (List ℕ)). inv.served ++ t) (sym none.0) ∙ inv.ahead) inv.so_far,
-      c.extend.ensures ∙ ap (λ (t : List ℕ). kept (t ++ rest)) inv.keeps ∙ kept_more inv.line rest ∙ ap kept (sym none.1 ∙ inv.left),
+      c.extend.ensures ∙ ap (λ (t : List ℕ). kept_part (t ++ rest)) inv.keeps ∙ kept_more inv.line rest ∙ ap kept_part (sym none.1 ∙ inv.left),
     )

@@ -1,6 +1,6 @@
 use Rattle.std.proofs.Common.{◌∙◌, ap, sym, length, arith}
 use Rattle.std.proofs.lemmas.List.{length-map}
-use Rattle.nmvs_desk.specs.Locks.{Held}
+use Rattle.nmvs_desk.specs.Views.{LockedView}
 use Rattle.nmvs_desk.proofs.Dealing.{few, numbered, length-deal}
 use Rattle.nmvs_desk.proofs.repository.Repository.over.Goals as goal
 
@@ -15,7 +15,7 @@ invariant_of-result g c =
     let locked = c.deal_all.new.shards.items in (
       c.requires.entries.2,
       c.requires.entries.3,
-      ap length c.lock_all.ensures ∙ length-map locked (λ (h : Held). h.index) ∙ dealt.length,
+      ap length c.lock_all.ensures ∙ length-map locked (λ (h : LockedView). h.index) ∙ dealt.length,
       omega (arith, c.requires.count.0, c.requires.named.0),
       omega (arith, c.requires.count.1, c.requires.named.0),
       sym c.requires.named.1,

@@ -2,9 +2,9 @@ use Rattle.std.proofs.Common.{List, [], sym, ap, subst, arith}
 use Rattle.std.specs.Prelude.{All, vec_capacity}
 use Rattle.std.proofs.lemmas.List.{length-map}
 use Rattle.std.proofs.lemmas.List.Elements.{All-from_get_or}
-use Rattle.nmvs_desk.specs.declared.receipt.Receipt.{Receipt}
+use Rattle.nmvs_desk.specs.declared.ask.Receipt.{Receipt}
 use Rattle.nmvs_desk.specs.Claims.{trails_of, lists_of}
-use Rattle.nmvs_desk.specs.Locks.{Held}
+use Rattle.nmvs_desk.specs.Views.{LockedView}
 use Rattle.nmvs_desk.specs.Settlement.{Rises}
 use Rattle.nmvs_desk.proofs.Unlocked.{are_settled}
 use Rattle.nmvs_desk.proofs.settling.Judged.join.Goals as goal
@@ -24,7 +24,7 @@ pub take_owners-requires-clause-room : goal.take_owners-requires-clause-room
 take_owners-requires-clause-room g c =
     let locked = c.args.self.locked in
     let claims = c.args.self.claims in
-    omega (arith, claims.ok.0, locked.ok.0, c.requires.judged.shape.lists, length-map locked.items (λ (h : Held). h.trail), c.requires.room.2, ap vec_capacity c.join_all.ensures.owners)
+    omega (arith, claims.ok.0, locked.ok.0, c.requires.judged.shape.lists, length-map locked.items (λ (h : LockedView). h.trail), c.requires.room.2, ap vec_capacity c.join_all.ensures.owners)
 
 pub returns-clause-owned : goal.returns-clause-owned
 returns-clause-owned g c =

@@ -1,6 +1,6 @@
 use Rattle.std.proofs.Common.{◌≡◌, ◌∙◌, ◌++◌, List, ℕ, take, ap, Result, Ok, Err}
 use Rattle.std.specs.Prelude.{OnOk}
-use Rattle.nmvs_protocol.specs.Progress.{kept}
+use Rattle.nmvs_protocol.specs.Progress.{kept_part}
 use Rattle.nmvs_protocol.proofs.KeptLines.{kept_filled}
 use Rattle.nmvs_protocol.proofs.pending_line.PendingLine.extend.Goals as goal
 
@@ -15,4 +15,4 @@ returns c =
     on_ok c.try_extend_from_slice.result c.unwrap.result _ c.unwrap.ensures c.try_extend_from_slice.ensures.ok
     ∙ ap (λ (n : ℕ). old ++ take n more) c.min-count.ensures
     ∙ kept_filled old more c.remaining_capacity.result c.remaining_capacity.ensures
-    ∙ ap (λ (x : List ℕ). kept (x ++ more)) c.self.view_is
+    ∙ ap (λ (x : List ℕ). kept_part (x ++ more)) c.self.view_is

@@ -1,0 +1,95 @@
+use crate::{OptionFault, Options, read_options};
+use std::alloc::Global;
+use std::process::Abort;
+use std::test::*;
+
+fn read(rt: &impl Abort, alloc: Global, words: &[&str]) -> Result<Options, OptionFault> {
+    let mut texts = Vec::new(alloc);
+    for word in words {
+        let text = String::from_str(alloc, *word).expect(rt, "memory");
+        texts.push(text).expect(rt, "memory");
+    }
+    read_options(alloc, &texts)
+}
+
+#[test]
+fn options_have_defaults(rt: HostRuntime) {
+    let Ok(options) = read(&rt, rt.alloc(), &["--users", "F"]) else {
+        panic!(rt; "refused");
+    };
+    assert!(rt;
+        options.users.as_str() == "F" && options.import.is_none() && options.export.is_none()
+    );
+    assert_eq!(rt;
+        (options.shards, options.workers, options.sessions),
+        (8, 4, 0)
+    );
+    assert_eq!(rt;
+        (options.port, options.moment, options.stdin),
+        (7161, None, false)
+    );
+}
+
+/// Whether a path is this one.
+fn is_path(path: &Option<String>, text: &str) -> bool {
+    match path {
+        Some(path) => path.as_str() == text,
+        None => false,
+    }
+}
+
+#[test]
+fn all_options_are_taken_together(rt: HostRuntime) {
+    let words = [
+        "--users=F",
+        "--import=I",
+        "--export=E",
+        "--shards=1",
+        "--workers=8",
+        "--sessions=1000000",
+        "--port=65535",
+        "--moment=4102444799",
+        "--stdin",
+    ];
+    let Ok(options) = read(&rt, rt.alloc(), &words) else {
+        panic!(rt; "refused");
+    };
+    assert!(rt; options.moment.is_some());
+    assert!(rt; is_path(&options.import, "I") && is_path(&options.export, "E"));
+    assert_eq!(rt;
+        (options.shards, options.workers, options.sessions),
+        (1, 8, 1_000_000)
+    );
+    assert_eq!(rt; (options.port, options.stdin), (65_535, true));
+}
+
+#[test]
+fn other_lines_are_refused(rt: HostRuntime) {
+    for word in [
+        "--shards=9",
+        "--shards=0",
+        "--workers=0",
+        "--workers=9",
+        "--sessions=1000001",
+        "--port=0",
+        "--port=65536",
+        "--moment=4102444800",
+        "--moment=-1",
+        "--none",
+        "stray",
+        "--users=G",
+    ] {
+        let refused = read(&rt, rt.alloc(), &["--users", "F", word]);
+        assert!(rt; matches!(refused, Err(OptionFault::Refused(_))), "{word}");
+    }
+    let refused = read(&rt, rt.alloc(), &["--stdin"]);
+    assert!(rt; matches!(refused, Err(OptionFault::Refused(_))));
+}
+
+#[test]
+fn help_is_told(rt: HostRuntime) {
+    let Err(OptionFault::Help(text)) = read(&rt, rt.alloc(), &["--help"]) else {
+        panic!(rt; "no help");
+    };
+    assert!(rt; text.contains("--users <FILE>") && text.contains("[default: 7161]"));
+}

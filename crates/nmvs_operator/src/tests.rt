@@ -1,3 +1,0 @@
-//! Command lines, users files and commands.
-mod options;
-mod users;

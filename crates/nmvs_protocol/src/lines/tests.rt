@@ -1,0 +1,131 @@
+use crate::{Ask, Line, LineFault, line_text, read_line};
+use nmvs_identifier::{Batch, Expiry, Name, Pack, ProductCode, Serial};
+use nmvs_rules::Question;
+use std::alloc::Global;
+use std::rt::HostRuntime;
+
+#[test]
+fn lines_are_read_and_written(rt: HostRuntime) {
+    let user = Name::read("ph1").expect(&rt, "a name");
+    let code = ProductCode::read("09506000134352").expect(&rt, "a code");
+    let serial = Serial::read("SN1").expect(&rt, "a serial number");
+    let verify = Line::Ask(Ask::Question(user, Question::Verify(Pack { code, serial })));
+    let line = "ph1 VERIFY 09506000134352 SN1";
+    assert!(rt; read_line(line.as_bytes()) == Ok(verify));
+    let written = line_text(rt.alloc(), &verify).expect(&rt, "ample memory");
+    assert!(rt; written.as_str() == line);
+    assert!(rt; read_line(b"QUIT") == Ok(Line::Quit));
+
+    let holder = Name::read("mah1").expect(&rt, "a name");
+    let serial = Serial::read("ABC/DEF%GHI/JKL%MN12").expect(&rt, "20 characters");
+    let batch = Batch::read("B1").expect(&rt, "a batch number");
+    let expiry = Expiry::read("280200").expect(&rt, "an expiry date");
+    let pack = Pack { code, serial };
+    let upload = Line::Ask(Ask::Question(
+        holder,
+        Question::Upload {
+            pack,
+            batch,
+            expiry,
+        },
+    ));
+    let line = "mah1 UPLOAD 09506000134352 ABC/DEF%GHI/JKL%MN12 B1 280200";
+    assert!(rt; read_line(line.as_bytes()) == Ok(upload));
+}
+
+/// Whether the line is read, and written again as it was.
+fn is_written_again(alloc: Global, line: &str) -> bool {
+    match read_line(line.as_bytes()) {
+        Ok(read) => match line_text(alloc, &read) {
+            Ok(written) => written.as_str() == line,
+            Err(_) => false,
+        },
+        Err(_) => false,
+    }
+}
+
+#[test]
+fn each_kind_of_line_has_its_text(rt: HostRuntime) {
+    for line in [
+        "mah1 UPLOAD 09506000134352 SN1 B1 280200",
+        "ph1 VERIFY 04012345678901 SN1",
+        "au1 STATUS 09506000134352 SN1",
+        "ph1 SUPPLY 09506000134352 SN1",
+        "ph1 HOLD 09506000134352 SN1",
+        "wh1 EXPORT 09506000134352 SN1",
+        "au1 SAMPLE 09506000134352 SN1",
+        "wh1 DESTROY 09506000134352 ABC/DEF%GHI/JKL%MN12",
+        "ph1 HANDOVER 09506000134352 SN1",
+        "ph1b REVERT 09506000134352 SN1",
+        "mah1 RECALL 09506000134352 B1",
+        "au1 WITHDRAW 09506000134352 ABC/DEF%GHI/JKL%MN12",
+        "mah1 THEFT 09506000134352 SN1",
+        "au1 AUDIT 09506000134352 SN1",
+        "au1 REPORT 09506000134352",
+        "QUIT",
+    ] {
+        assert!(rt; is_written_again(rt.alloc(), line), "{line}");
+    }
+}
+
+#[test]
+fn faults_of_lines(rt: HostRuntime) {
+    for (line, fault) in [
+        ("", LineFault::Fields),
+        ("ph1  VERIFY 09506000134352 SN1", LineFault::Fields),
+        ("ph1 VERIFY 09506000134352", LineFault::Fields),
+        ("ph1 VERIFY 09506000134352 SN1\r", LineFault::Bytes),
+        ("ph1 verify 09506000134352 SN1", LineFault::Word),
+        ("ph1 QUIT", LineFault::Word),
+        ("a b c d e f g h", LineFault::Word),
+        ("REPORT 09506000134352", LineFault::Word),
+        ("au1 report 09506000134352", LineFault::Word),
+        ("-x REPORT 09506000134352 SN1", LineFault::Fields),
+        ("-x REPORT 09506000134353", LineFault::User),
+        ("au1 REPORT 09506000134353", LineFault::Code),
+        ("a b c d e f g ", LineFault::Fields),
+        (
+            "mah1 UPLOAD 09506000134352 SN1 B1 280200 x y",
+            LineFault::Fields,
+        ),
+        ("-x VERIFY 09506000134352 SN1", LineFault::User),
+        ("ph1 VERIFY 09506000134353 SN1", LineFault::Code),
+        (
+            "mah1 UPLOAD 09506000134352 ABC/DEF%GHI/JKL%MN123 B1 280200",
+            LineFault::Serial,
+        ),
+        ("mah1 RECALL 09506000134352 #", LineFault::Batch),
+        (
+            "mah1 UPLOAD 09506000134352 SN1 B1 281300",
+            LineFault::Expiry,
+        ),
+    ] {
+        assert!(rt; read_line(line.as_bytes()) == Err(fault), "{line}");
+    }
+    assert!(rt; read_line(&[b'A'; 200]) == Err(LineFault::Fields));
+    assert!(rt; read_line(&[b'A'; 201]) == Err(LineFault::Long));
+}
+
+#[test]
+fn texts_of_faults_of_lines(rt: HostRuntime) {
+    for (fault, text) in [
+        (LineFault::Long, "the line has more than 200 bytes"),
+        (
+            LineFault::Bytes,
+            "the line has a byte that is no printable ASCII character",
+        ),
+        (
+            LineFault::Fields,
+            "the line has an empty field or the wrong number of fields",
+        ),
+        (LineFault::Word, "the line's word is unknown"),
+        (LineFault::Code, "the line's code is no product code"),
+        (LineFault::Serial, "the line's serial is no serial number"),
+        (LineFault::Batch, "the line's batch is no batch number"),
+        (LineFault::Expiry, "the line's expiry is no expiry date"),
+        (LineFault::User, "the line's user is no name"),
+    ] {
+        let written = format!(in rt.alloc(); "{fault}").expect(&rt, "ample memory");
+        assert!(rt; written.as_str() == text, "{text}");
+    }
+}

@@ -1,0 +1,219 @@
+//! The program's desk, over a repository of its own.
+ghost use Rattle.std.specs.Prelude.{◌≡◌, ◌≤◌, length, vec_len};
+ghost use Rattle.nmvs_directory.specs.Directory.{directory_book};
+
+use crate::clock::OneMore;
+use crate::examples::{Example, NEW_YEAR};
+use crate::opening::Opening;
+use crate::{ClerkDesk, Clock, examples};
+use boxcar::tag::Tag;
+use nmvs_desk::{EntryLedger, MOST_CLERKS, PARTS, ReceiptLedger};
+use nmvs_directory::{Directory, Naming, Notice, Registrar};
+use nmvs_operator::{load_users, obey_all};
+use nmvs_protocol::{Desk, SESSION_LIMITS, serve};
+use nmvs_shard::Shard;
+use nmvs_stream::Device;
+use std::alloc::Global;
+use std::marker::Brand;
+use std::process::Abort;
+use std::sync::ledger::Blank;
+use std::sync::{Mutex, Wait};
+use std::test::*;
+
+/// The users of the rehearsal, as commands.
+const USERS: &str =
+    "ENROL mah1 HOLDER MAH-1 HQ\nENROL mah2 HOLDER MAH-2 HQ2\nENROL ph1 PHARMACY PH-1 P1\nENROL ph1b PHARMACY PH-1 P1\n\
+    ENROL ph2 PHARMACY PH-1 P2\nENROL wh1 WHOLESALER WH-1 W1\nENROL mf1 MANUFACTURER MF-1 F1\nENROL au1 AUTHORITY AU-1 A1";
+
+/// Moments that are none, and a registrar's command between two lines.
+const TURNED_AWAY: &[Example] = &[
+    Example {
+        shows: "nothing is put at seconds of no moment",
+        moments: &[4_102_444_800, -1, NEW_YEAR],
+        lines: &[
+            ("mah1 UPLOAD 09506000134352 SN1 B1 280200", "FAULT CLOCK"),
+            ("zed STATUS 09506000134352 SN1", "FAULT CLOCK"),
+            ("ph1 STATUS 09506000134352 SN1", "NOPACK"),
+        ],
+    },
+    Example {
+        shows: "a suspension is learnt before the next question",
+        moments: &[NEW_YEAR],
+        lines: &[
+            ("ph1 STATUS 09506000134352 SN1", "NOPACK"),
+            ("SUSPEND ph1", "DONE"),
+            ("ph1 STATUS 09506000134352 SN1", "FAULT SUSPENDED"),
+            ("ph1b STATUS 09506000134352 SN1", "NOPACK"),
+        ],
+    },
+];
+
+/// Gives these seconds in turn, and the last of them again and again.
+#[derive(Drop)]
+struct Seconds<'s> {
+    rest: &'s [i64],
+    gave: i64,
+    asked: Tag,
+}
+
+impl<'s> Seconds<'s> {
+    fn new(seconds: &'s [i64]) -> Seconds<'s> {
+        Seconds {
+            rest: seconds,
+            gave: 0,
+            asked: Tag::empty(),
+        }
+    }
+}
+
+impl<'s> Clock for Seconds<'s> {
+    ghost use Rattle.std.specs.Prelude.{length};
+
+    ghost asked = { λ clock. length clock.asked.numbers };
+
+    ghost gave = { λ clock. clock.gave };
+
+    fn seconds(&mut self) -> i64 {
+        self.asked = Tag::of::<Tag, OneMore>(&self.asked);
+        match self.rest {
+            [] => {}
+            [last] => self.gave = *last,
+            [first, later @ ..] => {
+                self.gave = *first;
+                self.rest = later;
+            }
+        }
+        self.gave
+    }
+}
+
+/// What the desk writes in answer to one line.
+fn asked<'a, D: Desk<'a>>(alloc: Global, desk: &mut D, line: &str) -> Result<Vec<u8>, Fail> {
+    let input = format!(in alloc; "{line}\n")?;
+    let mut output = Vec::new(alloc);
+    let _end = serve(
+        alloc,
+        &mut Device::new(input.as_bytes()),
+        &mut Device::new(&mut output),
+        desk,
+        SESSION_LIMITS,
+    );
+    Ok(output)
+}
+
+/// What the registrar is answered to one command.
+fn commanded<'r, J: Naming, R: Wait>(
+    rt: &'r R,
+    alloc: Global,
+    registrar: &mut Registrar<J, &'r R, &Global>,
+    latest: &Mutex<Notice<J>>,
+    line: &str,
+) -> Result<Vec<u8>, Fail> {
+    let input = format!(in alloc; "{line}\n")?;
+    let mut output = Vec::new(alloc);
+    obey_all(
+        &rt,
+        &mut Device::new(input.as_bytes()),
+        &mut Device::new(&mut output),
+        registrar,
+        latest,
+        SESSION_LIMITS,
+    );
+    Ok(output)
+}
+
+/// Whether the answer is to a question that was put.
+fn is_put(answer: &str) -> bool {
+    !(answer.starts_with("FAULT")
+        || answer.starts_with("PRODUCT")
+        || answer == "BYE"
+        || answer == "DONE")
+}
+
+fn at_desk<'r, 'a, J: Naming, S: EntryLedger, C: ReceiptLedger, R: Wait + Abort>(
+    rt: &'r R,
+    latest: &Mutex<Notice<J>>,
+    opening: Opening<'a, J>,
+    registrar: &mut Registrar<J, &'r R, &Global>,
+    example: &Example,
+) -> Result<(), Fail>
+    requires entries { (opening.entries.name ≡ S.name) × (opening.entries.parts ≡ S.parts) × (S.parts ≡ PARTS) }
+    requires receipts { (opening.receipts.name ≡ C.name) × (opening.receipts.parts ≡ C.parts) × (C.parts ≡ PARTS) }
+    requires named { (S.shards ≡ 1) × (C.clerks ≡ vec_len opening.windows) × (C.opening ≡ length opening.import) }
+    requires few { vec_len opening.windows ≤ MOST_CLERKS }
+{
+    let alloc = *opening.windows.allocator();
+    let Ok(mut opened) = opening.open::<S, C>(alloc, 1) else {
+        return Err(Fail::new("a repository"));
+    };
+    let clerk = opened.clerks.pop().ok_or("a clerk")?;
+    let clock = Seconds::new(example.moments);
+    let mut desk = ClerkDesk::new(rt, clerk, &opened.repository, latest, clock);
+    for (line, answer) in example.lines {
+        let wanted = format!(in *alloc; "{answer}\n")?;
+        let said = if line.starts_with("SUSPEND") {
+            commanded(rt, *alloc, registrar, latest, line)?
+        } else {
+            asked(*alloc, &mut desk, line)?
+        };
+        assert_eq!(rt; said.as_slice(), wanted.as_bytes(), "{}", example.shows);
+    }
+    let answers = example.lines.iter().map(|(_, answer)| *answer);
+    let put = answers.filter(|answer| is_put(*answer)).count();
+    let clerk = desk.into_clerk();
+    assert_eq!(rt; clerk.receipts().len(), put, "{}", example.shows);
+    Ok(())
+}
+
+fn at_directory<J: Naming, R: Wait + Abort + Sync>(
+    rt: &R,
+    alloc: &Global,
+    example: &Example,
+    directory: Directory,
+) -> Result<(), Fail>
+    requires { directory_book directory ≡ J.book }
+{
+    let (mut registrar, windows) = directory.open::<J, _, _>(rt, alloc, 1)?;
+    let mut users = Device::new(USERS.as_bytes());
+    let notice = load_users(*alloc, &mut users, &mut registrar, 2)?;
+    let opening = Opening {
+        windows,
+        import: Shard::new(alloc),
+        entries: Blank::new(PARTS),
+        receipts: Blank::new(PARTS),
+    };
+    let latest = Mutex::new(notice);
+    let done = at_desk::<J, Brand, Brand, _>(rt, &latest, opening, &mut registrar, example);
+    registrar.close();
+    done
+}
+
+/// Runs each example at a desk of its own, over one shard.
+fn get_their_answers<R: Wait + Abort + Sync>(
+    rt: &R,
+    alloc: Global,
+    examples: &[Example],
+) -> Result<(), Fail> {
+    for example in examples {
+        at_directory::<Brand, _>(rt, &alloc, example, Directory::new())?;
+    }
+    Ok(())
+}
+
+#[test]
+fn lines_that_are_turned_away_leave_no_receipt(rt: HostRuntime) -> Result<(), Fail> {
+    get_their_answers(&rt, rt.alloc(), TURNED_AWAY)
+}
+
+#[test]
+fn questions_leave_a_receipt_each(rt: HostRuntime) -> Result<(), Fail> {
+    get_their_answers(&rt, rt.alloc(), examples::VERIFICATIONS)?;
+    get_their_answers(&rt, rt.alloc(), examples::REVERSIONS)?;
+    get_their_answers(&rt, rt.alloc(), examples::RECALLS)
+}
+
+#[test]
+fn audits_show_entries_and_reports_leave_no_receipt(rt: HostRuntime) -> Result<(), Fail> {
+    get_their_answers(&rt, rt.alloc(), examples::AUDITS)?;
+    get_their_answers(&rt, rt.alloc(), examples::REPORTS)
+}

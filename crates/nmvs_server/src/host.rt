@@ -1,0 +1,35 @@
+//! What a run uses of the machine, and what it goes by.
+use nmvs_desk::{EntryLedger, ReceiptLedger, Repository};
+use nmvs_directory::{Naming, Notice};
+use nmvs_operator::Options;
+use std::alloc::Global;
+use std::net::TcpListener;
+use std::rt::{Clock, Files};
+use std::sync::{Mutex, Wait};
+use std::thread::Threads;
+
+/// What a run uses of the machine.
+pub trait Host: Files + Clock + Threads + Wait {}
+
+impl<R: Files + Clock + Threads + Wait> Host for R {}
+
+/// What a run goes by.
+#[derive(Drop)]
+pub(crate) struct Run<'r, 'o, H> {
+    pub(crate) rt: &'r H,
+    pub(crate) alloc: &'r Global,
+    pub(crate) options: &'o Options,
+    /// Connections are accepted here; where there is none, one session is served over the console.
+    pub(crate) listener: Option<&'r TcpListener>,
+}
+
+/// What the workers of a run share.
+#[derive(Drop)]
+pub(crate) struct Shared<'s, 'r, 'o, H, J: Naming, S: EntryLedger, C: ReceiptLedger> {
+    pub(crate) run: &'s Run<'r, 'o, H>,
+    pub(crate) listener: &'s TcpListener,
+    pub(crate) repository: &'s Repository<'r, S, C>,
+    pub(crate) latest: &'s Mutex<Notice<J>>,
+    /// Whether the workers may begin: it is locked until all of them are there.
+    pub(crate) ready: &'s Mutex<bool>,
+}
