@@ -1,18 +1,21 @@
--- The parts of a directory's list of changes.
-use Rattle.std.specs.Prelude.{◌≡◌, List, length, drop}
+-- The pending changes of a directory.
+use Rattle.std.specs.Prelude.{◌≡◌, ◌≤◌, List, take, vec_len, vec_capacity}
 use Rattle.nmvs_directory.specs.declared.change.Change.{Change}
 use Rattle.nmvs_directory.specs.declared.changes.Changes.{Changes}
-use Rattle.nmvs_directory.specs.declared.naming.Naming.{Ghosts}
 
-module _ {J A : Type 0} {g : Ghosts J} where
-  -- the changes that are not published yet (own)
-  abbrev pub pending_changes : Changes J A g → List Change
-  pending_changes c = drop (length c.published) c.all
+module _ {A : Type 0} where
+  -- the changes that are not published yet, oldest first (own)
+  abbrev pub pending_changes : Changes A → List Change
+  pending_changes c = c.pending.items
 
-  -- the list and its published part are the same (own)
-  abbrev pub IsSameList : Changes J A g → Changes J A g → Type 0
-  IsSameList before after = (after.all ≡ before.all) × (after.published ≡ before.published)
+  -- those of them that were handed to a publication, which was refused (own)
+  abbrev pub entered_changes : Changes A → List Change
+  entered_changes c = take c.entered c.pending.items
 
-  -- what is published stays, and so does what the writer has of the list (own)
-  abbrev pub KeepsPublished : Changes J A g → Changes J A g → Type 0
-  KeepsPublished before after = (after.published ≡ before.published) × (after.handed ≡ before.handed)
+  -- no publication was handed a change (own)
+  abbrev pub KeepsEntered : Changes A → Changes A → Type 0
+  KeepsEntered before after = entered_changes after ≡ entered_changes before
+
+  -- there is no room for one more change (own)
+  abbrev pub IsFull : Changes A → Type 0
+  IsFull c = vec_capacity c.pending ≤ vec_len c.pending

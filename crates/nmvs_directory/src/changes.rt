@@ -1,73 +1,55 @@
-//! The changes of a directory.
-ghost use Rattle.std.specs.Prelude.{◌≡◌, ◌<◌, ◌++◌, [], ◌∷◌, fold, drop, length, Some, None, OnOk, OnErr, MatchBool, MatchOption};
+//! The pending changes of a directory.
+ghost use Rattle.std.specs.Prelude.{◌≡◌, ◌+◌, ◌<◌, ◌≤◌, ◌++◌, [], ◌∷◌, take, length, Some, None, OnOk, OnErr, IfSome, IfNone, MatchBool};
 
-use crate::history::{History, Tail};
-use crate::{Change, Naming};
+use crate::Change;
 use nmvs_identifier::Name;
 use nmvs_rules::Actor;
 use std::alloc::{AllocError, Allocator};
-use std::collections::VecDeque;
 
-/// More changes than any memory holds.
-const MOST: u64 = 1 << 60;
-
-/// All changes of a directory, the pending ones too.
+/// The changes of a directory that are not published yet.
 #[derive(Drop)]
-pub struct Changes<J: Naming, A: Allocator> {
-    tail: Tail<J>,
-    /// The list up to the last change that is published.
-    pub(crate) published: History<J>,
-    /// The list up to the last change that the writer has.
-    pub(crate) handed: History<J>,
-    pub(crate) all: History<J>,
-    /// The list up to each change that the writer does not have yet.
-    pub(crate) waiting: VecDeque<History<J>, A>,
-    ghost begins: { all ≡ published ++ drop (length published) all },
-    ghost ends: { fold (λ changes longer. longer) handed waiting.items ≡ all },
+pub struct Changes<A: Allocator> {
+    pub(crate) pending: Vec<Change, A>,
+    /// So many of them, from the front, were handed to a publication that was refused.
+    pub(crate) entered: usize,
+    ghost within: { entered ≤ length pending.items },
 }
 
-impl<J: Naming, A: Allocator> Changes<J, A> {
-    ghost use Rattle.nmvs_directory.specs.Changes.{pending_changes, IsSameList, KeepsPublished};
+impl<A: Allocator> Changes<A> {
+    ghost use Rattle.nmvs_directory.specs.Changes.{pending_changes, entered_changes, KeepsEntered, IsFull};
 
-    pub(crate) fn new(tail: Tail<J>, alloc: A, empty: History<J>) -> Changes<J, A>
-        requires { empty ≡ [] }
-        ensures published { result.published ≡ [] }
-        ensures handed { result.handed ≡ [] }
-        ensures all { result.all ≡ [] }
+    pub(crate) fn new(alloc: A) -> Changes<A>
+        ensures pending { pending_changes result ≡ [] }
+        ensures entered { entered_changes result ≡ [] }
     {
         Changes {
-            tail,
-            published: empty.again(),
-            handed: empty.again(),
-            all: empty,
-            waiting: VecDeque::new(alloc),
+            pending: Vec::new(alloc),
+            entered: 0,
         }
     }
 
     fn add(&mut self, change: Change) -> Result<(), AllocError>
-        ensures published { KeepsPublished self.old self.new }
+        ensures entered { KeepsEntered self.old self.new }
         ensures ok { OnOk result
             (pending_changes self.new ≡ pending_changes self.old ++ change ∷ []) }
         ensures err { OnErr result (pending_changes self.new ≡ pending_changes self.old) }
+        ensures full { OnErr result (IsFull self.old) }
     {
-        self.waiting.reserve(1)?;
-        if self.all.len() >= MOST {
-            return Err(AllocError);
-        }
-        let all = self.all.add(&self.tail, change).ok_or(AllocError)?;
-        self.waiting.push_back_reserved(all.again());
-        self.all = all;
+        // For the proof alone: the type is named before the list is of it.
+        let _actor: Option<Actor> = change.actor;
+        self.pending.push(change)?;
         Ok(())
     }
 
     /// Adds one pending change: the user is this actor.
     ///
-    /// It answers `AllocError` where there is no memory for the change.
+    /// It answers `AllocError` where the changes have no room for one more and memory for it is refused.
     pub fn enrol(&mut self, user: Name, actor: Actor) -> Result<(), AllocError>
-        ensures published { KeepsPublished self.old self.new }
+        ensures entered { KeepsEntered self.old self.new }
         ensures ok { OnOk result (pending_changes self.new
             ≡ pending_changes self.old ++ record { user = user; actor = Some actor } ∷ []) }
         ensures err { OnErr result (pending_changes self.new ≡ pending_changes self.old) }
+        ensures full { OnErr result (IsFull self.old) }
     {
         self.add(Change {
             user,
@@ -77,49 +59,50 @@ impl<J: Naming, A: Allocator> Changes<J, A> {
 
     /// Adds one pending change: the user is suspended.
     ///
-    /// It answers `AllocError` where there is no memory for the change.
+    /// It answers `AllocError` where the changes have no room for one more and memory for it is refused.
     pub fn suspend(&mut self, user: Name) -> Result<(), AllocError>
-        ensures published { KeepsPublished self.old self.new }
+        ensures entered { KeepsEntered self.old self.new }
         ensures ok { OnOk result (pending_changes self.new
             ≡ pending_changes self.old ++ record { user = user; actor = None } ∷ []) }
         ensures err { OnErr result (pending_changes self.new ≡ pending_changes self.old) }
+        ensures full { OnErr result (IsFull self.old) }
     {
         self.add(Change { user, actor: None })
     }
 
-    /// Whether a change is not published yet.
+    /// Whether a change is pending.
     pub(crate) fn has_pending(&self) -> bool
         ensures { MatchBool result (0 < length (pending_changes self.now))
             (pending_changes self.now ≡ []) }
     {
-        self.published.len() < self.all.len()
+        !self.pending.is_empty()
     }
 
-    /// The list up to the first change that the writer does not have.
-    pub(crate) fn first_waiting(&self) -> Option<History<J>>
-        ensures { MatchOption result (self.now.waiting.items ≡ [])
-            (λ first. self.now.waiting.items ≡ first ∷ drop 1 self.now.waiting.items) }
+    /// The first change that no publication was handed.
+    pub(crate) fn next(&self) -> Option<Change>
+        ensures some { IfSome result (λ change. self.now.entered < length (pending_changes self.now)) }
+        ensures next { IfSome result (λ change. take (self.now.entered + 1) (pending_changes self.now)
+            ≡ entered_changes self.now ++ change ∷ []) }
+        ensures none { IfNone result (entered_changes self.now ≡ pending_changes self.now) }
     {
-        Some(self.waiting.front()?.again())
+        Some(*self.pending.get(self.entered)?)
     }
 
-    /// Notes that the writer has the first change that it did not have.
-    pub(crate) fn hand_first(&mut self, first: History<J>)
-        requires { self.old.waiting.items ≡ first ∷ drop 1 self.old.waiting.items }
-        ensures list { IsSameList self.old self.new }
-        ensures handed { self.new.handed ≡ first }
-        ensures waiting { self.new.waiting.items ≡ drop 1 self.old.waiting.items }
+    /// Notes that a publication was handed that change.
+    pub(crate) fn enter_next(&mut self)
+        requires { self.old.entered < length (pending_changes self.old) }
+        ensures pending { pending_changes self.new ≡ pending_changes self.old }
+        ensures entered { self.new.entered ≡ self.old.entered + 1 }
     {
-        drop(self.waiting.pop_front());
-        self.handed = first;
+        self.entered += 1;
     }
 
-    /// Notes that the whole list was published.
-    pub(crate) fn publish(&mut self)
-        ensures published { self.new.published ≡ self.old.all }
-        ensures handed { self.new.handed ≡ self.old.handed }
+    /// Notes that all were published.
+    pub(crate) fn clear(&mut self)
         ensures pending { pending_changes self.new ≡ [] }
+        ensures entered { entered_changes self.new ≡ [] }
     {
-        self.published = self.all.again();
+        self.entered = 0;
+        self.pending.clear();
     }
 }

@@ -26,6 +26,15 @@ impl<J: Naming> Notice<J> {
         Notice { told }
     }
 
+    /// A copy.
+    pub fn again(&self) -> Notice<J>
+        ensures { result ≡ self.now }
+    {
+        Notice {
+            told: self.told.again(),
+        }
+    }
+
     /// The published changes.
     pub(crate) fn history(&self) -> &History<J>
         ensures { result.now ≡ self.now }

@@ -1,6 +1,7 @@
 //! Who changes the users.
-ghost use Rattle.std.specs.Prelude.{◌≡◌, ◌++◌, [], fold, MatchResult, IfOk, IsOk};
+ghost use Rattle.std.specs.Prelude.{◌≡◌, ◌+◌, ◌<◌, ◌≤◌, ◌++◌, [], ◌∷◌, take, length, fold, MatchResult, IfOk, IsOk};
 ghost use Rattle.left_right.specs.Handles;
+ghost use Rattle.nmvs_directory.specs.Changes.{entered_changes};
 
 use crate::history::{History, Tail};
 use crate::users::Users;
@@ -9,51 +10,102 @@ use left_right::{Absorb, WriteHandle};
 use std::alloc::{AllocError, Allocator};
 use std::sync::Wait;
 
-/// It alone changes the users of a directory, and publishes what it changed.
+/// More changes than any memory holds.
+const MOST: u64 = 1 << 60;
+
+/// It alone changes the users of a directory, and publishes what it changed. It has the end of the directory's list of
+/// changes: a change joins the list where a publication is handed it, and not before.
 #[derive(Drop)]
 pub struct Registrar<J: Naming, R: Wait + Drop, A: Allocator>
 where
     Users<J, A>: Absorb<History<J>, State = [Change; 0]>,
 {
     /// Where users are enrolled and suspended, which waits for nobody.
-    pub changes: Changes<J, A>,
+    pub changes: Changes<A>,
+    tail: Tail<J>,
+    /// The list up to the last change that is published.
+    published: History<J>,
+    /// The list up to the last change that the writer has.
+    handed: History<J>,
+    /// The whole list.
+    list: History<J>,
     writer: WriteHandle<Users<J, A>, History<J>, R, A>,
-    ghost shown: { Handles.published writer ≡ changes.published },
-    ghost handed: { fold (λ changes longer. longer) (Handles.published writer) (Handles.pending writer) ≡ changes.handed },
+    ghost shown: { Handles.published writer ≡ published },
+    ghost has: { fold (λ changes longer. longer) (Handles.published writer) (Handles.pending writer) ≡ handed },
+    ghost entered: { list ≡ published ++ entered_changes changes },
+    ghost ahead: { length list ≤ length handed → list ≡ handed },
 }
 
 impl<J: Naming, R: Wait + Drop, A: Allocator> Registrar<J, R, A> {
     ghost use Rattle.nmvs_directory.specs.Registrar.{published, pending};
-    ghost use Rattle.nmvs_directory.specs.Changes.{IsSameList};
 
     pub(crate) fn new(
         tail: Tail<J>,
         alloc: A,
         writer: WriteHandle<Users<J, A>, History<J>, R, A>,
-        all: History<J>,
+        empty: History<J>,
     ) -> Registrar<J, R, A>
-        requires { (Handles.published writer ≡ []) × (Handles.pending writer ≡ []) × (all ≡ []) }
+        requires { (Handles.published writer ≡ []) × (Handles.pending writer ≡ []) × (empty ≡ []) }
         ensures published { published result ≡ [] }
         ensures pending { pending result ≡ [] }
     {
         Registrar {
-            changes: Changes::new(tail, alloc, all),
+            changes: Changes::new(alloc),
+            tail,
+            published: empty.again(),
+            handed: empty.again(),
+            list: empty,
             writer,
         }
     }
 
-    /// Hands the pending changes to the writer, which may have no memory for them.
-    fn hand_over(&mut self) -> Result<(), AllocError>
+    /// Hands the end of the list to the writer, where the writer lacks it and has memory for it.
+    fn hand_last(&mut self) -> Result<(), AllocError>
         ensures published { published self.new ≡ published self.old }
-        ensures list { IsSameList self.old.changes self.new.changes }
-        ensures waiting { IfOk result (λ _. self.new.changes.waiting.items ≡ []) }
+        ensures changes { self.new.changes ≡ self.old.changes }
+        ensures list { self.new.list ≡ self.old.list }
+        ensures handed { IfOk result (λ _. self.new.handed ≡ self.new.list) }
     {
-        while let Some(first) = self.changes.first_waiting() {
-            if self.writer.append(first.again()).is_err() {
+        if self.handed.len() < self.list.len() {
+            if self.writer.append(self.list.again()).is_err() {
                 return Err(AllocError);
             }
-            self.changes.hand_first(first);
+            self.handed = self.list.again();
         }
+        Ok(())
+    }
+
+    /// Adds the pending changes to the list one by one, and hands each to the writer, which may have no memory for it.
+    fn hand_over(&mut self) -> Result<(), AllocError>
+        ensures published { published self.new ≡ published self.old }
+        ensures pending { pending self.new ≡ pending self.old }
+        ensures handed { IfOk result (λ _. self.new.handed ≡ self.new.list) }
+        ensures entered { IfOk result (λ _. entered_changes self.new.changes ≡ pending self.old) }
+    {
+        self.hand_last()?;
+        while let Some(change) = self.changes.next() {
+            self.enter(change)?;
+            self.hand_last()?;
+        }
+        Ok(())
+    }
+
+    /// Adds the first change that no publication was handed to the list.
+    fn enter(&mut self, change: Change) -> Result<(), AllocError>
+        requires handed { self.old.handed ≡ self.old.list }
+        requires some { self.old.changes.entered < length (pending self.old) }
+        requires next { take (self.old.changes.entered + 1) (pending self.old)
+            ≡ entered_changes self.old.changes ++ change ∷ [] }
+        ensures published { published self.new ≡ published self.old }
+        ensures pending { pending self.new ≡ pending self.old }
+        ensures entered { IfOk result (λ _.
+            self.new.changes.entered ≡ self.old.changes.entered + 1) }
+    {
+        if self.list.len() >= MOST {
+            return Err(AllocError);
+        }
+        self.list = self.list.add(&self.tail, change).ok_or(AllocError)?;
+        self.changes.enter_next();
         Ok(())
     }
 
@@ -73,9 +125,10 @@ impl<J: Naming, R: Wait + Drop, A: Allocator> Registrar<J, R, A> {
         if self.changes.has_pending() {
             self.hand_over()?;
             self.writer.publish()?;
-            self.changes.publish();
+            self.published = self.list.again();
+            self.changes.clear();
         }
-        Ok(Notice::new(self.changes.published.again()))
+        Ok(Notice::new(self.published.again()))
     }
 
     /// Ends the directory. Pending changes are lost, and what its windows answer afterwards is left open. It waits for

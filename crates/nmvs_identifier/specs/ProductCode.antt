@@ -8,11 +8,11 @@ use Rattle.nmvs_identifier.specs.Texts.{Text}
 abbrev pub ProductCode : Type 0
 ProductCode = Text
 
--- the weight of a place, counted from 0 at the left: 3 and 1 in turn
+-- the weight of a position, counted from 0 at the left: 3 and 1 in turn
 abbrev pub weight : ℕ → ℕ
 weight i = if i % 2 == 0 then 3 else 1
 
--- each digit times the weight of its place, added up, where the first stands at place i
+-- each digit times the weight of its position, added up, where the first stands at position i
 abbrev pub weighted_sum : ℕ → List ℕ → ℕ
 weighted_sum i [] = 0
 weighted_sum i (d ∷ ds) = weight i * digit_value d + weighted_sum (i + 1) ds

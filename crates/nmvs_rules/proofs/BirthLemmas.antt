@@ -26,7 +26,7 @@ is_some-known_from t p (Some u) h =
     is_some-known_at t p (unwrap_or (mark t p) u) u.put.question (first_so _ _ (first_so _ _ (find-passes (accepted_upload p) t u h)))
 
 -- a pack is known where it was uploaded
-is_some-known : (t : List Entry) (p : Pack) → is_some (known t p) ≡ is_some (born t p)
+pub is_some-known : (t : List Entry) (p : Pack) → is_some (known t p) ≡ is_some (born t p)
 is_some-known t p = is_some-known_from t p (born t p) refl
 
 births-more : (o : Option Entry) (b : Bool) (e : Entry) (n m : ℕ) → (b ≡ true → is_some o ≡ false) → n ≡ cond (is_some o) 1 0 → m ≡ n + cond b 1 0 → m ≡ cond (is_some (option_or o (cond b (Some e) None))) 1 0

@@ -17,7 +17,7 @@ use Rattle.nmvs_rules.specs.declared.facts.Known.{Known}
 use Rattle.nmvs_rules.specs.Questions.{pack_of, names}
 use Rattle.nmvs_rules.specs.Trail.{known, marked_by, born_by, mark_after, accepts, is_about, is_mark, is_upload, own_given, own_by_reason}
 use Rattle.nmvs_rules.specs.Rules.{is_active, is_held, is_stolen, is_destroyed, is_supplied, reply_of, IsLawfulAfter, IsLawful}
-use Rattle.nmvs_rules.specs.Operations.{uploads, decommissions, hands_over, supplies, reverts, confirms, operates}
+use Rattle.nmvs_rules.specs.Operations.{uploads, decommissions, hands_over, supplies, reverts, confirms, goes_on, operates}
 use Rattle.nmvs_rules.specs.Laws.{is_handover, may_become, IsMovedOn, IsBorn}
 use Rattle.nmvs_rules.proofs.Accepted.{accepted_upload, accepted_decommissioning, accepted_supply, accepted_reversion, is_decommissioning, is_supply, is_reversion, is_theft, uploads-is, decommissions-is, hands_over-is, supplies-is, reverts-is, confirms-is, operates-is, left}
 use Rattle.nmvs_rules.proofs.PushLemmas.{known-push}
@@ -210,14 +210,18 @@ behind before between after e later lawful =
 pub behind-keeps : (P : List Entry → Type 0) → ((t : List Entry) (e : Entry) → P t → e.reply ≡ reply_of t e.put → P (t ++ e ∷ [])) → (u v : List Entry) (e : Entry) → P (u ++ e ∷ []) → IsLawfulAfter (u ++ e ∷ []) v → P (u ++ e ∷ v)
 behind-keeps P step u v e h lawful = subst P (append_assoc u (e ∷ []) v) (IsLawfulAfter-keeps P step (u ++ e ∷ []) v h lawful)
 
--- after the supply of a pack it is neither decommissioned nor handed over nor reverted nor confirmed
-pub supplied-once : (before between after : List Entry) (supply later : Entry) (p : Pack) → IsLawful (before ++ supply ∷ between ++ later ∷ after) → supplies p supply ≡ true → (decommissions p later ≡ false) × (hands_over p later ≡ false) × (reverts p later ≡ false) × (confirms p later ≡ false)
-supplied-once before between after supply later p lawful supplied_by = (
-  decommissions-is p later ∙ never _ (λ d. let a = known-holds t p gone.0 _ gone.1 (accepted_decommissioning-tells t later p at.later d) in gone-not_active gone.0.own gone.2 a.active),
-  hands_over-is p later ∙ never _ (λ h. let a = known-holds t p gone.0 _ gone.1 (accepted_handover-tells t later p at.later h) in gone-not_held gone.0.own gone.2 a.held),
-  reverts-is p later ∙ never _ (λ r. let a = known-holds t p gone.0 _ gone.1 (accepted_reversion-tells t later p at.later r) in gone-not_reversible gone.0.own gone.2 a.not_supplied a.not_stolen),
-  confirms-is p later ∙ never _ (λ c. let a = known-holds t p gone.0 _ gone.1 (authentic_answer-tells t later p at.later c) in gone-not_active gone.0.own gone.2 a.active),
-)
+-- an entry that does none of the four does not let the pack go on
+pub stays-by : (p : Pack) (e : Entry) → decommissions p e ≡ false → hands_over p e ≡ false → reverts p e ≡ false → confirms p e ≡ false → goes_on p e ≡ false
+stays-by p e d h r c = rw (d, h, r, c) refl
+
+-- after the supply of a pack it does not go on
+pub supplied-once : (before between after : List Entry) (supply later : Entry) (p : Pack) → IsLawful (before ++ supply ∷ between ++ later ∷ after) → supplies p supply ≡ true → goes_on p later ≡ false
+supplied-once before between after supply later p lawful supplied_by =
+    stays-by p later
+    (decommissions-is p later ∙ never _ (λ d. let a = known-holds t p gone.0 _ gone.1 (accepted_decommissioning-tells t later p at.later d) in gone-not_active gone.0.own gone.2 a.active))
+    (hands_over-is p later ∙ never _ (λ h. let a = known-holds t p gone.0 _ gone.1 (accepted_handover-tells t later p at.later h) in gone-not_held gone.0.own gone.2 a.held))
+    (reverts-is p later ∙ never _ (λ r. let a = known-holds t p gone.0 _ gone.1 (accepted_reversion-tells t later p at.later r) in gone-not_reversible gone.0.own gone.2 a.not_supplied a.not_stolen))
+    (confirms-is p later ∙ never _ (λ c. let a = known-holds t p gone.0 _ gone.1 (authentic_answer-tells t later p at.later c) in gone-not_active gone.0.own gone.2 a.active))
   where
     t : List Entry
     t = before ++ supply ∷ between

@@ -1,7 +1,7 @@
 -- The first entry that passes a test.
 use Rattle.std.proofs.Common.{◌≡◌, Bool, true, false, ◌||◌, cond, List, [], ◌∷◌, Option, Some, None, IsSomeAnd, refl, subst, arith}
 use Rattle.std.specs.List.{find, list_any}
-use Rattle.std.specs.Option.{is_some}
+use Rattle.std.specs.Option.{is_some, option_map_or}
 
 -- what `find` gives passes
 pub find-passes : {X : Type 0} (p : X → Bool) → (xs : List X) (x : X) → find p xs ≡ Some x → p x ≡ true
@@ -39,3 +39,8 @@ is-none (Some x) h = cc
 pub from-some : {X : Type 0} (o : Option X) (P : X → Type 0) → IsSomeAnd o P → (x : X) × (o ≡ Some x) × P x
 from-some None P h = absurd h
 from-some (Some x) P h = (x, refl, h)
+
+-- an option whose value passes, as that value
+pub from-passing : {X : Type 0} (p : X → Bool) (o : Option X) → option_map_or p o false ≡ true → (x : X) × (o ≡ Some x) × (p x ≡ true)
+from-passing p None h = cc
+from-passing p (Some x) h = (x, refl, h)

@@ -22,17 +22,19 @@ use Rattle.nmvs_rules.proofs.TextLemmas.{same_text-bytes}
 use Rattle.nmvs_rules.proofs.ReplyLemmas.{upload-holder, theft-holder, lock-holder, reply-question}
 
 -- the holder is the authorisation of the first upload of the product code
-holder-first : (t : List Entry) (c : ProductCode) → holder_of t c ≡ option_map (λ e. e.put.actor.authorisation) (find (uploads_code c) t)
+pub holder-first : (t : List Entry) (c : ProductCode) → holder_of t c ≡ option_map (λ e. e.put.actor.authorisation) (find (uploads_code c) t)
 holder-first t c = ap (option_map (λ e. e.put.actor.authorisation)) (sym (first-upload_of_code t c))
 
-held : (t : List Entry) (c : ProductCode) (n : Name) → is_held_by (holder_of t c) n ≡ true → IsHeldBy t c n
+-- one that is the holder uploaded first
+pub held : (t : List Entry) (c : ProductCode) (n : Name) → is_held_by (holder_of t c) n ≡ true → IsHeldBy t c n
 held t c n h = by (find (uploads_code c) t) (sym (ap (λ o. is_held_by o n) (holder-first t c)) ∙ h)
   where
     by : (o : Option Entry) → is_held_by (option_map (λ e. e.put.actor.authorisation) o) n ≡ true → IsSomeAnd o (λ u. u.put.actor.authorisation.bytes ≡ n.bytes)
     by None wrong = cc
     by (Some u) same = same_text-bytes u.put.actor.authorisation n same
 
-not-other : (t : List Entry) (c : ProductCode) (n : Name) → has_other_holder (holder_of t c) n ≡ false → list_any (uploads_code c) t ≡ true → IsHeldBy t c n
+-- so is one beside whom nobody is, where there was an upload
+pub not-other : (t : List Entry) (c : ProductCode) (n : Name) → has_other_holder (holder_of t c) n ≡ false → list_any (uploads_code c) t ≡ true → IsHeldBy t c n
 not-other t c n h some = by (find (uploads_code c) t) (is_some-find (uploads_code c) t ∙ some) (sym (ap (λ o. has_other_holder o n) (holder-first t c)) ∙ h)
   where
     by : (o : Option Entry) → is_some o ≡ true → has_other_holder (option_map (λ e. e.put.actor.authorisation) o) n ≡ false → IsSomeAnd o (λ u. u.put.actor.authorisation.bytes ≡ n.bytes)

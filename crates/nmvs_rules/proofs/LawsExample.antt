@@ -1,20 +1,23 @@
 -- The words of the laws on a worked trail.
-use Rattle.std.proofs.Common.{◌≡◌, ℕ, true, false, List, [], ◌∷◌, Some, refl}
-use Rattle.std.specs.Prelude.{codes, filter}
+use Rattle.std.proofs.Common.{◌≡◌, ℕ, true, false, List, [], ◌∷◌, Some, None, inl, inr, refl}
+use Rattle.std.specs.Prelude.{codes, filter, map}
 use Rattle.nmvs_identifier.specs.Texts.{Text}
 use Rattle.nmvs_identifier.specs.declared.pack.Pack.{Pack}
 use Rattle.nmvs_rules.specs.declared.actor.Actor.{Actor}
 use Rattle.nmvs_rules.specs.declared.role.Role.TheVariants as role
+use Rattle.nmvs_rules.specs.declared.reason.Reason.{Reason}
 use Rattle.nmvs_rules.specs.declared.reason.Reason.TheVariants as reason
+use Rattle.nmvs_rules.specs.declared.own_status.OwnStatus.{OwnStatus}
+use Rattle.nmvs_rules.specs.declared.own_status.OwnStatus.TheVariants as own
 use Rattle.nmvs_rules.specs.declared.question.Question.{Question}
-use Rattle.nmvs_rules.specs.declared.question.Question.TheVariants.{Upload, Verify, Decommission, Handover, Revert, Recall}
+use Rattle.nmvs_rules.specs.declared.question.Question.TheVariants.{Upload, Verify, Decommission, Handover, Revert, Recall, Withdraw, Theft}
 use Rattle.nmvs_rules.specs.declared.reply.Reply.{Reply}
 use Rattle.nmvs_rules.specs.declared.reply.Reply.TheVariants as reply
 use Rattle.nmvs_rules.specs.declared.refusal.Refusal.TheVariants as refusal
 use Rattle.nmvs_rules.specs.declared.cause.Cause.TheVariants as cause
 use Rattle.nmvs_rules.specs.declared.entry.Entry.{Entry}
-use Rattle.nmvs_rules.specs.Operations.{uploads, decommissions, hands_over, supplies, reverts, confirms, binds, operates, last_operation, alarm}
-use Rattle.nmvs_rules.specs.Laws.{part_of, owned, alert_numbers}
+use Rattle.nmvs_rules.specs.Operations.{uploads, decommissions, hands_over, supplies, reverts, confirms, binds, holds, goes_on, operates, last_operation, alarm}
+use Rattle.nmvs_rules.specs.Laws.{part_of, owned, may_become, AsksAuthenticity, AsksLock, circulating, alert_numbers}
 
 abbrev text : List ℕ → Text
 text s = record { bytes = s }
@@ -138,3 +141,57 @@ owned-0 = refl
 
 owned-1 : owned (0 ∷ 0 ∷ 1 ∷ 0 ∷ []) (upload ∷ confirmation ∷ other_alert ∷ hold ∷ []) 1 ≡ other_alert ∷ []
 owned-1 = refl
+
+-- what lets the pack go on
+goes_on-trail : filter (goes_on first) trail ≡ confirmation ∷ hold ∷ revert ∷ supply ∷ []
+goes_on-trail = refl
+
+goes_on-handed_over : filter (goes_on first) handed_over ≡ hold ∷ handover ∷ []
+goes_on-handed_over = refl
+
+goes_on-other : filter (goes_on other) trail ≡ []
+goes_on-other = refl
+
+-- a pack is held by one of the five decommissionings
+abbrev decommission : Reason → Entry
+decommission w = entry (Decommission first w) reply.Decommissioned
+
+holds-each : filter (holds first) (map decommission (reason.Supply ∷ reason.Hold ∷ reason.Export ∷ reason.Sample ∷ reason.Destroy ∷ [])) ≡ hold ∷ []
+holds-each = refl
+
+-- what an alert says after each: Destroyed and the locks are not flagged
+alarm-decommissioned : map (λ w. alarm (Decommission first w)) (reason.Supply ∷ reason.Hold ∷ reason.Export ∷ reason.Sample ∷ reason.Destroy ∷ []) ≡ Some (cause.Supplied, true) ∷ Some (cause.Held, true) ∷ Some (cause.Exported, true) ∷ Some (cause.Sampled, true) ∷ Some (cause.Destroyed, false) ∷ []
+alarm-decommissioned = refl
+
+alarm-others : map alarm (Handover first ∷ Theft first ∷ Recall first.code batch ∷ Withdraw first.code batch ∷ upload.put.question ∷ Revert first ∷ []) ≡ Some (cause.Supplied, true) ∷ Some (cause.Stolen, true) ∷ Some (cause.Recalled, false) ∷ Some (cause.Withdrawn, false) ∷ None ∷ None ∷ []
+alarm-others = refl
+
+-- which own statuses may follow each, in the order of the list
+abbrev owns : List OwnStatus
+owns = own.Active ∷ own.Held ∷ own.Supplied ∷ own.Exported ∷ own.Sampled ∷ own.Destroyed ∷ own.Stolen ∷ []
+
+followers : map (λ o. filter (may_become o) owns) owns ≡ (own.Held ∷ own.Supplied ∷ own.Exported ∷ own.Sampled ∷ own.Destroyed ∷ own.Stolen ∷ []) ∷ (own.Active ∷ own.Supplied ∷ own.Stolen ∷ []) ∷ (own.Stolen ∷ []) ∷ (own.Active ∷ own.Stolen ∷ []) ∷ (own.Active ∷ own.Stolen ∷ []) ∷ (own.Stolen ∷ []) ∷ [] ∷ []
+followers = refl
+
+-- a recall and a withdrawal ask for a lock, a verification and a decommissioning whether the pack is authentic
+asks-recall : AsksLock first.code batch (Recall first.code batch)
+asks-recall = inl refl
+
+asks-withdrawal : AsksLock first.code batch (Withdraw first.code batch)
+asks-withdrawal = inr refl
+
+asks-verification : AsksAuthenticity first (Verify first)
+asks-verification = inl refl
+
+asks-decommissioning : (w : Reason) → AsksAuthenticity first (Decommission first w)
+asks-decommissioning w = inr (w, refl)
+
+-- of two packs of a batch one circulates
+abbrev second : Pack
+second = record { code = first.code; serial = text (codes "SN2") }
+
+circulating-batch : circulating (upload ∷ entry (Upload second batch (text (codes "280200"))) reply.Uploaded ∷ hold ∷ []) first.code batch ≡ 1
+circulating-batch = refl
+
+circulating-trail : circulating (upload ∷ hold ∷ revert ∷ []) first.code batch ≡ 1
+circulating-trail = refl

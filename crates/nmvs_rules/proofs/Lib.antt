@@ -18,6 +18,7 @@ pub mod AlertLemmas
 pub mod AuditLemmas
 pub mod AlertingLemmas
 pub mod HolderLemmas
+pub mod AcceptanceLemmas
 pub mod OldTrails
 mod WorkedExample
 mod LawsExample

@@ -34,7 +34,8 @@ is_some-find-reverse {X} p (x ∷ xs) =
     ∙ some-or (find p (reverse xs)) (p x) x
     ∙ ap (λ b. p x || b) (is_some-find-reverse p xs)
 
-is-some : {X : Type 0} (o : Option X) → is_some o ≡ true → (x : X) × (o ≡ Some x)
+-- what is some has a value
+pub is-some : {X : Type 0} (o : Option X) → is_some o ≡ true → (x : X) × (o ≡ Some x)
 is-some None h = cc
 is-some (Some x) h = (x, refl)
 

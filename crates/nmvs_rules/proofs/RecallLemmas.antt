@@ -14,13 +14,13 @@ use Rattle.nmvs_rules.specs.declared.facts.Known.{Known}
 use Rattle.nmvs_rules.specs.declared.question.Question.TheVariants.{Upload}
 use Rattle.nmvs_rules.specs.Trail.{born, known, lock_by, lock_of}
 use Rattle.nmvs_rules.specs.Rules.{is_free, lock_on, IsLawful}
-use Rattle.nmvs_rules.specs.Operations.{decommissions, reverts, confirms, binds}
+use Rattle.nmvs_rules.specs.Operations.{binds, goes_on}
 use Rattle.nmvs_rules.specs.Laws.{IsUploadedWith}
-use Rattle.nmvs_rules.proofs.Accepted.{accepted_upload, accepted_lock, decommissions-is, reverts-is, confirms-is, binds-is}
+use Rattle.nmvs_rules.proofs.Accepted.{accepted_upload, accepted_lock, decommissions-is, hands_over-is, reverts-is, confirms-is, binds-is}
 use Rattle.nmvs_rules.proofs.PushLemmas.{lock_of-push, locks_batch-binds}
 use Rattle.nmvs_rules.proofs.MarkLemmas.{known-by, birth-of}
-use Rattle.nmvs_rules.proofs.CourseLemmas.{Behind, behind, behind-keeps, never}
-use Rattle.nmvs_rules.proofs.ReplyLemmas.{accepted_decommissioning-tells, accepted_reversion-tells, authentic_answer-tells}
+use Rattle.nmvs_rules.proofs.CourseLemmas.{Behind, behind, behind-keeps, never, stays-by}
+use Rattle.nmvs_rules.proofs.ReplyLemmas.{accepted_decommissioning-tells, accepted_handover-tells, accepted_reversion-tells, authentic_answer-tells}
 
 bound-keeps : (l m : BatchLock) → is_free l ≡ false → is_free (cond (is_free l) m l) ≡ false
 bound-keeps lock.Free m h = cc
@@ -53,13 +53,14 @@ of-batch t v p b x k is h =
     let question : Upload by.pack k.batch k.expiry ≡ Upload upload.2.0 b x = sym by.question ∙ ap (λ e. e.put.question) entry ∙ upload.2.1 in
     cc
 
--- after a recall or withdrawal no pack of the batch is decommissioned, reverted or confirmed
-pub recall-binds : (before between after : List Entry) (recall later : Entry) (p : Pack) (b : Batch) (x : Expiry) → IsLawful (before ++ recall ∷ between ++ later ∷ after) → binds p.code b recall ≡ true → IsUploadedWith (before ++ recall ∷ between ++ later ∷ after) p b x → (decommissions p later ≡ false) × (reverts p later ≡ false) × (confirms p later ≡ false)
-recall-binds before between after recall later p b x lawful h uploaded = (
-  decommissions-is p later ∙ never _ (λ d. let k = accepted_decommissioning-tells t later p at.later d in free k.0 k.1 k.2.free),
-  reverts-is p later ∙ never _ (λ r. let k = accepted_reversion-tells t later p at.later r in free k.0 k.1 k.2.free),
-  confirms-is p later ∙ never _ (λ s. let k = authentic_answer-tells t later p at.later s in free k.0 k.1 k.2.free),
-)
+-- after a recall or withdrawal no pack of the batch goes on
+pub recall-binds : (before between after : List Entry) (recall later : Entry) (p : Pack) (b : Batch) (x : Expiry) → IsLawful (before ++ recall ∷ between ++ later ∷ after) → binds p.code b recall ≡ true → IsUploadedWith (before ++ recall ∷ between ++ later ∷ after) p b x → goes_on p later ≡ false
+recall-binds before between after recall later p b x lawful h uploaded =
+    stays-by p later
+    (decommissions-is p later ∙ never _ (λ d. let k = accepted_decommissioning-tells t later p at.later d in free k.0 k.1 k.2.free))
+    (hands_over-is p later ∙ never _ (λ h. let k = accepted_handover-tells t later p at.later h in free k.0 k.1 k.2.free))
+    (reverts-is p later ∙ never _ (λ r. let k = accepted_reversion-tells t later p at.later r in free k.0 k.1 k.2.free))
+    (confirms-is p later ∙ never _ (λ s. let k = authentic_answer-tells t later p at.later s in free k.0 k.1 k.2.free))
   where
     t : List Entry
     t = before ++ recall ∷ between

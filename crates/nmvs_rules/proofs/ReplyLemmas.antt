@@ -21,7 +21,7 @@ use Rattle.nmvs_rules.specs.declared.refusal.Refusal.TheVariants as refusal
 use Rattle.nmvs_rules.specs.declared.put.Put.{Put}
 use Rattle.nmvs_rules.specs.Questions.{may_ask, pack_of, names}
 use Rattle.nmvs_rules.specs.Trail.{known, accepts, is_mark, is_upload, holder_of, lock_of, count_of, is_known_batch}
-use Rattle.nmvs_rules.specs.Rules.{on_pack, lock_on, is_active, is_free, is_held, is_stolen, is_destroyed, is_supplied, is_authentic, is_past, is_same_place, is_in_time, is_held_by, has_other_holder, lock_reply, admitted_reply, reply_of}
+use Rattle.nmvs_rules.specs.Rules.{on_pack, lock_on, is_active, is_free, is_held, is_stolen, is_destroyed, is_supplied, is_authentic, is_past, is_same_house, is_in_time, is_held_by, has_other_holder, lock_reply, admitted_reply, reply_of}
 use Rattle.nmvs_rules.specs.Laws.{is_handover}
 use Rattle.nmvs_rules.proofs.Accepted.{is_decommissioning, is_reversion, is_theft, is_confirmed, accepted_upload, accepted_decommissioning, accepted_handover, accepted_reversion, authentic_answer}
 use Rattle.nmvs_rules.proofs.TextLemmas.{same_pack-equal}
@@ -35,7 +35,8 @@ pub cond-else : (b : Bool) (x y z : Reply) → (x ≡ z → ⊥) → cond b x y 
 cond-else true x y z other e = absurd (other e)
 cond-else false x y z other e = (refl, e)
 
-cond-then : (b : Bool) (x y z : Reply) → (y ≡ z → ⊥) → cond b x y ≡ z → (b ≡ true) × (x ≡ z)
+-- and one that isn't the second's from the first
+pub cond-then : (b : Bool) (x y z : Reply) → (y ≡ z → ⊥) → cond b x y ≡ z → (b ≡ true) × (x ≡ z)
 cond-then true x y z other e = (refl, e)
 cond-then false x y z other e = absurd (other e)
 
@@ -59,7 +60,7 @@ pub record IsAuthentic (t : List Entry) (p : Pack) (k : Known) : Type 0 where
 pub record IsHeldHere (t : List Entry) (a : Actor) (p : Pack) (k : Known) : Type 0 where
   pub free : is_free (lock_on t p k) ≡ true
   pub held : is_held k.own ≡ true
-  pub same_place : is_same_place a k.mark ≡ true
+  pub same_house : is_same_house a k.mark ≡ true
 
 -- what a reversion that is accepted tells
 pub record IsReversible (t : List Entry) (n : ℕ) (a : Actor) (p : Pack) (k : Known) : Type 0 where
@@ -68,7 +69,7 @@ pub record IsReversible (t : List Entry) (n : ℕ) (a : Actor) (p : Pack) (k : K
   pub not_stolen : is_stolen k.own ≡ false
   pub not_destroyed : is_destroyed k.own ≡ false
   pub not_supplied : is_supplied k.own ≡ false
-  pub same_place : is_same_place a k.mark ≡ true
+  pub same_house : is_same_house a k.mark ≡ true
   pub in_time : is_in_time n k.mark ≡ true
   pub not_expired : is_past k.expiry n ≡ false
 
@@ -88,15 +89,16 @@ decommission-tells t n a p w h =
     let authentic = cond-then (is_authentic pack.0.own (lock_on t p pack.0)) _ _ _ (λ e. cc) pack.2 in
     (pack.0, pack.1, record { active = first_so _ _ authentic.0; free = second_so (is_active pack.0.own) _ authentic.0 })
 
-handover-tells : (t : List Entry) (n : ℕ) (a : Actor) (p : Pack) → IsReply t n a (Handover p) reply.HandedOver → KnownAnd t p (IsHeldHere t a p)
+-- a pack that is handed over was held here
+pub handover-tells : (t : List Entry) (n : ℕ) (a : Actor) (p : Pack) → IsReply t n a (Handover p) reply.HandedOver → KnownAnd t p (IsHeldHere t a p)
 handover-tells t n a p h =
     let admitted = cond-then (may_ask a.role (Handover p)) _ _ _ (λ e. cc) (sym h) in
     let pack = on_pack-known t p _ _ _ (λ e. cc) admitted.1 in
     let k = pack.0 in
     let free = cond-else (not (is_free (lock_on t p k))) _ _ _ (λ e. cc) pack.2 in
     let held = cond-else (not (is_held k.own)) _ _ _ (λ e. cc) free.1 in
-    let place = cond-else (not (is_same_place a k.mark)) _ _ _ (λ e. cc) held.1 in
-    (k, pack.1, record { free = not-false _ free.0; held = not-false _ held.0; same_place = not-false _ place.0 })
+    let house = cond-else (not (is_same_house a k.mark)) _ _ _ (λ e. cc) held.1 in
+    (k, pack.1, record { free = not-false _ free.0; held = not-false _ held.0; same_house = not-false _ house.0 })
 
 -- a pack that is reverted met the conditions of Article 13(1)
 pub revert-tells : (t : List Entry) (n : ℕ) (a : Actor) (p : Pack) → IsReply t n a (Revert p) reply.Reverted → KnownAnd t p (IsReversible t n a p)
@@ -109,8 +111,8 @@ revert-tells t n a p h =
     let stolen = cond-else (is_stolen k.own) _ _ _ (λ e. cc) active.1 in
     let destroyed = cond-else (is_destroyed k.own) _ _ _ (λ e. cc) stolen.1 in
     let supplied = cond-else (is_supplied k.own) _ _ _ (λ e. cc) destroyed.1 in
-    let place = cond-else (not (is_same_place a k.mark)) _ _ _ (λ e. cc) supplied.1 in
-    let time = cond-else (not (is_in_time n k.mark)) _ _ _ (λ e. cc) place.1 in
+    let house = cond-else (not (is_same_house a k.mark)) _ _ _ (λ e. cc) supplied.1 in
+    let time = cond-else (not (is_in_time n k.mark)) _ _ _ (λ e. cc) house.1 in
     let expired = cond-else (is_past k.expiry n) _ _ _ (λ e. cc) time.1 in (
       k,
       pack.1,
@@ -120,7 +122,7 @@ revert-tells t n a p h =
         not_stolen = stolen.0;
         not_destroyed = destroyed.0;
         not_supplied = supplied.0;
-        same_place = not-false _ place.0;
+        same_house = not-false _ house.0;
         in_time = not-false _ time.0;
         not_expired = expired.0;
       },
@@ -146,7 +148,8 @@ lock-holder t a c b n may h =
     let batch = cond-else (not (is_known_batch t c b)) _ _ _ (λ e. cc) admitted.1 in
     not-false _ (cond-else (not (is_held_by (holder_of t c) a.authorisation)) _ _ _ (λ e. cc) batch.1).0
 
-theft-tells : (t : List Entry) (n : ℕ) (a : Actor) (p : Pack) → IsReply t n a (Theft p) reply.MarkedStolen → KnownAnd t p (λ k. is_stolen k.own ≡ false)
+-- a pack that is reported as stolen was not stolen
+pub theft-tells : (t : List Entry) (n : ℕ) (a : Actor) (p : Pack) → IsReply t n a (Theft p) reply.MarkedStolen → KnownAnd t p (λ k. is_stolen k.own ≡ false)
 theft-tells t n a p h =
     let admitted = cond-then (may_ask a.role (Theft p)) _ _ _ (λ e. cc) (sym h) in
     let pack = on_pack-known t p _ _ _ (λ e. cc) admitted.1 in
@@ -154,7 +157,8 @@ theft-tells t n a p h =
     let stolen = cond-else (is_stolen pack.0.own) _ _ _ (λ e. cc) held.1 in
     (pack.0, pack.1, stolen.0)
 
-upload-tells : (t : List Entry) (n : ℕ) (a : Actor) (p : Pack) (b : Batch) (x : Expiry) → IsReply t n a (Upload p b x) reply.Uploaded → is_some (known t p) ≡ false
+-- a pack that is uploaded was unknown
+pub upload-tells : (t : List Entry) (n : ℕ) (a : Actor) (p : Pack) (b : Batch) (x : Expiry) → IsReply t n a (Upload p b x) reply.Uploaded → is_some (known t p) ≡ false
 upload-tells t n a p b x h =
     let admitted = cond-then (may_ask a.role (Upload p b x)) _ _ _ (λ e. cc) (sym h) in
     let held = cond-else (has_other_holder (holder_of t p.code) a.authorisation) _ _ _ (λ e. cc) admitted.1 in
@@ -185,7 +189,7 @@ accepted_decommissioning-tells t e p lawful h = by e.put.question e.reply lawful
     by (Decommission s w) r is c = let none : false ≡ true = second_so (same_pack p s) false (first_so (same_pack p s && false) true c) in cc
     by q r is c = let none : false ≡ true = second_so (names p (pack_of q) && accepts q r) (is_decommissioning q) c in cc
 
--- a pack is handed over only where it is held by the same authorisation and in the same premises
+-- a pack is handed over only where it is held in the same house
 pub accepted_handover-tells : (t : List Entry) (e : Entry) (p : Pack) → e.reply ≡ reply_of t e.put → accepted_handover p e ≡ true → KnownAnd t p (IsHeldHere t e.put.actor p)
 accepted_handover-tells t e p lawful h = by e.put.question e.reply lawful h
   where

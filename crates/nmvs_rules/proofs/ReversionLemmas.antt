@@ -18,7 +18,7 @@ use Rattle.nmvs_rules.specs.declared.refusal.Refusal.TheVariants as refusal
 use Rattle.nmvs_rules.specs.declared.put.Put.{Put}
 use Rattle.nmvs_rules.specs.Questions.{may_ask}
 use Rattle.nmvs_rules.specs.Trail.{mark_place, mark_after, known, is_mark, own_given}
-use Rattle.nmvs_rules.specs.Rules.{is_free, is_active, is_stolen, is_destroyed, is_supplied, is_past, is_same_place, is_in_time, lock_on, on_pack, revert_reply, reply_of, admitted_reply}
+use Rattle.nmvs_rules.specs.Rules.{is_free, is_active, is_stolen, is_destroyed, is_supplied, is_past, is_same_house, is_in_time, lock_on, on_pack, revert_reply, reply_of, admitted_reply}
 use Rattle.nmvs_rules.specs.Laws.{IsRevertible}
 use Rattle.nmvs_rules.proofs.Accepted.{is_decommissioning, accepted_decommissioning, decommissions-is, last-operation, destroyed-by, supplied-by, stolen-by, not-destroyed_by, not-supplied_by, not-stolen_by}
 use Rattle.nmvs_rules.proofs.FindLemmas.{find-passes}
@@ -55,7 +55,7 @@ revertible : (t : List Entry) (p : Pack) (q : Put) (k : Known) → KnownBy t p k
 revertible t p q k by tells =
     let status : k.own ≡ own_given by.last.put.question = ap (λ z. z.own) by.known in
     let made : k.mark ≡ mark_after (mark_place t p) by.last = ap (λ z. z.mark) by.known in
-    let place : is_same_place q.actor (mark_after (mark_place t p) by.last) ≡ true = sym (ap (is_same_place q.actor) made) ∙ tells.same_place in
+    let house : is_same_house q.actor (mark_after (mark_place t p) by.last) ≡ true = sym (ap (is_same_house q.actor) made) ∙ tells.same_house in
     let time : is_in_time q.moment (mark_after (mark_place t p) by.last) ≡ true = sym (ap (is_in_time q.moment) made) ∙ tells.in_time in
     let marks : is_mark p by.last ≡ true = find-passes (is_mark p) (reverse t) by.last by.marked in
     record {
@@ -66,8 +66,8 @@ revertible t p q k by tells =
       latest = last-operation t p ∙ by.marked;
       decommissioned = decommissions-is p by.last
           ∙ both_true marks (decommissioned-last by.last.put.question (sym (ap is_active status) ∙ tells.not_active) (sym (ap is_stolen status) ∙ tells.not_stolen) (sym (ap is_supplied status) ∙ tells.not_supplied));
-      same_authorisation = same_text-bytes q.actor.authorisation by.last.put.actor.authorisation (first_so _ _ place);
-      same_premises = same_text-bytes q.actor.premises by.last.put.actor.premises (second_so (same_text q.actor.authorisation by.last.put.actor.authorisation) _ place);
+      same_authorisation = same_text-bytes q.actor.authorisation by.last.put.actor.authorisation (first_so _ _ house);
+      same_premises = same_text-bytes q.actor.premises by.last.put.actor.premises (second_so (same_text q.actor.authorisation by.last.put.actor.authorisation) _ house);
       within_days = in_time _ _ time;
       not_expired = not_past _ _ tells.not_expired;
       unlocked = unlocked-free t p.code k.batch tells.free;
@@ -76,8 +76,8 @@ revertible t p q k by tells =
       not_supplied = never _ (λ d. sym (supplied-by p _ _ d) ∙ sym (ap is_supplied status) ∙ tells.not_supplied);
     }
 
-reverted : (n : ℕ) (a : Actor) (k : Known) (l : BatchLock) → is_free l ≡ true → is_active k.own ≡ false → is_stolen k.own ≡ false → is_destroyed k.own ≡ false → is_supplied k.own ≡ false → is_same_place a k.mark ≡ true → is_in_time n k.mark ≡ true → is_past k.expiry n ≡ false → revert_reply n a k l ≡ reply.Reverted
-reverted n a k l free active stolen destroyed supplied place time past = rw (free, active, stolen, destroyed, supplied, place, time, past) refl
+reverted : (n : ℕ) (a : Actor) (k : Known) (l : BatchLock) → is_free l ≡ true → is_active k.own ≡ false → is_stolen k.own ≡ false → is_destroyed k.own ≡ false → is_supplied k.own ≡ false → is_same_house a k.mark ≡ true → is_in_time n k.mark ≡ true → is_past k.expiry n ≡ false → revert_reply n a k l ≡ reply.Reverted
+reverted n a k l free active stolen destroyed supplied house time past = rw (free, active, stolen, destroyed, supplied, house, time, past) refl
 
 reversion : (t : List Entry) (p : Pack) (q : Put) → IsRevertible t p q → admitted_reply t q.moment q.actor (Revert p) ≡ reply.Reverted
 reversion t p q h =
@@ -85,7 +85,7 @@ reversion t p q h =
     let k : Known = record { batch = h.batch; expiry = h.expiry; own = own_given h.last.put.question; mark = mark_after (mark_place t p) h.last } in
     let is : known t p ≡ Some k = known-made t p upload.2.0 upload.0 h.last h.batch h.expiry upload.1 upload.2.1 (sym (last-operation t p) ∙ h.latest) in
     let accepted : accepted_decommissioning p h.last ≡ true = sym (decommissions-is p h.last) ∙ h.decommissioned in
-    let place : is_same_place q.actor k.mark ≡ true =
+    let house : is_same_house q.actor k.mark ≡ true =
     both_true (same_text-from_bytes q.actor.authorisation h.last.put.actor.authorisation h.same_authorisation)
     (same_text-from_bytes q.actor.premises h.last.put.actor.premises h.same_premises) in
     ap (λ o. on_pack o (reply.Refused refusal.Unknown) (λ k. revert_reply q.moment q.actor k (lock_on t p k))) is
@@ -95,7 +95,7 @@ reversion t p q h =
     (not-stolen_by p h.last.put.question h.last.reply h.decommissioned)
     (not-destroyed_by p h.last.put.question h.last.reply h.decommissioned h.not_destroyed)
     (not-supplied_by p h.last.put.question h.last.reply h.decommissioned h.not_supplied)
-    place (time_in _ _ h.within_days) (past_not _ _ h.not_expired)
+    house (time_in _ _ h.within_days) (past_not _ _ h.not_expired)
 
 -- the law of reversions
 pub reversion-exact : (t : List Entry) (q : Put) (p : Pack) → q.question ≡ Revert p → (reply_of t q ≡ reply.Reverted) ↔ (IsTrue (may_ask q.actor.role q.question) × IsRevertible t p q)

@@ -3,6 +3,7 @@ use Rattle.std.specs.Prelude.{int_lt}
 use Rattle.std.proofs.Common.{◌≡◌, ◌↔◌, ℕ, Bool, true, false, pos, ◌&&◌, ◌||◌, List, reverse, Option, Some, IsTrue, IsSomeAnd, refl, sym, ap, subst, ◌∙◌}
 use Rattle.std.proofs.Math.Bool.{or-false}
 use Rattle.std.specs.Cmp.{first_so, second_so}
+use Rattle.std.specs.Option.{option_map_or}
 use Rattle.nmvs_identifier.specs.Batch.{Batch}
 use Rattle.nmvs_identifier.specs.Expiry.{Expiry, expiry_day}
 use Rattle.nmvs_identifier.specs.Moment.{day_of}
@@ -23,14 +24,14 @@ use Rattle.nmvs_rules.specs.Rules.{is_free, is_active, is_past, lock_on, on_pack
 use Rattle.nmvs_rules.specs.Operations.{upload_done, reversion_done, uploads, reverts, last_operation}
 use Rattle.nmvs_rules.specs.Laws.{IsGenuine}
 use Rattle.nmvs_rules.proofs.Accepted.{last-operation}
-use Rattle.nmvs_rules.proofs.FindLemmas.{find-passes, from-some}
+use Rattle.nmvs_rules.proofs.FindLemmas.{find-passes, from-passing}
 use Rattle.nmvs_rules.proofs.LockLemmas.{free-unlocked, unlocked-free}
 use Rattle.nmvs_rules.proofs.ReplyLemmas.{IsReply, IsAuthentic, verify-tells, decommission-tells, may-tells, reply-question, reply-admitted}
 use Rattle.nmvs_rules.proofs.MarkLemmas.{known-by, known-made, birth-of, uploaded-with}
 use Rattle.nmvs_rules.proofs.CourseLemmas.{decommissioned-not_active}
 
 -- the last operation on an active pack is its upload or a reversion
-active-last : (p : Pack) (q : Question) (r : Reply) → (names p (pack_of q) && accepts q r) ≡ true → is_active (own_given q) ≡ true → (upload_done p q r || reversion_done p q r) ≡ true
+pub active-last : (p : Pack) (q : Question) (r : Reply) → (names p (pack_of q) && accepts q r) ≡ true → is_active (own_given q) ≡ true → (upload_done p q r || reversion_done p q r) ≡ true
 active-last p (Upload s b x) reply.Uploaded h active = or-false (same_pack p s) ∙ first_so (same_pack p s) true h
 active-last p (Upload s b x) r h active = let none : false ≡ true = second_so (same_pack p s) false h in cc
 active-last p (Revert s) reply.Reverted h active = first_so (same_pack p s) true h
@@ -42,7 +43,8 @@ active-last p (Handover s) r h active = active
 active-last p (Theft s) r h active = active
 active-last p q r h active = second_so (names p (pack_of q)) (accepts q r) h
 
-active-by : (p : Pack) (q : Question) (r : Reply) → (upload_done p q r || reversion_done p q r) ≡ true → is_active (own_given q) ≡ true
+-- and a pack of which that is so is active
+pub active-by : (p : Pack) (q : Question) (r : Reply) → (upload_done p q r || reversion_done p q r) ≡ true → is_active (own_given q) ≡ true
 active-by p (Upload s b x) r h = refl
 active-by p (Revert s) r h = refl
 active-by p q r h = let none : false ≡ true = h in cc
@@ -51,7 +53,7 @@ active-by p q r h = let none : false ≡ true = h in cc
 genuine-known : (t : List Entry) (p : Pack) (b : Batch) (x : Expiry) → IsGenuine t p b x → (k : Known) × (known t p ≡ Some k) × (k.batch ≡ b) × (k.expiry ≡ x) × IsAuthentic t p k
 genuine-known t p b x h =
     let upload = birth-of t p b x h.uploaded in
-    let last = from-some (last_operation t p) _ h.moving in
+    let last = from-passing (λ m. uploads p m || reverts p m) (last_operation t p) h.moving in
     let k : Known = record { batch = b; expiry = x; own = own_given last.0.put.question; mark = mark_after (mark_place t p) last.0 } in (
       k,
       known-made t p upload.2.0 upload.0 last.0 b x upload.1 upload.2.1 (sym (last-operation t p) ∙ last.1),
@@ -64,7 +66,7 @@ genuine-known t p b x h =
 known-genuine : (t : List Entry) (p : Pack) (k : Known) → known t p ≡ Some k → IsAuthentic t p k → IsGenuine t p k.batch k.expiry
 known-genuine t p k is h =
     let by = known-by t p k is in
-    let P : Option Entry → Type 0 = λ o. IsSomeAnd o (λ m. IsTrue (uploads p m || reverts p m)) in
+    let P : Option Entry → Type 0 = λ o. IsTrue (option_map_or (λ m. uploads p m || reverts p m) o false) in
     record {
       uploaded = uploaded-with t p k by;
       moving = subst P (sym by.marked ∙ sym (last-operation t p))

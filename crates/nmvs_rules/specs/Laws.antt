@@ -1,6 +1,7 @@
 -- What the laws over the rules speak of.
-use Rattle.std.specs.Prelude.{ℕ, ◌≡◌, ◌+◌, ◌≤◌, ◌==◌, pos, ◌≤ℤ◌, Bool, true, false, ◌||◌, ◌⊎◌, IsTrue, IsFalse, if◌then◌else◌, List, [], ◌∷◌, length, filter, filter_map, find, Some, IsSomeAnd}
+use Rattle.std.specs.Prelude.{ℕ, ◌≡◌, ◌+◌, ◌≤◌, ◌==◌, pos, ◌≤ℤ◌, Bool, true, false, ◌&&◌, ◌||◌, ◌⊎◌, IsTrue, IsFalse, if◌then◌else◌, List, [], ◌∷◌, length, filter, filter_map, find, count_by, Some, IsSomeAnd}
 use Rattle.std.specs.List.{list_any}
+use Rattle.std.specs.Option.{option_map_or}
 use Rattle.nmvs_identifier.specs.Batch.{Batch}
 use Rattle.nmvs_identifier.specs.Expiry.{Expiry, expiry_day}
 use Rattle.nmvs_identifier.specs.Moment.{day_of}
@@ -18,7 +19,7 @@ use Rattle.nmvs_rules.specs.declared.put.Put.{Put}
 use Rattle.nmvs_rules.specs.Limits.{reversion_days}
 use Rattle.nmvs_rules.specs.Questions.{code_of}
 use Rattle.nmvs_rules.specs.Trail.{has_code}
-use Rattle.nmvs_rules.specs.Operations.{uploads, uploads_code, decommissions, supplies, destroys, reverts, steals, binds, last_operation, own_left, alert_number}
+use Rattle.nmvs_rules.specs.Operations.{uploads, uploads_code, uploads_in, decommissions, holds, supplies, destroys, reverts, steals, binds, last_operation, own_left, alert_number}
 
 -- the entries with a product code, in order (own)
 abbrev pub part_of : List Entry → ProductCode → List Entry
@@ -61,9 +62,9 @@ IsApart lists =
 abbrev pub IsUploadedWith : List Entry → Pack → Batch → Expiry → Type 0
 IsUploadedWith t p b x = IsSomeAnd (find (uploads p) t) (λ u. (r : Pack) × (u.put.question ≡ Upload r b x))
 
--- the last operation on the pack is its upload or a reversion (Article 11)
-abbrev pub IsInCirculation : List Entry → Pack → Type 0
-IsInCirculation t p = IsSomeAnd (last_operation t p) (λ m. IsTrue (uploads p m || reverts p m))
+-- whether the last operation on the pack is its upload or a reversion (Article 11)
+abbrev pub circulates : List Entry → Pack → Bool
+circulates t p = option_map_or (λ m. uploads p m || reverts p m) (last_operation t p) false
 
 -- the batch was neither recalled nor withdrawn (Article 40)
 abbrev pub IsUnlocked : List Entry → ProductCode → Batch → Type 0
@@ -73,8 +74,17 @@ IsUnlocked t c b = IsFalse (list_any (binds c b) t)
 -- is active, and its batch was neither recalled nor withdrawn (Article 40)
 pub record IsGenuine (t : List Entry) (p : Pack) (b : Batch) (x : Expiry) : Type 0 where
   pub uploaded : IsUploadedWith t p b x
-  pub moving : IsInCirculation t p
+  pub moving : IsTrue (circulates t p)
   pub unlocked : IsUnlocked t p.code b
+
+-- whether the question uploads a pack that circulates
+abbrev pub uploads_circulating : List Entry → Question → Bool
+uploads_circulating t (Upload p _ _) = circulates t p
+uploads_circulating t _ = false
+
+-- how many uploads are of packs of the batch that circulate: in a lawful trail a pack has one (after Article 40)
+abbrev pub circulating : List Entry → ProductCode → Batch → ℕ
+circulating t c b = count_by (λ e. uploads_in c b e && uploads_circulating t e.put.question) t
 
 -- the product code was uploaded first by this authorisation, which is its holder (own)
 abbrev pub IsHeldBy : List Entry → ProductCode → Name → Type 0
@@ -143,3 +153,38 @@ pub record IsRevertible (t : List Entry) (p : Pack) (q : Put) : Type 0 where
   pub not_stolen : IsFalse (steals p last)
   -- (e) not supplied to the public
   pub not_supplied : IsFalse (supplies p last)
+
+-- all that an upload of the pack p by the authorisation n asks for
+pub record IsUploadable (t : List Entry) (p : Pack) (n : Name) : Type 0 where
+  -- no pack with this unique identifier was uploaded before (Articles 4 and 33)
+  pub first : IsFalse (list_any (uploads p) t)
+  -- the product code was uploaded by nobody, or first by this authorisation (own)
+  pub allowed : IsFalse (list_any (uploads_code p.code) t) ⊎ IsHeldBy t p.code n
+
+-- all that a handover q of the pack p asks for (own, after Article 25)
+pub record IsSuppliable (t : List Entry) (p : Pack) (q : Put) : Type 0 where
+  pub batch : Batch
+  pub expiry : Expiry
+  pub uploaded : IsUploadedWith t p batch expiry
+  -- the last operation on the pack decommissioned it, to be held until it is supplied
+  pub last : Entry
+  pub latest : last_operation t p ≡ Some last
+  pub held : IsTrue (holds p last)
+  -- it is still where it was held: the same authorisation, and the same premises
+  pub same_authorisation : q.actor.authorisation.bytes ≡ last.put.actor.authorisation.bytes
+  pub same_premises : q.actor.premises.bytes ≡ last.put.actor.premises.bytes
+  -- neither recalled nor withdrawn (Article 40)
+  pub unlocked : IsUnlocked t p.code batch
+
+-- all that a recall or withdrawal of the batch b by the authorisation n asks for (Article 40)
+pub record IsLockable (t : List Entry) (c : ProductCode) (b : Batch) (n : Name) : Type 0 where
+  pub uploaded : IsTrue (list_any (uploads_in c b) t)
+  pub holder : IsHeldBy t c n
+  pub unlocked : IsUnlocked t c b
+
+-- all that a report by the authorisation n that the pack p was stolen asks for (Article 40)
+pub record IsReportable (t : List Entry) (p : Pack) (n : Name) : Type 0 where
+  pub holder : IsHeldBy t p.code n
+  -- the pack was uploaded, and the last operation on it was no theft report
+  pub uploaded : IsTrue (list_any (uploads p) t)
+  pub not_stolen : IsSomeAnd (last_operation t p) (λ m. IsFalse (steals p m))

@@ -27,10 +27,20 @@ abbrev pub code_upload_done : ProductCode → Question → Reply → Bool
 code_upload_done c (Upload r _ _) reply.Uploaded = same_text c r.code
 code_upload_done c _ _ = false
 
+-- a pack of the product code and batch was uploaded (Articles 4 and 33)
+abbrev pub batch_upload_done : ProductCode → Batch → Question → Reply → Bool
+batch_upload_done c b (Upload r d _) reply.Uploaded = same_text c r.code && same_text b d
+batch_upload_done c b _ _ = false
+
 -- the pack was decommissioned (Articles 22 and 25)
 abbrev pub decommissioning_done : Pack → Question → Reply → Bool
 decommissioning_done p (Decommission r _) reply.Decommissioned = same_pack p r
 decommissioning_done p _ _ = false
+
+-- the pack was decommissioned to be held until it is supplied (Article 25)
+abbrev pub hold_done : Pack → Question → Reply → Bool
+hold_done p (Decommission r reason.Hold) reply.Decommissioned = same_pack p r
+hold_done p _ _ = false
 
 -- the pack was handed over after it had been decommissioned for that (own, after Article 25)
 abbrev pub handover_done : Pack → Question → Reply → Bool
@@ -76,8 +86,14 @@ uploads p e = upload_done p e.put.question e.reply
 abbrev pub uploads_code : ProductCode → Entry → Bool
 uploads_code c e = code_upload_done c e.put.question e.reply
 
+abbrev pub uploads_in : ProductCode → Batch → Entry → Bool
+uploads_in c b e = batch_upload_done c b e.put.question e.reply
+
 abbrev pub decommissions : Pack → Entry → Bool
 decommissions p e = decommissioning_done p e.put.question e.reply
+
+abbrev pub holds : Pack → Entry → Bool
+holds p e = hold_done p e.put.question e.reply
 
 abbrev pub hands_over : Pack → Entry → Bool
 hands_over p e = handover_done p e.put.question e.reply
@@ -103,6 +119,11 @@ confirms p e = confirmation_done p e.put.question e.reply
 -- whether the entry is an operation that was carried out on the pack
 abbrev pub operates : Pack → Entry → Bool
 operates p e = (uploads p e || decommissions p e) || (hands_over p e || (reverts p e || steals p e))
+
+-- whether the pack goes on by the entry: it is decommissioned, handed over, reverted, or answered Authentic (Articles 11,
+-- 13, 22 and 25)
+abbrev pub goes_on : Pack → Entry → Bool
+goes_on p e = (decommissions p e || hands_over p e) || (reverts p e || confirms p e)
 
 -- the last operation on a pack
 abbrev pub last_operation : List Entry → Pack → Option Entry

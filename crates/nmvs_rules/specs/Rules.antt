@@ -106,10 +106,10 @@ onward_by o _ = onward.Disposal
 abbrev pub is_authentic : OwnStatus → BatchLock → Bool
 is_authentic o l = is_active o && is_free l
 
--- whether the actor is covered by the same authorisation and operates in the same premises as the mark's (Article
+-- whether the actor is of the mark's house: covered by the same authorisation, and in the same premises (Article
 -- 13(1)(a))
-abbrev pub is_same_place : Actor → Mark → Bool
-is_same_place a m = same_text a.authorisation m.authorisation && same_text a.premises m.premises
+abbrev pub is_same_house : Actor → Mark → Bool
+is_same_house a m = same_text a.authorisation m.authorisation && same_text a.premises m.premises
 
 -- whether the moment is not more than this number of days after the mark; it may be before it, and days are of UTC (own)
 abbrev pub is_within : ℕ → ℕ → Mark → Bool
@@ -157,7 +157,7 @@ abbrev pub handover_reply : Actor → Known → BatchLock → Reply
 handover_reply a k l =
     if not (is_free l) then reply.Refused refusal.Locked
     else (if not (is_held k.own) then reply.Refused refusal.NotHeld
-    else (if not (is_same_place a k.mark) then reply.Refused refusal.Other
+    else (if not (is_same_house a k.mark) then reply.Refused refusal.Other
     else reply.HandedOver))
 
 -- the reply to a reversion of a known pack: the conditions of Article 13(1)
@@ -168,7 +168,7 @@ revert_reply moment a k l =
     else (if is_stolen k.own then reply.Refused refusal.IsStolen
     else (if is_destroyed k.own then reply.Refused refusal.IsDestroyed
     else (if is_supplied k.own then reply.Refused refusal.WasSupplied
-    else (if not (is_same_place a k.mark) then reply.Refused refusal.Other
+    else (if not (is_same_house a k.mark) then reply.Refused refusal.Other
     else (if not (is_in_time moment k.mark) then reply.Refused refusal.Late
     else (if is_past k.expiry moment then reply.Refused refusal.Expired
     else reply.Reverted)))))))

@@ -2,7 +2,7 @@
 ghost use Rattle.std.specs.Prelude.{◌≡◌};
 ghost use Rattle.nmvs_rules.specs.Rules.{handover_reply};
 
-use crate::reversion::is_same_place;
+use crate::reversion::is_same_house;
 use crate::{Actor, BatchLock, Known, OwnStatus, Refusal, Reply};
 
 /// The reply to the handover of a known pack, an expired one too.
@@ -15,7 +15,7 @@ pub(crate) fn handover_reply(actor: &Actor, known: &Known, lock: BatchLock) -> R
     if !matches!(known.own, OwnStatus::Held) {
         return Reply::Refused(Refusal::NotHeld);
     }
-    if !is_same_place(actor, &known.mark) {
+    if !is_same_house(actor, &known.mark) {
         return Reply::Refused(Refusal::Other);
     }
     Reply::HandedOver

@@ -2,10 +2,12 @@
 //!
 //! The laws tell what was carried out by question and reply alone, so that a wrong word of the rules breaks them.
 
+mod acceptance;
 mod answers;
 mod packs;
 mod trails;
 
-pub use answers::{alerting, alerts, auditing, decommissioning, holders, reversion, verification};
+pub use acceptance::{decommissioning, handover, locking, reversion, theft, uploading};
+pub use answers::{alerting, alerts, auditing, holders, verification};
 pub use packs::{course, decommissioned_once, one_birth, recall_binds, supplied_once};
 pub use trails::{locality, merging, old_trails, parts, placing, recording};

@@ -53,7 +53,7 @@ impl Reply {
                 expiry.tell_grammar();
             }
             Reply::Alert { number, .. } => {
-                // A number behind a reference is known to fit its type once it is read.
+                // A proof learns that a number behind a reference fits its type once it is read.
                 let _number = *number;
             }
             Reply::LockedNow(count) | Reply::Shown(count) => {

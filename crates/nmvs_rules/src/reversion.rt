@@ -1,6 +1,6 @@
 //! Reverting a decommissioned pack to active (Article 13).
 ghost use Rattle.std.specs.Prelude.{◌≡◌};
-ghost use Rattle.nmvs_rules.specs.Rules.{revert_reply, is_same_place, is_within};
+ghost use Rattle.nmvs_rules.specs.Rules.{revert_reply, is_same_house, is_within};
 
 use crate::circulation::is_past;
 use crate::{Actor, BatchLock, Known, Mark, OwnStatus, Refusal, Reply};
@@ -23,7 +23,7 @@ pub(crate) fn revert_reply(moment: Moment, actor: &Actor, known: &Known, lock: B
         OwnStatus::Supplied => return Reply::Refused(Refusal::WasSupplied),
         OwnStatus::Held | OwnStatus::Exported | OwnStatus::Sampled => {}
     }
-    if !is_same_place(actor, &known.mark) {
+    if !is_same_house(actor, &known.mark) {
         return Reply::Refused(Refusal::Other);
     }
     if !is_in_time(moment, &known.mark) {
@@ -35,9 +35,9 @@ pub(crate) fn revert_reply(moment: Moment, actor: &Actor, known: &Known, lock: B
     Reply::Reverted
 }
 
-/// Whether the actor is covered by the mark's authorisation and operates in its premises.
-pub(crate) fn is_same_place(actor: &Actor, mark: &Mark) -> bool
-    ensures { result ≡ is_same_place actor.now mark.now }
+/// Whether the actor is of the mark's house: covered by the same authorisation, and in the same premises.
+pub(crate) fn is_same_house(actor: &Actor, mark: &Mark) -> bool
+    ensures { result ≡ is_same_house actor.now mark.now }
 {
     actor.authorisation == mark.authorisation && actor.premises == mark.premises
 }

@@ -10,7 +10,7 @@ mod tape;
 #[cfg(test)]
 mod tests;
 
-pub use delivery::deliver;
+pub use delivery::{deliver, write_all};
 pub use device::Device;
 pub use failed::Failed;
 pub use sink::Sink;

@@ -13,9 +13,9 @@ use Rattle.nmvs_identifier.specs.Texts.{same_text}
 use Rattle.nmvs_rules.specs.declared.entry.Entry.{Entry}
 use Rattle.nmvs_rules.proofs.TextLemmas.{same_text-sym, same_text-equal, same_text-refl}
 use Rattle.nmvs_tables.specs.declared.batches.BatchKey.{BatchKey}
-use Rattle.nmvs_tables.specs.declared.listing.BatchPlace.{BatchPlace}
+use Rattle.nmvs_tables.specs.declared.listing.BatchIndex.{BatchIndex}
 use Rattle.nmvs_tables.specs.Batches.{same_batch, batch_born, batches_of, with_batch}
-use Rattle.nmvs_tables.specs.Listing.{of_code, code_batches, same_place, listed_in}
+use Rattle.nmvs_tables.specs.Listing.{of_code, code_batches, same_index, listed_in}
 use Rattle.std.proofs.Math.Bool.{or-true}
 use Rattle.nmvs_tables.proofs.BoolLemmas.{not-so}
 
@@ -63,25 +63,25 @@ listed_in-push m n bs b counts updates c = ap (λ o. unwrap_or o 0) (updates c) 
         ∙ sym (ap (λ g. length (of_code c bs ++ cond g (b.batch ∷ []) [])) h)
 
 -- the places after one more batch
-pub placed-push : {S : Type 0} (m n : HashMap BatchPlace Batch S) (bs : List BatchKey) (b : BatchKey) (i : ℕ) → i ≡ length (of_code b.code bs) → ((p : BatchPlace) → get same_place m p ≡ slice_get (of_code p.code bs) p.index) → ((p : BatchPlace) → get same_place n p ≡ cond (same_text b.code p.code && (i == p.index)) (Some b.batch) (get same_place m p)) → (p : BatchPlace) → get same_place n p ≡ slice_get (of_code p.code (bs ++ b ∷ [])) p.index
+pub placed-push : {S : Type 0} (m n : HashMap BatchIndex Batch S) (bs : List BatchKey) (b : BatchKey) (i : ℕ) → i ≡ length (of_code b.code bs) → ((p : BatchIndex) → get same_index m p ≡ slice_get (of_code p.code bs) p.index) → ((p : BatchIndex) → get same_index n p ≡ cond (same_text b.code p.code && (i == p.index)) (Some b.batch) (get same_index m p)) → (p : BatchIndex) → get same_index n p ≡ slice_get (of_code p.code (bs ++ b ∷ [])) p.index
 placed-push m n bs b i last batches updates p = updates p ∙ by (same_text p.code b.code) refl ∙ sym (ap (λ l. slice_get l p.index) (of_code-push p.code bs b))
   where
-    at : (h : Bool) → (i == p.index) ≡ h → (p.index == length (of_code p.code bs)) ≡ h → cond (i == p.index) (Some b.batch) (get same_place m p) ≡ slice_get (of_code p.code bs ++ b.batch ∷ []) p.index
+    at : (h : Bool) → (i == p.index) ≡ h → (p.index == length (of_code p.code bs)) ≡ h → cond (i == p.index) (Some b.batch) (get same_index m p) ≡ slice_get (of_code p.code bs ++ b.batch ∷ []) p.index
     at h new old =
-        ap (λ g. cond g (Some b.batch) (get same_place m p)) (new ∙ sym old)
+        ap (λ g. cond g (Some b.batch) (get same_index m p)) (new ∙ sym old)
         ∙ ap (λ o. cond (p.index == length (of_code p.code bs)) (Some b.batch) o) (batches p)
         ∙ sym (slice_get-push (of_code p.code bs) b.batch p.index)
 
     eq-sym : (m n : ℕ) → (m == n) ≡ (n == m)
     eq-sym m n = grind (arith, nat_tests)
 
-    by : (h : Bool) → same_text p.code b.code ≡ h → cond (same_text b.code p.code && (i == p.index)) (Some b.batch) (get same_place m p) ≡ slice_get (of_code p.code bs ++ cond (same_text p.code b.code) (b.batch ∷ []) []) p.index
+    by : (h : Bool) → same_text p.code b.code ≡ h → cond (same_text b.code p.code && (i == p.index)) (Some b.batch) (get same_index m p) ≡ slice_get (of_code p.code bs ++ cond (same_text p.code b.code) (b.batch ∷ []) []) p.index
     by true h =
-        ap (λ g. cond (g && (i == p.index)) (Some b.batch) (get same_place m p)) (same_text-sym p.code b.code h)
+        ap (λ g. cond (g && (i == p.index)) (Some b.batch) (get same_index m p)) (same_text-sym p.code b.code h)
         ∙ at (i == p.index) refl (eq-sym p.index _ ∙ ap (λ k. k == p.index) (ap (λ c. length (of_code c bs)) (same_text-equal p.code b.code h) ∙ sym last))
         ∙ sym (ap (λ g. slice_get (of_code p.code bs ++ cond g (b.batch ∷ []) []) p.index) h)
     by false h =
-        ap (λ g. cond (g && (i == p.index)) (Some b.batch) (get same_place m p)) (not-so (same_text b.code p.code) (λ s. sym h ∙ same_text-sym b.code p.code s))
+        ap (λ g. cond (g && (i == p.index)) (Some b.batch) (get same_index m p)) (not-so (same_text b.code p.code) (λ s. sym h ∙ same_text-sym b.code p.code s))
         ∙ batches p
         ∙ sym (ap (λ l. slice_get l p.index) (append-nil (of_code p.code bs)))
         ∙ sym (ap (λ g. slice_get (of_code p.code bs ++ cond g (b.batch ∷ []) []) p.index) h)

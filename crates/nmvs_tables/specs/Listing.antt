@@ -6,7 +6,7 @@ use Rattle.nmvs_identifier.specs.Batch.{Batch}
 use Rattle.nmvs_identifier.specs.Texts.{same_text}
 use Rattle.nmvs_rules.specs.declared.entry.Entry.{Entry}
 use Rattle.nmvs_tables.specs.declared.batches.BatchKey.{BatchKey}
-use Rattle.nmvs_tables.specs.declared.listing.BatchPlace.{BatchPlace}
+use Rattle.nmvs_tables.specs.declared.listing.BatchIndex.{BatchIndex}
 use Rattle.nmvs_tables.specs.declared.listing.Listing.{Listing}
 use Rattle.nmvs_tables.specs.Batches.{batches_of}
 
@@ -18,9 +18,9 @@ of_code c bs = map (λ b. b.batch) (filter (λ b. same_text c b.code) bs)
 abbrev pub code_batches : List Entry → ProductCode → List Batch
 code_batches t c = of_code c (batches_of t)
 
--- whether two places are the same
-abbrev pub same_place : BatchPlace → BatchPlace → Bool
-same_place a b = same_text a.code b.code && (a.index == b.index)
+-- whether two indexes are the same, of one product code
+abbrev pub same_index : BatchIndex → BatchIndex → Bool
+same_index a b = same_text a.code b.code && (a.index == b.index)
 
 -- how many batches of a product code a table counts
 abbrev pub listed_in : {S : Type 0} → HashMap ProductCode ℕ S → ProductCode → ℕ
@@ -29,7 +29,7 @@ listed_in m c = unwrap_or (get same_text m c) 0
 -- the listing has the batches of each product code among these, in their order
 pub record AreListed {A : Type 0} (listing : Listing A) (bs : List BatchKey) : Type 0 where
   pub counts : (c : ProductCode) → listed_in listing.counts c ≡ length (of_code c bs)
-  pub batches : (p : BatchPlace) → get same_place listing.batches p ≡ slice_get (of_code p.code bs) p.index
+  pub batches : (p : BatchIndex) → get same_index listing.batches p ≡ slice_get (of_code p.code bs) p.index
 
 -- one more batch fits with no growth
 pub record HasRoomToList {A : Type 0} (listing : Listing A) : Type 0 where

@@ -3,7 +3,7 @@ ghost use Rattle.std.specs.Prelude.{◌≡◌, ◌+◌, ◌<◌, ◌^◌, [], �
 ghost use Rattle.indexmap.specs.IndexMap.{get};
 ghost use Rattle.nmvs_identifier.specs.ProductCode.{ProductCode};
 ghost use Rattle.nmvs_tables.specs.declared.batches.BatchKey.{BatchKey};
-ghost use Rattle.nmvs_tables.specs.Listing.{same_place, listed_in, AreListed, HasRoomToList};
+ghost use Rattle.nmvs_tables.specs.Listing.{same_index, listed_in, AreListed, HasRoomToList};
 
 use crate::batches::BatchKey;
 use crate::writes::{find, insert, write};
@@ -12,18 +12,18 @@ use nmvs_identifier::{Batch, ProductCode};
 use std::alloc::{AllocError, Allocator};
 use std::hash::{BuildHasherDefault, FoldHasher};
 
-/// A place among the batches of a product code, counted from 0.
+/// An index among the batches of a product code, counted from 0.
 #[derive(Clone, Copy, PartialEq, Eq, Hash)]
-pub(crate) struct BatchPlace {
+pub(crate) struct BatchIndex {
     pub code: ProductCode,
     pub index: u64,
 }
 
-/// How many batches each product code has, and which one is at each place.
+/// How many batches each product code has, and which one is at each index.
 #[derive(Drop)]
 pub(crate) struct Listing<A: Allocator> {
     counts: IndexMap<ProductCode, u64, BuildHasherDefault<FoldHasher>, A>,
-    batches: IndexMap<BatchPlace, Batch, BuildHasherDefault<FoldHasher>, A>,
+    batches: IndexMap<BatchIndex, Batch, BuildHasherDefault<FoldHasher>, A>,
 }
 
 impl<A: Allocator + Copy> Listing<A> {
@@ -46,11 +46,11 @@ impl<A: Allocator> Listing<A> {
         self.counts.get(code).copied().unwrap_or(0)
     }
 
-    /// The batch at a place.
-    pub fn at(&self, place: &BatchPlace) -> Option<Batch>
-        ensures { result ≡ get same_place self.now.batches place.now }
+    /// The batch at an index.
+    pub fn at(&self, index: &BatchIndex) -> Option<Batch>
+        ensures { result ≡ get same_index self.now.batches index.now }
     {
-        self.batches.get(place).copied()
+        self.batches.get(index).copied()
     }
 
     /// Makes room for one more batch, and changes nothing else. Refused only out of memory.
@@ -73,10 +73,10 @@ impl<A: Allocator> Listing<A> {
         let (found, old) = find(&self.counts, &batch.code);
         let index = old.unwrap_or(0);
         write(&mut self.counts, found, batch.code, index + 1);
-        let place = BatchPlace {
+        let listed = BatchIndex {
             code: batch.code,
             index,
         };
-        insert(&mut self.batches, place, batch.batch);
+        insert(&mut self.batches, listed, batch.batch);
     }
 }

@@ -30,23 +30,6 @@ pub fn verification()
         × (expired ≡ int_lt (expiry_day x.bytes) (pos (day_of q.moment)))) }
 {}
 
-/// A decommissioning is accepted exactly where the role may ask it and a verification would be answered Authentic
-/// (Articles 22 and 25). On every trail.
-pub fn decommissioning()
-    ensures { (t : List Entry) (q : Put) (p : Pack) (w : Reason) → q.question ≡ Decommission p w →
-        (reply_of t q ≡ reply.Decommissioned) ↔
-        (IsTrue (may_ask q.actor.role q.question)
-        × ((b : Batch) × (x : Expiry) × IsGenuine t p b x)) }
-{}
-
-/// A reversion is accepted exactly where the role may revert and all that Article 13(1) asks for is met. On every
-/// trail.
-pub fn reversion()
-    ensures { (t : List Entry) (q : Put) (p : Pack) → q.question ≡ Revert p →
-        (reply_of t q ≡ reply.Reverted) ↔
-        (IsTrue (may_ask q.actor.role q.question) × IsRevertible t p q) }
-{}
-
 /// A verification or decommissioning by one who may ask it is answered with the next alert on the product code wherever
 /// it is not answered Authentic or Decommissioned (Article 36). On every trail. The alert tells that the pack is
 /// unknown, or how its batch was first locked, or else what was last done to it; and it is flagged as a potential

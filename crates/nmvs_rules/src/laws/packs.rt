@@ -8,7 +8,7 @@ ghost use Rattle.nmvs_rules.specs.declared.entry.Entry.{Entry};
 ghost use Rattle.nmvs_rules.specs.declared.facts.Known.{Known};
 ghost use Rattle.nmvs_rules.specs.Trail.{known};
 ghost use Rattle.nmvs_rules.specs.Rules.{IsLawful};
-ghost use Rattle.nmvs_rules.specs.Operations.{uploads, decommissions, hands_over, supplies, reverts, confirms, binds, operates};
+ghost use Rattle.nmvs_rules.specs.Operations.{uploads, decommissions, supplies, reverts, binds, goes_on, operates};
 ghost use Rattle.nmvs_rules.specs.Laws.{IsUploadedWith, IsMovedOn, IsBorn};
 
 /// In a lawful trail a pack has one accepted upload where it is known, and none where it is not (Articles 4 and 11). So
@@ -47,16 +47,15 @@ pub fn decommissioned_once()
 pub fn supplied_once()
     ensures { (before between after : List Entry) (supply later : Entry) (p : Pack) →
         IsLawful (before ++ supply ∷ between ++ later ∷ after) → IsTrue (supplies p supply) →
-        IsFalse (decommissions p later) × IsFalse (hands_over p later) × IsFalse (reverts p later)
-        × IsFalse (confirms p later) }
+        IsFalse (goes_on p later) }
 {}
 
 /// A recall or withdrawal binds for ever: after it in a lawful trail no pack of its batch, uploaded before it or later,
-/// is decommissioned, reverted or answered Authentic (Articles 13 and 40).
+/// is decommissioned, handed over, reverted or answered Authentic (Articles 13, 25 and 40).
 pub fn recall_binds()
     ensures { (before between after : List Entry) (recall later : Entry)
         (p : Pack) (b : Batch) (x : Expiry) →
         IsLawful (before ++ recall ∷ between ++ later ∷ after) → IsTrue (binds p.code b recall) →
         IsUploadedWith (before ++ recall ∷ between ++ later ∷ after) p b x →
-        IsFalse (decommissions p later) × IsFalse (reverts p later) × IsFalse (confirms p later) }
+        IsFalse (goes_on p later) }
 {}

@@ -1,5 +1,5 @@
 use Rattle.std.proofs.Common.{◌≡◌, ◌++◌, [], List, ℕ, length}
-use Rattle.nmvs_stream.proofs.delivery.deliver.Given as goal
+use Rattle.nmvs_stream.proofs.delivery.write_all.Given as goal
 
 abbrev pub invariant-loop-rest : goal.invariant-loop-rest
 invariant-loop-rest g l =

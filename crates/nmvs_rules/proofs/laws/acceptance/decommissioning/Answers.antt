@@ -1,5 +1,5 @@
 use Rattle.nmvs_rules.proofs.VerificationLemmas.{decommissioning-exact}
-use Rattle.nmvs_rules.proofs.laws.answers.decommissioning.Goals as goal
+use Rattle.nmvs_rules.proofs.laws.acceptance.decommissioning.Goals as goal
 
 pub returns : goal.returns
 returns c = decommissioning-exact

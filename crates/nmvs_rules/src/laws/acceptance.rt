@@ -1,0 +1,67 @@
+//! Laws on what is accepted.
+ghost use Rattle.std.specs.Prelude.{◌≡◌, ◌↔◌, ℕ, IsTrue, List};
+ghost use Rattle.nmvs_identifier.specs.Batch.{Batch};
+ghost use Rattle.nmvs_identifier.specs.Expiry.{Expiry};
+ghost use Rattle.nmvs_identifier.specs.ProductCode.{ProductCode};
+ghost use Rattle.nmvs_identifier.specs.declared.pack.Pack.{Pack};
+ghost use Rattle.nmvs_rules.specs.declared.entry.Entry.{Entry};
+ghost use Rattle.nmvs_rules.specs.declared.question.Question.TheVariants.{Upload, Decommission, Handover, Revert, Theft};
+ghost use Rattle.nmvs_rules.specs.declared.reason.Reason.{Reason};
+ghost use Rattle.nmvs_rules.specs.declared.reply.Reply.TheVariants as reply;
+ghost use Rattle.nmvs_rules.specs.declared.role.Role.TheVariants as role;
+ghost use Rattle.nmvs_rules.specs.declared.put.Put.{Put};
+ghost use Rattle.nmvs_rules.specs.Questions.{may_ask};
+ghost use Rattle.nmvs_rules.specs.Rules.{reply_of};
+ghost use Rattle.nmvs_rules.specs.Laws.{IsGenuine, IsRevertible, IsUploadable, IsSuppliable, IsLockable, IsReportable, AsksLock, circulating};
+
+/// An upload is accepted exactly where a holder asks for it, the pack was not uploaded before, and its product code was
+/// uploaded by nobody or first by the same authorisation (Articles 4 and 33; who may upload it is own). On every trail.
+pub fn uploading()
+    ensures { (t : List Entry) (q : Put) (p : Pack) (b : Batch) (x : Expiry) → q.question ≡ Upload p b x →
+        (reply_of t q ≡ reply.Uploaded) ↔
+        ((q.actor.role ≡ role.Holder) × IsUploadable t p q.actor.authorisation) }
+{}
+
+/// A decommissioning is accepted exactly where the role may ask it and a verification would be answered Authentic
+/// (Articles 22 and 25). On every trail.
+pub fn decommissioning()
+    ensures { (t : List Entry) (q : Put) (p : Pack) (w : Reason) → q.question ≡ Decommission p w →
+        (reply_of t q ≡ reply.Decommissioned) ↔
+        (IsTrue (may_ask q.actor.role q.question)
+        × ((b : Batch) × (x : Expiry) × IsGenuine t p b x)) }
+{}
+
+/// A handover is accepted exactly where a pharmacy asks for it, the last operation on the pack decommissioned it to be
+/// held, with the same authorisation and in the same premises, and its batch was neither recalled nor withdrawn (own,
+/// after Articles 25 and 40). On every trail.
+pub fn handover()
+    ensures { (t : List Entry) (q : Put) (p : Pack) → q.question ≡ Handover p →
+        (reply_of t q ≡ reply.HandedOver) ↔
+        ((q.actor.role ≡ role.Pharmacy) × IsSuppliable t p q) }
+{}
+
+/// A reversion is accepted exactly where the role may revert and all that Article 13(1) asks for is met. On every
+/// trail.
+pub fn reversion()
+    ensures { (t : List Entry) (q : Put) (p : Pack) → q.question ≡ Revert p →
+        (reply_of t q ≡ reply.Reverted) ↔
+        (IsTrue (may_ask q.actor.role q.question) × IsRevertible t p q) }
+{}
+
+/// A recall or withdrawal is accepted exactly where a holder asks for it who is the holder of the product code, a pack of
+/// the batch was uploaded, and the batch was neither recalled nor withdrawn; it is answered with how many packs of the
+/// batch circulate (Article 40). On every trail.
+pub fn locking()
+    ensures { (t : List Entry) (q : Put) (c : ProductCode) (b : Batch) (active : ℕ) → AsksLock c b q.question →
+        (reply_of t q ≡ reply.LockedNow active) ↔
+        ((q.actor.role ≡ role.Holder) × IsLockable t c b q.actor.authorisation
+        × (active ≡ circulating t c b)) }
+{}
+
+/// A theft report is accepted exactly where a holder asks for it who is the holder of the product code, the pack was
+/// uploaded, and the last operation on it was no theft report (Article 40). On every trail.
+pub fn theft()
+    ensures { (t : List Entry) (q : Put) (p : Pack) → q.question ≡ Theft p →
+        (reply_of t q ≡ reply.MarkedStolen) ↔
+        ((q.actor.role ≡ role.Holder) × IsReportable t p q.actor.authorisation) }
+{}
