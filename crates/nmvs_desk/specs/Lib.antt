@@ -1,9 +1,9 @@
 pub mod Placing
 pub mod Views
 pub mod Numbers
-pub mod Answers
-pub mod Counts
-pub mod Opening
 pub mod Settlement
-pub mod Claims
+pub mod Clerks
+pub mod Answers
+pub mod Opening
+pub mod Closing
 pub mod Trails

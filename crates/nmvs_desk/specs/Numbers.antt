@@ -1,10 +1,10 @@
 -- Which number a lock has.
 use Rattle.std.specs.Prelude.{ℕ}
-use Rattle.nmvs_desk.specs.declared.ledgers.EntryLedger.{Ghosts}
+use Rattle.nmvs_history.specs.declared.histories.Histories.{Ghosts}
 use Rattle.nmvs_desk.specs.declared.lock.Lock.{Lock}
 use Rattle.nmvs_desk.specs.declared.lock.Lock.TheVariants.{Zero, One, Two, Three, Four, Five, Six, Seven}
 
-abbrev pub number_of : {S B : Type 0} {g : Ghosts S} → Lock S B g → ℕ
+abbrev pub number_of : {H B : Type 0} {g : Ghosts H} → Lock H B g → ℕ
 number_of (Zero l) = 0
 number_of (One l) = 1
 number_of (Two l) = 2

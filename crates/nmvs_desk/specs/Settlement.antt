@@ -1,12 +1,11 @@
 -- What a settlement says of the trails of all shards and the receipts of all clerks, clerk 0 first (own). Shards, places,
 -- clerks and receipts count from 0.
-use Rattle.std.specs.Prelude.{ℕ, ◌≡◌, ◌≢◌, ◌<◌, ◌≤◌, ◌==◌, List, [], Option, Some, length}
+use Rattle.std.specs.Prelude.{ℕ, ◌≡◌, ◌<◌, ◌==◌, List, [], ◌∷◌, Option, Some, length, map, filter}
 use Rattle.std.specs.List.{slice_get, slice_index_or, sum_by, count_by}
 use Rattle.nmvs_rules.specs.declared.entry.Entry.{Entry}
 use Rattle.nmvs_desk.specs.declared.settled.Owner.{Owner}
 use Rattle.nmvs_desk.specs.declared.ask.Receipt.{Receipt}
-use Rattle.nmvs_desk.specs.declared.faults.SettleFault.{SettleFault}
-use Rattle.nmvs_desk.specs.declared.faults.SettleFault.TheVariants.{Memory, Stranger, Order, Double}
+use Rattle.nmvs_desk.specs.Views.{ClerkView}
 
 -- the list of this number, empty where there is none
 abbrev pub row : {X : Type 0} → List (List X) → ℕ → List X
@@ -16,67 +15,20 @@ row lists i = slice_index_or lists i []
 abbrev pub at : {X : Type 0} → List (List X) → ℕ → ℕ → Option X
 at lists i j = slice_get (row lists i) j
 
--- how many places all lists have
-abbrev pub places : {X : Type 0} → List (List X) → ℕ
-places lists = sum_by length lists
-
 abbrev pub owner : ℕ → ℕ → Owner
 owner clerk receipt = record { clerk = clerk; receipt = receipt }
+
+-- the receipts of all clerks, clerk 0 first
+abbrev pub lists_of : List Receipt → List ClerkView → List (List Receipt)
+lists_of opening clerks = opening ∷ map (λ (c : ClerkView). c.receipts) clerks
+
+-- the places of the receipts that name a shard
+abbrev pub places_in : ℕ → List Receipt → List ℕ
+places_in shard receipts = map (λ (r : Receipt). r.place) (filter (λ (r : Receipt). r.shard == shard) receipts)
 
 -- how many of the receipts name a shard
 abbrev pub naming : ℕ → List (List Receipt) → ℕ
 naming shard lists = sum_by (λ receipts. count_by (λ (r : Receipt). r.shard == shard) receipts) lists
-
--- the place of a clerk's receipt isn't in the trail or holds another entry
-pub record IsStranger (trails : List (List Entry)) (receipts : List Receipt) (number : ℕ) : Type 0 where
-  pub receipt : Receipt
-  pub is : slice_get receipts number ≡ Some receipt
-  pub stranger : at trails receipt.shard receipt.place ≢ Some receipt.entry
-
--- the place of a clerk's receipt isn't above that of the clerk's previous receipt in the shard
-pub record IsOutOfOrder (receipts : List Receipt) (number : ℕ) : Type 0 where
-  pub receipt : Receipt
-  pub is : slice_get receipts number ≡ Some receipt
-  pub before : ℕ
-  pub earlier : before < number
-  pub previous : Receipt
-  pub was : slice_get receipts before ≡ Some previous
-  pub shard : previous.shard ≡ receipt.shard
-  pub last : (k : ℕ) (r : Receipt) → before < k → k < number → slice_get receipts k ≡ Some r → r.shard ≢ receipt.shard
-  pub not_above : receipt.place ≤ previous.place
-
--- an earlier clerk's receipt has the shard and place of a clerk's receipt
-pub record IsDouble (lists : List (List Receipt)) (clerk number : ℕ) : Type 0 where
-  pub receipt : Receipt
-  pub is : at lists clerk number ≡ Some receipt
-  pub by : Owner
-  pub earlier : by.clerk < clerk
-  pub other : Receipt
-  pub its : at lists by.clerk by.receipt ≡ Some other
-  pub shard : other.shard ≡ receipt.shard
-  pub place : other.place ≡ receipt.place
-
--- nothing is wrong with a clerk's receipt
-pub record IsGood (trails : List (List Entry)) (lists : List (List Receipt)) (clerk number : ℕ) : Type 0 where
-  pub known : IsStranger trails (row lists clerk) number → ⊥
-  pub in_order : IsOutOfOrder (row lists clerk) number → ⊥
-  pub single : IsDouble lists clerk number → ⊥
-
--- nothing is wrong with the receipts before a clerk's receipt: those of earlier clerks, and its clerk's earlier ones
-pub record IsFirst (trails : List (List Entry)) (lists : List (List Receipt)) (clerk number : ℕ) : Type 0 where
-  pub clerks : (c k : ℕ) → c < clerk → IsGood trails lists c k
-  pub own : (k : ℕ) → k < number → IsGood trails lists clerk k
-
--- what a fault says: what is wrong with a receipt, which is the first with which something is. Of a receipt with two
--- faults the one that comes first here is told
-abbrev pub IsFault : List (List Entry) → List (List Receipt) → SettleFault → Type 0
-IsFault trails lists Memory = Unit {0}
-IsFault trails lists (Stranger clerk number) = IsStranger trails (row lists clerk) number × IsFirst trails lists clerk number
-IsFault trails lists (Order clerk number) =
-    IsOutOfOrder (row lists clerk) number × (IsStranger trails (row lists clerk) number → ⊥) × IsFirst trails lists clerk number
-IsFault trails lists (Double clerk number) =
-    IsDouble lists clerk number × (IsStranger trails (row lists clerk) number → ⊥) × (IsOutOfOrder (row lists clerk) number → ⊥)
-    × IsFirst trails lists clerk number
 
 -- the places of a clerk's receipts rise in each shard, in the order of the receipts
 abbrev pub Rises : List Receipt → Type 0

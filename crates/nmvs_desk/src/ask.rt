@@ -1,20 +1,27 @@
 //! Those who ask, and what they are answered.
-ghost use Rattle.std.specs.Prelude.{◌≡◌, ◌≢◌, ◌⊎◌, [], ◌∷◌, ◌++◌, length, IfOk, IfErr, OnErr};
+ghost use Rattle.std.specs.Prelude.{◌≡◌, ◌≢◌, ◌<◌, ◌⊎◌, ℕ, [], ◌∷◌, ◌++◌, Some, IfOk, IfErr, OnErr, slice_get};
 ghost use mathlib.Core.List.{IsPrefix};
 ghost use Rattle.nmvs_directory.specs.Window.{Reads};
 ghost use Rattle.nmvs_directory.specs.declared.look.Look.TheVariants.{Known};
 ghost use Rattle.nmvs_rules.specs.Questions.{code_of};
-ghost use Rattle.nmvs_desk.specs.Answers.{IsAnswered, TurnedAway};
-ghost use Rattle.nmvs_desk.specs.Placing.{shard_of};
+ghost use Rattle.nmvs_rules.specs.Rules.{IsLawful};
+ghost use Rattle.nmvs_desk.specs.declared.ask.Receipt.{Receipt};
+ghost use Rattle.nmvs_desk.specs.Answers.{IsAnswered, IsShown, TurnedAway};
+ghost use Rattle.nmvs_desk.specs.Clerks.{IsClerk};
+ghost use Rattle.nmvs_desk.specs.Opening.{AreNew};
+ghost use Rattle.nmvs_desk.specs.Placing.{shard_of, IsPlaced};
+ghost use Rattle.nmvs_desk.specs.Settlement.{row, at, Rises};
+ghost use Rattle.nmvs_desk.specs.Views.{sights_of};
 
-use crate::{AskFault, EntryLedger, ReceiptLedger, Repository};
+use crate::{AskFault, Reader, Repository};
 use nmvs_directory::{Look, Naming, Notice, Window};
+use nmvs_history::{Histories, Token};
 use nmvs_identifier::{Moment, Name};
 use nmvs_rules::{Actor, Entry, Put, Question};
-use std::alloc::{Allocator, Global};
-use std::marker::Model;
+use nmvs_shard::Shard;
+use std::alloc::{AllocError, Allocator, Global};
+use std::marker::{Model, PhantomData};
 use std::sync::Wait;
-use std::sync::ledger::Share;
 
 /// What was answered, and where its entry stands: the shard, and the entry's place in the shard's trail, counted from
 /// 0.
@@ -33,46 +40,57 @@ pub struct Served<'a, B: Allocator = Global> {
     pub shown: Vec<Entry, &'a B>,
 }
 
-/// One who asks a repository, by a window on the directory, and keeps a receipt for each answer.
+/// One who asks a repository, by a window on the directory and a token of each shard, and keeps a receipt for each answer.
 ///
-/// Contracts see what its window saw or was told, and its receipts, oldest first. Its share of the clerks' ledger is
-/// the number of its receipts.
+/// Contracts see what its window saw or was told, what it has seen of each shard's trail, and its receipts, oldest first.
 #[derive(Drop)]
-pub struct Clerk<'a, J: Naming, C: ReceiptLedger, B: Allocator = Global> {
+pub struct Clerk<'a, J: Naming, H: Histories, B: Allocator = Global> {
     window: Window<J, &'a B>,
+    tokens: Vec<Token, &'a B>,
     receipts: Vec<Receipt, &'a B>,
-    share: Share<C>,
+    of: PhantomData<H>,
 }
 
-impl<'a, J: Naming, C: ReceiptLedger, B: Allocator> Model for Clerk<'a, J, C, B> {
-    ghost use Rattle.std.specs.Prelude.{◌≡◌, length};
-    ghost use Rattle.nmvs_desk.specs.Views.{ClerkView};
+impl<'a, J: Naming, H: Histories, B: Allocator> Model for Clerk<'a, J, H, B> {
+    ghost use Rattle.nmvs_desk.specs.Clerks.{IsClerk};
+    ghost use Rattle.nmvs_desk.specs.Views.{ClerkView, sights_of};
 
     ghost Value = { ClerkView };
 
-    ghost view = { λ c. record { seen = c.window; receipts = c.receipts.items } };
+    ghost view = { λ c. record { seen = c.window; sights = sights_of c.tokens.items; receipts = c.receipts.items } };
 
-    ghost invariant = { λ c. (c.share.parts ≡ 1) × (c.share.amount ≡ length c.receipts.items) };
+    ghost invariant = { λ c. IsClerk H.tables H.shards c.tokens.items c.receipts.items };
 }
 
-impl<'a, J: Naming, C: ReceiptLedger, B: Allocator> Clerk<'a, J, C, B> {
-    /// A clerk with no receipt.
-    pub(crate) fn new(alloc: &'a B, window: Window<J, &'a B>, share: Share<C>) -> Clerk<'a, J, C, B>
-        requires parts { share.parts ≡ 1 }
-        requires amount { share.amount ≡ 0 }
+impl<'a, J: Naming, H: Histories, B: Allocator> Clerk<'a, J, H, B> {
+    /// A clerk with no receipt, whose tokens have seen what an opening dealt to the shards.
+    pub(crate) fn new(
+        alloc: &'a B,
+        window: Window<J, &'a B>,
+        tokens: Vec<Token, &'a B>,
+    ) -> Clerk<'a, J, H, B>
+        requires tokens { AreNew H.tables H.shards H.opening H.shards tokens.items }
+        requires lawful { IsLawful H.opening }
         ensures seen { result.seen ≡ window.entry }
+        ensures sights { result.sights ≡ sights_of tokens.entry.items }
         ensures receipts { result.receipts ≡ [] }
     {
         Clerk {
             window,
+            tokens,
             receipts: Vec::new(alloc),
-            share,
+            of: PhantomData,
         }
     }
 
-    /// The receipts, oldest first.
+    /// The receipts, oldest first. At any time each receipt's entry stands at its place in what the clerk has seen of its
+    /// shard, which is lawful, and the places rise in each shard.
     pub fn receipts(&self) -> &[Receipt]
-        ensures { result.now ≡ self.now.receipts }
+        ensures receipts { result.now ≡ self.now.receipts }
+        ensures stand { (n : ℕ) (r : Receipt) → slice_get result.now n ≡ Some r
+            → at self.now.sights r.shard r.place ≡ Some r.entry }
+        ensures rising { Rises result.now }
+        ensures lawful { (i : ℕ) → IsLawful (row self.now.sights i) × IsPlaced H.shards i (row self.now.sights i) }
     {
         self.receipts.as_slice()
     }
@@ -87,7 +105,7 @@ impl<'a, J: Naming, C: ReceiptLedger, B: Allocator> Clerk<'a, J, C, B> {
         ensures longer { (self.new.seen ≡ self.old.seen) ⊎ (self.new.seen ≡ notice.now) }
         ensures seen { IsPrefix self.old.seen self.new.seen }
         ensures told { IsPrefix notice.now self.new.seen }
-        ensures receipts { self.new.receipts ≡ self.old.receipts }
+        ensures same { self.new ≡ record self.old { seen = self.new.seen } }
     {
         self.window.learn(notice);
     }
@@ -95,7 +113,7 @@ impl<'a, J: Naming, C: ReceiptLedger, B: Allocator> Clerk<'a, J, C, B> {
     /// What the directory says of a user, as `Window::look`. It waits for nobody.
     pub fn look(&mut self, user: &Name) -> Look
         ensures reads { Reads self.old.seen self.new.seen user.now result }
-        ensures receipts { self.new.receipts ≡ self.old.receipts }
+        ensures same { self.new ≡ record self.old { seen = self.new.seen } }
     {
         self.window.look(user)
     }
@@ -106,7 +124,7 @@ impl<'a, J: Naming, C: ReceiptLedger, B: Allocator> Clerk<'a, J, C, B> {
             Reads self.old.seen self.new.seen user.now (Known actor)) }
         ensures turned_away { IfErr result (TurnedAway self.old.seen self.new.seen user.now) }
         ensures looked { IfErr result (λ fault. fault ≢ AskFault.Memory) }
-        ensures receipts { self.new.receipts ≡ self.old.receipts }
+        ensures same { self.new ≡ record self.old { seen = self.new.seen } }
     {
         match self.look(user) {
             Look::Nobody => Err(AskFault::Nobody),
@@ -119,11 +137,14 @@ impl<'a, J: Naming, C: ReceiptLedger, B: Allocator> Clerk<'a, J, C, B> {
     /// Puts a question: looks the user up, holds the shard of the question's product code for one step of the rules,
     /// and keeps the receipt. An audit is shown the entries about its pack that stood before it. It waits for the shard.
     ///
-    /// Condition: the clerk is one that `open` gave with this repository, which the names of their ledgers say.
-    pub fn ask<S: EntryLedger, R: Wait>(
+    /// The answer is given on a trail that begins with all that the clerk has seen of the shard; then the clerk has seen
+    /// the entry, too.
+    ///
+    /// Condition: the clerk is one that `open` gave with this repository, which the names of their histories say.
+    pub fn ask<R: Wait>(
         &mut self,
         rt: &R,
-        repository: &Repository<'a, S, C, B>,
+        repository: &Repository<'a, H, B>,
         moment: Moment,
         user: &Name,
         question: &Question,
@@ -136,36 +157,78 @@ impl<'a, J: Naming, C: ReceiptLedger, B: Allocator> Clerk<'a, J, C, B> {
             (put.moment ≡ moment) × (put.user ≡ user.now) × (put.question ≡ question.now)
             × Reads self.old.seen self.new.seen user.now (Known put.actor)) }
         ensures answered { IfOk result (λ s.
-            IsAnswered repository.now.shards s.receipt s.shown.items) }
-        ensures unchanged { OnErr result (self.new.receipts ≡ self.old.receipts) }
+            let shard = s.receipt.shard in
+            IsAnswered repository.now.shards (row self.old.sights shard) (row self.new.sights shard) s.receipt s.shown.items) }
+        ensures others { IfOk result (λ s. (i : ℕ) → i ≢ s.receipt.shard → row self.new.sights i ≡ row self.old.sights i) }
+        ensures unchanged { OnErr result (self.new ≡ record self.old { seen = self.new.seen }) }
         ensures turned_away { IfErr result (TurnedAway self.old.seen self.new.seen user.now) }
     {
         let actor = self.actor_of(user)?;
-        self.receipts.reserve(1)?;
         let put = Put {
             moment,
             user: *user,
             actor,
             question: *question,
         };
-        let answer = repository.ask(rt, &mut self.share, &put);
-        if let Ok(served) = &answer {
-            self.receipts.push_reserved(served.receipt);
-        }
-        Ok(answer?)
+        let served = self.put(rt, repository, &put)?;
+        Ok(served)
     }
 
-    /// The receipts, and the clerk's share. Its window is let go.
-    pub(crate) fn into_parts(self) -> (Vec<Receipt, &'a B>, Share<C>)
-        ensures receipts { result.0.items ≡ self.entry.receipts }
-        ensures parts { result.1.parts ≡ 1 }
-        ensures amount { result.1.amount ≡ length self.entry.receipts }
+    /// Puts a question in the capacity that it names.
+    fn put<R: Wait>(
+        &mut self,
+        rt: &R,
+        repository: &Repository<'a, H, B>,
+        put: &Put,
+    ) -> Result<Served<'a, B>, AllocError>
+        ensures kept { IfOk result (λ s. self.new.receipts ≡ self.old.receipts ++ s.receipt ∷ []) }
+        ensures seen { self.new.seen ≡ self.old.seen }
+        ensures shard { IfOk result (λ s.
+            s.receipt.shard ≡ shard_of repository.now.shards (code_of put.now.question)) }
+        ensures put { IfOk result (λ s. s.receipt.entry.put ≡ put.now) }
+        ensures answered { IfOk result (λ s.
+            let shard = s.receipt.shard in
+            IsAnswered repository.now.shards (row self.old.sights shard) (row self.new.sights shard) s.receipt s.shown.items) }
+        ensures others { IfOk result (λ s. (i : ℕ) → i ≢ s.receipt.shard → row self.new.sights i ≡ row self.old.sights i) }
+        ensures unchanged { OnErr result (self.new ≡ self.old) }
+    {
+        self.receipts.reserve(1)?;
+        let shard = repository.shard_of(&put.question.code());
+        let served = repository.ask(rt, shard, &mut self.tokens[shard], put)?;
+        self.receipts.push_reserved(served.receipt);
+        Ok(served)
+    }
+
+    /// What the reader makes of the shard of this number, whose trail begins with all that the clerk has seen of it; then
+    /// the clerk has seen all. It waits for the shard.
+    pub fn look_at<R: Wait, F: Reader<Shard<&'a B>>>(
+        &mut self,
+        rt: &R,
+        repository: &Repository<'a, H, B>,
+        index: usize,
+        reader: F,
+    ) -> F::Output
+        requires { index < H.shards }
+        ensures shown { IsShown H.shards index (row self.old.sights index) (row self.new.sights index) }
+        ensures tells { F.tells reader (row self.new.sights index) result }
+        ensures others { (i : ℕ) → i ≢ index → row self.new.sights i ≡ row self.old.sights i }
+        ensures same { self.new ≡ record self.old { sights = self.new.sights } }
+    {
+        repository.look(rt, index, &mut self.tokens[index], reader)
+    }
+
+    /// The tokens, and the receipts. The window is let go.
+    pub(crate) fn into_parts(self) -> (Vec<Token, &'a B>, Vec<Receipt, &'a B>)
+        ensures sights { sights_of result.0.items ≡ self.entry.sights }
+        ensures receipts { result.1.items ≡ self.entry.receipts }
+        ensures clerk { IsClerk H.tables H.shards result.0.items result.1.items }
     {
         let Clerk {
             window: _,
+            tokens,
             receipts,
-            share,
+            of: _,
         } = self;
-        (receipts, share)
+        (tokens, receipts)
     }
 }

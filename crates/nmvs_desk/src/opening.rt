@@ -1,60 +1,87 @@
 //! How a repository is opened.
-ghost use Rattle.std.specs.Prelude.{◌≡◌, ◌+◌, ◌<◌, ◌≤◌, ◌↔◌, ◌⊎◌, [], ◌++◌, All, map, vec_len, vec_capacity, length, IfOk, IsErrOf, OnOk, OnErr};
+ghost use Rattle.std.specs.Prelude.{◌≡◌, ◌+◌, ◌-◌, ◌<◌, ◌≤◌, ◌↔◌, ◌⊎◌, ℕ, [], All, map, vec_len, vec_capacity, length, IfOk, IsErrOf, OnOk, OnErr};
 ghost use Rattle.nmvs_rules.specs.Rules.{IsLawful};
-ghost use Rattle.nmvs_desk.specs.Views.{new_clerk, IsNumbered};
-ghost use Rattle.nmvs_desk.specs.Opening.{deal, AreDealt};
+ghost use Rattle.nmvs_desk.specs.Opening.{deal, table_of, AreDealt, AreNew, IsNew, IsOpened};
 
 use crate::lock::Slot;
 use crate::locked::Locked;
 use crate::repository::shard_number;
-use crate::tally::{Books, Tally};
-use crate::{
-    Clerk, EntryLedger, MOST_CLERKS, MOST_SHARDS, OpenFault, PARTS, Receipt, ReceiptLedger,
-    Repository,
-};
+use crate::{Clerk, MOST_CLERKS, MOST_SHARDS, OpenFault, Receipt, Repository};
 use nmvs_directory::{Naming, Window};
+use nmvs_history::{Histories, Keeper, Token};
 use nmvs_shard::Shard;
-use std::alloc::{AllocError, Allocator};
-use std::sync::Mutex;
-use std::sync::ledger::{Blank, Book, Share};
+use std::alloc::{AllocError, Allocator, Global};
+use std::marker::Model;
 
-/// `count` empty shards, each with a share of one part.
-pub(crate) fn empty_shards<'a, S: EntryLedger, B: Allocator>(
+/// The keepers of the histories of one to eight shards, which have no entry yet. Contracts see which histories they are,
+/// in order.
+#[derive(Drop)]
+pub struct Keepers<'a, B: Allocator = Global> {
+    list: Vec<Keeper<&'a B>, &'a B>,
+}
+
+impl<'a, B: Allocator> Model for Keepers<'a, B> {
+    ghost use Rattle.std.specs.Prelude.{◌<◌, ◌≤◌, All, List, length, map};
+    ghost use Rattle.nmvs_history.specs.Views.{HistoryId, KeeperView};
+    ghost use Rattle.nmvs_desk.specs.declared.repository.TheConstants.{MOST_SHARDS};
+    ghost use Rattle.nmvs_desk.specs.Opening.{IsFresh};
+
+    ghost Value = { List HistoryId };
+
+    ghost view = { λ k. map (λ (keeper : KeeperView). keeper.table) k.list.items };
+
+    ghost invariant = { λ k. All IsFresh k.list.items × (0 < length k.list.items) × (length k.list.items ≤ MOST_SHARDS) };
+}
+
+impl<'a, B: Allocator> Keepers<'a, B> {
+    /// Keepers for so many shards.
+    ///
+    /// It answers `Count` exactly where the shards are not 1 to 8, else `Memory` where a growth was refused.
+    pub fn new(alloc: &'a B, shards: usize) -> Result<Keepers<'a, B>, OpenFault>
+        ensures shards { IfOk result (λ keepers. length keepers ≡ shards) }
+        ensures count { IsErrOf result OpenFault.Count ↔ ((shards ≡ 0) ⊎ (MOST_SHARDS < shards)) }
+    {
+        if shards == 0 || shards > MOST_SHARDS {
+            return Err(OpenFault::Count);
+        }
+        let mut list = Vec::with_capacity(alloc, shards)?;
+        for _shard in 0..shards {
+            list.push_reserved(Keeper::new(alloc)?);
+        }
+        Ok(Keepers { list })
+    }
+}
+
+/// An empty shard for each keeper, numbered in order.
+pub(crate) fn empty_shards<'a, H: Histories, B: Allocator>(
     alloc: &'a B,
-    rest: &mut Share<S>,
-    count: usize,
-) -> Result<Vec<Locked<'a, S, B>, &'a B>, AllocError>
-    requires few { count ≤ MOST_SHARDS }
-    requires parts { rest.old.parts ≡ PARTS }
-    requires amount { rest.old.amount ≡ 0 }
-    ensures parts { OnOk result (rest.new.parts + count ≡ PARTS) }
-    ensures amount { rest.new.amount ≡ 0 }
-    ensures empty { IfOk result (λ shards. AreDealt count count [] shards.items) }
+    keepers: Keepers<'a, B>,
+) -> Result<Vec<Locked<'a, H, B>, &'a B>, AllocError>
+    requires tables { (i : ℕ) → table_of keepers i ≡ H.tables i }
+    ensures empty { IfOk result (λ shards. AreDealt H.shards 8 (length keepers.entry) [] shards.items) }
+    ensures count { (0 < length keepers.entry) × (length keepers.entry ≤ MOST_SHARDS) }
 {
-    let mut shards = Vec::with_capacity(alloc, count)?;
-    for index in 0..count {
-        let share = rest.split_off(1, 0);
-        shards.push_reserved(Locked::new(alloc, share, index));
+    let Keepers { mut list } = keepers;
+    let mut shards = Vec::with_capacity(alloc, list.len())?;
+    // One by one, for the proof: the loop's invariant speaks of the list that is left.
+    while !list.is_empty() {
+        let index = shards.len();
+        shards.push_reserved(Locked::new(alloc, list.remove(0), index));
     }
     Ok(shards)
 }
 
 /// Deals the opening's entries to the shards, in order, and gives the receipts.
-pub(crate) fn deal_all<'a, S: EntryLedger, C: ReceiptLedger, B: Allocator>(
+pub(crate) fn deal_all<'a, H: Histories, B: Allocator>(
     alloc: &'a B,
-    books: &mut Books<S, C>,
-    importer: &mut Share<C>,
-    shards: &mut Vec<Locked<'a, S, B>, &'a B>,
+    shards: &mut Vec<Locked<'a, H, B>, &'a B>,
     opening: &Shard<&'a B>,
 ) -> Result<Vec<Receipt, &'a B>, AllocError>
-    requires some { 0 < S.shards }
-    requires empty { AreDealt S.shards S.shards [] shards.old.items }
-    requires parts { 0 < importer.old.parts }
-    requires amount { importer.old.amount ≡ 0 }
-    ensures parts { importer.new.parts ≡ importer.old.parts }
-    ensures amount { OnOk result (importer.new.amount ≡ length opening.now) }
-    ensures dealt { OnOk result (AreDealt S.shards S.shards opening.now shards.new.items) }
-    ensures receipts { IfOk result (λ receipts. receipts.items ≡ deal S.shards opening.now) }
+    requires some { 0 < H.shards }
+    requires empty { AreDealt H.shards 8 H.shards [] shards.old.items }
+    ensures dealt { OnOk result (AreDealt H.shards 8 H.shards opening.now shards.new.items) }
+    ensures receipts { IfOk result (λ receipts. receipts.items ≡ deal H.shards opening.now) }
+    ensures lawful { IsLawful opening.now }
 {
     let trail = opening.trail();
     let mut receipts = Vec::with_capacity(alloc, trail.len())?;
@@ -62,18 +89,55 @@ pub(crate) fn deal_all<'a, S: EntryLedger, C: ReceiptLedger, B: Allocator>(
     for place in 0..trail.len() {
         let entry = &trail[place];
         let shard = shard_number(&entry.put.question.code(), shards.len());
-        let receipt = shards[shard].deal(books, importer, entry)?;
+        let receipt = shards[shard].deal(entry)?;
         receipts.push_reserved(receipt);
     }
     Ok(receipts)
 }
 
+/// A token of each shard, for one clerk.
+fn tokens_of<'a, H: Histories, B: Allocator>(
+    alloc: &'a B,
+    shards: &mut Vec<Locked<'a, H, B>, &'a B>,
+) -> Result<Vec<Token, &'a B>, AllocError>
+    requires { (left : ℕ) × AreDealt H.shards (left + 1) H.shards H.opening shards.old.items }
+    ensures dealt { (left : ℕ) → AreDealt H.shards (left + 1) H.shards H.opening shards.old.items
+        → OnOk result (AreDealt H.shards left H.shards H.opening shards.new.items) }
+    ensures new { IfOk result (λ tokens. AreNew H.tables H.shards H.opening H.shards tokens.items) }
+{
+    let mut tokens = Vec::with_capacity(alloc, shards.len())?;
+    for index in 0..shards.len() {
+        tokens.push_reserved(shards[index].token());
+    }
+    Ok(tokens)
+}
+
+/// A token of each shard for each clerk, once the opening is dealt.
+fn give_tokens<'a, H: Histories, B: Allocator>(
+    alloc: &'a B,
+    clerks: usize,
+    shards: &mut Vec<Locked<'a, H, B>, &'a B>,
+) -> Result<Vec<Vec<Token, &'a B>, &'a B>, AllocError>
+    requires few { clerks ≤ MOST_CLERKS }
+    requires dealt { AreDealt H.shards 8 H.shards H.opening shards.old.items }
+    ensures dealt { OnOk result (AreDealt H.shards (8 - clerks) H.shards H.opening shards.new.items) }
+    ensures clerks { IfOk result (λ sets. vec_len sets ≡ clerks) }
+    ensures new { IfOk result (λ sets. All (λ tokens. AreNew H.tables H.shards H.opening H.shards tokens.items) sets.items) }
+{
+    let mut sets = Vec::with_capacity(alloc, clerks)?;
+    for _clerk in 0..clerks {
+        sets.push_reserved(tokens_of(alloc, shards)?);
+    }
+    Ok(sets)
+}
+
 /// Locks the shards, in order.
-pub(crate) fn lock_all<'a, S: EntryLedger, B: Allocator>(
-    shards: &mut Vec<Locked<'a, S, B>, &'a B>,
-    slots: &mut Vec<Slot<'a, S, B>, &'a B>,
+pub(crate) fn lock_all<'a, H: Histories, B: Allocator>(
+    shards: &mut Vec<Locked<'a, H, B>, &'a B>,
+    slots: &mut Vec<Slot<'a, H, B>, &'a B>,
 )
     requires few { All (λ h. h.index < MOST_SHARDS) shards.old.items }
+    requires opened { All (IsOpened H.shards H.clerks H.opening) shards.old.items }
     requires empty { slots.old.items ≡ [] }
     requires room { vec_len shards.old ≤ vec_capacity slots.old }
     ensures { slots.new.items ≡ map (λ h. h.index) shards.old.items }
@@ -84,106 +148,66 @@ pub(crate) fn lock_all<'a, S: EntryLedger, B: Allocator>(
     }
 }
 
-/// A clerk for each window, in order.
-fn clerks_over<'a, J: Naming, C: ReceiptLedger, B: Allocator>(
+/// A clerk for each window, in order, with the tokens of the same place.
+fn clerks_over<'a, J: Naming, H: Histories, B: Allocator>(
     alloc: &'a B,
     windows: &mut Vec<Window<J, &'a B>, &'a B>,
-    rest: &mut Share<C>,
-    clerks: &mut Vec<Clerk<'a, J, C, B>, &'a B>,
+    sets: &mut Vec<Vec<Token, &'a B>, &'a B>,
+    clerks: &mut Vec<Clerk<'a, J, H, B>, &'a B>,
 )
-    requires parts { rest.old.parts ≡ vec_len windows.old }
-    requires amount { rest.old.amount ≡ 0 }
+    requires many { vec_len sets.old ≡ vec_len windows.old }
+    requires new { All (λ tokens. AreNew H.tables H.shards H.opening H.shards tokens.items) sets.old.items }
+    requires lawful { IsLawful H.opening }
     requires empty { clerks.old.items ≡ [] }
     requires room { vec_len windows.old ≤ vec_capacity clerks.old }
-    ensures clerks { clerks.new.items ≡ map new_clerk windows.old.items }
+    ensures seen { map (λ c. c.seen) clerks.new.items ≡ windows.old.items }
+    ensures new { All (IsNew H.shards H.opening) clerks.new.items }
     ensures windows { windows.new.items ≡ [] }
 {
     // One by one, for the proof: the loop's invariant speaks of the list that is left.
     while !windows.is_empty() {
-        let share = rest.split_off(1, 0);
-        clerks.push_reserved(Clerk::new(alloc, windows.remove(0), share));
+        let window = windows.remove(0);
+        clerks.push_reserved(Clerk::new(alloc, window, sets.remove(0)));
     }
 }
 
-impl<'a, S: EntryLedger, C: ReceiptLedger, B: Allocator> Repository<'a, S, C, B> {
-    /// Opens a repository of `shards` shards, with a clerk for each window, numbered from 1 in the windows' order. The
-    /// opening's entries are dealt to the shards in order; they are the receipts of clerk 0, which the repository
-    /// keeps.
+impl<'a, H: Histories, B: Allocator> Repository<'a, H, B> {
+    /// Opens a repository with a shard for each keeper and a clerk for each window, numbered from 1 in the windows' order.
+    /// The opening's entries are dealt to the shards in order; they are the receipts of clerk 0, which the repository
+    /// keeps, and each clerk has seen them.
     ///
-    /// It answers `Count` exactly where the shards are not 1 to 8, else `Memory` where a growth was refused; then the
-    /// windows stay in their list. The blanks, of `PARTS` parts, name the two ledgers; a refusal spends them.
+    /// It is refused only where a growth was; then the windows stay in their list, and the keepers are spent.
     pub fn open<J: Naming>(
         alloc: &'a B,
-        entries: Blank,
-        receipts: Blank,
-        shards: usize,
+        keepers: Keepers<'a, B>,
         windows: &mut Vec<Window<J, &'a B>, &'a B>,
         opening: &Shard<&'a B>,
-    ) -> Result<(Repository<'a, S, C, B>, Vec<Clerk<'a, J, C, B>, &'a B>), OpenFault>
-        requires entries { (entries.name ≡ S.name) × (entries.parts ≡ S.parts) × (S.parts ≡ PARTS) }
-        requires receipts { (receipts.name ≡ C.name) × (receipts.parts ≡ C.parts) × (C.parts ≡ PARTS) }
-        requires named { (S.shards ≡ shards) × (C.clerks ≡ vec_len windows.old)
-            × (C.opening ≡ length opening.now) }
+    ) -> Result<(Repository<'a, H, B>, Vec<Clerk<'a, J, H, B>, &'a B>), AllocError>
+        requires tables { (i : ℕ) → table_of keepers i ≡ H.tables i }
+        requires named { (H.shards ≡ length keepers) × (H.clerks ≡ vec_len windows.old)
+            × (H.opening ≡ opening.now) }
         requires few { vec_len windows.old ≤ MOST_CLERKS }
-        ensures shards { IfOk result (λ r. r.0.shards ≡ shards) }
+        ensures shards { IfOk result (λ r. r.0.shards ≡ length keepers.entry) }
         ensures clerks { IfOk result (λ r. (r.0.clerks ≡ vec_len windows.old)
-            × (r.1.items ≡ map new_clerk windows.old.items)) }
-        ensures opening { IfOk result (λ r. r.0.opening ≡ deal shards opening.now) }
-        ensures count { IsErrOf result OpenFault.Count ↔ ((shards ≡ 0) ⊎ (MOST_SHARDS < shards)) }
+            × (map (λ c. c.seen) r.1.items ≡ windows.old.items)) }
+        ensures new { IfOk result (λ r. All (IsNew (length keepers.entry) opening.now) r.1.items) }
+        ensures opening { IfOk result (λ r. r.0.opening ≡ deal (length keepers.entry) opening.now) }
         ensures taken { OnOk result (windows.new.items ≡ []) }
         ensures stay { OnErr result (windows.new ≡ windows.old) }
     {
-        if shards == 0 || shards > MOST_SHARDS {
-            return Err(OpenFault::Count);
-        }
-        let (book, mut importer) = receipts.open::<C>();
-        let mut rest = importer.split_off(windows.len() as u64, 0);
-        let mut clerks = Vec::with_capacity(alloc, windows.len())?;
+        let mut locked = empty_shards(alloc, keepers)?;
+        let receipts = deal_all(alloc, &mut locked, opening)?;
         let count = windows.len();
-        let repository = Repository::over(alloc, entries, book, importer, shards, count, opening)?;
-        clerks_over(alloc, windows, &mut rest, &mut clerks);
-        Ok((repository, clerks))
-    }
-
-    /// The repository without its clerks, whose parts of the ledger were taken from clerk 0's share.
-    fn over(
-        alloc: &'a B,
-        entries: Blank,
-        book: Book<C>,
-        mut importer: Share<C>,
-        shards: usize,
-        clerks: usize,
-        opening: &Shard<&'a B>,
-    ) -> Result<Repository<'a, S, C, B>, AllocError>
-        requires entries { (entries.name ≡ S.name) × (entries.parts ≡ S.parts)
-            × (S.parts ≡ PARTS) × (C.parts ≡ PARTS) }
-        requires named { (S.shards ≡ shards) × (C.clerks ≡ clerks) × (C.opening ≡ length opening.now) }
-        requires count { (0 < shards) × (shards ≤ MOST_SHARDS) }
-        requires importer { (importer.parts + clerks ≡ PARTS) × (clerks ≤ MOST_CLERKS)
-            × (importer.amount ≡ 0) }
-        requires book { book.total ≡ 0 }
-        ensures shards { IfOk result (λ r. (r.shards ≡ shards) × (r.clerks ≡ clerks)) }
-        ensures opening { IfOk result (λ r. r.opening ≡ deal shards opening.now) }
-    {
-        let (entry_book, mut spare) = entries.open::<S>();
-        let mut books = Books {
-            entries: entry_book,
-            receipts: book,
-        };
-        let mut locked = empty_shards(alloc, &mut spare, shards)?;
-        let receipts = deal_all(alloc, &mut books, &mut importer, &mut locked, opening)?;
-        let mut slots = Vec::with_capacity(alloc, shards)?;
+        let mut sets = give_tokens(alloc, count, &mut locked)?;
+        let mut clerks = Vec::with_capacity(alloc, count)?;
+        let mut slots = Vec::with_capacity(alloc, locked.len())?;
+        clerks_over(alloc, windows, &mut sets, &mut clerks);
         lock_all(&mut locked, &mut slots);
-        let tally = Tally {
-            books,
-            spare,
-            importer,
-        };
-        Ok(Repository {
+        let repository = Repository {
             slots,
-            tally: Mutex::new(tally),
             opening: receipts,
-            clerks,
-        })
+            clerks: count,
+        };
+        Ok((repository, clerks))
     }
 }

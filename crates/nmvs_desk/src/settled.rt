@@ -1,10 +1,12 @@
 //! What a settlement hands out, or gives back.
-ghost use Rattle.std.specs.Prelude.{◌≡◌, vec_len};
+ghost use Rattle.std.specs.Prelude.{◌≡◌, ◌<◌, IfOk, length, replicate, slice_set, vec_len};
+ghost use Rattle.nmvs_desk.specs.Settlement.{owner};
 
-use crate::{Clerk, EntryLedger, Receipt, ReceiptLedger, Repository};
+use crate::{Clerk, Receipt, Repository};
 use nmvs_directory::Naming;
+use nmvs_history::Histories;
 use nmvs_shard::Shard;
-use std::alloc::{Allocator, Global};
+use std::alloc::{AllocError, Allocator, Global};
 use std::marker::Model;
 
 /// Whose receipt it is, clerk 0 being the importer, and which of that clerk's receipts, counted from 0.
@@ -30,10 +32,25 @@ impl<'a, B: Allocator> Model for Owners<'a, B> {
 }
 
 impl<'a, B: Allocator> Owners<'a, B> {
-    pub(crate) fn new(list: Vec<Owner, &'a B>) -> Owners<'a, B>
-        ensures { result ≡ list.entry.items }
+    /// Room for the owners of so many entries, with none noted yet.
+    pub(crate) fn blank(alloc: &'a B, count: usize) -> Result<Owners<'a, B>, AllocError>
+        ensures { IfOk result (λ owners. owners ≡ replicate count (owner 0 0)) }
     {
-        Owners { list }
+        let nobody = Owner {
+            clerk: 0,
+            receipt: 0,
+        };
+        Ok(Owners {
+            list: Vec::from_elem(alloc, nobody, count)?,
+        })
+    }
+
+    /// Notes the owner of the entry at a place.
+    pub(crate) fn note(&mut self, place: usize, owner: Owner)
+        requires { place < length self.old }
+        ensures { self.new ≡ slice_set self.old place owner }
+    {
+        self.list[place] = owner;
     }
 
     /// The owners, in the order of the trail.
@@ -85,8 +102,8 @@ pub struct Settled<'a, B: Allocator = Global> {
 
 /// What a refused settlement gives back: the repository and its clerks, as they were. It may be settled again.
 #[derive(Drop)]
-pub struct Unsettled<'a, J: Naming, S: EntryLedger, C: ReceiptLedger, B: Allocator = Global> {
-    pub repository: Repository<'a, S, C, B>,
-    pub clerks: Vec<Clerk<'a, J, C, B>, &'a B>,
+pub struct Unsettled<'a, J: Naming, H: Histories, B: Allocator = Global> {
+    pub repository: Repository<'a, H, B>,
+    pub clerks: Vec<Clerk<'a, J, H, B>, &'a B>,
     ghost all: { vec_len clerks ≡ repository.clerks },
 }

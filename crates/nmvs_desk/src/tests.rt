@@ -2,7 +2,7 @@
 //! before, that shards are worked on side by side; and memory that is refused.
 mod asking;
 mod crew;
-pub(crate) mod market;
+mod market;
 mod memory;
 mod settling;
 mod threads;

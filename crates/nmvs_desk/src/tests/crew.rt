@@ -1,22 +1,19 @@
 //! How a test opens a repository, lets clerks work in it in threads of their own, and settles it.
-ghost use Rattle.std.specs.Prelude.{◌≡◌, ◌≤◌, length, vec_len};
+ghost use Rattle.std.specs.Prelude.{◌≡◌, ◌≤◌, ℕ, length, vec_len};
 ghost use Rattle.nmvs_directory.specs.Directory.{directory_book};
+ghost use Rattle.nmvs_desk.specs.Opening.{table_of};
 
 use super::market::{actor, name, new_year, put, upload};
-use crate::{
-    AskFault, Clerk, EntryLedger, MOST_CLERKS, PARTS, Reader, Receipt, ReceiptLedger, Repository,
-    Settled, settle,
-};
-use nmvs_directory::{Directory, Naming, Notice, Registrar, Window};
+use crate::{Clerk, Keepers, MOST_CLERKS, Repository, Settled, settle};
+use nmvs_directory::{Directory, Naming, Registrar, Window};
+use nmvs_history::Histories;
 use nmvs_identifier::{Moment, Name};
 use nmvs_rules::Question;
 use nmvs_shard::Shard;
-use std::alloc::{AllocError, Allocator, Global};
+use std::alloc::{Allocator, Global};
 use std::marker::Brand;
 use std::process::Abort;
-use std::sync::atomic::{AtomicBool, Ordering};
-use std::sync::ledger::Blank;
-use std::sync::{Mutex, Wait};
+use std::sync::Wait;
 use std::thread;
 use std::thread::Threads;
 
@@ -54,31 +51,21 @@ pub fn enrol_all<'a, B: Allocator, J: Naming, R: Wait + Abort>(
 
 /// What those who work in a repository share.
 #[derive(Drop)]
-pub struct Place<'s, 'a, R, J: Naming, S: EntryLedger, C: ReceiptLedger> {
+pub struct Place<'s, 'a, R, H: Histories> {
     pub rt: &'s R,
-    pub repository: &'s Repository<'a, S, C>,
+    pub repository: &'s Repository<'a, H>,
     pub moment: Moment,
-    /// What the registrar published last.
-    pub latest: &'s Mutex<Option<Notice<J>>>,
 }
 
-/// What clerks do, each in a thread of its own, and the registrar beside them.
+/// What clerks do, each in a thread of its own.
 pub trait Crew {
     /// What the clerk of this number does, counted from 0.
-    fn work<'a, J: Naming, S: EntryLedger, C: ReceiptLedger, R: Wait + Abort>(
+    fn work<'a, J: Naming, H: Histories, R: Wait + Abort>(
         &self,
-        place: &Place<'_, 'a, R, J, S, C>,
-        clerk: &mut Clerk<'a, J, C>,
+        place: &Place<'_, 'a, R, H>,
+        clerk: &mut Clerk<'a, J, H>,
         number: usize,
-    ) -> Result<(), AskFault>;
-
-    fn register<'a, J: Naming, S: EntryLedger, C: ReceiptLedger, R: Wait>(
-        &self,
-        _place: &Place<'_, 'a, R, J, S, C>,
-        _registrar: &mut Registrar<J, &R, &'a Global>,
-    ) -> Result<(), AllocError> {
-        Ok(())
-    }
+    );
 }
 
 /// A question that is put `times` times.
@@ -90,44 +77,16 @@ pub struct Errand {
 }
 
 /// Puts the questions of an errand.
-fn run<'a, J: Naming, S: EntryLedger, C: ReceiptLedger, R: Wait>(
-    place: &Place<'_, 'a, R, J, S, C>,
-    clerk: &mut Clerk<'a, J, C>,
+fn run<'a, J: Naming, H: Histories, R: Wait + Abort>(
+    place: &Place<'_, 'a, R, H>,
+    clerk: &mut Clerk<'a, J, H>,
     errand: &Errand,
-) -> Result<(), AskFault> {
+) {
+    let (rt, repository, moment) = (place.rt, place.repository, place.moment);
     for _ in 0..errand.times {
-        clerk.ask(
-            place.rt,
-            place.repository,
-            place.moment,
-            &errand.user,
-            &errand.question,
-        )?;
+        let answer = clerk.ask(rt, repository, moment, &errand.user, &errand.question);
+        answer.expect(rt, "an answer");
     }
-    Ok(())
-}
-
-/// Puts the questions of all errands, in order.
-fn run_all<'a, J: Naming, S: EntryLedger, C: ReceiptLedger, R: Wait>(
-    place: &Place<'_, 'a, R, J, S, C>,
-    clerk: &mut Clerk<'a, J, C>,
-    errands: &[Errand],
-) -> Result<(), AskFault> {
-    for errand in errands {
-        run(place, clerk, errand)?;
-    }
-    Ok(())
-}
-
-/// Waits for a flag, and says whether it was raised.
-pub fn is_raised(flag: &AtomicBool) -> bool {
-    for _ in 0..100_000_000u64 {
-        if flag.load(Ordering::SeqCst) {
-            return true;
-        }
-        std::hint::spin_loop();
-    }
-    false
 }
 
 /// The clerks' errands, in order.
@@ -137,45 +96,43 @@ pub struct Errands<'s> {
 }
 
 impl Crew for Errands<'_> {
-    fn work<'a, J: Naming, S: EntryLedger, C: ReceiptLedger, R: Wait + Abort>(
+    fn work<'a, J: Naming, H: Histories, R: Wait + Abort>(
         &self,
-        place: &Place<'_, 'a, R, J, S, C>,
-        clerk: &mut Clerk<'a, J, C>,
+        place: &Place<'_, 'a, R, H>,
+        clerk: &mut Clerk<'a, J, H>,
         number: usize,
-    ) -> Result<(), AskFault> {
-        match self.of_clerks.get(number) {
-            Some(errands) => run_all(place, clerk, errands),
-            None => Ok(()),
+    ) {
+        let errands = self.of_clerks.get(number).expect(place.rt, "errands");
+        for errand in *errands {
+            run(place, clerk, errand);
         }
     }
 }
 
 /// Works, and gives the clerk back.
-fn work_with<'a, W: Crew, J: Naming, S: EntryLedger, C: ReceiptLedger, R: Wait + Abort>(
+fn work_with<'a, W: Crew, J: Naming, H: Histories, R: Wait + Abort>(
     crew: &W,
-    place: &Place<'_, 'a, R, J, S, C>,
-    mut clerk: Clerk<'a, J, C>,
+    place: &Place<'_, 'a, R, H>,
+    mut clerk: Clerk<'a, J, H>,
     number: usize,
-) -> (Clerk<'a, J, C>, Result<(), AskFault>) {
-    let outcome = crew.work(place, &mut clerk, number);
-    (clerk, outcome)
+) -> Clerk<'a, J, H> {
+    crew.work(place, &mut clerk, number);
+    clerk
 }
 
-/// Lets each clerk work in a thread and the registrar in this one, and gives the clerks back.
+/// Lets each clerk work in a thread, and gives the clerks back.
 fn in_threads<
     'a,
     W: Crew + Sync,
     J: Naming + Send + Sync,
-    S: EntryLedger + Send + Sync,
-    C: ReceiptLedger + Send + Sync,
+    H: Histories + Send + Sync,
     R: Threads + Wait + Abort + Sync,
 >(
     alloc: &'a Global,
     crew: &W,
-    place: &Place<'_, 'a, R, J, S, C>,
-    registrar: &mut Registrar<J, &R, &'a Global>,
-    clerks: Vec<Clerk<'a, J, C>, &'a Global>,
-) -> Vec<Clerk<'a, J, C>, &'a Global> {
+    place: &Place<'_, 'a, R, H>,
+    clerks: Vec<Clerk<'a, J, H>, &'a Global>,
+) -> Vec<Clerk<'a, J, H>, &'a Global> {
     let rt = place.rt;
     thread::scope(thread::scope_env(), rt, |scope| {
         let mut workers = Vec::new(*alloc);
@@ -189,50 +146,11 @@ fn in_threads<
             }
             number = number.wrapping_add(1);
         }
-        crew.register(place, registrar).expect(rt, "memory");
         for worker in workers {
-            let (clerk, outcome) = worker.join(rt);
-            outcome.expect(rt, "answers");
-            back.push(clerk).expect(rt, "memory");
+            back.push(worker.join(rt)).expect(rt, "memory");
         }
         back
     })
-}
-
-/// Tells whether each receipt of this shard has its entry at its place.
-#[derive(Drop)]
-struct Standing<'r> {
-    shard: usize,
-    receipts: &'r [Receipt],
-}
-
-impl<'a, 'r, B: Allocator> Reader<Shard<&'a B>> for Standing<'r> {
-    type Output = bool;
-
-    fn read(self, shard: &Shard<&'a B>) -> bool {
-        let trail = shard.trail();
-        for receipt in self.receipts {
-            if receipt.shard == self.shard && trail.get(receipt.place) != Some(&receipt.entry) {
-                return false;
-            }
-        }
-        true
-    }
-}
-
-/// Each receipt of the clerk has its entry at its place.
-fn stand<'a, J: Naming, S: EntryLedger, C: ReceiptLedger, R: Wait + Abort>(
-    rt: &R,
-    repository: &Repository<'a, S, C>,
-    clerk: &Clerk<'a, J, C>,
-) {
-    for shard in 0..repository.shards() {
-        let reader = Standing {
-            shard,
-            receipts: clerk.receipts(),
-        };
-        assert!(rt; repository.with_shard(rt, shard, reader));
-    }
 }
 
 /// Lets the crew work in the repository of the stage, and settles it.
@@ -258,9 +176,9 @@ fn in_directory<'a, J: Naming + Send + Sync, W: Crew + Sync, R: Threads + Wait +
 {
     let opening = opening_of(rt, alloc, stage.opening);
     let made = directory.open::<J, _, _>(rt, alloc, stage.clerks);
-    let (mut registrar, windows) = made.expect(rt, "a directory");
+    let (mut registrar, mut windows) = made.expect(rt, "a directory");
     enrol_all(rt, &mut registrar, stage.users);
-    let settled = open_and_play(rt, stage.shards, crew, &mut registrar, windows, &opening);
+    let settled = open_and_play(rt, stage.shards, crew, &mut windows, &opening);
     registrar.close();
     settled
 }
@@ -269,64 +187,42 @@ fn open_and_play<'a, J: Naming + Send + Sync, W: Crew + Sync, R: Threads + Wait 
     rt: &R,
     shards: usize,
     crew: &W,
-    registrar: &mut Registrar<J, &R, &'a Global>,
-    mut windows: Vec<Window<J, &'a Global>, &'a Global>,
+    windows: &mut Vec<Window<J, &'a Global>, &'a Global>,
     opening: &Shard<&'a Global>,
 ) -> Settled<'a>
-    requires few { vec_len windows ≤ MOST_CLERKS }
+    requires few { vec_len windows.old ≤ MOST_CLERKS }
 {
-    let (entries, receipts) = (Blank::new(PARTS), Blank::new(PARTS));
-    in_repository::<J, Brand, Brand, _, _>(
-        rt,
-        shards,
-        crew,
-        registrar,
-        &mut windows,
-        opening,
-        entries,
-        receipts,
-    )
+    let keepers = Keepers::new(*windows.allocator(), shards).expect(rt, "keepers");
+    in_repository::<J, Brand, _, _>(rt, crew, windows, opening, keepers)
 }
 
 fn in_repository<
     'a,
     J: Naming + Send + Sync,
-    S: EntryLedger + Send + Sync,
-    C: ReceiptLedger + Send + Sync,
+    H: Histories + Send + Sync,
     W: Crew + Sync,
     R: Threads + Wait + Abort + Sync,
 >(
     rt: &R,
-    shards: usize,
     crew: &W,
-    registrar: &mut Registrar<J, &R, &'a Global>,
     windows: &mut Vec<Window<J, &'a Global>, &'a Global>,
     opening: &Shard<&'a Global>,
-    entries: Blank,
-    receipts: Blank,
+    keepers: Keepers<'a>,
 ) -> Settled<'a>
-    requires entries { (entries.name ≡ S.name) × (entries.parts ≡ S.parts) × (S.parts ≡ PARTS) }
-    requires receipts { (receipts.name ≡ C.name) × (receipts.parts ≡ C.parts) × (C.parts ≡ PARTS) }
-    requires named { (S.shards ≡ shards) × (C.clerks ≡ vec_len windows.old) × (C.opening ≡ length opening.now) }
+    requires tables { (i : ℕ) → table_of keepers i ≡ H.tables i }
+    requires named { (H.shards ≡ length keepers) × (H.clerks ≡ vec_len windows.old) × (H.opening ≡ opening.now) }
     requires few { vec_len windows.old ≤ MOST_CLERKS }
 {
     let alloc = *windows.allocator();
-    let opened = Repository::<S, C, _>::open(alloc, entries, receipts, shards, windows, opening);
-    let (repository, clerks) = opened.expect(rt, "a repository");
-    let latest = Mutex::new(None);
+    let opened = Repository::<H, _>::open(alloc, keepers, windows, opening);
+    let (repository, clerks) = opened.expect(rt, "memory");
     let place = Place {
         rt,
         repository: &repository,
         moment: new_year(rt),
-        latest: &latest,
     };
-    let clerks = in_threads(alloc, crew, &place, registrar, clerks);
-    for clerk in &clerks {
-        stand(rt, &repository, clerk);
-    }
+    let clerks = in_threads(alloc, crew, &place, clerks);
+    drop(place);
     assert!(rt; clerks.len() == repository.clerks());
-    match settle(alloc, repository, clerks) {
-        Ok(settled) => settled,
-        Err((fault, _)) => panic!(rt; "{fault:?}"),
-    }
+    settle(alloc, repository, clerks).ok().expect(rt, "memory")
 }

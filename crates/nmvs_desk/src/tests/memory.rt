@@ -1,16 +1,17 @@
 //! A repository on a full heap, of which 16 bytes more are given back after each refusal.
-ghost use Rattle.std.specs.Prelude.{◌≡◌, ◌≤◌, length, vec_len};
+ghost use Rattle.std.specs.Prelude.{◌≡◌, ◌≤◌, ℕ, length, vec_len};
 ghost use Rattle.nmvs_directory.specs.Directory.{directory_book};
+ghost use Rattle.nmvs_desk.specs.Opening.{table_of};
 
 use super::asking::{Copied, Line};
 use super::crew::{enrol_all, opening_of};
 use super::market::{P, Q, audit, authentic, new_year, upload, verify};
 use crate::{
-    AskFault, Clerk, EntryLedger, MOST_CLERKS, OpenFault, PARTS, ReceiptLedger, Repository,
-    SettleFault, Settled, Unsettled, settle,
+    AskFault, Clerk, Keepers, MOST_CLERKS, OpenFault, Repository, Settled, Unsettled, settle,
 };
 use linked_list_allocator::LocalHeap;
 use nmvs_directory::{Directory, Naming, Window};
+use nmvs_history::Histories;
 use nmvs_rules::{Entry, Reply};
 use nmvs_shard::Shard;
 use std::alloc::Global;
@@ -18,7 +19,6 @@ use std::marker::Brand;
 use std::process::Abort;
 use std::rt::HostRuntime;
 use std::sync::Wait;
-use std::sync::ledger::Blank;
 
 /// A heap, and what was taken of it in pieces of 16 bytes.
 #[derive(Drop)]
@@ -48,28 +48,28 @@ impl FullHeap<'_> {
     }
 }
 
-/// The trail of shard 0.
-fn first_trail<S: EntryLedger, C: ReceiptLedger, R: Wait + Abort>(
+/// The trail of shard 0, as the clerk sees it.
+fn first_trail<'a, J: Naming, H: Histories, R: Wait + Abort>(
     rt: &R,
     alloc: Global,
-    repository: &Repository<'_, S, C, LocalHeap>,
+    repository: &Repository<'a, H, LocalHeap>,
+    clerk: &mut Clerk<'a, J, H, LocalHeap>,
 ) -> Vec<Entry> {
     assert!(rt; 0 < repository.shards());
-    repository
-        .with_shard(rt, 0, Copied(alloc))
-        .expect(rt, "memory")
+    let trail = clerk.look_at(rt, repository, 0, Copied(alloc));
+    trail.expect(rt, "memory")
 }
 
 /// Puts the question once. Where it is refused, it is for want of memory, and receipts and shard are as they were.
-fn is_answered<'a, J: Naming, S: EntryLedger, C: ReceiptLedger, R: Wait + Abort>(
+fn is_answered<'a, J: Naming, H: Histories, R: Wait + Abort>(
     rt: &R,
     alloc: Global,
-    repository: &Repository<'a, S, C, LocalHeap>,
-    clerk: &mut Clerk<'a, J, C, LocalHeap>,
+    repository: &Repository<'a, H, LocalHeap>,
+    clerk: &mut Clerk<'a, J, H, LocalHeap>,
     line: &Line,
 ) -> bool {
     let receipts = clerk.receipts().len();
-    let before = first_trail(rt, alloc, repository);
+    let before = first_trail(rt, alloc, repository, clerk);
     match clerk.ask(rt, repository, new_year(rt), &line.user, &line.question) {
         Ok(served) => {
             assert_eq!(rt; served.receipt.entry.reply, line.reply);
@@ -78,19 +78,19 @@ fn is_answered<'a, J: Naming, S: EntryLedger, C: ReceiptLedger, R: Wait + Abort>
         }
         Err(fault) => {
             assert_eq!(rt; fault, AskFault::Memory);
-            assert!(rt; first_trail(rt, alloc, repository) == before);
+            assert!(rt; first_trail(rt, alloc, repository, clerk) == before);
             false
         }
     }
 }
 
 /// Puts the question on a full heap until it is answered. Tells how often it was refused.
-fn is_answered_at_last<'a, J: Naming, S: EntryLedger, C: ReceiptLedger, R: Wait + Abort>(
+fn is_answered_at_last<'a, J: Naming, H: Histories, R: Wait + Abort>(
     rt: &R,
     alloc: Global,
     full: &mut FullHeap,
-    repository: &Repository<'a, S, C, LocalHeap>,
-    clerk: &mut Clerk<'a, J, C, LocalHeap>,
+    repository: &Repository<'a, H, LocalHeap>,
+    clerk: &mut Clerk<'a, J, H, LocalHeap>,
     line: &Line,
 ) -> usize {
     full.fill(rt);
@@ -106,12 +106,12 @@ fn is_answered_at_last<'a, J: Naming, S: EntryLedger, C: ReceiptLedger, R: Wait 
 }
 
 /// Puts all questions, each on a full heap.
-fn are_answered_at_last<'a, J: Naming, S: EntryLedger, C: ReceiptLedger, R: Wait + Abort>(
+fn are_answered_at_last<'a, J: Naming, H: Histories, R: Wait + Abort>(
     rt: &R,
     alloc: Global,
     full: &mut FullHeap,
-    repository: &Repository<'a, S, C, LocalHeap>,
-    clerk: &mut Clerk<'a, J, C, LocalHeap>,
+    repository: &Repository<'a, H, LocalHeap>,
+    clerk: &mut Clerk<'a, J, H, LocalHeap>,
 ) {
     for (least, line) in [
         // the receipts, the trail, its links, and three tables
@@ -125,33 +125,19 @@ fn are_answered_at_last<'a, J: Naming, S: EntryLedger, C: ReceiptLedger, R: Wait
     }
 }
 
-/// Settles once more. Where that is refused, it is for want of memory.
-fn settled_again<'a, J: Naming, S: EntryLedger, C: ReceiptLedger>(
-    rt: &impl Abort,
-    unsettled: Unsettled<'a, J, S, C, LocalHeap>,
-) -> Result<Settled<'a, LocalHeap>, Unsettled<'a, J, S, C, LocalHeap>> {
-    let Unsettled { repository, clerks } = unsettled;
-    let heap = *clerks.allocator();
-    match settle(heap, repository, clerks) {
-        Ok(settled) => Ok(settled),
-        Err((fault, unsettled)) => {
-            assert_eq!(rt; fault, SettleFault::Memory);
-            Err(unsettled)
-        }
-    }
-}
-
 /// Settles on a full heap.
-fn settled_at_last<'a, J: Naming, S: EntryLedger, C: ReceiptLedger>(
+fn settled_at_last<'a, J: Naming, H: Histories>(
     rt: &impl Abort,
     full: &mut FullHeap,
-    mut unsettled: Unsettled<'a, J, S, C, LocalHeap>,
+    mut unsettled: Unsettled<'a, J, H, LocalHeap>,
 ) -> Settled<'a, LocalHeap> {
     full.fill(rt);
     for _turn in 0..10_000 {
-        unsettled = match settled_again(rt, unsettled) {
+        let Unsettled { repository, clerks } = unsettled;
+        let heap = *clerks.allocator();
+        unsettled = match settle(heap, repository, clerks) {
             Ok(settled) => return settled,
-            Err(unsettled) => unsettled,
+            Err((_, unsettled)) => unsettled,
         };
         full.give_back(rt);
     }
@@ -167,38 +153,36 @@ fn have_lengths(rt: &impl Abort, settled: &Settled<'_, LocalHeap>, lengths: [usi
 }
 
 /// Settles a repository to which all questions were put.
-fn is_settled<'a, J: Naming, S: EntryLedger, C: ReceiptLedger>(
+fn is_settled<'a, J: Naming, H: Histories>(
     rt: &impl Abort,
     full: &mut FullHeap,
-    unsettled: Unsettled<'a, J, S, C, LocalHeap>,
+    unsettled: Unsettled<'a, J, H, LocalHeap>,
 ) {
     let settled = settled_at_last(rt, full, unsettled);
-    // what is handed out, and a list of claims and one of owners a shard
-    assert!(rt; full.refused >= 9);
+    // the shards, twice, what is handed out, and a list of owners a shard
+    assert!(rt; full.refused >= 7);
     have_lengths(rt, &settled, [3, 1]);
 }
 
 /// Opens the repository once, and tells whether it was opened. Then all questions were put to it, and it was settled.
-fn is_opened<'a, J: Naming, S: EntryLedger, C: ReceiptLedger, R: Wait + Abort>(
+fn is_opened<'a, J: Naming, H: Histories, R: Wait + Abort>(
     rt: &R,
     alloc: Global,
     full: &mut FullHeap,
     windows: &mut Vec<Window<J, &'a LocalHeap>, &'a LocalHeap>,
     opening: &Shard<&'a LocalHeap>,
-    entries: Blank,
-    receipts: Blank,
+    keepers: Keepers<'a, LocalHeap>,
 ) -> bool
-    requires entries { (entries.name ≡ S.name) × (entries.parts ≡ S.parts) × (S.parts ≡ PARTS) }
-    requires receipts { (receipts.name ≡ C.name) × (receipts.parts ≡ C.parts) × (C.parts ≡ PARTS) }
-    requires named { (S.shards ≡ 2) × (C.clerks ≡ vec_len windows.old) × (C.opening ≡ length opening.now) }
+    requires tables { (i : ℕ) → table_of keepers i ≡ H.tables i }
+    requires named { (H.shards ≡ length keepers) × (H.clerks ≡ vec_len windows.old) × (H.opening ≡ opening.now) }
     requires few { vec_len windows.old ≤ MOST_CLERKS }
     ensures few { vec_len windows.new ≤ MOST_CLERKS }
 {
     let heap = *windows.allocator();
-    match Repository::<S, C, _>::open(heap, entries, receipts, 2, windows, opening) {
+    match Repository::<H, _>::open(heap, keepers, windows, opening) {
         Ok((repository, mut clerks)) => {
-            // the clerks, the shards, the receipts of the opening, the locks
-            assert!(rt; full.refused >= 4);
+            // the keepers and their tables, the shards, the receipts of the opening, the tokens, the clerks, the locks
+            assert!(rt; full.refused >= 8);
             for clerk in clerks.iter_mut() {
                 are_answered_at_last(rt, alloc, full, &repository, clerk);
             }
@@ -206,8 +190,8 @@ fn is_opened<'a, J: Naming, S: EntryLedger, C: ReceiptLedger, R: Wait + Abort>(
             is_settled(rt, full, Unsettled { repository, clerks });
             true
         }
-        Err(fault) => {
-            assert_eq!(rt; (fault, windows.len()), (OpenFault::Memory, 1));
+        Err(_) => {
+            assert_eq!(rt; windows.len(), 1);
             false
         }
     }
@@ -224,8 +208,13 @@ fn is_opened_anew<'a, J: Naming, R: Wait + Abort>(
     requires few { vec_len windows.old ≤ MOST_CLERKS }
     ensures few { vec_len windows.new ≤ MOST_CLERKS }
 {
-    let (entries, receipts) = (Blank::new(PARTS), Blank::new(PARTS));
-    is_opened::<J, Brand, Brand, _>(rt, alloc, full, windows, opening, entries, receipts)
+    match Keepers::new(*windows.allocator(), 2) {
+        Ok(keepers) => is_opened::<J, Brand, _>(rt, alloc, full, windows, opening, keepers),
+        Err(fault) => {
+            assert_eq!(rt; fault, OpenFault::Memory);
+            false
+        }
+    }
 }
 
 /// Opens the repository at last, with one clerk and an opening of one upload.

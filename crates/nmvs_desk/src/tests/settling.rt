@@ -1,44 +1,57 @@
-//! What the settlement of an opening hands out.
-ghost use Rattle.std.specs.Prelude.{◌≡◌, length, vec_len};
+//! What the settlement of an opening hands out, and what a sight sees of it.
+ghost use Rattle.std.specs.Prelude.{◌≡◌, ℕ, length, vec_len};
+ghost use Rattle.nmvs_desk.specs.Opening.{table_of};
 
+use super::asking::Copied;
 use super::crew::opening_of;
 use super::market::{P, Q};
-use crate::{EntryLedger, Owner, PARTS, ReceiptLedger, Repository, Settled, settle};
+use crate::{Keepers, Owner, Repository, Settled, settle};
 use nmvs_directory::Window;
+use nmvs_history::Histories;
+use nmvs_rules::Entry;
 use nmvs_shard::Shard;
 use std::alloc::Global;
 use std::marker::Brand;
 use std::process::Abort;
 use std::rt::HostRuntime;
-use std::sync::ledger::Blank;
+use std::sync::Wait;
+
+/// The trail of shard 0, by a sight.
+fn first_trail<H: Histories, R: Wait + Abort>(
+    rt: &R,
+    alloc: Global,
+    repository: &Repository<'_, H>,
+) -> Vec<Entry> {
+    assert!(rt; 0 < repository.shards());
+    let mut sight = repository.sight(rt, 0);
+    let trail = repository.with_shard(rt, 0, &mut sight, Copied(alloc));
+    trail.expect(rt, "memory")
+}
 
 /// Settles a repository of two shards, in which nobody asked.
-fn settle_unasked<'a, S: EntryLedger, C: ReceiptLedger>(
-    rt: &impl Abort,
+fn settle_unasked<'a, H: Histories, R: Wait + Abort>(
+    rt: &R,
     alloc: &'a Global,
-    entries: Blank,
-    receipts: Blank,
+    keepers: Keepers<'a>,
     windows: &mut Vec<Window<Brand, &'a Global>, &'a Global>,
     opening: &Shard<&'a Global>,
 ) -> Settled<'a>
-    requires entries { (entries.name ≡ S.name) × (entries.parts ≡ S.parts) × (S.parts ≡ PARTS) }
-    requires receipts { (receipts.name ≡ C.name) × (receipts.parts ≡ C.parts) × (C.parts ≡ PARTS) }
-    requires named { (S.shards ≡ 2) × (C.clerks ≡ 0) × (C.opening ≡ length opening.now) }
+    requires tables { (i : ℕ) → table_of keepers i ≡ H.tables i }
+    requires named { (H.shards ≡ length keepers) × (H.clerks ≡ 0) × (H.opening ≡ opening.now) }
     requires nobody { vec_len windows.old ≡ 0 }
 {
-    let opened = Repository::<S, C, _>::open(alloc, entries, receipts, 2, windows, opening);
-    let (repository, clerks) = opened.expect(rt, "a repository");
-    match settle(alloc, repository, clerks) {
-        Ok(settled) => settled,
-        Err((fault, _)) => panic!(rt; "{fault:?}"),
-    }
+    let opened = Repository::<H, _>::open(alloc, keepers, windows, opening);
+    let (repository, clerks) = opened.expect(rt, "memory");
+    let seen = first_trail(rt, *alloc, &repository);
+    assert!(rt; seen.first() == opening.trail().last());
+    settle(alloc, repository, clerks).ok().expect(rt, "memory")
 }
 
-fn settle_opening<'a>(rt: &impl Abort, alloc: &'a Global, codes: &[&str]) -> Settled<'a> {
+fn settle_opening<'a, R: Wait + Abort>(rt: &R, alloc: &'a Global, codes: &[&str]) -> Settled<'a> {
     let opening = opening_of(rt, alloc, codes);
     let mut windows = Vec::new(alloc);
-    let (entries, receipts) = (Blank::new(PARTS), Blank::new(PARTS));
-    settle_unasked::<Brand, Brand>(rt, alloc, entries, receipts, &mut windows, &opening)
+    let keepers = Keepers::new(alloc, 2).expect(rt, "keepers");
+    settle_unasked::<Brand, _>(rt, alloc, keepers, &mut windows, &opening)
 }
 
 /// The owners of both shards' entries are these receipts of the importer.

@@ -1,16 +1,17 @@
 //! What clerks in threads are answered, and settled to.
-use super::crew::{Crew, Errand, Errands, Place, Stage, is_raised, play};
+use super::crew::{Crew, Errand, Errands, Place, Stage, play};
 use super::market::{P, Q, USERS, authentic, decommission, name, pack, upload, verify};
-use crate::{AskFault, Clerk, EntryLedger, Reader, ReceiptLedger, Settled};
-use nmvs_directory::{Naming, Registrar};
+use crate::{Clerk, Reader, Settled};
+use nmvs_directory::Naming;
+use nmvs_history::Histories;
 use nmvs_identifier::Name;
 use nmvs_rules::{Cause, Question, Reason, Reply};
 use nmvs_shard::Shard;
-use std::alloc::{AllocError, Allocator, Global};
+use std::alloc::{Allocator, Global};
 use std::process::Abort;
 use std::rt::HostRuntime;
 use std::sync::Wait;
-use std::sync::atomic::{AtomicBool, AtomicU64, Ordering};
+use std::sync::atomic::{AtomicBool, Ordering};
 use std::thread::Threads;
 
 /// The trails have these lengths, shard by shard.
@@ -118,7 +119,18 @@ fn clerks_in_threads_are_answered_as_one_alone(rt: HostRuntime) {
     }
 }
 
-/// Two clerks, of whom the first is answered and then has its shard held until the second is answered, too.
+/// Waits for a flag, and says whether it was raised.
+fn is_raised(flag: &AtomicBool) -> bool {
+    for _ in 0..100_000_000u64 {
+        if flag.load(Ordering::SeqCst) {
+            return true;
+        }
+        std::hint::spin_loop();
+    }
+    false
+}
+
+/// Two clerks, of whom the first has its shard held until the second is answered.
 #[derive(Drop)]
 struct Meeting {
     user: Name,
@@ -145,24 +157,23 @@ impl<'a, B: Allocator> Reader<Shard<&'a B>> for Door<'_> {
 }
 
 impl Crew for Meeting {
-    fn work<'a, J: Naming, S: EntryLedger, C: ReceiptLedger, R: Wait + Abort>(
+    fn work<'a, J: Naming, H: Histories, R: Wait + Abort>(
         &self,
-        place: &Place<'_, 'a, R, J, S, C>,
-        clerk: &mut Clerk<'a, J, C>,
+        place: &Place<'_, 'a, R, H>,
+        clerk: &mut Clerk<'a, J, H>,
         number: usize,
-    ) -> Result<(), AskFault> {
+    ) {
         let (rt, repository, moment) = (place.rt, place.repository, place.moment);
         if number == 0 {
-            clerk.ask(rt, repository, moment, &self.user, &self.first)?;
             let shard = repository.shard_of(&self.first.code());
-            let met = repository.with_shard(rt, shard, Door { meeting: self });
+            let met = clerk.look_at(rt, repository, shard, Door { meeting: self });
             self.met.store(met, Ordering::SeqCst);
         } else {
             is_raised(&self.held);
-            clerk.ask(rt, repository, moment, &self.user, &self.second)?;
+            let answer = clerk.ask(rt, repository, moment, &self.user, &self.second);
+            answer.expect(rt, "an answer");
             self.answered.store(true, Ordering::SeqCst);
         }
-        Ok(())
     }
 }
 
@@ -185,135 +196,7 @@ fn two_shards_are_worked_on_at_once(rt: HostRuntime) {
     };
     let settled = play(&rt, &alloc, &stage, &meeting);
     assert!(&rt; meeting.met.load(Ordering::SeqCst));
-    have_lengths(&rt, &settled, &[1, 1]);
-}
-
-/// Eight clerks, one of whose users is suspended in the middle of its questions; a stranger asks by the same clerk.
-#[derive(Drop)]
-struct Suspension<'s> {
-    errands: Errands<'s>,
-    user: Name,
-    stranger: Name,
-    question: Question,
-    due: AtomicBool,
-    published: AtomicBool,
-    turned_away: AtomicU64,
-}
-
-/// The number of the clerk who asks for the user that is suspended.
-const FOURTH: usize = 3;
-
-impl Suspension<'_> {
-    /// Sends word to the registrar, learns of the suspension, and asks again.
-    fn ask_on<'a, J: Naming, S: EntryLedger, C: ReceiptLedger, R: Wait + Abort>(
-        &self,
-        place: &Place<'_, 'a, R, J, S, C>,
-        clerk: &mut Clerk<'a, J, C>,
-    ) {
-        self.due.store(true, Ordering::SeqCst);
-        is_raised(&self.published);
-        if let Some(notice) = &*place.latest.lock(place.rt) {
-            clerk.learn(notice);
-        }
-        let (rt, repository, moment) = (place.rt, place.repository, place.moment);
-        let answer = clerk.ask(rt, repository, moment, &self.stranger, &self.question);
-        assert!(rt; answer.err() == Some(AskFault::Nobody));
-        for _ in 0..125 {
-            let answer = clerk.ask(rt, repository, moment, &self.user, &self.question);
-            if let Err(AskFault::Suspended) = answer {
-                self.turned_away.fetch_add(1, Ordering::SeqCst);
-            }
-        }
-    }
-}
-
-impl Crew for Suspension<'_> {
-    fn work<'a, J: Naming, S: EntryLedger, C: ReceiptLedger, R: Wait + Abort>(
-        &self,
-        place: &Place<'_, 'a, R, J, S, C>,
-        clerk: &mut Clerk<'a, J, C>,
-        number: usize,
-    ) -> Result<(), AskFault> {
-        self.errands.work(place, clerk, number)?;
-        if number == FOURTH {
-            self.ask_on(place, clerk);
-        }
-        Ok(())
-    }
-
-    fn register<'a, J: Naming, S: EntryLedger, C: ReceiptLedger, R: Wait>(
-        &self,
-        place: &Place<'_, 'a, R, J, S, C>,
-        registrar: &mut Registrar<J, &R, &'a Global>,
-    ) -> Result<(), AllocError> {
-        is_raised(&self.due);
-        registrar.changes.suspend(self.user)?;
-        let notice = registrar.publish()?;
-        *place.latest.lock(place.rt) = Some(notice);
-        self.published.store(true, Ordering::SeqCst);
-        Ok(())
-    }
-}
-
-/// A hot product, and eight others.
-const CODES: [&str; 9] = [
-    P,
-    "04012345678918",
-    "04012345678925",
-    "04012345678932",
-    "04012345678949",
-    "04012345678956",
-    "04012345678963",
-    "04012345678970",
-    "04012345678987",
-];
-
-/// 125 verifications of each of two products.
-fn of_two(rt: &impl Abort, first: &str, second: &str) -> [Errand; 2] {
-    [
-        verifications(rt, "ph1", first, 125),
-        verifications(rt, "ph1", second, 125),
-    ]
-}
-
-/// Lets eight clerks run these errands, of whom the fourth is turned away from the middle on.
-fn settled_with_a_suspension<'a, R: Threads + Wait + Abort + Sync>(
-    rt: &R,
-    alloc: &'a Global,
-    of_clerks: &[&[Errand]],
-) -> Settled<'a> {
-    let stage = Stage {
-        shards: 8,
-        clerks: 8,
-        users: &USERS,
-        opening: &CODES,
-    };
-    let suspension = Suspension {
-        errands: Errands { of_clerks },
-        user: name(rt, "ph2"),
-        stranger: name(rt, "zed"),
-        question: verify(rt, P),
-        due: AtomicBool::new(false),
-        published: AtomicBool::new(false),
-        turned_away: AtomicU64::new(0),
-    };
-    let settled = play(rt, alloc, &stage, &suspension);
-    assert_eq!(rt; suspension.turned_away.load(Ordering::SeqCst), 125);
-    settled
-}
-
-#[test]
-fn a_suspension_in_the_middle_turns_away(rt: HostRuntime) {
-    let alloc = rt.alloc();
-    let hot = [verifications(&rt, "ph1", P, 250)];
-    let fourth = [verifications(&rt, "ph2", P, 125)];
-    let fifth = of_two(&rt, CODES[1], CODES[2]);
-    let sixth = of_two(&rt, CODES[3], CODES[4]);
-    let seventh = of_two(&rt, CODES[5], CODES[6]);
-    let eighth = of_two(&rt, CODES[7], CODES[8]);
-    let errands: [&[Errand]; 8] = [&hot, &hot, &hot, &fourth, &fifth, &sixth, &seventh, &eighth];
-    let settled = settled_with_a_suspension(&rt, &alloc, &errands);
-    have_lengths(&rt, &settled, &[876, 0, 126, 252, 252, 252, 126, 0]);
+    have_lengths(&rt, &settled, &[0, 1]);
 }
 
 /// Counts a decommissioning at 0, and each flagged alert at its number.

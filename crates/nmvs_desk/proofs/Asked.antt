@@ -1,0 +1,175 @@
+-- A clerk that was answered, or that looked at a shard, is a clerk, and has seen more of that shard alone.
+use Rattle.std.proofs.Common.{◌≡◌, ◌≢◌, ◌<◌, ◌==◌, ℕ, zero, suc, List, [], ◌∷◌, ◌++◌, length, map, set, cond, sym, refl, ap, ◌∙◌, subst, arith, inl, inr, eq-eqb, ne_eqb, length-set, append-nil}
+use Rattle.std.specs.Prelude.{Some, slice_get, filter}
+use Rattle.std.proofs.lemmas.Option.{slice_get_within, same_Some}
+use Rattle.std.proofs.lemmas.List.{map-append}
+use Rattle.std.proofs.lemmas.List.Elements.{filter-append, All-push}
+use Rattle.std.proofs.lemmas.Bool.Decides.{eqb_tells}
+use mathlib.Core.List.{IsPrefix}
+use Rattle.nmvs_history.specs.Views.{HistoryId, TokenView}
+use Rattle.nmvs_history.proofs.Beginnings.{prefix_get, prefix_length, prefix_longer, last_get}
+use Rattle.nmvs_rules.specs.declared.entry.Entry.{Entry}
+use Rattle.nmvs_rules.specs.declared.put.Put.{Put}
+use Rattle.nmvs_rules.specs.Questions.{code_of}
+use Rattle.nmvs_rules.specs.Rules.{IsLawful}
+use Rattle.nmvs_rules.proofs.LawfulLemmas.{IsLawful-push}
+use Rattle.nmvs_desk.specs.declared.ask.Receipt.{Receipt}
+use Rattle.nmvs_desk.specs.Answers.{IsAnswered, IsServed, IsShown}
+use Rattle.nmvs_desk.specs.Clerks.{IsTokenOf, Stands, IsClerk}
+use Rattle.nmvs_desk.specs.Placing.{shard_of, IsPlaced}
+use Rattle.nmvs_desk.specs.Settlement.{row, places_in, Rises}
+use Rattle.nmvs_desk.specs.Views.{sights_of}
+use Rattle.nmvs_desk.proofs.Lists.{set_cases, set_same, set_other, push_cases}
+
+-- the places of one receipt more
+pub places_push : (i : ℕ) (receipts : List Receipt) (r : Receipt) → places_in i (receipts ++ r ∷ []) ≡ places_in i receipts ++ places_in i (r ∷ [])
+places_push i receipts r =
+    ap (map (λ (r : Receipt). r.place)) (filter-append (λ (r : Receipt). r.shard == i) receipts (r ∷ []))
+    ∙ map-append (λ (r : Receipt). r.place) (filter (λ (r : Receipt). r.shard == i) receipts) (filter (λ (r : Receipt). r.shard == i) (r ∷ []))
+
+pub places_here : (i : ℕ) (receipts : List Receipt) (r : Receipt) → r.shard ≡ i → places_in i (receipts ++ r ∷ []) ≡ places_in i receipts ++ r.place ∷ []
+places_here i receipts r is =
+    places_push i receipts r ∙ ap (λ b. places_in i receipts ++ map (λ (r : Receipt). r.place) (cond b (r ∷ []) [])) (eq-eqb r.shard i is)
+
+pub places_else : (i : ℕ) (receipts : List Receipt) (r : Receipt) → r.shard ≢ i → places_in i (receipts ++ r ∷ []) ≡ places_in i receipts
+places_else i receipts r apart =
+    places_push i receipts r ∙ ap (λ b. places_in i receipts ++ map (λ (r : Receipt). r.place) (cond b (r ∷ []) [])) (ne_eqb r.shard i apart)
+    ∙ append-nil (places_in i receipts)
+
+-- what a token has seen stands among the sights
+pub sight_of : (tokens : List TokenView) (i : ℕ) (k : TokenView) → slice_get tokens i ≡ Some k → row (sights_of tokens) i ≡ k.seen
+sight_of [] i k h = absurd cc
+sight_of (t ∷ ts) zero k h = ap (λ (x : TokenView). x.seen) (same_Some t k h)
+sight_of (t ∷ ts) (suc i) k h = sight_of ts i k h
+
+pub sight_else : (tokens : List TokenView) (i j : ℕ) (k : TokenView) → j ≢ i → row (sights_of (set tokens i k)) j ≡ row (sights_of tokens) j
+sight_else [] i j k apart = refl
+sight_else (t ∷ ts) zero zero k apart = absurd (apart refl)
+sight_else (t ∷ ts) zero (suc j) k apart = refl
+sight_else (t ∷ ts) (suc i) zero k apart = refl
+sight_else (t ∷ ts) (suc i) (suc j) k apart = sight_else ts i j k (λ e. apart (ap suc e))
+
+module _ (tables : ℕ → HistoryId) (count : ℕ) (tokens : List TokenView) (receipts : List Receipt) (is : IsClerk tables count tokens receipts) (index : ℕ) (was now : TokenView) (has : slice_get tokens index ≡ Some was) where
+  after_set : slice_get (set tokens index now) index ≡ Some now
+  after_set = set_same tokens index now (slice_get_within tokens index was has)
+
+  -- what stands stays where the token's sight begins the new one
+  stays : IsPrefix was.seen now.seen → (o : Receipt) → Stands tokens o → Stands (set tokens index now) o
+  stays begins o it =
+      elim (eqb_tells o.shard index) [
+        | inl e ↦ (
+            let same : it.token ≡ was = cc (it.is, has, e.1) in
+            record {
+              token = now;
+              is = subst (λ i. slice_get (set tokens index now) i ≡ Some now) (sym e.1) after_set;
+              stands = prefix_get was.seen now.seen o.place o.entry begins (subst (λ (k : TokenView). slice_get k.seen o.place ≡ Some o.entry) same it.stands);
+            })
+        | inr e ↦ record { token = it.token; is = set_other tokens index o.shard now e.1 ∙ it.is; stands = it.stands }
+      ]
+
+  module _ (r : Receipt) (shown : List Entry) (put : Put) (served : IsServed count index put was now r shown) (here : index ≡ shard_of count (code_of put.question)) where
+    begun : IsPrefix was.seen now.seen
+    begun = subst (λ t. IsPrefix was.seen t) (sym served.answered.seen) (prefix_longer was.seen served.answered.trail (r.entry ∷ []) served.answered.begins)
+
+    token_now : IsTokenOf tables count (receipts ++ r ∷ []) index now
+    token_now =
+        let own = is.each index was has in
+        let a = served.answered in
+        let P : Entry → Type 0 = λ e. shard_of count (code_of e.put.question) ≡ index in
+        let Q : ℕ → Type 0 = λ i. IsPlaced count i a.trail in
+        let fits : P r.entry = ap (λ (p : Put). shard_of count (code_of p.question)) served.asked ∙ sym here in
+        record {
+          table = ap (λ (k : TokenView). k.table) served.token ∙ own.table;
+          places = ap (λ (k : TokenView). k.places) served.token ∙ ap (λ l. l ++ r.place ∷ []) own.places ∙ sym (places_here index receipts r served.shard);
+          lawful = subst (λ t. IsLawful t) (sym a.seen) (IsLawful-push a.trail r.entry a.next.lawful a.next.reply);
+          placed = subst (λ t. IsPlaced count index t) (sym a.seen) (All-push P a.trail r.entry (subst Q served.shard a.next.placed) fits);
+        }
+
+    each_now : (i : ℕ) (k : TokenView) → slice_get (set tokens index now) i ≡ Some k → IsTokenOf tables count (receipts ++ r ∷ []) i k
+    each_now i k at =
+        elim (set_cases tokens index i now k at) [
+          | inl e ↦ subst (λ (p : ℕ × TokenView). IsTokenOf tables count (receipts ++ r ∷ []) p.0 p.1) (λ j. (sym e.0 j, sym e.1 j)) token_now
+          | inr e ↦ (
+              let other = is.each i k e.1 in
+              let apart = e.0 in
+              record {
+                table = other.table;
+                places = other.places ∙ sym (places_else i receipts r (λ q. apart (sym q ∙ served.shard)));
+                lawful = other.lawful;
+                placed = other.placed;
+              })
+        ]
+
+    stands_now : Stands (set tokens index now) r
+    stands_now =
+        let a = served.answered in
+        record {
+          token = now;
+          is = subst (λ i. slice_get (set tokens index now) i ≡ Some now) (sym served.shard) after_set;
+          stands = ap (λ t. slice_get t r.place) a.seen ∙ subst (λ n. slice_get (a.trail ++ r.entry ∷ []) n ≡ Some r.entry) a.next.length (last_get a.trail r.entry);
+        }
+
+    below : (n : ℕ) (o : Receipt) → slice_get receipts n ≡ Some o → o.shard ≡ r.shard → o.place < r.place
+    below n o at same =
+        let a = served.answered in
+        let it = is.stand n o at in
+        let token : it.token ≡ was = cc (it.is, has, same, served.shard) in
+        let within = slice_get_within was.seen o.place o.entry (subst (λ (k : TokenView). slice_get k.seen o.place ≡ Some o.entry) token it.stands) in
+        omega (arith, within, prefix_length was.seen a.trail a.begins, a.next.length)
+
+    rises_now : Rises (receipts ++ r ∷ [])
+    rises_now k m p q less at_k at_m same =
+        elim (push_cases receipts m r q at_m) [
+          | inl new_m ↦ (
+              elim (push_cases receipts k r p at_k) [
+                | inl new_k ↦ absurd (omega (arith, less, new_k.0, new_m.0))
+                | inr old_k ↦ subst (λ (z : Receipt). p.place < z.place) (sym new_m.1) (below k p old_k (same ∙ ap (λ (z : Receipt). z.shard) new_m.1))
+              ])
+          | inr old_m ↦ (
+              elim (push_cases receipts k r p at_k) [
+                | inl new_k ↦ absurd (omega (arith, less, new_k.0, slice_get_within receipts m q old_m))
+                | inr old_k ↦ is.rising k m p q less old_k old_m same
+              ])
+        ]
+
+    pub asked : IsClerk tables count (set tokens index now) (receipts ++ r ∷ [])
+    asked = record {
+      shards = length-set tokens index now ∙ is.shards;
+      each = each_now;
+      stand = λ n o at. elim (push_cases receipts n r o at) [ inl new ↦ subst (λ (z : Receipt). Stands (set tokens index now) z) (sym new.1) stands_now | inr old ↦ stays begun o (is.stand n o old) ];
+      rising = rises_now;
+    }
+
+    pub answered_then : IsAnswered count (row (sights_of tokens) r.shard) (row (sights_of (set tokens index now)) r.shard) r shown
+    answered_then =
+        let before = ap (row (sights_of tokens)) served.shard ∙ sight_of tokens index was has in
+        let after = ap (row (sights_of (set tokens index now))) served.shard ∙ sight_of (set tokens index now) index now after_set in
+        subst (λ (p : List Entry × List Entry). IsAnswered count p.0 p.1 r shown) (λ i. (sym before i, sym after i)) served.answered
+
+  module _ (look : IsShown count index was.seen now.seen) (token : now ≡ record was { seen = now.seen }) where
+    each_looked : (i : ℕ) (k : TokenView) → slice_get (set tokens index now) i ≡ Some k → IsTokenOf tables count receipts i k
+    each_looked i k at =
+        elim (set_cases tokens index i now k at) [
+          | inl e ↦ (
+              let own = is.each index was has in
+              subst (λ (p : ℕ × TokenView). IsTokenOf tables count receipts p.0 p.1) (λ j. (sym e.0 j, sym e.1 j)) (record {
+                table = ap (λ (k : TokenView). k.table) token ∙ own.table;
+                places = ap (λ (k : TokenView). k.places) token ∙ own.places;
+                lawful = look.lawful;
+                placed = look.placed;
+              }))
+          | inr e ↦ is.each i k e.1
+        ]
+
+    pub looked : IsClerk tables count (set tokens index now) receipts
+    looked = record {
+      shards = length-set tokens index now ∙ is.shards;
+      each = each_looked;
+      stand = λ n o at. stays look.begins o (is.stand n o at);
+      rising = is.rising;
+    }
+
+    pub shown_then : IsShown count index (row (sights_of tokens) index) (row (sights_of (set tokens index now)) index)
+    shown_then =
+        subst (λ (p : List Entry × List Entry). IsShown count index p.0 p.1)
+        (λ i. (sym (sight_of tokens index was has) i, sym (sight_of (set tokens index now) index now after_set) i)) look

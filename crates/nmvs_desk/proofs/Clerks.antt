@@ -1,0 +1,70 @@
+-- What is true of a clerk's receipts and sights, and of a new clerk.
+use Rattle.std.proofs.Common.{◌≡◌, ◌==◌, ◌<◌, ◌∙◌, ℕ, zero, suc, List, [], ◌∷◌, refl, sym, ap, subst, arith, get_or}
+use Rattle.std.specs.Prelude.{Some, slice_get, All}
+use Rattle.std.proofs.lemmas.List.Elements.{All-nil}
+use Rattle.std.proofs.lemmas.Option.{slice_get-get_or}
+use Rattle.nmvs_history.specs.Views.{HistoryId, TokenView}
+use Rattle.nmvs_rules.specs.declared.entry.Entry.{Entry}
+use Rattle.nmvs_rules.specs.Questions.{code_of}
+use Rattle.nmvs_rules.specs.Rules.{IsLawful}
+use Rattle.nmvs_rules.proofs.MergeLemmas.{IsLawful-kept}
+use Rattle.nmvs_desk.specs.declared.ask.Receipt.{Receipt}
+use Rattle.nmvs_desk.specs.Clerks.{IsTokenOf, IsClerk}
+use Rattle.nmvs_desk.specs.Opening.{trail_of, AreNew, IsNew}
+use Rattle.nmvs_desk.specs.Placing.{place_of, shard_of, IsPlaced}
+use Rattle.nmvs_desk.specs.Settlement.{row, at}
+use Rattle.nmvs_desk.specs.Views.{ClerkView, sights_of}
+use Rattle.nmvs_desk.proofs.Asked.{sight_of}
+use Rattle.nmvs_desk.proofs.Dealing.{trail_of-placed}
+
+-- each receipt stands at its place
+pub stand : (tables : ℕ → HistoryId) (count : ℕ) (tokens : List TokenView) (receipts : List Receipt) → IsClerk tables count tokens receipts
+    → (n : ℕ) (r : Receipt) → slice_get receipts n ≡ Some r → at (sights_of tokens) r.shard r.place ≡ Some r.entry
+stand tables count tokens receipts is n r there =
+    let it = is.stand n r there in
+    ap (λ t. slice_get t r.place) (sight_of tokens r.shard it.token it.is) ∙ it.stands
+
+-- what is true of what each token has seen, and of nothing, is true of all sights
+all_sights : (P : ℕ → List Entry → Type 0) → ((i : ℕ) → P i []) → (tokens : List TokenView) → ((i : ℕ) (k : TokenView) → slice_get tokens i ≡ Some k → P i k.seen)
+    → (i : ℕ) → P i (row (sights_of tokens) i)
+all_sights P none [] each i = none i
+all_sights P none (t ∷ ts) each zero = each zero t refl
+all_sights P none (t ∷ ts) each (suc i) = all_sights (λ j. P (suc j)) (λ j. none (suc j)) ts (λ j k h. each (suc j) k h) i
+
+-- what a clerk has seen of a shard is lawful, and belongs to the shard
+pub lawful : (tables : ℕ → HistoryId) (count : ℕ) (tokens : List TokenView) (receipts : List Receipt) → IsClerk tables count tokens receipts
+    → (i : ℕ) → IsLawful (row (sights_of tokens) i) × IsPlaced count i (row (sights_of tokens) i)
+lawful tables count tokens receipts is =
+    all_sights (λ i t. IsLawful t × IsPlaced count i t) (λ i. (tt, All-nil (λ (e : Entry). shard_of count (code_of e.put.question) ≡ i))) tokens
+    (λ i k at. ((is.each i k at).lawful, (is.each i k at).placed))
+
+-- a clerk with new tokens and no receipt
+pub new_clerk : (tables : ℕ → HistoryId) (count : ℕ) (opening : List Entry) (tokens : List TokenView) → IsLawful opening → AreNew tables count opening count tokens → IsClerk tables count tokens []
+new_clerk tables count opening tokens whole new = record {
+  shards = new.length;
+  each = λ i k at.
+      let is = new.each i k at in
+      record {
+        table = ap (λ (k : TokenView). k.table) is;
+        places = ap (λ (k : TokenView). k.places) is;
+        lawful = subst (λ t. IsLawful t) (sym (ap (λ (k : TokenView). k.seen) is)) (IsLawful-kept (λ c. place_of count c == i) opening whole);
+        placed = subst (λ t. IsPlaced count i t) (sym (ap (λ (k : TokenView). k.seen) is)) (trail_of-placed count i opening);
+      };
+  stand = λ n r there. absurd cc;
+  rising = λ k m p q less at_k at_m same. absurd cc;
+}
+
+-- it has seen what the opening dealt to each shard
+new_sights : (tables : ℕ → HistoryId) (count : ℕ) (opening : List Entry) (tokens : List TokenView) → AreNew tables count opening count tokens
+    → (i : ℕ) → i < count → row (sights_of tokens) i ≡ trail_of count i opening
+new_sights tables count opening tokens new i within =
+    let d : TokenView = record { table = tables i; seen = []; places = [] } in
+    let there = slice_get-get_or tokens i d (omega (arith, new.length, within)) in
+    sight_of tokens i (get_or tokens i d) there ∙ ap (λ (k : TokenView). k.seen) (new.each i (get_or tokens i d) there)
+
+pub is_new : (tables : ℕ → HistoryId) (count : ℕ) (opening : List Entry) (tokens : List TokenView) (c : ClerkView) → AreNew tables count opening count tokens
+    → c.receipts ≡ [] → c.sights ≡ sights_of tokens → IsNew count opening c
+is_new tables count opening tokens c new none sights = record {
+  receipts = none;
+  sights = λ i within. ap (λ s. row s i) sights ∙ new_sights tables count opening tokens new i within;
+}
