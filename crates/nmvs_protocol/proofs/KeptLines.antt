@@ -1,8 +1,8 @@
 -- What is kept of a line is enough to judge it.
-use Rattle.std.proofs.Common.{◌≡◌, ◌<◌, ◌+◌, ◌++◌, List, ℕ, length, take, min, Some, Result, Ok, Err, refl, sym, ap, ◌∙◌, subst, inl, inr, arith}
+use Rattle.std.proofs.Common.{◌≡◌, ◌<◌, ◌+◌, ◌++◌, ◌∷◌, ◌==◌, [], true, List, ℕ, length, take, min, Some, Result, Ok, Err, refl, sym, ap, ◌∙◌, subst, inl, inr, arith}
 use Rattle.std.proofs.lemmas.List.{take_at, take_all, take_min, take-append-le, length-take, length-take-le}
 use Rattle.std.proofs.Math.Seq.{take-append-add}
-use Rattle.std.proofs.lemmas.Bool.{lt-ltb, cases_lt}
+use Rattle.std.proofs.lemmas.Bool.{lt-ltb, cases_lt, ne_eqb}
 use Rattle.nmvs_protocol.specs.declared.ask.Line.{Line}
 use Rattle.nmvs_protocol.specs.declared.ask.LineFault.{LineFault}
 use Rattle.nmvs_protocol.specs.declared.ask.LineFault.TheVariants as faults
@@ -66,3 +66,8 @@ pub kept_filled : (x y : List ℕ) (room : ℕ) → room + length x ≡ 201 → 
 kept_filled x y room whole =
     let n : length x + room ≡ 201 = omega arith in
     ap (λ (t : List ℕ). x ++ t) (take_min room y) ∙ sym (take-append-add x y room) ∙ ap (λ (k : ℕ). take k (x ++ y)) n
+
+-- a line of which no byte is kept was not begun
+pub kept_begun : (line begun tail : List ℕ) → (length line == 0) ≡ true → line ≡ kept_part begun → kept_part tail ≡ kept_part (begun ++ tail)
+kept_begun [] begun tail none is = ap (λ (t : List ℕ). kept_part (t ++ tail)) is ∙ kept_more begun tail
+kept_begun (b ∷ line) begun tail none is = let some = ne_eqb (length (b ∷ line)) 0 (λ z. absurd (omega (arith, z))) in absurd (cc (none, some))

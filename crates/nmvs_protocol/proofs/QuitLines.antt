@@ -1,5 +1,5 @@
 -- QUIT is the text of no ask.
-use Rattle.std.proofs.Common.{◌≡◌, ◌≢◌, List, ℕ, [], ◌∷◌, None, Result, Ok, Err, refl, sym, ap, ◌∙◌}
+use Rattle.std.proofs.Common.{◌≡◌, ◌≢◌, ◌↔◌, IsTrue, Bool, true, false, subst, List, ℕ, [], ◌∷◌, None, Result, Ok, Err, refl, sym, ap, ◌∙◌}
 use Rattle.std.proofs.Math.Bool.{or-true}
 use Rattle.std.specs.List.{list_any}
 use Rattle.std.proofs.lemmas.List.Folds.{list_any-append}
@@ -30,3 +30,8 @@ not_quit x (Ok (lines.Ask (asks.Question user question))) h other e =
     several_are_no_quit user.bytes (kind_word (kind_of question)) (texts_of question) (sym h.0 ∙ e)
 not_quit x (Ok (lines.Ask (asks.Report user code))) h other e = several_are_no_quit user.bytes report_word (code.bytes ∷ []) (sym h.0 ∙ e)
 not_quit x (Err fault) h other e = let f = ap first_fault e in let n = quit_is_no_fault in cc (h, f, n)
+
+-- a line is read as QUIT where it is its text
+pub quit_is_read : (b : Bool) (x : List ℕ) (r : Result Line LineFault) → ReadsLine x r → (IsTrue b ↔ (r ≡ Ok lines.Quit)) → (IsTrue b ↔ (x ≡ line_text lines.Quit))
+quit_is_read true x r reads is = (λ yes. let h = subst (λ (t : Result Line LineFault). ReadsLine x t) (is.0 yes) reads in h.0, λ e. refl)
+quit_is_read false x r reads is = (λ no. absurd (cc no), λ e. absurd (not_quit x r reads (λ (q : r ≡ Ok lines.Quit). absurd (cc (is.1 q))) e))

@@ -1,39 +1,81 @@
 -- How a session stands between its lines and between its reads (own).
-use Rattle.std.specs.Prelude.{◌≡◌, ◌≤◌, ℕ, Bool, false, List, ◌++◌, length, take, Option, Some, None}
+use Rattle.std.specs.Prelude.{◌≡◌, ◌≤◌, ◌<◌, ◌+◌, ◌⊎◌, ℕ, Bool, true, false, List, [], ◌∷◌, ◌++◌, length, take, Option, Some, None}
 use Rattle.nmvs_stream.specs.Sink.{Taken}
+use Rattle.nmvs_stream.specs.Delivery.{Writes, Delivers, DeliversPart}
 use Rattle.nmvs_protocol.specs.declared.ask.Ask.{Ask}
 use Rattle.nmvs_protocol.specs.declared.answer.Answer.{Answer}
 use Rattle.nmvs_protocol.specs.declared.end.End.{End}
 use Rattle.nmvs_protocol.specs.declared.end.End.TheVariants as ends
 use Rattle.nmvs_protocol.specs.declared.pending_line.TheConstants.{KEPT}
-use Rattle.nmvs_protocol.specs.Session.{AnswersLines, AnswersAll, NoQuit, EndsWithQuit, NoQuitBeforeLast, DeliversAll, BreaksOffInLast, LacksLast, LineLimit, is_write_fault}
+use Rattle.nmvs_protocol.specs.declared.session.Session.{Session}
+use Rattle.nmvs_protocol.specs.Session.{AnswersLines, AnswersAll, NoQuit, EndsWithQuit, NoQuitBeforeLast, LacksLast, session_text, is_write_fault}
+use Rattle.nmvs_protocol.specs.Texts.{takes_memory}
 
 -- what is kept of a line: enough to judge it, since one byte more than a line may have tells that it is too long
 abbrev pub kept_part : List ℕ → List ℕ
 kept_part x = take KEPT x
 
--- what may be said between two lines, where None is to go on
-abbrev pub Stands : Option End → ℕ → ℕ → List (List ℕ) → List (List ℕ) → List Answer → Taken → Taken → Type 0
-Stands None limit count answered left said sink sink' = AnswersAll answered left × DeliversAll sink sink' said × (count ≡ length said)
-Stands (Some ends.Quit) limit count answered left said sink sink' = EndsWithQuit answered × DeliversAll sink sink' said
-Stands (Some ends.WriteFault) limit count answered left said sink sink' = NoQuitBeforeLast answered × BreaksOffInLast sink sink' said
-Stands (Some ends.Limit) limit count answered left said sink sink' = NoQuit answered × DeliversAll sink sink' said × LineLimit limit left said
-Stands (Some ends.Memory) limit count answered left said sink sink' = NoQuitBeforeLast answered × LacksLast sink sink' said
-Stands (Some ends.Ended) limit count answered left said sink sink' = ⊥
-Stands (Some ends.ReadFault) limit count answered left said sink sink' = ⊥
+-- of these answers none but perhaps the last has a text that takes memory
+abbrev pub AreShortButLast : List Answer → Type 0
+AreShortButLast [] = Unit {0}
+AreShortButLast (a ∷ []) = Unit {0}
+AreShortButLast (a ∷ b ∷ more) = (takes_memory a ≡ false) × AreShortButLast (b ∷ more)
+
+-- the sink took the text of these answers, and a flush is still to come
+abbrev pub Gathers : Taken → Taken → List Answer → Type 0
+Gathers sink sink' said = Writes sink sink' (session_text said)
+
+-- the sink took the text of these answers, and flushed it
+abbrev pub Delivered : Taken → Taken → List Answer → Type 0
+Delivered sink sink' said = Delivers sink sink' (session_text said)
+
+-- what writing the text of these answers comes to
+abbrev pub Tells : Option End → Taken → Taken → List Answer → Type 0
+Tells (None) sink sink' said = Gathers sink sink' said
+Tells (Some ends.WriteFault) sink sink' said = DeliversPart sink sink' (session_text said)
+Tells (Some ends.Memory) sink sink' said = LacksLast (Gathers sink sink') said
+Tells (Some ends.Quit) sink sink' said = ⊥
+Tells (Some ends.Limit) sink sink' said = ⊥
+Tells (Some ends.Ended) sink sink' said = ⊥
+Tells (Some ends.ReadFault) sink sink' said = ⊥
+
+-- another whole line is there, and no more may be answered
+pub record LimitReached (count limit : ℕ) (left : List (List ℕ)) : Type 0 where
+  pub reached : count ≡ limit
+  pub more : 0 < length left
+
+-- what may be said after some bytes, where None is to go on and an answer is told so
+abbrev pub Stands : Option End → (List Answer → Type 0) → ℕ → ℕ → List (List ℕ) → List (List ℕ) → List Answer → Taken → Taken → Type 0
+Stands (None) tells limit count answered left said sink sink' = AnswersAll answered left × tells said
+Stands (Some ends.Quit) tells limit count answered left said sink sink' = EndsWithQuit answered × tells said
+Stands (Some ends.WriteFault) tells limit count answered left said sink sink' = NoQuitBeforeLast answered × DeliversPart sink sink' (session_text said)
+Stands (Some ends.Limit) tells limit count answered left said sink sink' = NoQuit answered × tells said × LimitReached count limit left
+Stands (Some ends.Memory) tells limit count answered left said sink sink' = NoQuitBeforeLast answered × LacksLast tells said
+Stands (Some ends.Ended) tells limit count answered left said sink sink' = ⊥
+Stands (Some ends.ReadFault) tells limit count answered left said sink sink' = ⊥
 
 -- whether a write or a flush failed
 abbrev pub has_write_fault : Option End → Bool
-has_write_fault None = false
+has_write_fault (None) = false
 has_write_fault (Some end) = is_write_fault end
 
--- of these lines the first were answered, count of them where the session goes on
-pub record Answered {D : Type 0} (takes : D → Ask → Answer → D → Type 0) (limit : ℕ) (desk : D) (sink : Taken) (desk' : D) (sink' : Taken) (count : ℕ) (lines : List (List ℕ)) (end : Option End) : Type 0 where
+-- of the lines that some bytes complete the first were answered, and told so
+pub record AnsweredSo {D : Type 0} (tells : Taken → Taken → List Answer → Type 0) (takes : D → Ask → Answer → D → Type 0) (releases : D → Answer → Answer → Type 0) (session : Session) (desk : D) (sink : Taken) (lines : List (List ℕ)) (session' : Session) (desk' : D) (sink' : Taken) (end : Option End) : Type 0 where
   pub answered : List (List ℕ)
   pub left : List (List ℕ)
   pub these : lines ≡ answered ++ left
   pub said : List Answer
-  pub answers : AnswersLines takes desk answered said desk'
-  pub within : length said ≤ limit
-  pub stands : Stands end limit count answered left said sink sink'
-  pub write_failed : sink'.failed ≡ has_write_fault end
+  pub answers : AnswersLines takes releases desk answered said desk'
+  pub counted : session'.answered ≡ session.answered + length said
+  pub limit : session'.limit ≡ session.limit
+  pub within : session'.answered ≤ session.limit
+  pub stands : Stands end (tells sink sink') session.limit session'.answered answered left said sink sink'
+  pub sound : sink.failed ≡ false → sink'.failed ≡ has_write_fault end
+
+-- and their texts are written, and are to be flushed
+abbrev pub Fed : {D : Type 0} → (D → Ask → Answer → D → Type 0) → (D → Answer → Answer → Type 0) → Session → D → Taken → List (List ℕ) → Session → D → Taken → Option End → Type 0
+Fed takes releases = AnsweredSo Gathers takes releases
+
+-- and their texts are written and flushed
+abbrev pub Served : {D : Type 0} → (D → Ask → Answer → D → Type 0) → (D → Answer → Answer → Type 0) → Session → D → Taken → List (List ℕ) → Session → D → Taken → Option End → Type 0
+Served takes releases = AnsweredSo Delivered takes releases

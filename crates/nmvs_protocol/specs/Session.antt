@@ -9,31 +9,63 @@ use Rattle.nmvs_protocol.specs.declared.ask.Line.TheVariants as lines
 use Rattle.nmvs_protocol.specs.declared.ask.LineFault.{LineFault}
 use Rattle.nmvs_protocol.specs.declared.answer.Answer.{Answer}
 use Rattle.nmvs_protocol.specs.declared.answer.Answer.TheVariants as answers
+use Rattle.nmvs_protocol.specs.declared.answer.Turn.{Turn}
 use Rattle.nmvs_protocol.specs.declared.limits.Limits.{Limits}
+use Rattle.nmvs_protocol.specs.declared.limits.TheConstants.{READ_SIZE}
 use Rattle.nmvs_protocol.specs.declared.end.End.{End}
 use Rattle.nmvs_protocol.specs.declared.end.End.TheVariants as ends
 use Rattle.nmvs_protocol.specs.Lines.{line_text, ReadsLine}
 use Rattle.nmvs_protocol.specs.Texts.{text, takes_memory}
 use Rattle.nmvs_protocol.specs.InputLines.{input_lines}
 
--- what may be answered where a line is read so, the desk going from old to new: it is asked all but QUIT
+-- what is withheld in answer where a line is read so, the desk going from old to new: it is asked all but QUIT
 abbrev pub Answers : {D : Type 0} → (D → Ask → Answer → D → Type 0) → D → Result Line LineFault → Answer → D → Type 0
-Answers takes old (Ok (lines.Ask ask)) said new = takes old ask said new
-Answers takes old (Ok lines.Quit) said new = (said ≡ answers.Bye) × (new ≡ old)
-Answers takes old (Err fault) said new = (said ≡ answers.Unread fault) × (new ≡ old)
+Answers takes old (Ok (lines.Ask ask)) withheld new = takes old ask withheld new
+Answers takes old (Ok lines.Quit) withheld new = (withheld ≡ answers.Bye) × (new ≡ old)
+Answers takes old (Err fault) withheld new = (withheld ≡ answers.Unread fault) × (new ≡ old)
 
--- a line is answered so, the desk going from old to new
-pub record AnswersLine {D : Type 0} (takes : D → Ask → Answer → D → Type 0) (old : D) (x : List ℕ) (said : Answer) (new : D) : Type 0 where
+-- a line is taken with an answer that is withheld, the desk going from old to new
+pub record TakesLine {D : Type 0} (takes : D → Ask → Answer → D → Type 0) (old : D) (x : List ℕ) (withheld : Answer) (new : D) : Type 0 where
   pub reading : Result Line LineFault
   pub reads : ReadsLine x reading
-  pub answers : Answers takes old reading said new
+  pub answers : Answers takes old reading withheld new
+
+-- the answer is a reply or a report of the repository
+abbrev pub IsOfRepository : Answer → Type 0
+IsOfRepository (answers.Replied r shown) = Unit {0}
+IsOfRepository (answers.Reported t) = Unit {0}
+IsOfRepository _ = ⊥
+
+-- what any release may make of an answer that is withheld: it stays, or the line of a reply or a report is turned away
+abbrev pub StaysOrTurns : Answer → Answer → Type 0
+StaysOrTurns withheld said = (said ≡ withheld) ⊎ (IsOfRepository withheld × (turn : Turn) × (said ≡ answers.Turned turn))
+
+-- answers that were withheld are released so, each as one
+abbrev pub AreReleased : (Answer → Answer → Type 0) → List Answer → List Answer → Type 0
+AreReleased releases [] [] = Unit {0}
+AreReleased releases (h ∷ withheld) (a ∷ said) = releases h a × StaysOrTurns h a × AreReleased releases withheld said
+AreReleased releases [] (a ∷ said) = ⊥
+AreReleased releases (h ∷ withheld) [] = ⊥
+
+-- an answer is released as it was withheld
+abbrev pub AtOnce : {D : Type 0} → D → Answer → Answer → Type 0
+AtOnce desk withheld said = said ≡ withheld
+
+-- a line is answered so: it is taken, and what is withheld is released so by the desk, then or later
+pub record AnswersLine {D : Type 0} (takes : D → Ask → Answer → D → Type 0) (releases : D → Answer → Answer → Type 0) (old : D) (x : List ℕ) (said : Answer) (new : D) : Type 0 where
+  pub withheld : Answer
+  pub taken : TakesLine takes old x withheld new
+  pub at : D
+  pub released : releases at withheld said
+  pub stays : StaysOrTurns withheld said
 
 -- lines are answered so, one answer a line, in order, the desk going from old to new by exactly their takes
-abbrev pub AnswersLines : {D : Type 0} → (D → Ask → Answer → D → Type 0) → D → List (List ℕ) → List Answer → D → Type 0
-AnswersLines takes old [] [] new = new ≡ old
-AnswersLines {D} takes old (x ∷ xs) (a ∷ said) new = (mid : D) × AnswersLine takes old x a mid × AnswersLines takes mid xs said new
-AnswersLines takes old [] (a ∷ said) new = ⊥
-AnswersLines takes old (x ∷ xs) [] new = ⊥
+abbrev pub AnswersLines : {D : Type 0} → (D → Ask → Answer → D → Type 0) → (D → Answer → Answer → Type 0) → D → List (List ℕ) → List Answer → D → Type 0
+AnswersLines takes releases old [] [] new = new ≡ old
+AnswersLines {D} takes releases old (x ∷ xs) (a ∷ said) new =
+    (mid : D) × AnswersLine takes releases old x a mid × AnswersLines takes releases mid xs said new
+AnswersLines takes releases old [] (a ∷ said) new = ⊥
+AnswersLines takes releases old (x ∷ xs) [] new = ⊥
 
 -- none of these lines is QUIT
 abbrev pub NoQuit : List (List ℕ) → Type 0
@@ -46,11 +78,8 @@ pub record EndsWithQuit (xs : List (List ℕ)) : Type 0 where
   pub no_quit : NoQuit before
 
 -- none of these lines but perhaps the last is QUIT
-pub record NoQuitBeforeLast (xs : List (List ℕ)) : Type 0 where
-  pub before : List (List ℕ)
-  pub last : List ℕ
-  pub these : xs ≡ before ++ last ∷ []
-  pub no_quit : NoQuit before
+abbrev pub NoQuitBeforeLast : List (List ℕ) → Type 0
+NoQuitBeforeLast xs = NoQuit xs ⊎ EndsWithQuit xs
 
 -- the text of answers
 abbrev pub session_text : List Answer → List ℕ
@@ -61,25 +90,30 @@ pub record DeliversAll (old new : Taken) (said : List Answer) : Type 0 where
   pub bytes : new.bytes ≡ old.bytes ++ session_text said
   pub flushed : 0 < length said → new.flushed ≡ true
 
--- the sink took the text of these answers up to some point in the text of the last one
-pub record BreaksOffInLast (old new : Taken) (said : List Answer) : Type 0 where
+-- the sink took the text of these answers up to some point in those to the lines that one read completed. The answers to
+-- what was read before it were written, and flushed
+pub record BreaksOff (old new : Taken) (input : List ℕ) (said : List Answer) : Type 0 where
+  pub earlier : List ℕ
+  pub last : List ℕ
+  pub reads : input ≡ earlier ++ last
+  pub one : length last ≤ READ_SIZE
   pub before : List Answer
-  pub last : Answer
-  pub these : said ≡ before ++ last ∷ []
+  pub gathered : List Answer
+  pub these : said ≡ before ++ gathered
+  pub whole : length before ≡ length (input_lines earlier)
   pub written : List ℕ
   pub unwritten : List ℕ
-  pub cut : text last ≡ written ++ unwritten
+  pub cut : session_text gathered ≡ written ++ unwritten
   pub bytes : new.bytes ≡ old.bytes ++ session_text before ++ written
-  -- and the texts before it were flushed
   pub flushed : written ≡ [] → 0 < length before → new.flushed ≡ true
 
--- the sink took the text of all these answers but the last, whose text takes memory and is missing
-pub record LacksLast (old new : Taken) (said : List Answer) : Type 0 where
+-- these are the answers of which all but the last are told so; that one's text takes memory, and is missing
+pub record LacksLast (tells : List Answer → Type 0) (said : List Answer) : Type 0 where
   pub before : List Answer
   pub last : Answer
   pub these : said ≡ before ++ last ∷ []
   pub memory : IsTrue (takes_memory last)
-  pub delivered : DeliversAll old new before
+  pub told : tells before
 
 -- all lines are answered, and none was QUIT
 pub record AnswersAll (answered left : List (List ℕ)) : Type 0 where
@@ -97,14 +131,14 @@ pub record ReadLimit (limit : ℕ) (left : List (List ℕ)) (source source' : To
   pub all : left ≡ []
 
 -- what an end means for the lines and the text
-abbrev pub Closes : End → Limits → List (List ℕ) → List (List ℕ) → List Answer → Told → Told → Taken → Taken → Type 0
-Closes ends.Quit limits answered left said source source' sink sink' = EndsWithQuit answered × DeliversAll sink sink' said
-Closes ends.Ended limits answered left said source source' sink sink' = AnswersAll answered left × DeliversAll sink sink' said
-Closes ends.ReadFault limits answered left said source source' sink sink' = AnswersAll answered left × DeliversAll sink sink' said
-Closes ends.WriteFault limits answered left said source source' sink sink' = NoQuitBeforeLast answered × BreaksOffInLast sink sink' said
-Closes ends.Limit limits answered left said source source' sink sink' =
+abbrev pub Closes : End → Limits → List ℕ → List (List ℕ) → List (List ℕ) → List Answer → Told → Told → Taken → Taken → Type 0
+Closes ends.Quit limits input answered left said source source' sink sink' = EndsWithQuit answered × DeliversAll sink sink' said
+Closes ends.Ended limits input answered left said source source' sink sink' = AnswersAll answered left × DeliversAll sink sink' said
+Closes ends.ReadFault limits input answered left said source source' sink sink' = AnswersAll answered left × DeliversAll sink sink' said
+Closes ends.WriteFault limits input answered left said source source' sink sink' = NoQuitBeforeLast answered × BreaksOff sink sink' input said
+Closes ends.Limit limits input answered left said source source' sink sink' =
     NoQuit answered × DeliversAll sink sink' said × (LineLimit limits.lines left said ⊎ ReadLimit limits.reads left source source')
-Closes ends.Memory limits answered left said source source' sink sink' = NoQuitBeforeLast answered × LacksLast sink sink' said
+Closes ends.Memory limits input answered left said source source' sink sink' = NoQuitBeforeLast answered × LacksLast (DeliversAll sink sink') said
 
 -- the end of the input was read at this end alone
 abbrev pub is_input_end : End → Bool
@@ -122,7 +156,7 @@ is_write_fault ends.WriteFault = true
 is_write_fault _ = false
 
 -- a session that ended so, with the desk, the source and the sink before and after
-pub record Session {D : Type 0} (takes : D → Ask → Answer → D → Type 0) (limits : Limits) (desk : D) (source : Told) (sink : Taken) (desk' : D) (source' : Told) (sink' : Taken) (end : End) : Type 0 where
+pub record Session {D : Type 0} (takes : D → Ask → Answer → D → Type 0) (releases : D → Answer → Answer → Type 0) (limits : Limits) (desk : D) (source : Told) (sink : Taken) (desk' : D) (source' : Told) (sink' : Taken) (end : End) : Type 0 where
   -- these bytes were read
   pub input : List ℕ
   pub read : source'.bytes ≡ source.bytes ++ input
@@ -132,12 +166,12 @@ pub record Session {D : Type 0} (takes : D → Ask → Answer → D → Type 0) 
   pub these : input_lines input ≡ answered ++ left
   -- with these answers
   pub said : List Answer
-  pub answers : AnswersLines takes desk answered said desk'
+  pub answers : AnswersLines takes releases desk answered said desk'
   -- within the limits
   pub lines_within : length said ≤ limits.lines
   pub reads_within : source'.reads ≤ source.reads + limits.reads
   -- what the end means, and which marks tell it
-  pub closes : Closes end limits answered left said source source' sink sink'
+  pub closes : Closes end limits input answered left said source source' sink sink'
   pub ended : source'.ended ≡ is_input_end end
   pub read_failed : source'.failed ≡ is_read_fault end
   pub write_failed : sink'.failed ≡ is_write_fault end

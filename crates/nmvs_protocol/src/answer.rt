@@ -22,6 +22,13 @@ pub enum Answer<'a> {
     Bye,
 }
 
+/// An unused place of a list has it.
+impl<'a> Default for Answer<'a> {
+    fn default() -> Answer<'a> {
+        Answer::Bye
+    }
+}
+
 /// Why the desk turned a line away, so that nothing was asked of the repository.
 #[derive(Clone, Copy, Debug, PartialEq, Eq)]
 pub enum Turn {

@@ -13,7 +13,9 @@ mod limits;
 mod lines;
 mod pending_line;
 mod replies;
+mod serving;
 mod session;
+mod withheld;
 mod wording;
 
 pub use answer::{Answer, Entries, Text, Turn};
@@ -23,8 +25,12 @@ pub use commands::read_command;
 pub use desk::Desk;
 pub use end::End;
 pub use laws::{commands_are_read, lines_are_read};
-pub use limits::{LONGEST_LINE, Limits, MOST_LINES, MOST_READS, SESSION_LIMITS};
+pub use limits::{
+    LONGEST_LINE, Limits, MOST_LINES, MOST_READS, NO_LIMITS, READ_SIZE, SESSION_LIMITS,
+};
 pub use lines::{line_text, read_line};
 pub use pending_line::PendingLine;
 pub use replies::reply_text;
-pub use session::serve;
+pub use serving::serve;
+pub use session::Session;
+pub use withheld::{Released, Withheld, WithheldAnswers};

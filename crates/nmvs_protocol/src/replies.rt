@@ -35,8 +35,7 @@ pub fn reply_text(alloc: Global, reply: &Reply, shown: &[Entry]) -> Result<Strin
     let first = reply_line(reply);
     let mut text = String::from_str(alloc, first.as_str())?;
     for entry in shown {
-        let line = entry_line(alloc, entry)?;
-        text.push_str(&line)?;
+        text.push_str(entry_line(entry).as_str())?;
         text.push_str("\n")?;
     }
     Ok(text)

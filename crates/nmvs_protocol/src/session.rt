@@ -1,163 +1,132 @@
-ghost use Rattle.std.specs.Prelude.{◌≡◌, ◌++◌, ◌∷◌, ◌+◌, ◌<◌, ◌↔◌, [], ℕ, List, None, Ok, false, IsTrue, IfNone};
-ghost use Rattle.nmvs_stream.specs.Sink.{Taken};
-ghost use Rattle.nmvs_protocol.specs.InputLines.{lines_after, rest_after};
-ghost use Rattle.nmvs_protocol.specs.Session.{Answers, Session};
-ghost use Rattle.nmvs_protocol.specs.Progress.{Answered, kept_part};
+//! A session that is fed bytes.
+ghost use Rattle.std.specs.Prelude.{◌≡◌, ◌≤◌, ◌<◌, ◌++◌, ◌∷◌, ◌↔◌, [], List, ℕ, Ok, IsTrue, IfNone};
+ghost use Rattle.nmvs_protocol.specs.InputLines.{lines_after, unfinished_line};
+ghost use Rattle.nmvs_protocol.specs.Lines.{line_text};
+ghost use Rattle.nmvs_protocol.specs.Session.{Answers, TakesLine, AreReleased};
+ghost use Rattle.nmvs_protocol.specs.Progress.{Fed, Tells, AreShortButLast, kept_part};
 
 use crate::pending_line::PendingLine;
 use crate::replies::wording;
-use crate::{Answer, Desk, End, Limits, Line, LineFault, read_line};
+use crate::withheld::WithheldAnswers;
+use crate::{Answer, Desk, End, Line, LineFault, Released, Withheld, read_line};
 use memchr::memchr;
-use nmvs_stream::{Failed, Sink, Source, deliver};
+use nmvs_stream::{Failed, Sink, write_all};
 use std::alloc::Global;
 
-#[cfg(test)]
-mod tests;
-
-/// How far a session has come: the line that was begun, and how many lines were answered. The texts of
-/// shown audits are made in its memory.
+/// How far a session has come: the line that was begun, how many lines were answered, and how many may be.
 #[derive(Drop)]
-struct Progress {
-    alloc: Global,
+pub struct Session {
     line: PendingLine,
     answered: u64,
+    limit: u64,
 }
 
-/// Serves a session: answers the lines of the source one by one, each answer written to the sink
-/// and flushed before the next line is served and before more is read (own).
-///
-/// A line of more than 200 bytes is answered once, at its LF, and takes no memory. Bytes after the
-/// last LF get no answer. QUIT ends the session. Memory is taken for the text of a shown audit alone,
-/// which may be of any length; a report is written as it is, and all other texts are composed in place.
-pub fn serve<'a, R: Source, W: Sink, D: Desk<'a>>(
-    alloc: Global,
-    source: &mut R,
-    sink: &mut W,
-    desk: &mut D,
-    limits: Limits,
-) -> End
-    requires source_sound { (R.told source.old).failed ≡ false }
-    requires source_open { (R.told source.old).ended ≡ false }
-    requires sink_sound { (W.taken sink.old).failed ≡ false }
-    ensures { Session D.takes limits desk.old (R.told source.old) (W.taken sink.old)
-        desk.new (R.told source.new) (W.taken sink.new) result }
-{
-    let mut progress = Progress {
-        alloc,
-        line: PendingLine::new(),
-        answered: 0,
-    };
-    let mut buffer = [0; 4096];
-    for _ in 0..limits.reads {
-        match source.read(&mut buffer) {
-            Err(Failed) => return End::ReadFault,
-            Ok(0) => return End::Ended,
-            Ok(count) => {
-                let chunk = &buffer[..count];
-                match serve_chunk(&mut progress, limits.lines, chunk, sink, desk) {
-                    Some(end) => return end,
+impl Session {
+    /// A session that nothing was fed, and that answers so many lines at most.
+    pub fn new(limit: u64) -> Session
+        ensures line { result.line ≡ [] }
+        ensures answered { result.answered ≡ 0 }
+        ensures limit { result.limit ≡ limit }
+    {
+        Session {
+            line: PendingLine::new(),
+            answered: 0,
+            limit,
+        }
+    }
+
+    /// Answers the whole lines that these bytes complete, after what was fed before. The texts of the answers
+    /// are written to the sink, which is left to be flushed; lines are taken until no more answers can be withheld,
+    /// and then those are released together.
+    ///
+    /// A line of more than 200 bytes is answered once, at its LF, and takes no memory. Memory is taken for the
+    /// text of a shown audit alone, which may be of any length; a report is written as it is, and all other
+    /// texts are composed in place.
+    ///
+    /// `None` is to go on; else the session has ended so, and is fed no more.
+    pub fn feed<'a, W: Sink, D: Desk<'a>>(
+        &mut self,
+        alloc: Global,
+        more: &[u8],
+        withheld: &mut WithheldAnswers<'a>,
+        sink: &mut W,
+        desk: &mut D,
+    ) -> Option<End>
+        ensures { (fed : List ℕ) → self.old.line ≡ kept_part (unfinished_line fed) → self.old.answered ≤ self.old.limit
+            → Fed D.takes D.releases self.old desk.old (W.taken sink.old) (lines_after (unfinished_line fed) more.now)
+            self.new desk.new (W.taken sink.new) result
+            × IfNone result (self.new.line ≡ kept_part (unfinished_line (fed ++ more.now))) }
+    {
+        withheld.clear();
+        let mut rest = more;
+        while let Some(lf) = memchr(b'\n', rest) {
+            if self.answered >= self.limit {
+                return match tell(alloc, withheld, sink, desk) {
+                    Some(end) => Some(end),
+                    None => Some(End::Limit),
+                };
+            }
+            let (tail, later) = rest.split_at(lf);
+            rest = &later[1..];
+            let (answer, quits) = self.take_tail(tail, desk);
+            let is_long = answer.takes_memory();
+            withheld.push(answer);
+            self.answered += 1;
+            if quits {
+                return match tell(alloc, withheld, sink, desk) {
+                    Some(end) => Some(end),
+                    None => Some(End::Quit),
+                };
+            }
+            if is_long || withheld.is_full() {
+                match tell(alloc, withheld, sink, desk) {
+                    Some(end) => return Some(end),
                     None => {}
                 }
             }
         }
+        self.line.extend(rest);
+        tell(alloc, withheld, sink, desk)
     }
-    End::Limit
-}
 
-/// Goes on with the bytes of one read. `None` is to read more.
-fn serve_chunk<'a, W: Sink, D: Desk<'a>>(
-    progress: &mut Progress,
-    limit: u64,
-    chunk: &[u8],
-    sink: &mut W,
-    desk: &mut D,
-) -> Option<End>
-    ensures { (first : D) (start : Taken) (lines : List (List ℕ)) (begun : List ℕ)
-        → progress.old.line ≡ kept_part begun
-        → Answered D.takes limit first start desk.old (W.taken sink.old)
-        progress.old.answered lines None
-        → Answered D.takes limit first start desk.new (W.taken sink.new)
-        progress.new.answered (lines ++ lines_after begun chunk.now) result
-        × IfNone result (progress.new.line ≡ kept_part (rest_after begun chunk.now)) }
-{
-    let mut rest = chunk;
-    while let Some(lf) = memchr(b'\n', rest) {
-        if progress.answered >= limit {
-            return Some(End::Limit);
+    /// Takes the line that these bytes end, and tells whether it is QUIT.
+    fn take_tail<'a, D: Desk<'a>>(&mut self, tail: &[u8], desk: &mut D) -> (Withheld<'a>, bool)
+        ensures begun { self.new.line ≡ [] }
+        ensures counts { (self.new.answered ≡ self.old.answered) × (self.new.limit ≡ self.old.limit) }
+        ensures takes { (begun : List ℕ) → self.old.line ≡ kept_part begun
+            → TakesLine D.takes desk.old (begun ++ tail.now) result.0 desk.new }
+        ensures quit { (begun : List ℕ) → self.old.line ≡ kept_part begun
+            → (IsTrue result.1 ↔ (begun ++ tail.now ≡ line_text Line.Quit)) }
+    {
+        // A line that lies in one read is not copied.
+        if self.line.is_empty() {
+            return take_line(tail, desk);
         }
-        let (tail, later) = rest.split_at(lf);
-        match serve_tail(progress.alloc, &mut progress.line, tail, sink, desk) {
-            Some(end) => return Some(end),
-            None => {}
-        }
-        progress.answered += 1;
-        rest = &later[1..];
+        self.line.extend(tail);
+        let taken = take_line(self.line.as_slice(), desk);
+        self.line.clear();
+        taken
     }
-    progress.line.extend(rest);
-    None
 }
 
-/// Answers the line that these bytes end. `None` is to go on, with no line begun.
-fn serve_tail<'a, W: Sink, D: Desk<'a>>(
-    alloc: Global,
-    line: &mut PendingLine,
-    tail: &[u8],
-    sink: &mut W,
-    desk: &mut D,
-) -> Option<End>
-    ensures begun { line.new ≡ [] }
-    ensures answered { (limit count : ℕ) (first : D) (start : Taken) (lines : List (List ℕ)) (begun : List ℕ)
-        → count < limit → line.old ≡ kept_part begun
-        → Answered D.takes limit first start desk.old (W.taken sink.old) count lines None
-        → Answered D.takes limit first start desk.new (W.taken sink.new) (count + 1)
-        (lines ++ (begun ++ tail.now) ∷ []) result }
-{
-    // A line that lies in one read is not copied.
-    if line.is_empty() {
-        return serve_line(alloc, tail, sink, desk);
-    }
-    line.extend(tail);
-    let end = serve_line(alloc, line.as_slice(), sink, desk);
-    line.clear();
-    end
-}
-
-/// Answers one line, of which as much is given as is kept of it, or more. `None` is to go on.
-fn serve_line<'a, W: Sink, D: Desk<'a>>(
-    alloc: Global,
-    line: &[u8],
-    sink: &mut W,
-    desk: &mut D,
-) -> Option<End>
-    ensures { (limit count : ℕ) (first : D) (start : Taken) (lines : List (List ℕ)) (x : List ℕ)
-        → count < limit → kept_part line.now ≡ kept_part x
-        → Answered D.takes limit first start desk.old (W.taken sink.old) count lines None
-        → Answered D.takes limit first start desk.new (W.taken sink.new) (count + 1)
-        (lines ++ x ∷ []) result }
+/// Takes a line, of which as much is given as is kept of it, or more, and tells whether it is QUIT.
+fn take_line<'a, D: Desk<'a>>(line: &[u8], desk: &mut D) -> (Withheld<'a>, bool)
+    ensures takes { (x : List ℕ) → kept_part line.now ≡ kept_part x → TakesLine D.takes desk.old x result.0 desk.new }
+    ensures quit { (x : List ℕ) → kept_part line.now ≡ kept_part x → (IsTrue result.1 ↔ (x ≡ line_text Line.Quit)) }
 {
     let reading = read_line(line);
-    let said = answer(&reading, desk);
-    let Ok(text) = wording(alloc, &said) else {
-        return Some(End::Memory);
-    };
-    match deliver(sink, text.as_str().as_bytes()) {
-        Err(Failed) => Some(End::WriteFault),
-        Ok(()) => if is_quit(&reading) {
-            Some(End::Quit)
-        } else {
-            None
-        },
-    }
+    let withheld = answer(&reading, desk);
+    (withheld, is_quit(&reading))
 }
 
 /// The answer to what was read. The desk is asked all but QUIT.
-fn answer<'a, D: Desk<'a>>(reading: &Result<Line, LineFault>, desk: &mut D) -> Answer<'a>
+fn answer<'a, D: Desk<'a>>(reading: &Result<Line, LineFault>, desk: &mut D) -> Withheld<'a>
     ensures { Answers D.takes desk.old reading.now result desk.new }
 {
     match reading {
         Ok(Line::Ask(ask)) => desk.take(ask),
-        Ok(Line::Quit) => Answer::Bye,
-        Err(fault) => Answer::Unread(*fault),
+        Ok(Line::Quit) => Withheld::new(Answer::Bye),
+        Err(fault) => Withheld::new(Answer::Unread(*fault)),
     }
 }
 
@@ -165,4 +134,48 @@ fn is_quit(reading: &Result<Line, LineFault>) -> bool
     ensures { IsTrue result ↔ (reading.now ≡ Ok Line.Quit) }
 {
     matches!(reading, Ok(Line::Quit))
+}
+
+/// Has the answers released that are withheld, and writes their texts. None is withheld then.
+fn tell<'a, W: Sink, D: Desk<'a>>(
+    alloc: Global,
+    withheld: &mut WithheldAnswers<'a>,
+    sink: &mut W,
+    desk: &mut D,
+) -> Option<End>
+    ensures stays { desk.new ≡ desk.old }
+    ensures none_withheld { withheld.new ≡ [] }
+    ensures tells { (said : List Answer) × AreReleased (D.releases desk.old) withheld.old said
+        × (AreShortButLast withheld.old → Tells result (W.taken sink.old) (W.taken sink.new) said) }
+{
+    let told = write_texts(alloc, desk.release(withheld), sink);
+    withheld.clear();
+    told
+}
+
+/// Writes the texts of the answers, up to one that there is no memory for.
+fn write_texts<W: Sink>(alloc: Global, released: Released<'_, '_>, sink: &mut W) -> Option<End>
+    ensures { AreShortButLast released.entry → Tells result (W.taken sink.old) (W.taken sink.new) released.entry }
+{
+    let answers = released.answers();
+    for answer in answers {
+        match write_text(alloc, answer, sink) {
+            Some(end) => return Some(end),
+            None => {}
+        }
+    }
+    None
+}
+
+/// Writes the text of an answer.
+fn write_text<W: Sink>(alloc: Global, answer: &Answer<'_>, sink: &mut W) -> Option<End>
+    ensures { Tells result (W.taken sink.old) (W.taken sink.new) (answer.now ∷ []) }
+{
+    let Ok(text) = wording(alloc, answer) else {
+        return Some(End::Memory);
+    };
+    match write_all(sink, text.as_str().as_bytes()) {
+        Ok(()) => None,
+        Err(Failed) => Some(End::WriteFault),
+    }
 }

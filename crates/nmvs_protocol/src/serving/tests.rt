@@ -1,4 +1,6 @@
-use crate::{Answer, Ask, Desk, End, Entries, Limits, serve};
+use crate::{
+    Answer, Ask, Desk, End, Entries, Limits, Released, Session, Withheld, WithheldAnswers, serve,
+};
 use nmvs_identifier::{Batch, Expiry};
 use nmvs_rules::{Question, Reply};
 use nmvs_stream::Device;
@@ -26,13 +28,17 @@ struct Shelf<'a> {
 }
 
 impl<'a> Desk<'a> for Shelf<'a> {
+    ghost use Rattle.nmvs_protocol.specs.Session.{AtOnce};
+
     ghost takes = { λ _ _ _ _. Unit {0} };
 
-    fn take(&mut self, ask: &Ask) -> Answer<'a> {
+    ghost releases = { AtOnce };
+
+    fn take(&mut self, ask: &Ask) -> Withheld<'a> {
         let none = Entries::new(Vec::new(self.alloc));
         if let Ask::Question(_, Question::Upload { batch, expiry, .. }) = ask {
             self.uploaded = Some((*batch, *expiry));
-            return Answer::Replied(Reply::Uploaded, none);
+            return Withheld::new(Answer::Replied(Reply::Uploaded, none));
         }
         let reply = match self.uploaded {
             Some((batch, expiry)) => Reply::Authentic {
@@ -42,7 +48,11 @@ impl<'a> Desk<'a> for Shelf<'a> {
             },
             None => Reply::NoPack,
         };
-        Answer::Replied(reply, none)
+        Withheld::new(Answer::Replied(reply, none))
+    }
+
+    fn release<'h>(&mut self, withheld: &'h mut WithheldAnswers<'a>) -> Released<'h, 'a> {
+        withheld.release()
     }
 }
 
@@ -239,4 +249,37 @@ fn each_reply_is_flushed_before_more_is_read(rt: HostRuntime) {
     };
     assert_eq!(rt; run(rt.alloc(), reader, writer, AMPLE), End::Quit);
     assert_eq!(rt; taken.as_slice(), OUTPUT);
+}
+
+/// Lines that are fed in pieces: the bytes of a piece, and how often answers are released. No more than 176 are withheld at once.
+#[test]
+fn a_session_is_fed_in_any_pieces(rt: HostRuntime) {
+    let alloc = rt.alloc();
+    let mut input = Vec::new(alloc);
+    let mut output = Vec::new(alloc);
+    for _ in 0..400 {
+        input.push(b'\n').expect(&rt, "memory");
+        output
+            .extend_from_slice(b"FAULT FIELDS\n")
+            .expect(&rt, "memory");
+    }
+    input.extend_from_slice(INPUT).expect(&rt, "memory");
+    output.extend_from_slice(OUTPUT).expect(&rt, "memory");
+    for piece in [1, 7, 65_536] {
+        let mut taken = Vec::new(alloc);
+        let mut sink = Device::new(&mut taken);
+        let mut session = Session::new(1_000);
+        let mut withheld = WithheldAnswers::new();
+        let mut desk = Shelf {
+            alloc: &alloc,
+            uploaded: None,
+        };
+        let mut end = None;
+        for more in input.chunks(piece) {
+            end = session.feed(alloc, more, &mut withheld, &mut sink, &mut desk);
+        }
+        drop(sink);
+        assert_eq!(rt; end, Some(End::Quit));
+        assert_eq!(rt; taken.as_slice(), output.as_slice(), "{piece}");
+    }
 }

@@ -1,0 +1,83 @@
+//! Sessions over a source of bytes.
+ghost use Rattle.std.specs.Prelude.{◌≡◌, ◌≤◌, ◌++◌, List, ℕ, false, IfNone};
+ghost use Rattle.nmvs_stream.specs.Sink.{Taken};
+ghost use Rattle.nmvs_protocol.specs.InputLines.{lines_after, unfinished_line};
+ghost use Rattle.nmvs_protocol.specs.Session.{Session as TheSession};
+ghost use Rattle.nmvs_protocol.specs.Progress.{Served, has_write_fault, kept_part};
+
+use crate::limits::READ_SIZE;
+use crate::withheld::WithheldAnswers;
+use crate::{Desk, End, Limits, Session};
+use nmvs_stream::{Failed, Sink, Source};
+use std::alloc::Global;
+
+#[cfg(test)]
+mod tests;
+
+/// Serves a session: answers the lines of the source in order. The answers to the whole lines that one read
+/// completes are written together, and flushed before more is read and before the session ends (own).
+///
+/// Bytes after the last LF get no answer. QUIT ends the session. What memory is taken for, and how long a line
+/// may be, see [`Session::feed`].
+pub fn serve<'a, R: Source, W: Sink, D: Desk<'a>>(
+    alloc: Global,
+    source: &mut R,
+    sink: &mut W,
+    desk: &mut D,
+    limits: Limits,
+) -> End
+    requires source_sound { (R.told source.old).failed ≡ false }
+    requires source_open { (R.told source.old).ended ≡ false }
+    requires sink_sound { (W.taken sink.old).failed ≡ false }
+    ensures { TheSession D.takes D.releases limits desk.old (R.told source.old) (W.taken sink.old)
+        desk.new (R.told source.new) (W.taken sink.new) result }
+{
+    let mut session = Session::new(limits.lines);
+    let mut withheld = WithheldAnswers::new();
+    let mut buffer = [0; READ_SIZE];
+    for _ in 0..limits.reads {
+        match source.read(&mut buffer) {
+            Err(Failed) => return End::ReadFault,
+            Ok(0) => return End::Ended,
+            Ok(count) => {
+                let chunk = &buffer[..count];
+                match serve_read(alloc, &mut session, chunk, &mut withheld, sink, desk) {
+                    Some(end) => return end,
+                    None => {}
+                }
+            }
+        }
+    }
+    End::Limit
+}
+
+/// Feeds the session the bytes of one read, and flushes what was answered.
+fn serve_read<'a, W: Sink, D: Desk<'a>>(
+    alloc: Global,
+    session: &mut Session,
+    chunk: &[u8],
+    withheld: &mut WithheldAnswers<'a>,
+    sink: &mut W,
+    desk: &mut D,
+) -> Option<End>
+    ensures { (fed : List ℕ) → session.old.line ≡ kept_part (unfinished_line fed) → session.old.answered ≤ session.old.limit
+        → (W.taken sink.old).failed ≡ false
+        → Served D.takes D.releases session.old desk.old (W.taken sink.old) (lines_after (unfinished_line fed) chunk.now)
+        session.new desk.new (W.taken sink.new) result
+        × IfNone result (session.new.line ≡ kept_part (unfinished_line (fed ++ chunk.now))) }
+{
+    let fed = session.feed(alloc, chunk, withheld, sink, desk);
+    if is_write_fault(fed) {
+        return fed;
+    }
+    match sink.flush() {
+        Ok(()) => fed,
+        Err(Failed) => Some(End::WriteFault),
+    }
+}
+
+fn is_write_fault(fed: Option<End>) -> bool
+    ensures { result ≡ has_write_fault fed }
+{
+    matches!(fed, Some(End::WriteFault))
+}
