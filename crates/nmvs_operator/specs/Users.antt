@@ -1,11 +1,12 @@
 -- Users files (own).
-use Rattle.std.specs.Prelude.{◌≡◌, ◌≢◌, ◌+◌, ◌<◌, ◌⊎◌, ℕ, List, [], ◌∷◌, ◌++◌, length, map, slice_index, All, IsTrue, Some, None, true, false}
-use Rattle.std.specs.List.{flat_map}
+use Rattle.std.specs.Prelude.{◌≡◌, ◌+◌, ◌<◌, ◌==◌, ◌⊎◌, ℕ, Bool, List, [], ◌∷◌, ◌++◌, length, map, filter, not, codes, All, IsTrue, Some, None, true, false}
 use Rattle.nmvs_directory.specs.declared.change.Change.{Change}
 use Rattle.nmvs_protocol.specs.Commands.{command_line, first_command_fault, is_command}
+use Rattle.nmvs_protocol.specs.InputLines.{input_lines, unfinished_line}
 use Rattle.nmvs_protocol.specs.declared.command.Command.{Command}
 use Rattle.nmvs_protocol.specs.declared.command.Command.TheVariants.{Enrol, Suspend}
 use Rattle.nmvs_protocol.specs.declared.command.CommandFault.{CommandFault}
+use Rattle.nmvs_protocol.specs.declared.command.CommandFault.TheVariants as commands
 use Rattle.nmvs_stream.specs.Source.{Told}
 use Rattle.nmvs_operator.specs.declared.faults.LoadFault.{LoadFault}
 use Rattle.nmvs_operator.specs.declared.faults.LoadFault.TheVariants as load
@@ -19,50 +20,63 @@ change_of (Suspend user) = record { user = user; actor = None }
 abbrev pub AreCommands : List Command → Type 0
 AreCommands commands = All (λ c. IsTrue (is_command c)) commands
 
--- the text of commands: the line of each, and LF behind it
-abbrev pub commands_text : List Command → List ℕ
-commands_text commands = flat_map (λ c. command_line c ++ 10 ∷ []) commands
+-- whether a line of a users file says something: it is neither blank nor a comment, which begins with #
+abbrev pub says : List ℕ → Bool
+says [] = false
+says (b ∷ bs) = not (b == 35)
 
--- a users file is the text of these commands, whose last LF may be missing
-abbrev pub IsUsersFile : List ℕ → List Command → Type 0
-IsUsersFile bytes commands = (bytes ≡ commands_text commands) ⊎ (bytes ++ 10 ∷ [] ≡ commands_text commands)
+-- those of these lines that say something are the lines of these commands
+pub record AreLinesOf (lines : List (List ℕ)) (commands : List Command) : Type 0 where
+  pub valid : AreCommands commands
+  pub these : filter says lines ≡ map command_line commands
 
--- the changes of a users file are added to those that were pending
+-- the changes of these commands are added to those that were pending
+abbrev pub Adds : List Command → List Change → List Change → Type 0
+Adds commands before after = after ≡ before ++ map change_of commands
+
+-- the changes of a users file, each line of which has its LF, are added to those that were pending
 pub record AddsAll (bytes : List ℕ) (before after : List Change) : Type 0 where
   pub commands : List Command
-  pub valid : AreCommands commands
-  pub file : IsUsersFile bytes commands
-  pub changes : after ≡ before ++ map change_of commands
+  pub file : AreLinesOf (input_lines bytes) commands
+  pub whole : unfinished_line bytes ≡ []
+  pub changes : Adds commands before after
 
--- the changes of the first lines of a users file, to which an LF is added, are added to those that were pending
+-- the changes of the first lines of a users file are added to those that were pending
 pub record AddsFirst (bytes : List ℕ) (before after : List Change) : Type 0 where
+  pub first : List (List ℕ)
+  pub rest : List (List ℕ)
+  pub these : input_lines bytes ≡ first ++ rest
   pub commands : List Command
-  pub valid : AreCommands commands
-  pub rest : List ℕ
-  pub these : bytes ++ 10 ∷ [] ≡ commands_text commands ++ rest
-  pub changes : after ≡ before ++ map change_of commands
+  pub file : AreLinesOf first commands
+  pub changes : Adds commands before after
 
--- no LF is among these bytes
-abbrev pub IsWhole : List ℕ → Type 0
-IsWhole line = (k : ℕ) → k < length line → slice_index line k ≢ 10
-
--- the line of this number, counted from 1, has this fault; the lines before it are commands, whose changes are added to
--- those that were pending
+-- the line of this number, counted from 1, says something and has this fault; the changes of the lines before it are
+-- added to those that were pending
 pub record StopsAt (bytes : List ℕ) (number : ℕ) (fault : CommandFault) (before after : List Change) : Type 0 where
-  pub commands : List Command
-  pub valid : AreCommands commands
+  pub first : List (List ℕ)
   pub line : List ℕ
-  pub behind : List ℕ
-  pub these : bytes ≡ commands_text commands ++ (line ++ behind)
-  pub count : number ≡ length commands + 1
-  pub whole : IsWhole line
-  pub ended : (behind ≡ []) ⊎ ((rest : List ℕ) × (behind ≡ 10 ∷ rest))
+  pub rest : List (List ℕ)
+  pub these : input_lines bytes ≡ first ++ line ∷ rest
+  pub count : number ≡ length first + 1
+  pub says_it : says line ≡ true
   pub judged : first_command_fault line ≡ Some fault
-  pub changes : after ≡ before ++ map change_of commands
+  pub commands : List Command
+  pub file : AreLinesOf first commands
+  pub changes : Adds commands before after
+
+-- bytes of which this would be the line, counted from 1, follow the last LF; the changes of the lines before them are
+-- added to those that were pending
+pub record StopsShort (bytes : List ℕ) (number : ℕ) (before after : List Change) : Type 0 where
+  pub count : number ≡ length (input_lines bytes) + 1
+  pub some : 0 < length (unfinished_line bytes)
+  pub commands : List Command
+  pub file : AreLinesOf (input_lines bytes) commands
+  pub changes : Adds commands before after
 
 -- what a fault tells of a users file, and of what is pending since
 abbrev pub Tells : List ℕ → List Change → List Change → LoadFault → Type 0
 Tells bytes before after (load.Line number fault) = StopsAt bytes number fault before after
+Tells bytes before after (load.Unended number) = StopsShort bytes number before after
 Tells bytes before after load.Read = ⊥
 Tells bytes before after load.Memory = AddsFirst bytes before after
 
@@ -84,11 +98,23 @@ abbrev pub ReadFails : Told → Told → ℕ → LoadFault → Type 0
 ReadFails source source' reads load.Memory = (bytes : List ℕ) × (source'.bytes ≡ source.bytes ++ bytes)
 ReadFails source source' reads load.Read = CannotRead source source' reads
 ReadFails source source' reads (load.Line number fault) = ⊥
+ReadFails source source' reads (load.Unended number) = ⊥
 
 -- what a fault tells of the users file, of which at most so many reads were to be made, and of what is pending since
 abbrev pub LoadFails : Told → Told → ℕ → List Change → List Change → LoadFault → Type 0
 LoadFails source source' reads before after (load.Line number fault) =
     (bytes : List ℕ) × (source'.bytes ≡ source.bytes ++ bytes) × (source'.ended ≡ true) × StopsAt bytes number fault before after
+LoadFails source source' reads before after (load.Unended number) =
+    (bytes : List ℕ) × (source'.bytes ≡ source.bytes ++ bytes) × (source'.ended ≡ true) × StopsShort bytes number before after
 LoadFails source source' reads before after load.Read = CannotRead source source' reads × (after ≡ before)
 LoadFails source source' reads before after load.Memory =
     (bytes : List ℕ) × (source'.bytes ≡ source.bytes ++ bytes) × AddsFirst bytes before after
+
+-- what is wrong with a line of a users file, in whole words
+abbrev pub users_trouble : CommandFault → List ℕ
+users_trouble commands.Long = codes "a line has more than 200 bytes"
+users_trouble commands.Bytes = codes "a line has a byte that is no printable ASCII character"
+users_trouble commands.Fields = codes "a line has an empty field, or too few or too many"
+users_trouble commands.Word = codes "a line begins neither with ENROL nor with SUSPEND"
+users_trouble commands.Role = codes "a role is none of the five"
+users_trouble commands.Name = codes "a user, an authorisation or premises is no name"

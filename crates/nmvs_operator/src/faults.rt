@@ -12,6 +12,9 @@ pub enum LoadFault {
     /// The line of this number, counted from 1, is no command.
     #[error("line {0} of the users file: {1}")]
     Line(usize, CommandFault),
+    /// The line of this number, counted from 1, lacks its LF: the file may have been cut off.
+    #[error("line {0} of the users file has no end")]
+    Unended(usize),
 }
 
 impl From<AllocError> for LoadFault {
@@ -32,4 +35,7 @@ pub enum ObeyFault {
     Unread(CommandFault),
     #[error("there is no memory for the change")]
     Memory,
+    /// The commands ended before its LF came.
+    #[error("the command has no end")]
+    Unended,
 }

@@ -1,5 +1,5 @@
 -- The program's desk: what it may answer, and which receipt it then has (own).
-use Rattle.std.specs.Prelude.{◌≡◌, ◌+◌, ◌⊎◌, ℕ, ℤ, pos, ◌≤ℤ◌, Bool, true, false, List, [], ◌∷◌, ◌++◌}
+use Rattle.std.specs.Prelude.{◌≡◌, ◌≢◌, ◌+◌, ◌⊎◌, ℕ, ℤ, pos, ◌≤ℤ◌, Bool, true, false, List, [], ◌∷◌, ◌++◌}
 use mathlib.Core.List.{IsPrefix}
 use Rattle.nmvs_identifier.specs.Moment.{last_moment}
 use Rattle.nmvs_identifier.specs.Name.{Name}
@@ -13,9 +13,9 @@ use Rattle.nmvs_rules.specs.declared.question.Question.{Question}
 use Rattle.nmvs_rules.specs.declared.reply.Reply.{Reply}
 use Rattle.nmvs_rules.specs.declared.role.Role.{Role}
 use Rattle.nmvs_rules.specs.Questions.{code_of, may_report}
-use Rattle.nmvs_rules.specs.Rules.{IsLawful}
-use Rattle.nmvs_desk.specs.Answers.{IsAnswered}
-use Rattle.nmvs_desk.specs.Placing.{shard_of, IsPlaced}
+use Rattle.nmvs_desk.specs.Answers.{IsAnswered, IsShown}
+use Rattle.nmvs_desk.specs.Placing.{shard_of}
+use Rattle.nmvs_desk.specs.Settlement.{row}
 use Rattle.nmvs_desk.specs.declared.faults.AskFault.{AskFault}
 use Rattle.nmvs_desk.specs.declared.faults.AskFault.TheVariants as faults
 use Rattle.nmvs_desk.specs.declared.ask.Receipt.{Receipt}
@@ -27,10 +27,11 @@ use Rattle.nmvs_protocol.specs.declared.answer.Turn.{Turn}
 use Rattle.nmvs_protocol.specs.declared.answer.Turn.TheVariants as turns
 use Rattle.nmvs_record.specs.Report.{report_text}
 
--- a desk: the changes of the directory that its clerk saw or was told, the clerk's receipts, how many shards its repository
--- has, how often its clock was asked, and what the clock gave last
+-- a desk: the changes of the directory that its clerk saw or was told, what the clerk has seen of each shard's trail, the
+-- clerk's receipts, how many shards its repository has, how often its clock was asked, and what the clock gave last
 pub record DeskView : Type 0 where
   pub seen : List Change
+  pub sights : List (List Entry)
   pub receipts : List Receipt
   pub shards : ℕ
   pub asked : ℕ
@@ -40,9 +41,10 @@ pub record DeskView : Type 0 where
 abbrev pub IsMoment : ℤ → Type 0
 IsMoment seconds = pos 0 ≤ℤ seconds × seconds ≤ℤ pos last_moment
 
--- the clock was asked once; receipts and repository are the same
+-- the clock was asked once; sights, receipts and repository are the same
 pub record AsksClock (old new : DeskView) : Type 0 where
   pub asked : new.asked ≡ old.asked + 1
+  pub sights : new.sights ≡ old.sights
   pub receipts : new.receipts ≡ old.receipts
   pub shards : new.shards ≡ old.shards
 
@@ -64,8 +66,14 @@ pub record KeepsClock (old new : DeskView) : Type 0 where
   pub gave : new.gave ≡ old.gave
   pub shards : new.shards ≡ old.shards
 
+-- the clerk has seen more of a shard alone: a lawful trail of it, which begins with all that it had seen
+pub record SeesShard (old : DeskView) (shard : ℕ) (new : DeskView) : Type 0 where
+  pub shown : IsShown old.shards shard (row old.sights shard) (row new.sights shard)
+  pub others : (i : ℕ) → i ≢ shard → row new.sights i ≡ row old.sights i
+
 -- the question was put: there is one receipt more, with the moment that the clock gave, the user, in the capacity that the
--- directory gives, the question, and, on a trail of its shard, the reply of the rules and the entries that they show
+-- directory gives, the question, and, on a trail of its shard that begins with all that the clerk had seen of it, the reply of
+-- the rules and the entries that they show; now the clerk has seen the entry, too, and no more of another shard
 pub record Receives (old new : DeskView) (user : Name) (question : Question) (said : Reply) (shown : List Entry) : Type 0 where
   pub receipt : Receipt
   pub kept : new.receipts ≡ old.receipts ++ receipt ∷ []
@@ -75,16 +83,16 @@ pub record Receives (old new : DeskView) (user : Name) (question : Question) (sa
   pub actor : Reads old.seen new.seen user (looks.Known receipt.entry.put.actor)
   pub replied : receipt.entry.reply ≡ said
   pub shard : receipt.shard ≡ shard_of old.shards (code_of question)
-  pub answered : IsAnswered old.shards receipt shown
+  pub answered : IsAnswered old.shards (row old.sights receipt.shard) (row new.sights receipt.shard) receipt shown
+  pub others : (i : ℕ) → i ≢ receipt.shard → row new.sights i ≡ row old.sights i
 
 -- the directory knows the user, in a role that may ask or may not
 abbrev pub IsInRole : DeskView → DeskView → Name → (Role → Bool) → Bool → Type 0
 IsInRole old new user may answer = (actor : Actor) × Reads old.seen new.seen user (looks.Known actor) × (may actor.role ≡ answer)
 
--- the text is the report of the product code on a lawful trail of its shard
-abbrev pub Reports : ℕ → ProductCode → List ℕ → Type 0
-Reports shards code text =
-    (trail : List Entry) × IsLawful trail × IsPlaced shards (shard_of shards code) trail × (text ≡ report_text trail code)
+-- the text is the report of the product code on what the clerk has seen of its shard
+abbrev pub Reports : DeskView → ProductCode → List ℕ → Type 0
+Reports new code text = text ≡ report_text (row new.sights (shard_of new.shards code)) code
 
 -- each role may put a question, since a refusal is a reply
 abbrev pub may_put : Role → Bool
@@ -107,16 +115,17 @@ turn_of_fault faults.Suspended = turns.Suspended
 turn_of_fault faults.Closed = turns.Closed
 turn_of_fault faults.Memory = turns.Memory
 
--- there is no new receipt
-abbrev pub LeavesNone : DeskView → DeskView → Type 0
-LeavesNone old new = new.receipts ≡ old.receipts
+-- there is no new receipt, and all that was seen stands
+pub record LeavesNone (old new : DeskView) : Type 0 where
+  pub receipts : new.receipts ≡ old.receipts
+  pub sights : (i : ℕ) → IsPrefix (row old.sights i) (row new.sights i)
 
 -- what the desk may answer at the moment that its clock gave, once the clerk was told
 abbrev pub AnswersTold : DeskView → Ask → Answer → DeskView → Type 0
 AnswersTold old (asks.Question user q) (answers.Replied r shown) new = Receives old new user q r shown
 AnswersTold old (asks.Question user q) (answers.Turned turn) new = LeavesNone old new × IsTurned old new user may_put turn
 AnswersTold old (asks.Report user c) (answers.Reported text) new =
-    LeavesNone old new × IsInRole old new user may_report true × Reports old.shards c text
+    LeavesNone old new × IsInRole old new user may_report true × SeesShard old (shard_of old.shards c) new × Reports new c text
 AnswersTold old (asks.Report user c) (answers.Turned turn) new = LeavesNone old new × IsTurned old new user may_report turn
 AnswersTold _ _ _ _ = ⊥
 

@@ -24,11 +24,11 @@ abbrev pub fault_text : Fault → List ℕ
 fault_text (faults.CannotRead path) = codes "cannot read " ++ path.now
 fault_text (faults.CannotWrite path) = codes "cannot write " ++ path.now
 fault_text (faults.UsersLine number fault) = codes "users line " ++ decimal number ++ codes ": " ++ command_word fault
+fault_text (faults.UsersEnd number) = codes "the last line has no end: users line " ++ decimal number ++ codes ": UNENDED"
 fault_text (faults.ImportLine number) = codes "import line " ++ decimal number
 fault_text (faults.ImportUnlawful number) = codes "import line " ++ decimal number ++ codes " is unlawful"
 fault_text faults.Directory = codes "directory refused"
 fault_text (faults.CannotListen port) = codes "cannot listen on port " ++ decimal port
-fault_text faults.Settlement = codes "settlement fault"
 fault_text faults.LostClerk = codes "a clerk was lost"
 fault_text faults.Memory = codes "out of memory"
 fault_text faults.SessionRead = codes "session read fault"

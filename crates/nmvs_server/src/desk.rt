@@ -3,10 +3,11 @@ ghost use Rattle.std.specs.Prelude.{◌≡◌};
 ghost use Rattle.nmvs_server.specs.Desk.{turn_of_fault};
 
 use crate::Clock;
-use nmvs_desk::{AskFault, Clerk, EntryLedger, Reader, ReceiptLedger, Repository, Served};
+use nmvs_desk::{AskFault, Clerk, Reader, Repository, Served};
 use nmvs_directory::{Naming, Notice};
+use nmvs_history::Histories;
 use nmvs_identifier::{Moment, Name, ProductCode};
-use nmvs_protocol::{Answer, Ask, Desk, Entries, Text, Turn};
+use nmvs_protocol::{Answer, Ask, Desk, Entries, Released, Text, Turn, Withheld, WithheldAnswers};
 use nmvs_record::report;
 use nmvs_rules::{Question, may_report};
 use nmvs_shard::Shard;
@@ -20,47 +21,40 @@ mod tests;
 /// Answers lines by a clerk of a repository, at the moments of a clock, which it asks once a line. Before each line is
 /// answered the clerk learns the latest notice (own).
 #[derive(Drop)]
-pub struct ClerkDesk<'r, 'a, R: Wait, J: Naming, S: EntryLedger, C: ReceiptLedger, K: Clock> {
+pub struct ClerkDesk<'r, 'a, R: Wait, J: Naming, H: Histories, K: Clock> {
     rt: &'r R,
-    clerk: Clerk<'a, J, C>,
-    repository: &'r Repository<'a, S, C>,
+    clerk: Clerk<'a, J, H>,
+    repository: &'r Repository<'a, H>,
     latest: &'r Mutex<Notice<J>>,
     clock: K,
 }
 
-impl<'r, 'a, R: Wait, J: Naming, S: EntryLedger, C: ReceiptLedger, K: Clock> Model
-    for ClerkDesk<'r, 'a, R, J, S, C, K> {
+impl<'r, 'a, R: Wait, J: Naming, H: Histories, K: Clock> Model for ClerkDesk<'r, 'a, R, J, H, K> {
     ghost use Rattle.nmvs_server.specs.Desk.{DeskView};
 
     ghost Value = { DeskView };
 
-    ghost view = { λ d. record { seen = d.clerk.seen; receipts = d.clerk.receipts; shards = d.repository.now.shards; asked = K.asked d.clock; gave = K.gave d.clock } };
+    ghost view = { λ d. record { seen = d.clerk.seen; sights = d.clerk.sights; receipts = d.clerk.receipts; shards = d.repository.now.shards; asked = K.asked d.clock; gave = K.gave d.clock } };
 }
 
-impl<'r, 'a, R: Wait, J: Naming, S: EntryLedger, C: ReceiptLedger, K: Clock> ClerkDesk<
-    'r,
-    'a,
-    R,
-    J,
-    S,
-    C,
-    K,
-> {
+impl<'r, 'a, R: Wait, J: Naming, H: Histories, K: Clock> ClerkDesk<'r, 'a, R, J, H, K> {
     ghost use Rattle.std.specs.Prelude.{◌≡◌, pos, IfOk, IfSome, IfNone, string_bytes};
     ghost use Rattle.nmvs_protocol.specs.declared.ask.Ask.TheVariants as asks;
-    ghost use Rattle.nmvs_server.specs.Desk.{KeepsClock, StopsAtClock, IsTold, AnswersTold, Reports};
+    ghost use Rattle.nmvs_desk.specs.Placing.{shard_of};
+    ghost use Rattle.nmvs_server.specs.Desk.{KeepsClock, StopsAtClock, IsTold, AnswersTold, Reports, SeesShard};
 
     /// A desk over a clerk of this repository, and the lock of the latest notice.
     ///
-    /// Condition: the clerk is one that `open` gave with the repository, which the names of their ledgers say.
+    /// Condition: the clerk is one that `open` gave with the repository, which the names of their histories say.
     pub fn new(
         rt: &'r R,
-        clerk: Clerk<'a, J, C>,
-        repository: &'r Repository<'a, S, C>,
+        clerk: Clerk<'a, J, H>,
+        repository: &'r Repository<'a, H>,
         latest: &'r Mutex<Notice<J>>,
         clock: K,
-    ) -> ClerkDesk<'r, 'a, R, J, S, C, K>
+    ) -> ClerkDesk<'r, 'a, R, J, H, K>
         ensures seen { result.seen ≡ clerk.entry.seen }
+        ensures sights { result.sights ≡ clerk.entry.sights }
         ensures receipts { result.receipts ≡ clerk.entry.receipts }
         ensures shards { result.shards ≡ repository.now.shards }
         ensures asked { result.asked ≡ K.asked clock }
@@ -76,10 +70,11 @@ impl<'r, 'a, R: Wait, J: Naming, S: EntryLedger, C: ReceiptLedger, K: Clock> Cle
     }
 
     /// The clerk, with all its receipts.
-    pub fn into_clerk(self) -> Clerk<'a, J, C>
+    pub fn into_clerk(self) -> Clerk<'a, J, H>
     where
         K: Drop,
         ensures seen { result.seen ≡ self.entry.seen }
+        ensures sights { result.sights ≡ self.entry.sights }
         ensures receipts { result.receipts ≡ self.entry.receipts }
     {
         self.clerk
@@ -97,7 +92,6 @@ impl<'r, 'a, R: Wait, J: Naming, S: EntryLedger, C: ReceiptLedger, K: Clock> Cle
     }
 
     /// Puts a question by the clerk, at the moment that the clock gave.
-    #[tactic(auto, using(crate::proofs::DeskTurns::turned_by, crate::proofs::DeskTurns::received))]
     fn ask(&mut self, moment: Moment, user: &Name, question: &Question) -> Answer<'a>
         requires { pos moment ≡ self.old.gave }
         ensures clock { KeepsClock self.old self.new }
@@ -113,7 +107,7 @@ impl<'r, 'a, R: Wait, J: Naming, S: EntryLedger, C: ReceiptLedger, K: Clock> Cle
     }
 
     /// Reports on a product code to those who may have it. It waits for the code's shard, and leaves no receipt.
-    #[tactic(auto, using(crate::proofs::DeskTurns::looked_away))]
+    #[tactic(auto, using(crate::proofs::DeskTurns::looked_away, crate::proofs::DeskTurns::stays))]
     fn report(&mut self, user: &Name, code: &ProductCode) -> Answer<'a>
         ensures clock { KeepsClock self.old self.new }
         ensures answers { AnswersTold self.old (asks.Report user.now code.now) result self.new }
@@ -132,13 +126,20 @@ impl<'r, 'a, R: Wait, J: Naming, S: EntryLedger, C: ReceiptLedger, K: Clock> Cle
     }
 
     /// The report of a product code, by its shard.
-    fn report_on(&self, code: &ProductCode) -> Result<String, AllocError>
-        ensures { IfOk result (λ text. Reports self.now.shards code.now (string_bytes text)) }
+    #[tactic(auto, using(crate::proofs::DeskTurns::sees, crate::proofs::DeskTurns::reports))]
+    fn report_on(&mut self, code: &ProductCode) -> Result<String, AllocError>
+        ensures clock { KeepsClock self.old self.new }
+        ensures seen { self.new.seen ≡ self.old.seen }
+        ensures receipts { self.new.receipts ≡ self.old.receipts }
+        ensures sees { SeesShard self.old (shard_of self.old.shards code.now) self.new }
+        ensures reports { IfOk result (λ text. Reports self.new code.now (string_bytes text)) }
     {
+        let (rt, repository) = (self.rt, self.repository);
         let alloc = *self.clerk.allocator();
-        let shard = self.repository.shard_of(code);
-        self.repository
-            .with_shard(self.rt, shard, ReportOf { alloc, code })
+        let shard = repository.shard_of(code);
+        let reader = ReportOf { alloc, code };
+        let text = self.clerk.look_at(rt, repository, shard, reader)?;
+        Ok(text)
     }
 }
 
@@ -174,19 +175,26 @@ impl<'a, 'c> Reader<Shard<&'a Global>> for ReportOf<'c> {
     }
 }
 
-impl<'r, 'a, R: Wait, J: Naming, S: EntryLedger, C: ReceiptLedger, K: Clock> Desk<'a>
-    for ClerkDesk<'r, 'a, R, J, S, C, K> {
+impl<'r, 'a, R: Wait, J: Naming, H: Histories, K: Clock> Desk<'a>
+    for ClerkDesk<'r, 'a, R, J, H, K> {
+    ghost use Rattle.nmvs_protocol.specs.Session.{AtOnce};
     ghost use Rattle.nmvs_server.specs.Desk.{Serves};
 
     ghost takes = { Serves };
 
-    fn take(&mut self, ask: &Ask) -> Answer<'a> {
+    ghost releases = { AtOnce };
+
+    fn take(&mut self, ask: &Ask) -> Withheld<'a> {
         let Some(moment) = self.next_moment() else {
-            return Answer::Turned(Turn::Clock);
+            return Withheld::new(Answer::Turned(Turn::Clock));
         };
-        match ask {
+        Withheld::new(match ask {
             Ask::Question(user, question) => self.ask(moment, user, question),
             Ask::Report(user, code) => self.report(user, code),
-        }
+        })
+    }
+
+    fn release<'h>(&mut self, withheld: &'h mut WithheldAnswers<'a>) -> Released<'h, 'a> {
+        withheld.release()
     }
 }

@@ -16,6 +16,8 @@ pub enum Fault<'a> {
     CannotWrite(&'a str),
     /// The line of the users file with this number, counted from 1, is no command.
     UsersLine(usize, CommandFault),
+    /// The last line of the users file, which has this number, lacks its LF.
+    UsersEnd(usize),
     /// The line of the import with this number, counted from 1, is no entry line.
     ImportLine(usize),
     /// The reply in this line of the import is not that of the rules.
@@ -24,8 +26,6 @@ pub enum Fault<'a> {
     Directory,
     /// The port is not to be had.
     CannotListen(u16),
-    /// A receipt could not be found in the trails.
-    Settlement,
     /// Fewer workers gave their clerk back than there are clerks.
     LostClerk,
     /// Memory was wanting, or a thread for a worker.
@@ -49,11 +49,13 @@ impl<'a> fmt::Display for Fault<'a> {
                 let word = command_word(*fault);
                 write!(f, "users line {number}: {word}")
             }
+            Fault::UsersEnd(number) => {
+                write!(f, "the last line has no end: users line {number}: UNENDED")
+            }
             Fault::ImportLine(number) => write!(f, "import line {number}"),
             Fault::ImportUnlawful(number) => write!(f, "import line {number} is unlawful"),
             Fault::Directory => f.write_str("directory refused"),
             Fault::CannotListen(port) => write!(f, "cannot listen on port {port}"),
-            Fault::Settlement => f.write_str("settlement fault"),
             Fault::LostClerk => f.write_str("a clerk was lost"),
             Fault::Memory => f.write_str("out of memory"),
             Fault::SessionRead => f.write_str("session read fault"),

@@ -1,6 +1,7 @@
 //! What a run uses of the machine, and what it goes by.
-use nmvs_desk::{EntryLedger, ReceiptLedger, Repository};
+use nmvs_desk::Repository;
 use nmvs_directory::{Naming, Notice};
+use nmvs_history::Histories;
 use nmvs_operator::Options;
 use std::alloc::Global;
 use std::net::TcpListener;
@@ -25,10 +26,10 @@ pub(crate) struct Run<'r, 'o, H> {
 
 /// What the workers of a run share.
 #[derive(Drop)]
-pub(crate) struct Shared<'s, 'r, 'o, H, J: Naming, S: EntryLedger, C: ReceiptLedger> {
-    pub(crate) run: &'s Run<'r, 'o, H>,
+pub(crate) struct Shared<'s, 'r, 'o, R, J: Naming, H: Histories> {
+    pub(crate) run: &'s Run<'r, 'o, R>,
     pub(crate) listener: &'s TcpListener,
-    pub(crate) repository: &'s Repository<'r, S, C>,
+    pub(crate) repository: &'s Repository<'r, H>,
     pub(crate) latest: &'s Mutex<Notice<J>>,
     /// Whether the workers may begin: it is locked until all of them are there.
     pub(crate) ready: &'s Mutex<bool>,

@@ -1,7 +1,7 @@
 //! The rehearsal: a session to learn the repository by, whose every answer is proved.
 ghost use Rattle.std.specs.Prelude.{◌≡◌, ◌<◌, [], ◌∷◌, length};
 ghost use Rattle.nmvs_protocol.specs.declared.end.End.{End as TheEnd};
-ghost use Rattle.nmvs_protocol.specs.Session.{Session};
+ghost use Rattle.nmvs_protocol.specs.Session.{AtOnce, Session};
 ghost use Rattle.nmvs_server.specs.Console.{IsFresh};
 ghost use Rattle.nmvs_server.specs.Faults.{outcome};
 ghost use Rattle.nmvs_server.specs.Rehearsal.{Rehearsal, Judges};
@@ -10,7 +10,10 @@ use crate::Fault;
 use crate::fault::outcome_of;
 use crate::roster::actor_of;
 use nmvs_identifier::{Moment, Name, ProductCode};
-use nmvs_protocol::{Answer, Ask, Desk, End, Entries, SESSION_LIMITS, Text, Turn, serve};
+use nmvs_protocol::{
+    Answer, Ask, Desk, End, Entries, Released, SESSION_LIMITS, Text, Turn, Withheld,
+    WithheldAnswers, serve,
+};
 use nmvs_record::report;
 use nmvs_rules::{Put, Question, may_report};
 use nmvs_shard::{Answered, Shard};
@@ -35,7 +38,7 @@ pub fn serve_rehearsal<R: Source, W: Sink>(
     sink: &mut W,
 ) -> Result<(), Fault<'static>>
     requires { IsFresh (R.told source.old) (W.taken sink.old) }
-    ensures { (last : Rehearsal) × (end : TheEnd) × Session Judges SESSION_LIMITS
+    ensures { (last : Rehearsal) × (end : TheEnd) × Session Judges AtOnce SESSION_LIMITS
         (record { trail = []; moments = 1_767_225_600 ∷ [] }) (R.told source.old) (W.taken sink.old)
         last (R.told source.new) (W.taken sink.new) end × (result ≡ outcome end) }
 {
@@ -55,7 +58,7 @@ pub fn rehearse<R: Source, W: Sink>(
 ) -> End
     requires moments { 0 < length moments.now }
     requires fresh { IsFresh (R.told source.old) (W.taken sink.old) }
-    ensures { (last : Rehearsal) × Session Judges SESSION_LIMITS
+    ensures { (last : Rehearsal) × Session Judges AtOnce SESSION_LIMITS
         (record { trail = []; moments = moments.now }) (R.told source.old) (W.taken sink.old)
         last (R.told source.new) (W.taken sink.new) result }
 {
@@ -141,15 +144,22 @@ impl<'a> RehearsalDesk<'a> {
 }
 
 impl<'a> Desk<'a> for RehearsalDesk<'a> {
+    ghost use Rattle.nmvs_protocol.specs.Session.{AtOnce};
     ghost use Rattle.nmvs_server.specs.Rehearsal.{Judges};
 
     ghost takes = { Judges };
 
-    fn take(&mut self, ask: &Ask) -> Answer<'a> {
+    ghost releases = { AtOnce };
+
+    fn take(&mut self, ask: &Ask) -> Withheld<'a> {
         let moment = self.next_moment();
-        match ask {
+        Withheld::new(match ask {
             Ask::Question(user, question) => self.judge(moment, user, question),
             Ask::Report(user, code) => self.report(user, code),
-        }
+        })
+    }
+
+    fn release<'h>(&mut self, withheld: &'h mut WithheldAnswers<'a>) -> Released<'h, 'a> {
+        withheld.release()
     }
 }

@@ -1,26 +1,35 @@
 //! The workers that serve connections, and the registrar beside them.
 use crate::host::Shared;
 use crate::{ClerkDesk, Console, ProgramClock, Sides};
-use nmvs_desk::{Clerk, EntryLedger, ReceiptLedger};
+use nmvs_desk::Clerk;
 use nmvs_directory::{Naming, Registrar};
-use nmvs_operator::obey_all;
-use nmvs_protocol::{Desk, SESSION_LIMITS, serve};
+use nmvs_history::Histories;
+use nmvs_operator::{Latest, obey_all};
+use nmvs_protocol::{Desk, End, NO_LIMITS, READ_SIZE, serve};
 use nmvs_stream::{Device, Sink, deliver};
 use std::alloc::{AllocError, Global};
-use std::net::TcpListener;
+use std::io::{BufWriter, Read};
+use std::net::{Shutdown, TcpListener, TcpStream};
 use std::rt::Clock;
 use std::sync::Wait;
 use std::thread;
 use std::thread::Threads;
+use std::time::{Duration, Instant};
 
 #[cfg(test)]
 mod tests;
 
+/// How many bytes of replies are gathered at most before some are sent (own): those to the questions of one read.
+const GATHERED: usize = 16_384;
+
+/// How many seconds a connection is read on behind the end of its session (own).
+const PATIENCE: u64 = 1;
+
 /// Serves connections, one after another, and gives the clerk back. A failed accept counts as one.
-fn work<'r, H: Wait + Clock, J: Naming, S: EntryLedger, C: ReceiptLedger>(
-    shared: &Shared<'_, 'r, '_, H, J, S, C>,
-    clerk: Clerk<'r, J, C>,
-) -> Clerk<'r, J, C> {
+fn work<'r, R: Wait + Clock, J: Naming, H: Histories>(
+    shared: &Shared<'_, 'r, '_, R, J, H>,
+    clerk: Clerk<'r, J, H>,
+) -> Clerk<'r, J, H> {
     let run = shared.run;
     if !*shared.ready.lock(run.rt) {
         return clerk;
@@ -32,20 +41,62 @@ fn work<'r, H: Wait + Clock, J: Naming, S: EntryLedger, C: ReceiptLedger>(
         sessions => sessions,
     };
     for _ in 0..sessions {
-        serve_next(*run.alloc, shared.listener, &mut desk);
+        serve_next(run.rt, *run.alloc, shared.listener, &mut desk);
     }
     desk.into_clerk()
 }
 
 /// Serves one connection as a session. How it ends changes nothing for the others.
-fn serve_next<'a, D: Desk<'a>>(alloc: Global, listener: &TcpListener, desk: &mut D) {
+fn serve_next<'a, R: Clock, D: Desk<'a>>(
+    rt: &R,
+    alloc: Global,
+    listener: &TcpListener,
+    desk: &mut D,
+) {
     let Ok((stream, _peer)) = listener.accept() else {
         return;
     };
     let _slow = stream.set_nodelay(true);
     let mut source = Device::new(&stream);
-    let mut sink = Device::new(&stream);
-    let _end = serve(alloc, &mut source, &mut sink, desk, SESSION_LIMITS);
+    let mut sink = Device::new(gathering(alloc, &stream));
+    match serve(alloc, &mut source, &mut sink, desk, NO_LIMITS) {
+        End::Quit | End::Limit | End::Memory => drain(rt, &stream),
+        End::Ended | End::ReadFault | End::WriteFault => {}
+    }
+}
+
+/// Gathers replies until they are flushed. Where there is no memory for that, each is sent by itself.
+fn gathering(alloc: Global, stream: &TcpStream) -> BufWriter<&TcpStream> {
+    match BufWriter::with_capacity(alloc, GATHERED, stream) {
+        Ok(writer) => writer,
+        Err(_) => BufWriter::with_capacity(alloc, 0, stream).unwrap(),
+    }
+}
+
+/// Ends a connection behind whose session bytes may be unread: tells the peer that no more is written, and reads on until
+/// it ends or a while has passed. Where a connection is closed with bytes unread, the system takes back what the peer has not
+/// received yet.
+fn drain<R: Clock>(rt: &R, mut stream: &TcpStream) {
+    let Ok(begun) = Instant::now(rt) else {
+        return;
+    };
+    let patience = Duration::from_secs(PATIENCE);
+    if stream.shutdown(Shutdown::Write).is_err()
+        || stream.set_read_timeout(Some(patience)).is_err()
+    {
+        return;
+    }
+    let mut unread = [0; READ_SIZE];
+    for _ in 0..u64::MAX {
+        match stream.read(&mut unread) {
+            Ok(0) | Err(_) => return,
+            Ok(_) => {}
+        }
+        match begun.elapsed(rt) {
+            Ok(passed) if passed < patience => {}
+            _ => return,
+        }
+    }
 }
 
 /// Serves connections in as many threads as there are clerks, and carries out the registrar's commands in this one. It
@@ -57,17 +108,16 @@ fn serve_next<'a, D: Desk<'a>>(alloc: Global, listener: &TcpListener, desk: &mut
 pub(crate) fn serve_connections<
     'r,
     // Not `Host`: what a thread runs may rest on traits of the library alone.
-    H: Threads + Wait + Clock + Sync,
+    R: Threads + Wait + Clock + Sync,
     J: Naming + Send + Sync,
-    S: EntryLedger + Send + Sync,
-    C: ReceiptLedger + Send + Sync,
+    H: Histories + Send + Sync,
     T: Sides,
 >(
-    shared: &Shared<'_, 'r, '_, H, J, S, C>,
-    clerks: Vec<Clerk<'r, J, C>, &'r Global>,
-    registrar: &mut Registrar<J, &'r H, &'r Global>,
+    shared: &Shared<'_, 'r, '_, R, J, H>,
+    clerks: Vec<Clerk<'r, J, H>, &'r Global>,
+    registrar: &mut Registrar<J, &'r R, &'r Global>,
     console: &mut Console<T>,
-) -> Result<Vec<Clerk<'r, J, C>, &'r Global>, AllocError> {
+) -> Result<Vec<Clerk<'r, J, H>, &'r Global>, AllocError> {
     let run = shared.run;
     thread::scope(thread::scope_env(), run.rt, |scope| {
         let mut ready = shared.ready.lock(run.rt);
@@ -84,14 +134,8 @@ pub(crate) fn serve_connections<
         drop(ready);
         tell_port(*run.alloc, shared.listener, &mut console.sink);
         let (commands, answers) = (&mut console.source, &mut console.sink);
-        obey_all(
-            &run.rt,
-            commands,
-            answers,
-            registrar,
-            shared.latest,
-            SESSION_LIMITS,
-        );
+        let mut latest = Latest::new(run.rt, shared.latest);
+        obey_all(commands, answers, registrar, &mut latest);
         for worker in workers {
             back.push(worker.join(run.rt))?;
         }

@@ -1,10 +1,10 @@
 ghost use Rattle.std.specs.Prelude.{◌≡◌};
 ghost use Rattle.nmvs_directory.specs.Directory.{directory_book};
 
-use crate::{ObeyFault, obey, obey_all};
+use crate::{Latest, ObeyFault, obey, obey_all};
 use nmvs_directory::{Directory, Look, Naming, Notice, Registrar};
 use nmvs_identifier::Name;
-use nmvs_protocol::{CommandFault, Limits};
+use nmvs_protocol::CommandFault;
 use nmvs_stream::Device;
 use std::alloc::Global;
 use std::marker::Brand;
@@ -12,31 +12,30 @@ use std::process::Abort;
 use std::sync::{Mutex, Wait};
 use std::test::*;
 
-/// A command of 201 bytes, a word in lower case, and at the end a command without its LF.
-const COMMANDS: &[u8] = b"ENROL ph9 PHARMACY PH-9 P9\n\
-    AAAAAAAAAAAAAAAAAAAAAAAAAAAAAAAAAAAAAAAAAAAAAAAAAAAAAAAAAAAAAAAAAAAAAAAAAAAAAAAAAAAAAAAAAAAAAAAAAAAA\
-    AAAAAAAAAAAAAAAAAAAAAAAAAAAAAAAAAAAAAAAAAAAAAAAAAAAAAAAAAAAAAAAAAAAAAAAAAAAAAAAAAAAAAAAAAAAAAAAAAAAAA\n\
-    suspend ph9\nSUSPEND ph9\nSUSPEND ph1";
+const ENROLMENT: &[u8] = b"ENROL ph9 PHARMACY PH-9 P9\n";
 
-/// Carries out at most this many of the commands, which have these answers.
+/// A command of 201 bytes, a word in lower case, and at the end a command without its LF.
+const COMMANDS: &[u8] =
+    b"AAAAAAAAAAAAAAAAAAAAAAAAAAAAAAAAAAAAAAAAAAAAAAAAAAAAAAAAAAAAAAAAAAAAAAAAAAAAAAAAAAAAAAAAAAAAAAAAAAAA\
+    AAAAAAAAAAAAAAAAAAAAAAAAAAAAAAAAAAAAAAAAAAAAAAAAAAAAAAAAAAAAAAAAAAAAAAAAAAAAAAAAAAAAAAAAAAAAAAAAAAAAA\n\
+    suspend ph9\nSUSPEND ph9\nENROL ph9 PHARMACY PH-9 P9";
+
+/// Carries out commands, which have these answers.
 fn has_answers<'r, J: Naming, R: Wait + Abort + Sync>(
     rt: &'r R,
     alloc: Global,
     registrar: &mut Registrar<J, &'r R, Global>,
     latest: &Mutex<Notice<J>>,
-    lines: u64,
+    commands: &[u8],
     answers: &[u8],
 ) {
     let mut taken = Vec::new(alloc);
     let mut sink = Device::new(&mut taken);
-    let limits = Limits { lines, reads: 9 };
     obey_all(
-        &rt,
-        &mut Device::new(COMMANDS),
+        &mut Device::new(commands),
         &mut sink,
         registrar,
-        latest,
-        limits,
+        &mut Latest::new(rt, latest),
     );
     drop(sink);
     assert_eq!(rt; taken.as_slice(), answers);
@@ -49,11 +48,11 @@ fn commands_come<J: Naming, R: Wait + Abort + Sync>(rt: &R, alloc: Global, direc
     let (mut registrar, mut windows) = directory.open::<J, _, _>(rt, alloc, 1).expect(rt, "memory");
     let mut window = windows.pop().expect(rt, "a window");
     let latest = Mutex::new(registrar.publish().expect(rt, "memory"));
-    has_answers(rt, alloc, &mut registrar, &latest, 1, b"DONE\n");
+    has_answers(rt, alloc, &mut registrar, &latest, ENROLMENT, b"DONE\n");
     window.learn(&*latest.lock(rt));
     assert!(rt; matches!(window.look(&ph9), Look::Known(_)));
-    let all = b"DONE\nFAULT LONG\nFAULT WORD\nDONE\n";
-    has_answers(rt, alloc, &mut registrar, &latest, 9, all);
+    let all = b"FAULT LONG\nFAULT WORD\nDONE\nFAULT UNENDED\n";
+    has_answers(rt, alloc, &mut registrar, &latest, COMMANDS, all);
     window.learn(&*latest.lock(rt));
     assert_eq!(rt; window.look(&ph9), Look::Suspended);
     let refused = obey(b"SUSPEND", &mut registrar).map(|_| ());

@@ -13,9 +13,9 @@ use std::process::Abort;
 use std::sync::Wait;
 use std::test::*;
 
-/// Some users, the last line without its LF.
+/// Some users, with a comment and a blank line.
 const USERS: &str =
-    "ENROL mah1 HOLDER MAH-1 HQ\nENROL ph1 PHARMACY PH-0 P0\nENROL ph1 PHARMACY PH-1 P1\nENROL au1 AUTHORITY AU-1 A1";
+    "ENROL mah1 HOLDER MAH-1 HQ\n# SUSPEND mah1\n\nENROL ph1 PHARMACY PH-0 P0\nENROL ph1 PHARMACY PH-1 P1\n";
 
 fn load<J: Naming, R: Wait>(
     alloc: Global,
@@ -34,16 +34,12 @@ fn refuses_files<J: Naming, R: Wait + Abort>(
 ) {
     for (text, reads, fault) in [
         (
-            "ENROL ph9 PHARMACY PH-9 P9\nENROL ph9 DOCTOR PH-9 P9\n",
+            "#\nENROL ph9 PHARMACY PH-9 P9\nENROL ph9 DOCTOR PH-9 P9\n",
             2,
-            LoadFault::Line(2, CommandFault::Role),
+            LoadFault::Line(3, CommandFault::Role),
         ),
-        ("\n", 2, LoadFault::Line(1, CommandFault::Fields)),
-        (
-            "SUSPEND ph9\nSUSPEND",
-            2,
-            LoadFault::Line(2, CommandFault::Fields),
-        ),
+        (" \n", 2, LoadFault::Line(1, CommandFault::Fields)),
+        ("SUSPEND ph9\nSUSPEND ph1", 2, LoadFault::Unended(2)),
         (USERS, 1, LoadFault::Read),
     ] {
         let loaded = load(alloc, text, registrar, reads).map(|_| ());

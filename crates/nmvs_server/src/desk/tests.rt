@@ -1,5 +1,6 @@
 //! The program's desk, over a repository of its own.
-ghost use Rattle.std.specs.Prelude.{◌≡◌, ◌≤◌, length, vec_len};
+ghost use Rattle.std.specs.Prelude.{◌≡◌, ◌≤◌, ℕ, length, vec_len};
+ghost use Rattle.nmvs_desk.specs.Opening.{table_of};
 ghost use Rattle.nmvs_directory.specs.Directory.{directory_book};
 
 use crate::clock::OneMore;
@@ -7,23 +8,23 @@ use crate::examples::{Example, NEW_YEAR};
 use crate::opening::Opening;
 use crate::{ClerkDesk, Clock, examples};
 use boxcar::tag::Tag;
-use nmvs_desk::{EntryLedger, MOST_CLERKS, PARTS, ReceiptLedger};
+use nmvs_desk::{Keepers, MOST_CLERKS};
 use nmvs_directory::{Directory, Naming, Notice, Registrar};
-use nmvs_operator::{load_users, obey_all};
+use nmvs_history::Histories;
+use nmvs_operator::{Latest, load_users, obey_all};
 use nmvs_protocol::{Desk, SESSION_LIMITS, serve};
 use nmvs_shard::Shard;
 use nmvs_stream::Device;
 use std::alloc::Global;
 use std::marker::Brand;
 use std::process::Abort;
-use std::sync::ledger::Blank;
 use std::sync::{Mutex, Wait};
 use std::test::*;
 
 /// The users of the rehearsal, as commands.
 const USERS: &str =
     "ENROL mah1 HOLDER MAH-1 HQ\nENROL mah2 HOLDER MAH-2 HQ2\nENROL ph1 PHARMACY PH-1 P1\nENROL ph1b PHARMACY PH-1 P1\n\
-    ENROL ph2 PHARMACY PH-1 P2\nENROL wh1 WHOLESALER WH-1 W1\nENROL mf1 MANUFACTURER MF-1 F1\nENROL au1 AUTHORITY AU-1 A1";
+    ENROL ph2 PHARMACY PH-1 P2\nENROL wh1 WHOLESALER WH-1 W1\nENROL mf1 MANUFACTURER MF-1 F1\nENROL au1 AUTHORITY AU-1 A1\n";
 
 /// Moments that are none, and a registrar's command between two lines.
 const TURNED_AWAY: &[Example] = &[
@@ -112,12 +113,10 @@ fn commanded<'r, J: Naming, R: Wait>(
     let input = format!(in alloc; "{line}\n")?;
     let mut output = Vec::new(alloc);
     obey_all(
-        &rt,
         &mut Device::new(input.as_bytes()),
         &mut Device::new(&mut output),
         registrar,
-        latest,
-        SESSION_LIMITS,
+        &mut Latest::new(rt, latest),
     );
     Ok(output)
 }
@@ -130,20 +129,19 @@ fn is_put(answer: &str) -> bool {
         || answer == "DONE")
 }
 
-fn at_desk<'r, 'a, J: Naming, S: EntryLedger, C: ReceiptLedger, R: Wait + Abort>(
+fn at_desk<'r, 'a, J: Naming, H: Histories, R: Wait + Abort>(
     rt: &'r R,
     latest: &Mutex<Notice<J>>,
     opening: Opening<'a, J>,
     registrar: &mut Registrar<J, &'r R, &Global>,
     example: &Example,
 ) -> Result<(), Fail>
-    requires entries { (opening.entries.name ≡ S.name) × (opening.entries.parts ≡ S.parts) × (S.parts ≡ PARTS) }
-    requires receipts { (opening.receipts.name ≡ C.name) × (opening.receipts.parts ≡ C.parts) × (C.parts ≡ PARTS) }
-    requires named { (S.shards ≡ 1) × (C.clerks ≡ vec_len opening.windows) × (C.opening ≡ length opening.import) }
+    requires tables { (i : ℕ) → table_of opening.keepers i ≡ H.tables i }
+    requires named { (H.shards ≡ length opening.keepers) × (H.clerks ≡ vec_len opening.windows) × (H.opening ≡ opening.import) }
     requires few { vec_len opening.windows ≤ MOST_CLERKS }
 {
     let alloc = *opening.windows.allocator();
-    let Ok(mut opened) = opening.open::<S, C>(alloc, 1) else {
+    let Ok(mut opened) = opening.open::<H>(alloc) else {
         return Err(Fail::new("a repository"));
     };
     let clerk = opened.clerks.pop().ok_or("a clerk")?;
@@ -179,11 +177,10 @@ fn at_directory<J: Naming, R: Wait + Abort + Sync>(
     let opening = Opening {
         windows,
         import: Shard::new(alloc),
-        entries: Blank::new(PARTS),
-        receipts: Blank::new(PARTS),
+        keepers: Keepers::new(alloc, 1)?,
     };
     let latest = Mutex::new(notice);
-    let done = at_desk::<J, Brand, Brand, _>(rt, &latest, opening, &mut registrar, example);
+    let done = at_desk::<J, Brand, _>(rt, &latest, opening, &mut registrar, example);
     registrar.close();
     done
 }

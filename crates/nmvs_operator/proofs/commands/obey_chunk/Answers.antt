@@ -1,12 +1,12 @@
-use Rattle.std.proofs.Common.{◌≡◌, ◌∙◌, ◌++◌, ◌∷◌, ◌+◌, [], ℕ, List, take, drop, get_or, suc, sym, ap, subst}
+use Rattle.std.proofs.Common.{◌≡◌, ◌∙◌, ◌++◌, ◌∷◌, ◌+◌, [], ℕ, List, take, get_or, sym, ap, subst}
 use Rattle.std.proofs.lemmas.Bool.{ne_eqb}
 use Rattle.std.proofs.lemmas.List.{take_all}
 use Rattle.nmvs_directory.specs.Registrar.{register_of}
-use Rattle.nmvs_protocol.specs.InputLines.{input_lines, unfinished_line, lines_after}
+use Rattle.nmvs_protocol.specs.InputLines.{input_lines, unfinished_line}
 use Rattle.nmvs_protocol.specs.Progress.{kept_part}
 use Rattle.nmvs_protocol.proofs.KeptLines.{kept_more}
-use Rattle.nmvs_operator.specs.Commands.{AnswersCommand}
-use Rattle.nmvs_operator.proofs.CommandLemmas.{one_more, at_limit, same_lines, same_stop, byte_seen, lf_seen, lines-byte, unfinished-byte, lines-lf, lines-last_lf, unfinished-lf}
+use Rattle.nmvs_operator.specs.Commands.{office, AnswersCommand}
+use Rattle.nmvs_operator.proofs.CommandLemmas.{one_more, same_lines, byte_seen, lines-byte, unfinished-byte, lines-last_lf, unfinished-lf}
 use Rattle.nmvs_operator.proofs.commands.obey_chunk.Goals as goal
 
 pub loop-byte-preserved-then-byte-ne10 : goal.loop-byte-preserved-then-byte-ne10
@@ -32,25 +32,14 @@ loop-byte-preserved g c first start input is so_far =
     let more : input ++ take (i + 1) chunk ≡ seen ++ 10 ∷ [] =
     byte_seen input chunk i c.loop-byte-test.true ∙ ap (λ (b : ℕ). seen ++ b ∷ []) c.if-byte-ne10.false in
     let o = c.obey_line.ensures in
-    let old = register_of c.loop-byte.registrar in
-    let new = register_of c.obey_line.new.registrar in
+    let old = office (register_of c.loop-byte.registrar) c.loop-byte.latest in
+    let new = office (register_of c.obey_line.new.registrar) c.obey_line.new.latest in
     let answers = subst (λ (t : List ℕ). AnswersCommand old t o.0 new) (c.as_slice.ensures ∙ inv.0) o.1 in
     rw more (
       c.clear.ensures ∙ ap kept_part (sym (unfinished-lf seen)),
       same_lines (sym (lines-last_lf seen))
-          (one_more new (g.W.Sink.taken c.obey_line.new.sink) (unfinished_line seen) o.0 inv.1 c.if-progress-limit.false answers o.2),
+          (one_more new (g.W.Sink.taken c.obey_line.new.sink) (unfinished_line seen) o.0 inv.1 answers o.2),
     )
-
-pub returns-then-progress-limit : goal.returns-then-progress-limit
-returns-then-progress-limit g c first start input is so_far =
-    let inv = c.loop-byte.invariant first start input is so_far in
-    let chunk = c.args.chunk.now in
-    let i = c.loop-byte.byte-index in
-    let seen = input ++ take i chunk in
-    let later = drop (suc i) chunk in
-    let whole = lf_seen input chunk i c.loop-byte-test.true c.if-byte-ne10.false in
-    same_stop (sym (lines-lf seen later) ∙ ap input_lines (sym whole))
-    (at_limit (unfinished_line seen) (lines_after [] later) inv.1 c.if-progress-limit.true)
 
 pub returns : goal.returns
 returns g c first start input is so_far =
