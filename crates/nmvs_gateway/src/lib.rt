@@ -1,0 +1,10 @@
+//! What a gateway tells the server of a connection: whose certificate opened it.
+#![tactic(auto)]
+
+mod header;
+mod laws;
+#[cfg(test)]
+mod tests;
+
+pub use header::{Header, read_header};
+pub use laws::headers_are_read;
