@@ -4,6 +4,8 @@ use Rattle.std.specs.List.{flat_map, list_any}
 use Rattle.nmvs_identifier.specs.Texts.{same_text}
 use Rattle.nmvs_identifier.specs.ProductCode.{ProductCode}
 use Rattle.nmvs_identifier.specs.declared.pack.Pack.{Pack}
+use Rattle.nmvs_stream.specs.Delivery.{Delivers}
+use Rattle.nmvs_stream.specs.Sink.{Taken}
 use Rattle.nmvs_rules.specs.declared.entry.Entry.{Entry}
 use Rattle.nmvs_rules.specs.Questions.{code_of}
 use Rattle.nmvs_rules.specs.Trail.{is_about}
@@ -11,6 +13,7 @@ use Rattle.nmvs_rules.specs.declared.reply.Reply.TheVariants.{Shown}
 use Rattle.nmvs_protocol.specs.Texts.{reply_text}
 use Rattle.nmvs_record.specs.Lines.{Imported, newer}
 use Rattle.nmvs_record.specs.Report.{product_line, report_text}
+use Rattle.nmvs_inspect.specs.Rows.{Dated, AreTaken, list_text}
 use Rattle.nmvs_check.specs.declared.request.Request.{Request}
 use Rattle.nmvs_check.specs.declared.request.Request.TheVariants as request
 
@@ -31,11 +34,18 @@ counts_text it =
 abbrev pub summary_text : Imported → List ℕ
 summary_text it = counts_text it ++ flat_map (product_line it.trail) (codes_named it.trail)
 
+-- the report of each product code
+abbrev pub reports_text : List Entry → List ℕ
+reports_text t = flat_map (report_text t) (codes_named t)
+
 -- the reply that shows the entries about a pack, and their lines
 abbrev pub audit_text : List Entry → Pack → List ℕ
 audit_text t p = let shown = filter (is_about p) t in reply_text (Shown (length shown)) shown
 
-abbrev pub answer_text : Imported → Request → List ℕ
-answer_text it request.Summary = summary_text it
-answer_text it (request.Report c) = report_text it.trail c
-answer_text it (request.Audit p) = audit_text it.trail p
+-- the answer that a sink took, between what it told before and after
+abbrev pub Tells : Imported → Request → Taken → Taken → Type 0
+Tells it request.Summary old new = Delivers old new (summary_text it)
+Tells it (request.Report c) old new = Delivers old new (report_text it.trail c)
+Tells it request.Reports old new = Delivers old new (reports_text it.trail)
+Tells it (request.Audit p) old new = Delivers old new (audit_text it.trail p)
+Tells it (request.List f form) old new = (ds : List Dated) × AreTaken f it.trail ds × Delivers old new (list_text form ds)

@@ -1,35 +1,49 @@
 //! What is told of a lawful export.
 ghost use Rattle.std.specs.Prelude.{◌≡◌, ◌++◌, IfOk, OnOk, string_bytes};
 ghost use Rattle.std.specs.List.{flat_map};
-ghost use Rattle.nmvs_record.specs.Report as reports;
+ghost use Rattle.nmvs_stream.specs.Delivery.{Delivers};
+ghost use Rattle.nmvs_record.specs.Report as told;
 ghost use Rattle.nmvs_check.specs.Answers as answers;
 
 use crate::request::Request;
 use indexmap::IndexSet;
 use nmvs_identifier::{Pack, ProductCode};
+use nmvs_inspect::{AnswerFault, write_list};
 use nmvs_protocol::reply_text;
 use nmvs_record::{Importer, product_line, report};
 use nmvs_rules::{Entry, Reply};
 use nmvs_shard::Shard;
+use nmvs_stream::{Sink, deliver};
 use std::alloc::{AllocError, Global};
 
-/// The text that is told of what was imported, each line with its LF.
+/// Tells what is asked of what was imported.
 ///
 /// # Errors
 ///
-/// There is no memory for the text.
-pub(crate) fn answer_text(
+/// There is no memory for the answer, or it cannot be written.
+pub(crate) fn tell<W: Sink>(
     alloc: Global,
     importer: &Importer<Global>,
     request: &Request,
-) -> Result<String, AllocError>
-    ensures { IfOk result (λ text. string_bytes text ≡ answers.answer_text importer.now request.now) }
+    sink: &mut W,
+) -> Result<(), AnswerFault>
+    ensures { OnOk result (answers.Tells importer.now request.now (W.taken sink.old) (W.taken sink.new)) }
 {
+    let shard = importer.shard();
     match request {
-        Request::Summary => summary(alloc, importer),
-        Request::Report(code) => report(alloc, importer.shard(), code),
-        Request::Audit(pack) => audit(alloc, importer.shard(), pack),
+        Request::Summary => write(&summary(alloc, importer)?, sink),
+        Request::Report(code) => write(&report(alloc, shard, code)?, sink),
+        Request::Reports => write(&reports(alloc, shard)?, sink),
+        Request::Audit(pack) => write(&audit(alloc, shard, pack)?, sink),
+        Request::List(filter, form) => write_list(alloc, shard, filter, *form, sink),
     }
+}
+
+/// Writes a whole text.
+fn write<W: Sink>(text: &str, sink: &mut W) -> Result<(), AnswerFault>
+    ensures { OnOk result (Delivers (W.taken sink.old) (W.taken sink.new) text.now) }
+{
+    Ok(deliver(sink, text.as_bytes())?)
 }
 
 fn summary(alloc: Global, importer: &Importer<Global>) -> Result<String, AllocError>
@@ -72,11 +86,37 @@ fn append_products(
     codes: &[ProductCode],
     text: &mut String,
 ) -> Result<(), AllocError>
-    ensures { OnOk result (string_bytes text.new ≡ string_bytes text.old ++ flat_map (reports.product_line shard.now) codes.now) }
+    ensures { OnOk result (string_bytes text.new ≡ string_bytes text.old ++ flat_map (told.product_line shard.now) codes.now) }
 {
     for code in codes {
         let line = product_line(alloc, shard, code)?;
         text.push_str(&line)?;
+    }
+    Ok(())
+}
+
+/// The reports of all product codes that the entries name.
+fn reports(alloc: Global, shard: &Shard<Global>) -> Result<String, AllocError>
+    ensures { IfOk result (λ text. string_bytes text ≡ answers.reports_text shard.now) }
+{
+    let mut text = String::new(alloc);
+    let codes = codes_named(alloc, shard.trail())?;
+    append_reports(alloc, shard, codes.as_slice(), &mut text)?;
+    Ok(text)
+}
+
+/// Puts the reports of product codes at the end of a text.
+fn append_reports(
+    alloc: Global,
+    shard: &Shard<Global>,
+    codes: &[ProductCode],
+    text: &mut String,
+) -> Result<(), AllocError>
+    ensures { OnOk result (string_bytes text.new ≡ string_bytes text.old ++ flat_map (told.report_text shard.now) codes.now) }
+{
+    for code in codes {
+        let told = report(alloc, shard, code)?;
+        text.push_str(&told)?;
     }
     Ok(())
 }

@@ -1,4 +1,5 @@
 //! Why nothing is told of an export.
+use nmvs_inspect::AnswerFault;
 use nmvs_protocol::reply_text;
 use nmvs_record::{Finding, Objection};
 use nmvs_rules::Reply;
@@ -7,9 +8,10 @@ use std::alloc::{AllocError, Global};
 /// Why nothing is told of an export.
 #[derive(Clone, Copy, Debug, PartialEq, Eq)]
 pub(crate) enum InspectFault {
-    Memory,
     /// It is no export of a lawful trail, or was not read to its end.
     Found(Finding),
+    /// It is lawful, and the answer was not told to its end.
+    Answer(AnswerFault),
 }
 
 /// The text of a fault, without LF (own).
@@ -19,7 +21,7 @@ pub(crate) enum InspectFault {
 /// There is no memory for the text.
 pub(crate) fn fault_text(alloc: Global, fault: &InspectFault) -> Result<String, AllocError> {
     match fault {
-        InspectFault::Memory => String::from_str(alloc, "out of memory"),
+        InspectFault::Answer(fault) => format!(in alloc; "{fault}"),
         InspectFault::Found(Finding::Line(number, objection)) => {
             line_text(alloc, *number, objection)
         }

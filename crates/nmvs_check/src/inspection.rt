@@ -1,38 +1,41 @@
 //! The check of an export.
-ghost use Rattle.std.specs.Prelude.{◌≡◌, false, string_bytes, IfOk, IfErr};
+ghost use Rattle.std.specs.Prelude.{◌≡◌, false, OnOk, IfErr};
 ghost use Rattle.nmvs_record.specs.declared.finding.Finding.{Finding as AFinding};
 ghost use Rattle.nmvs_record.specs.Lines.{Imported};
 ghost use Rattle.nmvs_record.specs.Import.{Imports, FailsToImport};
 ghost use Rattle.nmvs_check.specs.Answers as answers;
 
-use crate::answers::answer_text;
+use crate::answers::tell;
 use crate::inspect_fault::InspectFault;
 use crate::request::Request;
 use nmvs_record::examine;
-use nmvs_stream::Source;
+use nmvs_stream::{Sink, Source};
 use std::alloc::Global;
 
-/// Reads an export to its end, and gives the text that is told of it.
+/// Reads an export to its end, and tells what is asked of it.
 ///
 /// # Errors
 ///
-/// What was found where the input is no export of a lawful trail, or so many reads did not reach its end; or out of
-/// memory.
-pub(crate) fn inspect<R: Source>(
+/// What was found where the input is no export of a lawful trail, or so many reads did not reach its end, and then
+/// nothing is told; out of memory; or the answer cannot be written.
+pub(crate) fn inspect<R: Source, W: Sink>(
     alloc: Global,
     source: &mut R,
+    sink: &mut W,
     request: &Request,
     reads: u64,
-) -> Result<String, InspectFault>
+) -> Result<(), InspectFault>
     requires source_open { (R.told source.old).ended ≡ false }
-    ensures lawful { IfOk result (λ text. (it : Imported) × Imports (R.told source.old) (R.told source.new) it × (string_bytes text ≡ answers.answer_text it request.now)) }
-    ensures found { IfErr result (λ fault. (finding : AFinding) → fault ≡ InspectFault.Found finding → FailsToImport (R.told source.old) (R.told source.new) reads finding) }
+    ensures lawful { OnOk result ((it : Imported) × Imports (R.told source.old) (R.told source.new) it
+        × answers.Tells it request.now (W.taken sink.old) (W.taken sink.new)) }
+    ensures found { IfErr result (λ fault. (finding : AFinding) → fault ≡ InspectFault.Found finding
+        → FailsToImport (R.told source.old) (R.told source.new) reads finding × (W.taken sink.new ≡ W.taken sink.old)) }
 {
     match examine(alloc, alloc, source, reads) {
         Err(finding) => Err(InspectFault::Found(finding)),
-        Ok(importer) => match answer_text(alloc, &importer, request) {
-            Ok(text) => Ok(text),
-            Err(_) => Err(InspectFault::Memory),
+        Ok(importer) => match tell(alloc, &importer, request, sink) {
+            Ok(()) => Ok(()),
+            Err(fault) => Err(InspectFault::Answer(fault)),
         },
     }
 }

@@ -1,9 +1,9 @@
 //! The program that checks an export, for whoever has one and nothing else.
 #![tactic(auto)]
 
-ghost use Rattle.std.specs.Prelude.{◌≡◌, false};
-
 mod answers;
+mod filters;
+mod inputs;
 mod inspect_fault;
 mod inspection;
 mod options;
@@ -11,14 +11,15 @@ mod request;
 #[cfg(test)]
 mod tests;
 
+use crate::inputs::{InputFault, Inputs};
 use crate::inspect_fault::fault_text;
 use crate::inspection::inspect;
 use crate::options::{OptionFault, Options, read_options};
-use nmvs_stream::{Device, Source};
+use nmvs_stream::Device;
 use std::alloc::{AllocError, Global};
 use std::process::ExitCode;
 use std::rt::Env;
-use std::{env, fs, io};
+use std::{env, io};
 
 /// The most reads of an export.
 const READS: u64 = 1_000_000_000;
@@ -50,24 +51,14 @@ fn words<R: Env + AllocGlobal>(rt: &R) -> io::Result<Vec<String>> {
 
 /// Checks the export that the options name, tells the answer or the fault, and gives the status.
 fn check(rt: &HostRuntime, alloc: Global, options: &Options) -> ExitCode {
-    match &options.file {
-        None => tell(rt, alloc, &mut Device::new(rt.stdin()), options),
-        Some(path) => match fs::open(rt, path) {
-            Ok(file) => tell(rt, alloc, &mut Device::new(file), options),
-            Err(_) => fail(rt, "the file cannot be opened"),
-        },
-    }
-}
-
-/// Tells what is asked of an export or the fault, and gives the status.
-fn tell<S: Source>(rt: &HostRuntime, alloc: Global, source: &mut S, options: &Options) -> ExitCode
-    requires source_open { (S.told source.old).ended ≡ false }
-{
-    match inspect(alloc, source, &options.request, READS) {
-        Ok(text) => match print!(rt; "{text}") {
-            Ok(()) => ExitCode::SUCCESS,
-            Err(_) => fail(rt, "the answer cannot be written"),
-        },
+    let inputs = match Inputs::open(rt, alloc, &options.files) {
+        Ok(inputs) => inputs,
+        Err(InputFault::Closed) => return fail(rt, "the file cannot be opened"),
+        Err(InputFault::Memory) => return fail(rt, "out of memory"),
+    };
+    let (mut source, mut sink) = (Device::new(inputs), Device::new(rt.stdout()));
+    match inspect(alloc, &mut source, &mut sink, &options.request, READS) {
+        Ok(()) => ExitCode::SUCCESS,
         Err(fault) => match fault_text(alloc, &fault) {
             Ok(text) => fail(rt, &text),
             Err(AllocError) => fail(rt, "out of memory"),

@@ -1,15 +1,17 @@
 //! The command line.
+use crate::filters::{filter_of, flag, form_of, with_filter, with_form};
 use crate::request::Request;
 use clap::error::ErrorKind;
 use clap::{Arg, ArgMatches, Command, Error};
 use nmvs_identifier::{Pack, ProductCode, Serial};
+use nmvs_inspect::Form;
 use std::alloc::{AllocError, Global};
 
 /// A command line that was taken (own).
-#[derive(Debug, Drop)]
+#[derive(Drop)]
 pub(crate) struct Options {
-    /// Path of the export; standard input where there is none.
-    pub file: Option<String>,
+    /// Paths of the files that are the export, one after another; `-` is standard input, as where there is none.
+    pub files: Vec<String>,
     pub request: Request,
 }
 
@@ -19,7 +21,7 @@ pub(crate) enum OptionFault {
     Memory,
     /// The line is refused, with the text that says why.
     Refused(String),
-    /// The line asks for help, with its text.
+    /// The line asks for help or the version, with its text.
     Help(String),
 }
 
@@ -32,11 +34,18 @@ impl From<AllocError> for OptionFault {
 const ABOUT: &str =
     "Checks an export of a medicines verification repository: reads it line by line, and judges each stored reply again \
     by the rules. Of a lawful export it tells LAWFUL, the number of lines, how many of them are of which version, and \
-    a line for each product code.";
+    a line for each product code, or what a command asks.";
 
 const STATUS: &str =
     "The status is 0 where the export is lawful, 1 where it is not or cannot be read, with the reason on standard \
-    error, and 2 where the command line is refused.";
+    error, and 2 where the command line is refused. Nothing is told of an export that is not lawful. Of a compressed \
+    export: gunzip -c export.gz | nmvs-check list -";
+
+const VERSION: &str = "1 (reads entry lines of versions 1 and 2)";
+
+const REPORT: &str = "Tells the reports of product codes, in order of first appearance";
+
+const LIST: &str = "Lists the entries that pass all tests, oldest first";
 
 /// The options of the words after the program's own name.
 ///
@@ -54,9 +63,6 @@ pub(crate) fn read_options(alloc: Global, words: &[String]) -> Result<Options, O
 }
 
 fn command<'a>(alloc: Global) -> Result<Command<'a>, AllocError> {
-    let file = Arg::new(alloc, "file")
-        .value_name("FILE")
-        .help("The export; standard input where no file is named");
     let report = Arg::new(alloc, "report")
         .long("report")
         .value_name("CODE")
@@ -70,18 +76,71 @@ fn command<'a>(alloc: Global) -> Result<Command<'a>, AllocError> {
     Command::new(alloc, "nmvs-check")
         .about(ABOUT)
         .after_help(STATUS)
-        .arg(file)?
+        .version(VERSION)
+        .arg(files(alloc))?
         .arg(report)?
-        .arg(audit)
+        .arg(audit)?
+        .subcommand(list(alloc)?)?
+        .subcommand(reports(alloc)?)
+}
+
+fn files<'a>(alloc: Global) -> Arg<'a> {
+    Arg::new(alloc, "files")
+        .value_name("FILE")
+        .num_args(0..)
+        .help(
+            "The files of the export, one after another; standard input where there is none, and where it is -",
+        )
+}
+
+fn list<'a>(alloc: Global) -> Result<Command<'a>, AllocError> {
+    let json = flag(alloc, "json", "As entry lines, which an export has too").conflicts_with(
+        "csv",
+    )?;
+    let command = Command::new(alloc, "list").about(LIST).arg(files(alloc))?;
+    with_form(alloc, with_filter(alloc, command)?)?.arg(json)
+}
+
+fn reports<'a>(alloc: Global) -> Result<Command<'a>, AllocError> {
+    let all = flag(alloc, "all", "Of every product code that some line names").required(true);
+    Command::new(alloc, "report")
+        .about(REPORT)
+        .arg(all)?
+        .arg(files(alloc))
 }
 
 fn options_of(alloc: Global, matches: &ArgMatches<'_>) -> Result<Options, OptionFault> {
-    let file = match matches.get_str("file") {
-        Some(path) => Some(String::from_str(alloc, path)?),
-        None => None,
-    };
-    let request = request_of(alloc, matches)?;
-    Ok(Options { file, request })
+    match matches.subcommand() {
+        Some(("list", asked)) => {
+            let form = if asked.get_flag("json") {
+                Form::Json
+            } else {
+                form_of(asked)
+            };
+            Ok(Options {
+                files: files_of(alloc, asked)?,
+                request: Request::List(filter_of(alloc, asked)?, form),
+            })
+        }
+        Some(("report", asked)) => Ok(Options {
+            files: files_of(alloc, asked)?,
+            request: Request::Reports,
+        }),
+        _ => Ok(Options {
+            files: files_of(alloc, matches)?,
+            request: request_of(alloc, matches)?,
+        }),
+    }
+}
+
+fn files_of(alloc: Global, matches: &ArgMatches<'_>) -> Result<Vec<String>, AllocError> {
+    let mut files = Vec::new(alloc);
+    if let Some(paths) = matches.get_strs("files") {
+        for path in paths {
+            files.push(String::from_str(alloc, path)?)?;
+        }
+    }
+    Ok(files)
 }
 
 fn request_of(alloc: Global, matches: &ArgMatches<'_>) -> Result<Request, OptionFault> {
@@ -123,7 +182,7 @@ fn fault_of(alloc: Global, error: &Error) -> OptionFault {
         return OptionFault::Memory;
     };
     match error.kind() {
-        ErrorKind::DisplayHelp => OptionFault::Help(text),
+        ErrorKind::DisplayHelp | ErrorKind::DisplayVersion => OptionFault::Help(text),
         _ => OptionFault::Refused(text),
     }
 }

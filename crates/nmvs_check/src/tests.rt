@@ -3,7 +3,9 @@ use crate::inspection::inspect;
 use crate::options::{OptionFault, Options, read_options};
 use crate::request::Request;
 use nmvs_identifier::{Pack, ProductCode, Serial};
+use nmvs_inspect::{Filter, Form};
 use nmvs_stream::Device;
+use nmvs_words::ReplyKind;
 use std::alloc::{AllocError, Global};
 use std::process::Abort;
 use std::rt::HostRuntime;
@@ -21,8 +23,13 @@ const EXPORT: &str =
 
 /// What is told of these bytes, or why nothing is.
 fn told(alloc: Global, export: &str, asked: &Request) -> Result<String, AllocError> {
-    match inspect(alloc, &mut Device::new(export.as_bytes()), asked, 1_000) {
-        Ok(text) => Ok(text),
+    let mut bytes = Vec::new(alloc);
+    let mut source = Device::new(export.as_bytes());
+    let mut sink = Device::new(&mut bytes);
+    let inspected = inspect(alloc, &mut source, &mut sink, asked, 1_000);
+    drop(sink);
+    match inspected {
+        Ok(()) => String::from_utf8_lossy(alloc, &bytes),
         Err(fault) => fault_text(alloc, &fault),
     }
 }
@@ -137,6 +144,29 @@ fn what_is_wrong_with_a_line_is_told(rt: HostRuntime) -> Result<(), Fail> {
     Ok(())
 }
 
+/// The alerts, as docs/INSPECTING.md lists them.
+const ALERTS: &str = "\
+moment              user     role         authorisation premises question code           serial               batch    reply
+2026-01-01 00:00:00 ph1      PHARMACY     PH-1          P1       VERIFY   09506000134352 SN1                           ALERT RECALLED UNFLAGGED 1
+";
+
+#[test]
+fn entries_are_listed(rt: HostRuntime) -> Result<(), Fail> {
+    let alerts = Filter {
+        reply: Some(ReplyKind::Alert),
+        ..Filter::new()
+    };
+    let text = told(rt.alloc(), EXPORT, &Request::List(alerts, Form::Table))?;
+    assert_eq!(rt; text.as_str(), ALERTS);
+    let text = told(
+        rt.alloc(),
+        EXPORT,
+        &Request::List(Filter::new(), Form::Json),
+    )?;
+    assert_eq!(rt; text.as_str(), EXPORT);
+    Ok(())
+}
+
 /// The options of a line of words, which single spaces part.
 fn options(alloc: Global, line: &str) -> Result<Result<Options, OptionFault>, AllocError> {
     let mut words = Vec::new(alloc);
@@ -146,6 +176,16 @@ fn options(alloc: Global, line: &str) -> Result<Result<Options, OptionFault>, Al
     Ok(read_options(alloc, &words))
 }
 
+/// Whether the same is asked.
+fn is_same(asked: &Request, wanted: &Request) -> bool {
+    match (asked, wanted) {
+        (Request::Summary, Request::Summary) => true,
+        (Request::Report(asked), Request::Report(wanted)) => asked == wanted,
+        (Request::Audit(asked), Request::Audit(wanted)) => asked == wanted,
+        _ => false,
+    }
+}
+
 #[test]
 fn a_command_line_is_taken(rt: HostRuntime) -> Result<(), Fail> {
     let code = code(&rt);
@@ -153,19 +193,17 @@ fn a_command_line_is_taken(rt: HostRuntime) -> Result<(), Fail> {
         code,
         serial: serial(&rt, "SN1"),
     };
-    for (line, request) in [
-        ("export", Request::Summary),
-        ("--report 09506000134352 export", Request::Report(code)),
-        ("export --audit 09506000134352 SN1", Request::Audit(pack)),
+    for (line, request, files) in [
+        ("export", Request::Summary, 1),
+        ("export -", Request::Summary, 2),
+        ("--report 09506000134352 export", Request::Report(code), 1),
+        ("export --audit 09506000134352 SN1", Request::Audit(pack), 1),
     ] {
         let Ok(options) = options(rt.alloc(), line)? else {
             panic!(rt; "{line} is refused");
         };
-        assert!(rt; options.request == request, "{line}");
-        assert!(rt;
-            options.file.is_some_and(|path| path.as_str() == "export"),
-            "{line}"
-        );
+        assert!(rt; is_same(&options.request, &request), "{line}");
+        assert_eq!(rt; options.files.len(), files, "{line}");
     }
     Ok(())
 }
@@ -173,7 +211,10 @@ fn a_command_line_is_taken(rt: HostRuntime) -> Result<(), Fail> {
 #[test]
 fn a_command_line_is_refused(rt: HostRuntime) -> Result<(), Fail> {
     for line in [
-        "one two",
+        "list --from 2026-1-1",
+        "list --role DOCTOR",
+        "list --word LOCKED",
+        "list --csv --json",
         "--report",
         "--report 09506000134353",
         "--audit 09506000134352",

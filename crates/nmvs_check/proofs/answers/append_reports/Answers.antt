@@ -1,0 +1,16 @@
+use Rattle.std.proofs.Common.{◌++◌, ◌∙◌, List, ℕ, take, get_or, string_bytes, sym, ap, ap₂, append_assoc}
+use Rattle.std.specs.List.{flat_map}
+use Rattle.nmvs_record.specs.Report.{report_text}
+use Rattle.nmvs_check.proofs.AnswerLemmas.{lines-next}
+use Rattle.nmvs_check.proofs.answers.append_reports.Goals as goal
+
+pub loop-code-preserved : goal.loop-code-preserved
+loop-code-preserved c =
+    let t = c.args.shard.now in
+    let cs = c.args.codes.now in
+    let i = c.loop-code.code-index in
+    let front = flat_map (report_text t) (take i cs) in
+    c.in_ok-push_str.ensures.bytes
+    ∙ ap₂ (λ (x y : List ℕ). x ++ y) c.loop-code.invariant (c.deref.ensures ∙ c.in_ok-told.ensures ∙ ap (report_text t) c.code-item.is)
+    ∙ append_assoc (string_bytes c.args.text.now) front (report_text t (get_or cs i c.code-item.result))
+    ∙ ap (λ (x : List ℕ). string_bytes c.args.text.now ++ x) (sym (lines-next (report_text t) cs i c.code-item.result c.loop-code-test.true))

@@ -1,0 +1,215 @@
+//! The options of the command line that say which entries are wanted.
+use crate::options::OptionFault;
+use clap::{Arg, ArgAction, ArgMatches, Command};
+use jiff::civil::Date;
+use nmvs_identifier::{Batch, Name, ProductCode, Serial};
+use nmvs_inspect::{Filter, Form, read_date};
+use nmvs_rules::Role;
+use nmvs_words::{QuestionKind, ReplyKind, role_named};
+use std::alloc::{AllocError, Global};
+
+/// The options that take a value: name, value and help.
+const VALUES: [(&str, &str, &str); 11] = [
+    (
+        "from",
+        "DATE",
+        "Entries of this day or later, as 2026-01-31, by UTC",
+    ),
+    ("to", "DATE", "Entries of this day or earlier, by UTC"),
+    ("user", "NAME", "Entries of this user"),
+    ("role", "ROLE", "Entries of users in this role, as PHARMACY"),
+    ("authorisation", "NAME", "Entries under this authorisation"),
+    ("premises", "NAME", "Entries at these premises"),
+    ("code", "CODE", "Entries about this product code"),
+    (
+        "serial",
+        "SERIAL",
+        "Entries about packs with this serial number",
+    ),
+    (
+        "batch",
+        "BATCH",
+        "Entries that name this batch, or a pack that was uploaded in it",
+    ),
+    ("word", "WORD", "Questions of this kind, as SUPPLY"),
+    (
+        "reply",
+        "WORD",
+        "Entries whose reply begins with this word, as ALERT",
+    ),
+];
+
+/// A command with the options of a filter and of a form.
+pub(crate) fn with_filter<'a>(
+    alloc: Global,
+    command: Command<'a>,
+) -> Result<Command<'a>, AllocError> {
+    let mut command = command;
+    for (name, value, help) in VALUES {
+        let option = Arg::new(alloc, name)
+            .long(name)
+            .value_name(value)
+            .help(help);
+        command = command.arg(option)?;
+    }
+    let flagged = flag(
+        alloc,
+        "flagged",
+        "Alerts flagged as potential falsifications alone",
+    );
+    let refused = flag(alloc, "refused", "Refused questions alone");
+    command.arg(flagged)?.arg(refused)
+}
+
+/// A command with the options of a form.
+pub(crate) fn with_form<'a>(
+    alloc: Global,
+    command: Command<'a>,
+) -> Result<Command<'a>, AllocError> {
+    let csv = flag(alloc, "csv", "As CSV, with a header");
+    command.arg(csv)
+}
+
+/// An option that takes no value.
+pub(crate) fn flag<'a>(alloc: Global, name: &'a str, help: &'a str) -> Arg<'a> {
+    Arg::new(alloc, name)
+        .long(name)
+        .action(ArgAction::SetTrue)
+        .help(help)
+}
+
+/// The form that the options name.
+pub(crate) fn form_of(matches: &ArgMatches<'_>) -> Form {
+    if matches.get_flag("csv") {
+        Form::Csv
+    } else {
+        Form::Table
+    }
+}
+
+/// The filter that the options name.
+pub(crate) fn filter_of(alloc: Global, matches: &ArgMatches<'_>) -> Result<Filter, OptionFault> {
+    Ok(Filter {
+        from: date(alloc, matches, "from")?,
+        to: date(alloc, matches, "to")?,
+        user: name(alloc, matches, "user")?,
+        role: role(alloc, matches)?,
+        authorisation: name(alloc, matches, "authorisation")?,
+        premises: name(alloc, matches, "premises")?,
+        code: code(alloc, matches, "code")?,
+        serial: serial(alloc, matches, "serial")?,
+        batch: batch(alloc, matches, "batch")?,
+        question: question(alloc, matches)?,
+        reply: reply(alloc, matches)?,
+        flagged: matches.get_flag("flagged"),
+        refused: matches.get_flag("refused"),
+    })
+}
+
+fn date(
+    alloc: Global,
+    matches: &ArgMatches<'_>,
+    option: &str,
+) -> Result<Option<Date>, OptionFault> {
+    let Some(text) = matches.get_str(option) else {
+        return Ok(None);
+    };
+    match read_date(alloc, text)? {
+        Some(date) => Ok(Some(date)),
+        None => Err(refused(alloc, text, "date as 2026-01-31")),
+    }
+}
+
+fn name(
+    alloc: Global,
+    matches: &ArgMatches<'_>,
+    option: &str,
+) -> Result<Option<Name>, OptionFault> {
+    let Some(text) = matches.get_str(option) else {
+        return Ok(None);
+    };
+    match Name::read(text) {
+        Ok(name) => Ok(Some(name)),
+        Err(_) => Err(refused(alloc, text, "name")),
+    }
+}
+
+pub(crate) fn code(
+    alloc: Global,
+    matches: &ArgMatches<'_>,
+    option: &str,
+) -> Result<Option<ProductCode>, OptionFault> {
+    let Some(text) = matches.get_str(option) else {
+        return Ok(None);
+    };
+    match ProductCode::read(text) {
+        Ok(code) => Ok(Some(code)),
+        Err(_) => Err(refused(alloc, text, "product code")),
+    }
+}
+
+fn serial(
+    alloc: Global,
+    matches: &ArgMatches<'_>,
+    option: &str,
+) -> Result<Option<Serial>, OptionFault> {
+    let Some(text) = matches.get_str(option) else {
+        return Ok(None);
+    };
+    match Serial::read(text) {
+        Ok(serial) => Ok(Some(serial)),
+        Err(_) => Err(refused(alloc, text, "serial number")),
+    }
+}
+
+pub(crate) fn batch(
+    alloc: Global,
+    matches: &ArgMatches<'_>,
+    option: &str,
+) -> Result<Option<Batch>, OptionFault> {
+    let Some(text) = matches.get_str(option) else {
+        return Ok(None);
+    };
+    match Batch::read(text) {
+        Ok(batch) => Ok(Some(batch)),
+        Err(_) => Err(refused(alloc, text, "batch")),
+    }
+}
+
+fn role(alloc: Global, matches: &ArgMatches<'_>) -> Result<Option<Role>, OptionFault> {
+    let Some(text) = matches.get_str("role") else {
+        return Ok(None);
+    };
+    match role_named(text) {
+        Some(role) => Ok(Some(role)),
+        None => Err(refused(alloc, text, "role")),
+    }
+}
+
+fn question(alloc: Global, matches: &ArgMatches<'_>) -> Result<Option<QuestionKind>, OptionFault> {
+    let Some(text) = matches.get_str("word") else {
+        return Ok(None);
+    };
+    match QuestionKind::named(text) {
+        Some(kind) => Ok(Some(kind)),
+        None => Err(refused(alloc, text, "word of a question")),
+    }
+}
+
+fn reply(alloc: Global, matches: &ArgMatches<'_>) -> Result<Option<ReplyKind>, OptionFault> {
+    let Some(text) = matches.get_str("reply") else {
+        return Ok(None);
+    };
+    match ReplyKind::named(text) {
+        Some(kind) => Ok(Some(kind)),
+        None => Err(refused(alloc, text, "word of a reply")),
+    }
+}
+
+/// Why a value is refused.
+fn refused(alloc: Global, text: &str, wanted: &str) -> OptionFault {
+    match format!(in alloc; "error: '{text}' is no {wanted}\n") {
+        Ok(text) => OptionFault::Refused(text),
+        Err(_) => OptionFault::Memory,
+    }
+}

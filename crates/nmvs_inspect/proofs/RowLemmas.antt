@@ -1,0 +1,51 @@
+-- Rows, cell by cell.
+use Rattle.std.proofs.Common.{◌≡◌, ◌≢◌, ◌∙◌, ap, sym, arith, ℕ, ◌+◌, ◌<◌, ◌≤◌, List, [], ◌∷◌, ◌++◌, append_assoc, length, drop, map, get_or, slice_index, Bor, length-drop, refl}
+use Rattle.std.proofs.lemmas.Bool.Decides.{nat_tests}
+use Rattle.std.proofs.lemmas.List.{at_drop_more, at_drop_all, length-map}
+use Rattle.nmvs_inspect.specs.Rows.{Dated, filled, ending, table_from, row, header, columns, cells, entry_text}
+use Rattle.nmvs_inspect.specs.declared.form.Form.{Form}
+use Rattle.nmvs_inspect.specs.declared.form.Form.TheVariants as form
+
+abbrev pub texts : List (Bor (List ℕ)) → List (List ℕ)
+texts xs = map (λ c. c.now) xs
+
+-- LF follows the last cell, and a blank each other
+pub ending-last : (xs : List (Bor (List ℕ))) (i : ℕ) → i + 1 ≡ length xs → ending (texts (drop (i + 1) xs)) ≡ 10
+ending-last xs i e =
+    let n = length-map (drop (i + 1) xs) (λ (c : Bor (List ℕ)). c.now) in
+    let m = length-drop (i + 1) xs in
+    grind (arith, nat_tests)
+
+pub ending-more : (xs : List (Bor (List ℕ))) (i : ℕ) → i + 1 ≢ length xs → i < length xs → ending (texts (drop (i + 1) xs)) ≡ 32
+ending-more xs i e l =
+    let n = length-map (drop (i + 1) xs) (λ (c : Bor (List ℕ)). c.now) in
+    let m = length-drop (i + 1) xs in
+    grind (arith, nat_tests)
+
+-- one cell more in a table's row
+pub table-step : (ws : List ℕ) (xs : List (Bor (List ℕ))) (i : ℕ) (d : Bor (List ℕ)) (block with_cell new whole : List ℕ) (end : ℕ) → i < length xs
+    → block ++ table_from ws i (texts (drop i xs)) ≡ whole → with_cell ≡ block ++ filled (slice_index ws i) (get_or xs i d).now → new ≡ with_cell ++ end ∷ []
+    → end ≡ ending (texts (drop (i + 1) xs)) → new ++ table_from ws (i + 1) (texts (drop (i + 1) xs)) ≡ whole
+unfolding table_from
+table-step ws xs i d block with_cell new whole end l inv cell put e =
+    let rest = table_from ws (i + 1) (texts (drop (i + 1) xs)) in
+    let f = filled (slice_index ws i) (get_or xs i d).now in
+    ap (λ (x : List ℕ). x ++ rest) put ∙ append_assoc with_cell (end ∷ []) rest ∙ ap (λ (x : List ℕ). x ++ end ∷ rest) cell
+    ∙ append_assoc block f (end ∷ rest) ∙ ap (λ (k : ℕ). block ++ (f ++ k ∷ rest)) e
+    ∙ ap (λ (x : List ℕ). block ++ x) (sym (at_drop_more (λ ys. table_from ws i (texts ys)) xs i d l)) ∙ inv
+
+-- the row is whole behind its last cell
+pub table-end : (ws : List ℕ) (xs : List (Bor (List ℕ))) (i : ℕ) → length xs ≤ i → table_from ws i (texts (drop i xs)) ≡ []
+unfolding table_from
+table-end ws xs i l = at_drop_all (λ ys. table_from ws i (texts ys)) xs i l
+
+-- a form with rows has a header row, and a row for each entry
+pub header-row : (f : Form) → f ≢ form.Json → header f ≡ row f columns
+header-row form.Json n = absurd (n refl)
+header-row form.Csv n = refl
+header-row form.Table n = refl
+
+pub entry_text-row : (f : Form) (d : Dated) → f ≢ form.Json → entry_text f d ≡ row f (cells d)
+entry_text-row form.Json d n = absurd (n refl)
+entry_text-row form.Csv d n = refl
+entry_text-row form.Table d n = refl

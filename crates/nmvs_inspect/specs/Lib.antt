@@ -1,0 +1,3 @@
+pub mod Filter
+pub mod Rows
+pub mod Gathering

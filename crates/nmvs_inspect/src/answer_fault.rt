@@ -1,0 +1,24 @@
+use nmvs_stream::Failed;
+use std::alloc::AllocError;
+use thiserror::Error;
+
+/// Why an answer was not written to its end.
+#[derive(Clone, Copy, Debug, PartialEq, Eq, Error)]
+pub enum AnswerFault {
+    #[error("out of memory")]
+    Memory,
+    #[error("the answer cannot be written")]
+    Write,
+}
+
+impl From<AllocError> for AnswerFault {
+    fn from(_: AllocError) -> AnswerFault {
+        AnswerFault::Memory
+    }
+}
+
+impl From<Failed> for AnswerFault {
+    fn from(_: Failed) -> AnswerFault {
+        AnswerFault::Write
+    }
+}

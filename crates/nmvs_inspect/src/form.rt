@@ -1,0 +1,10 @@
+/// In what form rows are written (own).
+#[derive(Clone, Copy, Debug, PartialEq, Eq)]
+pub enum Form {
+    /// For people: cells in columns.
+    Table,
+    /// RFC 4180, with a header.
+    Csv,
+    /// Entry lines, as an export has them.
+    Json,
+}
