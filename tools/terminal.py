@@ -1,4 +1,4 @@
-"""A terminal in 30 lines: it puts lines to the repository and reads their replies."""
+"""A terminal in 40 lines: it puts lines to the repository and reads their replies."""
 import socket
 
 
@@ -11,7 +11,11 @@ class Terminal:
         self.replies = self.connection.makefile("r", encoding="ascii", newline="\n")
 
     def ask(self, line):
-        """The lines of the reply to this one. ConnectionError: the session ended, and what became of the line is unknown."""
+        """The lines of the reply to this one. ConnectionError: the session ended, and what became of the line is unknown.
+        ValueError: the line has a character that no line may have. An LF within it would be answered by one reply more, and
+        every later reply would be that of the question before."""
+        if not all(" " <= character <= "~" for character in line):
+            raise ValueError("a line has no control character, and ASCII alone")
         self.connection.sendall(line.encode("ascii") + b"\n")
         reply = [self.read()]
         word, _, number = reply[0].partition(" ")
@@ -28,4 +32,5 @@ class Terminal:
         return text[:-1]
 
     def close(self):
+        self.replies.close()
         self.connection.close()
