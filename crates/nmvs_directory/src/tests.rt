@@ -162,7 +162,7 @@ fn look_all<J: Naming>(mut window: Window<J, Global>, user: Name) -> (Window<J, 
     (window, rising)
 }
 
-/// The window saw no number fall, and shows the last once it was told.
+/// The windows saw no number fall, and show the last once they were told.
 fn look_while_publishing<J: Naming + Send + Sync, R: Threads + Wait + Abort + Sync>(
     rt: &R,
     alloc: Global,
@@ -171,17 +171,32 @@ fn look_while_publishing<J: Naming + Send + Sync, R: Threads + Wait + Abort + Sy
     requires { directory_book directory ≡ J.book }
 {
     let user = name(rt, "ph1");
-    let (registrar, mut windows) = directory.open::<J, _, _>(rt, alloc, 1).expect(rt, "memory");
-    let window = windows.pop().expect(rt, "a window");
-    let (mut registrar, (mut window, rising)) = thread::join(
+    let (registrar, mut windows) = directory.open::<J, _, _>(rt, alloc, 2).expect(rt, "memory");
+    let (one, other) = (
+        windows.pop().expect(rt, "a window"),
+        windows.pop().expect(rt, "a window"),
+    );
+    let (mut registrar, seen) = thread::join(
         rt,
         || publish_all(rt, alloc, registrar, user),
-        || look_all(window, user),
+        || thread::join(rt, || look_all(one, user), || look_all(other, user)),
     );
-    assert!(rt; rising);
-    tell(rt, &mut registrar, &mut window);
-    assert_eq!(rt; number_of(window.look(&user)), Some(100));
+    let ((mut one, one_rises), (mut other, other_rises)) = seen;
+    assert!(rt; one_rises && other_rises);
+    shows_the_last(rt, &mut registrar, &mut one, &user);
+    shows_the_last(rt, &mut registrar, &mut other, &user);
     registrar.close();
+}
+
+/// Once it was told, the window shows the last authorisation.
+fn shows_the_last<J: Naming, R: Wait + Abort>(
+    rt: &R,
+    registrar: &mut Registrar<J, &R, Global>,
+    window: &mut Window<J, Global>,
+    user: &Name,
+) {
+    tell(rt, registrar, window);
+    assert_eq!(rt; number_of(window.look(user)), Some(100));
 }
 
 #[test]
@@ -195,12 +210,14 @@ enum Call {
     Open,
     Enrol,
     Publish,
+    PublishAgain,
 }
 
 /// How many bytes of a heap are kept back until a publication was refused.
 const RESERVE: usize = 1 << 14;
 
-/// Enrols and publishes a user, and answers which call was refused. A refused publication succeeds once there is memory.
+/// Enrols and publishes a user, then suspends and publishes, and answers which call was refused. A refused publication
+/// changes no look, and succeeds once there is memory.
 fn refused_call<J: Naming, R: Wait + Abort + Sync>(
     rt: &R,
     heap: &LocalHeap,
@@ -213,22 +230,53 @@ fn refused_call<J: Naming, R: Wait + Abort + Sync>(
         return Some(Call::Open);
     };
     let mut window = windows.pop().expect(rt, "a window");
+    let refused = refused_change(rt, &mut registrar, &mut window, reserve);
+    registrar.close();
+    refused
+}
+
+/// The same over an open directory, with a reserve that is let go once a publication was refused.
+fn refused_change<'h, J: Naming, R: Wait + Abort + Sync>(
+    rt: &R,
+    registrar: &mut Registrar<J, &R, &'h LocalHeap>,
+    window: &mut Window<J, &'h LocalHeap>,
+    reserve: Vec<u8, &'h LocalHeap>,
+) -> Option<Call> {
     let (user, actor) = (name(rt, "ph1"), pharmacy(rt, "PH-1"));
     if registrar.changes.enrol(user, actor).is_err() {
-        registrar.close();
         return Some(Call::Enrol);
     }
-    let is_published = registrar.publish().is_ok();
-    drop(reserve);
-    if is_published {
-        registrar.close();
-        return None;
+    if is_published(registrar, window) {
+        // The list has room for it: it keeps that of the first change.
+        registrar.changes.suspend(user).expect(rt, "memory");
+        if is_published(registrar, window) {
+            return None;
+        }
+        drop(reserve);
+        shows(rt, window, "ph1", Look::Known(pharmacy(rt, "PH-1")));
+        tell(rt, registrar, window);
+        shows(rt, window, "ph1", Look::Suspended);
+        return Some(Call::PublishAgain);
     }
-    shows(rt, &mut window, "ph1", Look::Nobody);
-    tell(rt, &mut registrar, &mut window);
-    shows(rt, &mut window, "ph1", Look::Known(pharmacy(rt, "PH-1")));
-    registrar.close();
+    drop(reserve);
+    shows(rt, window, "ph1", Look::Nobody);
+    tell(rt, registrar, window);
+    shows(rt, window, "ph1", Look::Known(pharmacy(rt, "PH-1")));
     Some(Call::Publish)
+}
+
+/// Publishes what is pending. The window learns of it, unless it is refused.
+fn is_published<J: Naming, A: Allocator, R: Wait>(
+    registrar: &mut Registrar<J, &R, A>,
+    window: &mut Window<J, A>,
+) -> bool {
+    match registrar.publish() {
+        Ok(notice) => {
+            window.learn(&notice);
+            true
+        }
+        Err(_) => false,
+    }
 }
 
 /// Opens a directory on a heap that has room for this many times 16 bytes beside the reserve.
@@ -251,7 +299,7 @@ fn a_refused_growth_changes_nothing(rt: HostRuntime) {
             break;
         }
     }
-    let calls = [Call::Open, Call::Enrol, Call::Publish];
+    let calls = [Call::Open, Call::Enrol, Call::Publish, Call::PublishAgain];
     assert!(rt;
         met.iter()
             .copied()
