@@ -1,5 +1,5 @@
 -- A clerk that was answered, or that looked at a shard, is a clerk, and has seen more of that shard alone.
-use Rattle.std.proofs.Common.{◌≡◌, ◌≢◌, ◌<◌, ◌==◌, ℕ, zero, suc, List, [], ◌∷◌, ◌++◌, length, map, set, cond, sym, refl, ap, ◌∙◌, subst, arith, inl, inr, eq-eqb, ne_eqb, length-set, append-nil}
+use Rattle.std.proofs.Common.{◌≡◌, ◌≢◌, ◌<◌, ◌==◌, ℕ, zero, suc, List, [], ◌∷◌, ◌++◌, map, set, cond, sym, refl, ap, ◌∙◌, subst, arith, inl, inr, eq-eqb, ne_eqb, length-set, append-nil, append_assoc}
 use Rattle.std.specs.Prelude.{Some, slice_get, filter}
 use Rattle.std.proofs.lemmas.Option.{slice_get_within, same_Some}
 use Rattle.std.proofs.lemmas.List.{map-append}
@@ -14,11 +14,11 @@ use Rattle.nmvs_rules.specs.Questions.{code_of}
 use Rattle.nmvs_rules.specs.Rules.{IsLawful}
 use Rattle.nmvs_rules.proofs.LawfulLemmas.{IsLawful-push}
 use Rattle.nmvs_desk.specs.declared.ask.Receipt.{Receipt}
-use Rattle.nmvs_desk.specs.Answers.{IsAnswered, IsServed, IsShown}
+use Rattle.nmvs_desk.specs.Answers.{IsAnswered, IsServed, IsShown, OwnsOneMore}
 use Rattle.nmvs_desk.specs.Clerks.{IsTokenOf, Stands, IsClerk}
 use Rattle.nmvs_desk.specs.Placing.{shard_of, IsPlaced}
-use Rattle.nmvs_desk.specs.Settlement.{row, places_in, Rises}
-use Rattle.nmvs_desk.specs.Views.{sights_of}
+use Rattle.nmvs_desk.specs.Settlement.{row, places_in, AreOwn, Rises}
+use Rattle.nmvs_desk.specs.Views.{sights_of, places_of}
 use Rattle.nmvs_desk.proofs.Lists.{set_cases, set_same, set_other, push_cases}
 
 -- the places of one receipt more
@@ -36,18 +36,36 @@ places_else i receipts r apart =
     places_push i receipts r ∙ ap (λ b. places_in i receipts ++ map (λ (r : Receipt). r.place) (cond b (r ∷ []) [])) (ne_eqb r.shard i apart)
     ∙ append-nil (places_in i receipts)
 
--- what a token has seen stands among the sights
+-- what a token tells stands among what all tell
+token_row : {X : Type 0} (f : TokenView → List X) (tokens : List TokenView) (i : ℕ) (k : TokenView) → slice_get tokens i ≡ Some k → row (map f tokens) i ≡ f k
+token_row f [] i k h = absurd cc
+token_row f (t ∷ ts) zero k h = ap f (same_Some t k h)
+token_row f (t ∷ ts) (suc i) k h = token_row f ts i k h
+
+token_row_else : {X : Type 0} (f : TokenView → List X) (tokens : List TokenView) (i j : ℕ) (k : TokenView) → j ≢ i → row (map f (set tokens i k)) j ≡ row (map f tokens) j
+token_row_else f [] i j k apart = refl
+token_row_else f (t ∷ ts) zero zero k apart = absurd (apart refl)
+token_row_else f (t ∷ ts) zero (suc j) k apart = refl
+token_row_else f (t ∷ ts) (suc i) zero k apart = refl
+token_row_else f (t ∷ ts) (suc i) (suc j) k apart = token_row_else f ts i j k (λ e. apart (ap suc e))
+
 pub sight_of : (tokens : List TokenView) (i : ℕ) (k : TokenView) → slice_get tokens i ≡ Some k → row (sights_of tokens) i ≡ k.seen
-sight_of [] i k h = absurd cc
-sight_of (t ∷ ts) zero k h = ap (λ (x : TokenView). x.seen) (same_Some t k h)
-sight_of (t ∷ ts) (suc i) k h = sight_of ts i k h
+sight_of tokens i k h = token_row (λ (k : TokenView). k.seen) tokens i k h
 
 pub sight_else : (tokens : List TokenView) (i j : ℕ) (k : TokenView) → j ≢ i → row (sights_of (set tokens i k)) j ≡ row (sights_of tokens) j
-sight_else [] i j k apart = refl
-sight_else (t ∷ ts) zero zero k apart = absurd (apart refl)
-sight_else (t ∷ ts) zero (suc j) k apart = refl
-sight_else (t ∷ ts) (suc i) zero k apart = refl
-sight_else (t ∷ ts) (suc i) (suc j) k apart = sight_else ts i j k (λ e. apart (ap suc e))
+sight_else tokens i j k apart = token_row_else (λ (k : TokenView). k.seen) tokens i j k apart
+
+pub own_of : (tokens : List TokenView) (i : ℕ) (k : TokenView) → slice_get tokens i ≡ Some k → row (places_of tokens) i ≡ k.places
+own_of tokens i k h = token_row (λ (k : TokenView). k.places) tokens i k h
+
+own_else : (tokens : List TokenView) (i j : ℕ) (k : TokenView) → j ≢ i → row (places_of (set tokens i k)) j ≡ row (places_of tokens) j
+own_else tokens i j k apart = token_row_else (λ (k : TokenView). k.places) tokens i j k apart
+
+-- a token in place of one with the same places
+pub same_places : (tokens : List TokenView) (i : ℕ) (was now : TokenView) → slice_get tokens i ≡ Some was → now.places ≡ was.places → places_of (set tokens i now) ≡ places_of tokens
+same_places [] i was now has same = refl
+same_places (t ∷ ts) zero was now has same = ap (λ ps. ps ∷ places_of ts) (same ∙ ap (λ (k : TokenView). k.places) (sym (same_Some t was has)))
+same_places (t ∷ ts) (suc i) was now has same = ap (λ ps. t.places ∷ ps) (same_places ts i was now has same)
 
 module _ (tables : ℕ → HistoryId) (count : ℕ) (tokens : List TokenView) (receipts : List Receipt) (is : IsClerk tables count tokens receipts) (index : ℕ) (was now : TokenView) (has : slice_get tokens index ≡ Some was) where
   after_set : slice_get (set tokens index now) index ≡ Some now
@@ -80,7 +98,11 @@ module _ (tables : ℕ → HistoryId) (count : ℕ) (tokens : List TokenView) (r
         let fits : P r.entry = ap (λ (p : Put). shard_of count (code_of p.question)) served.asked ∙ sym here in
         record {
           table = ap (λ (k : TokenView). k.table) served.token ∙ own.table;
-          places = ap (λ (k : TokenView). k.places) served.token ∙ ap (λ l. l ++ r.place ∷ []) own.places ∙ sym (places_here index receipts r served.shard);
+          places = record {
+            gone = own.places.gone;
+            is = ap (λ (k : TokenView). k.places) served.token ∙ ap (λ l. l ++ r.place ∷ []) own.places.is
+                ∙ append_assoc own.places.gone (places_in index receipts) (r.place ∷ []) ∙ ap (λ l. own.places.gone ++ l) (sym (places_here index receipts r served.shard));
+          };
           lawful = subst (λ t. IsLawful t) (sym a.seen) (IsLawful-push a.trail r.entry a.next.lawful a.next.reply);
           placed = subst (λ t. IsPlaced count index t) (sym a.seen) (All-push P a.trail r.entry (subst Q served.shard a.next.placed) fits);
         }
@@ -94,7 +116,10 @@ module _ (tables : ℕ → HistoryId) (count : ℕ) (tokens : List TokenView) (r
               let apart = e.0 in
               record {
                 table = other.table;
-                places = other.places ∙ sym (places_else i receipts r (λ q. apart (sym q ∙ served.shard)));
+                places = record {
+                  gone = other.places.gone;
+                  is = other.places.is ∙ ap (λ l. other.places.gone ++ l) (sym (places_else i receipts r (λ q. apart (sym q ∙ served.shard))));
+                };
                 lawful = other.lawful;
                 placed = other.placed;
               })
@@ -140,6 +165,15 @@ module _ (tables : ℕ → HistoryId) (count : ℕ) (tokens : List TokenView) (r
       rising = rises_now;
     }
 
+    pub owns_then : OwnsOneMore (places_of tokens) (places_of (set tokens index now)) r
+    owns_then = record {
+      here =
+          let after = own_of (set tokens index now) index now after_set in
+          let more = ap (λ (k : TokenView). k.places) served.token ∙ ap (λ l. l ++ r.place ∷ []) (sym (own_of tokens index was has)) in
+          subst (λ i. row (places_of (set tokens index now)) i ≡ row (places_of tokens) i ++ r.place ∷ []) (sym served.shard) (after ∙ more);
+      others = λ i apart. own_else tokens index i now (λ e. apart (e ∙ sym served.shard));
+    }
+
     pub answered_then : IsAnswered count (row (sights_of tokens) r.shard) (row (sights_of (set tokens index now)) r.shard) r shown
     answered_then =
         let before = ap (row (sights_of tokens)) served.shard ∙ sight_of tokens index was has in
@@ -154,7 +188,7 @@ module _ (tables : ℕ → HistoryId) (count : ℕ) (tokens : List TokenView) (r
               let own = is.each index was has in
               subst (λ (p : ℕ × TokenView). IsTokenOf tables count receipts p.0 p.1) (λ j. (sym e.0 j, sym e.1 j)) (record {
                 table = ap (λ (k : TokenView). k.table) token ∙ own.table;
-                places = ap (λ (k : TokenView). k.places) token ∙ own.places;
+                places = subst (λ l. AreOwn index receipts l) (sym (ap (λ (k : TokenView). k.places) token)) own.places;
                 lawful = look.lawful;
                 placed = look.placed;
               }))

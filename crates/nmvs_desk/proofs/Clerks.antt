@@ -1,21 +1,19 @@
 -- What is true of a clerk's receipts and sights, and of a new clerk.
-use Rattle.std.proofs.Common.{◌≡◌, ◌==◌, ◌<◌, ◌∙◌, ℕ, zero, suc, List, [], ◌∷◌, refl, sym, ap, subst, arith, get_or}
-use Rattle.std.specs.Prelude.{Some, slice_get, All}
+use Rattle.std.proofs.Common.{◌≡◌, ◌<◌, ◌∙◌, ℕ, zero, suc, List, [], ◌∷◌, refl, sym, ap, subst, arith, get_or, append-nil}
+use Rattle.std.specs.Prelude.{Some, slice_get}
 use Rattle.std.proofs.lemmas.List.Elements.{All-nil}
 use Rattle.std.proofs.lemmas.Option.{slice_get-get_or}
 use Rattle.nmvs_history.specs.Views.{HistoryId, TokenView}
 use Rattle.nmvs_rules.specs.declared.entry.Entry.{Entry}
 use Rattle.nmvs_rules.specs.Questions.{code_of}
 use Rattle.nmvs_rules.specs.Rules.{IsLawful}
-use Rattle.nmvs_rules.proofs.MergeLemmas.{IsLawful-kept}
 use Rattle.nmvs_desk.specs.declared.ask.Receipt.{Receipt}
-use Rattle.nmvs_desk.specs.Clerks.{IsTokenOf, IsClerk}
-use Rattle.nmvs_desk.specs.Opening.{trail_of, AreNew, IsNew}
-use Rattle.nmvs_desk.specs.Placing.{place_of, shard_of, IsPlaced}
-use Rattle.nmvs_desk.specs.Settlement.{row, at}
-use Rattle.nmvs_desk.specs.Views.{ClerkView, sights_of}
-use Rattle.nmvs_desk.proofs.Asked.{sight_of}
-use Rattle.nmvs_desk.proofs.Dealing.{trail_of-placed}
+use Rattle.nmvs_desk.specs.Clerks.{IsClerk}
+use Rattle.nmvs_desk.specs.Opening.{AreNew, IsNew}
+use Rattle.nmvs_desk.specs.Placing.{shard_of, IsPlaced}
+use Rattle.nmvs_desk.specs.Settlement.{row, at, AreOwn}
+use Rattle.nmvs_desk.specs.Views.{ClerkView, places_of, sights_of}
+use Rattle.nmvs_desk.proofs.Asked.{sight_of, own_of}
 
 -- each receipt stands at its place
 pub stand : (tables : ℕ → HistoryId) (count : ℕ) (tokens : List TokenView) (receipts : List Receipt) → IsClerk tables count tokens receipts
@@ -38,33 +36,53 @@ lawful tables count tokens receipts is =
     all_sights (λ i t. IsLawful t × IsPlaced count i t) (λ i. (tt, All-nil (λ (e : Entry). shard_of count (code_of e.put.question) ≡ i))) tokens
     (λ i k at. ((is.each i k at).lawful, (is.each i k at).placed))
 
+-- and its receipts' places are among its own
+pub own : (tables : ℕ → HistoryId) (count : ℕ) (tokens : List TokenView) (receipts : List Receipt) → IsClerk tables count tokens receipts
+    → (i : ℕ) → i < count → AreOwn i receipts (row (places_of tokens) i)
+own tables count tokens receipts is i within =
+    let d : TokenView = record { table = tables i; seen = []; places = [] } in
+    let there = slice_get-get_or tokens i d (omega (arith, is.shards, within)) in
+    subst (λ l. AreOwn i receipts l) (sym (own_of tokens i (get_or tokens i d) there)) (is.each i (get_or tokens i d) there).places
+
+-- a clerk that let its receipts go
+pub let_go : (tables : ℕ → HistoryId) (count : ℕ) (tokens : List TokenView) (receipts : List Receipt) → IsClerk tables count tokens receipts → IsClerk tables count tokens []
+let_go tables count tokens receipts is = record {
+  shards = is.shards;
+  each = λ i k at.
+      let it = is.each i k at in
+      record { table = it.table; places = record { gone = k.places; is = sym (append-nil k.places) }; lawful = it.lawful; placed = it.placed };
+  stand = λ n r there. absurd cc;
+  rising = λ k m p q less at_k at_m same. absurd cc;
+}
+
 -- a clerk with new tokens and no receipt
-pub new_clerk : (tables : ℕ → HistoryId) (count : ℕ) (opening : List Entry) (tokens : List TokenView) → IsLawful opening → AreNew tables count opening count tokens → IsClerk tables count tokens []
-new_clerk tables count opening tokens whole new = record {
+pub new_clerk : (tables : ℕ → HistoryId) (count : ℕ) (opening : ℕ → List Entry) (tokens : List TokenView) → AreNew tables count opening count tokens → IsClerk tables count tokens []
+new_clerk tables count opening tokens new = record {
   shards = new.length;
   each = λ i k at.
-      let is = new.each i k at in
+      let it = new.each i k at in
+      let seen = ap (λ (k : TokenView). k.seen) it.is in
       record {
-        table = ap (λ (k : TokenView). k.table) is;
-        places = ap (λ (k : TokenView). k.places) is;
-        lawful = subst (λ t. IsLawful t) (sym (ap (λ (k : TokenView). k.seen) is)) (IsLawful-kept (λ c. place_of count c == i) opening whole);
-        placed = subst (λ t. IsPlaced count i t) (sym (ap (λ (k : TokenView). k.seen) is)) (trail_of-placed count i opening);
+        table = ap (λ (k : TokenView). k.table) it.is;
+        places = record { gone = []; is = ap (λ (k : TokenView). k.places) it.is };
+        lawful = subst (λ t. IsLawful t) (sym seen) it.lawful;
+        placed = subst (λ t. IsPlaced count i t) (sym seen) it.placed;
       };
   stand = λ n r there. absurd cc;
   rising = λ k m p q less at_k at_m same. absurd cc;
 }
 
--- it has seen what the opening dealt to each shard
-new_sights : (tables : ℕ → HistoryId) (count : ℕ) (opening : List Entry) (tokens : List TokenView) → AreNew tables count opening count tokens
-    → (i : ℕ) → i < count → row (sights_of tokens) i ≡ trail_of count i opening
-new_sights tables count opening tokens new i within =
-    let d : TokenView = record { table = tables i; seen = []; places = [] } in
-    let there = slice_get-get_or tokens i d (omega (arith, new.length, within)) in
-    sight_of tokens i (get_or tokens i d) there ∙ ap (λ (k : TokenView). k.seen) (new.each i (get_or tokens i d) there)
-
-pub is_new : (tables : ℕ → HistoryId) (count : ℕ) (opening : List Entry) (tokens : List TokenView) (c : ClerkView) → AreNew tables count opening count tokens
-    → c.receipts ≡ [] → c.sights ≡ sights_of tokens → IsNew count opening c
-is_new tables count opening tokens c new none sights = record {
+-- it has seen what was there of each shard, and owns no place
+pub is_new : (tables : ℕ → HistoryId) (count : ℕ) (opening : ℕ → List Entry) (tokens : List TokenView) (c : ClerkView) → AreNew tables count opening count tokens
+    → c.receipts ≡ [] → c.sights ≡ sights_of tokens → c.places ≡ places_of tokens → IsNew count opening c
+is_new tables count opening tokens c new none sights places = record {
   receipts = none;
-  sights = λ i within. ap (λ s. row s i) sights ∙ new_sights tables count opening tokens new i within;
+  sights = λ i within. ap (λ s. row s i) sights ∙ sight_of tokens i (token i) (there i within) ∙ ap (λ (k : TokenView). k.seen) (new.each i (token i) (there i within)).is;
+  places = λ i within. ap (λ s. row s i) places ∙ own_of tokens i (token i) (there i within) ∙ ap (λ (k : TokenView). k.places) (new.each i (token i) (there i within)).is;
 }
+  where
+    token : ℕ → TokenView
+    token i = get_or tokens i (record { table = tables i; seen = []; places = [] })
+
+    there : (i : ℕ) → i < count → slice_get tokens i ≡ Some (token i)
+    there i within = slice_get-get_or tokens i (record { table = tables i; seen = []; places = [] }) (omega (arith, new.length, within))

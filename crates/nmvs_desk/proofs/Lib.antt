@@ -1,7 +1,7 @@
 pub mod Lists
 pub mod Serving
 pub mod Asked
-pub mod Dealing
+pub mod Opened
 pub mod Clerks
 pub mod Places
 pub mod Noting

@@ -1,18 +1,18 @@
 -- Places of receipts: how often each is among them, and what it says where the places of all clerks are those of a trail.
-use Rattle.std.proofs.Common.{◌≡◌, ◌≢◌, ◌<◌, ◌≤◌, ◌+◌, ◌==◌, ◌⊎◌, inl, inr, ℕ, zero, suc, Bool, true, false, cond, List, [], ◌∷◌, ◌++◌, length, map, refl, sym, ap, subst, ◌∙◌, arith, eq-eqb, ne_eqb, length-append}
-use Rattle.std.specs.Prelude.{Some, slice_get, filter}
-use Rattle.std.specs.List.{count_by, sum_by, flat_map}
+use Rattle.std.proofs.Common.{◌≡◌, ◌≢◌, ◌<◌, ◌≤◌, ◌+◌, ◌==◌, inl, inr, ℕ, zero, suc, cond, List, [], ◌∷◌, length, map, refl, sym, ap, subst, ◌∙◌, arith, eq-eqb, ne_eqb, length-append}
+use Rattle.std.specs.Prelude.{All, Some, slice_get, filter}
 use Rattle.std.proofs.lemmas.Bool.{cases_lt}
 use Rattle.std.proofs.lemmas.Bool.Decides.{eqb_tells}
-use Rattle.std.proofs.lemmas.List.{length-map}
+use Rattle.std.proofs.lemmas.List.Elements.{All-head, All-tail}
 use Rattle.std.proofs.lemmas.List.Concat.{flat_map-cons}
-use Rattle.std.proofs.lemmas.List.Sums.{sum_by-cons, length-filter}
+use Rattle.std.proofs.lemmas.List.Sums.{sum_by-cons}
 use Rattle.std.proofs.lemmas.Option.{same_Some}
 use Rattle.nmvs_history.specs.Views.{times, AreBelow}
 use Rattle.nmvs_history.proofs.Sums.{times_both}
 use Rattle.nmvs_desk.specs.declared.ask.Receipt.{Receipt}
 use Rattle.nmvs_desk.specs.Closing.{all_places}
-use Rattle.nmvs_desk.specs.Settlement.{row, at, places_in, naming}
+use Rattle.nmvs_desk.specs.Settlement.{row, at, lists_of, places_in, first_places, own_places, AreOwn}
+use Rattle.nmvs_desk.specs.Views.{ClerkView}
 
 times_cons : (j k : ℕ) (ks : List ℕ) → times j (k ∷ ks) ≡ cond (k == j) 1 0 + times j ks
 times_cons j k ks = sum_by-cons (λ k. cond (k == j) 1 0) k ks
@@ -102,6 +102,12 @@ meeting_any (l ∷ ls) i j some = by (times j (places_in i l)) refl (λ more. me
         record { clerk = suc m.clerk; meets = m.meets }
     by (suc n) more rest = record { clerk = 0; meets = meeting l i j (omega (arith, more)) }
 
+-- and of one that is not met nobody has a receipt
+pub met_nowhere : (lists : List (List Receipt)) (i j c k : ℕ) (r : Receipt) → at lists c k ≡ Some r → r.shard ≡ i → r.place ≡ j → times j (all_places i lists) ≡ 0 → ⊥
+met_nowhere lists i j c k r there shard place unmet =
+    let one = subst (λ (x : ℕ × ℕ). 1 ≤ times x.1 (places_in x.0 (row lists c))) (λ n. (shard n, place n)) (met (row lists c) k r there) in
+    omega (arith, one, among_all i j lists c, unmet)
+
 -- how often all numbers below n are among some
 abbrev total : ℕ → List ℕ → ℕ
 total zero ks = 0
@@ -144,17 +150,25 @@ total_ones (suc n) ks ones = omega (arith, total_ones n ks (λ j below. ones j (
 pub as_many : (n : ℕ) (ks : List ℕ) → AreBelow n ks → length ks ≡ n
 as_many n ks below = sym (total_length n ks below.1) ∙ total_ones n ks below.0
 
--- the places of all receipts that name a shard are as many as they
-pub named : (i : ℕ) (lists : List (List Receipt)) → length (all_places i lists) ≡ naming i lists
-named i [] = refl
-named i (l ∷ ls) =
-    let len : List ℕ → ℕ = length in
+-- of the first places there are as many as entries
+pub length-first_places : (n : ℕ) → length (first_places n) ≡ n
+length-first_places zero = refl
+length-first_places (suc n) = length-append (first_places n) (n ∷ []) ∙ ap (λ m. m + 1) (length-first_places n) ∙ omega arith
+
+-- the places of the receipts in hand are among the clerks' own
+pub among_own : (i j : ℕ) (clerks : List ClerkView) → All (λ (c : ClerkView). AreOwn i c.receipts (row c.places i)) clerks
+    → times j (all_places i (lists_of clerks)) ≤ times j (own_places i clerks)
+among_own i j [] own = omega arith
+among_own i j (c ∷ cs) own =
+    let P : ClerkView → Type 0 = λ c. AreOwn i c.receipts (row c.places i) in
+    let its = All-head P c cs own in
     omega (
       arith,
-      ap len (flat_map-cons (places_in i) l ls),
-      length-append (places_in i l) (all_places i ls),
-      length-map (filter (λ (r : Receipt). r.shard == i) l) (λ (r : Receipt). r.place),
-      length-filter (λ (r : Receipt). r.shard == i) l,
-      sum_by-cons (λ receipts. count_by (λ (r : Receipt). r.shard == i) receipts) l ls,
-      named i ls,
+      ap (times j) (flat_map-cons (places_in i) c.receipts (lists_of cs)),
+      times_both j (places_in i c.receipts) (all_places i (lists_of cs)),
+      ap (times j) (flat_map-cons (λ (c : ClerkView). row c.places i) c cs),
+      times_both j (row c.places i) (own_places i cs),
+      ap (times j) its.is,
+      times_both j its.gone (places_in i c.receipts),
+      among_own i j cs (All-tail P c cs own),
     )

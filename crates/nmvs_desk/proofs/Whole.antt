@@ -1,25 +1,22 @@
 -- Once all tokens are back: each receipt stands, each place is that of one receipt, and what is noted owns the entries.
-use Rattle.std.proofs.Common.{◌≡◌, ◌<◌, ◌≤◌, ◌∙◌, inl, inr, ℕ, zero, suc, List, [], ◌∷◌, length, map, replicate, get_or, refl, sym, ap, subst, arith}
-use Rattle.std.specs.Prelude.{Some, slice_get, All}
+use Rattle.std.proofs.Common.{◌≡◌, ◌≢◌, ◌<◌, ◌≤◌, ◌+◌, ◌++◌, ◌∙◌, inl, inr, ℕ, zero, suc, List, [], ◌∷◌, length, map, replicate, refl, sym, ap, subst, arith, length-append}
+use Rattle.std.specs.Prelude.{Option, None, Some, slice_get, All}
 use Rattle.std.proofs.lemmas.Bool.{cases_lt}
 use Rattle.std.proofs.lemmas.List.{length-map, length-replicate}
 use Rattle.std.proofs.lemmas.List.Elements.{All-head, All-tail}
-use Rattle.std.proofs.lemmas.Option.{slice_get-get_or, slice_get_within, get_or_from_slice_get, slice_get-map, same_Some}
-use Rattle.std.specs.Option.{option_map}
+use Rattle.std.proofs.lemmas.Option.{slice_get_within, same_Some}
 use mathlib.Core.List.{IsPrefix}
 use Rattle.nmvs_history.specs.Views.{HistoryId, ClosingView, times, AreBelow}
-use Rattle.nmvs_history.proofs.Beginnings.{prefix_get}
+use Rattle.nmvs_history.proofs.Sums.{times_both}
 use Rattle.nmvs_rules.specs.declared.entry.Entry.{Entry}
 use Rattle.nmvs_desk.specs.declared.ask.Receipt.{Receipt}
 use Rattle.nmvs_desk.specs.declared.settled.Owner.{Owner}
-use Rattle.nmvs_desk.specs.Closing.{trails_of, seen_in, unlocked, all_places, blank_owners, HaveShape, AreNoted, AreApart, HavePlaces, AreClosing, IsSettled, IsWhole}
-use Rattle.nmvs_desk.specs.Opening.{trail_of, deal, IsOpened}
-use Rattle.nmvs_desk.specs.Settlement.{row, at, owner, lists_of, Rises, IsOwner, IsOwned}
+use Rattle.nmvs_desk.specs.Closing.{trails_of, seen_in, unlocked, all_places, blank_owners, HaveShape, AreNoted, AreApart, HavePlaces, AreClosing, IsWhole}
+use Rattle.nmvs_desk.specs.Settlement.{row, at, owner, lists_of, first_places, own_places, Rises, AreDivided, IsSettled, IsOwner, IsOwned}
 use Rattle.nmvs_desk.specs.Views.{LockedView, ClerkView, IsNumbered}
-use Rattle.nmvs_desk.proofs.Closings.{all_below}
-use Rattle.nmvs_desk.proofs.Dealing.{deal_stands, deal_rises, deal_shard}
+use Rattle.nmvs_desk.proofs.Closings.{all_begin, all_below, all_seen}
 use Rattle.nmvs_desk.proofs.Noting.{row_within}
-use Rattle.nmvs_desk.proofs.Places.{apart, meeting_any, as_many, named}
+use Rattle.nmvs_desk.proofs.Places.{apart, among_own, as_many, length-first_places, meeting_any, met_nowhere}
 
 -- what stands at a place of a list is in one of the lists
 at_within : {X : Type 0} (lists : List (List X)) (i j : ℕ) (x : X) → at lists i j ≡ Some x → i < length lists
@@ -42,73 +39,80 @@ rises_of trails [] settled c = λ k m p q less at_k at_m same. absurd cc
 rises_of trails (x ∷ xs) settled zero = (All-head (IsSettled trails) x xs settled).rising
 rises_of trails (x ∷ xs) settled (suc c) = rises_of trails xs (All-tail (IsSettled trails) x xs settled) c
 
--- and those of the opening
-of_opening : (count clerks : ℕ) (entries : List Entry) (locked : List LockedView) → 0 < count → length locked ≡ count
-    → All (IsOpened count clerks entries) locked → All (λ (h : LockedView). IsPrefix h.opening h.trail) locked
-    → IsNumbered (map (λ (h : LockedView). h.index) locked) → (n : ℕ) (r : Receipt) → slice_get (deal count entries) n ≡ Some r → at (trails_of locked) r.shard r.place ≡ Some r.entry
-of_opening count clerks entries locked some many opened begins numbered n r there =
-    let i = r.shard in
-    let d : LockedView = record { trail = []; index = 0; parts = 0; opening = []; places = [] } in
-    let inside : i < length locked = omega (arith, deal_shard count entries n r some there, many) in
-    let h = get_or locked i d in
-    let at = slice_get-get_or locked i d inside in
-    let is = opened i d inside in
-    let index : h.index ≡ i = sym (get_or_from_slice_get (map (λ (h : LockedView). h.index) locked) i h.index 0 (slice_get-map (λ (h : LockedView). h.index) locked i ∙ ap (option_map (λ (h : LockedView). h.index)) at))
-    ∙ numbered i (omega (arith, inside, length-map locked (λ (h : LockedView). h.index))) in
-    let trail : row (trails_of locked) i ≡ h.trail = get_or_from_slice_get (trails_of locked) i h.trail [] (slice_get-map (λ (h : LockedView). h.trail) locked i ∙ ap (option_map (λ (h : LockedView). h.trail)) at) in
-    let stood : slice_get h.opening r.place ≡ Some r.entry = ap (λ t. slice_get t r.place) (is.opening ∙ ap (λ j. trail_of count j entries) index) ∙ deal_stands count entries n r there in
-    ap (λ t. slice_get t r.place) trail ∙ prefix_get h.opening h.trail r.place r.entry (begins i d inside) stood
+-- their places are among the own places of the clerks
+module _ (trails : List (List Entry)) (clerks : List ClerkView) (settled : All (IsSettled trails) clerks) (opening : ℕ → List Entry) (below : (i : ℕ) → i < length trails → AreBelow (length (row trails i)) (first_places (length (opening i)) ++ own_places i clerks)) where
+  stand : (clerk number : ℕ) (r : Receipt) → at (lists_of clerks) clerk number ≡ Some r → at trails r.shard r.place ≡ Some r.entry
+  stand clerk number r there = of_clerks trails clerks settled clerk number r there
 
-pub whole : (count clerks : ℕ) (entries : List Entry) (opening : List Receipt) (locked : List LockedView) (cs : List ClerkView) → 0 < count → length locked ≡ count
-    → All (IsOpened count clerks entries) locked → All (λ (h : LockedView). IsPrefix h.opening h.trail) locked
-    → IsNumbered (map (λ (h : LockedView). h.index) locked) → opening ≡ deal count entries → All (IsSettled (trails_of locked)) cs
-    → ((i : ℕ) → i < length (trails_of locked) → AreBelow (length (row (trails_of locked) i)) (all_places i (lists_of opening cs))) → IsWhole (trails_of locked) (lists_of opening cs)
-whole count clerks entries opening locked cs some many opened begins numbered dealt settled below = record { stand = stand; rising = rising; places = places }
-  where
-    trails : List (List Entry)
-    trails = trails_of locked
+  past : (i j n : ℕ) → length trails ≤ i → times j (all_places i (lists_of clerks)) ≡ n → n ≤ 1
+  past i j zero above is = omega arith
+  past i j (suc n) above is =
+      let m = meeting_any (lists_of clerks) i j (omega (arith, is)) in
+      absurd (omega (arith, above, m.meets.shard, at_within trails _ _ _ (stand m.clerk m.meets.number m.meets.receipt m.meets.is)))
 
-    lists : List (List Receipt)
-    lists = lists_of opening cs
+  within_once : (i j : ℕ) → i < length trails → times j (all_places i (lists_of clerks)) ≤ 1
+  within_once i j within =
+      let among = among_own i j clerks (λ k d less. (settled k d less).own i within) in
+      let both = times_both j (first_places (length (opening i))) (own_places i clerks) in
+      elim (cases_lt j (length (row trails i))) [
+        | inl less ↦ omega (arith, among, both, (below i within).0 j less)
+        | inr above ↦ omega (arith, among, both, (below i within).1 j above)
+      ]
 
-    stand : (clerk number : ℕ) (r : Receipt) → at lists clerk number ≡ Some r → at trails r.shard r.place ≡ Some r.entry
-    stand zero n r there = of_opening count clerks entries locked some many opened begins numbered n r (ap (λ l. slice_get l n) (sym dealt) ∙ there)
-    stand (suc c) n r there = of_clerks trails cs settled c n r there
-
-    rising : (clerk : ℕ) → Rises (row lists clerk)
-    rising zero = subst (λ l. Rises l) (sym dealt) (deal_rises count entries)
-    rising (suc c) = rises_of trails cs settled c
-
-    none : (i j n : ℕ) → length trails ≤ i → times j (all_places i lists) ≡ n → n ≡ 0
-    none i j zero past is = refl
-    none i j (suc n) past is =
-        let m = meeting_any lists i j (omega (arith, is)) in
-        absurd (omega (arith, past, m.meets.shard, at_within trails _ _ _ (stand m.clerk m.meets.number m.meets.receipt m.meets.is)))
-
-    places : (i : ℕ) → AreBelow (length (row trails i)) (all_places i lists)
-    places i =
-        elim (cases_lt i (length trails)) [
-          | inl within ↦ below i within
-          | inr past ↦ ((λ j less. absurd (omega (arith, less, ap length (row_past trails i past)))), (λ j above. none i j (times j (all_places i lists)) past refl))
-        ]
+  pub whole : IsWhole trails (lists_of clerks)
+  whole = record {
+    stand = stand;
+    rising = rises_of trails clerks settled;
+    once = λ i j. elim (cases_lt i (length trails)) [
+      | inl within ↦ within_once i j within
+      | inr above ↦ past i j (times j (all_places i (lists_of clerks))) above refl
+    ];
+  }
 
 -- what opened shards have seen once they are out of their locks
-pub seen_unlocked : (tables : ℕ → HistoryId) (locked : List LockedView) → seen_in (map (unlocked tables) locked) ≡ trails_of locked
-seen_unlocked tables [] = refl
-seen_unlocked tables (h ∷ hs) = ap (λ ts. h.trail ∷ ts) (seen_unlocked tables hs)
+pub seen_unlocked : (tables : ℕ → HistoryId) (opening : ℕ → List Entry) (locked : List LockedView) → seen_in (map (unlocked tables opening) locked) ≡ trails_of locked
+seen_unlocked tables opening [] = refl
+seen_unlocked tables opening (h ∷ hs) = ap (λ ts. h.trail ∷ ts) (seen_unlocked tables opening hs)
 
-pub whole_then : (tables : ℕ → HistoryId) (count clerks : ℕ) (entries : List Entry) (opening : List Receipt) (locked : List LockedView) (cs : List ClerkView)
-    (closings after : List ClosingView) (lists : List (List Receipt)) → 0 < count → length locked ≡ count → All (IsOpened count clerks entries) locked
-    → All (λ (h : LockedView). IsPrefix h.opening h.trail) locked → IsNumbered (map (λ (h : LockedView). h.index) locked) → opening ≡ deal count entries
-    → seen_in closings ≡ trails_of locked → AreClosing tables (seen_in closings) 9 lists after → All (λ (u : ClosingView). AreBelow (length u.seen) u.places) after
-    → lists ≡ lists_of opening cs → All (IsSettled (seen_in closings)) cs → IsWhole (trails_of locked) lists
-whole_then tables count clerks entries opening locked cs closings after lists some many opened begins numbered dealt seen closing below are settled =
-    let trails = trails_of locked in
-    let closing_there = subst (λ ts. AreClosing tables ts 9 lists after) seen closing in
-    let settled_there = subst (λ ts. All (IsSettled ts) cs) seen settled in
-    subst (λ ls. IsWhole trails ls) (sym are)
-    (whole count clerks entries opening locked cs some many opened begins numbered dealt settled_there
-    (λ i within. subst (λ ls. AreBelow (length (row trails i)) (all_places i ls)) are (all_below tables trails lists after closing_there below i within)))
+-- what is known of shards and receipts once all tokens are back
+pub record AreBack (count : ℕ) (opening : ℕ → List Entry) (locked : List LockedView) (clerks : List ClerkView) (shards : List (List Entry)) (lists : List (List Receipt)) : Type 0 where
+  pub trails : shards ≡ trails_of locked
+  pub settled : All (IsSettled shards) clerks
+  pub divided : AreDivided count opening shards clerks
+  pub whole : IsWhole (trails_of locked) lists
+
+pub are_back : (tables : ℕ → HistoryId) (count : ℕ) (opening : ℕ → List Entry) (locked : List LockedView) (clerks : List ClerkView) (closings after : List ClosingView)
+    (shards : List (List Entry)) (lists : List (List Receipt)) → length locked ≡ count → IsNumbered (map (λ (h : LockedView). h.index) locked)
+    → closings ≡ map (unlocked tables opening) locked → All (λ (h : LockedView). IsPrefix (opening h.index) h.trail) locked
+    → AreClosing tables opening (seen_in closings) 9 clerks after → All (IsSettled (seen_in closings)) clerks → lists ≡ lists_of clerks
+    → shards ≡ seen_in after → All (λ (u : ClosingView). AreBelow (length u.seen) u.places) after → AreBack count opening locked clerks shards lists
+are_back tables count opening locked clerks closings after shards lists many numbered from begin closing settled are trails below = record {
+  trails = is;
+  settled = subst (λ ts. All (IsSettled ts) clerks) (sym is) settled_there;
+  divided = subst (λ ts. AreDivided count opening ts clerks) (sym is) (record {
+    begins = λ i within. all_begin locked numbered opening begin i (omega (arith, within, many));
+    places = λ i within. below_there i (inside i within);
+    many = λ i within.
+        sym (as_many (length (row (trails_of locked) i)) (first_places (length (opening i)) ++ own_places i clerks) (below_there i (inside i within)))
+        ∙ length-append (first_places (length (opening i))) (own_places i clerks) ∙ ap (λ n. n + length (own_places i clerks)) (length-first_places (length (opening i)));
+  });
+  whole = subst (λ ls. IsWhole (trails_of locked) ls) (sym are) (whole (trails_of locked) clerks settled_there opening below_there);
+}
+  where
+    seen : seen_in closings ≡ trails_of locked
+    seen = ap seen_in from ∙ seen_unlocked tables opening locked
+
+    is : shards ≡ trails_of locked
+    is = trails ∙ all_seen tables opening (seen_in closings) 9 clerks after closing ∙ seen
+
+    settled_there : All (IsSettled (trails_of locked)) clerks
+    settled_there = subst (λ ts. All (IsSettled ts) clerks) seen settled
+
+    below_there : (i : ℕ) → i < length (trails_of locked) → AreBelow (length (row (trails_of locked) i)) (first_places (length (opening i)) ++ own_places i clerks)
+    below_there = all_below tables opening (trails_of locked) clerks after (subst (λ ts. AreClosing tables opening ts 9 clerks after) seen closing) below
+
+    inside : (i : ℕ) → i < count → i < length (trails_of locked)
+    inside i within = omega (arith, within, many, length-map locked (λ (h : LockedView). h.trail))
 
 module _ (trails : List (List Entry)) (lists : List (List Receipt)) (is : IsWhole trails lists) where
   in_trail : (c n : ℕ) (r : Receipt) → at lists c n ≡ Some r → r.place < length (row trails r.shard)
@@ -116,30 +120,36 @@ module _ (trails : List (List Entry)) (lists : List (List Receipt)) (is : IsWhol
 
   pub are_apart : AreApart lists
   are_apart c d k m p q less at_c at_d shard place =
-      apart lists c d k m p q less at_c at_d shard place (omega (arith, (is.places p.shard).0 p.place (in_trail c k p at_c)))
+      apart lists c d k m p q less at_c at_d shard place (is.once p.shard p.place)
 
-  module _ (blank : List (List Owner)) (shape : HaveShape blank trails) where
+  module _ (blank : List (List (Option Owner))) (shape : HaveShape blank trails) where
     pub have_places : HavePlaces lists blank
     have_places c n r there = omega (arith, in_trail c n r there, shape.rows r.shard)
 
-    module _ (owners : List (List Owner)) (noted : AreNoted lists (length lists) blank owners) where
-      owning : (clerk number : ℕ) (r : Receipt) → at lists clerk number ≡ Some r → at owners r.shard r.place ≡ Some (owner clerk number)
+    module _ (none : (i j : ℕ) (o : Owner) → at blank i j ≢ Some (Some o)) (owners : List (List (Option Owner))) (noted : AreNoted lists (length lists) blank owners) where
+      owning : (clerk number : ℕ) (r : Receipt) → at lists clerk number ≡ Some r → at owners r.shard r.place ≡ Some (Some (owner clerk number))
       owning clerk number r there = noted.noted clerk number r (at_within lists clerk number r there) there
 
-      owner_of : (i j : ℕ) (o : Owner) → at owners i j ≡ Some o → IsOwner trails lists i j o
-      owner_of i j o there =
-          let within : j < length (row trails i) = omega (arith, slice_get_within (row owners i) j o there, noted.shape.rows i, shape.rows i) in
-          let m = meeting_any lists i j (omega (arith, (is.places i).0 j within)) in
-          let n = m.meets in
-          let its : owner m.clerk n.number ≡ o
-          = same_Some (owner m.clerk n.number) o (sym (owning m.clerk n.number n.receipt n.is) ∙ (λ k. at owners (n.shard k) (n.place k)) ∙ there) in
-          record {
-            receipt = n.receipt;
-            is = subst (λ (x : Owner). at lists x.clerk x.receipt ≡ Some n.receipt) its n.is;
-            shard = n.shard;
-            place = n.place;
-            entry = is.stand m.clerk n.number n.receipt n.is;
-          }
+      owner_of : (i j : ℕ) (o : Owner) → at owners i j ≡ Some (Some o) → IsOwner trails lists i j o
+      owner_of i j o there = by (times j (all_places i lists)) refl
+        where
+          by : (n : ℕ) → times j (all_places i lists) ≡ n → IsOwner trails lists i j o
+          by zero unmet =
+              let apart : (clerk number : ℕ) (r : Receipt) → clerk < length lists → at lists clerk number ≡ Some r → r.shard ≡ i → r.place ≡ j → ⊥
+              = λ clerk number r within its shard place. met_nowhere lists i j clerk number r its shard place unmet in
+              absurd (none i j o (sym (noted.kept i j apart) ∙ there))
+          by (suc n) met =
+              let m = meeting_any lists i j (omega (arith, met)) in
+              let n = m.meets in
+              let its : owner m.clerk n.number ≡ o
+              = same_Some (owner m.clerk n.number) o (same_Some (Some (owner m.clerk n.number)) (Some o) (sym (owning m.clerk n.number n.receipt n.is) ∙ (λ k. at owners (n.shard k) (n.place k)) ∙ there)) in
+              record {
+                receipt = n.receipt;
+                is = subst (λ (x : Owner). at lists x.clerk x.receipt ≡ Some n.receipt) its n.is;
+                shard = n.shard;
+                place = n.place;
+                entry = is.stand m.clerk n.number n.receipt n.is;
+              }
 
       pub owned : IsOwned trails lists owners
       owned = record {
@@ -147,13 +157,26 @@ module _ (trails : List (List Entry)) (lists : List (List Receipt)) (is : IsWhol
         one_each = λ i. noted.shape.rows i ∙ shape.rows i;
         owned = owner_of;
         owning = owning;
-        named = λ i. sym (as_many (length (row trails i)) (all_places i lists) (is.places i)) ∙ named i lists;
       }
 
 pub blank_shape : (trails : List (List Entry)) → HaveShape (blank_owners trails) trails
-blank_shape trails = record { lists = length-map trails (λ (t : List Entry). replicate (length t) (owner 0 0)); rows = rows trails }
+blank_shape trails = record { lists = length-map trails blanks; rows = rows trails }
   where
+    blanks : List Entry → List (Option Owner)
+    blanks t = replicate (length t) None
+
     rows : (ts : List (List Entry)) (i : ℕ) → length (row (blank_owners ts) i) ≡ length (row ts i)
     rows [] i = refl
-    rows (t ∷ ts) zero = length-replicate (length t) (owner 0 0)
+    rows (t ∷ ts) zero = length-replicate (length t) None
     rows (t ∷ ts) (suc i) = rows ts i
+
+-- no owner is noted yet
+pub blank_none : (trails : List (List Entry)) (i j : ℕ) (o : Owner) → at (blank_owners trails) i j ≢ Some (Some o)
+blank_none [] i j o is = absurd cc
+blank_none (t ∷ ts) zero j o is = none (length t) j is
+  where
+    none : (n j : ℕ) → slice_get (replicate n None) j ≡ Some (Some o) → ⊥
+    none zero j is = absurd cc
+    none (suc n) zero is = absurd cc
+    none (suc n) (suc j) is = none n j is
+blank_none (t ∷ ts) (suc i) j o is = blank_none ts i j o is

@@ -1,5 +1,5 @@
 -- What an answer tells.
-use Rattle.std.specs.Prelude.{ℕ, ◌≡◌, List, [], ◌∷◌, ◌++◌, length}
+use Rattle.std.specs.Prelude.{ℕ, ◌≡◌, ◌≢◌, List, [], ◌∷◌, ◌++◌, length}
 use mathlib.Core.List.{IsPrefix}
 use Rattle.nmvs_history.specs.Views.{TokenView}
 use Rattle.nmvs_identifier.specs.Name.{Name}
@@ -14,6 +14,7 @@ use Rattle.nmvs_desk.specs.declared.faults.AskFault.{AskFault}
 use Rattle.nmvs_desk.specs.declared.faults.AskFault.TheVariants as fault
 use Rattle.nmvs_desk.specs.declared.ask.Receipt.{Receipt}
 use Rattle.nmvs_desk.specs.Placing.{IsPlaced}
+use Rattle.nmvs_desk.specs.Settlement.{row}
 use Rattle.nmvs_desk.specs.Views.{LockedView}
 
 -- what a question that is put does to a locked shard and to the token by which it is put: its entry is the next one, with
@@ -43,6 +44,11 @@ pub record IsAnswered (count : ℕ) (before after : List Entry) (r : Receipt) (s
   pub next : IsNext count r shown trail
   pub begins : IsPrefix before trail
   pub seen : after ≡ trail ++ r.entry ∷ []
+
+-- the receipt's place is the clerk's own from now on, and no other
+pub record OwnsOneMore (before after : List (List ℕ)) (r : Receipt) : Type 0 where
+  pub here : row after r.shard ≡ row before r.shard ++ r.place ∷ []
+  pub others : (i : ℕ) → i ≢ r.shard → row after i ≡ row before i
 
 -- the receipt is of this question, in the shard of this number, and there is such a trail for the token
 pub record IsServed (count index : ℕ) (put : Put) (was now : TokenView) (r : Receipt) (shown : List Entry) : Type 0 where

@@ -1,17 +1,17 @@
 -- What is true of a clerk at every time (own).
-use Rattle.std.specs.Prelude.{ℕ, ◌≡◌, ◌<◌, ◌==◌, List, Some, length, map, filter}
+use Rattle.std.specs.Prelude.{ℕ, ◌≡◌, List, Some, length}
 use Rattle.std.specs.List.{slice_get}
 use Rattle.nmvs_history.specs.Views.{HistoryId, TokenView}
 use Rattle.nmvs_rules.specs.Rules.{IsLawful}
 use Rattle.nmvs_desk.specs.declared.ask.Receipt.{Receipt}
 use Rattle.nmvs_desk.specs.Placing.{IsPlaced}
-use Rattle.nmvs_desk.specs.Settlement.{places_in, Rises}
+use Rattle.nmvs_desk.specs.Settlement.{AreOwn, Rises}
 
--- the token of a shard, of `count`, is of the shard's history, owns the places of the receipts that name the shard, and has
--- seen a lawful trail whose entries belong to it
+-- the token of a shard, of `count`, is of the shard's history, owns the places of the receipts that name the shard, and of
+-- those that were let go, and has seen a lawful trail whose entries belong to it
 pub record IsTokenOf (tables : ℕ → HistoryId) (count : ℕ) (receipts : List Receipt) (shard : ℕ) (k : TokenView) : Type 0 where
   pub table : k.table ≡ tables shard
-  pub places : k.places ≡ places_in shard receipts
+  pub places : AreOwn shard receipts k.places
   pub lawful : IsLawful k.seen
   pub placed : IsPlaced count shard k.seen
 
@@ -21,7 +21,7 @@ pub record Stands (tokens : List TokenView) (r : Receipt) : Type 0 where
   pub is : slice_get tokens r.shard ≡ Some token
   pub stands : slice_get token.seen r.place ≡ Some r.entry
 
--- a clerk has a token of each shard, each receipt stands, and the places rise
+-- a clerk has a token of each shard, each receipt in hand stands, and their places rise
 pub record IsClerk (tables : ℕ → HistoryId) (count : ℕ) (tokens : List TokenView) (receipts : List Receipt) : Type 0 where
   pub shards : length tokens ≡ count
   pub each : (i : ℕ) (k : TokenView) → slice_get tokens i ≡ Some k → IsTokenOf tables count receipts i k

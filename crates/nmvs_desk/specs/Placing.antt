@@ -1,18 +1,2 @@
--- In which shard an entry stands (own).
-use Rattle.std.specs.Prelude.{ℕ, ◌≡◌, ◌%◌, List, All}
-use Rattle.std.specs.Str.Parse.{digits_value}
-use Rattle.nmvs_identifier.specs.ProductCode.{ProductCode}
-use Rattle.nmvs_rules.specs.declared.entry.Entry.{Entry}
-use Rattle.nmvs_rules.specs.Questions.{code_of}
-
--- the shard, of so many, that the number written by these digits belongs to: the number modulo their count
-abbrev pub place_of : ℕ → List ℕ → ℕ
-place_of count digits = digits_value 10 digits % count
-
--- the shard of a product code
-abbrev pub shard_of : ℕ → ProductCode → ℕ
-shard_of count code = place_of count code.bytes
-
--- each entry's product code belongs to this shard
-abbrev pub IsPlaced : ℕ → ℕ → List Entry → Type 0
-IsPlaced count index trail = All (λ e. shard_of count (code_of e.put.question) ≡ index) trail
+-- In which shard an entry stands.
+pub use Rattle.nmvs_shard.specs.Placing.{place_of, shard_of, IsPlaced}

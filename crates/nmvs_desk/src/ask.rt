@@ -6,14 +6,14 @@ ghost use Rattle.nmvs_directory.specs.declared.look.Look.TheVariants.{Known};
 ghost use Rattle.nmvs_rules.specs.Questions.{code_of};
 ghost use Rattle.nmvs_rules.specs.Rules.{IsLawful};
 ghost use Rattle.nmvs_desk.specs.declared.ask.Receipt.{Receipt};
-ghost use Rattle.nmvs_desk.specs.Answers.{IsAnswered, IsShown, TurnedAway};
+ghost use Rattle.nmvs_desk.specs.Answers.{IsAnswered, IsShown, OwnsOneMore, TurnedAway};
 ghost use Rattle.nmvs_desk.specs.Clerks.{IsClerk};
 ghost use Rattle.nmvs_desk.specs.Opening.{AreNew};
 ghost use Rattle.nmvs_desk.specs.Placing.{shard_of, IsPlaced};
-ghost use Rattle.nmvs_desk.specs.Settlement.{row, at, Rises};
-ghost use Rattle.nmvs_desk.specs.Views.{sights_of};
+ghost use Rattle.nmvs_desk.specs.Settlement.{row, at, AreOwn, Rises};
+ghost use Rattle.nmvs_desk.specs.Views.{places_of, sights_of};
 
-use crate::{AskFault, Reader, Repository};
+use crate::{AskFault, Holder, Reader, Repository};
 use nmvs_directory::{Look, Naming, Notice, Window};
 use nmvs_history::{Histories, Token};
 use nmvs_identifier::{Moment, Name};
@@ -40,9 +40,11 @@ pub struct Served<'a, B: Allocator = Global> {
     pub shown: Vec<Entry, &'a B>,
 }
 
-/// One who asks a repository, by a window on the directory and a token of each shard, and keeps a receipt for each answer.
+/// One who asks a repository, by a window on the directory and a token of each shard, and keeps a receipt for each answer
+/// until it lets its receipts go.
 ///
-/// Contracts see what its window saw or was told, what it has seen of each shard's trail, and its receipts, oldest first.
+/// Contracts see what its window saw or was told, what it has seen of each shard's trail, which places of the trail are its
+/// own, those of all its answers, and the receipts that it has in hand, oldest first.
 #[derive(Drop)]
 pub struct Clerk<'a, J: Naming, H: Histories, B: Allocator = Global> {
     window: Window<J, &'a B>,
@@ -53,26 +55,31 @@ pub struct Clerk<'a, J: Naming, H: Histories, B: Allocator = Global> {
 
 impl<'a, J: Naming, H: Histories, B: Allocator> Model for Clerk<'a, J, H, B> {
     ghost use Rattle.nmvs_desk.specs.Clerks.{IsClerk};
-    ghost use Rattle.nmvs_desk.specs.Views.{ClerkView, sights_of};
+    ghost use Rattle.nmvs_desk.specs.Views.{ClerkView, places_of, sights_of};
 
     ghost Value = { ClerkView };
 
-    ghost view = { λ c. record { seen = c.window; sights = sights_of c.tokens.items; receipts = c.receipts.items } };
+    ghost view = { λ c. record {
+      seen = c.window;
+      sights = sights_of c.tokens.items;
+      places = places_of c.tokens.items;
+      receipts = c.receipts.items;
+    } };
 
     ghost invariant = { λ c. IsClerk H.tables H.shards c.tokens.items c.receipts.items };
 }
 
 impl<'a, J: Naming, H: Histories, B: Allocator> Clerk<'a, J, H, B> {
-    /// A clerk with no receipt, whose tokens have seen what an opening dealt to the shards.
+    /// A clerk with no receipt, whose tokens have seen what was there when the shards were opened.
     pub(crate) fn new(
         alloc: &'a B,
         window: Window<J, &'a B>,
         tokens: Vec<Token, &'a B>,
     ) -> Clerk<'a, J, H, B>
-        requires tokens { AreNew H.tables H.shards H.opening H.shards tokens.items }
-        requires lawful { IsLawful H.opening }
+        requires { AreNew H.tables H.shards H.opening H.shards tokens.items }
         ensures seen { result.seen ≡ window.entry }
         ensures sights { result.sights ≡ sights_of tokens.entry.items }
+        ensures places { result.places ≡ places_of tokens.entry.items }
         ensures receipts { result.receipts ≡ [] }
     {
         Clerk {
@@ -83,16 +90,25 @@ impl<'a, J: Naming, H: Histories, B: Allocator> Clerk<'a, J, H, B> {
         }
     }
 
-    /// The receipts, oldest first. At any time each receipt's entry stands at its place in what the clerk has seen of its
-    /// shard, which is lawful, and the places rise in each shard.
+    /// The receipts in hand, oldest first. At any time each receipt's entry stands at its place in what the clerk has seen of
+    /// its shard, which is lawful, the place is the clerk's own, and the places rise in each shard.
     pub fn receipts(&self) -> &[Receipt]
         ensures receipts { result.now ≡ self.now.receipts }
         ensures stand { (n : ℕ) (r : Receipt) → slice_get result.now n ≡ Some r
             → at self.now.sights r.shard r.place ≡ Some r.entry }
+        ensures own { (i : ℕ) → i < H.shards → AreOwn i result.now (row self.now.places i) }
         ensures rising { Rises result.now }
         ensures lawful { (i : ℕ) → IsLawful (row self.now.sights i) × IsPlaced H.shards i (row self.now.sights i) }
     {
         self.receipts.as_slice()
+    }
+
+    /// Lets the receipts in hand go. What the clerk has seen stays, and which places are its own; the memory of the receipts is
+    /// kept for those that come.
+    pub fn let_go(&mut self)
+        ensures { self.new ≡ record self.old { receipts = [] } }
+    {
+        self.receipts.clear();
     }
 
     /// The memory in which the clerk keeps its receipts.
@@ -138,7 +154,7 @@ impl<'a, J: Naming, H: Histories, B: Allocator> Clerk<'a, J, H, B> {
     /// and keeps the receipt. An audit is shown the entries about its pack that stood before it. It waits for the shard.
     ///
     /// The answer is given on a trail that begins with all that the clerk has seen of the shard; then the clerk has seen
-    /// the entry, too.
+    /// the entry, too, whose place is its own: no other answer has it.
     ///
     /// Condition: the clerk is one that `open` gave with this repository, which the names of their histories say.
     pub fn ask<R: Wait>(
@@ -159,6 +175,7 @@ impl<'a, J: Naming, H: Histories, B: Allocator> Clerk<'a, J, H, B> {
         ensures answered { IfOk result (λ s.
             let shard = s.receipt.shard in
             IsAnswered repository.now.shards (row self.old.sights shard) (row self.new.sights shard) s.receipt s.shown.items) }
+        ensures owned { IfOk result (λ s. OwnsOneMore self.old.places self.new.places s.receipt) }
         ensures others { IfOk result (λ s. (i : ℕ) → i ≢ s.receipt.shard → row self.new.sights i ≡ row self.old.sights i) }
         ensures unchanged { OnErr result (self.new ≡ record self.old { seen = self.new.seen }) }
         ensures turned_away { IfErr result (TurnedAway self.old.seen self.new.seen user.now) }
@@ -189,6 +206,7 @@ impl<'a, J: Naming, H: Histories, B: Allocator> Clerk<'a, J, H, B> {
         ensures answered { IfOk result (λ s.
             let shard = s.receipt.shard in
             IsAnswered repository.now.shards (row self.old.sights shard) (row self.new.sights shard) s.receipt s.shown.items) }
+        ensures owned { IfOk result (λ s. OwnsOneMore self.old.places self.new.places s.receipt) }
         ensures others { IfOk result (λ s. (i : ℕ) → i ≢ s.receipt.shard → row self.new.sights i ≡ row self.old.sights i) }
         ensures unchanged { OnErr result (self.new ≡ self.old) }
     {
@@ -217,9 +235,23 @@ impl<'a, J: Naming, H: Histories, B: Allocator> Clerk<'a, J, H, B> {
         repository.look(rt, index, &mut self.tokens[index], reader)
     }
 
+    /// Calls the holder with the clerk's token of the shard of this number. Then the clerk has seen what the token has.
+    pub fn with_token<F: Holder<H>>(&mut self, index: usize, holder: F) -> F::Output
+        requires index { index < H.shards }
+        requires holder { F.index holder ≡ index }
+        requires may { F.may holder (row self.old.sights index) }
+        ensures shown { IsShown H.shards index (row self.old.sights index) (row self.new.sights index) }
+        ensures tells { F.tells holder (row self.old.sights index) (row self.new.sights index) result }
+        ensures others { (i : ℕ) → i ≢ index → row self.new.sights i ≡ row self.old.sights i }
+        ensures same { self.new ≡ record self.old { sights = self.new.sights } }
+    {
+        holder.hold(&mut self.tokens[index])
+    }
+
     /// The tokens, and the receipts. The window is let go.
     pub(crate) fn into_parts(self) -> (Vec<Token, &'a B>, Vec<Receipt, &'a B>)
         ensures sights { sights_of result.0.items ≡ self.entry.sights }
+        ensures places { places_of result.0.items ≡ self.entry.places }
         ensures receipts { result.1.items ≡ self.entry.receipts }
         ensures clerk { IsClerk H.tables H.shards result.0.items result.1.items }
     {

@@ -1,18 +1,22 @@
-//! Locked shards, the clerks that ask them with a receipt for each answer, and the settlement of all receipts.
+//! Locked shards, the clerks that ask them with a receipt for each answer, and the settlement of all shards.
 //!
 //! A question goes one way, whatever its kind. A clerk looks its user up and makes the put of it (ask.rt), the repository
 //! finds the shard of its product code (repository.rt), whose slot holds the lock (lock.rt) for one step of the shard
-//! (locked.rt). The way back has the receipt, which the clerk keeps, and the entries that an audit shows.
+//! (locked.rt). The way back has the receipt, which the clerk keeps until it lets its receipts go, and the entries that an
+//! audit shows.
 //!
 //! Each shard has a history (`nmvs_history`), whose keeper lies under the shard's lock. A clerk has a token of each history, so
 //! what it has seen of a shard begins every later trail of it, and each place of a trail is the own of one token.
 //!
-//! An opening deals the entries of an earlier repository to the shards by the importer's tokens (opening.rt). A settlement
+//! Who keeps a journal of a shard sees its trail by sights (repository.rt), and is lent a clerk's token (holder.rt).
+//!
+//! A repository is opened over shards as they are; a token beside each keeper owns what was there (opening.rt). A settlement
 //! takes the shards out of their locks and the tokens back in, and notes whose receipt each entry is for (settling.rt).
 #![tactic(auto)]
 
 mod ask;
 mod faults;
+mod holder;
 mod lock;
 mod locked;
 mod opening;
@@ -24,6 +28,7 @@ mod tests;
 
 pub use ask::{Clerk, Receipt, Served};
 pub use faults::{AskFault, OpenFault};
+pub use holder::Holder;
 pub use lock::Reader;
 pub use opening::Keepers;
 pub use repository::{MOST_CLERKS, MOST_SHARDS, Repository};

@@ -1,12 +1,12 @@
 //! How a repository is opened.
 ghost use Rattle.std.specs.Prelude.{◌≡◌, ◌+◌, ◌-◌, ◌<◌, ◌≤◌, ◌↔◌, ◌⊎◌, ℕ, [], All, map, vec_len, vec_capacity, length, IfOk, IsErrOf, OnOk, OnErr};
-ghost use Rattle.nmvs_rules.specs.Rules.{IsLawful};
-ghost use Rattle.nmvs_desk.specs.Opening.{deal, table_of, AreDealt, AreNew, IsNew, IsOpened};
+ghost use Rattle.nmvs_desk.specs.Opening.{table_of, AreLocked, AreNew, IsNew, IsOpened};
+ghost use Rattle.nmvs_desk.specs.Placing.{IsPlaced};
+ghost use Rattle.nmvs_desk.specs.Settlement.{row};
 
 use crate::lock::Slot;
 use crate::locked::Locked;
-use crate::repository::shard_number;
-use crate::{Clerk, MOST_CLERKS, MOST_SHARDS, OpenFault, Receipt, Repository};
+use crate::{Clerk, MOST_CLERKS, MOST_SHARDS, OpenFault, Repository};
 use nmvs_directory::{Naming, Window};
 use nmvs_history::{Histories, Keeper, Token};
 use nmvs_shard::Shard;
@@ -52,47 +52,30 @@ impl<'a, B: Allocator> Keepers<'a, B> {
     }
 }
 
-/// An empty shard for each keeper, numbered in order.
-pub(crate) fn empty_shards<'a, H: Histories, B: Allocator>(
+/// Puts each shard beside its keeper, numbered in order.
+fn keep_all<'a, H: Histories, B: Allocator>(
     alloc: &'a B,
     keepers: Keepers<'a, B>,
+    shards: Vec<Shard<&'a B>, &'a B>,
 ) -> Result<Vec<Locked<'a, H, B>, &'a B>, AllocError>
     requires tables { (i : ℕ) → table_of keepers i ≡ H.tables i }
-    ensures empty { IfOk result (λ shards. AreDealt H.shards 8 (length keepers.entry) [] shards.items) }
+    requires many { vec_len shards ≡ length keepers }
+    requires opening { (i : ℕ) → H.opening i ≡ row shards.items i }
+    requires placed { (i : ℕ) → IsPlaced H.shards i (row shards.items i) }
+    ensures locked { IfOk result (λ locked. AreLocked 8 (length keepers.entry) H.opening locked.items) }
     ensures count { (0 < length keepers.entry) × (length keepers.entry ≤ MOST_SHARDS) }
 {
     let Keepers { mut list } = keepers;
-    let mut shards = Vec::with_capacity(alloc, list.len())?;
-    // One by one, for the proof: the loop's invariant speaks of the list that is left.
+    let mut shards = shards;
+    let mut locked = Vec::with_capacity(alloc, list.len())?;
+    // One by one, for the proof: the loop's invariant speaks of the lists that are left.
     while !list.is_empty() {
-        let index = shards.len();
-        shards.push_reserved(Locked::new(alloc, list.remove(0), index));
+        let index = locked.len();
+        let keeper = list.remove(0);
+        let shard = shards.remove(0);
+        locked.push_reserved(Locked::new(keeper, shard, index));
     }
-    Ok(shards)
-}
-
-/// Deals the opening's entries to the shards, in order, and gives the receipts.
-pub(crate) fn deal_all<'a, H: Histories, B: Allocator>(
-    alloc: &'a B,
-    shards: &mut Vec<Locked<'a, H, B>, &'a B>,
-    opening: &Shard<&'a B>,
-) -> Result<Vec<Receipt, &'a B>, AllocError>
-    requires some { 0 < H.shards }
-    requires empty { AreDealt H.shards 8 H.shards [] shards.old.items }
-    ensures dealt { OnOk result (AreDealt H.shards 8 H.shards opening.now shards.new.items) }
-    ensures receipts { IfOk result (λ receipts. receipts.items ≡ deal H.shards opening.now) }
-    ensures lawful { IsLawful opening.now }
-{
-    let trail = opening.trail();
-    let mut receipts = Vec::with_capacity(alloc, trail.len())?;
-    // By place: the loop's invariant speaks of the entries before it.
-    for place in 0..trail.len() {
-        let entry = &trail[place];
-        let shard = shard_number(&entry.put.question.code(), shards.len());
-        let receipt = shards[shard].deal(entry)?;
-        receipts.push_reserved(receipt);
-    }
-    Ok(receipts)
+    Ok(locked)
 }
 
 /// A token of each shard, for one clerk.
@@ -100,9 +83,9 @@ fn tokens_of<'a, H: Histories, B: Allocator>(
     alloc: &'a B,
     shards: &mut Vec<Locked<'a, H, B>, &'a B>,
 ) -> Result<Vec<Token, &'a B>, AllocError>
-    requires { (left : ℕ) × AreDealt H.shards (left + 1) H.shards H.opening shards.old.items }
-    ensures dealt { (left : ℕ) → AreDealt H.shards (left + 1) H.shards H.opening shards.old.items
-        → OnOk result (AreDealt H.shards left H.shards H.opening shards.new.items) }
+    requires { (left : ℕ) × AreLocked (left + 1) H.shards H.opening shards.old.items }
+    ensures given { (left : ℕ) → AreLocked (left + 1) H.shards H.opening shards.old.items
+        → OnOk result (AreLocked left H.shards H.opening shards.new.items) }
     ensures new { IfOk result (λ tokens. AreNew H.tables H.shards H.opening H.shards tokens.items) }
 {
     let mut tokens = Vec::with_capacity(alloc, shards.len())?;
@@ -112,15 +95,15 @@ fn tokens_of<'a, H: Histories, B: Allocator>(
     Ok(tokens)
 }
 
-/// A token of each shard for each clerk, once the opening is dealt.
+/// A token of each shard for each clerk.
 fn give_tokens<'a, H: Histories, B: Allocator>(
     alloc: &'a B,
     clerks: usize,
     shards: &mut Vec<Locked<'a, H, B>, &'a B>,
 ) -> Result<Vec<Vec<Token, &'a B>, &'a B>, AllocError>
     requires few { clerks ≤ MOST_CLERKS }
-    requires dealt { AreDealt H.shards 8 H.shards H.opening shards.old.items }
-    ensures dealt { OnOk result (AreDealt H.shards (8 - clerks) H.shards H.opening shards.new.items) }
+    requires locked { AreLocked 8 H.shards H.opening shards.old.items }
+    ensures given { OnOk result (AreLocked (8 - clerks) H.shards H.opening shards.new.items) }
     ensures clerks { IfOk result (λ sets. vec_len sets ≡ clerks) }
     ensures new { IfOk result (λ sets. All (λ tokens. AreNew H.tables H.shards H.opening H.shards tokens.items) sets.items) }
 {
@@ -137,7 +120,7 @@ pub(crate) fn lock_all<'a, H: Histories, B: Allocator>(
     slots: &mut Vec<Slot<'a, H, B>, &'a B>,
 )
     requires few { All (λ h. h.index < MOST_SHARDS) shards.old.items }
-    requires opened { All (IsOpened H.shards H.clerks H.opening) shards.old.items }
+    requires opened { All (IsOpened H.clerks) shards.old.items }
     requires empty { slots.old.items ≡ [] }
     requires room { vec_len shards.old ≤ vec_capacity slots.old }
     ensures { slots.new.items ≡ map (λ h. h.index) shards.old.items }
@@ -157,7 +140,6 @@ fn clerks_over<'a, J: Naming, H: Histories, B: Allocator>(
 )
     requires many { vec_len sets.old ≡ vec_len windows.old }
     requires new { All (λ tokens. AreNew H.tables H.shards H.opening H.shards tokens.items) sets.old.items }
-    requires lawful { IsLawful H.opening }
     requires empty { clerks.old.items ≡ [] }
     requires room { vec_len windows.old ≤ vec_capacity clerks.old }
     ensures seen { map (λ c. c.seen) clerks.new.items ≡ windows.old.items }
@@ -172,31 +154,32 @@ fn clerks_over<'a, J: Naming, H: Histories, B: Allocator>(
 }
 
 impl<'a, H: Histories, B: Allocator> Repository<'a, H, B> {
-    /// Opens a repository with a shard for each keeper and a clerk for each window, numbered from 1 in the windows' order.
-    /// The opening's entries are dealt to the shards in order; they are the receipts of clerk 0, which the repository
-    /// keeps, and each clerk has seen them.
+    /// Opens a repository over these shards, as they are, with the keeper of each, and a clerk for each window, in order. No
+    /// receipt is made of what the shards have, and each clerk has seen it.
     ///
-    /// It is refused only where a growth was; then the windows stay in their list, and the keepers are spent.
+    /// Condition: each entry's product code belongs to its shard, among so many. So shards are as many as when they were made.
+    ///
+    /// It is refused only where a growth was; then the windows stay in their list, and the keepers and the shards are spent.
     pub fn open<J: Naming>(
         alloc: &'a B,
         keepers: Keepers<'a, B>,
+        shards: Vec<Shard<&'a B>, &'a B>,
         windows: &mut Vec<Window<J, &'a B>, &'a B>,
-        opening: &Shard<&'a B>,
     ) -> Result<(Repository<'a, H, B>, Vec<Clerk<'a, J, H, B>, &'a B>), AllocError>
         requires tables { (i : ℕ) → table_of keepers i ≡ H.tables i }
         requires named { (H.shards ≡ length keepers) × (H.clerks ≡ vec_len windows.old)
-            × (H.opening ≡ opening.now) }
+            × ((i : ℕ) → H.opening i ≡ row shards.items i) }
+        requires many { vec_len shards ≡ length keepers }
+        requires placed { (i : ℕ) → IsPlaced (length keepers) i (row shards.items i) }
         requires few { vec_len windows.old ≤ MOST_CLERKS }
         ensures shards { IfOk result (λ r. r.0.shards ≡ length keepers.entry) }
         ensures clerks { IfOk result (λ r. (r.0.clerks ≡ vec_len windows.old)
             × (map (λ c. c.seen) r.1.items ≡ windows.old.items)) }
-        ensures new { IfOk result (λ r. All (IsNew (length keepers.entry) opening.now) r.1.items) }
-        ensures opening { IfOk result (λ r. r.0.opening ≡ deal (length keepers.entry) opening.now) }
+        ensures new { IfOk result (λ r. All (IsNew (length keepers.entry) (row shards.entry.items)) r.1.items) }
         ensures taken { OnOk result (windows.new.items ≡ []) }
         ensures stay { OnErr result (windows.new ≡ windows.old) }
     {
-        let mut locked = empty_shards(alloc, keepers)?;
-        let receipts = deal_all(alloc, &mut locked, opening)?;
+        let mut locked = keep_all(alloc, keepers, shards)?;
         let count = windows.len();
         let mut sets = give_tokens(alloc, count, &mut locked)?;
         let mut clerks = Vec::with_capacity(alloc, count)?;
@@ -205,7 +188,6 @@ impl<'a, H: Histories, B: Allocator> Repository<'a, H, B> {
         lock_all(&mut locked, &mut slots);
         let repository = Repository {
             slots,
-            opening: receipts,
             clerks: count,
         };
         Ok((repository, clerks))

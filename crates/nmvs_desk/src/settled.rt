@@ -1,6 +1,5 @@
 //! What a settlement hands out, or gives back.
-ghost use Rattle.std.specs.Prelude.{◌≡◌, ◌<◌, IfOk, length, replicate, slice_set, vec_len};
-ghost use Rattle.nmvs_desk.specs.Settlement.{owner};
+ghost use Rattle.std.specs.Prelude.{◌≡◌, ◌<◌, None, Some, IfOk, length, replicate, slice_set, vec_len};
 
 use crate::{Clerk, Receipt, Repository};
 use nmvs_directory::Naming;
@@ -9,24 +8,25 @@ use nmvs_shard::Shard;
 use std::alloc::{AllocError, Allocator, Global};
 use std::marker::Model;
 
-/// Whose receipt it is, clerk 0 being the importer, and which of that clerk's receipts, counted from 0.
+/// Whose receipt it is, and which of that clerk's receipts in hand, both counted from 0.
 #[derive(Clone, Copy, Debug, PartialEq, Eq)]
 pub struct Owner {
     pub clerk: usize,
     pub receipt: usize,
 }
 
-/// The owners of a trail's entries: one for each place, in order.
+/// The owners of a trail's entries, for each place in order; `None` where nobody has a receipt in hand: the entry was there
+/// when the repository was opened, or its receipt was let go.
 #[derive(Drop)]
 pub struct Owners<'a, B: Allocator = Global> {
-    list: Vec<Owner, &'a B>,
+    list: Vec<Option<Owner>, &'a B>,
 }
 
 impl<'a, B: Allocator> Model for Owners<'a, B> {
-    ghost use Rattle.std.specs.Prelude.{List};
+    ghost use Rattle.std.specs.Prelude.{List, Option};
     ghost use Rattle.nmvs_desk.specs.declared.settled.Owner.{Owner};
 
-    ghost Value = { List Owner };
+    ghost Value = { List (Option Owner) };
 
     ghost view = { λ o. o.list.items };
 }
@@ -34,34 +34,30 @@ impl<'a, B: Allocator> Model for Owners<'a, B> {
 impl<'a, B: Allocator> Owners<'a, B> {
     /// Room for the owners of so many entries, with none noted yet.
     pub(crate) fn blank(alloc: &'a B, count: usize) -> Result<Owners<'a, B>, AllocError>
-        ensures { IfOk result (λ owners. owners ≡ replicate count (owner 0 0)) }
+        ensures { IfOk result (λ owners. owners ≡ replicate count None) }
     {
-        let nobody = Owner {
-            clerk: 0,
-            receipt: 0,
-        };
         Ok(Owners {
-            list: Vec::from_elem(alloc, nobody, count)?,
+            list: Vec::from_elem(alloc, None, count)?,
         })
     }
 
     /// Notes the owner of the entry at a place.
     pub(crate) fn note(&mut self, place: usize, owner: Owner)
         requires { place < length self.old }
-        ensures { self.new ≡ slice_set self.old place owner }
+        ensures { self.new ≡ slice_set self.old place (Some owner) }
     {
-        self.list[place] = owner;
+        self.list[place] = Some(owner);
     }
 
     /// The owners, in the order of the trail.
-    pub fn owners(&self) -> &[Owner]
+    pub fn owners(&self) -> &[Option<Owner>]
         ensures { result.now ≡ self.now }
     {
         self.list.as_slice()
     }
 }
 
-/// The receipts of a clerk, oldest first.
+/// The receipts that a clerk had in hand, oldest first.
 #[derive(Drop)]
 pub struct Receipts<'a, B: Allocator = Global> {
     list: Vec<Receipt, &'a B>,
@@ -91,8 +87,8 @@ impl<'a, B: Allocator> Receipts<'a, B> {
     }
 }
 
-/// What a settlement hands out: the shards in order, the receipts of all clerks, those of clerk 0 first, and for each
-/// shard the owners of its trail's entries.
+/// What a settlement hands out: the shards in order, the receipts that each clerk had in hand, and for each shard the owners
+/// of its trail's entries.
 #[derive(Drop)]
 pub struct Settled<'a, B: Allocator = Global> {
     pub shards: Vec<Shard<&'a B>, &'a B>,

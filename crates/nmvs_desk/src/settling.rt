@@ -1,12 +1,12 @@
 //! How a repository is settled.
-ghost use Rattle.std.specs.Prelude.{◌≡◌, ◌+◌, ◌-◌, ◌<◌, ◌≤◌, ℕ, [], ◌∷◌, ◌++◌, All, Some, map, length, slice_get, vec_len, vec_capacity, IfOk, IfErr, OnErr};
+ghost use Rattle.std.specs.Prelude.{◌≡◌, ◌-◌, ◌<◌, ◌≤◌, ℕ, [], All, Some, map, length, slice_get, vec_len, vec_capacity, IfOk, IfErr, OnErr};
 ghost use mathlib.Core.List.{IsPrefix};
 ghost use Rattle.nmvs_history.specs.Views.{AreBelow, ClosingView, TokenView};
 ghost use Rattle.nmvs_desk.specs.declared.ask.Receipt.{Receipt};
-ghost use Rattle.nmvs_desk.specs.Closing.{trails_of, seen_in, unlocked, with_token, blank_owners, Notes, AreNoted, AreApart, HavePlaces, AreClosing, IsSettled};
-ghost use Rattle.nmvs_desk.specs.Opening.{deal, IsOpened};
+ghost use Rattle.nmvs_desk.specs.Closing.{trails_of, seen_in, unlocked, with_token, blank_owners, Notes, AreNoted, AreApart, HavePlaces, AreClosing};
+ghost use Rattle.nmvs_desk.specs.Opening.{IsOpened};
 ghost use Rattle.nmvs_desk.specs.Views.{IsNumbered};
-ghost use Rattle.nmvs_desk.specs.Settlement.{row, lists_of, IsOwned, Rises};
+ghost use Rattle.nmvs_desk.specs.Settlement.{row, lists_of, AreDivided, IsOwned, IsSettled, Rises};
 ghost use Rattle.nmvs_desk.specs.Trails.{IsKept, AreTrails};
 
 use crate::lock::Slot;
@@ -70,7 +70,7 @@ fn unlock_all<'a, H: Histories, B: Allocator>(
     requires empty { shards.old.items ≡ [] }
     requires room { vec_len slots.old ≤ vec_capacity shards.old }
     ensures numbers { map (λ h. h.index) shards.new.items ≡ slots.old.items }
-    ensures opened { All (IsOpened H.shards H.clerks H.opening) shards.new.items }
+    ensures opened { All (IsOpened H.clerks) shards.new.items }
     ensures empty { slots.new.items ≡ [] }
     ensures room { vec_len shards.new ≤ vec_capacity slots.new }
 {
@@ -87,9 +87,9 @@ fn take_entry<'a, H: Histories, B: Allocator>(
 )
     requires empty { closings.old.items ≡ [] }
     requires room { vec_len locked.old ≤ vec_capacity closings.old }
-    ensures closings { closings.new.items ≡ map (unlocked H.tables) locked.old.items }
+    ensures closings { closings.new.items ≡ map (unlocked H.tables H.opening) locked.old.items }
     ensures kept { All (IsKept H.shards) locked.old.items }
-    ensures opening { All (λ h. IsPrefix h.opening h.trail) locked.old.items }
+    ensures opening { All (λ h. IsPrefix (H.opening h.index) h.trail) locked.old.items }
 {
     // One by one, for the proof: the loop's invariant speaks of the list that is left.
     while !locked.is_empty() {
@@ -116,7 +116,7 @@ fn take_tokens<'a, B: Allocator>(
     }
 }
 
-/// Takes the clerks' tokens back in, and their receipts, in order.
+/// Takes the clerks' tokens back in, and the receipts that they have in hand, in order.
 fn take_clerks<'a, J: Naming, H: Histories, B: Allocator>(
     clerks: &mut Vec<Clerk<'a, J, H, B>, &'a B>,
     closings: &mut Vec<Unlocked<'a, B>, &'a B>,
@@ -125,10 +125,11 @@ fn take_clerks<'a, J: Naming, H: Histories, B: Allocator>(
     requires shards { vec_len closings.old ≡ H.shards }
     requires few { vec_len clerks.old ≤ MOST_CLERKS }
     requires closing { let trails = seen_in closings.old.items in
-        AreClosing H.tables trails (9 - vec_len clerks.old) receipts.old.items closings.old.items }
-    requires room { vec_len receipts.old + vec_len clerks.old ≤ vec_capacity receipts.old }
-    ensures closing { AreClosing H.tables (seen_in closings.old.items) 9 receipts.new.items closings.new.items }
-    ensures receipts { receipts.new.items ≡ receipts.old.items ++ map (λ c. c.receipts) clerks.old.items }
+        AreClosing H.tables H.opening trails (9 - vec_len clerks.old) [] closings.old.items }
+    requires empty { receipts.old.items ≡ [] }
+    requires room { vec_len clerks.old ≤ vec_capacity receipts.old }
+    ensures closing { AreClosing H.tables H.opening (seen_in closings.old.items) 9 clerks.old.items closings.new.items }
+    ensures receipts { receipts.new.items ≡ lists_of clerks.old.items }
     ensures settled { All (IsSettled (seen_in closings.old.items)) clerks.old.items }
 {
     // One by one, for the proof: the loop's invariant speaks of the list that is left.
@@ -203,7 +204,7 @@ fn owners_for<'a, H: Histories, B: Allocator>(
     Ok(owners)
 }
 
-/// Room for what is made of these shards and so many clerks besides the importer.
+/// Room for what is made of these shards and so many clerks.
 fn room<'a, H: Histories, B: Allocator>(
     alloc: &'a B,
     locked: &Vec<Locked<'a, H, B>, &'a B>,
@@ -213,12 +214,12 @@ fn room<'a, H: Histories, B: Allocator>(
     ensures empty { IfOk result (λ r. (r.0.items ≡ []) × (r.1.shards.items ≡ []) × (r.1.receipts.items ≡ [])) }
     ensures owners { IfOk result (λ r. r.1.owners.items ≡ blank_owners (trails_of locked.now.items)) }
     ensures room { IfOk result (λ r. (vec_len locked.now ≤ vec_capacity r.0)
-        × (vec_len locked.now ≤ vec_capacity r.1.shards) × (clerks + 1 ≤ vec_capacity r.1.receipts)) }
+        × (vec_len locked.now ≤ vec_capacity r.1.shards) × (clerks ≤ vec_capacity r.1.receipts)) }
 {
     let closings = Vec::with_capacity(alloc, locked.len())?;
     let settled = Settled {
         shards: Vec::with_capacity(alloc, locked.len())?,
-        receipts: Vec::with_capacity(alloc, clerks + 1)?,
+        receipts: Vec::with_capacity(alloc, clerks)?,
         owners: owners_for(alloc, locked)?,
     };
     Ok((closings, settled))
@@ -231,11 +232,11 @@ struct Taken<'a, H: Histories, B: Allocator> {
     closings: Vec<Unlocked<'a, B>, &'a B>,
     settled: Settled<'a, B>,
     ghost numbered: { (vec_len locked ≡ H.shards) × IsNumbered (map (λ h. h.index) locked.items) },
-    ghost opened: { All (IsOpened H.shards H.clerks H.opening) locked.items },
+    ghost opened: { All (IsOpened H.clerks) locked.items },
     ghost empty: { (closings.items ≡ []) × (settled.shards.items ≡ []) × (settled.receipts.items ≡ []) },
     ghost owners: { settled.owners.items ≡ blank_owners (trails_of locked.items) },
     ghost room: { (vec_len locked ≤ vec_capacity closings) × (vec_len locked ≤ vec_capacity settled.shards)
-        × (H.clerks + 1 ≤ vec_capacity settled.receipts) },
+        × (H.clerks ≤ vec_capacity settled.receipts) },
 }
 
 /// Takes the shards out of their locks. Where there is no room, they are locked again.
@@ -265,16 +266,11 @@ fn unlock<'a, H: Histories, B: Allocator>(
 
 impl<'a, H: Histories, B: Allocator> Taken<'a, H, B> {
     /// Takes the tokens back in, notes the owners, and hands all out. It takes no memory.
-    fn settle<J: Naming>(
-        self,
-        opening: Vec<Receipt, &'a B>,
-        clerks: Vec<Clerk<'a, J, H, B>, &'a B>,
-    ) -> Settled<'a, B>
-        requires some { 0 < H.shards }
-        requires opening { opening.items ≡ deal H.shards H.opening }
+    fn settle<J: Naming>(self, clerks: Vec<Clerk<'a, J, H, B>, &'a B>) -> Settled<'a, B>
         requires clerks { (vec_len clerks ≡ H.clerks) × (vec_len clerks ≤ MOST_CLERKS) }
         ensures trails { AreTrails H.shards result.shards.items }
-        ensures receipts { result.receipts.items ≡ lists_of opening.entry.items clerks.entry.items }
+        ensures receipts { result.receipts.items ≡ lists_of clerks.entry.items }
+        ensures divided { AreDivided H.shards H.opening result.shards.items clerks.entry.items }
         ensures owned { IsOwned result.shards.items result.receipts.items result.owners.items }
         ensures rising { All Rises result.receipts.items }
         ensures settled { All (IsSettled result.shards.items) clerks.entry.items }
@@ -291,7 +287,6 @@ impl<'a, H: Histories, B: Allocator> Taken<'a, H, B> {
         } = settled;
         let mut clerks = clerks;
         take_entry(&mut locked, &mut closings);
-        receipts.push_reserved(Receipts::new(opening));
         take_clerks(&mut clerks, &mut closings, &mut receipts);
         close_all(&mut closings, &mut shards);
         note_all(&receipts, &mut owners);
@@ -303,13 +298,13 @@ impl<'a, H: Histories, B: Allocator> Taken<'a, H, B> {
     }
 }
 
-/// Settles a repository with its clerks, once nobody asks any more: hands out the trails of all shards, the receipts of
-/// all clerks, and whose receipt each entry is for. Clerk 0 is the importer; the others are numbered from 1 as listed.
+/// Settles a repository with its clerks, once nobody asks any more: hands out the trails of all shards, the receipts that all
+/// clerks have in hand, and whose receipt each entry is for. The clerks are numbered from 0, as listed.
 ///
-/// Each trail is lawful, begins with all that any clerk has seen of it, and so is every merging of them. Each entry of each
-/// trail has one owner, whose receipt has that shard, that place and that entry; each receipt owns one place; and the places
-/// of a clerk's receipts rise in each shard. So every call that was answered stands in the trails once, with the reply that
-/// its caller got, and no entry belongs to nobody.
+/// Each trail is lawful, begins with what was there when the repository was opened and with all that any clerk has seen of
+/// it, and so is every merging of them. Each place of each trail is one of the opening or the own of one clerk, and that once:
+/// so every call that was answered stands in the trails once, and no entry belongs to nobody. Each receipt in hand owns one
+/// place, with its shard and its entry; and the places of a clerk's receipts rise in each shard.
 ///
 /// # Errors
 ///
@@ -321,23 +316,22 @@ pub fn settle<'a, J: Naming, H: Histories, B: Allocator>(
 ) -> Result<Settled<'a, B>, (AllocError, Unsettled<'a, J, H, B>)>
     requires { vec_len clerks ≡ repository.clerks }
     ensures trails { IfOk result (λ s. AreTrails repository.entry.shards s.shards.items) }
-    ensures receipts { IfOk result (λ s. s.receipts.items ≡ lists_of repository.entry.opening clerks.entry.items) }
+    ensures receipts { IfOk result (λ s. s.receipts.items ≡ lists_of clerks.entry.items) }
+    ensures divided { IfOk result (λ s. AreDivided repository.entry.shards H.opening s.shards.items clerks.entry.items) }
     ensures owned { IfOk result (λ s. IsOwned s.shards.items s.receipts.items s.owners.items) }
     ensures rising { IfOk result (λ s. All Rises s.receipts.items) }
-    ensures seen { IfOk result (λ s. All (λ c. (i : ℕ) → IsPrefix (row c.sights i) (row s.shards.items i)) clerks.entry.items) }
+    ensures settled { IfOk result (λ s. All (IsSettled s.shards.items) clerks.entry.items) }
     ensures given_back { IfErr result (λ e. (e.1.repository ≡ repository.entry) × (e.1.clerks.items ≡ clerks.entry.items)) }
 {
     let Repository {
         mut slots,
-        opening,
         clerks: count,
     } = repository;
     match unlock(alloc, &mut slots, count) {
-        Ok(taken) => Ok(taken.settle(opening, clerks)),
+        Ok(taken) => Ok(taken.settle(clerks)),
         Err(fault) => {
             let repository = Repository {
                 slots,
-                opening,
                 clerks: count,
             };
             Err((fault, Unsettled { repository, clerks }))

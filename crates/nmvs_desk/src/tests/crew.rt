@@ -1,16 +1,18 @@
 //! How a test opens a repository, lets clerks work in it in threads of their own, and settles it.
-ghost use Rattle.std.specs.Prelude.{◌≡◌, ◌≤◌, ℕ, length, vec_len};
+ghost use Rattle.std.specs.Prelude.{◌≡◌, ◌<◌, ◌≤◌, ℕ, length, vec_len, IfOk, OnOk};
 ghost use Rattle.nmvs_directory.specs.Directory.{directory_book};
 ghost use Rattle.nmvs_desk.specs.Opening.{table_of};
+ghost use Rattle.nmvs_desk.specs.Placing.{IsPlaced};
+ghost use Rattle.nmvs_desk.specs.Settlement.{row};
 
 use super::market::{actor, name, new_year, put, upload};
 use crate::{Clerk, Keepers, MOST_CLERKS, Repository, Settled, settle};
 use nmvs_directory::{Directory, Naming, Registrar, Window};
 use nmvs_history::Histories;
 use nmvs_identifier::{Moment, Name};
-use nmvs_rules::Question;
-use nmvs_shard::Shard;
-use std::alloc::{Allocator, Global};
+use nmvs_rules::{Put, Question};
+use nmvs_shard::{Shard, shard_number};
+use std::alloc::{AllocError, Allocator, Global};
 use std::marker::Brand;
 use std::process::Abort;
 use std::sync::Wait;
@@ -23,17 +25,44 @@ pub struct Stage<'s> {
     pub shards: usize,
     pub clerks: usize,
     pub users: &'s [&'s str],
-    /// The product codes of the opening, which has an upload of SN1 of each.
+    /// The product codes of the packs that are there: an upload of SN1 of each.
     pub opening: &'s [&'s str],
 }
 
-pub fn opening_of<'a, B: Allocator>(rt: &impl Abort, alloc: &'a B, codes: &[&str]) -> Shard<&'a B> {
-    let mut opening = Shard::new(alloc);
-    for digits in codes {
-        let reply = opening.step(&put(rt, "mah1", upload(rt, digits)));
-        reply.expect(rt, "memory");
+/// So many shards, with an upload of SN1 of each of these product codes.
+pub fn shards_with<'a, B: Allocator>(
+    rt: &impl Abort,
+    alloc: &'a B,
+    count: usize,
+    codes: &[&str],
+) -> Result<Vec<Shard<&'a B>, &'a B>, AllocError>
+    ensures many { IfOk result (λ shards. vec_len shards ≡ count) }
+    ensures placed { IfOk result (λ shards. (i : ℕ) → IsPlaced count i (row shards.items i)) }
+{
+    assert!(rt; 0 < count);
+    let mut shards = Vec::with_capacity(alloc, count)?;
+    for _shard in 0..count {
+        shards.push_reserved(Shard::new(alloc));
     }
-    opening
+    for digits in codes {
+        append(&mut shards, &put(rt, "mah1", upload(rt, digits)))?;
+    }
+    Ok(shards)
+}
+
+/// Puts a question to the shard of its product code.
+fn append<'a, B: Allocator>(
+    shards: &mut Vec<Shard<&'a B>, &'a B>,
+    put: &Put,
+) -> Result<(), AllocError>
+    requires some { 0 < vec_len shards.old }
+    requires placed { (i : ℕ) → IsPlaced (vec_len shards.old) i (row shards.old.items i) }
+    ensures many { vec_len shards.new ≡ vec_len shards.old }
+    ensures placed { OnOk result ((i : ℕ) → IsPlaced (vec_len shards.old) i (row shards.new.items i)) }
+{
+    let index = shard_number(&put.question.code(), shards.len());
+    shards[index].step(put)?;
+    Ok(())
 }
 
 /// Enrols the users, and publishes them.
@@ -174,26 +203,26 @@ fn in_directory<'a, J: Naming + Send + Sync, W: Crew + Sync, R: Threads + Wait +
     requires name { directory_book directory ≡ J.book }
     requires windows { (1 ≤ stage.now.clerks) × (stage.now.clerks ≤ MOST_CLERKS) }
 {
-    let opening = opening_of(rt, alloc, stage.opening);
     let made = directory.open::<J, _, _>(rt, alloc, stage.clerks);
     let (mut registrar, mut windows) = made.expect(rt, "a directory");
     enrol_all(rt, &mut registrar, stage.users);
-    let settled = open_and_play(rt, stage.shards, crew, &mut windows, &opening);
+    let settled = open_and_play(rt, stage, crew, &mut windows);
     registrar.close();
     settled
 }
 
 fn open_and_play<'a, J: Naming + Send + Sync, W: Crew + Sync, R: Threads + Wait + Abort + Sync>(
     rt: &R,
-    shards: usize,
+    stage: &Stage,
     crew: &W,
     windows: &mut Vec<Window<J, &'a Global>, &'a Global>,
-    opening: &Shard<&'a Global>,
 ) -> Settled<'a>
     requires few { vec_len windows.old ≤ MOST_CLERKS }
 {
-    let keepers = Keepers::new(*windows.allocator(), shards).expect(rt, "keepers");
-    in_repository::<J, Brand, _, _>(rt, crew, windows, opening, keepers)
+    let alloc = *windows.allocator();
+    let keepers = Keepers::new(alloc, stage.shards).expect(rt, "keepers");
+    let shards = shards_with(rt, alloc, stage.shards, stage.opening).expect(rt, "memory");
+    in_repository::<J, Brand, _, _>(rt, crew, windows, shards, keepers)
 }
 
 fn in_repository<
@@ -206,15 +235,18 @@ fn in_repository<
     rt: &R,
     crew: &W,
     windows: &mut Vec<Window<J, &'a Global>, &'a Global>,
-    opening: &Shard<&'a Global>,
+    shards: Vec<Shard<&'a Global>, &'a Global>,
     keepers: Keepers<'a>,
 ) -> Settled<'a>
     requires tables { (i : ℕ) → table_of keepers i ≡ H.tables i }
-    requires named { (H.shards ≡ length keepers) × (H.clerks ≡ vec_len windows.old) × (H.opening ≡ opening.now) }
+    requires named { (H.shards ≡ length keepers) × (H.clerks ≡ vec_len windows.old)
+        × ((i : ℕ) → H.opening i ≡ row shards.items i) }
+    requires many { vec_len shards ≡ length keepers }
+    requires placed { (i : ℕ) → IsPlaced (length keepers) i (row shards.items i) }
     requires few { vec_len windows.old ≤ MOST_CLERKS }
 {
     let alloc = *windows.allocator();
-    let opened = Repository::<H, _>::open(alloc, keepers, windows, opening);
+    let opened = Repository::<H, _>::open(alloc, keepers, shards, windows);
     let (repository, clerks) = opened.expect(rt, "memory");
     let place = Place {
         rt,

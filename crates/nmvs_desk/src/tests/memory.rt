@@ -2,9 +2,11 @@
 ghost use Rattle.std.specs.Prelude.{◌≡◌, ◌≤◌, ℕ, length, vec_len};
 ghost use Rattle.nmvs_directory.specs.Directory.{directory_book};
 ghost use Rattle.nmvs_desk.specs.Opening.{table_of};
+ghost use Rattle.nmvs_desk.specs.Placing.{IsPlaced};
+ghost use Rattle.nmvs_desk.specs.Settlement.{row};
 
 use super::asking::{Copied, Line};
-use super::crew::{enrol_all, opening_of};
+use super::crew::{enrol_all, shards_with};
 use super::market::{P, Q, audit, authentic, new_year, upload, verify};
 use crate::{
     AskFault, Clerk, Keepers, MOST_CLERKS, OpenFault, Repository, Settled, Unsettled, settle,
@@ -14,7 +16,7 @@ use nmvs_directory::{Directory, Naming, Window};
 use nmvs_history::Histories;
 use nmvs_rules::{Entry, Reply};
 use nmvs_shard::Shard;
-use std::alloc::Global;
+use std::alloc::{AllocError, Global};
 use std::marker::Brand;
 use std::process::Abort;
 use std::rt::HostRuntime;
@@ -170,18 +172,21 @@ fn is_opened<'a, J: Naming, H: Histories, R: Wait + Abort>(
     alloc: Global,
     full: &mut FullHeap,
     windows: &mut Vec<Window<J, &'a LocalHeap>, &'a LocalHeap>,
-    opening: &Shard<&'a LocalHeap>,
+    shards: Vec<Shard<&'a LocalHeap>, &'a LocalHeap>,
     keepers: Keepers<'a, LocalHeap>,
 ) -> bool
     requires tables { (i : ℕ) → table_of keepers i ≡ H.tables i }
-    requires named { (H.shards ≡ length keepers) × (H.clerks ≡ vec_len windows.old) × (H.opening ≡ opening.now) }
+    requires named { (H.shards ≡ length keepers) × (H.clerks ≡ vec_len windows.old)
+        × ((i : ℕ) → H.opening i ≡ row shards.items i) }
+    requires many { vec_len shards ≡ length keepers }
+    requires placed { (i : ℕ) → IsPlaced (length keepers) i (row shards.items i) }
     requires few { vec_len windows.old ≤ MOST_CLERKS }
     ensures few { vec_len windows.new ≤ MOST_CLERKS }
 {
     let heap = *windows.allocator();
-    match Repository::<H, _>::open(heap, keepers, windows, opening) {
+    match Repository::<H, _>::open(heap, keepers, shards, windows) {
         Ok((repository, mut clerks)) => {
-            // the keepers and their tables, the shards, the receipts of the opening, the tokens, the clerks, the locks
+            // the keepers and their tables, the shards, what they have, the locks, the tokens, the clerks
             assert!(rt; full.refused >= 8);
             for clerk in clerks.iter_mut() {
                 are_answered_at_last(rt, alloc, full, &repository, clerk);
@@ -203,21 +208,25 @@ fn is_opened_anew<'a, J: Naming, R: Wait + Abort>(
     alloc: Global,
     full: &mut FullHeap,
     windows: &mut Vec<Window<J, &'a LocalHeap>, &'a LocalHeap>,
-    opening: &Shard<&'a LocalHeap>,
 ) -> bool
     requires few { vec_len windows.old ≤ MOST_CLERKS }
     ensures few { vec_len windows.new ≤ MOST_CLERKS }
 {
-    match Keepers::new(*windows.allocator(), 2) {
-        Ok(keepers) => is_opened::<J, Brand, _>(rt, alloc, full, windows, opening, keepers),
+    let heap = *windows.allocator();
+    let keepers = match Keepers::new(heap, 2) {
+        Ok(keepers) => keepers,
         Err(fault) => {
             assert_eq!(rt; fault, OpenFault::Memory);
-            false
+            return false;
         }
+    };
+    match shards_with(rt, heap, 2, &[Q]) {
+        Ok(shards) => is_opened::<J, Brand, _>(rt, alloc, full, windows, shards, keepers),
+        Err(AllocError) => false,
     }
 }
 
-/// Opens the repository at last, with one clerk and an opening of one upload.
+/// Opens the repository at last, with one clerk, and shards that have one upload.
 fn is_opened_at_last<J: Naming, R: Wait + Abort + Sync>(
     rt: &R,
     alloc: Global,
@@ -226,7 +235,6 @@ fn is_opened_at_last<J: Naming, R: Wait + Abort + Sync>(
 )
     requires { directory_book directory ≡ J.book }
 {
-    let opening = opening_of(rt, heap, &[Q]);
     let made = directory.open::<J, _, _>(rt, heap, 1);
     let (mut registrar, mut windows) = made.expect(rt, "a directory");
     enrol_all(rt, &mut registrar, &["mah1", "ph1", "au1"]);
@@ -237,7 +245,7 @@ fn is_opened_at_last<J: Naming, R: Wait + Abort + Sync>(
     };
     full.fill(rt);
     for _turn in 0..10_000 {
-        if is_opened_anew(rt, alloc, &mut full, &mut windows, &opening) {
+        if is_opened_anew(rt, alloc, &mut full, &mut windows) {
             break;
         }
         full.give_back(rt);

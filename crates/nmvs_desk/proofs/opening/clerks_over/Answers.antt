@@ -1,4 +1,4 @@
-use Rattle.std.proofs.Common.{◌<◌, ◌∙◌, arith, length}
+use Rattle.std.proofs.Common.{◌<◌, arith, length}
 use Rattle.std.proofs.lemmas.List.Elements.{All-push}
 use Rattle.nmvs_desk.specs.Opening.{AreNew, IsNew}
 use Rattle.nmvs_desk.specs.Views.{ClerkView}
@@ -6,8 +6,8 @@ use Rattle.nmvs_desk.proofs.Clerks.{is_new}
 use Rattle.nmvs_desk.proofs.Lists.{back_moved, first_holds, rest_all}
 use Rattle.nmvs_desk.proofs.opening.clerks_over.Goals as goal
 
-pub new-requires-clause-tokens : goal.new-requires-clause-tokens
-new-requires-clause-tokens g c =
+pub new-requires : goal.new-requires
+new-requires g c =
     let l = c.loop-windows in
     let h = g.H.Histories in
     first_holds (λ tokens. AreNew h.tables h.shards h.opening h.shards tokens.items) l.sets.items c.remove.result (omega (arith, c.remove.ensures.len, l.sets.ok.0)) c.remove.ensures.value l.invariant.1
@@ -23,6 +23,6 @@ loop-windows-preserved g c =
       rw c.push_reserved.ensures.items (back_moved (λ (x : ClerkView). x.seen) l.clerks.items c.new.result l.windows.items first.new.self.items first.result _ some first.ensures.value first.ensures.items c.new.ensures.seen l.invariant.0),
       rest_all (λ tokens. AreNew h.tables h.shards h.opening h.shards tokens.items) l.sets.items c.remove.new.self.items c.remove.ensures.items l.invariant.1,
       omega (arith, c.remove.ensures.len, first.ensures.len, l.invariant.2),
-      rw c.push_reserved.ensures.items (All-push (IsNew h.shards h.opening) l.clerks.items c.new.result l.invariant.3 (is_new h.tables h.shards h.opening tokens.items c.new.result new c.new.ensures.receipts c.new.ensures.sights)),
+      rw c.push_reserved.ensures.items (All-push (IsNew h.shards h.opening) l.clerks.items c.new.result l.invariant.3 (is_new h.tables h.shards h.opening tokens.items c.new.result new c.new.ensures.receipts c.new.ensures.sights c.new.ensures.places)),
       omega (arith, c.push_reserved.ensures.len, c.push_reserved.ensures.capacity, first.ensures.len, l.invariant.4),
     )

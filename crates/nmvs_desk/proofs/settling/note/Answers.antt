@@ -1,6 +1,5 @@
-use Rattle.std.proofs.Common.{◌≡◌, ◌∙◌, ◌<◌, refl, sym, ap, subst, arith, length, get_or}
+use Rattle.std.proofs.Common.{refl, sym, ap, arith, length}
 use Rattle.std.proofs.lemmas.Option.{slice_get_read}
-use Rattle.nmvs_desk.specs.Settlement.{row, owner}
 use Rattle.nmvs_desk.proofs.Noting.{notes_more, row_within, read_row}
 use Rattle.nmvs_desk.proofs.settling.note.Goals as goal
 

@@ -1,7 +1,7 @@
-use Rattle.std.proofs.Common.{◌≡◌, ◌∙◌, ◌<◌, List, refl, sym, ap, subst, arith, length}
+use Rattle.std.proofs.Common.{◌∙◌, List, sym, subst, arith}
 use Rattle.nmvs_desk.specs.declared.ask.Receipt.{Receipt}
-use Rattle.nmvs_desk.specs.Settlement.{row, Rises}
-use Rattle.nmvs_desk.proofs.Noting.{noted_more, places_of, read_row}
+use Rattle.nmvs_desk.specs.Settlement.{Rises}
+use Rattle.nmvs_desk.proofs.Noting.{noted_more, have_room, read_row}
 use Rattle.nmvs_desk.proofs.settling.note_all.Goals as goal
 
 pub note-requires-clause-rising : goal.note-requires-clause-rising
@@ -16,7 +16,7 @@ note-requires-clause-places g c =
     let l = c.loop-clerk in
     let lists = c.args.receipts.now.items in
     let line = read_row lists l.clerk c.index.result.now (omega (arith, c.args.receipts.now.ok.0)) c.index.ensures ∙ sym c.receipts.ensures in
-    places_of lists l.clerk c.receipts.result.now c.args.owners.now.items l.owners.items l.invariant c.requires.places line
+    have_room lists l.clerk c.receipts.result.now c.args.owners.now.items l.owners.items l.invariant c.requires.places line
 
 pub loop-clerk-preserved : goal.loop-clerk-preserved
 loop-clerk-preserved g c =

@@ -6,9 +6,9 @@ use Rattle.nmvs_desk.proofs.settling.take_entry.Given as goal
 
 abbrev pub invariant-loop-closings : goal.invariant-loop-closings
 invariant-loop-closings g l =
-    (l.closings.items ++ map (unlocked g.H.Histories.tables) l.locked.items ≡ map (unlocked g.H.Histories.tables) l.initial.locked.items)
+    (l.closings.items ++ map (unlocked g.H.Histories.tables g.H.Histories.opening) l.locked.items ≡ map (unlocked g.H.Histories.tables g.H.Histories.opening) l.initial.locked.items)
     × (All (IsKept g.H.Histories.shards) l.locked.items → All (IsKept g.H.Histories.shards) l.initial.locked.items)
-    × (All (λ h. IsPrefix h.opening h.trail) l.locked.items → All (λ h. IsPrefix h.opening h.trail) l.initial.locked.items)
+    × (All (λ h. IsPrefix (g.H.Histories.opening h.index) h.trail) l.locked.items → All (λ h. IsPrefix (g.H.Histories.opening h.index) h.trail) l.initial.locked.items)
     × (vec_len l.closings + vec_len l.locked ≤ vec_capacity l.closings)
 
 abbrev pub decreases-loop-closings : goal.decreases-loop-closings

@@ -1,5 +1,4 @@
-use Rattle.std.specs.Prelude.{ℕ, ◌≡◌, ◌+◌, Some, slice_get, vec_len}
-use Rattle.nmvs_history.specs.Views.{TokenView}
+use Rattle.std.specs.Prelude.{ℕ, ◌≡◌, ◌+◌, slice_get, vec_len}
 use Rattle.nmvs_desk.proofs.Closings.{AreTaken}
 use Rattle.nmvs_desk.proofs.settling.take_tokens.Given as goal
 

@@ -12,7 +12,7 @@ loop-shards-preserved g c =
     let out = c.into_locked.ensures in
     let some : 0 < length l.slots.items = omega (arith, c.remove.ensures.len, l.slots.ok.0) in (
       rw c.push_reserved.ensures.items (back_moved (λ (x : LockedView). x.index) l.shards.items c.into_locked.result l.slots.items c.remove.new.self.items c.remove.result _ some c.remove.ensures.value c.remove.ensures.items out.index l.invariant.0),
-      rw c.push_reserved.ensures.items (All-push (IsOpened h.shards h.clerks h.opening) l.shards.items c.into_locked.result l.invariant.1 out.opened),
+      rw c.push_reserved.ensures.items (All-push (IsOpened h.clerks) l.shards.items c.into_locked.result l.invariant.1 out.opened),
       omega (arith, c.push_reserved.ensures.len, c.push_reserved.ensures.capacity, c.remove.ensures.len, l.invariant.2),
       omega (arith, c.push_reserved.ensures.len, c.remove.ensures.len, c.remove.ensures.capacity, l.invariant.3),
     )

@@ -1,10 +1,11 @@
-use Rattle.std.proofs.Common.{◌≡◌, ◌∙◌, List, set, refl, sym, ap, subst, arith}
-use Rattle.std.proofs.lemmas.Option.{slice_get_read, slice_get_within}
+use Rattle.std.proofs.Common.{◌∙◌, List, set, refl, sym, ap, subst, arith}
+use Rattle.std.proofs.lemmas.Option.{slice_get_read}
+use Rattle.nmvs_history.specs.Views.{TokenView}
 use Rattle.nmvs_rules.specs.declared.entry.Entry.{Entry}
 use Rattle.nmvs_desk.specs.Answers.{IsShown}
 use Rattle.nmvs_desk.specs.Settlement.{row}
 use Rattle.nmvs_desk.specs.Views.{ClerkView, sights_of}
-use Rattle.nmvs_desk.proofs.Asked.{looked, shown_then, sight_else, sight_of}
+use Rattle.nmvs_desk.proofs.Asked.{looked, same_places, shown_then, sight_else, sight_of}
 use Rattle.nmvs_desk.proofs.Lists.{set_same}
 use Rattle.nmvs_desk.proofs.ask.Clerk.look_at.Goals as goal
 
@@ -48,3 +49,17 @@ pub returns-clause-others : goal.returns-clause-others
 returns-clause-others g c =
     λ i apart.
     sight_else c.self.inside.tokens.items c.args.index i c.look.new.token apart ∙ ap (λ (v : ClerkView). row v.sights i) c.self.view_is
+
+pub returns-clause-same : goal.returns-clause-same
+returns-clause-same g c =
+    let tokens = c.self.inside.tokens.items in
+    let was = c.index_mut.result.now in
+    let now = c.look.new.token in
+    let has = slice_get_read tokens g.H.Histories.shards c.args.index was (sym c.self.invariant.shards) c.requires c.index_mut.ensures.value in
+    let kept = same_places tokens c.args.index was now has (ap (λ (k : TokenView). k.places) c.look.ensures.token) ∙ ap (λ (v : ClerkView). v.places) c.self.view_is in
+    λ i. record {
+      seen = (ap (λ (v : ClerkView). v.seen) c.self.view_is) i;
+      sights = sights_of (set tokens c.args.index now);
+      places = kept i;
+      receipts = (ap (λ (v : ClerkView). v.receipts) c.self.view_is) i;
+    }

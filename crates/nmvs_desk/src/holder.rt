@@ -1,0 +1,32 @@
+ghost use Rattle.std.specs.Prelude.{◌≡◌};
+ghost use Rattle.nmvs_rules.specs.Rules.{IsLawful};
+ghost use Rattle.nmvs_desk.specs.Answers.{IsShown};
+ghost use Rattle.nmvs_desk.specs.Placing.{IsPlaced};
+
+use nmvs_history::{Histories, Token};
+
+/// Has a clerk's token of a shard for the time of a call. It may let the token see more of the shard's trail.
+pub trait Holder<H: Histories> {
+    type Output;
+
+    ghost use Rattle.std.specs.Prelude.{ℕ, List, ⊤};
+    ghost use Rattle.nmvs_rules.specs.declared.entry.Entry.{Entry};
+
+    /// The number of the shard.
+    ghost index: { Self → ℕ };
+
+    /// What has to be true of what the token has seen; nothing, where it doesn't write it.
+    ghost may: { Self → List Entry → Type 0 } = { λ _ _. ⊤ };
+
+    /// What it says of its answer, where the token had seen the first list before and has then seen the second; nothing,
+    /// where it doesn't write it.
+    ghost tells: { Self → List Entry → List Entry → Self.Output → Type 0 } = { λ _ _ _ _. ⊤ };
+
+    fn hold(self, token: &mut Token) -> Self::Output
+        requires table { token.old.table ≡ H.tables (index self) }
+        requires seen { IsLawful token.old.seen × IsPlaced H.shards (index self) token.old.seen }
+        requires may { may self token.old.seen }
+        ensures token { token.new ≡ record token.old { seen = token.new.seen } }
+        ensures shown { IsShown H.shards (index self) token.old.seen token.new.seen }
+        ensures tells { tells self token.old.seen token.new.seen result };
+}
