@@ -1,5 +1,5 @@
 -- How a session goes on by one line, by the answers that are released together, and by one read.
-use Rattle.std.proofs.Common.{◌≡◌, ◌≢◌, ◌+◌, ◌<◌, ◌≤◌, ◌⊎◌, ℕ, Bool, true, false, List, [], ◌∷◌, ◌++◌, All, IsTrue, IfNone, Option, Some, None, length, refl, sym, ap, ◌∙◌, subst, inl, inr, arith}
+use Rattle.std.proofs.Common.{◌≡◌, ◌≢◌, ◌==◌, not, ◌||◌, if◌then◌else◌, ◌+◌, ◌<◌, ◌≤◌, ◌⊎◌, ℕ, Bool, true, false, List, [], ◌∷◌, ◌++◌, All, IsTrue, IfNone, Option, Some, None, length, map, refl, sym, ap, ◌∙◌, subst, inl, inr, arith}
 use Rattle.std.proofs.lemmas.List.{flat_map_more, append-nil, length-append, length_push, append_assoc}
 use Rattle.std.proofs.lemmas.List.Elements.{All-append, All-cons, All-nil, All-head, All-tail}
 use Rattle.std.proofs.lemmas.Grind.{flat_map-append}
@@ -10,6 +10,8 @@ use Rattle.nmvs_protocol.specs.declared.ask.Ask.{Ask}
 use Rattle.nmvs_protocol.specs.declared.ask.Line.TheVariants as lines
 use Rattle.nmvs_protocol.specs.declared.answer.Answer.{Answer}
 use Rattle.nmvs_protocol.specs.declared.answer.Answer.TheVariants as answers
+use Rattle.nmvs_protocol.specs.declared.answer.Turn.TheVariants as turns
+use Rattle.nmvs_protocol.specs.declared.withheld.Withheld.{Withheld}
 use Rattle.nmvs_protocol.specs.declared.limits.Limits.{Limits}
 use Rattle.nmvs_protocol.specs.declared.limits.TheConstants.{READ_SIZE}
 use Rattle.nmvs_protocol.specs.declared.session.Session.{Session as TheSession}
@@ -19,24 +21,24 @@ use Rattle.nmvs_protocol.specs.Lines.{line_text}
 use Rattle.nmvs_protocol.specs.Texts.{text, takes_memory}
 use Rattle.nmvs_protocol.specs.InputLines.{input_lines, unfinished_line, lines_after, rest_after}
 use Rattle.nmvs_protocol.proofs.LinesOfPieces.{lines_after-append}
-use Rattle.nmvs_protocol.specs.Session.{TakesLine, AnswersLine, AnswersLines, AreReleased, StaysOrTurns, NoQuit, NoQuitBeforeLast, EndsWithQuit, AnswersAll, DeliversAll, BreaksOff, LacksLast, Closes, Session, session_text, is_input_end, is_read_fault, is_write_fault}
-use Rattle.nmvs_protocol.specs.Progress.{AreShortButLast, Gathers, Delivered, Tells, Stands, AnsweredSo, Fed, Served, has_write_fault, kept_part}
+use Rattle.nmvs_protocol.specs.Session.{TakesLine, TakesLines, StaysOrMoves, answer_of, is_kept, is_of_repository, told_where, AnswersLine, AnswersLines, AreReleased, StaysOrTurns, NoQuit, NoQuitBeforeLast, EndsWithQuit, AnswersAll, DeliversAll, BreaksOff, LacksLast, Closes, Session, session_text, is_input_end, is_read_fault, is_write_fault}
+use Rattle.nmvs_protocol.specs.Progress.{AreShortButLast, TellsWithheld, Gathers, Delivered, Tells, Stands, AnsweredSo, Fed, Served, has_write_fault, kept_part}
 
 -- one line more that is not QUIT
 pub no_quit_more : (xs : List (List ℕ)) (x : List ℕ) → NoQuit xs → x ≢ line_text lines.Quit → NoQuit (xs ++ x ∷ [])
 no_quit_more xs x none other = All-append (λ (y : List ℕ). y ≢ line_text lines.Quit) xs (x ∷ []) none (All-cons (λ (y : List ℕ). y ≢ line_text lines.Quit) x [] other (All-nil (λ (y : List ℕ). y ≢ line_text lines.Quit)))
 
--- the text of an answer is short
-abbrev pub IsShort : Answer → Type 0
-IsShort a = takes_memory a ≡ false
+-- the text of what is withheld is short
+abbrev pub IsShort : Withheld → Type 0
+IsShort w = takes_memory w.answer ≡ false
 
--- short answers, and one more
-pub short_but_last : (withheld : List Answer) (a : Answer) → All IsShort withheld → AreShortButLast (withheld ++ a ∷ [])
-short_but_last [] a short = tt
-short_but_last (h ∷ []) a short = (short 0 h (omega arith), tt)
-short_but_last (h ∷ g ∷ withheld) a short = (short 0 h (omega arith), short_but_last (g ∷ withheld) a (All-tail IsShort h (g ∷ withheld) short))
+-- what is short, and one more
+pub short_but_last : (withheld : List Withheld) (w : Withheld) → All IsShort withheld → AreShortButLast (map answer_of (withheld ++ w ∷ []))
+short_but_last [] w short = tt
+short_but_last (h ∷ []) w short = (short 0 h (omega arith), tt)
+short_but_last (h ∷ g ∷ withheld) w short = (short 0 h (omega arith), short_but_last (g ∷ withheld) w (All-tail IsShort h (g ∷ withheld) short))
 
-pub all_short : (withheld : List Answer) → All IsShort withheld → AreShortButLast withheld
+pub all_short : (withheld : List Withheld) → All IsShort withheld → AreShortButLast (map answer_of withheld)
 all_short [] short = tt
 all_short (h ∷ []) short = tt
 all_short (h ∷ g ∷ withheld) short = (short 0 h (omega arith), all_short (g ∷ withheld) (All-tail IsShort h (g ∷ withheld) short))
@@ -48,29 +50,47 @@ none_behind [] a (b ∷ later) short long = absurd (cc (short.0, long))
 none_behind (c ∷ []) a later short long = none_behind [] a later short.1 long
 none_behind (c ∷ d ∷ before) a later short long = none_behind (d ∷ before) a later short.1 long
 
-stays_short : (h a : Answer) → StaysOrTurns h a → IsShort h → IsShort a
-stays_short h a (inl e) short = ap takes_memory e ∙ short
-stays_short h a (inr turns) short = ap takes_memory turns.2
+stays_short : (w : Withheld) (a : Answer) → StaysOrTurns w a → takes_memory w.answer ≡ false → takes_memory a ≡ false
+stays_short w a (inl e) short = ap takes_memory e ∙ short
+stays_short w a (inr turns) short = ap takes_memory turns.2
 
-pub released_short : (releases : Answer → Answer → Type 0) (withheld said : List Answer) → AreReleased releases withheld said → AreShortButLast withheld → AreShortButLast said
+pub released_short : (releases : Withheld → Answer → Type 0) (withheld : List Withheld) (said : List Answer) → AreReleased releases withheld said → AreShortButLast (map answer_of withheld)
+    → AreShortButLast said
 released_short releases [] [] r short = tt
-released_short releases (h ∷ []) (a ∷ []) r short = tt
-released_short releases (h ∷ g ∷ withheld) (a ∷ b ∷ said) r short = (stays_short h a r.1 short.0, released_short releases (g ∷ withheld) (b ∷ said) r.2 short.1)
-released_short releases (h ∷ g ∷ withheld) (a ∷ []) r short = absurd r.2
-released_short releases (h ∷ []) (a ∷ b ∷ said) r short = absurd r.2
+released_short releases (w ∷ []) (a ∷ []) r short = tt
+released_short releases (w ∷ v ∷ withheld) (a ∷ b ∷ said) r short = (stays_short w a r.1 short.0, released_short releases (v ∷ withheld) (b ∷ said) r.2 short.1)
+released_short releases (w ∷ v ∷ withheld) (a ∷ []) r short = absurd r.2
+released_short releases (w ∷ []) (a ∷ b ∷ said) r short = absurd r.2
 released_short releases [] (a ∷ said) r short = absurd r
-released_short releases (h ∷ withheld) [] r short = absurd r
+released_short releases (w ∷ withheld) [] r short = absurd r
 
-released_length : (releases : Answer → Answer → Type 0) (withheld said : List Answer) → AreReleased releases withheld said → length said ≡ length withheld
+released_length : (releases : Withheld → Answer → Type 0) (withheld : List Withheld) (said : List Answer) → AreReleased releases withheld said → length said ≡ length withheld
 released_length releases [] [] r = refl
-released_length releases (h ∷ withheld) (a ∷ said) r = let n = released_length releases withheld said r.2 in omega arith
+released_length releases (w ∷ withheld) (a ∷ said) r = let n = released_length releases withheld said r.2 in omega arith
 released_length releases [] (a ∷ said) r = absurd r
-released_length releases (h ∷ withheld) [] r = absurd r
+released_length releases (w ∷ withheld) [] r = absurd r
 
--- withheld answers that are released as they are
-pub at_once : (withheld : List Answer) → AreReleased (λ h a. a ≡ h) withheld withheld
-at_once [] = tt
-at_once (h ∷ withheld) = (refl, inl refl, at_once withheld)
+-- what is withheld is released by a function of each
+pub released_by : (f : Withheld → Answer) → ((w : Withheld) → StaysOrTurns w (f w)) → (withheld : List Withheld) → AreReleased (λ w a. a ≡ f w) withheld (map f withheld)
+released_by f stays [] = tt
+released_by f stays (w ∷ withheld) = (refl, stays w, released_by f stays withheld)
+
+-- what is released so is released so, too
+pub released_as : (releases more : Withheld → Answer → Type 0) → ((w : Withheld) (a : Answer) → releases w a → more w a)
+    → (withheld : List Withheld) (said : List Answer) → AreReleased releases withheld said → AreReleased more withheld said
+released_as releases more step [] [] r = tt
+released_as releases more step (w ∷ withheld) (a ∷ said) r = (step w a r.0, r.1, released_as releases more step withheld said r.2)
+released_as releases more step [] (a ∷ said) r = absurd r
+released_as releases more step (w ∷ withheld) [] r = absurd r
+
+-- what is kept decides whether a line is turned away that may be
+pub told_stays : (kept : List ℕ) (w : Withheld) → StaysOrTurns w (told_where kept w)
+told_stays kept w = choose (is_kept kept w.basis) (is_of_repository w.answer) refl
+  where
+    choose : (k r : Bool) → is_of_repository w.answer ≡ r → StaysOrTurns w (if k || not r then w.answer else answers.Turned turns.Journal)
+    choose true r e = inl refl
+    choose false false e = inl refl
+    choose false true e = inr (e, turns.Journal, refl)
 
 none_before : (xs ys : List ℕ) → xs ++ ys ≡ [] → xs ≡ []
 none_before [] ys e = refl
@@ -224,56 +244,61 @@ flush_fails (Some ends.WriteFault) limit count answered left said old mid new no
 flush_fails (Some ends.Ended) limit count answered left said old mid new none f s = absurd s
 flush_fails (Some ends.ReadFault) limit count answered left said old mid new none f s = absurd s
 
-module _ {D : Type 0} (takes : D → Ask → Answer → D → Type 0) where
-  -- lines are taken with answers that are withheld, one a line, the desk going from old to new
-  abbrev pub TakesLines : D → List (List ℕ) → List Answer → D → Type 0
-  TakesLines old [] [] new = new ≡ old
-  TakesLines old (x ∷ xs) (h ∷ withheld) new = (mid : D) × TakesLine takes old x h mid × TakesLines mid xs withheld new
-  TakesLines old [] (h ∷ withheld) new = ⊥
-  TakesLines old (x ∷ xs) [] new = ⊥
+module _ {D : Type 0} (takes : D → Ask → Withheld → D → Type 0) where
+  taken_more : (old : D) (xs : List (List ℕ)) (withheld : List Withheld) (now new : D) (x : List ℕ) (w : Withheld)
+      → TakesLines takes old xs withheld now → TakesLine takes now x w new → TakesLines takes old (xs ++ x ∷ []) (withheld ++ w ∷ []) new
+  taken_more old [] [] now new x w t one = (new, subst (λ (d : D). TakesLine takes d x w new) t one, refl)
+  taken_more old (y ∷ ys) (v ∷ withheld) now new x w t one = (t.0, t.1, taken_more t.0 ys withheld now new x w t.2 one)
+  taken_more old [] (v ∷ withheld) now new x w t one = absurd t
+  taken_more old (y ∷ ys) [] now new x w t one = absurd t
 
-  taken_more : (old : D) (xs : List (List ℕ)) (withheld : List Answer) (now new : D) (x : List ℕ) (h : Answer)
-      → TakesLines old xs withheld now → TakesLine takes now x h new → TakesLines old (xs ++ x ∷ []) (withheld ++ h ∷ []) new
-  taken_more old [] [] now new x h t one = (new, subst (λ (d : D). TakesLine takes d x h new) t one, refl)
-  taken_more old (y ∷ ys) (g ∷ withheld) now new x h t one = (t.0, t.1, taken_more t.0 ys withheld now new x h t.2 one)
-  taken_more old [] (g ∷ withheld) now new x h t one = absurd t
-  taken_more old (y ∷ ys) [] now new x h t one = absurd t
-
-  module _ (releases : D → Answer → Answer → Type 0) where
-    answered_length : (old : D) (xs : List (List ℕ)) (said : List Answer) (new : D) → AnswersLines takes releases old xs said new → length said ≡ length xs
+  module _ {E : Type 0} (releases : D → E → Withheld → Answer → Type 0) (moves : D → D → Type 0) where
+    answered_length : (old : D) (xs : List (List ℕ)) (said : List Answer) (new : D) → AnswersLines takes releases moves old xs said new → length said ≡ length xs
     answered_length old [] [] new a = refl
-    answered_length old (x ∷ xs) (s ∷ said) new a = let n = answered_length a.0 xs said new a.2 in omega arith
+    answered_length old (x ∷ xs) (s ∷ said) new a = let n = answered_length a.1 xs said new a.4 in omega arith
     answered_length old [] (s ∷ said) new a = absurd a
     answered_length old (x ∷ xs) [] new a = absurd a
 
-    -- lines that were taken, whose answers are released
-    released_lines : (at old : D) (xs : List (List ℕ)) (withheld said : List Answer) (new : D) → TakesLines old xs withheld new → AreReleased (releases at) withheld said
-        → AnswersLines takes releases old xs said new
-    released_lines at old [] [] [] new t r = t
-    released_lines at old (x ∷ xs) (h ∷ withheld) (a ∷ said) new t r =
-        (t.0, record { withheld = h; taken = t.1; at = at; released = r.0; stays = r.1 }, released_lines at t.0 xs withheld said new t.2 r.2)
-    released_lines at old [] [] (a ∷ said) new t r = absurd r
-    released_lines at old (x ∷ xs) (h ∷ withheld) [] new t r = absurd r
-    released_lines at old [] (h ∷ withheld) said new t r = absurd t
-    released_lines at old (x ∷ xs) [] said new t r = absurd t
+    -- lines that were taken, whose answers are released together
+    released_lines : (evidence : E) (old : D) (xs : List (List ℕ)) (w : Withheld) (withheld : List Withheld) (said : List Answer) (at new : D) → TakesLines takes old xs (w ∷ withheld) at
+        → AreReleased (releases at evidence) (w ∷ withheld) said → moves at new → AnswersLines takes releases moves old xs said new
+    released_lines evidence old (x ∷ []) w [] (a ∷ []) at new t r m = (
+      t.0,
+      new,
+      record { withheld = w; taken = t.1; at = at; later = []; held = []; reached = t.2; evidence = evidence; released = r.0; stays = r.1 },
+      inr (subst (λ (d : D). moves d new) t.2 m),
+      refl,
+    )
+    released_lines evidence old (x ∷ y ∷ xs) w (v ∷ withheld) (a ∷ said) at new t r m = (
+      t.0,
+      t.0,
+      record { withheld = w; taken = t.1; at = at; later = y ∷ xs; held = v ∷ withheld; reached = t.2; evidence = evidence; released = r.0; stays = r.1 },
+      inl refl,
+      released_lines evidence t.0 (y ∷ xs) v withheld said at new t.2 r.2 m,
+    )
+    released_lines evidence old (x ∷ []) w [] (a ∷ b ∷ said) at new t r m = absurd r.2
+    released_lines evidence old (x ∷ []) w (v ∷ withheld) (a ∷ said) at new t r m = absurd t.2
+    released_lines evidence old (x ∷ y ∷ xs) w [] (a ∷ said) at new t r m = absurd t.2
+    released_lines evidence old (x ∷ xs) w withheld [] at new t r m = absurd r
+    released_lines evidence old [] w withheld said at new t r m = absurd t
 
     -- lines after others
-    pub answers_both : (old : D) (xs ys : List (List ℕ)) (said more : List Answer) (mid new : D) → AnswersLines takes releases old xs said mid
-        → AnswersLines takes releases mid ys more new → AnswersLines takes releases old (xs ++ ys) (said ++ more) new
-    answers_both old [] ys [] more mid new a b = subst (λ (d : D). AnswersLines takes releases d ys more new) a b
-    answers_both old (x ∷ xs) ys (s ∷ said) more mid new a b = (a.0, a.1, answers_both a.0 xs ys said more mid new a.2 b)
+    pub answers_both : (old : D) (xs ys : List (List ℕ)) (said more : List Answer) (mid new : D) → AnswersLines takes releases moves old xs said mid
+        → AnswersLines takes releases moves mid ys more new → AnswersLines takes releases moves old (xs ++ ys) (said ++ more) new
+    answers_both old [] ys [] more mid new a b = subst (λ (d : D). AnswersLines takes releases moves d ys more new) a b
+    answers_both old (x ∷ xs) ys (s ∷ said) more mid new a b = (a.0, a.1, a.2, a.3, answers_both a.1 xs ys said more mid new a.4 b)
     answers_both old [] ys (s ∷ said) more mid new a b = absurd a
     answers_both old (x ∷ xs) ys [] more mid new a b = absurd a
 
     -- lines of which the first are told, and the answers to the others are withheld
-    pub record Holds (session : TheSession) (first : D) (start : Taken) (now : D) (sink : Taken) (count : ℕ) (lines : List (List ℕ)) (withheld : List Answer) : Type 0 where
+    pub record Holds (session : TheSession) (first : D) (start : Taken) (now : D) (sink : Taken) (count : ℕ) (lines : List (List ℕ)) (withheld : List Withheld) : Type 0 where
       pub told : List (List ℕ)
       pub waiting : List (List ℕ)
       pub these : lines ≡ told ++ waiting
       pub said : List Answer
       pub mid : D
-      pub answers : AnswersLines takes releases first told said mid
-      pub taken : TakesLines mid waiting withheld now
+      pub answers : AnswersLines takes releases moves first told said mid
+      pub taken : TakesLines takes mid waiting withheld now
       pub counted : count ≡ session.answered + length said + length withheld
       pub within : count ≤ session.limit
       pub written : Gathers start sink said
@@ -292,12 +317,12 @@ module _ {D : Type 0} (takes : D → Ask → Answer → D → Type 0) where
       written = record { bytes = sym (append-nil start.bytes); flushed = λ none. refl; failed = refl };
     }
 
-    pub holds_more : {session : TheSession} {first : D} {start : Taken} {now : D} {sink : Taken} {count count' : ℕ} {lines : List (List ℕ)} {withheld withheld' : List Answer} (x : List ℕ) (h : Answer) (new : D)
-        → Holds session first start now sink count lines withheld → count < session.limit → TakesLine takes now x h new → count' ≡ count + 1 → withheld' ≡ withheld ++ h ∷ []
+    pub holds_more : {session : TheSession} {first : D} {start : Taken} {now : D} {sink : Taken} {count count' : ℕ} {lines : List (List ℕ)} {withheld withheld' : List Withheld} (x : List ℕ) (w : Withheld) (new : D)
+        → Holds session first start now sink count lines withheld → count < session.limit → TakesLine takes now x w new → count' ≡ count + 1 → withheld' ≡ withheld ++ w ∷ []
         → Holds session first start new sink count' (lines ++ x ∷ []) withheld'
-    holds_more {session} {now = now} {withheld = withheld} {withheld' = withheld'} x h new k lt one next more =
-        let n = length_push withheld h in
-        let m = ap (λ (l : List Answer). length l) more in
+    holds_more {session} {now = now} {withheld = withheld} {withheld' = withheld'} x w new k lt one next more =
+        let n = length_push withheld w in
+        let m = ap (λ (l : List Withheld). length l) more in
         let counted = k.counted in record {
           told = k.told;
           waiting = k.waiting ++ x ∷ [];
@@ -305,7 +330,7 @@ module _ {D : Type 0} (takes : D → Ask → Answer → D → Type 0) where
           said = k.said;
           mid = k.mid;
           answers = k.answers;
-          taken = subst (λ (l : List Answer). TakesLines k.mid (k.waiting ++ x ∷ []) l new) (sym more) (taken_more k.mid k.waiting withheld now new x h k.taken one);
+          taken = subst (λ (l : List Withheld). TakesLines takes k.mid (k.waiting ++ x ∷ []) l new) (sym more) (taken_more k.mid k.waiting withheld now new x w k.taken one);
           counted = omega arith;
           within = omega arith;
           written = k.written;
@@ -314,28 +339,48 @@ module _ {D : Type 0} (takes : D → Ask → Answer → D → Type 0) where
     -- lines whose answers were all released, and told so
     pub record AllTold (session : TheSession) (first : D) (start : Taken) (now : D) (sink : Taken) (count : ℕ) (lines : List (List ℕ)) (end : Option End) : Type 0 where
       pub said : List Answer
-      pub answers : AnswersLines takes releases first lines said now
+      pub answers : AnswersLines takes releases moves first lines said now
       pub counted : count ≡ session.answered + length said
       pub within : count ≤ session.limit
       pub told : Tells end start sink said
 
-    pub tells : {session : TheSession} {first : D} {start : Taken} {now new : D} {sink sink' : Taken} {count : ℕ} {lines : List (List ℕ)} {withheld : List Answer} (at : D) (end : Option End)
-        → Holds session first start now sink count lines withheld → AreShortButLast withheld → new ≡ now
-        → ((said : List Answer) × AreReleased (releases at) withheld said × (AreShortButLast withheld → Tells end sink sink' said)) → AllTold session first start new sink' count lines end
-    tells {session} {first} {start} {now} {new} {sink} {sink'} {lines = lines} {withheld = withheld} at end k short stays told =
-        let said = told.0 in
-        let n = released_length (releases at) withheld said told.1 in
-        let m = length-append k.said said in
-        let counted = k.counted in
-        let all = answers_both first k.told k.waiting k.said said k.mid now k.answers (released_lines at k.mid k.waiting withheld said now k.taken told.1) in
-        record {
-          said = k.said ++ said;
-          answers = subst (λ (d : D). AnswersLines takes releases first lines (k.said ++ said) d) (sym stays)
-              (subst (λ (xs : List (List ℕ)). AnswersLines takes releases first xs (k.said ++ said) now) (sym k.these) all);
+    none_waiting : (mid now : D) (waiting : List (List ℕ)) → TakesLines takes mid waiting [] now → (waiting ≡ []) × (now ≡ mid)
+    none_waiting mid now [] t = (refl, t)
+    none_waiting mid now (x ∷ xs) t = absurd t
+
+    pub tells : {session : TheSession} {first : D} {start : Taken} {now new : D} {sink sink' : Taken} {count : ℕ} {lines : List (List ℕ)} (withheld : List Withheld) (end : Option End)
+        → Holds session first start now sink count lines withheld → AreShortButLast (map answer_of withheld) → TellsWithheld releases moves withheld now new end sink sink'
+        → AllTold session first start new sink' count lines end
+    tells {session} {first} {start} {now} {new} {sink} {sink'} {lines = lines} [] end k short told =
+        let none = none_waiting k.mid now k.waiting k.taken in
+        let counted = k.counted in record {
+          said = k.said;
+          answers = subst (λ (d : D). AnswersLines takes releases moves first lines k.said d) (sym (told.0 ∙ none.1))
+              (subst (λ (xs : List (List ℕ)). AnswersLines takes releases moves first xs k.said k.mid) (sym (append-nil k.told) ∙ ap (λ (xs : List (List ℕ)). k.told ++ xs) (sym none.0) ∙ sym k.these) k.answers);
           counted = omega arith;
           within = k.within;
-          told = tells_more end start sink sink' k.said said k.written (told.2 short);
+          told = subst (λ (e : Option End). Tells e start sink' k.said) (sym told.1) (subst (λ (s : Taken). Gathers start s k.said) (sym told.2) k.written);
         }
+    tells {session} {first} {start} {now} {new} {sink} {sink'} {lines = lines} (w ∷ withheld) end k short told =
+        let said = told.2 in
+        let n = released_length (releases now told.1) (w ∷ withheld) said told.3 in
+        let m = length-append k.said said in
+        let counted = k.counted in
+        let all = answers_both first k.told k.waiting k.said said k.mid new k.answers (released_lines told.1 k.mid k.waiting w withheld said now new k.taken told.3 told.0) in
+        record {
+          said = k.said ++ said;
+          answers = subst (λ (xs : List (List ℕ)). AnswersLines takes releases moves first xs (k.said ++ said) new) (sym k.these) all;
+          counted = omega arith;
+          within = k.within;
+          told = tells_more end start sink sink' k.said said k.written (told.4 short);
+        }
+
+    -- what is told of some that were withheld
+    pub told_withheld : (withheld : List Withheld) (old new : D) (evidence : E) (said : List Answer) (end : Option End) (sink sink' : Taken) → (length withheld == 0) ≡ false
+        → moves old new → AreReleased (releases old evidence) withheld said → (AreShortButLast said → Tells end sink sink' said) → TellsWithheld releases moves withheld old new end sink sink'
+    told_withheld [] old new evidence said end sink sink' some m r told = absurd (cc some)
+    told_withheld (w ∷ withheld) old new evidence said end sink sink' some m r told =
+        (m, evidence, said, r, λ short. told (released_short (releases old evidence) (w ∷ withheld) said r short))
 
     -- none is withheld, once all are told
     pub holds_told : {session : TheSession} {first : D} {start : Taken} {now : D} {sink : Taken} {count : ℕ} {lines : List (List ℕ)} → AllTold session first start now sink count lines (None)
@@ -355,9 +400,9 @@ module _ {D : Type 0} (takes : D → Ask → Answer → D → Type 0) where
 
     -- all lines are told so, and those behind them are left
     answered_so : (session session' : TheSession) (first : D) (start : Taken) (now : D) (sink : Taken) (lines left all : List (List ℕ)) (said : List Answer) (end : Option End)
-        → AnswersLines takes releases first lines said now → lines ++ left ≡ all → session'.answered ≡ session.answered + length said → session'.limit ≡ session.limit → session'.answered ≤ session.limit
+        → AnswersLines takes releases moves first lines said now → lines ++ left ≡ all → session'.answered ≡ session.answered + length said → session'.limit ≡ session.limit → session'.answered ≤ session.limit
         → Stands end (Gathers start sink) session.limit session'.answered lines left said start sink → (start.failed ≡ false → sink.failed ≡ has_write_fault end)
-        → Fed takes releases session first start all session' now sink end
+        → Fed takes releases moves session first start all session' now sink end
     answered_so session session' first start now sink lines left all said end a these counted limit within stands sound = record {
       answered = lines;
       left = left;
@@ -374,7 +419,7 @@ module _ {D : Type 0} (takes : D → Ask → Answer → D → Type 0) where
     -- the session ends since writing broke off, or there was no memory
     pub fed_broken : {session session' : TheSession} {first : D} {start : Taken} {now : D} {sink : Taken} {lines : List (List ℕ)} (left all : List (List ℕ)) (end : End)
         → AllTold session first start now sink session'.answered lines (Some end) → lines ++ left ≡ all → session'.limit ≡ session.limit → NoQuitBeforeLast lines
-        → Fed takes releases session first start all session' now sink (Some end)
+        → Fed takes releases moves session first start all session' now sink (Some end)
     fed_broken {session} {session'} {first} {start} {now} {sink} {lines} left all end a these limit quit =
         answered_so session session' first start now sink lines left all a.said (Some end) a.answers these a.counted limit a.within
         (broken end session.limit session'.answered lines left a.said start sink quit a.told) (tells_sound (Some end) start sink a.said a.told)
@@ -383,18 +428,18 @@ module _ {D : Type 0} (takes : D → Ask → Answer → D → Type 0) where
     pub fed_all : {session session' : TheSession} {first : D} {start : Taken} {now : D} {sink : Taken} {lines : List (List ℕ)} (left all : List (List ℕ)) (end : Option End)
         → (a : AllTold session first start now sink session'.answered lines (None)) → lines ++ left ≡ all → session'.limit ≡ session.limit → has_write_fault end ≡ false
         → Stands end (Gathers start sink) session.limit session'.answered lines left a.said start sink
-        → Fed takes releases session first start all session' now sink end
+        → Fed takes releases moves session first start all session' now sink end
     fed_all {session} {session'} {first} {start} {now} {sink} {lines} left all end a these limit none stands =
         answered_so session session' first start now sink lines left all a.said end a.answers these a.counted limit a.within stands (λ sound. tells_sound (None) start sink a.said a.told sound ∙ sym none)
 
     -- all lines that the bytes complete are told
     pub fed_whole : {session session' : TheSession} {first : D} {start : Taken} {now : D} {sink : Taken} {lines : List (List ℕ)} (all : List (List ℕ)) (end : Option End)
-        → AllTold session first start now sink session'.answered lines end → lines ≡ all → session'.limit ≡ session.limit → NoQuit lines → Fed takes releases session first start all session' now sink end
+        → AllTold session first start now sink session'.answered lines end → lines ≡ all → session'.limit ≡ session.limit → NoQuit lines → Fed takes releases moves session first start all session' now sink end
     fed_whole {lines = lines} all None a these limit quit = fed_all [] all None a (append-nil lines ∙ these) limit refl (record { all = refl; no_quit = quit }, a.told)
     fed_whole {lines = lines} all (Some end) a these limit quit = fed_broken [] all end a (append-nil lines ∙ these) limit (inl quit)
 
     -- how far the bytes that were fed are taken: so many lines were, one is begun, and these bytes are left
-    pub record Ahead (session : TheSession) (first : D) (start : Taken) (now : D) (sink : Taken) (count : ℕ) (begun rest : List ℕ) (withheld : List Answer) (lines : List (List ℕ)) (unfinished : List ℕ) : Type 0 where
+    pub record Ahead (session : TheSession) (first : D) (start : Taken) (now : D) (sink : Taken) (count : ℕ) (begun rest : List ℕ) (withheld : List Withheld) (lines : List (List ℕ)) (unfinished : List ℕ) : Type 0 where
       pub taken : List (List ℕ)
       pub line : List ℕ
       pub keeps : begun ≡ kept_part line
@@ -406,7 +451,7 @@ module _ {D : Type 0} (takes : D → Ask → Answer → D → Type 0) where
 
     -- what was fed is flushed
     pub served : {session session' : TheSession} {first now : D} {start mid new : Taken} {lines : List (List ℕ)} (end : Option End) → has_write_fault end ≡ false → Flushes mid new
-        → Fed takes releases session first start lines session' now mid end → Served takes releases session first start lines session' now new end
+        → Fed takes releases moves session first start lines session' now mid end → Served takes releases moves session first start lines session' now new end
     served {session} {session'} {start = start} {mid = mid} {new = new} end none f h = record {
       answered = h.answered;
       left = h.left;
@@ -422,7 +467,7 @@ module _ {D : Type 0} (takes : D → Ask → Answer → D → Type 0) where
 
     -- a write failed
     pub served_part : {session session' : TheSession} {first now : D} {start new : Taken} {lines : List (List ℕ)} (end : Option End) → has_write_fault end ≡ true
-        → Fed takes releases session first start lines session' now new end → Served takes releases session first start lines session' now new end
+        → Fed takes releases moves session first start lines session' now new end → Served takes releases moves session first start lines session' now new end
     served_part {session} {session'} {start = start} {new = new} end fault h = record {
       answered = h.answered;
       left = h.left;
@@ -438,7 +483,7 @@ module _ {D : Type 0} (takes : D → Ask → Answer → D → Type 0) where
 
     -- the flush failed
     pub served_broken : {session session' : TheSession} {first now : D} {start mid new : Taken} {lines : List (List ℕ)} (end : Option End) → has_write_fault end ≡ false → FailsToTake mid new
-        → Fed takes releases session first start lines session' now mid end → Served takes releases session first start lines session' now new (Some ends.WriteFault)
+        → Fed takes releases moves session first start lines session' now mid end → Served takes releases moves session first start lines session' now new (Some ends.WriteFault)
     served_broken {session} {session'} {start = start} {mid = mid} {new = new} end none f h = record {
       answered = h.answered;
       left = h.left;
@@ -455,7 +500,7 @@ module _ {D : Type 0} (takes : D → Ask → Answer → D → Type 0) where
     -- a session between its reads: the answers to all lines of its input were delivered
     pub record SoFar (limit : ℕ) (first : D) (start : Taken) (now : D) (sink : Taken) (session : TheSession) (input : List ℕ) : Type 0 where
       pub said : List Answer
-      pub answers : AnswersLines takes releases first (input_lines input) said now
+      pub answers : AnswersLines takes releases moves first (input_lines input) said now
       pub no_quit : NoQuit (input_lines input)
       pub counted : session.answered ≡ length said
       pub limit_is : session.limit ≡ limit
@@ -490,7 +535,7 @@ module _ {D : Type 0} (takes : D → Ask → Answer → D → Type 0) where
 
     -- the lines of one read more
     pub so_far_more : {limit : ℕ} {first now new : D} {start sink sink' : Taken} {session session' : TheSession} {input : List ℕ} (chunk : List ℕ) → SoFar limit first start now sink session input
-        → Served takes releases session now sink (lines_after (unfinished_line input) chunk) session' new sink' None → session'.line ≡ kept_part (unfinished_line (input ++ chunk))
+        → Served takes releases moves session now sink (lines_after (unfinished_line input) chunk) session' new sink' None → session'.line ≡ kept_part (unfinished_line (input ++ chunk))
         → SoFar limit first start new sink' session' (input ++ chunk)
     so_far_more {first = first} {now = now} {new = new} {start = start} {sink = sink} {sink' = sink'} {input = input} chunk a h begun =
         let n = length-append a.said h.said in
@@ -499,7 +544,7 @@ module _ {D : Type 0} (takes : D → Ask → Answer → D → Type 0) where
         let counted = a.counted in
         let more = h.counted in record {
           said = a.said ++ h.said;
-          answers = subst (λ (xs : List (List ℕ)). AnswersLines takes releases first xs (a.said ++ h.said) new) all (answers_both first (input_lines input) h.answered a.said h.said now new a.answers h.answers);
+          answers = subst (λ (xs : List (List ℕ)). AnswersLines takes releases moves first xs (a.said ++ h.said) new) all (answers_both first (input_lines input) h.answered a.said h.said now new a.answers h.answers);
           no_quit = subst NoQuit all (no_quit_both (input_lines input) h.answered a.no_quit h.stands.0.no_quit);
           counted = omega arith;
           limit_is = h.limit ∙ a.limit_is;
@@ -540,7 +585,7 @@ module _ {D : Type 0} (takes : D → Ask → Answer → D → Type 0) where
 
     closes : {limit : ℕ} {first now new : D} {start sink sink' : Taken} {session session' : TheSession} {input : List ℕ} (limits : Limits) (source source' : Told) (chunk : List ℕ) (end : End)
         → length chunk ≤ READ_SIZE → limit ≡ limits.lines → (a : SoFar limit first start now sink session input)
-        → (h : Served takes releases session now sink (lines_after (unfinished_line input) chunk) session' new sink' (Some end))
+        → (h : Served takes releases moves session now sink (lines_after (unfinished_line input) chunk) session' new sink' (Some end))
         → Closes end limits (input ++ chunk) (input_lines input ++ h.answered) h.left (a.said ++ h.said) source source' start sink'
     closes {start = start} {sink = sink} {sink' = sink'} {input = input} limits source source' chunk ends.Quit one is a h =
         (ends_both (input_lines input) h.answered a.no_quit h.stands.0, delivers_more start sink sink' a.said h.said a.delivered h.stands.1)
@@ -582,9 +627,9 @@ module _ {D : Type 0} (takes : D → Ask → Answer → D → Type 0) where
     -- a session that ended with the lines of a read
     pub closed : {first now new : D} {start sink sink' : Taken} {session session' : TheSession} {input : List ℕ} (limits : Limits) (source source' : Told) (chunk : List ℕ) (end : End)
         → length chunk ≤ READ_SIZE → (a : SoFar limits.lines first start now sink session input)
-        → Served takes releases session now sink (lines_after (unfinished_line input) chunk) session' new sink' (Some end)
+        → Served takes releases moves session now sink (lines_after (unfinished_line input) chunk) session' new sink' (Some end)
         → source'.bytes ≡ source.bytes ++ (input ++ chunk) → source'.reads ≤ source.reads + limits.reads → source'.ended ≡ false → source'.failed ≡ false
-        → Session takes releases limits first source start new source' sink' end
+        → Session takes releases moves limits first source start new source' sink' end
     closed {first} {now} {new} {start} {sink} {sink'} {session} {session'} {input} limits source source' chunk end one a h read reads unended unfailed =
         let n = length-append a.said h.said in
         let counted = a.counted in

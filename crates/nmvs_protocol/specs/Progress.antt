@@ -1,5 +1,5 @@
 -- How a session stands between its lines and between its reads (own).
-use Rattle.std.specs.Prelude.{◌≡◌, ◌≤◌, ◌<◌, ◌+◌, ◌⊎◌, ℕ, Bool, true, false, List, [], ◌∷◌, ◌++◌, length, take, Option, Some, None}
+use Rattle.std.specs.Prelude.{◌≡◌, ◌≤◌, ◌<◌, ◌+◌, ◌⊎◌, ℕ, Bool, true, false, List, [], ◌∷◌, ◌++◌, length, map, take, Option, Some, None}
 use Rattle.nmvs_stream.specs.Sink.{Taken}
 use Rattle.nmvs_stream.specs.Delivery.{Writes, Delivers, DeliversPart}
 use Rattle.nmvs_protocol.specs.declared.ask.Ask.{Ask}
@@ -8,7 +8,8 @@ use Rattle.nmvs_protocol.specs.declared.end.End.{End}
 use Rattle.nmvs_protocol.specs.declared.end.End.TheVariants as ends
 use Rattle.nmvs_protocol.specs.declared.pending_line.TheConstants.{KEPT}
 use Rattle.nmvs_protocol.specs.declared.session.Session.{Session}
-use Rattle.nmvs_protocol.specs.Session.{AnswersLines, AnswersAll, NoQuit, EndsWithQuit, NoQuitBeforeLast, LacksLast, session_text, is_write_fault}
+use Rattle.nmvs_protocol.specs.declared.withheld.Withheld.{Withheld}
+use Rattle.nmvs_protocol.specs.Session.{AnswersLines, AreReleased, answer_of, AnswersAll, NoQuit, EndsWithQuit, NoQuitBeforeLast, LacksLast, session_text, is_write_fault}
 use Rattle.nmvs_protocol.specs.Texts.{takes_memory}
 
 -- what is kept of a line: enough to judge it, since one byte more than a line may have tells that it is too long
@@ -39,6 +40,13 @@ Tells (Some ends.Limit) sink sink' said = ⊥
 Tells (Some ends.Ended) sink sink' said = ⊥
 Tells (Some ends.ReadFault) sink sink' said = ⊥
 
+-- what telling what is withheld comes to, and what it makes of the desk: where there is none the desk is not asked
+abbrev pub TellsWithheld : {D E : Type 0} → (D → E → Withheld → Answer → Type 0) → (D → D → Type 0) → List Withheld → D → D → Option End → Taken → Taken → Type 0
+TellsWithheld releases moves [] old new end sink sink' = (new ≡ old) × (end ≡ None) × (sink' ≡ sink)
+TellsWithheld {E = E} releases moves (w ∷ withheld) old new end sink sink' =
+    moves old new × (evidence : E) × (said : List Answer) × AreReleased (releases old evidence) (w ∷ withheld) said
+    × (AreShortButLast (map answer_of (w ∷ withheld)) → Tells end sink sink' said)
+
 -- another whole line is there, and no more may be answered
 pub record LimitReached (count limit : ℕ) (left : List (List ℕ)) : Type 0 where
   pub reached : count ≡ limit
@@ -60,12 +68,12 @@ has_write_fault (None) = false
 has_write_fault (Some end) = is_write_fault end
 
 -- of the lines that some bytes complete the first were answered, and told so
-pub record AnsweredSo {D : Type 0} (tells : Taken → Taken → List Answer → Type 0) (takes : D → Ask → Answer → D → Type 0) (releases : D → Answer → Answer → Type 0) (session : Session) (desk : D) (sink : Taken) (lines : List (List ℕ)) (session' : Session) (desk' : D) (sink' : Taken) (end : Option End) : Type 0 where
+pub record AnsweredSo {D E : Type 0} (tells : Taken → Taken → List Answer → Type 0) (takes : D → Ask → Withheld → D → Type 0) (releases : D → E → Withheld → Answer → Type 0) (moves : D → D → Type 0) (session : Session) (desk : D) (sink : Taken) (lines : List (List ℕ)) (session' : Session) (desk' : D) (sink' : Taken) (end : Option End) : Type 0 where
   pub answered : List (List ℕ)
   pub left : List (List ℕ)
   pub these : lines ≡ answered ++ left
   pub said : List Answer
-  pub answers : AnswersLines takes releases desk answered said desk'
+  pub answers : AnswersLines takes releases moves desk answered said desk'
   pub counted : session'.answered ≡ session.answered + length said
   pub limit : session'.limit ≡ session.limit
   pub within : session'.answered ≤ session.limit
@@ -73,9 +81,9 @@ pub record AnsweredSo {D : Type 0} (tells : Taken → Taken → List Answer → 
   pub sound : sink.failed ≡ false → sink'.failed ≡ has_write_fault end
 
 -- and their texts are written, and are to be flushed
-abbrev pub Fed : {D : Type 0} → (D → Ask → Answer → D → Type 0) → (D → Answer → Answer → Type 0) → Session → D → Taken → List (List ℕ) → Session → D → Taken → Option End → Type 0
-Fed takes releases = AnsweredSo Gathers takes releases
+abbrev pub Fed : {D E : Type 0} → (D → Ask → Withheld → D → Type 0) → (D → E → Withheld → Answer → Type 0) → (D → D → Type 0) → Session → D → Taken → List (List ℕ) → Session → D → Taken → Option End → Type 0
+Fed takes releases moves = AnsweredSo Gathers takes releases moves
 
 -- and their texts are written and flushed
-abbrev pub Served : {D : Type 0} → (D → Ask → Answer → D → Type 0) → (D → Answer → Answer → Type 0) → Session → D → Taken → List (List ℕ) → Session → D → Taken → Option End → Type 0
-Served takes releases = AnsweredSo Delivered takes releases
+abbrev pub Served : {D E : Type 0} → (D → Ask → Withheld → D → Type 0) → (D → E → Withheld → Answer → Type 0) → (D → D → Type 0) → Session → D → Taken → List (List ℕ) → Session → D → Taken → Option End → Type 0
+Served takes releases moves = AnsweredSo Delivered takes releases moves

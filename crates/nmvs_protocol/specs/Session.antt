@@ -1,5 +1,5 @@
 -- Sessions: which lines were answered and how, what was written, and what each end means (own).
-use Rattle.std.specs.Prelude.{◌≡◌, ◌≢◌, ◌<◌, ◌≤◌, ◌+◌, ◌⊎◌, ℕ, Bool, true, false, List, [], ◌∷◌, ◌++◌, length, All, Result, Ok, Err, IsTrue}
+use Rattle.std.specs.Prelude.{◌≡◌, ◌≢◌, ◌<◌, ◌≤◌, ◌+◌, ◌⊎◌, ℕ, Bool, true, false, not, ◌||◌, if◌then◌else◌, nat_lt, List, [], ◌∷◌, ◌++◌, length, slice_index_or, All, Option, Some, None, Result, Ok, Err, IsTrue}
 use Rattle.std.specs.List.{flat_map}
 use Rattle.nmvs_stream.specs.Source.{Told}
 use Rattle.nmvs_stream.specs.Sink.{Taken}
@@ -10,6 +10,9 @@ use Rattle.nmvs_protocol.specs.declared.ask.LineFault.{LineFault}
 use Rattle.nmvs_protocol.specs.declared.answer.Answer.{Answer}
 use Rattle.nmvs_protocol.specs.declared.answer.Answer.TheVariants as answers
 use Rattle.nmvs_protocol.specs.declared.answer.Turn.{Turn}
+use Rattle.nmvs_protocol.specs.declared.answer.Turn.TheVariants as turns
+use Rattle.nmvs_protocol.specs.declared.withheld.Basis.{Basis}
+use Rattle.nmvs_protocol.specs.declared.withheld.Withheld.{Withheld}
 use Rattle.nmvs_protocol.specs.declared.limits.Limits.{Limits}
 use Rattle.nmvs_protocol.specs.declared.limits.TheConstants.{READ_SIZE}
 use Rattle.nmvs_protocol.specs.declared.end.End.{End}
@@ -18,54 +21,92 @@ use Rattle.nmvs_protocol.specs.Lines.{line_text, ReadsLine}
 use Rattle.nmvs_protocol.specs.Texts.{text, takes_memory}
 use Rattle.nmvs_protocol.specs.InputLines.{input_lines}
 
--- what is withheld in answer where a line is read so, the desk going from old to new: it is asked all but QUIT
-abbrev pub Answers : {D : Type 0} → (D → Ask → Answer → D → Type 0) → D → Result Line LineFault → Answer → D → Type 0
+-- the answer that is withheld
+abbrev pub answer_of : Withheld → Answer
+answer_of withheld = withheld.answer
+
+-- an answer that rests on no entry
+abbrev pub plain : Answer → Withheld
+plain a = record { answer = a; basis = None }
+
+-- what is withheld where a line is read so, the desk going from old to new: it is asked all but QUIT
+abbrev pub Answers : {D : Type 0} → (D → Ask → Withheld → D → Type 0) → D → Result Line LineFault → Withheld → D → Type 0
 Answers takes old (Ok (lines.Ask ask)) withheld new = takes old ask withheld new
-Answers takes old (Ok lines.Quit) withheld new = (withheld ≡ answers.Bye) × (new ≡ old)
-Answers takes old (Err fault) withheld new = (withheld ≡ answers.Unread fault) × (new ≡ old)
+Answers takes old (Ok lines.Quit) withheld new = (withheld ≡ plain answers.Bye) × (new ≡ old)
+Answers takes old (Err fault) withheld new = (withheld ≡ plain (answers.Unread fault)) × (new ≡ old)
 
 -- a line is taken with an answer that is withheld, the desk going from old to new
-pub record TakesLine {D : Type 0} (takes : D → Ask → Answer → D → Type 0) (old : D) (x : List ℕ) (withheld : Answer) (new : D) : Type 0 where
+pub record TakesLine {D : Type 0} (takes : D → Ask → Withheld → D → Type 0) (old : D) (x : List ℕ) (withheld : Withheld) (new : D) : Type 0 where
   pub reading : Result Line LineFault
   pub reads : ReadsLine x reading
   pub answers : Answers takes old reading withheld new
 
--- the answer is a reply or a report of the repository
-abbrev pub IsOfRepository : Answer → Type 0
-IsOfRepository (answers.Replied r shown) = Unit {0}
-IsOfRepository (answers.Reported t) = Unit {0}
-IsOfRepository _ = ⊥
+-- lines are taken with answers that are withheld, one a line, the desk going from old to new
+abbrev pub TakesLines : {D : Type 0} → (D → Ask → Withheld → D → Type 0) → D → List (List ℕ) → List Withheld → D → Type 0
+TakesLines takes old [] [] new = new ≡ old
+TakesLines {D} takes old (x ∷ xs) (w ∷ withheld) new = (mid : D) × TakesLine takes old x w mid × TakesLines takes mid xs withheld new
+TakesLines takes old [] (w ∷ withheld) new = ⊥
+TakesLines takes old (x ∷ xs) [] new = ⊥
 
--- what any release may make of an answer that is withheld: it stays, or the line of a reply or a report is turned away
-abbrev pub StaysOrTurns : Answer → Answer → Type 0
-StaysOrTurns withheld said = (said ≡ withheld) ⊎ (IsOfRepository withheld × (turn : Turn) × (said ≡ answers.Turned turn))
+-- whether the answer is a reply or a report of the repository
+abbrev pub is_of_repository : Answer → Bool
+is_of_repository (answers.Replied r shown) = true
+is_of_repository (answers.Reported t) = true
+is_of_repository _ = false
 
--- answers that were withheld are released so, each as one
-abbrev pub AreReleased : (Answer → Answer → Type 0) → List Answer → List Answer → Type 0
+-- what any release may make of what is withheld: its answer, or the line of a reply or a report is turned away
+abbrev pub StaysOrTurns : Withheld → Answer → Type 0
+StaysOrTurns withheld said = (said ≡ withheld.answer) ⊎ (IsTrue (is_of_repository withheld.answer) × (turn : Turn) × (said ≡ answers.Turned turn))
+
+-- what was withheld is released so, each as one answer
+abbrev pub AreReleased : (Withheld → Answer → Type 0) → List Withheld → List Answer → Type 0
 AreReleased releases [] [] = Unit {0}
-AreReleased releases (h ∷ withheld) (a ∷ said) = releases h a × StaysOrTurns h a × AreReleased releases withheld said
+AreReleased releases (w ∷ withheld) (a ∷ said) = releases w a × StaysOrTurns w a × AreReleased releases withheld said
 AreReleased releases [] (a ∷ said) = ⊥
-AreReleased releases (h ∷ withheld) [] = ⊥
+AreReleased releases (w ∷ withheld) [] = ⊥
 
--- an answer is released as it was withheld
-abbrev pub AtOnce : {D : Type 0} → D → Answer → Answer → Type 0
-AtOnce desk withheld said = said ≡ withheld
+-- an answer is released as it was withheld, which takes no evidence
+abbrev pub AtOnce : {D : Type 0} → D → Unit {0} → Withheld → Answer → Type 0
+AtOnce desk evidence withheld said = said ≡ withheld.answer
 
--- a line is answered so: it is taken, and what is withheld is released so by the desk, then or later
-pub record AnswersLine {D : Type 0} (takes : D → Ask → Answer → D → Type 0) (releases : D → Answer → Answer → Type 0) (old : D) (x : List ℕ) (said : Answer) (new : D) : Type 0 where
-  pub withheld : Answer
+-- a release leaves a desk as it is
+abbrev pub Stays : {D : Type 0} → D → D → Type 0
+Stays old new = new ≡ old
+
+-- whether so many entries of each shard have those on which an answer rests
+abbrev pub is_kept : List ℕ → Option Basis → Bool
+is_kept kept None = true
+is_kept kept (Some basis) = nat_lt basis.place (slice_index_or kept basis.shard 0)
+
+-- what is told where so many entries of each shard are kept: the line of a reply or a report that rests on more is turned away
+abbrev pub told_where : List ℕ → Withheld → Answer
+told_where kept withheld =
+    if is_kept kept withheld.basis || not (is_of_repository withheld.answer) then withheld.answer else answers.Turned turns.Journal
+
+-- a line is answered so: it is taken; and once the desk has taken these lines more, what is withheld is released so, on some
+-- evidence
+pub record AnswersLine {D E : Type 0} (takes : D → Ask → Withheld → D → Type 0) (releases : D → E → Withheld → Answer → Type 0) (old : D) (x : List ℕ) (said : Answer) (new : D) : Type 0 where
+  pub withheld : Withheld
   pub taken : TakesLine takes old x withheld new
   pub at : D
-  pub released : releases at withheld said
+  pub later : List (List ℕ)
+  pub held : List Withheld
+  pub reached : TakesLines takes new later held at
+  pub evidence : E
+  pub released : releases at evidence withheld said
   pub stays : StaysOrTurns withheld said
 
--- lines are answered so, one answer a line, in order, the desk going from old to new by exactly their takes
-abbrev pub AnswersLines : {D : Type 0} → (D → Ask → Answer → D → Type 0) → (D → Answer → Answer → Type 0) → D → List (List ℕ) → List Answer → D → Type 0
-AnswersLines takes releases old [] [] new = new ≡ old
-AnswersLines {D} takes releases old (x ∷ xs) (a ∷ said) new =
-    (mid : D) × AnswersLine takes releases old x a mid × AnswersLines takes releases mid xs said new
-AnswersLines takes releases old [] (a ∷ said) new = ⊥
-AnswersLines takes releases old (x ∷ xs) [] new = ⊥
+-- between two lines there is no release or one
+abbrev pub StaysOrMoves : {D : Type 0} → (D → D → Type 0) → D → D → Type 0
+StaysOrMoves moves old new = (new ≡ old) ⊎ moves old new
+
+-- lines are answered so, one answer a line, in order, the desk going from old to new by exactly their takes and releases
+abbrev pub AnswersLines : {D E : Type 0} → (D → Ask → Withheld → D → Type 0) → (D → E → Withheld → Answer → Type 0) → (D → D → Type 0) → D → List (List ℕ) → List Answer → D → Type 0
+AnswersLines takes releases moves old [] [] new = new ≡ old
+AnswersLines {D} takes releases moves old (x ∷ xs) (a ∷ said) new =
+    (mid next : D) × AnswersLine takes releases old x a mid × StaysOrMoves moves mid next × AnswersLines takes releases moves next xs said new
+AnswersLines takes releases moves old [] (a ∷ said) new = ⊥
+AnswersLines takes releases moves old (x ∷ xs) [] new = ⊥
 
 -- none of these lines is QUIT
 abbrev pub NoQuit : List (List ℕ) → Type 0
@@ -156,7 +197,7 @@ is_write_fault ends.WriteFault = true
 is_write_fault _ = false
 
 -- a session that ended so, with the desk, the source and the sink before and after
-pub record Session {D : Type 0} (takes : D → Ask → Answer → D → Type 0) (releases : D → Answer → Answer → Type 0) (limits : Limits) (desk : D) (source : Told) (sink : Taken) (desk' : D) (source' : Told) (sink' : Taken) (end : End) : Type 0 where
+pub record Session {D E : Type 0} (takes : D → Ask → Withheld → D → Type 0) (releases : D → E → Withheld → Answer → Type 0) (moves : D → D → Type 0) (limits : Limits) (desk : D) (source : Told) (sink : Taken) (desk' : D) (source' : Told) (sink' : Taken) (end : End) : Type 0 where
   -- these bytes were read
   pub input : List ℕ
   pub read : source'.bytes ≡ source.bytes ++ input
@@ -166,7 +207,7 @@ pub record Session {D : Type 0} (takes : D → Ask → Answer → D → Type 0) 
   pub these : input_lines input ≡ answered ++ left
   -- with these answers
   pub said : List Answer
-  pub answers : AnswersLines takes releases desk answered said desk'
+  pub answers : AnswersLines takes releases moves desk answered said desk'
   -- within the limits
   pub lines_within : length said ≤ limits.lines
   pub reads_within : source'.reads ≤ source.reads + limits.reads

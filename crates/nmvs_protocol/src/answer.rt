@@ -22,14 +22,7 @@ pub enum Answer<'a> {
     Bye,
 }
 
-/// An unused place of a list has it.
-impl<'a> Default for Answer<'a> {
-    fn default() -> Answer<'a> {
-        Answer::Bye
-    }
-}
-
-/// Why the desk turned a line away, so that nothing was asked of the repository.
+/// Why the desk turned a line away. But for `Journal` nothing was asked of the repository.
 #[derive(Clone, Copy, Debug, PartialEq, Eq)]
 pub enum Turn {
     /// The clock's seconds are no moment.
@@ -44,6 +37,8 @@ pub enum Turn {
     Role,
     /// Out of memory.
     Memory,
+    /// What the answer rests on is not kept: the journal failed. The operation may stand in the record or not.
+    Journal,
 }
 
 /// The entries that an audit shows, oldest first (Article 35).

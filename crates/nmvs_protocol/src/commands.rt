@@ -26,11 +26,15 @@ pub fn read_command(bytes: &[u8]) -> Result<Command, CommandFault>
         CommandFault::Bytes,
         CommandFault::Fields,
     )?;
-    read_fields(&fields)
+    command_of(&fields)
 }
 
 /// The command that has these fields.
-fn read_fields(fields: &[&str]) -> Result<Command, CommandFault>
+///
+/// # Errors
+///
+/// The first fault of the fields.
+pub fn command_of(fields: &[&str]) -> Result<Command, CommandFault>
     ensures fields { IfOk result (λ command. command_fields command ≡ map (λ f. f.now) fields.now) }
     ensures valid { IfOk result (λ command. IsTrue (is_command command)) }
     ensures fault { result_err result ≡ fields_fault (map (λ f. f.now) fields.now) }

@@ -1,17 +1,24 @@
 ghost use Rattle.std.specs.Prelude.{◌≡◌};
 ghost use Rattle.nmvs_protocol.specs.declared.ask.Ask.{Ask as TheAsk};
 ghost use Rattle.nmvs_protocol.specs.declared.answer.Answer.{Answer as TheAnswer};
+ghost use Rattle.nmvs_protocol.specs.declared.withheld.Withheld.{Withheld as TheWithheld};
 ghost use Rattle.nmvs_protocol.specs.Session.{AreReleased};
 
 use crate::{Ask, Released, Withheld, WithheldAnswers};
 
 /// Answers what is asked in a session. A desk that waits carries the runtime.
 pub trait Desk<'a> {
-    // Whether a desk in this state may take this ask with this answer, and be in that state then.
-    ghost takes: { Self → TheAsk → TheAnswer → Self → Type 0 };
+    /// What a desk has once its answers may be told, where they waited for something. It is let go.
+    type Evidence: Drop;
 
-    // Whether a desk in this state may release an answer that was withheld as this one.
-    ghost releases: { Self → TheAnswer → TheAnswer → Type 0 };
+    // Whether a desk in this state may take this ask, withhold this, and be in that state then.
+    ghost takes: { Self → TheAsk → TheWithheld → Self → Type 0 };
+
+    // Whether a desk in this state may release, on this evidence, what was withheld as this answer.
+    ghost releases: { Self → Self.Evidence → TheWithheld → TheAnswer → Type 0 };
+
+    // Whether a desk in this state may be in that one after a release.
+    ghost moves: { Self → Self → Type 0 };
 
     /// Answers one ask. The answer is withheld: it can't be told before it is released. Out of memory is
     /// `Turned(Memory)`.
@@ -20,7 +27,10 @@ pub trait Desk<'a> {
 
     /// Lets the answers be told that were withheld, once the desk can answer for them. In place of a reply
     /// or a report it may turn its line away.
-    fn release<'h>(&mut self, withheld: &'h mut WithheldAnswers<'a>) -> Released<'h, 'a>
-        ensures stays { self.new ≡ self.old }
-        ensures released { AreReleased (releases self.old) withheld.old result };
+    fn release<'h>(
+        &mut self,
+        withheld: &'h mut WithheldAnswers<'a>,
+    ) -> (Released<'h, 'a>, Self::Evidence)
+        ensures moves { moves self.old self.new }
+        ensures released { AreReleased (releases self.old result.1) withheld.old result.0 };
 }

@@ -8,14 +8,14 @@ use arrayvec::ArrayVec;
 
 /// How many fields of a line are kept: no line has more than six, and a seventh tells that there are
 /// too many.
-pub(crate) const KEPT_FIELDS: usize = 7;
+pub const KEPT_FIELDS: usize = 7;
 
 /// The fields of a line, or the first of them where there are more than are kept.
-pub(crate) type Fields<'a> = ArrayVec<&'a str, KEPT_FIELDS>;
+pub type Fields<'a> = ArrayVec<&'a str, KEPT_FIELDS>;
 
 /// The fields of a line. Else the first of these that holds: it is too `long`, it has `bytes` that are
 /// no printable ASCII characters, it has an `empty` field.
-pub(crate) fn fields_of<F: Copy>(line: &[u8], long: F, bytes: F, empty: F) -> Result<Fields<'_>, F>
+pub fn fields_of<F: Copy>(line: &[u8], long: F, bytes: F, empty: F) -> Result<Fields<'_>, F>
     ensures fields { IfOk result (λ fields.
         map (λ f. f.now) fields.items ≡ take KEPT_FIELDS (fields_in line.now)) }
     ensures fault { (of_fields : List (List ℕ) → Option F) → MatchResult result

@@ -21,9 +21,10 @@ mod wording;
 pub use answer::{Answer, Entries, Text, Turn};
 pub use ask::{Ask, Line, LineFault};
 pub use command::{Command, CommandFault};
-pub use commands::read_command;
+pub use commands::{command_of, read_command};
 pub use desk::Desk;
 pub use end::End;
+pub use fields::{Fields, KEPT_FIELDS, fields_of};
 pub use laws::{commands_are_read, lines_are_read};
 pub use limits::{
     LONGEST_LINE, Limits, MOST_LINES, MOST_READS, NO_LIMITS, READ_SIZE, SESSION_LIMITS,
@@ -33,4 +34,4 @@ pub use pending_line::PendingLine;
 pub use replies::reply_text;
 pub use serving::serve;
 pub use session::Session;
-pub use withheld::{Released, Withheld, WithheldAnswers};
+pub use withheld::{Basis, Released, Withheld, WithheldAnswers};

@@ -29,7 +29,7 @@ pub fn serve<'a, R: Source, W: Sink, D: Desk<'a>>(
     requires source_sound { (R.told source.old).failed ≡ false }
     requires source_open { (R.told source.old).ended ≡ false }
     requires sink_sound { (W.taken sink.old).failed ≡ false }
-    ensures { TheSession D.takes D.releases limits desk.old (R.told source.old) (W.taken sink.old)
+    ensures { TheSession D.takes D.releases D.moves limits desk.old (R.told source.old) (W.taken sink.old)
         desk.new (R.told source.new) (W.taken sink.new) result }
 {
     let mut session = Session::new(limits.lines);
@@ -62,7 +62,7 @@ fn serve_read<'a, W: Sink, D: Desk<'a>>(
 ) -> Option<End>
     ensures { (fed : List ℕ) → session.old.line ≡ kept_part (unfinished_line fed) → session.old.answered ≤ session.old.limit
         → (W.taken sink.old).failed ≡ false
-        → Served D.takes D.releases session.old desk.old (W.taken sink.old) (lines_after (unfinished_line fed) chunk.now)
+        → Served D.takes D.releases D.moves session.old desk.old (W.taken sink.old) (lines_after (unfinished_line fed) chunk.now)
         session.new desk.new (W.taken sink.new) result
         × IfNone result (session.new.line ≡ kept_part (unfinished_line (fed ++ chunk.now))) }
 {

@@ -2,8 +2,8 @@
 ghost use Rattle.std.specs.Prelude.{◌≡◌, ◌≤◌, ◌<◌, ◌++◌, ◌∷◌, ◌↔◌, [], List, ℕ, Ok, IsTrue, IfNone};
 ghost use Rattle.nmvs_protocol.specs.InputLines.{lines_after, unfinished_line};
 ghost use Rattle.nmvs_protocol.specs.Lines.{line_text};
-ghost use Rattle.nmvs_protocol.specs.Session.{Answers, TakesLine, AreReleased};
-ghost use Rattle.nmvs_protocol.specs.Progress.{Fed, Tells, AreShortButLast, kept_part};
+ghost use Rattle.nmvs_protocol.specs.Session.{Answers, TakesLine};
+ghost use Rattle.nmvs_protocol.specs.Progress.{Fed, Tells, TellsWithheld, AreShortButLast, kept_part};
 
 use crate::pending_line::PendingLine;
 use crate::replies::wording;
@@ -53,7 +53,7 @@ impl Session {
         desk: &mut D,
     ) -> Option<End>
         ensures { (fed : List ℕ) → self.old.line ≡ kept_part (unfinished_line fed) → self.old.answered ≤ self.old.limit
-            → Fed D.takes D.releases self.old desk.old (W.taken sink.old) (lines_after (unfinished_line fed) more.now)
+            → Fed D.takes D.releases D.moves self.old desk.old (W.taken sink.old) (lines_after (unfinished_line fed) more.now)
             self.new desk.new (W.taken sink.new) result
             × IfNone result (self.new.line ≡ kept_part (unfinished_line (fed ++ more.now))) }
     {
@@ -136,19 +136,22 @@ fn is_quit(reading: &Result<Line, LineFault>) -> bool
     matches!(reading, Ok(Line::Quit))
 }
 
-/// Has the answers released that are withheld, and writes their texts. None is withheld then.
+/// Has the answers released that are withheld, and writes their texts. None is withheld then. The evidence for them has
+/// been had, and is let go.
 fn tell<'a, W: Sink, D: Desk<'a>>(
     alloc: Global,
     withheld: &mut WithheldAnswers<'a>,
     sink: &mut W,
     desk: &mut D,
 ) -> Option<End>
-    ensures stays { desk.new ≡ desk.old }
     ensures none_withheld { withheld.new ≡ [] }
-    ensures tells { (said : List Answer) × AreReleased (D.releases desk.old) withheld.old said
-        × (AreShortButLast withheld.old → Tells result (W.taken sink.old) (W.taken sink.new) said) }
+    ensures tells { TellsWithheld D.releases D.moves withheld.old desk.old desk.new result (W.taken sink.old) (W.taken sink.new) }
 {
-    let told = write_texts(alloc, desk.release(withheld), sink);
+    if withheld.is_empty() {
+        return None;
+    }
+    let (released, _evidence) = desk.release(withheld);
+    let told = write_texts(alloc, released, sink);
     withheld.clear();
     told
 }
@@ -157,9 +160,8 @@ fn tell<'a, W: Sink, D: Desk<'a>>(
 fn write_texts<W: Sink>(alloc: Global, released: Released<'_, '_>, sink: &mut W) -> Option<End>
     ensures { AreShortButLast released.entry → Tells result (W.taken sink.old) (W.taken sink.new) released.entry }
 {
-    let answers = released.answers();
-    for answer in answers {
-        match write_text(alloc, answer, sink) {
+    for withheld in released.list() {
+        match write_text(alloc, withheld.answer(), sink) {
             Some(end) => return Some(end),
             None => {}
         }

@@ -1,9 +1,9 @@
 //! Answers that are withheld until the desk releases them.
-ghost use Rattle.std.specs.Prelude.{◌≡◌, ◌==◌, ◌<◌, ◌++◌, ◌∷◌, [], length};
-ghost use Rattle.nmvs_protocol.specs.Session.{AreReleased};
+ghost use Rattle.std.specs.Prelude.{◌≡◌, ◌==◌, ◌<◌, ◌++◌, ◌∷◌, [], length, map, None};
+ghost use Rattle.nmvs_protocol.specs.Session.{AreReleased, answer_of, is_kept, is_of_repository as of_repository, told_where};
 ghost use Rattle.nmvs_protocol.specs.Texts.{takes_memory as text_takes_memory};
 
-use crate::Answer;
+use crate::{Answer, Turn};
 use arrayvec::ArrayVec;
 use std::marker::Model;
 
@@ -11,52 +11,102 @@ use std::marker::Model;
 /// the line of none has fewer than 24.
 const MOST_WITHHELD: usize = 176;
 
-/// A desk's answer that can't be put in words before the desk has released it.
+/// What an answer rests on: the entries of a shard's trail up to the one at this place, counted from 0 (own).
+#[derive(Clone, Copy, Debug, PartialEq, Eq)]
+pub struct Basis {
+    pub shard: usize,
+    pub place: usize,
+}
+
+/// A desk's answer that can't be put in words before the desk has released it, and what it rests on: that has to be kept
+/// first, where answers wait for a journal.
 #[derive(Drop)]
 pub struct Withheld<'a> {
     answer: Answer<'a>,
+    basis: Option<Basis>,
 }
 
-impl<'a> Model for Withheld<'a> {
-    ghost use Rattle.nmvs_protocol.specs.declared.answer.Answer.{Answer as TheAnswer};
-
-    ghost Value = { TheAnswer };
-
-    ghost view = { λ h. h.answer };
+/// An unused place of a list has it.
+impl<'a> Default for Withheld<'a> {
+    fn default() -> Withheld<'a> {
+        Withheld::new(Answer::Bye)
+    }
 }
 
 impl<'a> Withheld<'a> {
-    /// Holds the answer.
+    /// Holds an answer that rests on no entry.
     pub fn new(answer: Answer<'a>) -> Withheld<'a>
-        ensures { result ≡ answer.entry }
+        ensures { result ≡ record { answer = answer.entry; basis = None } }
     {
-        Withheld { answer }
+        Withheld {
+            answer,
+            basis: None,
+        }
+    }
+
+    /// Holds an answer that rests on these entries, if on any.
+    pub fn resting_on(basis: Option<Basis>, answer: Answer<'a>) -> Withheld<'a>
+        ensures { result ≡ record { answer = answer.entry; basis = basis } }
+    {
+        Withheld { answer, basis }
     }
 
     /// Whether its text will take memory: that of an audit which shows entries.
     pub(crate) fn takes_memory(&self) -> bool
-        ensures { result ≡ text_takes_memory self.now }
+        ensures { result ≡ text_takes_memory self.now.answer }
     {
         match &self.answer {
             Answer::Replied(_, shown) => !shown.entries().is_empty(),
             _ => false,
         }
     }
+
+    /// The answer, once it is released.
+    pub(crate) fn answer(&self) -> &Answer<'a>
+        ensures { result.now ≡ self.now.answer }
+    {
+        &self.answer
+    }
+
+    /// Turns its line away where it rests on more than is kept.
+    fn turn_unkept(&mut self, kept: &[usize])
+        ensures { self.new.answer ≡ told_where kept.now self.old }
+    {
+        if !is_basis_kept(self.basis, kept) && is_of_repository(&self.answer) {
+            self.answer = Answer::Turned(Turn::Journal);
+        }
+    }
+}
+
+/// Whether so many entries of each shard have those on which an answer rests.
+fn is_basis_kept(basis: Option<Basis>, kept: &[usize]) -> bool
+    ensures { result ≡ is_kept kept.now basis }
+{
+    match basis {
+        None => true,
+        Some(Basis { shard, place }) => place < kept.get(shard).copied().unwrap_or(0),
+    }
+}
+
+fn is_of_repository(answer: &Answer<'_>) -> bool
+    ensures { result ≡ of_repository answer.now }
+{
+    matches!(answer, Answer::Replied(..) | Answer::Reported(_))
 }
 
 /// Answers that are withheld, in the order of their lines. A desk releases them together.
 #[derive(Drop)]
 pub struct WithheldAnswers<'a> {
-    answers: ArrayVec<Answer<'a>, MOST_WITHHELD>,
+    list: ArrayVec<Withheld<'a>, MOST_WITHHELD>,
 }
 
 impl<'a> Model for WithheldAnswers<'a> {
     ghost use Rattle.std.specs.Prelude.{List};
-    ghost use Rattle.nmvs_protocol.specs.declared.answer.Answer.{Answer as TheAnswer};
+    ghost use Rattle.nmvs_protocol.specs.declared.withheld.Withheld.{Withheld as TheWithheld};
 
-    ghost Value = { List TheAnswer };
+    ghost Value = { List TheWithheld };
 
-    ghost view = { λ h. h.answers.items };
+    ghost view = { λ h. h.list.items };
 }
 
 impl<'a> WithheldAnswers<'a> {
@@ -65,7 +115,7 @@ impl<'a> WithheldAnswers<'a> {
         ensures { result ≡ [] }
     {
         WithheldAnswers {
-            answers: ArrayVec::new(),
+            list: ArrayVec::new(),
         }
     }
 
@@ -74,54 +124,80 @@ impl<'a> WithheldAnswers<'a> {
         requires { length self.old < MOST_WITHHELD }
         ensures { self.new ≡ self.old ++ withheld.entry ∷ [] }
     {
-        self.answers.push(withheld.answer);
+        self.list.push(withheld);
+    }
+
+    /// Whether there is none.
+    pub(crate) fn is_empty(&self) -> bool
+        ensures { result ≡ (length self.now == 0) }
+    {
+        self.list.is_empty()
     }
 
     /// Whether no more may be withheld.
     pub(crate) fn is_full(&self) -> bool
         ensures { result ≡ (length self.now == MOST_WITHHELD) }
     {
-        self.answers.is_full()
+        self.list.is_full()
     }
 
     /// Lets all of them go.
     pub(crate) fn clear(&mut self)
         ensures { self.new ≡ [] }
     {
-        self.answers.clear();
+        self.list.clear();
     }
 
     /// The answers, for telling. A desk that lets them be told calls it.
     pub fn release(&self) -> Released<'_, 'a>
-        ensures answers { result ≡ self.now }
-        ensures at_once { AreReleased (λ withheld said. said ≡ withheld) self.now result }
+        ensures { AreReleased (λ withheld said. said ≡ withheld.answer) self.now result }
     {
         Released {
-            answers: self.answers.as_slice(),
+            list: self.list.as_slice(),
         }
+    }
+
+    /// The answers, for telling, where so many entries of each shard are kept. Of a reply or a report that rests on more the
+    /// line is turned away.
+    pub fn release_kept(&mut self, kept: &[usize]) -> Released<'_, 'a>
+        ensures { AreReleased (λ withheld said. said ≡ told_where kept.now withheld) self.old result }
+    {
+        turn_all_unkept(self.list.as_mut_slice(), kept);
+        Released {
+            list: self.list.as_slice(),
+        }
+    }
+}
+
+fn turn_all_unkept(list: &mut [Withheld<'_>], kept: &[usize])
+    ensures { map answer_of list.new ≡ map (told_where kept.now) list.old }
+{
+    for withheld in list.iter_mut() {
+        withheld.turn_unkept(kept);
     }
 }
 
 /// Answers that their desk has released, in the order of their lines.
 #[derive(Drop)]
 pub struct Released<'h, 'a> {
-    answers: &'h [Answer<'a>],
+    list: &'h [Withheld<'a>],
 }
 
 impl<'h, 'a> Model for Released<'h, 'a> {
-    ghost use Rattle.std.specs.Prelude.{List};
+    ghost use Rattle.std.specs.Prelude.{List, map};
     ghost use Rattle.nmvs_protocol.specs.declared.answer.Answer.{Answer as TheAnswer};
+    ghost use Rattle.nmvs_protocol.specs.Session.{answer_of};
 
     ghost Value = { List TheAnswer };
 
-    ghost view = { λ r. r.answers.now };
+    ghost view = { λ r. map answer_of r.list.now };
 }
 
 impl<'h, 'a> Released<'h, 'a> {
-    /// The answers, which may now be put in words.
-    pub fn answers(&self) -> &'h [Answer<'a>]
-        ensures { result.now ≡ self.now }
+    /// Those that were withheld, whose answers may now be put in words.
+    pub(crate) fn list(&self) -> &'h [Withheld<'a>]
+        ensures { map answer_of result.now ≡ self.now }
     {
-        self.answers
+        self.list
     }
 }

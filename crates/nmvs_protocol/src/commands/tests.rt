@@ -15,10 +15,12 @@ fn commands_and_faults_are_read(rt: HostRuntime) {
     assert!(rt; read_command(b"SUSPEND ph9") == Ok(Command::Suspend(user)));
     for (line, fault) in [
         ("ENROL ph9 DOCTOR PH-9 P9", CommandFault::Role),
+        ("ENROL -x DOCTOR P/9 P9", CommandFault::Role),
         ("SUSPEND", CommandFault::Fields),
         ("enrol x", CommandFault::Word),
         ("SUSPEND -x", CommandFault::Name),
         ("SUSPEND ph9\r", CommandFault::Bytes),
+        ("SUSPEND ph9\u{7f}", CommandFault::Bytes),
     ] {
         assert!(rt; read_command(line.as_bytes()) == Err(fault), "{line}");
     }

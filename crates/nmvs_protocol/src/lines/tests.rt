@@ -75,6 +75,7 @@ fn faults_of_lines(rt: HostRuntime) {
         ("ph1  VERIFY 09506000134352 SN1", LineFault::Fields),
         ("ph1 VERIFY 09506000134352", LineFault::Fields),
         ("ph1 VERIFY 09506000134352 SN1\r", LineFault::Bytes),
+        ("ph1 VERIFY 09506000134352 SN1\u{7f}", LineFault::Bytes),
         ("ph1 verify 09506000134352 SN1", LineFault::Word),
         ("ph1 QUIT", LineFault::Word),
         ("a b c d e f g h", LineFault::Word),

@@ -1,5 +1,6 @@
 use crate::{
-    Answer, Ask, Desk, End, Entries, Limits, Released, Session, Withheld, WithheldAnswers, serve,
+    Answer, Ask, Basis, Desk, End, Entries, Limits, Released, Session, Withheld, WithheldAnswers,
+    serve,
 };
 use nmvs_identifier::{Batch, Expiry};
 use nmvs_rules::{Question, Reply};
@@ -15,30 +16,30 @@ const INPUT: &[u8] =
 
 const OUTPUT: &[u8] = b"UPLOADED\nAUTHENTIC B1 280200 VALID\nAUTHENTIC B1 280200 VALID\nBYE\n";
 
+/// As many entries as there can be.
+const ALL: usize = usize::MAX;
+
 const AMPLE: Limits = Limits {
     lines: 1_000,
     reads: 1_000,
 };
 
-/// Knows the batch and expiry that were uploaded last, and takes every pack for one of them.
+/// Knows the batch and expiry that were uploaded last, and takes every pack for one of them. Its answers rest on as many
+/// entries as were asked for, of which so many are kept.
 #[derive(Clone, Copy)]
 struct Shelf<'a> {
     alloc: &'a Global,
     uploaded: Option<(Batch, Expiry)>,
+    asked: usize,
+    kept: [usize; 1],
 }
 
-impl<'a> Desk<'a> for Shelf<'a> {
-    ghost use Rattle.nmvs_protocol.specs.Session.{AtOnce};
-
-    ghost takes = { λ _ _ _ _. Unit {0} };
-
-    ghost releases = { AtOnce };
-
-    fn take(&mut self, ask: &Ask) -> Withheld<'a> {
+impl<'a> Shelf<'a> {
+    fn answer(&mut self, ask: &Ask) -> Answer<'a> {
         let none = Entries::new(Vec::new(self.alloc));
         if let Ask::Question(_, Question::Upload { batch, expiry, .. }) = ask {
             self.uploaded = Some((*batch, *expiry));
-            return Withheld::new(Answer::Replied(Reply::Uploaded, none));
+            return Answer::Replied(Reply::Uploaded, none);
         }
         let reply = match self.uploaded {
             Some((batch, expiry)) => Reply::Authentic {
@@ -48,11 +49,33 @@ impl<'a> Desk<'a> for Shelf<'a> {
             },
             None => Reply::NoPack,
         };
-        Withheld::new(Answer::Replied(reply, none))
+        Answer::Replied(reply, none)
+    }
+}
+
+impl<'a> Desk<'a> for Shelf<'a> {
+    ghost use Rattle.std.specs.Prelude.{◌≡◌};
+    ghost use Rattle.nmvs_protocol.specs.Session.{told_where};
+
+    type Evidence = ();
+
+    ghost takes = { λ _ _ _ _. Unit {0} };
+
+    ghost releases = { λ shelf _ withheld said. said ≡ told_where shelf.kept withheld };
+
+    ghost moves = { λ old new. new ≡ old };
+
+    fn take(&mut self, ask: &Ask) -> Withheld<'a> {
+        let basis = Basis {
+            shard: 0,
+            place: self.asked,
+        };
+        self.asked = self.asked.saturating_add(1);
+        Withheld::resting_on(Some(basis), self.answer(ask))
     }
 
-    fn release<'h>(&mut self, withheld: &'h mut WithheldAnswers<'a>) -> Released<'h, 'a> {
-        withheld.release()
+    fn release<'h>(&mut self, withheld: &'h mut WithheldAnswers<'a>) -> (Released<'h, 'a>, ()) {
+        (withheld.release_kept(&self.kept), ())
     }
 }
 
@@ -145,6 +168,8 @@ fn run<R: Read + Drop, W: Write + Drop>(
     let mut desk = Shelf {
         alloc: &alloc,
         uploaded: None,
+        asked: 0,
+        kept: [ALL],
     };
     serve(alloc, &mut source, &mut sink, &mut desk, limits)
 }
@@ -195,7 +220,7 @@ fn lines_are_answered_in_order(rt: HostRuntime) {
 }
 
 #[test]
-fn a_failed_read_ends_after_the_whole_lines(rt: HostRuntime) {
+fn a_failed_read_or_the_last_allowed_ends_after_the_whole_lines(rt: HostRuntime) {
     for calls in 0..=106 {
         let reader = Pieces {
             inner: INPUT,
@@ -214,6 +239,17 @@ fn a_failed_read_ends_after_the_whole_lines(rt: HostRuntime) {
             "{calls}"
         );
         assert_eq!(rt; taken.as_slice(), answers_to(calls), "{calls}");
+    }
+    for (reads, end) in [(105, End::Limit), (106, End::Quit)] {
+        let reader = Pieces {
+            inner: INPUT,
+            piece: 1,
+            calls: ALL,
+        };
+        let limits = Limits { lines: 4, reads };
+        let mut taken = Vec::new(rt.alloc());
+        assert_eq!(rt; run(rt.alloc(), reader, &mut taken, limits), end);
+        assert_eq!(rt; taken.as_slice(), answers_to(reads as usize));
     }
 }
 
@@ -273,6 +309,8 @@ fn a_session_is_fed_in_any_pieces(rt: HostRuntime) {
         let mut desk = Shelf {
             alloc: &alloc,
             uploaded: None,
+            asked: 0,
+            kept: [ALL],
         };
         let mut end = None;
         for more in input.chunks(piece) {
@@ -282,4 +320,28 @@ fn a_session_is_fed_in_any_pieces(rt: HostRuntime) {
         assert_eq!(rt; end, Some(End::Quit));
         assert_eq!(rt; taken.as_slice(), output.as_slice(), "{piece}");
     }
+}
+
+#[test]
+fn what_is_not_kept_is_not_told(rt: HostRuntime) {
+    let alloc = rt.alloc();
+    let mut taken = Vec::new(alloc);
+    let mut desk = Shelf {
+        alloc: &alloc,
+        uploaded: None,
+        asked: 0,
+        kept: [2],
+    };
+    let end = serve(
+        alloc,
+        &mut Device::new(INPUT),
+        &mut Device::new(&mut taken),
+        &mut desk,
+        AMPLE,
+    );
+    assert_eq!(rt; end, End::Quit);
+    assert_eq!(rt;
+        taken.as_slice(),
+        b"UPLOADED\nAUTHENTIC B1 280200 VALID\nFAULT JOURNAL\nBYE\n".as_slice()
+    );
 }

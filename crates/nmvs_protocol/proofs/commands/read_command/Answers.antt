@@ -12,6 +12,6 @@ pub returns : goal.returns
 unfolding first_command_fault
 returns c =
     let kept = ap (map (λ f. f.now)) c.deref.ensures.0 ∙ c.in_ok-fields.ensures.fields in
-    let read = c.read_fields.ensures in
-    reads_fields c.args.bytes.now _ c.read_fields.result kept read.fields read.valid
+    let read = c.command_of.ensures in
+    reads_fields c.args.bytes.now _ c.command_of.result kept read.fields read.valid
     (read.fault ∙ ap fields_fault kept ∙ fields_fault-take (fields_in c.args.bytes.now) ∙ sym (c.in_ok-fields.ensures.fault fields_fault))

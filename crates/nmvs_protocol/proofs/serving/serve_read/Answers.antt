@@ -5,14 +5,14 @@ use Rattle.nmvs_protocol.proofs.serving.serve_read.Goals as goal
 pub returns-then-is_write_fault : goal.returns-then-is_write_fault
 returns-then-is_write_fault g c fed is within sound =
     let h = c.feed-fed.ensures fed is within in
-    (served_part g.D.Desk.takes g.D.Desk.releases c.feed-fed.result (sym c.is_write_fault.ensures ∙ c.if-is_write_fault.true) h.0, h.1)
+    (served_part g.D.Desk.takes g.D.Desk.releases g.D.Desk.moves c.feed-fed.result (sym c.is_write_fault.ensures ∙ c.if-is_write_fault.true) h.0, h.1)
 
 pub returns-in-Ok : goal.returns-in-Ok
 returns-in-Ok g c fed is within sound =
     let h = c.feed-fed.ensures fed is within in
-    (served g.D.Desk.takes g.D.Desk.releases c.feed-fed.result (sym c.is_write_fault.ensures ∙ c.if-is_write_fault.false) c.in-Ok.ensures.ok h.0, h.1)
+    (served g.D.Desk.takes g.D.Desk.releases g.D.Desk.moves c.feed-fed.result (sym c.is_write_fault.ensures ∙ c.if-is_write_fault.false) c.in-Ok.ensures.ok h.0, h.1)
 
 pub returns-in-Err : goal.returns-in-Err
 returns-in-Err g c fed is within sound =
     let h = c.feed-fed.ensures fed is within in
-    (served_broken g.D.Desk.takes g.D.Desk.releases c.feed-fed.result (sym c.is_write_fault.ensures ∙ c.if-is_write_fault.false) c.in-Err.ensures.err h.0, tt)
+    (served_broken g.D.Desk.takes g.D.Desk.releases g.D.Desk.moves c.feed-fed.result (sym c.is_write_fault.ensures ∙ c.if-is_write_fault.false) c.in-Err.ensures.err h.0, tt)

@@ -1,7 +1,8 @@
-use Rattle.nmvs_protocol.proofs.SessionSteps.{released_short}
+use Rattle.std.proofs.Common.{◌∙◌, sym}
+use Rattle.nmvs_protocol.proofs.SessionSteps.{told_withheld}
 use Rattle.nmvs_protocol.proofs.session.tell.Goals as goal
 
 pub returns-clause-tells : goal.returns-clause-tells
 returns-clause-tells g c =
-    let released = c.release.ensures.released in
-    (c.release.result, released, λ short. c.write_texts-told.ensures (released_short (g.D.Desk.releases c.args.desk.now) c.args.withheld.now c.release.result released short))
+    told_withheld g.D.Desk.takes g.D.Desk.releases g.D.Desk.moves _ _ _ c.release-released.result.1 c.release-released.result.0 _ _ _
+    (sym c.is_empty.ensures ∙ c.if-is_empty.false) c.release-released.ensures.moves c.release-released.ensures.released c.write_texts-told.ensures

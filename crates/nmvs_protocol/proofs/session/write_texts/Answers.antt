@@ -1,31 +1,39 @@
-use Rattle.std.proofs.Common.{◌≡◌, ◌∙◌, ◌++◌, ◌∷◌, [], ◌+◌, List, Some, take, drop, sym, ap, subst}
-use Rattle.std.proofs.lemmas.List.{take_more, take-append-drop, append_assoc}
+use Rattle.std.proofs.Common.{◌≡◌, ◌∙◌, ◌++◌, ◌∷◌, [], ◌+◌, List, Some, map, take, drop, sym, ap, subst}
+use Rattle.std.proofs.lemmas.List.{map_more, map-append, take-append-drop, append_assoc}
 use Rattle.nmvs_protocol.specs.declared.answer.Answer.{Answer}
+use Rattle.nmvs_protocol.specs.declared.withheld.Withheld.{Withheld}
 use Rattle.nmvs_protocol.specs.Progress.{AreShortButLast, Gathers, Tells}
+use Rattle.nmvs_protocol.specs.Session.{answer_of}
 use Rattle.nmvs_protocol.proofs.SessionSteps.{gathers_more, tells_until}
 use Rattle.nmvs_protocol.proofs.session.write_texts.Goals as goal
 
 pub returns-in-Some : goal.returns-in-Some
 returns-in-Some g c =
     let taken = g.W.Sink.taken in
-    let i = c.loop-answer.answer-index in
-    let all = c.answers-answers.result.now in
-    let a = c.answer-item.result in
-    let more : take (i + 1) all ≡ take i all ++ a ∷ [] =
-    take_more all i a c.loop-answer-test.true ∙ ap (λ (b : Answer). take i all ++ b ∷ []) (sym c.answer-item.is) in
-    let whole : take i all ++ a ∷ drop (i + 1) all ≡ all =
-    sym (append_assoc (take i all) (a ∷ []) (drop (i + 1) all)) ∙ ap (λ (r : List Answer). r ++ drop (i + 1) all) (sym more) ∙ take-append-drop (i + 1) all in
+    let i = c.loop-withheld.withheld-index in
+    let all = c.list-withheld-items.result.now in
+    let a = c.answer.result.now in
+    let told = map answer_of (take i all) in
+    let later = map answer_of (drop (i + 1) all) in
+    let more : map answer_of (take (i + 1) all) ≡ told ++ a ∷ [] =
+    map_more answer_of all i c.withheld-item.result c.loop-withheld-test.true
+    ∙ ap (λ (b : Answer). told ++ b ∷ []) (ap answer_of (sym c.withheld-item.is) ∙ sym c.answer.ensures) in
+    let whole : told ++ a ∷ later ≡ map answer_of all =
+    sym (append_assoc told (a ∷ []) later) ∙ ap (λ (r : List Answer). r ++ later) (sym more)
+    ∙ sym (map-append answer_of (take (i + 1) all) (drop (i + 1) all)) ∙ ap (map answer_of) (take-append-drop (i + 1) all) in
     subst (λ (r : List Answer). AreShortButLast r → Tells (Some c.in-Some.end) (taken c.args.sink.now) (taken c.write_text.new.sink) r)
-    (whole ∙ c.answers-answers.ensures)
-    (λ short. tells_until c.in-Some.end (taken c.args.sink.now) (taken c.loop-answer.sink) (taken c.write_text.new.sink) (take i all) a (drop (i + 1) all) short c.loop-answer.invariant c.in-Some.ensures)
+    (whole ∙ c.list-withheld-items.ensures)
+    (λ short. tells_until c.in-Some.end (taken c.args.sink.now) (taken c.loop-withheld.sink) (taken c.write_text.new.sink) told a later short c.loop-withheld.invariant c.in-Some.ensures)
 
-pub loop-answer-preserved : goal.loop-answer-preserved
-loop-answer-preserved g c =
+pub loop-withheld-preserved : goal.loop-withheld-preserved
+loop-withheld-preserved g c =
     let taken = g.W.Sink.taken in
-    let i = c.loop-answer.answer-index in
-    let all = c.answers-answers.result.now in
-    let a = c.answer-item.result in
-    let more : take (i + 1) all ≡ take i all ++ a ∷ [] =
-    take_more all i a c.loop-answer-test.true ∙ ap (λ (b : Answer). take i all ++ b ∷ []) (sym c.answer-item.is) in
+    let i = c.loop-withheld.withheld-index in
+    let all = c.list-withheld-items.result.now in
+    let a = c.answer.result.now in
+    let told = map answer_of (take i all) in
+    let more : map answer_of (take (i + 1) all) ≡ told ++ a ∷ [] =
+    map_more answer_of all i c.withheld-item.result c.loop-withheld-test.true
+    ∙ ap (λ (b : Answer). told ++ b ∷ []) (ap answer_of (sym c.withheld-item.is) ∙ sym c.answer.ensures) in
     subst (λ (r : List Answer). Gathers (taken c.args.sink.now) (taken c.write_text.new.sink) r) (sym more)
-    (gathers_more (taken c.args.sink.now) (taken c.loop-answer.sink) (taken c.write_text.new.sink) (take i all) (a ∷ []) c.loop-answer.invariant c.in-None.ensures)
+    (gathers_more (taken c.args.sink.now) (taken c.loop-withheld.sink) (taken c.write_text.new.sink) told (a ∷ []) c.loop-withheld.invariant c.in-None.ensures)

@@ -9,7 +9,7 @@ abbrev pub invariant-loop-lf : goal.invariant-loop-lf
 invariant-loop-lf g l =
     (length l.withheld < MOST_WITHHELD) × (l.self.limit ≡ l.fn.self.limit)
     × ((fed : List ℕ) → l.fn.self.line ≡ kept_part (unfinished_line fed) → l.fn.self.answered ≤ l.fn.self.limit
-    → Ahead g.D.Desk.takes g.D.Desk.releases l.fn.self l.fn.desk (g.W.Sink.taken l.fn.sink) l.desk (g.W.Sink.taken l.sink)
+    → Ahead g.D.Desk.takes g.D.Desk.releases g.D.Desk.moves l.fn.self l.fn.desk (g.W.Sink.taken l.fn.sink) l.desk (g.W.Sink.taken l.sink)
     l.self.answered l.self.line l.rest l.withheld (lines_after (unfinished_line fed) l.more) (rest_after (unfinished_line fed) l.more))
 
 abbrev pub decreases-loop-lf : goal.decreases-loop-lf

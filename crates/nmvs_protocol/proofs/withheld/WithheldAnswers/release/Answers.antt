@@ -1,10 +1,11 @@
-use Rattle.std.proofs.Common.{◌≡◌, List, rules, sym, subst}
-use Rattle.nmvs_protocol.specs.declared.answer.Answer.{Answer}
-use Rattle.nmvs_protocol.specs.Session.{AreReleased}
-use Rattle.nmvs_protocol.proofs.SessionSteps.{at_once}
+use Rattle.std.proofs.Common.{◌≡◌, ◌∙◌, List, map, inl, refl, sym, subst}
+use Rattle.nmvs_protocol.specs.declared.withheld.Withheld.{Withheld}
+use Rattle.nmvs_protocol.specs.Session.{AreReleased, answer_of}
+use Rattle.nmvs_protocol.proofs.SessionSteps.{released_by}
 use Rattle.nmvs_protocol.proofs.withheld.WithheldAnswers.release.Goals as goal
 
-pub returns-clause-at_once : goal.returns-clause-at_once
-returns-clause-at_once c =
-    let same : c.as_slice.result.now ≡ c.args.self.now = search rules in
-    subst (λ (r : List Answer). AreReleased (λ h a. a ≡ h) c.args.self.now r) (sym same) (at_once c.args.self.now)
+pub returns : goal.returns
+returns c =
+    let same : c.as_slice.result.now ≡ c.args.self.now = c.as_slice.ensures.value ∙ c.self.view_is in
+    subst (λ (ws : List Withheld). AreReleased (λ w a. a ≡ w.answer) c.args.self.now (map answer_of ws)) (sym same)
+    (released_by answer_of (λ w. inl refl) c.args.self.now)
