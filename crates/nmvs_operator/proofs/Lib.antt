@@ -1,2 +1,3 @@
 mod UsersFile
 mod CommandLemmas
+mod OrderLemmas

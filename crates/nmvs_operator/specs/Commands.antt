@@ -1,8 +1,7 @@
--- Commands of the registrar, and their answers (own).
-use Rattle.std.specs.Prelude.{◌≡◌, ◌+◌, ◌⊎◌, ℕ, List, [], ◌∷◌, ◌++◌, codes, Option, Some, None, Ok, true}
+-- Orders of the operator, and their answers (own).
+use Rattle.std.specs.Prelude.{◌≡◌, ◌+◌, ◌⊎◌, ℕ, Bool, true, false, List, [], ◌∷◌, ◌++◌, All, codes, Option, Some, None, Result, Ok, Err}
 use Rattle.nmvs_directory.specs.Registrar.{Register}
 use Rattle.nmvs_directory.specs.declared.change.Change.{Change}
-use Rattle.nmvs_protocol.specs.Commands.{ReadsCommand, first_command_fault}
 use Rattle.nmvs_protocol.specs.InputLines.{input_lines, unfinished_line}
 use Rattle.nmvs_protocol.specs.declared.command.Command.{Command}
 use Rattle.nmvs_protocol.specs.declared.command.CommandFault.{CommandFault}
@@ -10,52 +9,98 @@ use Rattle.nmvs_protocol.specs.declared.command.CommandFault.TheVariants as comm
 use Rattle.nmvs_stream.specs.Source.{Told}
 use Rattle.nmvs_stream.specs.Sink.{Taken}
 use Rattle.nmvs_stream.specs.Delivery.{Delivers, DeliversPart}
+use Rattle.nmvs_operator.specs.Orders.{ReadsOrder, first_order_fault}
 use Rattle.nmvs_operator.specs.Users.{change_of}
-use Rattle.nmvs_operator.specs.declared.commands.TheConstants.{MOST_COMMAND_READS}
+use Rattle.nmvs_operator.specs.declared.commands.TheConstants.{MOST_ORDER_READS}
 use Rattle.nmvs_operator.specs.declared.faults.ObeyFault.{ObeyFault}
 use Rattle.nmvs_operator.specs.declared.faults.ObeyFault.TheVariants as obey
+use Rattle.nmvs_operator.specs.declared.order.Order.{Order}
+use Rattle.nmvs_operator.specs.declared.order.Order.TheVariants as orders
+use Rattle.nmvs_operator.specs.declared.service.Deed.{Deed}
+use Rattle.nmvs_operator.specs.declared.service.Deed.TheVariants as deeds
+use Rattle.nmvs_operator.specs.declared.service.ServiceFault.{ServiceFault}
+use Rattle.nmvs_operator.specs.declared.service.ServiceFault.TheVariants as service
 
--- a command was carried out: its change is published, behind all that were pending
-pub record Obeys (old : Register) (line : List ℕ) (new : Register) : Type 0 where
-  pub command : Command
-  pub read : ReadsCommand line (Ok command)
-  pub all : new.published ≡ old.published ++ (old.pending ++ change_of command ∷ [])
-  pub none_left : new.pending ≡ []
-
--- memory was wanting for a command: nothing was published, and its change may be pending
-pub record Lacks (old : Register) (line : List ℕ) (new : Register) : Type 0 where
-  pub command : Command
-  pub read : ReadsCommand line (Ok command)
-  pub published : new.published ≡ old.published
-  pub pending : (new.pending ≡ old.pending) ⊎ (new.pending ≡ old.pending ++ change_of command ∷ [])
-
--- a command was not carried out: it can't be read, and nothing changed; or memory was wanting
-abbrev pub Refuses : Register → List ℕ → Register → ObeyFault → Type 0
-Refuses old line new (obey.Unread fault) = (first_command_fault line ≡ Some fault) × (new ≡ old)
-Refuses old line new obey.Memory = Lacks old line new
-Refuses old line new obey.Unended = ⊥
-
--- what commands change: the register, and the list of changes that the latest notice tells, if one was shown
-pub record Office : Type 0 where
+-- what orders change: the register; the list of changes that the latest notice tells, if one was shown; the server
+pub record Office (S : Type 0) : Type 0 where
   pub register : Register
   pub latest : Option (List Change)
+  pub service : S
 
-abbrev pub office : Register → Option (List Change) → Office
-office register latest = record { register = register; latest = latest }
+abbrev pub office : {S : Type 0} → Register → Option (List Change) → S → Office S
+office register latest service = record { register = register; latest = latest; service = service }
 
--- a command is answered so, where no fault is that it was carried out; then the latest notice tells all that is published
-abbrev pub AnswersCommand : Office → List ℕ → Option ObeyFault → Office → Type 0
-AnswersCommand old line None new = Obeys old.register line new.register × (new.latest ≡ Some new.register.published)
-AnswersCommand old line (Some fault) new = Refuses old.register line new.register fault × (new.latest ≡ old.latest)
+-- what a server may do, and be in which state then
+abbrev pub Does : Type 0 → Type 1
+Does S = S → Deed → Option ServiceFault → S → Type 0
 
--- commands are answered so, one by one in order
-abbrev pub AnswersCommands : Office → List (List ℕ) → List (Option ObeyFault) → Office → Type 0
-AnswersCommands old [] [] new = new ≡ old
-AnswersCommands old (x ∷ xs) (a ∷ said) new = (mid : Office) × AnswersCommand old x a mid × AnswersCommands mid xs said new
-AnswersCommands old [] (a ∷ said) new = ⊥
-AnswersCommands old (x ∷ xs) [] new = ⊥
+-- the server did what an order asks of it, where no fault is that it did
+abbrev pub Performs : {S : Type 0} → Does S → S → Order → Option ServiceFault → S → Type 0
+Performs does old (orders.Change command) fault new = does old (deeds.Keep command) fault new
+Performs does old (orders.Export path) fault new = does old (deeds.Export path) fault new
+Performs does old orders.Stop fault new = does old deeds.Stop fault new
+Performs does old orders.Help None new = new ≡ old
+Performs does old orders.Help (Some fault) new = ⊥
 
--- why a command can't be read
+-- a change is published behind all that were pending, and the latest notice tells all that is published
+pub record Publishes {S : Type 0} (old : Office S) (command : Command) (new : Office S) : Type 0 where
+  pub all : new.register.published ≡ old.register.published ++ (old.register.pending ++ change_of command ∷ [])
+  pub none_left : new.register.pending ≡ []
+  pub told : new.latest ≡ Some new.register.published
+
+-- the users stay as they are, and so does the latest notice
+abbrev pub UsersStay : {S : Type 0} → Office S → Office S → Type 0
+UsersStay old new = (new.register ≡ old.register) × (new.latest ≡ old.latest)
+
+-- what is done of an order beside the server
+abbrev pub Changes : {S : Type 0} → Office S → Order → Office S → Type 0
+Changes old (orders.Change command) new = Publishes old command new
+Changes old (orders.Export path) new = UsersStay old new
+Changes old orders.Stop new = UsersStay old new
+Changes old orders.Help new = UsersStay old new
+
+-- an order was carried out
+pub record Obeys {S : Type 0} (does : Does S) (old : Office S) (line : List ℕ) (order : Order) (new : Office S) : Type 0 where
+  pub read : ReadsOrder line (Ok order)
+  pub performs : Performs does old.service order None new.service
+  pub changes : Changes old order new
+
+-- the server did not do what an order asks, and nothing was published
+pub record Fails {S : Type 0} (does : Does S) (old : Office S) (line : List ℕ) (fault : ServiceFault) (new : Office S) : Type 0 where
+  pub order : Order
+  pub read : ReadsOrder line (Ok order)
+  pub performs : Performs does old.service order (Some fault) new.service
+  pub stays : UsersStay old new
+
+-- memory was wanting for a change that the server keeps: nothing was published, and the change may be pending
+pub record Lacks {S : Type 0} (does : Does S) (old : Office S) (line : List ℕ) (new : Office S) : Type 0 where
+  pub command : Command
+  pub read : ReadsOrder line (Ok (orders.Change command))
+  pub performs : does old.service (deeds.Keep command) None new.service
+  pub published : new.register.published ≡ old.register.published
+  pub pending : (new.register.pending ≡ old.register.pending) ⊎ (new.register.pending ≡ old.register.pending ++ change_of command ∷ [])
+  pub latest : new.latest ≡ old.latest
+
+-- an order was not carried out: it can't be read, and nothing changed; the server failed; or memory was wanting
+abbrev pub Refuses : {S : Type 0} → Does S → Office S → List ℕ → ObeyFault → Office S → Type 0
+Refuses does old line (obey.Unread fault) new = (first_order_fault line ≡ Some fault) × (new ≡ old)
+Refuses does old line (obey.Undone fault) new = Fails does old line fault new
+Refuses does old line obey.Memory new = Lacks does old line new
+Refuses does old line obey.Unended new = ⊥
+
+-- an order is answered so: as the order that was carried out, or by a fault
+abbrev pub AnswersOrder : {S : Type 0} → Does S → Office S → List ℕ → Result Order ObeyFault → Office S → Type 0
+AnswersOrder does old line (Ok order) new = Obeys does old line order new
+AnswersOrder does old line (Err fault) new = Refuses does old line fault new
+
+-- orders are answered so, one by one in order
+abbrev pub AnswersOrders : {S : Type 0} → Does S → Office S → List (List ℕ) → List (Result Order ObeyFault) → Office S → Type 0
+AnswersOrders does old [] [] new = new ≡ old
+AnswersOrders {S} does old (x ∷ xs) (a ∷ said) new = (mid : Office S) × AnswersOrder does old x a mid × AnswersOrders does mid xs said new
+AnswersOrders does old [] (a ∷ said) new = ⊥
+AnswersOrders does old (x ∷ xs) [] new = ⊥
+
+-- why a line can't be read
 abbrev pub command_word : CommandFault → List ℕ
 command_word commands.Long = codes "LONG"
 command_word commands.Bytes = codes "BYTES"
@@ -64,40 +109,79 @@ command_word commands.Word = codes "WORD"
 command_word commands.Role = codes "ROLE"
 command_word commands.Name = codes "NAME"
 
--- the answer to a command, where no fault is that it was carried out
-abbrev pub command_text : Option ObeyFault → List ℕ
-command_text None = codes "DONE\n"
-command_text (Some (obey.Unread fault)) = codes "FAULT " ++ command_word fault ++ codes "\n"
-command_text (Some obey.Memory) = codes "FAULT MEMORY\n"
-command_text (Some obey.Unended) = codes "FAULT UNENDED\n"
+-- why the server did not do what was asked
+abbrev pub service_word : ServiceFault → List ℕ
+service_word service.Journal = codes "JOURNAL"
+service_word service.Write = codes "WRITE"
+service_word service.Memory = codes "MEMORY"
+service_word service.Clock = codes "CLOCK"
+
+-- the lines that there are
+abbrev pub help_text : List ℕ
+help_text = codes "ENROL user role authorisation premises\nSUSPEND user\nEXPORT file\nSTOP\nHELP\nDONE\n"
+
+-- the answer to an order
+abbrev pub order_text : Result Order ObeyFault → List ℕ
+order_text (Ok orders.Help) = help_text
+order_text (Ok _) = codes "DONE\n"
+order_text (Err (obey.Unread fault)) = codes "FAULT " ++ command_word fault ++ codes "\n"
+order_text (Err (obey.Undone fault)) = codes "FAULT " ++ service_word fault ++ codes "\n"
+order_text (Err obey.Memory) = codes "FAULT MEMORY\n"
+order_text (Err obey.Unended) = codes "FAULT UNENDED\n"
 
 -- a text was delivered, but for what a failed write left of it
 abbrev pub Tries : Taken → Taken → List ℕ → Type 0
 Tries old new text = Delivers old new text ⊎ DeliversPart old new text
 
 -- the texts of these answers were delivered one by one, but for what a failed write left of one
-abbrev pub TellsAnswers : Taken → List (Option ObeyFault) → Taken → Type 0
+abbrev pub TellsAnswers : Taken → List (Result Order ObeyFault) → Taken → Type 0
 TellsAnswers old [] new = new ≡ old
 TellsAnswers old (a ∷ said) new =
-    (mid : Taken) × Tries old mid (command_text a) × TellsAnswers mid said new
+    (mid : Taken) × Tries old mid (order_text a) × TellsAnswers mid said new
 
 -- the answer to what was begun and has no end: none where nothing was begun
-abbrev pub last_answer : List ℕ → List (Option ObeyFault)
+abbrev pub last_answer : List ℕ → List (Result Order ObeyFault)
 last_answer [] = []
-last_answer (b ∷ begun) = Some obey.Unended ∷ []
+last_answer (b ∷ begun) = Err obey.Unended ∷ []
 
--- the commands ended: the input ended, a read failed, or the most reads were made
-abbrev pub CommandsEnd : Told → Told → Type 0
-CommandsEnd source source' =
-    (source'.ended ≡ true) ⊎ ((source'.failed ≡ true) ⊎ (source'.reads ≡ source.reads + MOST_COMMAND_READS))
+-- whether the server was stopped
+abbrev pub is_stop : Result Order ObeyFault → Bool
+is_stop (Ok orders.Stop) = true
+is_stop _ = false
 
--- the commands of a source were carried out and answered, each that has its LF
-pub record CarriesOut (old : Office) (source : Told) (sink : Taken) (new : Office) (source' : Told) (sink' : Taken) : Type 0 where
+-- none of these answers is that the server was stopped
+abbrev pub GoesOn : List (Result Order ObeyFault) → Type 0
+GoesOn said = All (λ a. is_stop a ≡ false) said
+
+-- an input is at its end: its end was read, a read failed, or the most reads were made
+abbrev pub InputEnds : Told → Told → Type 0
+InputEnds source source' =
+    (source'.ended ≡ true) ⊎ ((source'.failed ≡ true) ⊎ (source'.reads ≡ source.reads + MOST_ORDER_READS))
+
+-- all lines of an input that have their LF were answered, and none stopped the server; what was begun behind them is
+-- answered, and not carried out
+pub record EndsWithInput (input : List ℕ) (source : Told) (sink : Taken) (lines : List (List ℕ)) (said : List (Result Order ObeyFault)) (source' : Told) (sink' : Taken) : Type 0 where
+  pub all : lines ≡ input_lines input
+  pub goes_on : GoesOn said
+  pub told : TellsAnswers sink (said ++ last_answer (unfinished_line input)) sink'
+  pub ends : InputEnds source source'
+
+-- the first lines of an input were answered, up to the one that stopped the server; no other was looked at
+pub record EndsByStop (input : List ℕ) (sink : Taken) (lines : List (List ℕ)) (said : List (Result Order ObeyFault)) (sink' : Taken) : Type 0 where
+  pub rest : List (List ℕ)
+  pub these : input_lines input ≡ lines ++ rest
+  pub before : List (Result Order ObeyFault)
+  pub last : said ≡ before ++ Ok orders.Stop ∷ []
+  pub goes_on : GoesOn before
+  pub told : TellsAnswers sink said sink'
+
+-- the orders of a source were carried out and answered, up to its end or to the one that stopped the server
+pub record CarriesOut {S : Type 0} (does : Does S) (old : Office S) (source : Told) (sink : Taken) (new : Office S) (source' : Told) (sink' : Taken) : Type 0 where
   -- these bytes were read
   pub input : List ℕ
   pub read : source'.bytes ≡ source.bytes ++ input
-  -- with these answers to their lines
-  pub said : List (Option ObeyFault)
-  pub answers : AnswersCommands old (input_lines input) said new
-  pub told : TellsAnswers sink (said ++ last_answer (unfinished_line input)) sink'
-  pub ends : CommandsEnd source source'
+  -- and these of their lines answered
+  pub lines : List (List ℕ)
+  pub said : List (Result Order ObeyFault)
+  pub answers : AnswersOrders does old lines said new
+  pub ends : EndsWithInput input source sink lines said source' sink' ⊎ EndsByStop input sink lines said sink'

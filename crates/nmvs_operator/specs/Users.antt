@@ -112,9 +112,9 @@ LoadFails source source' reads before after load.Memory =
 
 -- what is wrong with a line of a users file, in whole words
 abbrev pub users_trouble : CommandFault → List ℕ
-users_trouble commands.Long = codes "a line has more than 200 bytes"
-users_trouble commands.Bytes = codes "a line has a byte that is no printable ASCII character"
-users_trouble commands.Fields = codes "a line has an empty field, or too few or too many"
-users_trouble commands.Word = codes "a line begins neither with ENROL nor with SUSPEND"
-users_trouble commands.Role = codes "a role is none of the five"
-users_trouble commands.Name = codes "a user, an authorisation or premises is no name"
+users_trouble commands.Long = codes "it has more than 200 bytes: LONG"
+users_trouble commands.Bytes = codes "it has a byte that is no printable ASCII character: BYTES"
+users_trouble commands.Fields = codes "it has an empty field, or too few or too many: FIELDS"
+users_trouble commands.Word = codes "it begins neither with ENROL nor with SUSPEND: WORD"
+users_trouble commands.Role = codes "its role is none of the five: ROLE"
+users_trouble commands.Name = codes "a user, an authorisation or premises is no name: NAME"

@@ -1,18 +1,21 @@
-//! The registrar's commands.
-ghost use Rattle.std.specs.Prelude.{◌≡◌, ◌⊎◌, ◌<◌, ◌++◌, ◌∷◌, [], ℕ, List, length, Option, OnOk, OnErr, IfOk, IfErr};
+//! The operator's orders, carried out.
+ghost use Rattle.std.specs.Prelude.{◌≡◌, ◌⊎◌, ◌<◌, ◌++◌, ◌∷◌, [], ℕ, List, length, Result, OnOk, OnErr, IfOk, IfErr, IfSome, IfNone, MatchBool, MatchResult, Ok, Err};
+ghost use Rattle.std.specs.Result.{result_err};
 ghost use Rattle.nmvs_directory.specs.Changes.{pending_changes, KeepsEntered, IsFull};
 ghost use Rattle.nmvs_directory.specs.Registrar.{register_of, published, pending};
 ghost use Rattle.nmvs_protocol.specs.InputLines.{input_lines, unfinished_line};
 ghost use Rattle.nmvs_protocol.specs.Progress.{kept_part};
 ghost use Rattle.nmvs_stream.specs.Sink.{Taken};
 ghost use Rattle.nmvs_operator.specs.declared.faults.ObeyFault.{ObeyFault as AFault};
+ghost use Rattle.nmvs_operator.specs.declared.order.Order.{Order as AnOrder};
+ghost use Rattle.nmvs_operator.specs.Orders.{ReadsOrder};
 ghost use Rattle.nmvs_operator.specs.Users.{change_of};
-ghost use Rattle.nmvs_operator.specs.Commands.{Obeys, Refuses, Office, office, AnswersCommand, command_word as word_of_command, command_text as text_of_answer, Tries, CarriesOut};
-ghost use Rattle.nmvs_operator.specs.Progress.{AnsweredCommands, CarriesOutLines};
+ghost use Rattle.nmvs_operator.specs.Commands.{Office, office, Performs, Obeys, Refuses, AnswersOrder, order_text as text_of_answer, is_stop, Tries, CarriesOut};
+ghost use Rattle.nmvs_operator.specs.Progress.{AnsweredOrders, StoppedIn, CarriesOutLines, StoppedBy};
 
-use crate::{Latest, ObeyFault};
+use crate::{Deed, Latest, ObeyFault, Order, Service, ServiceFault, read_order};
 use nmvs_directory::{Changes, Naming, Notice, Registrar};
-use nmvs_protocol::{Command, CommandFault, PendingLine, read_command};
+use nmvs_protocol::{Command, CommandFault, PendingLine};
 use nmvs_stream::{Failed, Sink, Source, deliver};
 use std::alloc::{AllocError, Allocator};
 use std::sync::Wait;
@@ -20,32 +23,201 @@ use std::sync::Wait;
 #[cfg(test)]
 mod tests;
 
-/// Carries out a command of the registrar, given without its LF: publishes its change at once.
+/// The most reads that are made of orders: more than any input has.
+const MOST_ORDER_READS: u64 = u64::MAX;
+
+/// The answer to `HELP`.
+const HELP: &str =
+    "ENROL user role authorisation premises\nSUSPEND user\nEXPORT file\nSTOP\nHELP\nDONE\n";
+
+/// Carries out the orders of a source one by one, as they come, and answers each. A change of the users is kept by the
+/// server first, then published at once, and its notice shown as the latest.
+///
+/// It ends with the input, at a failed read, or once it has told the server to stop, and then it looks at no further
+/// line. What was begun at the end of the input, and has no LF, is answered and not carried out. A failed write changes
+/// nothing. It waits for the lock of the latest notice, and lets it go.
+pub fn obey_all<J: Naming, R: Wait + Drop, A: Allocator, I: Source, W: Sink, L: Wait, S: Service>(
+    source: &mut I,
+    sink: &mut W,
+    registrar: &mut Registrar<J, R, A>,
+    latest: &mut Latest<'_, J, L>,
+    service: &mut S,
+)
+    ensures { CarriesOut S.does (office (register_of registrar.old) latest.old service.old) (I.told source.old) (W.taken sink.old)
+        (office (register_of registrar.new) latest.new service.new) (I.told source.new) (W.taken sink.new) }
+{
+    match obey_lines(source, sink, registrar, latest, service) {
+        Some(begun) => {
+            if !begun.is_empty() {
+                tell(fault_text(ObeyFault::Unended), sink);
+            }
+        }
+        None => {}
+    }
+}
+
+/// Carries out and answers the orders that have their LF, and gives what is kept of what was begun behind them; or
+/// nothing, where the server was stopped.
+fn obey_lines<J: Naming, R: Wait + Drop, A: Allocator, I: Source, W: Sink, L: Wait, S: Service>(
+    source: &mut I,
+    sink: &mut W,
+    registrar: &mut Registrar<J, R, A>,
+    latest: &mut Latest<'_, J, L>,
+    service: &mut S,
+) -> Option<PendingLine>
+    ensures all { IfSome result (λ begun. CarriesOutLines S.does (office (register_of registrar.old) latest.old service.old)
+        (I.told source.old) (W.taken sink.old) (office (register_of registrar.new) latest.new service.new)
+        (I.told source.new) (W.taken sink.new) begun) }
+    ensures stopped { IfNone result (StoppedBy S.does (office (register_of registrar.old) latest.old service.old)
+        (I.told source.old) (W.taken sink.old) (office (register_of registrar.new) latest.new service.new)
+        (I.told source.new) (W.taken sink.new)) }
+{
+    let mut line = PendingLine::new();
+    let mut buffer = [0; 4096];
+    for _ in 0..MOST_ORDER_READS {
+        match source.read(&mut buffer) {
+            Err(Failed) => return Some(line),
+            Ok(0) => return Some(line),
+            Ok(count) => {
+                if obey_chunk(
+                    &mut line,
+                    &buffer[..count],
+                    sink,
+                    registrar,
+                    latest,
+                    service,
+                ) {
+                    return None;
+                }
+            }
+        }
+    }
+    Some(line)
+}
+
+/// Goes on with the bytes of one read, behind the line that was begun, and tells whether the server was stopped.
+fn obey_chunk<J: Naming, R: Wait + Drop, A: Allocator, W: Sink, L: Wait, S: Service>(
+    line: &mut PendingLine,
+    chunk: &[u8],
+    sink: &mut W,
+    registrar: &mut Registrar<J, R, A>,
+    latest: &mut Latest<'_, J, L>,
+    service: &mut S,
+) -> bool
+    ensures { (first : Office S) (start : Taken) (input : List ℕ)
+        → line.old ≡ kept_part (unfinished_line input)
+        → AnsweredOrders S.does first start (office (register_of registrar.old) latest.old service.old) (W.taken sink.old)
+        (input_lines input)
+        → MatchBool result
+        (StoppedIn S.does first start (office (register_of registrar.new) latest.new service.new) (W.taken sink.new)
+        (input ++ chunk.now))
+        ((line.new ≡ kept_part (unfinished_line (input ++ chunk.now)))
+        × AnsweredOrders S.does first start (office (register_of registrar.new) latest.new service.new) (W.taken sink.new)
+        (input_lines (input ++ chunk.now))) }
+{
+    for byte in chunk {
+        if *byte != b'\n' {
+            line.extend(&[*byte]);
+            continue;
+        }
+        if obey_line(line.as_slice(), sink, registrar, latest, service) {
+            return true;
+        }
+        line.clear();
+    }
+    false
+}
+
+/// Carries out one order, of which as much is given as is kept of it, answers it, and tells whether it stopped the
+/// server. A failed write changes nothing.
+fn obey_line<J: Naming, R: Wait + Drop, A: Allocator, W: Sink, L: Wait, S: Service>(
+    line: &[u8],
+    sink: &mut W,
+    registrar: &mut Registrar<J, R, A>,
+    latest: &mut Latest<'_, J, L>,
+    service: &mut S,
+) -> bool
+    ensures { (said : Result AnOrder AFault)
+        × AnswersOrder S.does (office (register_of registrar.old) latest.old service.old) line.now said
+        (office (register_of registrar.new) latest.new service.new)
+        × Tries (W.taken sink.old) (W.taken sink.new) (text_of_answer said)
+        × (result ≡ is_stop said) }
+{
+    match read_order(line) {
+        Err(fault) => {
+            tell(fault_text(ObeyFault::Unread(fault)), sink);
+            false
+        }
+        Ok(order) => match carry_out(&order, registrar, latest, service) {
+            Err(fault) => {
+                tell(fault_text(fault), sink);
+                false
+            }
+            Ok(()) => {
+                tell(done_text(&order), sink);
+                matches!(order, Order::Stop)
+            }
+        },
+    }
+}
+
+/// Carries out an order.
 ///
 /// # Errors
 ///
-/// The line is no command, and nothing changes; or memory is wanting, and nothing is published: the
-/// pending changes had no room for the change, or it is pending, and the next publication carries it.
-pub fn obey<J: Naming, R: Wait + Drop, A: Allocator>(
-    line: &[u8],
+/// The server did not do what it asks, and nothing is published; or memory is wanting for a change that the server
+/// keeps, and nothing is published: the pending changes had no room for it, or it is pending, and the next publication
+/// carries it.
+fn carry_out<J: Naming, R: Wait + Drop, A: Allocator, L: Wait, S: Service>(
+    order: &Order<'_>,
     registrar: &mut Registrar<J, R, A>,
-) -> Result<Notice<J>, ObeyFault>
-    ensures obeyed { OnOk result
-        (Obeys (register_of registrar.old) line.now (register_of registrar.new)) }
-    ensures told { IfOk result (λ notice. notice ≡ published registrar.new) }
-    ensures refused { IfErr result
-        (Refuses (register_of registrar.old) line.now (register_of registrar.new)) }
+    latest: &mut Latest<'_, J, L>,
+    service: &mut S,
+) -> Result<(), ObeyFault>
+    ensures answers { (line : List ℕ) → ReadsOrder line (Ok order.now) → MatchResult result
+        (λ _. Obeys S.does (office (register_of registrar.old) latest.old service.old) line order.now
+        (office (register_of registrar.new) latest.new service.new))
+        (λ fault. Refuses S.does (office (register_of registrar.old) latest.old service.old) line fault
+        (office (register_of registrar.new) latest.new service.new)) }
     ensures memory { IfErr result (λ fault. fault ≡ ObeyFault.Memory
         → IsFull registrar.old.changes ⊎ (0 < length (pending registrar.new))) }
 {
-    let command = read_command(line).map_err(ObeyFault::Unread)?;
-    if add(&mut registrar.changes, command).is_err() {
-        return Err(ObeyFault::Memory);
+    perform(order, service).map_err(ObeyFault::Undone)?;
+    if let Order::Change(command) = order {
+        match publish(*command, registrar) {
+            Ok(notice) => latest.show(notice),
+            Err(AllocError) => return Err(ObeyFault::Memory),
+        }
     }
-    match registrar.publish() {
-        Ok(notice) => Ok(notice),
-        Err(_) => Err(ObeyFault::Memory),
+    Ok(())
+}
+
+/// Has the server do what an order asks of it.
+fn perform<S: Service>(order: &Order<'_>, service: &mut S) -> Result<(), ServiceFault>
+    ensures { Performs S.does service.old order.now (result_err result) service.new }
+{
+    match order {
+        Order::Change(command) => service.perform(&Deed::Keep(*command)),
+        Order::Export(path) => service.perform(&Deed::Export(path)),
+        Order::Stop => service.perform(&Deed::Stop),
+        Order::Help => Ok(()),
     }
+}
+
+/// Publishes a change of the users at once.
+fn publish<J: Naming, R: Wait + Drop, A: Allocator>(
+    command: Command,
+    registrar: &mut Registrar<J, R, A>,
+) -> Result<Notice<J>, AllocError>
+    ensures published { MatchResult result
+        (λ notice. (published registrar.new ≡ published registrar.old ++ (pending registrar.old ++ change_of command ∷ []))
+        × (pending registrar.new ≡ []) × (notice ≡ published registrar.new))
+        (λ _. (published registrar.new ≡ published registrar.old)
+        × ((pending registrar.new ≡ pending registrar.old) ⊎ (pending registrar.new ≡ pending registrar.old ++ change_of command ∷ []))) }
+    ensures memory { OnErr result (IsFull registrar.old.changes ⊎ (0 < length (pending registrar.new))) }
+{
+    add(&mut registrar.changes, command)?;
+    registrar.publish()
 }
 
 /// Adds the change of a command to those that are pending.
@@ -65,146 +237,39 @@ pub(crate) fn add<A: Allocator>(
     }
 }
 
-/// The most reads that are made of commands: more than any input has.
-const MOST_COMMAND_READS: u64 = u64::MAX;
-
-/// Carries out the commands of a source one by one, as they come: publishes the change of each at once, shows its notice
-/// as the latest, and answers it. It ends with the input or at a failed read; what was begun then, and has no LF, is
-/// answered and not carried out. A failed write changes nothing. It waits for the lock of the latest notice, and lets it
-/// go.
-pub fn obey_all<J: Naming, R: Wait + Drop, A: Allocator, I: Source, W: Sink, L: Wait>(
-    source: &mut I,
-    sink: &mut W,
-    registrar: &mut Registrar<J, R, A>,
-    latest: &mut Latest<'_, J, L>,
-)
-    ensures { CarriesOut (office (register_of registrar.old) latest.old) (I.told source.old) (W.taken sink.old)
-        (office (register_of registrar.new) latest.new) (I.told source.new) (W.taken sink.new) }
+/// Answers an order.
+fn tell<W: Sink>(text: &str, sink: &mut W)
+    ensures { Tries (W.taken sink.old) (W.taken sink.new) text.now }
 {
-    let begun = obey_lines(source, sink, registrar, latest);
-    if !begun.is_empty() {
-        answer(Some(ObeyFault::Unended), sink);
+    let _failed = deliver(sink, text.as_bytes());
+}
+
+/// The answer to an order that was carried out.
+fn done_text(order: &Order<'_>) -> &'static str
+    ensures { result.now ≡ text_of_answer (Ok order.now) }
+{
+    match order {
+        Order::Help => HELP,
+        _ => "DONE\n",
     }
 }
 
-/// Carries out and answers the commands that have their LF, and gives what is kept of what was begun behind them.
-fn obey_lines<J: Naming, R: Wait + Drop, A: Allocator, I: Source, W: Sink, L: Wait>(
-    source: &mut I,
-    sink: &mut W,
-    registrar: &mut Registrar<J, R, A>,
-    latest: &mut Latest<'_, J, L>,
-) -> PendingLine
-    ensures { CarriesOutLines (office (register_of registrar.old) latest.old) (I.told source.old)
-        (W.taken sink.old) (office (register_of registrar.new) latest.new) (I.told source.new)
-        (W.taken sink.new) result }
-{
-    let mut line = PendingLine::new();
-    let mut buffer = [0; 4096];
-    for _ in 0..MOST_COMMAND_READS {
-        match source.read(&mut buffer) {
-            Err(Failed) => return line,
-            Ok(0) => return line,
-            Ok(count) => obey_chunk(&mut line, &buffer[..count], sink, registrar, latest),
-        }
-    }
-    line
-}
-
-/// Goes on with the bytes of one read, behind the line that was begun.
-fn obey_chunk<J: Naming, R: Wait + Drop, A: Allocator, W: Sink, L: Wait>(
-    line: &mut PendingLine,
-    chunk: &[u8],
-    sink: &mut W,
-    registrar: &mut Registrar<J, R, A>,
-    latest: &mut Latest<'_, J, L>,
-)
-    ensures { (first : Office) (start : Taken) (input : List ℕ)
-        → line.old ≡ kept_part (unfinished_line input)
-        → AnsweredCommands first start (office (register_of registrar.old) latest.old) (W.taken sink.old)
-        (input_lines input)
-        → (line.new ≡ kept_part (unfinished_line (input ++ chunk.now)))
-        × AnsweredCommands first start (office (register_of registrar.new) latest.new) (W.taken sink.new)
-        (input_lines (input ++ chunk.now)) }
-{
-    for byte in chunk {
-        if *byte != b'\n' {
-            line.extend(&[*byte]);
-            continue;
-        }
-        obey_line(line.as_slice(), sink, registrar, latest);
-        line.clear();
-    }
-}
-
-/// Carries out one command, of which as much is given as is kept of it, and answers it. A failed write
-/// changes nothing.
-fn obey_line<J: Naming, R: Wait + Drop, A: Allocator, W: Sink, L: Wait>(
-    line: &[u8],
-    sink: &mut W,
-    registrar: &mut Registrar<J, R, A>,
-    latest: &mut Latest<'_, J, L>,
-)
-    ensures { (said : Option AFault)
-        × AnswersCommand (office (register_of registrar.old) latest.old) line.now said
-        (office (register_of registrar.new) latest.new)
-        × Tries (W.taken sink.old) (W.taken sink.new) (text_of_answer said) }
-{
-    let fault = obey_one(line, registrar, latest);
-    answer(fault, sink);
-}
-
-/// Carries out one command, and shows its notice as the latest.
-fn obey_one<J: Naming, R: Wait + Drop, A: Allocator, L: Wait>(
-    line: &[u8],
-    registrar: &mut Registrar<J, R, A>,
-    latest: &mut Latest<'_, J, L>,
-) -> Option<ObeyFault>
-    ensures { AnswersCommand (office (register_of registrar.old) latest.old) line.now result
-        (office (register_of registrar.new) latest.new) }
-{
-    match obey(line, registrar) {
-        Ok(notice) => {
-            latest.show(notice);
-            None
-        }
-        Err(fault) => Some(fault),
-    }
-}
-
-/// Answers a command, where no fault is that it was carried out.
-fn answer<W: Sink>(fault: Option<ObeyFault>, sink: &mut W)
-    ensures { Tries (W.taken sink.old) (W.taken sink.new) (text_of_answer fault) }
-{
-    let _failed = deliver(sink, answer_text(fault).as_bytes());
-}
-
-/// The answer to a command, where no fault is that it was carried out.
-fn answer_text(fault: Option<ObeyFault>) -> &'static str
-    ensures { result.now ≡ text_of_answer fault }
+/// The answer to an order that was not carried out.
+fn fault_text(fault: ObeyFault) -> &'static str
+    ensures { result.now ≡ text_of_answer (Err fault) }
 {
     match fault {
-        None => "DONE\n",
-        Some(ObeyFault::Unread(CommandFault::Long)) => "FAULT LONG\n",
-        Some(ObeyFault::Unread(CommandFault::Bytes)) => "FAULT BYTES\n",
-        Some(ObeyFault::Unread(CommandFault::Fields)) => "FAULT FIELDS\n",
-        Some(ObeyFault::Unread(CommandFault::Word)) => "FAULT WORD\n",
-        Some(ObeyFault::Unread(CommandFault::Role)) => "FAULT ROLE\n",
-        Some(ObeyFault::Unread(CommandFault::Name)) => "FAULT NAME\n",
-        Some(ObeyFault::Memory) => "FAULT MEMORY\n",
-        Some(ObeyFault::Unended) => "FAULT UNENDED\n",
-    }
-}
-
-/// The word of a command that can't be read.
-pub fn command_word(fault: CommandFault) -> &'static str
-    ensures { result.now ≡ word_of_command fault }
-{
-    match fault {
-        CommandFault::Long => "LONG",
-        CommandFault::Bytes => "BYTES",
-        CommandFault::Fields => "FIELDS",
-        CommandFault::Word => "WORD",
-        CommandFault::Role => "ROLE",
-        CommandFault::Name => "NAME",
+        ObeyFault::Unread(CommandFault::Long) => "FAULT LONG\n",
+        ObeyFault::Unread(CommandFault::Bytes) => "FAULT BYTES\n",
+        ObeyFault::Unread(CommandFault::Fields) => "FAULT FIELDS\n",
+        ObeyFault::Unread(CommandFault::Word) => "FAULT WORD\n",
+        ObeyFault::Unread(CommandFault::Role) => "FAULT ROLE\n",
+        ObeyFault::Unread(CommandFault::Name) => "FAULT NAME\n",
+        ObeyFault::Undone(ServiceFault::Journal) => "FAULT JOURNAL\n",
+        ObeyFault::Undone(ServiceFault::Write) => "FAULT WRITE\n",
+        ObeyFault::Undone(ServiceFault::Memory) => "FAULT MEMORY\n",
+        ObeyFault::Undone(ServiceFault::Clock) => "FAULT CLOCK\n",
+        ObeyFault::Memory => "FAULT MEMORY\n",
+        ObeyFault::Unended => "FAULT UNENDED\n",
     }
 }

@@ -1,3 +1,4 @@
+use crate::ServiceFault;
 use nmvs_protocol::CommandFault;
 use std::alloc::AllocError;
 use thiserror::Error;
@@ -28,14 +29,16 @@ impl From<AllocError> for LoadFault {
     }
 }
 
-/// Why a command was not carried out.
+/// Why an order was not carried out.
 #[derive(Clone, Copy, Debug, PartialEq, Eq, Error)]
 pub enum ObeyFault {
     #[error("{0}")]
     Unread(CommandFault),
+    #[error("{0}")]
+    Undone(ServiceFault),
     #[error("there is no memory for the change")]
     Memory,
-    /// The commands ended before its LF came.
+    /// The orders ended before its LF came.
     #[error("the command has no end")]
     Unended,
 }

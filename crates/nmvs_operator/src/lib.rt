@@ -1,9 +1,8 @@
-//! What the operator hands to the server: the options of its command line, a users file, the
-//! registrar's commands.
+//! What the operator hands to the server: the options of its command line, a users file, orders.
 //!
-//! [`read_options`] takes a command line; [`load_users`] publishes the users of a file, all at once, and
-//! [`obey_all`] the change of each command of a source as it comes, by a `nmvs_directory::Registrar`. It shows the
-//! notice of each publication by a [`Latest`] before it answers.
+//! [`read_options`] takes a command line; [`load_users`] publishes the users of a file, all at once, by a
+//! `nmvs_directory::Registrar`, and [`obey_all`] carries out the [`Order`]s of a source as they come: of a change of the
+//! users it shows the notice by a [`Latest`] before it answers; what only the server can do it has done by a [`Service`].
 //!
 //! It serves nobody: what is served, and when commands are read, is `nmvs_server`'s.
 #![tactic(auto)]
@@ -12,12 +11,17 @@ mod commands;
 mod faults;
 mod latest;
 mod options;
+mod order;
+mod service;
 mod users;
 
-pub use commands::{command_word, obey, obey_all};
+pub use commands::obey_all;
 pub use faults::{LoadFault, ObeyFault};
 pub use latest::Latest;
 pub use options::{
-    DEFAULT_PORT, MOST_SESSIONS, MOST_SHARDS, MOST_WORKERS, OptionFault, Options, read_options,
+    DEFAULT_PORT, MOST_CONNECTIONS, MOST_IDLE, MOST_SESSIONS, MOST_SHARDS, MOST_WORKERS,
+    OptionFault, Options, read_options,
 };
+pub use order::{Order, read_order};
+pub use service::{Deed, Service, ServiceFault};
 pub use users::{load_users, users_trouble};

@@ -1,5 +1,5 @@
 //! The command line.
-ghost use Rattle.std.specs.Prelude.{◌≤◌, IfOk};
+ghost use Rattle.std.specs.Prelude.{◌≤◌, IfOk, IfSome};
 ghost use Rattle.nmvs_identifier.specs.Moment.{last_moment};
 ghost use Rattle.nmvs_operator.specs.Options.{AreInRange};
 
@@ -7,6 +7,7 @@ use clap::error::ErrorKind;
 use clap::{Arg, ArgAction, ArgMatches, Command, Error, value_parser};
 use nmvs_identifier::{LAST_MOMENT, Moment};
 use std::alloc::{AllocError, Global};
+use std::net::IpAddr;
 
 #[cfg(test)]
 mod tests;
@@ -19,6 +20,12 @@ pub const MOST_WORKERS: u64 = 8;
 
 /// The most connections that a worker serves before it ends (own).
 pub const MOST_SESSIONS: u64 = 1_000_000;
+
+/// The most connections that are open at once (own).
+pub const MOST_CONNECTIONS: u64 = 100_000;
+
+/// The longest that a connection may ask nothing, in seconds: a day (own).
+pub const MOST_IDLE: u64 = 86_400;
 
 /// The port that is listened on where the command line names none (own).
 pub const DEFAULT_PORT: u16 = 7161;
@@ -38,8 +45,16 @@ pub struct Options {
     pub workers: usize,
     /// How many connections each worker serves, 0 to 1,000,000, where 0 is without end.
     pub sessions: u64,
-    /// The port on 127.0.0.1, 1 to 65,535.
+    /// How many connections are open at once, 1 to 100,000.
+    pub connections: usize,
+    /// How long a connection may ask nothing, in seconds, 0 to 86,400, where 0 is without end.
+    pub idle: u64,
+    /// The address that is listened on.
+    pub bind: IpAddr,
+    /// The port that is listened on, where 0 is one that the system chooses.
     pub port: u16,
+    /// Path of a Unix socket that is listened on.
+    pub socket: Option<String>,
     /// The moment of every line, in place of the clock's.
     pub moment: Option<Moment>,
     /// One session over standard input and output, in place of connections.
@@ -52,7 +67,7 @@ pub enum OptionFault {
     Memory,
     /// The line is refused, with the text that says why.
     Refused(String),
-    /// The line asks for help, with its text.
+    /// The line asks for help or the version, with its text.
     Help(String),
 }
 
@@ -63,8 +78,10 @@ impl From<AllocError> for OptionFault {
 }
 
 const ABOUT: &str =
-    "The national medicines verification repository: answers lines of users on 127.0.0.1, and takes commands of its registrar \
-    on standard input.";
+    "The national medicines verification repository: answers lines of users over connections, and takes commands of its \
+    operator on standard input.";
+
+const VERSION: &str = "1 (proved by rattle-kit-13b logic dac8208d650f15bf)";
 
 const REHEARSAL: &str =
     "Without any option the program is a rehearsal: one session over standard input and output, with an empty \
@@ -74,7 +91,7 @@ const REHEARSAL: &str =
 ///
 /// # Errors
 ///
-/// The words are no command line, or ask for help.
+/// The words are no command line, or ask for help or the version.
 pub fn read_options(alloc: Global, words: &[String]) -> Result<Options, OptionFault>
     ensures { IfOk result AreInRange }
 {
@@ -90,9 +107,6 @@ pub fn read_options(alloc: Global, words: &[String]) -> Result<Options, OptionFa
 
 /// The command line, with the text of the default port.
 fn command<'a>(alloc: Global, default_port: &'a str) -> Result<Command<'a>, AllocError> {
-    let port = number(alloc, "port", "Port on 127.0.0.1, 1 to 65535", 1, 65_535).default_value(
-        default_port,
-    );
     let moment = number(
         alloc,
         "moment",
@@ -102,20 +116,20 @@ fn command<'a>(alloc: Global, default_port: &'a str) -> Result<Command<'a>, Allo
     );
     let stdin = Arg::new(alloc, "stdin")
         .long("stdin")
-        .help(
-            "Serve one session over standard input and output; workers, sessions and port are not used",
-        )
+        .help("Serve one session over standard input and output in place of connections")
         .action(ArgAction::SetTrue);
     let command = Command::new(alloc, "nmvs-serve")
         .about(ABOUT)
-        .after_help(REHEARSAL);
-    with_counts(alloc, with_files(alloc, command)?)?
-        .arg(port)?
+        .after_help(REHEARSAL)
+        .version(VERSION);
+    let files = with_files(alloc, command)?;
+    let counts = with_limits(alloc, with_counts(alloc, files)?)?;
+    with_places(alloc, counts, default_port)?
         .arg(moment)?
         .arg(stdin)
 }
 
-/// With the options that are paths.
+/// With the options that are paths of files.
 fn with_files<'a>(alloc: Global, command: Command<'a>) -> Result<Command<'a>, AllocError> {
     let users = option(
         alloc,
@@ -139,7 +153,7 @@ fn with_files<'a>(alloc: Global, command: Command<'a>) -> Result<Command<'a>, Al
     command.arg(users)?.arg(import)?.arg(export)
 }
 
-/// With the options that are counts.
+/// With the options that are counts of what is there at once.
 fn with_counts<'a>(alloc: Global, command: Command<'a>) -> Result<Command<'a>, AllocError> {
     let shards = number(
         alloc,
@@ -152,20 +166,71 @@ fn with_counts<'a>(alloc: Global, command: Command<'a>) -> Result<Command<'a>, A
     let workers = number(
         alloc,
         "workers",
-        "Connections that are served at once, 1 to 8",
+        "Threads that serve connections, 1 to 8",
         1,
         MOST_WORKERS as i64,
     )
     .default_value("4");
+    let connections = number(
+        alloc,
+        "connections",
+        "Connections that are open at once, 1 to 100000",
+        1,
+        MOST_CONNECTIONS as i64,
+    )
+    .default_value("10000");
+    command.arg(shards)?.arg(workers)?.arg(connections)
+}
+
+/// With the options that end connections, and workers.
+fn with_limits<'a>(alloc: Global, command: Command<'a>) -> Result<Command<'a>, AllocError> {
     let sessions = number(
         alloc,
         "sessions",
-        "Connections that each worker serves before it ends, 0 to 1000000; 0 is without end",
+        "Sessions in which a line is served, for each worker, before the server ends, 0 to 1000000; 0 is without end",
         0,
         MOST_SESSIONS as i64,
     )
     .default_value("0");
-    command.arg(shards)?.arg(workers)?.arg(sessions)
+    let idle = number(
+        alloc,
+        "idle",
+        "Seconds after which a connection that asks nothing is closed, 0 to 86400; 0 is never",
+        0,
+        MOST_IDLE as i64,
+    )
+    .default_value("300");
+    command.arg(sessions)?.arg(idle)
+}
+
+/// With the options that say where connections come from, and the text of the default port.
+fn with_places<'a>(
+    alloc: Global,
+    command: Command<'a>,
+    default_port: &'a str,
+) -> Result<Command<'a>, AllocError> {
+    let bind = option(
+        alloc,
+        "bind",
+        "ADDRESS",
+        "Address that is listened on, of version 4 or 6",
+    )
+    .default_value("127.0.0.1");
+    let port = number(
+        alloc,
+        "port",
+        "Port that is listened on, 0 to 65535; 0 is one that the system chooses",
+        0,
+        65_535,
+    )
+    .default_value(default_port);
+    let socket = option(
+        alloc,
+        "socket",
+        "PATH",
+        "Unix socket that is listened on in place of address and port",
+    );
+    command.arg(bind)?.arg(port)?.arg(socket)
 }
 
 fn option<'a>(alloc: Global, name: &'a str, value: &'a str, help: &'a str) -> Arg<'a> {
@@ -186,11 +251,6 @@ fn options_of(alloc: Global, matches: &ArgMatches<'_>) -> Result<Options, Option
     let Some(users) = matches.get_str("users") else {
         return Err(unreadable(alloc));
     };
-    let moment = if matches.contains_id("moment") {
-        Some(moment_of(alloc, matches)?)
-    } else {
-        None
-    };
     Ok(Options {
         users: String::from_str(alloc, users)?,
         import: path_of(alloc, matches, "import")?,
@@ -198,8 +258,12 @@ fn options_of(alloc: Global, matches: &ArgMatches<'_>) -> Result<Options, Option
         shards: within(alloc, matches, "shards", 1, MOST_SHARDS)? as usize,
         workers: within(alloc, matches, "workers", 1, MOST_WORKERS)? as usize,
         sessions: within(alloc, matches, "sessions", 0, MOST_SESSIONS)?,
-        port: within(alloc, matches, "port", 1, 65_535)? as u16,
-        moment,
+        connections: within(alloc, matches, "connections", 1, MOST_CONNECTIONS)? as usize,
+        idle: within(alloc, matches, "idle", 0, MOST_IDLE)?,
+        bind: address_of(alloc, matches)?,
+        port: within(alloc, matches, "port", 0, 65_535)? as u16,
+        socket: path_of(alloc, matches, "socket")?,
+        moment: moment_of(alloc, matches)?,
         stdin: matches.get_flag("stdin"),
     })
 }
@@ -216,11 +280,26 @@ fn path_of(
     }
 }
 
-fn moment_of(alloc: Global, matches: &ArgMatches<'_>) -> Result<Moment, OptionFault>
-    ensures { IfOk result (λ m. m ≤ last_moment) }
+/// The address that is listened on.
+fn address_of(alloc: Global, matches: &ArgMatches<'_>) -> Result<IpAddr, OptionFault> {
+    matches.get_one::<IpAddr>("bind").ok_or_else(|| refused(
+        alloc,
+        "error: the value of '--bind <ADDRESS>' is no address\n",
+    ))
+}
+
+/// The moment of every line, where the option is given.
+fn moment_of(alloc: Global, matches: &ArgMatches<'_>) -> Result<Option<Moment>, OptionFault>
+    ensures { IfOk result (λ m. IfSome m (λ m. m ≤ last_moment)) }
 {
+    if !matches.contains_id("moment") {
+        return Ok(None);
+    }
     let seconds = within(alloc, matches, "moment", 0, LAST_MOMENT as u64)?;
-    Moment::new(seconds as i64).ok_or_else(|| unreadable(alloc))
+    match Moment::new(seconds as i64) {
+        Some(moment) => Ok(Some(moment)),
+        None => Err(unreadable(alloc)),
+    }
 }
 
 /// The number of an option. The parser took it between these two already, and here it is shown.
@@ -241,7 +320,11 @@ fn within(
 
 /// The fault of a value that the parser took and that is not what it has to be. No command line has one.
 fn unreadable(alloc: Global) -> OptionFault {
-    match String::from_str(alloc, "an option could not be read") {
+    refused(alloc, "error: an option could not be read\n")
+}
+
+fn refused(alloc: Global, text: &str) -> OptionFault {
+    match String::from_str(alloc, text) {
         Ok(text) => OptionFault::Refused(text),
         Err(AllocError) => OptionFault::Memory,
     }
@@ -255,7 +338,7 @@ fn fault_of(alloc: Global, error: &Error) -> OptionFault {
         return OptionFault::Memory;
     };
     match error.kind() {
-        ErrorKind::DisplayHelp => OptionFault::Help(text),
+        ErrorKind::DisplayHelp | ErrorKind::DisplayVersion => OptionFault::Help(text),
         _ => OptionFault::Refused(text),
     }
 }

@@ -1,10 +1,9 @@
 ghost use Rattle.std.specs.Prelude.{◌≡◌};
 ghost use Rattle.nmvs_directory.specs.Directory.{directory_book};
 
-use crate::{Latest, ObeyFault, obey, obey_all};
+use crate::{Deed, Latest, Service, ServiceFault, obey_all};
 use nmvs_directory::{Directory, Look, Naming, Notice, Registrar};
 use nmvs_identifier::Name;
-use nmvs_protocol::CommandFault;
 use nmvs_stream::Device;
 use std::alloc::Global;
 use std::marker::Brand;
@@ -20,12 +19,43 @@ const COMMANDS: &[u8] =
     AAAAAAAAAAAAAAAAAAAAAAAAAAAAAAAAAAAAAAAAAAAAAAAAAAAAAAAAAAAAAAAAAAAAAAAAAAAAAAAAAAAAAAAAAAAAAAAAAAAAA\n\
     suspend ph9\nSUSPEND ph9\nENROL ph9 PHARMACY PH-9 P9";
 
-/// Carries out commands, which have these answers.
+/// What stops the server, and a command behind it.
+const STOP: &[u8] =
+    b"EXPORT full\nEXPORT trail.txt\nHELP\nSUSPEND ph9\nSTOP\nENROL ph9 PHARMACY PH-9 P9\n";
+
+const HELPED: &[u8] =
+    b"FAULT WRITE\nDONE\nENROL user role authorisation premises\nSUSPEND user\nEXPORT file\nSTOP\nHELP\nDONE\nFAULT JOURNAL\nDONE\n";
+
+/// A server that keeps so many changes, and writes no file named `full`.
+#[derive(Drop)]
+struct Narrow {
+    keeps: u64,
+    stopped: bool,
+}
+
+impl Service for Narrow {
+    ghost does = { λ old deed fault new. Unit {0} };
+
+    fn perform(&mut self, deed: &Deed<'_>) -> Result<(), ServiceFault> {
+        match deed {
+            Deed::Keep(_) => {
+                self.keeps = self.keeps.checked_sub(1).ok_or(ServiceFault::Journal)?;
+            }
+            Deed::Export("full") => return Err(ServiceFault::Write),
+            Deed::Export(_) => {}
+            Deed::Stop => self.stopped = true,
+        }
+        Ok(())
+    }
+}
+
+/// Carries out orders, which have these answers.
 fn has_answers<'r, J: Naming, R: Wait + Abort + Sync>(
     rt: &'r R,
     alloc: Global,
     registrar: &mut Registrar<J, &'r R, Global>,
     latest: &Mutex<Notice<J>>,
+    service: &mut Narrow,
     commands: &[u8],
     answers: &[u8],
 ) {
@@ -36,6 +66,7 @@ fn has_answers<'r, J: Naming, R: Wait + Abort + Sync>(
         &mut sink,
         registrar,
         &mut Latest::new(rt, latest),
+        service,
     );
     drop(sink);
     assert_eq!(rt; taken.as_slice(), answers);
@@ -48,15 +79,44 @@ fn commands_come<J: Naming, R: Wait + Abort + Sync>(rt: &R, alloc: Global, direc
     let (mut registrar, mut windows) = directory.open::<J, _, _>(rt, alloc, 1).expect(rt, "memory");
     let mut window = windows.pop().expect(rt, "a window");
     let latest = Mutex::new(registrar.publish().expect(rt, "memory"));
-    has_answers(rt, alloc, &mut registrar, &latest, ENROLMENT, b"DONE\n");
+    let mut service = Narrow {
+        keeps: 2,
+        stopped: false,
+    };
+    has_answers(
+        rt,
+        alloc,
+        &mut registrar,
+        &latest,
+        &mut service,
+        ENROLMENT,
+        b"DONE\n",
+    );
     window.learn(&*latest.lock(rt));
     assert!(rt; matches!(window.look(&ph9), Look::Known(_)));
     let all = b"FAULT LONG\nFAULT WORD\nDONE\nFAULT UNENDED\n";
-    has_answers(rt, alloc, &mut registrar, &latest, COMMANDS, all);
+    has_answers(
+        rt,
+        alloc,
+        &mut registrar,
+        &latest,
+        &mut service,
+        COMMANDS,
+        all,
+    );
     window.learn(&*latest.lock(rt));
     assert_eq!(rt; window.look(&ph9), Look::Suspended);
-    let refused = obey(b"SUSPEND", &mut registrar).map(|_| ());
-    assert_eq!(rt; refused, Err(ObeyFault::Unread(CommandFault::Fields)));
+    assert!(rt; !service.stopped);
+    has_answers(
+        rt,
+        alloc,
+        &mut registrar,
+        &latest,
+        &mut service,
+        STOP,
+        HELPED,
+    );
+    assert!(rt; service.stopped);
     registrar.close();
 }
 

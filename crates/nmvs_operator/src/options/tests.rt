@@ -1,5 +1,6 @@
 use crate::{OptionFault, Options, read_options};
 use std::alloc::Global;
+use std::net::{IpAddr, Ipv4Addr, Ipv6Addr};
 use std::process::Abort;
 use std::test::*;
 
@@ -28,6 +29,9 @@ fn options_have_defaults(rt: HostRuntime) {
         (options.port, options.moment, options.stdin),
         (7161, None, false)
     );
+    assert_eq!(rt; (options.connections, options.idle), (10_000, 300));
+    assert_eq!(rt; options.bind, IpAddr::V4(Ipv4Addr::new(127, 0, 0, 1)));
+    assert!(rt; options.socket.is_none());
 }
 
 /// Whether a path is this one.
@@ -47,7 +51,11 @@ fn all_options_are_taken_together(rt: HostRuntime) {
         "--shards=1",
         "--workers=8",
         "--sessions=1000000",
+        "--connections=100000",
+        "--idle=86400",
+        "--bind=::1",
         "--port=65535",
+        "--socket=S",
         "--moment=4102444799",
         "--stdin",
     ];
@@ -61,6 +69,12 @@ fn all_options_are_taken_together(rt: HostRuntime) {
         (1, 8, 1_000_000)
     );
     assert_eq!(rt; (options.port, options.stdin), (65_535, true));
+    assert_eq!(rt; (options.connections, options.idle), (100_000, 86_400));
+    assert!(rt; is_path(&options.socket, "S"));
+    assert_eq!(rt;
+        options.bind,
+        IpAddr::V6(Ipv6Addr::new(0, 0, 0, 0, 0, 0, 0, 1))
+    );
 }
 
 #[test]
@@ -71,7 +85,10 @@ fn other_lines_are_refused(rt: HostRuntime) {
         "--workers=0",
         "--workers=9",
         "--sessions=1000001",
-        "--port=0",
+        "--connections=0",
+        "--connections=100001",
+        "--idle=86401",
+        "--bind=localhost",
         "--port=65536",
         "--moment=4102444800",
         "--moment=-1",
@@ -87,9 +104,13 @@ fn other_lines_are_refused(rt: HostRuntime) {
 }
 
 #[test]
-fn help_is_told(rt: HostRuntime) {
+fn help_and_version_are_told(rt: HostRuntime) {
     let Err(OptionFault::Help(text)) = read(&rt, rt.alloc(), &["--help"]) else {
         panic!(rt; "no help");
     };
     assert!(rt; text.contains("--users <FILE>") && text.contains("[default: 7161]"));
+    for word in ["--version", "-V"] {
+        let version = read(&rt, rt.alloc(), &[word]);
+        assert!(rt; matches!(version, Err(OptionFault::Help(_))), "{word}");
+    }
 }

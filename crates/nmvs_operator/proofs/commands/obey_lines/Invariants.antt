@@ -3,8 +3,8 @@ use Rattle.nmvs_directory.specs.Registrar.{register_of}
 use Rattle.nmvs_protocol.specs.InputLines.{input_lines, unfinished_line}
 use Rattle.nmvs_protocol.specs.Progress.{kept_part}
 use Rattle.nmvs_operator.specs.Commands.{office}
-use Rattle.nmvs_operator.specs.Progress.{AnsweredCommands}
-use Rattle.nmvs_operator.specs.declared.commands.TheConstants.{MOST_COMMAND_READS}
+use Rattle.nmvs_operator.specs.Progress.{AnsweredOrders}
+use Rattle.nmvs_operator.specs.declared.commands.TheConstants.{MOST_ORDER_READS}
 use Rattle.nmvs_operator.proofs.commands.obey_lines.Given as goal
 
 abbrev pub invariant-loop : goal.invariant-loop
@@ -12,7 +12,7 @@ invariant-loop g l =
     let told = g.I.Source.told in
     let taken = g.W.Sink.taken in
     (input : List ℕ) × ((told l.source).bytes ≡ (told l.fn.source).bytes ++ input)
-    × AnsweredCommands (office (register_of l.fn.registrar) l.fn.latest) (taken l.fn.sink) (office (register_of l.registrar) l.latest) (taken l.sink) (input_lines input)
+    × AnsweredOrders g.S.Service.does (office (register_of l.fn.registrar) l.fn.latest l.fn.service) (taken l.fn.sink) (office (register_of l.registrar) l.latest l.service) (taken l.sink) (input_lines input)
     × (l.line ≡ kept_part (unfinished_line input))
     × ((told l.source).reads ≡ (told l.fn.source).reads + l.counter)
-    × (l.counter ≤ MOST_COMMAND_READS)
+    × (l.counter ≤ MOST_ORDER_READS)

@@ -1,0 +1,55 @@
+-- The one line of each order of the operator, and the first fault of a line (own).
+use Rattle.std.specs.Prelude.{◌≡◌, ◌||◌, ℕ, Bool, true, List, [], ◌∷◌, codes, Option, Some, None, Result, Ok, Err, if◌then◌else◌, IsTrue}
+use Rattle.std.specs.Str.{bytes_eq}
+use Rattle.nmvs_protocol.specs.Commands.{command_fields, is_command, fields_fault}
+use Rattle.nmvs_protocol.specs.Fields.{line_of_fields, line_fault}
+use Rattle.nmvs_protocol.specs.declared.command.CommandFault.{CommandFault}
+use Rattle.nmvs_protocol.specs.declared.command.CommandFault.TheVariants as fault
+use Rattle.nmvs_operator.specs.declared.order.Order.{Order}
+use Rattle.nmvs_operator.specs.declared.order.Order.TheVariants as orders
+
+-- the fields of an order
+abbrev pub order_fields : Order → List (List ℕ)
+order_fields (orders.Change command) = command_fields command
+order_fields (orders.Export path) = codes "EXPORT" ∷ path.now ∷ []
+order_fields orders.Stop = codes "STOP" ∷ []
+order_fields orders.Help = codes "HELP" ∷ []
+
+-- the line of an order, without LF
+abbrev pub order_line : Order → List ℕ
+order_line o = line_of_fields (order_fields o)
+
+-- whether the texts of an order are in their grammars
+abbrev pub is_order : Order → Bool
+is_order (orders.Change command) = is_command command
+is_order (orders.Export path) = true
+is_order orders.Stop = true
+is_order orders.Help = true
+
+-- the first fault of an export with these texts after its word
+abbrev pub export_fault : List (List ℕ) → Option CommandFault
+export_fault (path ∷ []) = None
+export_fault _ = Some fault.Fields
+
+-- the first fault of a word that stands alone, with these texts after it
+abbrev pub alone_fault : List (List ℕ) → Option CommandFault
+alone_fault [] = None
+alone_fault _ = Some fault.Fields
+
+-- the first fault of these fields
+abbrev pub order_fault : List (List ℕ) → Option CommandFault
+order_fault [] = Some fault.Word
+order_fault (word ∷ texts) =
+    if bytes_eq word (codes "EXPORT") then export_fault texts
+    else if bytes_eq word (codes "STOP") then alone_fault texts
+    else if bytes_eq word (codes "HELP") then alone_fault texts
+    else fields_fault (word ∷ texts)
+
+-- the first fault of a line
+unfoldable pub first_order_fault : List ℕ → Option CommandFault
+first_order_fault x = line_fault fault.Long fault.Bytes fault.Fields order_fault x
+
+-- a line is read as the order whose line it is, else with its first fault
+abbrev pub ReadsOrder : List ℕ → Result Order CommandFault → Type 0
+ReadsOrder x (Ok o) = (x ≡ order_line o) × (first_order_fault x ≡ None) × IsTrue (is_order o)
+ReadsOrder x (Err f) = first_order_fault x ≡ Some f

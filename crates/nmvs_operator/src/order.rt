@@ -1,0 +1,95 @@
+//! The operator's lines.
+ghost use Rattle.std.specs.Prelude.{◌≡◌, [], ◌∷◌, map, IfOk, OnOk, IsTrue, codes};
+ghost use Rattle.std.specs.Result.{result_err};
+ghost use Rattle.nmvs_protocol.specs.Commands.{fields_fault};
+ghost use Rattle.nmvs_operator.specs.Orders.{ReadsOrder, order_fields, is_order, order_fault, alone_fault, export_fault};
+
+use nmvs_protocol::{Command, CommandFault, command_of, fields_of};
+
+#[cfg(test)]
+mod tests;
+
+/// What a line of the operator asks for (own).
+#[derive(Clone, Copy, Debug, PartialEq, Eq)]
+pub enum Order<'l> {
+    /// A change of the users.
+    Change(Command),
+    /// The audit trail as it is now, written to the file of this path.
+    Export(&'l str),
+    /// The end of the server.
+    Stop,
+    /// The lines that there are.
+    Help,
+}
+
+/// Reads a line of the operator, given without its LF: it is read as what it says where it is the line of that, and else
+/// answered by the first fault that it has.
+#[tactic(auto, unfolding(crate::specs::Orders::first_order_fault))]
+pub fn read_order(line: &[u8]) -> Result<Order<'_>, CommandFault>
+    ensures { ReadsOrder line.now result }
+{
+    let fields = fields_of(
+        line,
+        CommandFault::Long,
+        CommandFault::Bytes,
+        CommandFault::Fields,
+    )?;
+    read_fields(&fields)
+}
+
+/// The order that has these fields.
+fn read_fields<'l>(fields: &[&'l str]) -> Result<Order<'l>, CommandFault>
+    ensures fields { IfOk result (λ order. order_fields order ≡ map (λ f. f.now) fields.now) }
+    ensures valid { IfOk result (λ order. IsTrue (is_order order)) }
+    ensures fault { result_err result ≡ order_fault (map (λ f. f.now) fields.now) }
+{
+    match fields {
+        [] => Err(CommandFault::Word),
+        [word, texts @ ..] => match *word {
+            "EXPORT" => read_export(texts),
+            "STOP" => {
+                stands_alone(texts)?;
+                Ok(Order::Stop)
+            }
+            "HELP" => {
+                stands_alone(texts)?;
+                Ok(Order::Help)
+            }
+            _ => read_change(fields),
+        },
+    }
+}
+
+fn read_export<'l>(texts: &[&'l str]) -> Result<Order<'l>, CommandFault>
+    ensures fields { IfOk result (λ order.
+        order_fields order ≡ codes "EXPORT" ∷ map (λ t. t.now) texts.now) }
+    ensures valid { IfOk result (λ order. IsTrue (is_order order)) }
+    ensures fault { result_err result ≡ export_fault (map (λ t. t.now) texts.now) }
+{
+    match texts {
+        [path] => Ok(Order::Export(*path)),
+        _ => Err(CommandFault::Fields),
+    }
+}
+
+/// Whether no text comes after a word that stands alone.
+fn stands_alone(texts: &[&str]) -> Result<(), CommandFault>
+    ensures alone { OnOk result (map (λ t. t.now) texts.now ≡ []) }
+    ensures fault { result_err result ≡ alone_fault (map (λ t. t.now) texts.now) }
+{
+    match texts {
+        [] => Ok(()),
+        _ => Err(CommandFault::Fields),
+    }
+}
+
+fn read_change<'l>(fields: &[&str]) -> Result<Order<'l>, CommandFault>
+    ensures fields { IfOk result (λ order. order_fields order ≡ map (λ f. f.now) fields.now) }
+    ensures valid { IfOk result (λ order. IsTrue (is_order order)) }
+    ensures fault { result_err result ≡ fields_fault (map (λ f. f.now) fields.now) }
+{
+    match command_of(fields) {
+        Ok(command) => Ok(Order::Change(command)),
+        Err(fault) => Err(fault),
+    }
+}

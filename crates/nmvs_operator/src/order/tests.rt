@@ -1,0 +1,31 @@
+use crate::{Order, read_order};
+use nmvs_identifier::Name;
+use nmvs_protocol::{Command, CommandFault};
+use std::test::*;
+
+#[test]
+fn orders_and_faults_are_read(rt: HostRuntime) {
+    let ph1 = Name::read("ph1").expect(&rt, "a name");
+    assert_eq!(rt;
+        read_order(b"SUSPEND ph1"),
+        Ok(Order::Change(Command::Suspend(ph1)))
+    );
+    assert_eq!(rt;
+        read_order(b"EXPORT /srv/trail.txt"),
+        Ok(Order::Export("/srv/trail.txt"))
+    );
+    assert_eq!(rt; read_order(b"STOP"), Ok(Order::Stop));
+    assert_eq!(rt; read_order(b"HELP"), Ok(Order::Help));
+    for (line, fault) in [
+        ("EXPORT", CommandFault::Fields),
+        ("EXPORT a b", CommandFault::Fields),
+        ("EXPORT ", CommandFault::Fields),
+        ("STOP now", CommandFault::Fields),
+        ("stop", CommandFault::Word),
+        ("SUSPEND", CommandFault::Fields),
+        ("STOP\r", CommandFault::Bytes),
+    ] {
+        assert_eq!(rt; read_order(line.as_bytes()), Err(fault), "{line}");
+    }
+    assert_eq!(rt; read_order(&[b'A'; 201]), Err(CommandFault::Long));
+}

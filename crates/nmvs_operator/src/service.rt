@@ -1,0 +1,42 @@
+//! What a server does for its operator.
+ghost use Rattle.std.specs.Prelude.{Option};
+ghost use Rattle.std.specs.Result.{result_err};
+ghost use Rattle.nmvs_operator.specs.declared.service.Deed.{Deed as TheDeed};
+ghost use Rattle.nmvs_operator.specs.declared.service.ServiceFault.{ServiceFault as TheFault};
+
+use nmvs_protocol::Command;
+use thiserror::Error;
+
+/// What an order asks of the server (own).
+#[derive(Clone, Copy, Debug, PartialEq, Eq)]
+pub enum Deed<'l> {
+    /// To keep a change of the users beyond its own end.
+    Keep(Command),
+    /// To write the audit trail as it is now to the file of this path.
+    Export(&'l str),
+    /// To end.
+    Stop,
+}
+
+/// Why the server did not do what an order asks of it.
+#[derive(Clone, Copy, Debug, PartialEq, Eq, Error)]
+pub enum ServiceFault {
+    #[error("the journal of the users cannot be written")]
+    Journal,
+    #[error("the export cannot be written")]
+    Write,
+    #[error("there is no memory for it")]
+    Memory,
+    #[error("the clock gives no moment")]
+    Clock,
+}
+
+/// A server, as its operator's orders see it.
+pub trait Service {
+    // Whether a server in this state may do this deed, or fail so, and be in that state then.
+    ghost does: { Self → TheDeed → Option TheFault → Self → Type 0 };
+
+    /// Does what an order asks.
+    fn perform(&mut self, deed: &Deed<'_>) -> Result<(), ServiceFault>
+        ensures { does self.old deed.now (result_err result) self.new };
+}
