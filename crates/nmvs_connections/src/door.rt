@@ -1,0 +1,81 @@
+//! The thread that accepts connections.
+use crate::connection::{Connection, Listener, Moved};
+use crate::hall::{Hall, Station};
+use mio::unix::SourceFd;
+use mio::{Interest, Token};
+use std::io;
+use std::io::ErrorKind;
+use std::sync::Wait;
+use std::time::Duration;
+
+/// The token of the listener.
+const LISTENER: Token = Token(0);
+
+/// For how many milliseconds no connection is accepted behind one that could not be: as a rule for want of a descriptor
+/// (own).
+const PAUSE: u64 = 100;
+
+/// What the connection is told that is one too many.
+const BUSY: &[u8] = b"FAULT BUSY\n";
+
+/// Accepts connections and deals them out to the workers in turn, until the hall closes. One too many is told so, and closed.
+///
+/// # Errors
+///
+/// The system refused to report the listener, or to wait.
+pub fn admit<R: Wait>(
+    rt: &R,
+    hall: &Hall,
+    listener: &Listener,
+    station: Station,
+) -> io::Result<()> {
+    let Station {
+        mut poll,
+        mut events,
+    } = station;
+    let descriptor = listener.descriptor();
+    poll.registry()
+        .register(&mut SourceFd(&descriptor), LISTENER, Interest::READABLE)?;
+    let mut number = 0usize;
+    let mut pause = None;
+    for _ in 0..u64::MAX {
+        poll.poll(&mut events, pause)?;
+        if hall.is_closing(rt) {
+            return Ok(());
+        }
+        pause = accept_all(rt, hall, listener, &mut number);
+    }
+    Ok(())
+}
+
+/// Accepts the connections that wait, and tells for how long no more are to be accepted.
+fn accept_all<R: Wait>(
+    rt: &R,
+    hall: &Hall,
+    listener: &Listener,
+    number: &mut usize,
+) -> Option<Duration> {
+    for _ in 0..u64::MAX {
+        match listener.accept() {
+            Ok(connection) => {
+                if hall.enter(rt) {
+                    hall.deal(rt, *number, connection);
+                    *number = number.wrapping_add(1);
+                } else {
+                    turn_away(connection);
+                }
+            }
+            Err(error) if error.kind() == ErrorKind::WouldBlock => return None,
+            Err(_) => return Some(Duration::from_millis(PAUSE)),
+        }
+    }
+    None
+}
+
+/// Tells a connection that it is one too many, and closes it.
+fn turn_away(mut connection: Connection) {
+    match connection.write(BUSY) {
+        Moved::Bytes(_) => connection.end_writing(),
+        Moved::Blocked | Moved::Over => {}
+    }
+}

@@ -1,0 +1,193 @@
+//! What the threads of a server share.
+use crate::connection::Connection;
+use mio::{Events, Poll, Token, Waker};
+use std::alloc::Global;
+use std::io;
+use std::net::Net;
+use std::sync::{Mutex, Wait};
+use std::time::Duration;
+
+/// The token of a wake-up.
+pub(crate) const WAKE: Token = Token(usize::MAX);
+
+/// How many events of a worker are taken at once (own).
+const WORKER_EVENTS: usize = 1_024;
+
+/// How many events of the thread that accepts are taken at once: the listener's and a wake-up (own).
+const DOOR_EVENTS: usize = 2;
+
+/// How far connections may go.
+#[derive(Clone, Copy, Debug, PartialEq, Eq)]
+pub struct Bounds {
+    /// The most connections that are open at once.
+    pub connections: usize,
+    /// How long a connection may send nothing, where it may not for ever.
+    pub idle: Option<Duration>,
+    /// How many sessions are served in which a line is served.
+    pub sessions: u64,
+}
+
+/// Counts of the connections of all workers.
+#[derive(Drop)]
+struct Counts {
+    open: usize,
+    /// How many more sessions may begin.
+    sessions: u64,
+    stopped: bool,
+}
+
+/// How a worker is reached: the connections that were dealt to it, and what ends its wait.
+#[derive(Drop)]
+struct Place {
+    inbox: Mutex<Vec<Connection>>,
+    waker: Waker,
+}
+
+/// What the threads of a server share: the counts of its connections, and how each thread is reached.
+#[derive(Drop)]
+pub struct Hall {
+    bounds: Bounds,
+    counts: Mutex<Counts>,
+    places: Vec<Place>,
+    door: Waker,
+}
+
+/// Where one thread waits.
+#[derive(Drop)]
+pub struct Station {
+    pub(crate) poll: Poll,
+    pub(crate) events: Events,
+}
+
+impl Station {
+    fn new(rt: &impl Net, alloc: Global, events: usize) -> io::Result<Station> {
+        Ok(Station {
+            poll: Poll::new(rt)?,
+            events: Events::with_capacity(alloc, events)?,
+        })
+    }
+
+    fn waker(&self) -> io::Result<Waker> {
+        Waker::new(self.poll.registry(), WAKE)
+    }
+}
+
+impl Hall {
+    /// A hall for so many workers, with a station for each, and one for the thread that accepts.
+    ///
+    /// # Errors
+    ///
+    /// Memory, or a descriptor, was refused.
+    pub fn open(
+        rt: &impl Net,
+        alloc: Global,
+        workers: usize,
+        bounds: Bounds,
+    ) -> io::Result<(Hall, Vec<Station>, Station)> {
+        let door = Station::new(rt, alloc, DOOR_EVENTS)?;
+        let mut hall = Hall {
+            bounds,
+            counts: Mutex::new(Counts {
+                open: 0,
+                sessions: bounds.sessions,
+                stopped: false,
+            }),
+            places: Vec::with_capacity(alloc, workers)?,
+            door: door.waker()?,
+        };
+        let mut stations = Vec::with_capacity(alloc, workers)?;
+        for _ in 0..workers {
+            let station = Station::new(rt, alloc, WORKER_EVENTS)?;
+            hall.places.push(Place {
+                inbox: Mutex::new(Vec::new(alloc)),
+                waker: station.waker()?,
+            })?;
+            stations.push(station)?;
+        }
+        Ok((hall, stations, door))
+    }
+
+    /// Ends the service: no connection is accepted any more, and each session ends behind the lines that were read.
+    pub fn stop(&self, rt: &impl Wait) {
+        self.counts.lock(rt).stopped = true;
+        self.wake_all();
+    }
+
+    /// Whether the service was stopped.
+    pub(crate) fn is_stopped(&self, rt: &impl Wait) -> bool {
+        self.counts.lock(rt).stopped
+    }
+
+    /// Whether no more sessions begin.
+    pub(crate) fn is_closing(&self, rt: &impl Wait) -> bool {
+        let counts = self.counts.lock(rt);
+        counts.stopped || counts.sessions == 0
+    }
+
+    /// How long a connection may send nothing.
+    pub(crate) fn idle(&self) -> Option<Duration> {
+        self.bounds.idle
+    }
+
+    /// Counts a connection that was accepted, where one more may be open.
+    pub(crate) fn enter(&self, rt: &impl Wait) -> bool {
+        let mut counts = self.counts.lock(rt);
+        let enters = counts.open < self.bounds.connections;
+        if enters {
+            counts.open = counts.open.saturating_add(1);
+        }
+        enters
+    }
+
+    /// Counts a connection no more.
+    pub(crate) fn leave(&self, rt: &impl Wait) {
+        let mut counts = self.counts.lock(rt);
+        counts.open = counts.open.saturating_sub(1);
+    }
+
+    /// Counts a session in which a line is to be served, where one more may begin. With the last of them the other
+    /// threads learn that it was the last.
+    pub(crate) fn begin_session(&self, rt: &impl Wait) -> bool {
+        let mut counts = self.counts.lock(rt);
+        if counts.sessions == 0 {
+            return false;
+        }
+        if self.bounds.sessions < u64::MAX {
+            counts.sessions = counts.sessions.saturating_sub(1);
+        }
+        let was_last = counts.sessions == 0;
+        drop(counts);
+        if was_last {
+            self.wake_all();
+        }
+        true
+    }
+
+    /// Deals a connection to a worker: the next one of their row.
+    pub(crate) fn deal(&self, rt: &impl Wait, number: usize, connection: Connection) {
+        let Some(place) = self
+            .places
+            .get(number.checked_rem(self.places.len()).unwrap_or(0))
+        else {
+            return;
+        };
+        match place.inbox.lock(rt).push(connection) {
+            Ok(()) => {}
+            Err(_) => self.leave(rt),
+        }
+        let _full = place.waker.wake();
+    }
+
+    /// A connection that was dealt to a worker.
+    pub(crate) fn next_dealt(&self, rt: &impl Wait, worker: usize) -> Option<Connection> {
+        self.places.get(worker)?.inbox.lock(rt).pop()
+    }
+
+    /// Ends the wait of each thread. A thread that was woken before needs no more.
+    fn wake_all(&self) {
+        let _full = self.door.wake();
+        for place in &self.places {
+            let _full = place.waker.wake();
+        }
+    }
+}

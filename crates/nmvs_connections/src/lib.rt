@@ -1,0 +1,23 @@
+//! Many connections in few threads: an event loop a worker, over the system's readiness.
+//!
+//! [`Hall::open`] makes what the threads of a server share, and a [`Station`] for each of them. One thread runs [`admit`]: it
+//! accepts connections and deals them out. Each worker runs [`serve`]: it reads from its connections by turns, feeds what
+//! it read to the [`Dialogue`] of each, and sends the replies. All dialogues of a worker share its desk.
+#![tactic(auto)]
+
+mod connection;
+mod dialogue;
+mod door;
+mod gathered;
+mod hall;
+mod pieces;
+mod seat;
+#[cfg(test)]
+mod tests;
+mod worker;
+
+pub use connection::Listener;
+pub use dialogue::Dialogue;
+pub use door::admit;
+pub use hall::{Bounds, Hall, Station};
+pub use worker::serve;

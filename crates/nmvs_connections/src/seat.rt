@@ -1,0 +1,316 @@
+//! One connection of a worker.
+use crate::connection::{Connection, Moved};
+use crate::dialogue::Dialogue;
+use crate::hall::Hall;
+use crate::pieces::piece;
+use memchr::memchr;
+use mio::{Registry, Token};
+use nmvs_protocol::{Desk, NO_LIMITS, READ_SIZE, WithheldAnswers};
+use std::alloc::{AllocError, Global};
+use std::io;
+use std::sync::Wait;
+use std::time::{Duration, Instant};
+
+/// For how many seconds replies wait for a peer that takes none of them (own).
+const SENDING: u64 = 30;
+
+/// For how many seconds a connection is read on behind the end of its session, and replies wait once the service is
+/// stopped (own).
+const PATIENCE: u64 = 1;
+
+/// Room for the replies to what one read gives, but for a list or a report: the shortest line, that of no byte, has a
+/// reply of 13 (own).
+const ROOM: usize = 13 * READ_SIZE;
+
+/// The last reply to a connection that sent nothing for too long.
+const IDLE: &[u8] = b"FAULT IDLE\n";
+
+/// What a worker serves its connections with.
+#[derive(Drop)]
+pub(crate) struct Bench<'a> {
+    pub(crate) alloc: Global,
+    pub(crate) now: Instant,
+    buffer: [u8; READ_SIZE],
+    room: Vec<u8>,
+    withheld: WithheldAnswers<'a>,
+}
+
+impl<'a> Bench<'a> {
+    pub(crate) fn new(alloc: Global, now: Instant) -> Bench<'a> {
+        Bench {
+            alloc,
+            now,
+            buffer: [0; READ_SIZE],
+            room: Vec::new(alloc),
+            withheld: WithheldAnswers::new(),
+        }
+    }
+
+    /// Makes room for the next replies, no more than they take as a rule.
+    fn make_room(&mut self) -> Result<(), AllocError> {
+        if self.room.capacity() > 2 * ROOM {
+            self.room = Vec::new(self.alloc);
+        }
+        self.room.clear();
+        self.room.reserve(ROOM)?;
+        Ok(())
+    }
+}
+
+/// How far a connection has come.
+#[derive(Clone, Copy, PartialEq, Eq)]
+enum Stage {
+    /// Its lines are answered.
+    Serving,
+    /// No more lines are answered, and its replies are sent to the end.
+    Ending,
+    /// The peer was told that no more is written, and is read on: where a connection is closed with bytes unread, the
+    /// system takes back what the peer has not received yet.
+    Draining,
+}
+
+/// What becomes of a connection behind its turn.
+#[derive(Clone, Copy, PartialEq, Eq)]
+pub(crate) enum After {
+    /// Its next turn comes.
+    Goes,
+    /// It waits until the system reports it.
+    Waits,
+    /// It is closed.
+    Leaves,
+}
+
+/// One connection of a worker.
+#[derive(Drop)]
+pub(crate) struct Seat {
+    connection: Connection,
+    dialogue: Dialogue,
+    /// What was read, and is fed once the replies to what was fed are sent.
+    unread: Vec<u8>,
+    stage: Stage,
+    /// Whether the peer is told that it sent nothing for too long.
+    was_idle: bool,
+    /// When bytes were moved last.
+    moved: Instant,
+    /// Whether the peer ended or broke the connection, so that it is read to its end.
+    hung_up: bool,
+    /// Whether a line of it was served.
+    served: bool,
+    stopped: bool,
+    /// Whether its turn comes.
+    pub(crate) queued: bool,
+}
+
+impl Seat {
+    pub(crate) fn new(alloc: Global, connection: Connection, now: Instant) -> Seat {
+        Seat {
+            connection,
+            dialogue: Dialogue::new(alloc, NO_LIMITS.lines),
+            unread: Vec::new(alloc),
+            stage: Stage::Serving,
+            was_idle: false,
+            moved: now,
+            hung_up: false,
+            served: false,
+            stopped: false,
+            queued: false,
+        }
+    }
+
+    /// Has a poll report the connection under the key.
+    pub(crate) fn register(&mut self, registry: &Registry, key: usize) -> io::Result<()> {
+        self.connection.register(registry, Token(key))
+    }
+
+    /// Notes that the peer ended or broke the connection.
+    pub(crate) fn hang_up(&mut self) {
+        self.hung_up = true;
+    }
+
+    /// Whether a line of it was served.
+    pub(crate) fn is_served(&self) -> bool {
+        self.served
+    }
+
+    /// Ends the session behind the lines that were read.
+    pub(crate) fn stop(&mut self) {
+        self.stopped = true;
+    }
+
+    /// Sends what is unsent; then answers what one read gives, or takes a step towards the end.
+    pub(crate) fn take_turn<'a, R: Wait, D: Desk<'a>>(
+        &mut self,
+        rt: &R,
+        hall: &Hall,
+        bench: &mut Bench<'a>,
+        desk: &mut D,
+    ) -> After {
+        if !self.dialogue.unsent().is_empty() {
+            match self.send(bench.now) {
+                After::Goes => {}
+                other => return other,
+            }
+            if !self.dialogue.unsent().is_empty() {
+                return After::Goes;
+            }
+            self.dialogue.exchange(&mut Vec::new(bench.alloc));
+        }
+        match self.stage {
+            Stage::Serving if self.unread.is_empty() && self.stopped => self.end(),
+            Stage::Serving if self.unread.is_empty() => self.serve_read(rt, hall, bench, desk),
+            Stage::Serving => self.serve_unread(bench, desk),
+            Stage::Ending => self.part(bench.now),
+            Stage::Draining => self.drain(bench),
+        }
+    }
+
+    /// Sends as much of what is unsent as the system takes.
+    fn send(&mut self, now: Instant) -> After {
+        let unsent = self.dialogue.unsent();
+        if unsent.is_empty() {
+            return After::Goes;
+        }
+        match self.connection.write(unsent) {
+            Moved::Bytes(count) => {
+                self.dialogue.advance(count);
+                self.moved = now;
+                After::Goes
+            }
+            Moved::Blocked => After::Waits,
+            Moved::Over => After::Leaves,
+        }
+    }
+
+    /// Reads once, and answers the first piece of that; the rest waits until the replies are sent.
+    fn serve_read<'a, R: Wait, D: Desk<'a>>(
+        &mut self,
+        rt: &R,
+        hall: &Hall,
+        bench: &mut Bench<'a>,
+        desk: &mut D,
+    ) -> After {
+        let count = match self.connection.read(&mut bench.buffer) {
+            Moved::Bytes(count) => count,
+            Moved::Blocked => return After::Waits,
+            Moved::Over => return After::Leaves,
+        };
+        self.moved = bench.now;
+        let chunk = &bench.buffer[..count];
+        if !self.served && memchr(b'\n', chunk).is_some() {
+            if !hall.begin_session(rt) {
+                return After::Leaves;
+            }
+            self.served = true;
+        }
+        if bench.make_room().is_err() {
+            return After::Leaves;
+        }
+        let chunk = &bench.buffer[..count];
+        let mut cut = piece(chunk);
+        if self.unread.extend_from_slice(&chunk[cut..]).is_err() {
+            cut = count;
+        }
+        self.dialogue.exchange(&mut bench.room);
+        if self.dialogue.end().is_none() {
+            self.dialogue
+                .feed(bench.alloc, &chunk[..cut], &mut bench.withheld, desk);
+        }
+        self.reply(bench, count == READ_SIZE)
+    }
+
+    /// Answers the next piece of what was read.
+    fn serve_unread<'a, D: Desk<'a>>(&mut self, bench: &mut Bench<'a>, desk: &mut D) -> After {
+        if bench.make_room().is_err() {
+            return After::Leaves;
+        }
+        let cut = piece(self.unread.as_slice());
+        self.dialogue.exchange(&mut bench.room);
+        if self.dialogue.end().is_none() {
+            self.dialogue.feed(
+                bench.alloc,
+                &self.unread.as_slice()[..cut],
+                &mut bench.withheld,
+                desk,
+            );
+        }
+        let left = self.unread.len() - cut;
+        self.unread.rotate_left(cut);
+        self.unread.truncate(left);
+        self.reply(bench, true)
+    }
+
+    /// Sends the replies. More may be there to be read at once.
+    fn reply(&mut self, bench: &mut Bench<'_>, more: bool) -> After {
+        if self.dialogue.end().is_some() {
+            self.stage = Stage::Ending;
+        }
+        match self.send(bench.now) {
+            After::Goes => {}
+            other => return other,
+        }
+        if !self.dialogue.unsent().is_empty() {
+            return After::Goes;
+        }
+        self.dialogue.exchange(&mut bench.room);
+        if more || self.hung_up || self.stage != Stage::Serving || !self.unread.is_empty() {
+            After::Goes
+        } else {
+            After::Waits
+        }
+    }
+
+    /// Answers no more lines.
+    fn end(&mut self) -> After {
+        self.stage = Stage::Ending;
+        After::Goes
+    }
+
+    /// Tells the peer that no more is written.
+    fn part(&mut self, now: Instant) -> After {
+        if self.was_idle {
+            match self.connection.write(IDLE) {
+                Moved::Bytes(_) | Moved::Blocked => {}
+                Moved::Over => return After::Leaves,
+            }
+        }
+        self.connection.end_writing();
+        self.stage = Stage::Draining;
+        self.moved = now;
+        After::Goes
+    }
+
+    fn drain(&mut self, bench: &mut Bench<'_>) -> After {
+        match self.connection.read(&mut bench.buffer) {
+            Moved::Bytes(_) => After::Goes,
+            Moved::Blocked => After::Waits,
+            Moved::Over => After::Leaves,
+        }
+    }
+
+    /// What becomes of the connection by the time that has passed.
+    pub(crate) fn grow_old(&mut self, now: Instant, idle: Option<Duration>) -> After {
+        let age = now.duration_since(self.moved);
+        if self.stage == Stage::Draining {
+            return leaves_behind(age, PATIENCE);
+        }
+        if !self.dialogue.unsent().is_empty() {
+            return leaves_behind(age, if self.stopped { PATIENCE } else { SENDING });
+        }
+        match idle {
+            Some(most) if self.stage == Stage::Serving && age >= most => {
+                self.was_idle = true;
+                self.end()
+            }
+            _ => After::Waits,
+        }
+    }
+}
+
+/// A connection that waited so long is closed behind this number of seconds.
+fn leaves_behind(age: Duration, most: u64) -> After {
+    if age.as_secs() >= most {
+        After::Leaves
+    } else {
+        After::Waits
+    }
+}

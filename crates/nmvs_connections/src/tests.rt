@@ -1,0 +1,66 @@
+use crate::Dialogue;
+use nmvs_protocol::{Answer, Ask, Desk, End, Released, Turn, Withheld, WithheldAnswers};
+use std::alloc::Global;
+use std::test::*;
+
+/// Knows nobody.
+#[derive(Clone, Copy)]
+struct Stranger;
+
+impl<'a> Desk<'a> for Stranger {
+    ghost use Rattle.nmvs_protocol.specs.Session.{AtOnce, Stays};
+
+    type Evidence = ();
+
+    ghost takes = { λ _ _ _ _. Unit {0} };
+
+    ghost releases = { AtOnce };
+
+    ghost moves = { Stays };
+
+    fn take(&mut self, _ask: &Ask) -> Withheld<'a> {
+        Withheld::new(Answer::Turned(Turn::Nobody))
+    }
+
+    fn release<'h>(&mut self, withheld: &'h mut WithheldAnswers<'a>) -> (Released<'h, 'a>, ()) {
+        (withheld.release(), ())
+    }
+}
+
+/// Feeds a session that goes on.
+fn feed(alloc: Global, dialogue: &mut Dialogue, more: &[u8]) {
+    if dialogue.end().is_none() {
+        dialogue.feed(alloc, more, &mut WithheldAnswers::new(), &mut Stranger);
+    }
+}
+
+/// Sends so many bytes, where so many are unsent.
+fn send(dialogue: &mut Dialogue, count: usize) {
+    if count <= dialogue.unsent().len() {
+        dialogue.advance(count);
+    }
+}
+
+#[test]
+fn dialogues_beside_each_other_are_answered_each(rt: HostRuntime) -> Result<(), Fail> {
+    let alloc = rt.alloc();
+    let (mut one, mut other) = (Dialogue::new(alloc, 9), Dialogue::new(alloc, 1));
+    feed(alloc, &mut one, b"ph1 STATUS 0950");
+    feed(alloc, &mut other, b"\n\n");
+    assert_eq!(rt; one.unsent(), b"".as_slice());
+    feed(alloc, &mut one, b"6000134352 SN1\nph1\nQUIT\nph1\n");
+    assert_eq!(rt;
+        one.unsent(),
+        b"FAULT NOBODY\nFAULT FIELDS\nBYE\n".as_slice()
+    );
+    send(&mut one, 6);
+    one.exchange(&mut Vec::new(alloc));
+    assert_eq!(rt; one.unsent(), b"NOBODY\nFAULT FIELDS\nBYE\n".as_slice());
+    send(&mut one, 24);
+    one.exchange(&mut Vec::new(alloc));
+    assert_eq!(rt; one.unsent(), b"".as_slice());
+    assert_eq!(rt; one.end(), Some(End::Quit));
+    assert_eq!(rt; other.unsent(), b"FAULT FIELDS\n".as_slice());
+    assert_eq!(rt; other.end(), Some(End::Limit));
+    Ok(())
+}
