@@ -41,13 +41,13 @@ fn words<R: Env + AllocGlobal>(rt: &R) -> io::Result<Vec<String>> {
     Ok(words)
 }
 
-/// Tells the faults, and gives the status that they make.
+/// Tells the faults, and gives the status that the last one makes.
 fn ended(rt: &impl Eprint, faults: &[Option<Fault<'_>>]) -> ExitCode {
     let mut status = ExitCode::SUCCESS;
     for fault in faults {
         if let Some(fault) = fault {
             let _ = eprintln!(rt; "nmvs-serve: {fault}");
-            status = ExitCode::FAILURE;
+            status = ExitCode::from(fault.status());
         }
     }
     status

@@ -1,5 +1,5 @@
 -- The program's desk: what it may answer, and which receipt it then has (own).
-use Rattle.std.specs.Prelude.{◌≡◌, ◌≢◌, ◌+◌, ◌⊎◌, ℕ, ℤ, pos, ◌≤ℤ◌, Bool, true, false, List, [], ◌∷◌, ◌++◌}
+use Rattle.std.specs.Prelude.{◌≡◌, None, ◌≢◌, ◌+◌, ◌⊎◌, ℕ, ℤ, pos, ◌≤ℤ◌, Bool, true, false, List, [], ◌∷◌, ◌++◌}
 use mathlib.Core.List.{IsPrefix}
 use Rattle.nmvs_identifier.specs.Moment.{last_moment}
 use Rattle.nmvs_identifier.specs.Name.{Name}
@@ -25,6 +25,7 @@ use Rattle.nmvs_protocol.specs.declared.answer.Answer.{Answer}
 use Rattle.nmvs_protocol.specs.declared.answer.Answer.TheVariants as answers
 use Rattle.nmvs_protocol.specs.declared.answer.Turn.{Turn}
 use Rattle.nmvs_protocol.specs.declared.answer.Turn.TheVariants as turns
+use Rattle.nmvs_protocol.specs.declared.withheld.Withheld.{Withheld}
 use Rattle.nmvs_record.specs.Report.{report_text}
 
 -- a desk: the changes of the directory that its clerk saw or was told, what the clerk has seen of each shard's trail, the
@@ -107,6 +108,7 @@ IsTurned old new user may turns.Suspended = Reads old.seen new.seen user looks.S
 IsTurned old new user may turns.Closed = Reads old.seen new.seen user looks.Closed
 IsTurned old new user may turns.Role = IsInRole old new user may false
 IsTurned old new user may turns.Memory = IsInRole old new user may true
+IsTurned old new user may turns.Journal = ⊥
 
 -- the turn of a line whose question was not put
 abbrev pub turn_of_fault : AskFault → Turn
@@ -135,3 +137,7 @@ abbrev pub Serves : DeskView → Ask → Answer → DeskView → Type 0
 Serves old ask said new =
     (StopsAtClock old new × (said ≡ answers.Turned turns.Clock))
     ⊎ ((told : DeskView) × IsTold old told × KeepsClock told new × AnswersTold told ask said new)
+
+-- the desk takes a line with an answer that rests on no entry: it is told at once
+abbrev pub Takes : DeskView → Ask → Withheld → DeskView → Type 0
+Takes old ask withheld new = (withheld.basis ≡ None) × Serves old ask withheld.answer new

@@ -5,7 +5,7 @@ use Rattle.nmvs_protocol.specs.declared.end.End.{End}
 use Rattle.nmvs_protocol.specs.declared.end.End.TheVariants as ends
 use Rattle.nmvs_server.specs.declared.fault.Fault.{Fault}
 use Rattle.nmvs_server.specs.declared.fault.Fault.TheVariants as faults
-use Rattle.nmvs_operator.specs.Commands.{command_word}
+use Rattle.nmvs_operator.specs.Users.{users_trouble}
 use Rattle.nmvs_record.specs.declared.finding.Finding.{Finding}
 use Rattle.nmvs_record.specs.declared.finding.Finding.TheVariants as findings
 use Rattle.nmvs_record.specs.declared.objection.Objection.TheVariants as objections
@@ -23,17 +23,26 @@ outcome ends.Memory = Err faults.Memory
 abbrev pub fault_text : Fault → List ℕ
 fault_text (faults.CannotRead path) = codes "cannot read " ++ path.now
 fault_text (faults.CannotWrite path) = codes "cannot write " ++ path.now
-fault_text (faults.UsersLine number fault) = codes "users line " ++ decimal number ++ codes ": " ++ command_word fault
-fault_text (faults.UsersEnd number) = codes "the last line has no end: users line " ++ decimal number ++ codes ": UNENDED"
+fault_text (faults.UsersLine number fault) = codes "users line " ++ decimal number ++ codes ": " ++ users_trouble fault
+fault_text (faults.UsersEnd number) = codes "users line " ++ decimal number ++ codes ": it has no end: UNENDED"
 fault_text (faults.ImportLine number) = codes "import line " ++ decimal number
 fault_text (faults.ImportUnlawful number) = codes "import line " ++ decimal number ++ codes " is unlawful"
 fault_text faults.Directory = codes "directory refused"
 fault_text (faults.CannotListen port) = codes "cannot listen on port " ++ decimal port
+fault_text (faults.CannotListenAt path) = codes "cannot listen at " ++ path.now
 fault_text faults.LostClerk = codes "a clerk was lost"
 fault_text faults.Memory = codes "out of memory"
 fault_text faults.SessionRead = codes "session read fault"
 fault_text faults.SessionWrite = codes "session write fault"
 fault_text faults.SessionLimit = codes "session limit"
+
+-- the status that a fault makes
+abbrev pub fault_status : Fault → ℕ
+fault_status (faults.ImportLine number) = 3
+fault_status (faults.ImportUnlawful number) = 3
+fault_status (faults.CannotWrite path) = 4
+fault_status faults.LostClerk = 5
+fault_status _ = 1
 
 -- what is told of the import of this path, in which this was found
 abbrev pub import_text : List ℕ → Finding → List ℕ

@@ -15,6 +15,7 @@ use Rattle.nmvs_protocol.specs.declared.ask.Ask.TheVariants as asks
 use Rattle.nmvs_protocol.specs.declared.answer.Answer.{Answer}
 use Rattle.nmvs_protocol.specs.declared.answer.Answer.TheVariants as answers
 use Rattle.nmvs_protocol.specs.declared.answer.Turn.TheVariants as turns
+use Rattle.nmvs_protocol.specs.declared.withheld.Withheld.{Withheld}
 use Rattle.nmvs_server.specs.Roster.{post_of, IsRostered}
 
 -- how far a rehearsal is: its trail, and the moments of the lines that reach the desk from now on; the last moment
@@ -85,3 +86,7 @@ abbrev pub Judges : Rehearsal → Ask → Answer → Rehearsal → Type 0
 Judges old (asks.Question user q) said new =
     (moment : ℕ) × (begun : Rehearsal) × TakesMoment old moment begun × JudgesQuestion moment begun user q said new
 Judges old (asks.Report user c) said new = (moment : ℕ) × TakesMoment old moment new × JudgesReport new.trail user c said
+
+-- its answers rest on nothing
+abbrev pub Takes : Rehearsal → Ask → Withheld → Rehearsal → Type 0
+Takes old ask withheld new = (withheld.basis ≡ None) × Judges old ask withheld.answer new

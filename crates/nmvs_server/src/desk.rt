@@ -177,12 +177,16 @@ impl<'a, 'c> Reader<Shard<&'a Global>> for ReportOf<'c> {
 
 impl<'r, 'a, R: Wait, J: Naming, H: Histories, K: Clock> Desk<'a>
     for ClerkDesk<'r, 'a, R, J, H, K> {
-    ghost use Rattle.nmvs_protocol.specs.Session.{AtOnce};
-    ghost use Rattle.nmvs_server.specs.Desk.{Serves};
+    ghost use Rattle.nmvs_protocol.specs.Session.{AtOnce, Stays};
+    ghost use Rattle.nmvs_server.specs.Desk.{Takes};
 
-    ghost takes = { Serves };
+    type Evidence = ();
+
+    ghost takes = { Takes };
 
     ghost releases = { AtOnce };
+
+    ghost moves = { Stays };
 
     fn take(&mut self, ask: &Ask) -> Withheld<'a> {
         let Some(moment) = self.next_moment() else {
@@ -194,7 +198,7 @@ impl<'r, 'a, R: Wait, J: Naming, H: Histories, K: Clock> Desk<'a>
         })
     }
 
-    fn release<'h>(&mut self, withheld: &'h mut WithheldAnswers<'a>) -> Released<'h, 'a> {
-        withheld.release()
+    fn release<'h>(&mut self, withheld: &'h mut WithheldAnswers<'a>) -> (Released<'h, 'a>, ()) {
+        (withheld.release(), ())
     }
 }

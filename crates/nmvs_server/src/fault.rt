@@ -1,13 +1,13 @@
 //! Why the program ends in failure.
 ghost use Rattle.std.specs.Prelude.{◌≡◌, None, Some};
-ghost use Rattle.nmvs_server.specs.Faults.{fault_text, import_text, outcome};
+ghost use Rattle.nmvs_server.specs.Faults.{fault_text, fault_status, import_text, outcome};
 
-use nmvs_operator::command_word;
+use nmvs_operator::users_trouble;
 use nmvs_protocol::{CommandFault, End};
 use nmvs_record::{Finding, Objection};
 use std::fmt;
 
-/// Why the program ends in failure (own). It is told on standard error, and the status is 1.
+/// Why the program ends in failure (own). It is told on standard error.
 #[derive(Clone, Copy, Debug, PartialEq, Eq)]
 pub enum Fault<'a> {
     /// The file of this path can't be opened or read.
@@ -26,6 +26,8 @@ pub enum Fault<'a> {
     Directory,
     /// The port is not to be had.
     CannotListen(u16),
+    /// No socket can be made at this path.
+    CannotListenAt(&'a str),
     /// Fewer workers gave their clerk back than there are clerks.
     LostClerk,
     /// Memory was wanting, or a thread for a worker.
@@ -46,16 +48,15 @@ impl<'a> fmt::Display for Fault<'a> {
             Fault::CannotRead(path) => write!(f, "cannot read {path}"),
             Fault::CannotWrite(path) => write!(f, "cannot write {path}"),
             Fault::UsersLine(number, fault) => {
-                let word = command_word(*fault);
-                write!(f, "users line {number}: {word}")
+                let trouble = users_trouble(*fault);
+                write!(f, "users line {number}: {trouble}")
             }
-            Fault::UsersEnd(number) => {
-                write!(f, "the last line has no end: users line {number}: UNENDED")
-            }
+            Fault::UsersEnd(number) => { write!(f, "users line {number}: it has no end: UNENDED") }
             Fault::ImportLine(number) => write!(f, "import line {number}"),
             Fault::ImportUnlawful(number) => write!(f, "import line {number} is unlawful"),
             Fault::Directory => f.write_str("directory refused"),
             Fault::CannotListen(port) => write!(f, "cannot listen on port {port}"),
+            Fault::CannotListenAt(path) => write!(f, "cannot listen at {path}"),
             Fault::LostClerk => f.write_str("a clerk was lost"),
             Fault::Memory => f.write_str("out of memory"),
             Fault::SessionRead => f.write_str("session read fault"),
@@ -85,6 +86,19 @@ impl<'a> Outcome<'a> {
 }
 
 impl<'a> Fault<'a> {
+    /// The status that the program ends with: 3 where a line of the import is refused, 4 where the export is not written,
+    /// 5 where the repository does not settle, and else 1.
+    pub fn status(&self) -> u8
+        ensures { result ≡ fault_status self.now }
+    {
+        match self {
+            Fault::ImportLine(_) | Fault::ImportUnlawful(_) => 3,
+            Fault::CannotWrite(_) => 4,
+            Fault::LostClerk => 5,
+            _ => 1,
+        }
+    }
+
     /// Why the import of this path, in which this was found, is not taken. (In this toolchain a fault that holds the finding,
     /// and so a reply, gets no generated proof.)
     pub(crate) fn of_import(path: &'a str, finding: Finding) -> Fault<'a>

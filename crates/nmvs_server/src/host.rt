@@ -1,18 +1,19 @@
 //! What a run uses of the machine, and what it goes by.
+use nmvs_connections::{Hall, Listener};
 use nmvs_desk::Repository;
 use nmvs_directory::{Naming, Notice};
 use nmvs_history::Histories;
 use nmvs_operator::Options;
 use std::alloc::Global;
-use std::net::TcpListener;
+use std::net::Net;
 use std::rt::{Clock, Files};
 use std::sync::{Mutex, Wait};
 use std::thread::Threads;
 
 /// What a run uses of the machine.
-pub trait Host: Files + Clock + Threads + Wait {}
+pub trait Host: Files + Clock + Threads + Wait + Net {}
 
-impl<R: Files + Clock + Threads + Wait> Host for R {}
+impl<R: Files + Clock + Threads + Wait + Net> Host for R {}
 
 /// What a run goes by.
 #[derive(Drop)]
@@ -21,14 +22,15 @@ pub(crate) struct Run<'r, 'o, H> {
     pub(crate) alloc: &'r Global,
     pub(crate) options: &'o Options,
     /// Connections are accepted here; where there is none, one session is served over the console.
-    pub(crate) listener: Option<&'r TcpListener>,
+    pub(crate) listener: Option<&'r Listener>,
 }
 
 /// What the workers of a run share.
 #[derive(Drop)]
 pub(crate) struct Shared<'s, 'r, 'o, R, J: Naming, H: Histories> {
     pub(crate) run: &'s Run<'r, 'o, R>,
-    pub(crate) listener: &'s TcpListener,
+    pub(crate) listener: &'s Listener,
+    pub(crate) hall: &'s Hall,
     pub(crate) repository: &'s Repository<'r, H>,
     pub(crate) latest: &'s Mutex<Notice<J>>,
     /// Whether the workers may begin: it is locked until all of them are there.

@@ -12,6 +12,7 @@ mod console;
 mod desk;
 #[cfg(test)]
 mod examples;
+mod export_files;
 mod exports;
 mod fault;
 mod host;
@@ -19,6 +20,7 @@ mod launch;
 mod opening;
 mod rehearsal;
 mod roster;
+mod service;
 mod workers;
 
 pub use clock::{Clock, ProgramClock};

@@ -1,6 +1,8 @@
 //! A repository as it is opened.
 ghost use Rattle.std.specs.Prelude.{◌≡◌, ◌≤◌, ℕ, length, vec_len, IfOk};
 ghost use Rattle.nmvs_desk.specs.Opening.{table_of};
+ghost use Rattle.nmvs_desk.specs.Placing.{IsPlaced};
+ghost use Rattle.nmvs_desk.specs.Settlement.{row};
 
 use nmvs_desk::{Clerk, Keepers, MOST_CLERKS, Repository};
 use nmvs_directory::{Naming, Window};
@@ -13,8 +15,8 @@ use std::alloc::{AllocError, Global};
 pub(crate) struct Opening<'a, J: Naming> {
     /// One for each clerk.
     pub(crate) windows: Vec<Window<J, &'a Global>, &'a Global>,
-    /// Its entries are dealt to the shards.
-    pub(crate) import: Shard<&'a Global>,
+    /// One for each shard, as it was found.
+    pub(crate) shards: Vec<Shard<&'a Global>, &'a Global>,
     /// One for each shard.
     pub(crate) keepers: Keepers<'a>,
 }
@@ -27,22 +29,24 @@ pub(crate) struct Opened<'a, J: Naming, H: Histories> {
 }
 
 impl<'a, J: Naming> Opening<'a, J> {
-    /// Opens the repository. The import is let go once its entries are dealt.
+    /// Opens the repository.
     pub(crate) fn open<H: Histories>(
         self,
         alloc: &'a Global,
     ) -> Result<Opened<'a, J, H>, AllocError>
         requires tables { (i : ℕ) → table_of self.keepers i ≡ H.tables i }
-        requires named { (H.shards ≡ length self.keepers) × (H.clerks ≡ vec_len self.windows) × (H.opening ≡ self.import) }
+        requires named { (H.shards ≡ length self.keepers) × (H.clerks ≡ vec_len self.windows) × ((i : ℕ) → H.opening i ≡ row self.shards.items i) }
+        requires many { vec_len self.shards ≡ length self.keepers }
+        requires placed { (i : ℕ) → IsPlaced (length self.keepers) i (row self.shards.items i) }
         requires few { vec_len self.windows ≤ MOST_CLERKS }
         ensures { IfOk result (λ opened. vec_len opened.clerks ≡ vec_len self.entry.windows) }
     {
         let Opening {
             mut windows,
-            import,
+            shards,
             keepers,
         } = self;
-        let (repository, clerks) = Repository::open(alloc, keepers, &mut windows, &import)?;
+        let (repository, clerks) = Repository::open(alloc, keepers, shards, &mut windows)?;
         Ok(Opened { repository, clerks })
     }
 }

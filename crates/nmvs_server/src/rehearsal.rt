@@ -1,10 +1,10 @@
 //! The rehearsal: a session to learn the repository by, whose every answer is proved.
 ghost use Rattle.std.specs.Prelude.{◌≡◌, ◌<◌, [], ◌∷◌, length};
 ghost use Rattle.nmvs_protocol.specs.declared.end.End.{End as TheEnd};
-ghost use Rattle.nmvs_protocol.specs.Session.{AtOnce, Session};
+ghost use Rattle.nmvs_protocol.specs.Session.{AtOnce, Session, Stays};
 ghost use Rattle.nmvs_server.specs.Console.{IsFresh};
 ghost use Rattle.nmvs_server.specs.Faults.{outcome};
-ghost use Rattle.nmvs_server.specs.Rehearsal.{Rehearsal, Judges};
+ghost use Rattle.nmvs_server.specs.Rehearsal.{Rehearsal, Takes};
 
 use crate::Fault;
 use crate::fault::outcome_of;
@@ -38,7 +38,7 @@ pub fn serve_rehearsal<R: Source, W: Sink>(
     sink: &mut W,
 ) -> Result<(), Fault<'static>>
     requires { IsFresh (R.told source.old) (W.taken sink.old) }
-    ensures { (last : Rehearsal) × (end : TheEnd) × Session Judges AtOnce SESSION_LIMITS
+    ensures { (last : Rehearsal) × (end : TheEnd) × Session Takes AtOnce Stays SESSION_LIMITS
         (record { trail = []; moments = 1_767_225_600 ∷ [] }) (R.told source.old) (W.taken sink.old)
         last (R.told source.new) (W.taken sink.new) end × (result ≡ outcome end) }
 {
@@ -58,7 +58,7 @@ pub fn rehearse<R: Source, W: Sink>(
 ) -> End
     requires moments { 0 < length moments.now }
     requires fresh { IsFresh (R.told source.old) (W.taken sink.old) }
-    ensures { (last : Rehearsal) × Session Judges AtOnce SESSION_LIMITS
+    ensures { (last : Rehearsal) × Session Takes AtOnce Stays SESSION_LIMITS
         (record { trail = []; moments = moments.now }) (R.told source.old) (W.taken sink.old)
         last (R.told source.new) (W.taken sink.new) result }
 {
@@ -144,12 +144,16 @@ impl<'a> RehearsalDesk<'a> {
 }
 
 impl<'a> Desk<'a> for RehearsalDesk<'a> {
-    ghost use Rattle.nmvs_protocol.specs.Session.{AtOnce};
-    ghost use Rattle.nmvs_server.specs.Rehearsal.{Judges};
+    ghost use Rattle.nmvs_protocol.specs.Session.{AtOnce, Stays};
+    ghost use Rattle.nmvs_server.specs.Rehearsal.{Takes};
 
-    ghost takes = { Judges };
+    type Evidence = ();
+
+    ghost takes = { Takes };
 
     ghost releases = { AtOnce };
+
+    ghost moves = { Stays };
 
     fn take(&mut self, ask: &Ask) -> Withheld<'a> {
         let moment = self.next_moment();
@@ -159,7 +163,7 @@ impl<'a> Desk<'a> for RehearsalDesk<'a> {
         })
     }
 
-    fn release<'h>(&mut self, withheld: &'h mut WithheldAnswers<'a>) -> Released<'h, 'a> {
-        withheld.release()
+    fn release<'h>(&mut self, withheld: &'h mut WithheldAnswers<'a>) -> (Released<'h, 'a>, ()) {
+        (withheld.release(), ())
     }
 }

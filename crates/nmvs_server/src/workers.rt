@@ -1,34 +1,45 @@
 //! The workers that serve connections, and the registrar beside them.
 use crate::host::Shared;
+use crate::service::Running;
 use crate::{ClerkDesk, Console, ProgramClock, Sides};
+use nmvs_connections::{Bounds, Hall, Listener, Station, admit, serve};
 use nmvs_desk::Clerk;
 use nmvs_directory::{Naming, Registrar};
 use nmvs_history::Histories;
-use nmvs_operator::{Latest, obey_all};
-use nmvs_protocol::{Desk, End, NO_LIMITS, READ_SIZE, serve};
-use nmvs_stream::{Device, Sink, deliver};
+use nmvs_operator::{Latest, Options, obey_all};
+use nmvs_stream::{Sink, deliver};
 use std::alloc::{AllocError, Global};
-use std::io::{BufWriter, Read};
-use std::net::{Shutdown, TcpListener, TcpStream};
-use std::rt::Clock;
+use std::rt::{Clock, Files};
 use std::sync::Wait;
 use std::thread;
 use std::thread::Threads;
-use std::time::{Duration, Instant};
+use std::time::Duration;
 
 #[cfg(test)]
 mod tests;
 
-/// How many bytes of replies are gathered at most before some are sent (own): those to the questions of one read.
-const GATHERED: usize = 16_384;
+/// How far the connections of so many workers may go.
+pub(crate) fn bounds_of(options: &Options, workers: usize) -> Bounds {
+    Bounds {
+        connections: options.connections,
+        idle: match options.idle {
+            0 => None,
+            seconds => Some(Duration::from_secs(seconds)),
+        },
+        sessions: match options.sessions {
+            0 => u64::MAX,
+            sessions => sessions.saturating_mul(workers as u64),
+        },
+    }
+}
 
-/// How many seconds a connection is read on behind the end of its session (own).
-const PATIENCE: u64 = 1;
-
-/// Serves connections, one after another, and gives the clerk back. A failed accept counts as one.
+/// Serves the connections that are dealt to the worker of this number, and gives the clerk back. Where it can't go on it
+/// ends the service.
 fn work<'r, R: Wait + Clock, J: Naming, H: Histories>(
     shared: &Shared<'_, 'r, '_, R, J, H>,
     clerk: Clerk<'r, J, H>,
+    number: usize,
+    station: Station,
 ) -> Clerk<'r, J, H> {
     let run = shared.run;
     if !*shared.ready.lock(run.rt) {
@@ -36,71 +47,21 @@ fn work<'r, R: Wait + Clock, J: Naming, H: Histories>(
     }
     let clock = ProgramClock::new(run.rt, run.options.moment);
     let mut desk = ClerkDesk::new(run.rt, clerk, shared.repository, shared.latest, clock);
-    let sessions = match run.options.sessions {
-        0 => u64::MAX,
-        sessions => sessions,
-    };
-    for _ in 0..sessions {
-        serve_next(run.rt, *run.alloc, shared.listener, &mut desk);
+    if serve(run.rt, *run.alloc, shared.hall, number, station, &mut desk).is_err() {
+        shared.hall.stop(run.rt);
     }
     desk.into_clerk()
 }
 
-/// Serves one connection as a session. How it ends changes nothing for the others.
-fn serve_next<'a, R: Clock, D: Desk<'a>>(
-    rt: &R,
-    alloc: Global,
-    listener: &TcpListener,
-    desk: &mut D,
-) {
-    let Ok((stream, _peer)) = listener.accept() else {
-        return;
-    };
-    let _slow = stream.set_nodelay(true);
-    let mut source = Device::new(&stream);
-    let mut sink = Device::new(gathering(alloc, &stream));
-    match serve(alloc, &mut source, &mut sink, desk, NO_LIMITS) {
-        End::Quit | End::Limit | End::Memory => drain(rt, &stream),
-        End::Ended | End::ReadFault | End::WriteFault => {}
+/// Accepts connections for the workers. Where it can't go on it ends the service.
+fn keep_door<R: Wait>(rt: &R, hall: &Hall, listener: &Listener, door: Station) {
+    if admit(rt, hall, listener, door).is_err() {
+        hall.stop(rt);
     }
 }
 
-/// Gathers replies until they are flushed. Where there is no memory for that, each is sent by itself.
-fn gathering(alloc: Global, stream: &TcpStream) -> BufWriter<&TcpStream> {
-    match BufWriter::with_capacity(alloc, GATHERED, stream) {
-        Ok(writer) => writer,
-        Err(_) => BufWriter::with_capacity(alloc, 0, stream).unwrap(),
-    }
-}
-
-/// Ends a connection behind whose session bytes may be unread: tells the peer that no more is written, and reads on until
-/// it ends or a while has passed. Where a connection is closed with bytes unread, the system takes back what the peer has not
-/// received yet.
-fn drain<R: Clock>(rt: &R, mut stream: &TcpStream) {
-    let Ok(begun) = Instant::now(rt) else {
-        return;
-    };
-    let patience = Duration::from_secs(PATIENCE);
-    if stream.shutdown(Shutdown::Write).is_err()
-        || stream.set_read_timeout(Some(patience)).is_err()
-    {
-        return;
-    }
-    let mut unread = [0; READ_SIZE];
-    for _ in 0..u64::MAX {
-        match stream.read(&mut unread) {
-            Ok(0) | Err(_) => return,
-            Ok(_) => {}
-        }
-        match begun.elapsed(rt) {
-            Ok(passed) if passed < patience => {}
-            _ => return,
-        }
-    }
-}
-
-/// Serves connections in as many threads as there are clerks, and carries out the registrar's commands in this one. It
-/// returns the clerks once the commands have ended and every worker has served its connections.
+/// Serves connections in as many threads as there are clerks, accepts them in one more, and carries out the operator's
+/// commands in this one. It returns the clerks once the commands have ended and the hall has closed.
 ///
 /// # Errors
 ///
@@ -108,47 +69,60 @@ fn drain<R: Clock>(rt: &R, mut stream: &TcpStream) {
 pub(crate) fn serve_connections<
     'r,
     // Not `Host`: what a thread runs may rest on traits of the library alone.
-    R: Threads + Wait + Clock + Sync,
+    R: Threads + Wait + Clock + Files + Sync,
     J: Naming + Send + Sync,
     H: Histories + Send + Sync,
     T: Sides,
 >(
     shared: &Shared<'_, 'r, '_, R, J, H>,
     clerks: Vec<Clerk<'r, J, H>, &'r Global>,
+    stations: (Vec<Station>, Station),
     registrar: &mut Registrar<J, &'r R, &'r Global>,
     console: &mut Console<T>,
 ) -> Result<Vec<Clerk<'r, J, H>, &'r Global>, AllocError> {
     let run = shared.run;
+    let (stations, door) = stations;
     thread::scope(thread::scope_env(), run.rt, |scope| {
         let mut ready = shared.ready.lock(run.rt);
         let mut workers = Vec::with_capacity(*run.alloc, clerks.len())?;
         // room for the clerks is made before anything is served, so that no trail is lost for want of it
         let mut back = Vec::with_capacity(run.alloc, clerks.len())?;
-        for clerk in clerks {
-            match scope.spawn(move || work(shared, clerk)) {
+        let mut number = 0usize;
+        for (clerk, station) in clerks.into_iter().zip(stations) {
+            let place = number;
+            match scope.spawn(move || work(shared, clerk, place, station)) {
                 Ok(worker) => workers.push(worker)?,
                 Err(_) => return Err(AllocError),
             }
+            number = number.saturating_add(1);
         }
+        let (hall, listener) = (shared.hall, shared.listener);
+        let Ok(doorkeeper) = scope.spawn(move || keep_door(run.rt, hall, listener, door)) else {
+            return Err(AllocError);
+        };
         *ready = true;
         drop(ready);
-        tell_port(*run.alloc, shared.listener, &mut console.sink);
+        tell_port(*run.alloc, run.options, shared.listener, &mut console.sink);
         let (commands, answers) = (&mut console.source, &mut console.sink);
         let mut latest = Latest::new(run.rt, shared.latest);
-        obey_all(commands, answers, registrar, &mut latest);
+        let mut service = Running { shared };
+        obey_all(commands, answers, registrar, &mut latest, &mut service);
         for worker in workers {
             back.push(worker.join(run.rt))?;
         }
+        doorkeeper.join(run.rt);
         Ok(back)
     })
 }
 
-/// Tells on which port the program listens. A failed write changes nothing.
-fn tell_port<W: Sink>(alloc: Global, listener: &TcpListener, out: &mut W) {
-    if let Ok(address) = listener.local_addr() {
-        let port = address.port();
-        if let Ok(text) = format!(in alloc; "LISTENING {port}\n") {
-            let _failed = deliver(out, text.as_bytes());
-        }
+/// Tells on which port the program listens, or where its socket is. A failed write changes nothing.
+fn tell_port<W: Sink>(alloc: Global, options: &Options, listener: &Listener, out: &mut W) {
+    let text = match (listener.port(), &options.socket) {
+        (Some(port), _) => format!(in alloc; "LISTENING {port}\n"),
+        (None, Some(path)) => format!(in alloc; "LISTENING {path}\n"),
+        (None, None) => return,
+    };
+    if let Ok(text) = text {
+        let _failed = deliver(out, text.as_bytes());
     }
 }

@@ -1,6 +1,8 @@
 //! The program's desk, over a repository of its own.
 ghost use Rattle.std.specs.Prelude.{◌≡◌, ◌≤◌, ℕ, length, vec_len};
 ghost use Rattle.nmvs_desk.specs.Opening.{table_of};
+ghost use Rattle.nmvs_desk.specs.Placing.{IsPlaced};
+ghost use Rattle.nmvs_desk.specs.Settlement.{row};
 ghost use Rattle.nmvs_directory.specs.Directory.{directory_book};
 
 use crate::clock::OneMore;
@@ -11,9 +13,9 @@ use boxcar::tag::Tag;
 use nmvs_desk::{Keepers, MOST_CLERKS};
 use nmvs_directory::{Directory, Naming, Notice, Registrar};
 use nmvs_history::Histories;
-use nmvs_operator::{Latest, load_users, obey_all};
+use nmvs_operator::{Deed, Latest, Service, ServiceFault, load_users, obey_all};
 use nmvs_protocol::{Desk, SESSION_LIMITS, serve};
-use nmvs_shard::Shard;
+use nmvs_shard::Shards;
 use nmvs_stream::Device;
 use std::alloc::Global;
 use std::marker::Brand;
@@ -102,6 +104,18 @@ fn asked<'a, D: Desk<'a>>(alloc: Global, desk: &mut D, line: &str) -> Result<Vec
     Ok(output)
 }
 
+/// A server that does all that is asked.
+#[derive(Drop)]
+struct Willing;
+
+impl Service for Willing {
+    ghost does = { λ old deed fault new. Unit {0} };
+
+    fn perform(&mut self, _deed: &Deed<'_>) -> Result<(), ServiceFault> {
+        Ok(())
+    }
+}
+
 /// What the registrar is answered to one command.
 fn commanded<'r, J: Naming, R: Wait>(
     rt: &'r R,
@@ -117,6 +131,7 @@ fn commanded<'r, J: Naming, R: Wait>(
         &mut Device::new(&mut output),
         registrar,
         &mut Latest::new(rt, latest),
+        &mut Willing,
     );
     Ok(output)
 }
@@ -137,7 +152,9 @@ fn at_desk<'r, 'a, J: Naming, H: Histories, R: Wait + Abort>(
     example: &Example,
 ) -> Result<(), Fail>
     requires tables { (i : ℕ) → table_of opening.keepers i ≡ H.tables i }
-    requires named { (H.shards ≡ length opening.keepers) × (H.clerks ≡ vec_len opening.windows) × (H.opening ≡ opening.import) }
+    requires named { (H.shards ≡ length opening.keepers) × (H.clerks ≡ vec_len opening.windows) × ((i : ℕ) → H.opening i ≡ row opening.shards.items i) }
+    requires many { vec_len opening.shards ≡ length opening.keepers }
+    requires placed { (i : ℕ) → IsPlaced (length opening.keepers) i (row opening.shards.items i) }
     requires few { vec_len opening.windows ≤ MOST_CLERKS }
 {
     let alloc = *opening.windows.allocator();
@@ -176,7 +193,7 @@ fn at_directory<J: Naming, R: Wait + Abort + Sync>(
     let notice = load_users(*alloc, &mut users, &mut registrar, 2)?;
     let opening = Opening {
         windows,
-        import: Shard::new(alloc),
+        shards: Shards::new(alloc, 1)?.into_shards(),
         keepers: Keepers::new(alloc, 1)?,
     };
     let latest = Mutex::new(notice);

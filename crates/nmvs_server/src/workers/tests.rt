@@ -1,12 +1,13 @@
 //! A run over connections.
 use crate::examples::NEW_YEAR;
 use crate::{Console, Outcome, run};
+use nmvs_connections::Listener;
 use nmvs_identifier::Moment;
 use nmvs_operator::Options;
 use nmvs_stream::Device;
 use std::io;
 use std::io::{ErrorKind, Read, Write};
-use std::net::{SocketAddr, TcpListener, TcpStream};
+use std::net::{IpAddr, Ipv4Addr, SocketAddr, TcpListener, TcpStream};
 use std::test::*;
 
 /// Two users, as the registrar enrols them.
@@ -107,13 +108,18 @@ fn two_connections_are_served_at_once(rt: HostRuntime) -> Result<(), Fail> {
         shards: 2,
         workers: 2,
         sessions: 1,
-        port: 7161,
+        connections: 2,
+        idle: 0,
+        bind: IpAddr::V4(Ipv4Addr::new(127, 0, 0, 1)),
+        port: 0,
+        socket: None,
         moment: Moment::new(NEW_YEAR),
         stdin: false,
     };
-    let listener = TcpListener::bind(&rt, "127.0.0.1:0")?;
-    let address = listener.local_addr()?;
-    let port = address.port();
+    let any = SocketAddr::new(options.bind, 0);
+    let listener = Listener::on_port(&rt, any)?;
+    let port = listener.port().unwrap_or(0);
+    let address = SocketAddr::new(options.bind, port);
     let heard = TcpListener::bind(&rt, "127.0.0.1:0")?;
     let script = Script {
         rt: rt.clone()?,
