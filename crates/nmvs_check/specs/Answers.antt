@@ -13,6 +13,9 @@ use Rattle.nmvs_rules.specs.declared.reply.Reply.TheVariants.{Shown}
 use Rattle.nmvs_protocol.specs.Texts.{reply_text}
 use Rattle.nmvs_record.specs.Lines.{Imported, newer}
 use Rattle.nmvs_record.specs.Report.{product_line, report_text}
+use Rattle.nmvs_inspect.specs.Groups.{AreSingle, groups_text}
+use Rattle.nmvs_inspect.specs.Packs.{Standing, AreOfBatch, packs_text}
+use Rattle.nmvs_inspect.specs.Reports.{rows_text}
 use Rattle.nmvs_inspect.specs.Rows.{Dated, AreTaken, list_text}
 use Rattle.nmvs_check.specs.declared.request.Request.{Request}
 use Rattle.nmvs_check.specs.declared.request.Request.TheVariants as request
@@ -38,6 +41,10 @@ summary_text it = counts_text it ++ flat_map (product_line it.trail) (codes_name
 abbrev pub reports_text : List Entry → List ℕ
 reports_text t = flat_map (report_text t) (codes_named t)
 
+-- the same as rows
+abbrev pub report_rows_text : List Entry → List ℕ
+report_rows_text t = rows_text t (codes_named t)
+
 -- the reply that shows the entries about a pack, and their lines
 abbrev pub audit_text : List Entry → Pack → List ℕ
 audit_text t p = let shown = filter (is_about p) t in reply_text (Shown (length shown)) shown
@@ -47,5 +54,8 @@ abbrev pub Tells : Imported → Request → Taken → Taken → Type 0
 Tells it request.Summary old new = Delivers old new (summary_text it)
 Tells it (request.Report c) old new = Delivers old new (report_text it.trail c)
 Tells it request.Reports old new = Delivers old new (reports_text it.trail)
+Tells it request.ReportRows old new = Delivers old new (report_rows_text it.trail)
 Tells it (request.Audit p) old new = Delivers old new (audit_text it.trail p)
 Tells it (request.List f form) old new = (ds : List Dated) × AreTaken f it.trail ds × Delivers old new (list_text form ds)
+Tells it (request.Count f bs form) old new = (ds : List _) × AreSingle f it.trail ds × Delivers old new (groups_text form bs.items ds)
+Tells it (request.Packs c b form) old new = (ps : List (Standing it.trail)) × AreOfBatch c b it.trail ps × Delivers old new (packs_text form it.trail ps)

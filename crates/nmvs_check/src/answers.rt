@@ -8,7 +8,7 @@ ghost use Rattle.nmvs_check.specs.Answers as answers;
 use crate::request::Request;
 use indexmap::IndexSet;
 use nmvs_identifier::{Pack, ProductCode};
-use nmvs_inspect::{AnswerFault, write_list};
+use nmvs_inspect::{AnswerFault, write_groups, write_list, write_packs, write_report_rows};
 use nmvs_protocol::reply_text;
 use nmvs_record::{Importer, product_line, report};
 use nmvs_rules::{Entry, Reply};
@@ -23,7 +23,7 @@ use std::alloc::{AllocError, Global};
 /// There is no memory for the answer, or it cannot be written.
 pub(crate) fn tell<W: Sink>(
     alloc: Global,
-    importer: &Importer<Global>,
+    importer: &Importer<Shard<Global>>,
     request: &Request,
     sink: &mut W,
 ) -> Result<(), AnswerFault>
@@ -34,8 +34,11 @@ pub(crate) fn tell<W: Sink>(
         Request::Summary => write(&summary(alloc, importer)?, sink),
         Request::Report(code) => write(&report(alloc, shard, code)?, sink),
         Request::Reports => write(&reports(alloc, shard)?, sink),
+        Request::ReportRows => report_rows(alloc, shard, sink),
         Request::Audit(pack) => write(&audit(alloc, shard, pack)?, sink),
         Request::List(filter, form) => write_list(alloc, shard, filter, *form, sink),
+        Request::Count(filter, by, form) => write_groups(alloc, shard, filter, by, *form, sink),
+        Request::Packs(code, batch, form) => write_packs(alloc, shard, code, batch, *form, sink),
     }
 }
 
@@ -46,7 +49,7 @@ fn write<W: Sink>(text: &str, sink: &mut W) -> Result<(), AnswerFault>
     Ok(deliver(sink, text.as_bytes())?)
 }
 
-fn summary(alloc: Global, importer: &Importer<Global>) -> Result<String, AllocError>
+fn summary(alloc: Global, importer: &Importer<Shard<Global>>) -> Result<String, AllocError>
     ensures { IfOk result (λ text. string_bytes text ≡ answers.summary_text importer.now) }
 {
     let shard = importer.shard();
@@ -57,7 +60,7 @@ fn summary(alloc: Global, importer: &Importer<Global>) -> Result<String, AllocEr
 }
 
 /// How many lines there are, and how many of them in each version.
-fn counts_text(alloc: Global, importer: &Importer<Global>) -> Result<String, AllocError>
+fn counts_text(alloc: Global, importer: &Importer<Shard<Global>>) -> Result<String, AllocError>
     ensures { IfOk result (λ text. string_bytes text ≡ answers.counts_text importer.now) }
 {
     let lines = importer.shard().trail().len();
@@ -103,6 +106,18 @@ fn reports(alloc: Global, shard: &Shard<Global>) -> Result<String, AllocError>
     let codes = codes_named(alloc, shard.trail())?;
     append_reports(alloc, shard, codes.as_slice(), &mut text)?;
     Ok(text)
+}
+
+/// Writes the reports of all product codes that the entries name, as rows of CSV.
+fn report_rows<W: Sink>(
+    alloc: Global,
+    shard: &Shard<Global>,
+    sink: &mut W,
+) -> Result<(), AnswerFault>
+    ensures { OnOk result (Delivers (W.taken sink.old) (W.taken sink.new) (answers.report_rows_text shard.now)) }
+{
+    let codes = codes_named(alloc, shard.trail())?;
+    write_report_rows(alloc, shard, codes.as_slice(), sink)
 }
 
 /// Puts the reports of product codes at the end of a text.

@@ -3,7 +3,7 @@ use crate::options::OptionFault;
 use clap::{Arg, ArgAction, ArgMatches, Command};
 use jiff::civil::Date;
 use nmvs_identifier::{Batch, Name, ProductCode, Serial};
-use nmvs_inspect::{Filter, Form, read_date};
+use nmvs_inspect::{By, Filter, Form, read_date};
 use nmvs_rules::Role;
 use nmvs_words::{QuestionKind, ReplyKind, role_named};
 use std::alloc::{AllocError, Global};
@@ -104,6 +104,20 @@ pub(crate) fn filter_of(alloc: Global, matches: &ArgMatches<'_>) -> Result<Filte
         flagged: matches.get_flag("flagged"),
         refused: matches.get_flag("refused"),
     })
+}
+
+/// What the options say that entries are counted by.
+pub(crate) fn by_of(alloc: Global, matches: &ArgMatches<'_>) -> Result<Vec<By>, OptionFault> {
+    let mut parts = Vec::new(alloc);
+    if let Some(words) = matches.get_str("by") {
+        for word in words.split(',') {
+            match By::named(word) {
+                Some(by) => parts.push(by).map_err(|_| AllocError)?,
+                None => return Err(refused(alloc, word, "part to count by")),
+            }
+        }
+    }
+    Ok(parts)
 }
 
 fn date(

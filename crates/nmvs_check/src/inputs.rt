@@ -23,8 +23,8 @@ pub(crate) struct Inputs {
 #[derive(Debug, Drop)]
 pub(crate) enum InputFault {
     Memory,
-    /// The file cannot be opened.
-    Closed,
+    /// The file at this path cannot be opened.
+    Closed(String),
 }
 
 impl From<AllocError> for InputFault {
@@ -51,7 +51,7 @@ impl Inputs {
             } else {
                 match fs::open(rt, path) {
                     Ok(file) => Input::File(file),
-                    Err(_) => return Err(InputFault::Closed),
+                    Err(_) => return Err(InputFault::Closed(String::from_str(alloc, path)?)),
                 }
             };
             inputs.push(input).map_err(|_| AllocError)?;

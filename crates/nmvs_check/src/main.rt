@@ -53,7 +53,10 @@ fn words<R: Env + AllocGlobal>(rt: &R) -> io::Result<Vec<String>> {
 fn check(rt: &HostRuntime, alloc: Global, options: &Options) -> ExitCode {
     let inputs = match Inputs::open(rt, alloc, &options.files) {
         Ok(inputs) => inputs,
-        Err(InputFault::Closed) => return fail(rt, "the file cannot be opened"),
+        Err(InputFault::Closed(path)) => {
+            let _ = eprintln!(rt; "the file {path} cannot be opened");
+            return ExitCode::FAILURE;
+        }
         Err(InputFault::Memory) => return fail(rt, "out of memory"),
     };
     let (mut source, mut sink) = (Device::new(inputs), Device::new(rt.stdout()));

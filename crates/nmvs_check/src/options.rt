@@ -1,5 +1,5 @@
 //! The command line.
-use crate::filters::{filter_of, flag, form_of, with_filter, with_form};
+use crate::filters::{batch, by_of, code, filter_of, flag, form_of, with_filter, with_form};
 use crate::request::Request;
 use clap::error::ErrorKind;
 use clap::{Arg, ArgMatches, Command, Error};
@@ -47,6 +47,12 @@ const REPORT: &str = "Tells the reports of product codes, in order of first appe
 
 const LIST: &str = "Lists the entries that pass all tests, oldest first";
 
+const COUNT: &str =
+    "Counts the entries that pass all tests, by what they have in common; in order of first appearance";
+
+const PACKS: &str =
+    "Lists the packs that were uploaded in a batch: the status of each, since when, and by whom";
+
 /// The options of the words after the program's own name.
 ///
 /// # Errors
@@ -81,6 +87,8 @@ fn command<'a>(alloc: Global) -> Result<Command<'a>, AllocError> {
         .arg(report)?
         .arg(audit)?
         .subcommand(list(alloc)?)?
+        .subcommand(count(alloc)?)?
+        .subcommand(packs(alloc)?)?
         .subcommand(reports(alloc)?)
 }
 
@@ -101,12 +109,48 @@ fn list<'a>(alloc: Global) -> Result<Command<'a>, AllocError> {
     with_form(alloc, with_filter(alloc, command)?)?.arg(json)
 }
 
+fn count<'a>(alloc: Global) -> Result<Command<'a>, AllocError> {
+    let by = Arg::new(alloc, "by")
+        .long("by")
+        .value_name("PARTS")
+        .required(true)
+        .help(
+            "One or several of day, week, month, cause, premises, authorisation, code, user, role, word and reply, with \
+            commas between",
+        );
+    let command = Command::new(alloc, "count")
+        .about(COUNT)
+        .arg(by)?
+        .arg(files(alloc))?;
+    with_form(alloc, with_filter(alloc, command)?)
+}
+
+fn packs<'a>(alloc: Global) -> Result<Command<'a>, AllocError> {
+    let code = Arg::new(alloc, "code")
+        .long("code")
+        .value_name("CODE")
+        .required(true)
+        .help("The product code");
+    let batch = Arg::new(alloc, "batch")
+        .long("batch")
+        .value_name("BATCH")
+        .required(true)
+        .help("The batch");
+    let command = Command::new(alloc, "packs")
+        .about(PACKS)
+        .arg(code)?
+        .arg(batch)?
+        .arg(files(alloc))?;
+    with_form(alloc, command)
+}
+
 fn reports<'a>(alloc: Global) -> Result<Command<'a>, AllocError> {
     let all = flag(alloc, "all", "Of every product code that some line names").required(true);
-    Command::new(alloc, "report")
+    let command = Command::new(alloc, "report")
         .about(REPORT)
         .arg(all)?
-        .arg(files(alloc))
+        .arg(files(alloc))?;
+    with_form(alloc, command)
 }
 
 fn options_of(alloc: Global, matches: &ArgMatches<'_>) -> Result<Options, OptionFault> {
@@ -122,9 +166,24 @@ fn options_of(alloc: Global, matches: &ArgMatches<'_>) -> Result<Options, Option
                 request: Request::List(filter_of(alloc, asked)?, form),
             })
         }
+        Some(("count", asked)) => Ok(Options {
+            files: files_of(alloc, asked)?,
+            request: Request::Count(
+                filter_of(alloc, asked)?,
+                by_of(alloc, asked)?,
+                form_of(asked),
+            ),
+        }),
+        Some(("packs", asked)) => Ok(Options {
+            files: files_of(alloc, asked)?,
+            request: packs_of(alloc, asked)?,
+        }),
         Some(("report", asked)) => Ok(Options {
             files: files_of(alloc, asked)?,
-            request: Request::Reports,
+            request: match form_of(asked) {
+                Form::Csv => Request::ReportRows,
+                _ => Request::Reports,
+            },
         }),
         _ => Ok(Options {
             files: files_of(alloc, matches)?,
@@ -154,6 +213,17 @@ fn request_of(alloc: Global, matches: &ArgMatches<'_>) -> Result<Request, Option
         })),
         _ => Ok(Request::Summary),
     }
+}
+
+fn packs_of(alloc: Global, matches: &ArgMatches<'_>) -> Result<Request, OptionFault> {
+    let (Some(code), Some(batch)) = (
+        code(alloc, matches, "code")?,
+        batch(alloc, matches, "batch")?,
+    ) else {
+        let wanted = "error: a product code and a batch are wanted\n";
+        return Err(OptionFault::Refused(String::from_str(alloc, wanted)?));
+    };
+    Ok(Request::Packs(code, batch, form_of(matches)))
 }
 
 fn code_of(alloc: Global, text: &str) -> Result<ProductCode, OptionFault> {

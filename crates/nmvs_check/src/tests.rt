@@ -2,8 +2,8 @@ use crate::inspect_fault::fault_text;
 use crate::inspection::inspect;
 use crate::options::{OptionFault, Options, read_options};
 use crate::request::Request;
-use nmvs_identifier::{Pack, ProductCode, Serial};
-use nmvs_inspect::{Filter, Form};
+use nmvs_identifier::{Batch, Pack, ProductCode, Serial};
+use nmvs_inspect::{By, Filter, Form};
 use nmvs_stream::Device;
 use nmvs_words::ReplyKind;
 use std::alloc::{AllocError, Global};
@@ -167,6 +167,48 @@ fn entries_are_listed(rt: HostRuntime) -> Result<(), Fail> {
     Ok(())
 }
 
+#[test]
+fn entries_are_counted_and_told_as_rows(rt: HostRuntime) -> Result<(), Fail> {
+    let premises = [By::Premises].to_vec(rt.alloc())?;
+    let counted = Request::Count(Filter::new(), premises, Form::Table);
+    let text = told(rt.alloc(), EXPORT, &counted)?;
+    assert_eq!(rt;
+        text.as_str(),
+        "premises entries\nHQ       2\nP1       3\nA1       1\n"
+    );
+    let refused = Filter {
+        refused: true,
+        ..Filter::new()
+    };
+    // 1 January 2026 was a Thursday.
+    let weeks = [By::Week, By::Reply].to_vec(rt.alloc())?;
+    let text = told(
+        rt.alloc(),
+        EXPORT,
+        &Request::Count(refused, weeks, Form::Csv),
+    )?;
+    assert_eq!(rt; text.as_str(), "week,reply,entries\n2025-12-29,REFUSED,1\n");
+    let Ok(batch) = Batch::read("B1") else {
+        panic!(rt; "a batch is refused");
+    };
+    let text = told(
+        rt.alloc(),
+        EXPORT,
+        &Request::Packs(code(&rt), batch, Form::Csv),
+    )?;
+    assert_eq!(rt;
+        text.as_str(),
+        "serial,expiry,status,moment,authorisation,premises\nSN1,280200,HELD,2026-01-01 00:00:00,PH-1,P1\n"
+    );
+    let text = told(rt.alloc(), EXPORT, &Request::ReportRows)?;
+    assert_eq!(rt;
+        text.as_str(),
+        "code,batch,holder,alerts,flagged,lock,active,held,supplied,exported,sampled,destroyed,stolen\n\
+        09506000134352,,MAH-1,1,0,,,,,,,,\n09506000134352,B1,,,,RECALLED,0,1,0,0,0,0,0\n"
+    );
+    Ok(())
+}
+
 /// The options of a line of words, which single spaces part.
 fn options(alloc: Global, line: &str) -> Result<Result<Options, OptionFault>, AllocError> {
     let mut words = Vec::new(alloc);
@@ -215,6 +257,9 @@ fn a_command_line_is_refused(rt: HostRuntime) -> Result<(), Fail> {
         "list --role DOCTOR",
         "list --word LOCKED",
         "list --csv --json",
+        "count",
+        "count --by day,hour",
+        "packs --code 09506000134352",
         "--report",
         "--report 09506000134353",
         "--audit 09506000134352",

@@ -1,3 +1,6 @@
 pub mod RowLemmas
 pub mod GatheringLemmas
 pub mod ListLemmas
+pub mod GroupLemmas
+pub mod PackLemmas
+pub mod ReportRowLemmas

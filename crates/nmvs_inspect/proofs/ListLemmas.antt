@@ -2,7 +2,7 @@
 use Rattle.std.proofs.Common.{◌≡◌, ◌∙◌, ap, sym, ℕ, ◌+◌, ◌<◌, Bool, true, false, cond, List, [], ◌∷◌, ◌++◌, append_assoc, length, take, map, get_or}
 use Rattle.std.specs.List.{flat_map}
 use Rattle.std.specs.Prelude.{filter}
-use Rattle.std.proofs.lemmas.List.{append-nil, map-append}
+use Rattle.std.proofs.lemmas.List.{append-nil, map-append, take_more}
 use Rattle.std.proofs.lemmas.List.Concat.{flat_map-append}
 use Rattle.std.proofs.lemmas.List.Elements.{filter_more}
 use Rattle.nmvs_rules.specs.declared.entry.Entry.{Entry}
@@ -12,16 +12,16 @@ use Rattle.nmvs_inspect.specs.Rows.{Dated, header, entry_text, list_text}
 abbrev pub entries_of : List Dated → List Entry
 entries_of ds = map (λ d. d.entry) ds
 
--- an entry that is taken, and one that is not
-pub taken-next : (p : Entry → Bool) (t : List Entry) (i : ℕ) (e : Entry) (ds : List Dated) (d : Dated) → i < length t → p e ≡ true → e ≡ get_or t i e → d.entry ≡ e
-    → entries_of ds ≡ filter p (take i t) → entries_of (ds ++ d ∷ []) ≡ filter p (take (i + 1) t)
-taken-next p t i e ds d l passes at is inv =
-    map-append (λ (x : Dated). x.entry) ds (d ∷ []) ∙ ap (λ (x : List Entry). x ++ d.entry ∷ []) inv ∙ ap (λ (x : Entry). filter p (take i t) ++ x ∷ []) (is ∙ at)
+-- an entry that is taken, and one that is not; what is kept of each that was taken has the entry
+pub taken-next : {X : Type 0} (entry : X → Entry) (p : Entry → Bool) (t : List Entry) (i : ℕ) (e : Entry) (ds : List X) (d : X) → i < length t → p e ≡ true → e ≡ get_or t i e → entry d ≡ e
+    → map entry ds ≡ filter p (take i t) → map entry (ds ++ d ∷ []) ≡ filter p (take (i + 1) t)
+taken-next {X} entry p t i e ds d l passes at is inv =
+    map-append entry ds (d ∷ []) ∙ ap (λ (x : List Entry). x ++ entry d ∷ []) inv ∙ ap (λ (x : Entry). filter p (take i t) ++ x ∷ []) (is ∙ at)
     ∙ ap (λ (b : Bool). filter p (take i t) ++ cond b (get_or t i e ∷ []) []) (sym passes ∙ ap p at) ∙ sym (filter_more p t i e l)
 
-pub untaken-next : (p : Entry → Bool) (t : List Entry) (i : ℕ) (e : Entry) (ds : List Dated) → i < length t → p e ≡ false → e ≡ get_or t i e
-    → entries_of ds ≡ filter p (take i t) → entries_of ds ≡ filter p (take (i + 1) t)
-untaken-next p t i e ds l fails at inv =
+pub untaken-next : {X : Type 0} (entry : X → Entry) (p : Entry → Bool) (t : List Entry) (i : ℕ) (e : Entry) (ds : List X) → i < length t → p e ≡ false → e ≡ get_or t i e
+    → map entry ds ≡ filter p (take i t) → map entry ds ≡ filter p (take (i + 1) t)
+untaken-next entry p t i e ds l fails at inv =
     inv ∙ sym (append-nil (filter p (take i t))) ∙ ap (λ (b : Bool). filter p (take i t) ++ cond b (get_or t i e ∷ []) []) (sym fails ∙ ap p at) ∙ sym (filter_more p t i e l)
 
 -- a list with one entry more
@@ -29,3 +29,8 @@ pub list_text-more : (f : Form) (ds : List Dated) (d : Dated) → list_text f (d
 list_text-more f ds d =
     ap (λ (x : List ℕ). header f ++ x) (flat_map-append (entry_text f) ds (d ∷ []) ∙ ap (λ (x : List ℕ). flat_map (entry_text f) ds ++ x) (append-nil (entry_text f d)))
     ∙ sym (append_assoc (header f) (flat_map (entry_text f) ds) (entry_text f d))
+
+-- a text of one element more
+pub flat_map-next : {X : Type 0} (f : X → List ℕ) (xs : List X) (i : ℕ) (d : X) → i < length xs → flat_map f (take (i + 1) xs) ≡ flat_map f (take i xs) ++ f (get_or xs i d)
+flat_map-next {X} f xs i d l =
+    ap (flat_map f) (take_more xs i d l) ∙ flat_map-append f (take i xs) (get_or xs i d ∷ []) ∙ ap (λ (x : List ℕ). flat_map f (take i xs) ++ x) (append-nil (f (get_or xs i d)))

@@ -74,11 +74,14 @@ table_from ws i (c ∷ cs) = filled (slice_index ws i) c ++ ending cs ∷ table_
 abbrev pub table_row : List ℕ → List (List ℕ) → List ℕ
 table_row ws cs = table_from ws 0 cs
 
--- a row in a form; an entry's line has a form of its own
+-- a row in a form, with these widths in a table; an entry's line has a form of its own
+abbrev pub row_in : List ℕ → Form → List (List ℕ) → List ℕ
+row_in ws form.Table cs = table_row ws cs
+row_in ws form.Csv cs = row_text default_writer cs
+row_in ws form.Json cs = table_row ws cs
+
 abbrev pub row : Form → List (List ℕ) → List ℕ
-row form.Table cs = table_row widths cs
-row form.Csv cs = row_text default_writer cs
-row form.Json cs = table_row widths cs
+row form cs = row_in widths form cs
 
 abbrev pub header : Form → List ℕ
 header form.Json = []

@@ -1,19 +1,28 @@
 //! What inspectors ask of a lawful trail.
 //!
 //! A [`Filter`] says which entries are wanted, as a definition over entries; [`write_list`] writes them, in order, in a
-//! [`Form`]. The trail is not copied: an answer is made from the shard of an import, a block at a time.
+//! [`Form`]. [`write_groups`] counts them by what they have in common, and [`write_packs`] tells how the packs of a batch
+//! stand. The trail is not copied: an answer is made from the shard of an import, a block at a time.
 #![tactic(auto)]
 
 mod answer_fault;
+mod by;
 mod date;
 mod filter;
 mod form;
 mod gathering;
+mod groups;
 mod listing;
+mod packs;
+mod reports;
 mod rows;
 
 pub use answer_fault::AnswerFault;
+pub use by::By;
 pub use date::read_date;
 pub use filter::Filter;
 pub use form::Form;
+pub use groups::write_groups;
 pub use listing::write_list;
+pub use packs::write_packs;
+pub use reports::write_report_rows;
