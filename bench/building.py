@@ -10,16 +10,16 @@ ROOT = HERE.parent
 
 def build(folder, name, libraries, arguments):
     """Builds bench/NAME.rattle in a folder of its own, runs it once with these arguments, and tells where the program is.
-    What its functions pick for proofs alone is in bench/NAME_proofs, a file a function, and FUNCTION.answers where it answers
-    goals. (The gate takes no file of code outside crates/, so these have names of their own.)"""
+    What its functions pick for proofs alone is in bench/NAME_proofs, a file a function. (The gate takes no file of code
+    outside crates/, so these have names of their own.)"""
     shutil.copytree(ROOT / "crates", folder / "crates", ignore=shutil.ignore_patterns("must-fail", "wrong-bodies"))
     source = folder / "crates/nmvs_bench/src"
     source.mkdir(parents=True)
     shutil.copy(HERE / f"{name}.rattle", source / "main.rt")
     for picked in (HERE / f"{name}_proofs").glob("*"):
-        of_function = folder / "crates/nmvs_bench/proofs" / picked.stem
-        of_function.mkdir(parents=True, exist_ok=True)
-        shutil.copy(picked, of_function / ("Answers.antt" if picked.suffix == ".answers" else "Invariants.antt"))
+        of_function = folder / "crates/nmvs_bench/proofs" / picked.name
+        of_function.mkdir(parents=True)
+        shutil.copy(picked, of_function / "Invariants.antt")
     lines = (ROOT / "crates.txt").read_text() + f"nmvs_bench: {libraries} anyhow\n"
     (folder / "crates.txt").write_text(lines)
     shutil.copy(ROOT / "HANDLES", folder)
