@@ -13,7 +13,7 @@ ghost use Rattle.nmvs_operator.specs.Users.{change_of};
 ghost use Rattle.nmvs_operator.specs.Commands.{Office, office, Performs, Obeys, Refuses, AnswersOrder, order_text as text_of_answer, is_stop, Tries, CarriesOut};
 ghost use Rattle.nmvs_operator.specs.Progress.{AnsweredOrders, StoppedIn, CarriesOutLines, StoppedBy};
 
-use crate::{Deed, Latest, ObeyFault, Order, Service, ServiceFault, read_order};
+use crate::{Console, Deed, Latest, ObeyFault, Order, Service, ServiceFault, Sides, read_order};
 use nmvs_directory::{Changes, Naming, Notice, Registrar};
 use nmvs_protocol::{Command, CommandFault, PendingLine};
 use nmvs_stream::{Failed, Sink, Source, deliver};
@@ -30,26 +30,27 @@ const MOST_ORDER_READS: u64 = u64::MAX;
 const HELP: &str =
     "ENROL user role authorisation premises\nSUSPEND user\nEXPORT file\nSTOP\nHELP\nDONE\n";
 
-/// Carries out the orders of a source one by one, as they come, and answers each. A change of the users is kept by the
+/// Carries out the orders of a console one by one, as they come, and answers each. A change of the users is kept by the
 /// server first, then published at once, and its notice shown as the latest.
 ///
 /// It ends with the input, at a failed read, or once it has told the server to stop, and then it looks at no further
 /// line. What was begun at the end of the input, and has no LF, is answered and not carried out. A failed write changes
 /// nothing. It waits for the lock of the latest notice, and lets it go.
-pub fn obey_all<J: Naming, R: Wait + Drop, A: Allocator, I: Source, W: Sink, L: Wait, S: Service>(
-    source: &mut I,
-    sink: &mut W,
+pub fn obey_all<J: Naming, R: Wait + Drop, A: Allocator, T: Sides, S: Service>(
+    console: &mut Console<T>,
     registrar: &mut Registrar<J, R, A>,
-    latest: &mut Latest<'_, J, L>,
+    latest: &mut Latest<'_, J, R>,
     service: &mut S,
 )
-    ensures { CarriesOut S.does (office (register_of registrar.old) latest.old service.old) (I.told source.old) (W.taken sink.old)
-        (office (register_of registrar.new) latest.new service.new) (I.told source.new) (W.taken sink.new) }
+    ensures { CarriesOut S.does (office (register_of registrar.old) latest.old service.old)
+        (T.Source.told console.old.source) (T.Sink.taken console.old.sink)
+        (office (register_of registrar.new) latest.new service.new)
+        (T.Source.told console.new.source) (T.Sink.taken console.new.sink) }
 {
-    match obey_lines(source, sink, registrar, latest, service) {
+    match obey_lines(console, registrar, latest, service) {
         Some(begun) => {
             if !begun.is_empty() {
-                tell(fault_text(ObeyFault::Unended), sink);
+                tell(fault_text(ObeyFault::Unended), &mut console.sink);
             }
         }
         None => {}
@@ -58,31 +59,32 @@ pub fn obey_all<J: Naming, R: Wait + Drop, A: Allocator, I: Source, W: Sink, L: 
 
 /// Carries out and answers the orders that have their LF, and gives what is kept of what was begun behind them; or
 /// nothing, where the server was stopped.
-fn obey_lines<J: Naming, R: Wait + Drop, A: Allocator, I: Source, W: Sink, L: Wait, S: Service>(
-    source: &mut I,
-    sink: &mut W,
+fn obey_lines<J: Naming, R: Wait + Drop, A: Allocator, T: Sides, S: Service>(
+    console: &mut Console<T>,
     registrar: &mut Registrar<J, R, A>,
-    latest: &mut Latest<'_, J, L>,
+    latest: &mut Latest<'_, J, R>,
     service: &mut S,
 ) -> Option<PendingLine>
     ensures all { IfSome result (λ begun. CarriesOutLines S.does (office (register_of registrar.old) latest.old service.old)
-        (I.told source.old) (W.taken sink.old) (office (register_of registrar.new) latest.new service.new)
-        (I.told source.new) (W.taken sink.new) begun) }
+        (T.Source.told console.old.source) (T.Sink.taken console.old.sink)
+        (office (register_of registrar.new) latest.new service.new)
+        (T.Source.told console.new.source) (T.Sink.taken console.new.sink) begun) }
     ensures stopped { IfNone result (StoppedBy S.does (office (register_of registrar.old) latest.old service.old)
-        (I.told source.old) (W.taken sink.old) (office (register_of registrar.new) latest.new service.new)
-        (I.told source.new) (W.taken sink.new)) }
+        (T.Source.told console.old.source) (T.Sink.taken console.old.sink)
+        (office (register_of registrar.new) latest.new service.new)
+        (T.Source.told console.new.source) (T.Sink.taken console.new.sink)) }
 {
     let mut line = PendingLine::new();
     let mut buffer = [0; 4096];
     for _ in 0..MOST_ORDER_READS {
-        match source.read(&mut buffer) {
+        match console.source.read(&mut buffer) {
             Err(Failed) => return Some(line),
             Ok(0) => return Some(line),
             Ok(count) => {
                 if obey_chunk(
                     &mut line,
                     &buffer[..count],
-                    sink,
+                    &mut console.sink,
                     registrar,
                     latest,
                     service,
@@ -96,12 +98,12 @@ fn obey_lines<J: Naming, R: Wait + Drop, A: Allocator, I: Source, W: Sink, L: Wa
 }
 
 /// Goes on with the bytes of one read, behind the line that was begun, and tells whether the server was stopped.
-fn obey_chunk<J: Naming, R: Wait + Drop, A: Allocator, W: Sink, L: Wait, S: Service>(
+fn obey_chunk<J: Naming, R: Wait + Drop, A: Allocator, W: Sink, S: Service>(
     line: &mut PendingLine,
     chunk: &[u8],
     sink: &mut W,
     registrar: &mut Registrar<J, R, A>,
-    latest: &mut Latest<'_, J, L>,
+    latest: &mut Latest<'_, J, R>,
     service: &mut S,
 ) -> bool
     ensures { (first : Office S) (start : Taken) (input : List ℕ)
@@ -130,11 +132,11 @@ fn obey_chunk<J: Naming, R: Wait + Drop, A: Allocator, W: Sink, L: Wait, S: Serv
 
 /// Carries out one order, of which as much is given as is kept of it, answers it, and tells whether it stopped the
 /// server. A failed write changes nothing.
-fn obey_line<J: Naming, R: Wait + Drop, A: Allocator, W: Sink, L: Wait, S: Service>(
+fn obey_line<J: Naming, R: Wait + Drop, A: Allocator, W: Sink, S: Service>(
     line: &[u8],
     sink: &mut W,
     registrar: &mut Registrar<J, R, A>,
-    latest: &mut Latest<'_, J, L>,
+    latest: &mut Latest<'_, J, R>,
     service: &mut S,
 ) -> bool
     ensures { (said : Result AnOrder AFault)
@@ -168,10 +170,10 @@ fn obey_line<J: Naming, R: Wait + Drop, A: Allocator, W: Sink, L: Wait, S: Servi
 /// The server did not do what it asks, and nothing is published; or memory is wanting for a change that the server
 /// keeps, and nothing is published: the pending changes had no room for it, or it is pending, and the next publication
 /// carries it.
-fn carry_out<J: Naming, R: Wait + Drop, A: Allocator, L: Wait, S: Service>(
+fn carry_out<J: Naming, R: Wait + Drop, A: Allocator, S: Service>(
     order: &Order<'_>,
     registrar: &mut Registrar<J, R, A>,
-    latest: &mut Latest<'_, J, L>,
+    latest: &mut Latest<'_, J, R>,
     service: &mut S,
 ) -> Result<(), ObeyFault>
     ensures answers { (line : List ℕ) → ReadsOrder line (Ok order.now) → MatchResult result

@@ -1,13 +1,14 @@
 //! What the operator hands to the server: the options of its command line, a users file, orders.
 //!
 //! [`read_options`] takes a command line; [`load_users`] publishes the users of a file, all at once, by a
-//! `nmvs_directory::Registrar`, and [`obey_all`] carries out the [`Order`]s of a source as they come: of a change of the
+//! `nmvs_directory::Registrar`, and [`obey_all`] carries out the [`Order`]s of a [`Console`] as they come: of a change of the
 //! users it shows the notice by a [`Latest`] before it answers; what only the server can do it has done by a [`Service`].
 //!
 //! It serves nobody: what is served, and when commands are read, is `nmvs_server`'s.
 #![tactic(auto)]
 
 mod commands;
+mod console;
 mod faults;
 mod latest;
 mod options;
@@ -16,6 +17,7 @@ mod service;
 mod users;
 
 pub use commands::obey_all;
+pub use console::{Console, Sides};
 pub use faults::{LoadFault, ObeyFault};
 pub use latest::Latest;
 pub use options::{

@@ -1,8 +1,8 @@
 //! The program of the repository.
 #![tactic(auto)]
 
-use nmvs_operator::{OptionFault, read_options};
-use nmvs_server::{Console, Fault, serve_rehearsal, start};
+use nmvs_operator::{Console, OptionFault, read_options};
+use nmvs_server::{Fault, serve_rehearsal, start};
 use nmvs_stream::Device;
 use std::process::ExitCode;
 use std::rt::Env;

@@ -8,7 +8,6 @@
 #![tactic(auto)]
 
 mod clock;
-mod console;
 mod desk;
 #[cfg(test)]
 mod examples;
@@ -24,7 +23,6 @@ mod service;
 mod workers;
 
 pub use clock::{Clock, ProgramClock};
-pub use console::{Console, Sides};
 pub use desk::ClerkDesk;
 pub use fault::{Fault, Outcome};
 pub use host::Host;

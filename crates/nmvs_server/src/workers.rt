@@ -1,12 +1,12 @@
 //! The workers that serve connections, and the registrar beside them.
 use crate::host::Shared;
 use crate::service::Running;
-use crate::{ClerkDesk, Console, ProgramClock, Sides};
+use crate::{ClerkDesk, ProgramClock};
 use nmvs_connections::{Bounds, Hall, Listener, Station, admit, serve};
 use nmvs_desk::Clerk;
 use nmvs_directory::{Naming, Registrar};
 use nmvs_history::Histories;
-use nmvs_operator::{Latest, Options, obey_all};
+use nmvs_operator::{Console, Latest, Options, Sides, obey_all};
 use nmvs_stream::{Sink, deliver};
 use std::alloc::{AllocError, Global};
 use std::rt::{Clock, Files};
@@ -103,10 +103,9 @@ pub(crate) fn serve_connections<
         *ready = true;
         drop(ready);
         tell_port(*run.alloc, run.options, shared.listener, &mut console.sink);
-        let (commands, answers) = (&mut console.source, &mut console.sink);
-        let mut latest = Latest::new(run.rt, shared.latest);
+        let mut latest = Latest::new(&run.rt, shared.latest);
         let mut service = Running { shared };
-        obey_all(commands, answers, registrar, &mut latest, &mut service);
+        obey_all(console, registrar, &mut latest, &mut service);
         for worker in workers {
             back.push(worker.join(run.rt))?;
         }

@@ -1,11 +1,13 @@
 ghost use Rattle.std.specs.Prelude.{◌≡◌};
 ghost use Rattle.nmvs_directory.specs.Directory.{directory_book};
 
-use crate::{Deed, Latest, Service, ServiceFault, obey_all};
+use crate::{Console, Deed, Latest, Service, ServiceFault, obey_all};
 use nmvs_directory::{Directory, Look, Naming, Notice, Registrar};
 use nmvs_identifier::Name;
-use nmvs_stream::Device;
+use nmvs_stream::{Device, deliver};
 use std::alloc::Global;
+use std::io;
+use std::io::{ErrorKind, Write};
 use std::marker::Brand;
 use std::process::Abort;
 use std::sync::{Mutex, Wait};
@@ -24,7 +26,7 @@ const STOP: &[u8] =
     b"EXPORT full\nEXPORT trail.txt\nHELP\nSUSPEND ph9\nSTOP\nENROL ph9 PHARMACY PH-9 P9\n";
 
 const HELPED: &[u8] =
-    b"FAULT WRITE\nDONE\nENROL user role authorisation premises\nSUSPEND user\nEXPORT file\nSTOP\nHELP\nDONE\nFAULT JOURNAL\nDONE\n";
+    b"FAULT WRITE\nDONE\nENROL user role authorisation premises\nSUSPEND user\nEXPORT file\nSTOP\nHELP\nDONE\nFAULT JOURNAL\nDONE\n.";
 
 /// A server that keeps so many changes, and writes no file named `full`.
 #[derive(Drop)]
@@ -49,27 +51,47 @@ impl Service for Narrow {
     }
 }
 
-/// Carries out orders, which have these answers.
+/// Takes these bytes and no others. (It owns what it needs: in this toolchain a console may hold no references.)
+#[derive(Drop)]
+struct Awaited {
+    left: &'static [u8],
+}
+
+impl Write for Awaited {
+    fn write(&mut self, buffer: &[u8]) -> io::Result<usize> {
+        match self.left.strip_prefix(buffer) {
+            Some(left) => {
+                self.left = left;
+                Ok(buffer.len())
+            }
+            None => Err(io::Error::from(ErrorKind::InvalidData)),
+        }
+    }
+
+    fn flush(&mut self) -> io::Result<()> {
+        Ok(())
+    }
+}
+
+/// Carries out orders, which have these answers, a full stop behind them.
 fn has_answers<'r, J: Naming, R: Wait + Abort + Sync>(
     rt: &'r R,
-    alloc: Global,
     registrar: &mut Registrar<J, &'r R, Global>,
     latest: &Mutex<Notice<J>>,
     service: &mut Narrow,
-    commands: &[u8],
-    answers: &[u8],
+    commands: &'static [u8],
+    answers: &'static [u8],
 ) {
-    let mut taken = Vec::new(alloc);
-    let mut sink = Device::new(&mut taken);
+    let answers = Awaited { left: answers };
+    let mut console = Console::new(Device::new(commands), Device::new(answers));
     obey_all(
-        &mut Device::new(commands),
-        &mut sink,
+        &mut console,
         registrar,
-        &mut Latest::new(rt, latest),
+        &mut Latest::new(&rt, latest),
         service,
     );
-    drop(sink);
-    assert_eq!(rt; taken.as_slice(), answers);
+    // the sink takes it behind all answers alone
+    assert_eq!(rt; deliver(&mut console.sink, b"."), Ok(()));
 }
 
 fn commands_come<J: Naming, R: Wait + Abort + Sync>(rt: &R, alloc: Global, directory: Directory)
@@ -85,37 +107,20 @@ fn commands_come<J: Naming, R: Wait + Abort + Sync>(rt: &R, alloc: Global, direc
     };
     has_answers(
         rt,
-        alloc,
         &mut registrar,
         &latest,
         &mut service,
         ENROLMENT,
-        b"DONE\n",
+        b"DONE\n.",
     );
     window.learn(&*latest.lock(rt));
     assert!(rt; matches!(window.look(&ph9), Look::Known(_)));
-    let all = b"FAULT LONG\nFAULT WORD\nDONE\nFAULT UNENDED\n";
-    has_answers(
-        rt,
-        alloc,
-        &mut registrar,
-        &latest,
-        &mut service,
-        COMMANDS,
-        all,
-    );
+    let all = b"FAULT LONG\nFAULT WORD\nDONE\nFAULT UNENDED\n.";
+    has_answers(rt, &mut registrar, &latest, &mut service, COMMANDS, all);
     window.learn(&*latest.lock(rt));
     assert_eq!(rt; window.look(&ph9), Look::Suspended);
     assert!(rt; !service.stopped);
-    has_answers(
-        rt,
-        alloc,
-        &mut registrar,
-        &latest,
-        &mut service,
-        STOP,
-        HELPED,
-    );
+    has_answers(rt, &mut registrar, &latest, &mut service, STOP, HELPED);
     assert!(rt; service.stopped);
     registrar.close();
 }

@@ -1,9 +1,9 @@
 //! A run over connections.
 use crate::examples::NEW_YEAR;
-use crate::{Console, Outcome, run};
+use crate::{Outcome, run};
 use nmvs_connections::Listener;
 use nmvs_identifier::Moment;
-use nmvs_operator::Options;
+use nmvs_operator::{Console, Options};
 use nmvs_stream::Device;
 use std::io;
 use std::io::{ErrorKind, Read, Write};

@@ -29,7 +29,7 @@ returns-in-Ok-eq0-clause-all g c =
     let inv = c.loop.invariant in
     let gives = c.in-Ok-eq0.ensures.ok in
     let none : c.in-Ok-eq0.field-0 ≡ 0 = search rules in
-    let end = end_read (g.I.Source.told c.loop.source) (g.I.Source.told c.read.new.self) c.read.new.buffer c.in-Ok-eq0.field-0 none gives in
+    let end = end_read (g.T.Source.Source.told c.loop.console.source) (g.T.Source.Source.told c.read.new.self) c.read.new.buffer c.in-Ok-eq0.field-0 none gives in
     record { input = inv.0; read = end.0 ∙ inv.1; answered = inv.2; kept = inv.3; ends = inl end.1 }
 
 pub returns-then-obey_chunk-clause-stopped : goal.returns-then-obey_chunk-clause-stopped
@@ -38,9 +38,9 @@ returns-then-obey_chunk-clause-stopped g c =
     let gives = c.in-Ok.ensures.ok in
     let chunk = take c.in-Ok.count c.read.new.buffer in
     let first = office (register_of c.args.registrar.now) c.args.latest.now c.args.service.now in
-    let obeyed = c.if-obey_chunk.ensures first (g.W.Sink.taken c.args.sink.now) inv.0 inv.3 inv.2 in record {
+    let obeyed = c.if-obey_chunk.ensures first (g.T.Sink.Sink.taken c.args.console.now.sink) inv.0 inv.3 inv.2 in record {
       input = inv.0 ++ chunk;
-      read = gives.bytes ∙ ap (λ (t : List ℕ). t ++ chunk) inv.1 ∙ append_assoc (g.I.Source.told c.args.source.now).bytes inv.0 chunk;
+      read = gives.bytes ∙ ap (λ (t : List ℕ). t ++ chunk) inv.1 ∙ append_assoc (g.T.Source.Source.told c.args.console.now.source).bytes inv.0 chunk;
       stopped = obeyed;
     }
 
@@ -50,9 +50,9 @@ loop-preserved g c =
     let gives = c.in-Ok.ensures.ok in
     let chunk = take c.in-Ok.count c.read.new.buffer in
     let first = office (register_of c.args.registrar.now) c.args.latest.now c.args.service.now in
-    let obeyed = c.if-obey_chunk.ensures first (g.W.Sink.taken c.args.sink.now) inv.0 inv.3 inv.2 in (
+    let obeyed = c.if-obey_chunk.ensures first (g.T.Sink.Sink.taken c.args.console.now.sink) inv.0 inv.3 inv.2 in (
       inv.0 ++ chunk,
-      gives.bytes ∙ ap (λ (t : List ℕ). t ++ chunk) inv.1 ∙ append_assoc (g.I.Source.told c.args.source.now).bytes inv.0 chunk,
+      gives.bytes ∙ ap (λ (t : List ℕ). t ++ chunk) inv.1 ∙ append_assoc (g.T.Source.Source.told c.args.console.now.source).bytes inv.0 chunk,
       obeyed.1,
       obeyed.0,
       omega (arith, gives.reads, inv.4),

@@ -9,10 +9,10 @@ use Rattle.nmvs_operator.proofs.commands.obey_lines.Given as goal
 
 abbrev pub invariant-loop : goal.invariant-loop
 invariant-loop g l =
-    let told = g.I.Source.told in
-    let taken = g.W.Sink.taken in
-    (input : List ℕ) × ((told l.source).bytes ≡ (told l.fn.source).bytes ++ input)
-    × AnsweredOrders g.S.Service.does (office (register_of l.fn.registrar) l.fn.latest l.fn.service) (taken l.fn.sink) (office (register_of l.registrar) l.latest l.service) (taken l.sink) (input_lines input)
+    let told = g.T.Source.Source.told in
+    let taken = g.T.Sink.Sink.taken in
+    (input : List ℕ) × ((told l.console.source).bytes ≡ (told l.fn.console.source).bytes ++ input)
+    × AnsweredOrders g.S.Service.does (office (register_of l.fn.registrar) l.fn.latest l.fn.service) (taken l.fn.console.sink) (office (register_of l.registrar) l.latest l.service) (taken l.console.sink) (input_lines input)
     × (l.line ≡ kept_part (unfinished_line input))
-    × ((told l.source).reads ≡ (told l.fn.source).reads + l.counter)
+    × ((told l.console.source).reads ≡ (told l.fn.console.source).reads + l.counter)
     × (l.counter ≤ MOST_ORDER_READS)

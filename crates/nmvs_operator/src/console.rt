@@ -1,3 +1,4 @@
+//! The operator's side of a program.
 ghost use Rattle.std.specs.Prelude.{◌≡◌};
 
 use nmvs_stream::{Sink, Source};
@@ -15,7 +16,7 @@ impl<I: Source, W: Sink> Sides for (I, W) {
     type Sink = W;
 }
 
-/// Where the program reads and writes besides connections and files: one session, or the registrar's commands and their
+/// Where a program reads and writes besides connections and files: one session, or the operator's orders and their
 /// answers.
 #[derive(Drop)]
 pub struct Console<T: Sides> {
