@@ -36,9 +36,9 @@ const HELP: &str =
 /// It ends with the input, at a failed read, or once it has told the server to stop, and then it looks at no further
 /// line. What was begun at the end of the input, and has no LF, is answered and not carried out. A failed write changes
 /// nothing. It waits for the lock of the latest notice, and lets it go.
-pub fn obey_all<J: Naming, R: Wait + Drop, A: Allocator, T: Sides, S: Service>(
+pub fn obey_all<'r, J: Naming, R: Wait, A: Allocator, T: Sides, S: Service>(
     console: &mut Console<T>,
-    registrar: &mut Registrar<J, R, A>,
+    registrar: &mut Registrar<J, &'r R, A>,
     latest: &mut Latest<'_, J, R>,
     service: &mut S,
 )
@@ -59,9 +59,9 @@ pub fn obey_all<J: Naming, R: Wait + Drop, A: Allocator, T: Sides, S: Service>(
 
 /// Carries out and answers the orders that have their LF, and gives what is kept of what was begun behind them; or
 /// nothing, where the server was stopped.
-fn obey_lines<J: Naming, R: Wait + Drop, A: Allocator, T: Sides, S: Service>(
+fn obey_lines<'r, J: Naming, R: Wait, A: Allocator, T: Sides, S: Service>(
     console: &mut Console<T>,
-    registrar: &mut Registrar<J, R, A>,
+    registrar: &mut Registrar<J, &'r R, A>,
     latest: &mut Latest<'_, J, R>,
     service: &mut S,
 ) -> Option<PendingLine>
@@ -98,11 +98,11 @@ fn obey_lines<J: Naming, R: Wait + Drop, A: Allocator, T: Sides, S: Service>(
 }
 
 /// Goes on with the bytes of one read, behind the line that was begun, and tells whether the server was stopped.
-fn obey_chunk<J: Naming, R: Wait + Drop, A: Allocator, W: Sink, S: Service>(
+fn obey_chunk<'r, J: Naming, R: Wait, A: Allocator, W: Sink, S: Service>(
     line: &mut PendingLine,
     chunk: &[u8],
     sink: &mut W,
-    registrar: &mut Registrar<J, R, A>,
+    registrar: &mut Registrar<J, &'r R, A>,
     latest: &mut Latest<'_, J, R>,
     service: &mut S,
 ) -> bool
@@ -132,10 +132,10 @@ fn obey_chunk<J: Naming, R: Wait + Drop, A: Allocator, W: Sink, S: Service>(
 
 /// Carries out one order, of which as much is given as is kept of it, answers it, and tells whether it stopped the
 /// server. A failed write changes nothing.
-fn obey_line<J: Naming, R: Wait + Drop, A: Allocator, W: Sink, S: Service>(
+fn obey_line<'r, J: Naming, R: Wait, A: Allocator, W: Sink, S: Service>(
     line: &[u8],
     sink: &mut W,
-    registrar: &mut Registrar<J, R, A>,
+    registrar: &mut Registrar<J, &'r R, A>,
     latest: &mut Latest<'_, J, R>,
     service: &mut S,
 ) -> bool
@@ -170,9 +170,9 @@ fn obey_line<J: Naming, R: Wait + Drop, A: Allocator, W: Sink, S: Service>(
 /// The server did not do what it asks, and nothing is published; or memory is wanting for a change that the server
 /// keeps, and nothing is published: the pending changes had no room for it, or it is pending, and the next publication
 /// carries it.
-fn carry_out<J: Naming, R: Wait + Drop, A: Allocator, S: Service>(
+fn carry_out<'r, J: Naming, R: Wait, A: Allocator, S: Service>(
     order: &Order<'_>,
-    registrar: &mut Registrar<J, R, A>,
+    registrar: &mut Registrar<J, &'r R, A>,
     latest: &mut Latest<'_, J, R>,
     service: &mut S,
 ) -> Result<(), ObeyFault>

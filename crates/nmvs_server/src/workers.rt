@@ -103,7 +103,7 @@ pub(crate) fn serve_connections<
         *ready = true;
         drop(ready);
         tell_port(*run.alloc, run.options, shared.listener, &mut console.sink);
-        let mut latest = Latest::new(&run.rt, shared.latest);
+        let mut latest = Latest::new(run.rt, shared.latest);
         let mut service = Running { shared };
         obey_all(console, registrar, &mut latest, &mut service);
         for worker in workers {

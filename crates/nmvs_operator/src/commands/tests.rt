@@ -87,7 +87,7 @@ fn has_answers<'r, J: Naming, R: Wait + Abort + Sync>(
     obey_all(
         &mut console,
         registrar,
-        &mut Latest::new(&rt, latest),
+        &mut Latest::new(rt, latest),
         service,
     );
     // the sink takes it behind all answers alone
