@@ -1,6 +1,6 @@
--- The operator's orders go on, byte by byte and line by line.
-use Rattle.std.proofs.Common.{◌≡◌, ◌≢◌, ◌∙◌, ◌++◌, ◌∷◌, ◌+◌, ◌<◌, ◌==◌, ◌||◌, ◌⊎◌, [], inl, inr, refl, sym, ap, subst, arith, ℕ, true, false, List, length, take, drop, get_or, Option, Some, None, Result, Ok, Err}
-use Rattle.std.proofs.lemmas.List.{append-nil, append_assoc, take_more, take-append-drop, length-take}
+-- The operator's orders go on, line by line.
+use Rattle.std.proofs.Common.{◌≡◌, ◌≢◌, ◌∙◌, ◌++◌, ◌∷◌, ◌<◌, ◌==◌, ◌||◌, ◌⊎◌, [], inl, inr, refl, sym, ap, subst, arith, ℕ, true, false, List, length, take, Option, Some, None, Result, Ok, Err}
+use Rattle.std.proofs.lemmas.List.{append-nil, append_assoc, length-take}
 use Rattle.std.proofs.lemmas.Bool.{eqb-true}
 use Rattle.std.proofs.lemmas.List.Elements.{All-append, All-cons, All-nil}
 use Rattle.std.proofs.Math.Bool.{or-true}
@@ -8,6 +8,7 @@ use Rattle.nmvs_stream.specs.Source.{Told, Gives}
 use Rattle.nmvs_stream.specs.Sink.{Taken}
 use Rattle.nmvs_protocol.specs.InputLines.{lines_after, rest_after, input_lines, unfinished_line}
 use Rattle.nmvs_protocol.specs.Progress.{kept_part}
+use Rattle.nmvs_protocol.proofs.KeptLines.{kept_more}
 use Rattle.nmvs_protocol.proofs.LinesOfPieces.{lines_after-append, rest_after-append}
 use Rattle.nmvs_operator.specs.declared.faults.ObeyFault.{ObeyFault}
 use Rattle.nmvs_operator.specs.declared.faults.ObeyFault.TheVariants as obey
@@ -154,47 +155,38 @@ end_read old new buffer count none gives = (
   gives.ended ∙ ap (λ (n : ℕ). old.ended || (n == 0)) none ∙ or-true old.ended,
 )
 
--- the bytes of an input, and one byte more of a read
-pub byte_seen : (input chunk : List ℕ) (i : ℕ) → i < length chunk → input ++ take (i + 1) chunk ≡ (input ++ take i chunk) ++ get_or chunk i 0 ∷ []
-byte_seen input chunk i within =
-    ap (λ (t : List ℕ). input ++ t) (take_more chunk i 0 within) ∙ sym (append_assoc input (take i chunk) (get_or chunk i 0 ∷ []))
+-- of the lines of some bytes these were answered; the others, and what has no end, are in the rest of a read and in what
+-- was begun before it, of which so much is kept
+pub record OrdersAhead {S : Type 0} (does : Does S) (first : Office S) (start : Taken) (now : Office S) (sink : Taken) (line rest bytes : List ℕ) : Type 0 where
+  pub done : List (List ℕ)
+  pub begun : List ℕ
+  pub keeps : line ≡ kept_part begun
+  pub answered : AnsweredOrders does first start now sink done
+  pub ahead : done ++ lines_after begun rest ≡ input_lines bytes
+  pub left : rest_after begun rest ≡ unfinished_line bytes
 
--- a byte that is no LF goes on the line that was begun
-pub lines-byte : (input : List ℕ) (b : ℕ) → (b == 10) ≡ false → input_lines (input ++ b ∷ []) ≡ input_lines input
-unfolding lines_after
-lines-byte input b other =
-    let none : lines_after (unfinished_line input) (b ∷ []) ≡ [] = rw other refl in
-    lines_after-append [] input (b ∷ []) ∙ ap (λ (t : List (List ℕ)). input_lines input ++ t) none ∙ append-nil (input_lines input)
+-- before anything of a read is looked at
+pub ahead_first : {S : Type 0} {does : Does S} {first now : Office S} {start sink : Taken} {line : List ℕ} (input chunk : List ℕ)
+    → line ≡ kept_part (unfinished_line input) → AnsweredOrders does first start now sink (input_lines input)
+    → OrdersAhead does first start now sink line chunk (input ++ chunk)
+ahead_first input chunk is so_far = record {
+  done = input_lines input;
+  begun = unfinished_line input;
+  keeps = is;
+  answered = so_far;
+  ahead = sym (lines_after-append [] input chunk);
+  left = sym (rest_after-append [] input chunk);
+}
 
--- what is begun then has that byte more
-pub unfinished-byte : (input : List ℕ) (b : ℕ) → (b == 10) ≡ false → unfinished_line (input ++ b ∷ []) ≡ unfinished_line input ++ b ∷ []
-unfolding rest_after
-unfinished-byte input b other = rest_after-append [] input (b ∷ []) ∙ rw other refl
+-- the line that is next, with those behind it
+pub ahead_next : {S : Type 0} {does : Does S} {first now : Office S} {start sink : Taken} {line rest bytes : List ℕ} (p : OrdersAhead does first start now sink line rest bytes)
+    (x behind : List ℕ) → lines_after p.begun rest ≡ x ∷ input_lines behind → (p.done ++ x ∷ []) ++ input_lines behind ≡ input_lines bytes
+ahead_next p x behind cut =
+    append_assoc p.done (x ∷ []) (input_lines behind) ∙ ap (λ (t : List (List ℕ)). p.done ++ t) (sym cut) ∙ p.ahead
 
--- an LF ends it
-pub lines-last_lf : (input : List ℕ) → input_lines (input ++ 10 ∷ []) ≡ input_lines input ++ unfinished_line input ∷ []
-unfolding lines_after
-lines-last_lf input = lines_after-append [] input (10 ∷ [])
-
--- after an LF no line is begun
-pub unfinished-lf : (input : List ℕ) → unfinished_line (input ++ 10 ∷ []) ≡ []
-unfolding rest_after
-unfinished-lf input = rest_after-append [] input (10 ∷ [])
-
--- the lines of an input that goes on behind an LF
-pub lines-behind : (input more : List ℕ) → input_lines ((input ++ 10 ∷ []) ++ more) ≡ (input_lines input ++ unfinished_line input ∷ []) ++ lines_after [] more
-unfolding lines_after
-lines-behind input more =
-    lines_after-append [] (input ++ 10 ∷ []) more
-    ∙ (λ i. lines-last_lf input i ++ lines_after (unfinished-lf input i) more)
-
--- the bytes of an input, of which a read gave this byte and more behind it
-pub bytes_behind : (input chunk : List ℕ) (i : ℕ) → i < length chunk
-    → input ++ chunk ≡ ((input ++ take i chunk) ++ get_or chunk i 0 ∷ []) ++ drop (i + 1) chunk
-bytes_behind input chunk i within =
-    ap (λ (t : List ℕ). input ++ t) (sym (take-append-drop (i + 1) chunk))
-    ∙ sym (append_assoc input (take (i + 1) chunk) (drop (i + 1) chunk))
-    ∙ ap (λ (t : List ℕ). t ++ drop (i + 1) chunk) (byte_seen input chunk i within)
+-- what is kept of a line that was begun and goes on
+pub goes_on : {line : List ℕ} (begun tail : List ℕ) → line ≡ kept_part begun → kept_part (line ++ tail) ≡ kept_part (begun ++ tail)
+goes_on begun tail keeps = ap (λ (t : List ℕ). kept_part (t ++ tail)) keeps ∙ kept_more begun tail
 
 -- a text that was tried is the one that is to be told
 pub tells : {old new : Taken} {text wanted : List ℕ} → text ≡ wanted → Tries old new text → Tries old new wanted

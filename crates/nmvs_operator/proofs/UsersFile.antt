@@ -15,51 +15,16 @@ use Rattle.nmvs_operator.specs.Users.{change_of, says, AreCommands, AreLinesOf, 
 use Rattle.nmvs_operator.specs.declared.faults.LoadFault.{LoadFault}
 use Rattle.nmvs_operator.specs.declared.faults.LoadFault.TheVariants as load
 
--- no LF is among these bytes
-abbrev pub IsWhole : List ℕ → Type 0
-IsWhole line = (k : ℕ) → k < length line → slice_index line k ≢ 10
-
--- the lines of these bytes before the rest are those of commands, whose changes were added; the line of this number comes next
+-- these lines, which are those of commands whose changes were added, are the first of these bytes; the rest is behind
+-- them, and the line of this number comes next
 pub record Added (bytes rest : List ℕ) (number : ℕ) (before now : List Change) : Type 0 where
-  pub seen : List ℕ
-  pub these : bytes ≡ seen ++ rest
-  pub whole : unfinished_line seen ≡ []
-  pub count : number ≡ length (input_lines seen) + 1
+  pub seen : List (List ℕ)
+  pub lines : input_lines bytes ≡ seen ++ input_lines rest
+  pub left : unfinished_line bytes ≡ unfinished_line rest
+  pub count : number ≡ length seen + 1
   pub commands : List Command
-  pub file : AreLinesOf (input_lines seen) commands
+  pub file : AreLinesOf seen commands
   pub changes : Adds commands before now
-
--- the lines of bytes, of which the first end with LF, and the rest begins with a line
-lines_on : (seen line behind : List ℕ) → unfinished_line seen ≡ [] → IsWhole line → input_lines (seen ++ (line ++ 10 ∷ behind)) ≡ input_lines seen ++ line ∷ input_lines behind
-unfolding lines_after
-lines_on seen line behind whole apart =
-    let none = no_line [] line (λ j lt. ne_eqb (slice_index line j) 10 (apart j lt)) in
-    lines_after-append [] seen (line ++ 10 ∷ behind)
-    ∙ ap (λ (t : List (List ℕ)). input_lines seen ++ t) (
-    ap (λ (b : List ℕ). lines_after b (line ++ 10 ∷ behind)) whole
-    ∙ lines_after-append [] line (10 ∷ behind)
-    ∙ (λ i. none.0 i ++ lines_after (none.1 i) (10 ∷ behind))
-    )
-
--- and what is begun behind them
-rest_on : (seen line behind : List ℕ) → unfinished_line seen ≡ [] → IsWhole line → unfinished_line (seen ++ (line ++ 10 ∷ behind)) ≡ unfinished_line behind
-unfolding rest_after
-rest_on seen line behind whole apart =
-    let none = no_line [] line (λ j lt. ne_eqb (slice_index line j) 10 (apart j lt)) in
-    rest_after-append [] seen (line ++ 10 ∷ behind)
-    ∙ ap (λ (b : List ℕ). rest_after b (line ++ 10 ∷ behind)) whole
-    ∙ rest_after-append [] line (10 ∷ behind)
-    ∙ ap (λ (b : List ℕ). rest_after b (10 ∷ behind)) none.1
-
--- the same of a rest without LF
-ends_on : (seen rest : List ℕ) → unfinished_line seen ≡ [] → IsWhole rest → (input_lines (seen ++ rest) ≡ input_lines seen) × (unfinished_line (seen ++ rest) ≡ rest)
-ends_on seen rest whole apart =
-    let none = no_line [] rest (λ j lt. ne_eqb (slice_index rest j) 10 (apart j lt)) in (
-      lines_after-append [] seen rest
-          ∙ ap (λ (t : List (List ℕ)). input_lines seen ++ t) (ap (λ (b : List ℕ). lines_after b rest) whole ∙ none.0)
-          ∙ append-nil (input_lines seen),
-      rest_after-append [] seen rest ∙ ap (λ (b : List ℕ). rest_after b rest) whole ∙ none.1,
-    )
 
 -- lines of commands, and more of them
 lines_more : (xs ys : List (List ℕ)) (commands more : List Command) → AreLinesOf xs commands → AreLinesOf ys more → AreLinesOf (xs ++ ys) (commands ++ more)
@@ -86,47 +51,48 @@ no_lines = record { valid = All-nil _; these = refl }
 
 -- at the start nothing is added
 pub added_none : (bytes : List ℕ) (before : List Change) → Added bytes bytes 1 before before
-unfolding lines_after rest_after
 added_none bytes before =
-    record { seen = []; these = refl; whole = refl; count = refl; commands = []; file = no_lines; changes = sym (append-nil before) }
+    record { seen = []; lines = refl; left = refl; count = refl; commands = []; file = no_lines; changes = sym (append-nil before) }
+
+-- the lines of a file up to one that comes next
+lines_to : {bytes rest : List ℕ} {number : ℕ} {before now : List Change} (line behind : List ℕ) (p : Added bytes rest number before now)
+    → input_lines rest ≡ line ∷ input_lines behind → input_lines bytes ≡ p.seen ++ line ∷ input_lines behind
+lines_to line behind p cut = p.lines ∙ ap (λ (t : List (List ℕ)). p.seen ++ t) cut
 
 -- one line more
 pub added_more : {bytes rest : List ℕ} {number : ℕ} {before now : List Change} (line behind : List ℕ) (now' : List Change) (more : List Command)
-    → Added bytes rest number before now → rest ≡ line ++ 10 ∷ behind → IsWhole line → AreLinesOf (line ∷ []) more → Adds more now now'
-    → Added bytes behind (number + 1) before now'
-unfolding lines_after rest_after
-added_more {bytes} {rest} {number} {before} {now} line behind now' more p cut whole is adds =
-    let lines : input_lines (p.seen ++ (line ++ 10 ∷ [])) ≡ input_lines p.seen ++ line ∷ [] = lines_on p.seen line [] p.whole whole in
-    record {
-      seen = p.seen ++ (line ++ 10 ∷ []);
-      these = p.these
-          ∙ ap (λ (t : List ℕ). p.seen ++ t) (cut ∙ sym (append_assoc line (10 ∷ []) behind))
-          ∙ sym (append_assoc p.seen (line ++ 10 ∷ []) behind);
-      whole = rest_on p.seen line [] p.whole whole;
-      count = omega (arith, p.count, ap length lines, length-append (input_lines p.seen) (line ∷ []));
-      commands = p.commands ++ more;
-      file = rw lines (lines_more (input_lines p.seen) (line ∷ []) p.commands more p.file is);
-      changes = adds ∙ ap (λ (t : List Change). t ++ map change_of more) p.changes
-          ∙ append_assoc before (map change_of p.commands) (map change_of more)
-          ∙ ap (λ (t : List Change). before ++ t) (sym (map-append change_of p.commands more));
-    }
+    → Added bytes rest number before now → input_lines rest ≡ line ∷ input_lines behind → unfinished_line rest ≡ unfinished_line behind
+    → AreLinesOf (line ∷ []) more → Adds more now now' → Added bytes behind (number + 1) before now'
+added_more {before = before} line behind now' more p cut left is adds = record {
+  seen = p.seen ++ line ∷ [];
+  lines = lines_to line behind p cut ∙ sym (append_assoc p.seen (line ∷ []) (input_lines behind));
+  left = p.left ∙ left;
+  count = omega (arith, p.count, length-append p.seen (line ∷ []));
+  commands = p.commands ++ more;
+  file = lines_more p.seen (line ∷ []) p.commands more p.file is;
+  changes = adds ∙ ap (λ (t : List Change). t ++ map change_of more) p.changes
+      ∙ append_assoc before (map change_of p.commands) (map change_of more)
+      ∙ ap (λ (t : List Change). before ++ t) (sym (map-append change_of p.commands more));
+}
+
+-- behind the last LF there is nothing, or what has no end
+lines_all : {bytes rest : List ℕ} {number : ℕ} {before now : List Change} (p : Added bytes rest number before now)
+    → input_lines rest ≡ [] → input_lines bytes ≡ p.seen
+lines_all p none = p.lines ∙ ap (λ (t : List (List ℕ)). p.seen ++ t) none ∙ append-nil p.seen
 
 -- no byte is left
-pub adds_all : {bytes rest : List ℕ} {number : ℕ} {before now : List Change} → Added bytes rest number before now → rest ≡ [] → AddsAll bytes before now
-adds_all {bytes} {rest} p none =
-    let all : bytes ≡ p.seen = p.these ∙ ap (λ (t : List ℕ). p.seen ++ t) none ∙ append-nil p.seen in
-    record { commands = p.commands; file = rw all p.file; whole = rw all p.whole; changes = p.changes }
+pub adds_all : {bytes rest : List ℕ} {number : ℕ} {before now : List Change} → Added bytes rest number before now
+    → input_lines rest ≡ [] → unfinished_line rest ≡ rest → rest ≡ [] → AddsAll bytes before now
+adds_all p none whole empty =
+    record { commands = p.commands; file = rw (lines_all p none) p.file; whole = p.left ∙ whole ∙ empty; changes = p.changes }
 
 -- bytes without LF are left
-pub stops_short : {bytes rest : List ℕ} {number : ℕ} {before now : List Change} → Added bytes rest number before now → IsWhole rest → 0 < length rest
-    → StopsShort bytes number before now
-stops_short {bytes} {rest} p whole some =
-    let on = ends_on p.seen rest p.whole whole in
-    let lines : input_lines bytes ≡ input_lines p.seen = ap input_lines p.these ∙ on.0 in
-    let begun : unfinished_line bytes ≡ rest = ap unfinished_line p.these ∙ on.1 in
-    record {
+pub stops_short : {bytes rest : List ℕ} {number : ℕ} {before now : List Change} → Added bytes rest number before now
+    → input_lines rest ≡ [] → unfinished_line rest ≡ rest → 0 < length rest → StopsShort bytes number before now
+stops_short p none whole some =
+    let lines = lines_all p none in record {
       count = p.count ∙ ap (λ (t : List (List ℕ)). length t + 1) (sym lines);
-      some = rw begun some;
+      some = rw (p.left ∙ whole) some;
       commands = p.commands;
       file = rw lines p.file;
       changes = p.changes;
@@ -148,30 +114,25 @@ adds_first-adds {bytes} after p same = record {
   changes = same ∙ p.changes;
 }
 
--- the lines of a file up to one that comes next
-lines_to : {bytes rest : List ℕ} {number : ℕ} {before now : List Change} (line behind : List ℕ) (p : Added bytes rest number before now)
-    → rest ≡ line ++ 10 ∷ behind → IsWhole line → input_lines bytes ≡ input_lines p.seen ++ line ∷ input_lines behind
-lines_to line behind p cut whole = ap input_lines (p.these ∙ ap (λ (t : List ℕ). p.seen ++ t) cut) ∙ lines_on p.seen line behind p.whole whole
-
 -- what the fault of a line tells of the file
 pub tells : {bytes rest : List ℕ} {number : ℕ} {before now : List Change} (line behind : List ℕ) (after : List Change)
-    → Added bytes rest number before now → rest ≡ line ++ 10 ∷ behind → IsWhole line → after ≡ now → (f : LoadFault)
+    → Added bytes rest number before now → input_lines rest ≡ line ∷ input_lines behind → after ≡ now → (f : LoadFault)
     → (f ≡ load.Memory) ⊎ ((fault : CommandFault) × (f ≡ load.Line number fault) × (says line ≡ true) × (first_command_fault line ≡ Some fault))
     → Tells bytes before after f
-tells line behind after p cut whole same f auto = elim auto [
+tells line behind after p cut same f auto = elim auto [
   | inl e ↦ rw e (record {
-    first = input_lines p.seen;
+    first = p.seen;
     rest = line ∷ input_lines behind;
-    these = lines_to line behind p cut whole;
+    these = lines_to line behind p cut;
     commands = p.commands;
     file = p.file;
     changes = same ∙ p.changes;
   })
   | inr w ↦ rw w.1 (record {
-    first = input_lines p.seen;
+    first = p.seen;
     line = line;
     rest = input_lines behind;
-    these = lines_to line behind p cut whole;
+    these = lines_to line behind p cut;
     count = p.count;
     says_it = w.2;
     judged = w.3;

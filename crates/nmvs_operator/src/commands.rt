@@ -15,7 +15,7 @@ ghost use Rattle.nmvs_operator.specs.Progress.{AnsweredOrders, StoppedIn, Carrie
 
 use crate::{Console, Deed, Latest, ObeyFault, Order, Service, ServiceFault, Sides, read_order};
 use nmvs_directory::{Changes, Naming, Notice, Registrar};
-use nmvs_protocol::{Command, CommandFault, PendingLine};
+use nmvs_protocol::{Command, CommandFault, PendingLine, cut_line};
 use nmvs_stream::{Failed, Sink, Source, deliver};
 use std::alloc::{AllocError, Allocator};
 use std::sync::Wait;
@@ -117,16 +117,16 @@ fn obey_chunk<'r, J: Naming, R: Wait, A: Allocator, W: Sink, S: Service>(
         × AnsweredOrders S.does first start (office (register_of registrar.new) latest.new service.new) (W.taken sink.new)
         (input_lines (input ++ chunk.now))) }
 {
-    for byte in chunk {
-        if *byte != b'\n' {
-            line.extend(&[*byte]);
-            continue;
-        }
+    let mut rest = chunk;
+    while let Some((tail, behind)) = cut_line(rest) {
+        line.extend(tail);
         if obey_line(line.as_slice(), sink, registrar, latest, service) {
             return true;
         }
         line.clear();
+        rest = behind;
     }
+    line.extend(rest);
     false
 }
 

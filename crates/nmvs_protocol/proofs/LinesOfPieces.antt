@@ -1,6 +1,6 @@
 -- Lines of bytes that come in pieces.
-use Rattle.std.proofs.Common.{◌≡◌, ◌==◌, ℕ, true, false, List, [], ◌∷◌, ◌++◌, refl, sym, ap, ◌∙◌, cond, ◌<◌, zero, suc, length, take, drop, slice_index, add-one, arith}
-use Rattle.std.proofs.lemmas.List.{append-nil, append_assoc, drop-drop}
+use Rattle.std.proofs.Common.{◌≡◌, ◌==◌, ℕ, true, false, List, [], ◌∷◌, ◌++◌, refl, sym, ap, ◌∙◌, cond, ◌<◌, ◌+◌, zero, suc, length, take, drop, slice_index, add-one, arith}
+use Rattle.std.proofs.lemmas.List.{append-nil, append_assoc}
 use Rattle.std.proofs.lemmas.Bool.{false_from_ne_true}
 use Rattle.memchr.specs.Find.{Nowhere, NoneBefore, Passes, is_byte}
 use Rattle.nmvs_protocol.specs.InputLines.{lines_after, rest_after}
@@ -46,16 +46,14 @@ no_line begun (b ∷ bs) none =
     let later = no_line (begun ++ b ∷ []) bs (λ j lt. none (suc j) (omega arith)) in
     (rw no later.0, rw no (later.1 ∙ append_assoc begun (b ∷ []) bs))
 
--- the same of the place that a search for LF tells, with the bytes before it and those from it on
-pub found_line : (begun xs tail later : List ℕ) (k : ℕ) → tail ≡ take k xs → later ≡ drop k xs
-    → NoneBefore (Passes (is_byte 10) xs) 0 (length xs) k × Passes (is_byte 10) xs k
-    → (lines_after begun xs ≡ (begun ++ tail) ∷ lines_after [] (drop 1 later)) × (rest_after begun xs ≡ rest_after [] (drop 1 later))
-found_line begun xs tail later k front back h =
+-- the same of the place that a search for LF tells
+pub found_line : (begun xs : List ℕ) (k : ℕ) → NoneBefore (Passes (is_byte 10) xs) 0 (length xs) k × Passes (is_byte 10) xs k
+    → (lines_after begun xs ≡ (begun ++ take k xs) ∷ lines_after [] (drop (k + 1) xs)) × (rest_after begun xs ≡ rest_after [] (drop (k + 1) xs))
+found_line begun xs k h =
     let line = first_line begun xs k h.0.high (λ j lt. false_from_ne_true (slice_index xs j == 10) (h.0.before j (omega arith) lt)) h.1 in
-    let rest : drop (suc k) xs ≡ drop 1 later = ap (λ (n : ℕ). drop n xs) (sym (add-one k)) ∙ sym (drop-drop 1 k xs) ∙ ap (drop 1) (sym back) in
-    let before : take k xs ≡ tail = sym front in (
-      line.0 ∙ (λ i. (begun ++ before i) ∷ lines_after [] (rest i)),
-      line.1 ∙ ap (rest_after []) rest,
+    let next : drop (suc k) xs ≡ drop (k + 1) xs = ap (λ (n : ℕ). drop n xs) (sym (add-one k)) in (
+      line.0 ∙ ap (λ (t : List ℕ). (begun ++ take k xs) ∷ lines_after [] t) next,
+      line.1 ∙ ap (rest_after []) next,
     )
 
 -- the same where no LF is found

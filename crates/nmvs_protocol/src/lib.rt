@@ -30,7 +30,7 @@ pub use limits::{
     LONGEST_LINE, Limits, MOST_LINES, MOST_READS, NO_LIMITS, READ_SIZE, SESSION_LIMITS,
 };
 pub use lines::{line_text, read_line};
-pub use pending_line::PendingLine;
+pub use pending_line::{PendingLine, cut_line};
 pub use replies::reply_text;
 pub use serving::serve;
 pub use session::Session;

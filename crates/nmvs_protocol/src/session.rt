@@ -8,8 +8,7 @@ ghost use Rattle.nmvs_protocol.specs.Progress.{Fed, Tells, TellsWithheld, AreSho
 use crate::pending_line::PendingLine;
 use crate::replies::wording;
 use crate::withheld::WithheldAnswers;
-use crate::{Answer, Desk, End, Line, LineFault, Released, Withheld, read_line};
-use memchr::memchr;
+use crate::{Answer, Desk, End, Line, LineFault, Released, Withheld, cut_line, read_line};
 use nmvs_stream::{Failed, Sink, write_all};
 use std::alloc::Global;
 
@@ -59,15 +58,14 @@ impl Session {
     {
         withheld.clear();
         let mut rest = more;
-        while let Some(lf) = memchr(b'\n', rest) {
+        while let Some((tail, behind)) = cut_line(rest) {
             if self.answered >= self.limit {
                 return match tell(alloc, withheld, sink, desk) {
                     Some(end) => Some(end),
                     None => Some(End::Limit),
                 };
             }
-            let (tail, later) = rest.split_at(lf);
-            rest = &later[1..];
+            rest = behind;
             let (answer, quits) = self.take_tail(tail, desk);
             let is_long = answer.takes_memory();
             withheld.push(answer);
