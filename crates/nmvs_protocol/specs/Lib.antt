@@ -6,3 +6,4 @@ pub mod Wordings
 pub mod InputLines
 pub mod Session
 pub mod Progress
+pub mod Peers

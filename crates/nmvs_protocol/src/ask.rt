@@ -1,4 +1,7 @@
 //! What lines say.
+ghost use Rattle.std.specs.Prelude.{◌≡◌};
+ghost use Rattle.nmvs_protocol.specs.Peers.{user_of};
+
 use nmvs_identifier::{Name, ProductCode};
 use nmvs_rules::Question;
 use thiserror::Error;
@@ -19,6 +22,17 @@ pub enum Ask {
     Question(Name, Question),
     /// The report of a product code, for a user.
     Report(Name, ProductCode),
+}
+
+impl Ask {
+    /// The user that asks.
+    pub fn user(&self) -> &Name
+        ensures { result.now ≡ user_of self.now }
+    {
+        match self {
+            Ask::Question(user, _) | Ask::Report(user, _) => user,
+        }
+    }
 }
 
 /// Why a line cannot be read.

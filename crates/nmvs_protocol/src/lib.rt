@@ -11,6 +11,7 @@ mod fields;
 mod laws;
 mod limits;
 mod lines;
+mod peer;
 mod pending_line;
 mod replies;
 mod serving;
@@ -30,6 +31,7 @@ pub use limits::{
     LONGEST_LINE, Limits, MOST_LINES, MOST_READS, NO_LIMITS, READ_SIZE, SESSION_LIMITS,
 };
 pub use lines::{line_text, read_line};
+pub use peer::{Authorisations, NameOf, OwnDesk, Peer};
 pub use pending_line::{PendingLine, cut_line};
 pub use replies::reply_text;
 pub use serving::serve;

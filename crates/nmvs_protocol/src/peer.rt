@@ -1,0 +1,128 @@
+//! Whose lines a connection carries.
+ghost use Rattle.std.specs.Prelude.{◌≡◌, Result};
+ghost use Rattle.nmvs_identifier.specs.Name.{Name as TheName};
+ghost use Rattle.nmvs_protocol.specs.declared.answer.Turn.{Turn as TheTurn};
+ghost use Rattle.nmvs_protocol.specs.Peers.{OwnOrNobody, peer_named};
+
+use crate::{Answer, Ask, Desk, Released, Turn, Withheld, WithheldAnswers};
+use nmvs_identifier::Name;
+
+#[cfg(test)]
+mod tests;
+
+/// Who is at the other end of a connection.
+#[derive(Clone, Copy, Debug, PartialEq, Eq)]
+pub enum Peer {
+    /// Nobody knows: its lines are believed.
+    Anyone,
+    /// This user.
+    User(Name),
+    /// The users of this authorisation.
+    Authorisation(Name),
+}
+
+/// Whose name a certificate has.
+#[derive(Clone, Copy, Debug, PartialEq, Eq)]
+pub enum NameOf {
+    User,
+    Authorisation,
+}
+
+impl NameOf {
+    /// Who is at the other end, where its certificate has this name.
+    pub fn peer(self, name: Name) -> Peer
+        ensures { result ≡ peer_named self name }
+    {
+        match self {
+            NameOf::User => Peer::User(name),
+            NameOf::Authorisation => Peer::Authorisation(name),
+        }
+    }
+}
+
+/// What knows the authorisations of users.
+pub trait Authorisations {
+    // Whether what is in this state may tell this of a user, and be in that state then.
+    ghost tells: { Self → TheName → Result TheName TheTurn → Self → Type 0 };
+
+    /// The authorisation of a user, or why a line of the user is turned away. Nothing is asked.
+    fn authorisation_of(&mut self, user: &Name) -> Result<Name, Turn>
+        ensures { tells self.old user.now result self.new };
+}
+
+/// A desk for the lines of one peer at a time: a line that names another user is turned away, and the desk beneath is not
+/// asked.
+#[derive(Drop)]
+pub struct OwnDesk<D> {
+    desk: D,
+    peer: Peer,
+}
+
+impl<D> OwnDesk<D> {
+    /// A desk over this one, for the lines of anyone.
+    pub fn new(desk: D) -> OwnDesk<D>
+        ensures { result ≡ record { desk = desk; peer = Peer.Anyone } }
+    {
+        OwnDesk {
+            desk,
+            peer: Peer::Anyone,
+        }
+    }
+
+    /// Has the next lines be those of this peer.
+    pub fn turn_to(&mut self, peer: Peer)
+        ensures { self.new ≡ record self.old { peer = peer } }
+    {
+        self.peer = peer;
+    }
+
+    /// The desk beneath.
+    pub fn into_desk(self) -> D
+        ensures { result ≡ self.desk }
+    {
+        self.desk
+    }
+}
+
+/// Takes a line of the peer's own; the user of any other is nobody.
+fn take_own<'a, D: Desk<'a>>(desk: &mut D, name: &Name, own: &Name, ask: &Ask) -> Withheld<'a>
+    ensures { OwnOrNobody D.takes own.now name.now desk.old ask.now result desk.new }
+{
+    if name == own {
+        desk.take(ask)
+    } else {
+        Withheld::new(Answer::Turned(Turn::Nobody))
+    }
+}
+
+impl<'a, D: Desk<'a> + Authorisations> Desk<'a> for OwnDesk<D> {
+    ghost use Rattle.std.specs.Prelude.{◌≡◌};
+    ghost use Rattle.nmvs_protocol.specs.Peers.{TakesOf};
+
+    type Evidence = D::Evidence;
+
+    ghost takes = { λ old ask withheld new. (new.peer ≡ old.peer) × TakesOf D.takes D.tells old.peer old.desk ask withheld new.desk };
+
+    ghost releases = { λ own evidence withheld said. D.releases own.desk evidence withheld said };
+
+    ghost moves = { λ old new. (new.peer ≡ old.peer) × D.moves old.desk new.desk };
+
+    fn take(&mut self, ask: &Ask) -> Withheld<'a> {
+        let desk = &mut self.desk;
+        match &self.peer {
+            Peer::Anyone => desk.take(ask),
+            Peer::User(own) => take_own(desk, ask.user(), own, ask),
+            Peer::Authorisation(own) => match desk.authorisation_of(ask.user()) {
+                Ok(name) => take_own(desk, &name, own, ask),
+                Err(turn) => Withheld::new(Answer::Turned(turn)),
+            },
+        }
+    }
+
+    fn release<'h>(
+        &mut self,
+        withheld: &'h mut WithheldAnswers<'a>,
+    ) -> (Released<'h, 'a>, D::Evidence) {
+        self.desk.release(withheld)
+    }
+}

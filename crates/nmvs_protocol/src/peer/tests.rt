@@ -1,0 +1,88 @@
+use crate::{
+    Answer, Ask, Authorisations, Desk, Entries, Line, NameOf, OwnDesk, Peer, Released, Turn,
+    Withheld, WithheldAnswers, read_line,
+};
+use nmvs_identifier::Name;
+use nmvs_rules::Reply;
+use std::alloc::Global;
+use std::test::*;
+
+/// Finds no pack, and counts what it is asked. Users are of the authorisation of their own name, but for ph1b, who is of
+/// ph1, and ph9, who is suspended.
+#[derive(Clone, Copy)]
+struct Empty<'a> {
+    alloc: &'a Global,
+    asked: usize,
+}
+
+impl<'a> Desk<'a> for Empty<'a> {
+    ghost use Rattle.nmvs_protocol.specs.Session.{AtOnce, Stays};
+
+    type Evidence = ();
+
+    ghost takes = { λ _ _ _ _. Unit {0} };
+
+    ghost releases = { AtOnce };
+
+    ghost moves = { Stays };
+
+    fn take(&mut self, _ask: &Ask) -> Withheld<'a> {
+        self.asked = self.asked.saturating_add(1);
+        let none = Entries::new(Vec::new(self.alloc));
+        Withheld::new(Answer::Replied(Reply::NoPack, none))
+    }
+
+    fn release<'h>(&mut self, withheld: &'h mut WithheldAnswers<'a>) -> (Released<'h, 'a>, ()) {
+        (withheld.release(), ())
+    }
+}
+
+impl<'a> Authorisations for Empty<'a> {
+    ghost tells = { λ _ _ _ _. Unit {0} };
+
+    fn authorisation_of(&mut self, user: &Name) -> Result<Name, Turn> {
+        match user.text() {
+            "ph1b" => Name::read("ph1").or(Err(Turn::Nobody)),
+            "ph9" => Err(Turn::Suspended),
+            _ => Ok(*user),
+        }
+    }
+}
+
+/// What becomes of a line that comes from this peer.
+fn told(alloc: &Global, peer: Peer, line: &[u8]) -> &'static str {
+    let Ok(Line::Ask(ask)) = read_line(line) else {
+        return "unread";
+    };
+    let mut desk = OwnDesk::new(Empty { alloc, asked: 0 });
+    desk.turn_to(peer);
+    let withheld = desk.take(&ask);
+    match (withheld.answer(), desk.into_desk().asked) {
+        (Answer::Turned(Turn::Nobody), 0) => "nobody",
+        (Answer::Turned(Turn::Suspended), 0) => "suspended",
+        (Answer::Replied(..), 1) => "asked",
+        _ => "wrong",
+    }
+}
+
+#[test]
+fn another_users_line_is_turned_away(rt: HostRuntime) {
+    let alloc = rt.alloc();
+    let own = Name::read("ph1").expect(&rt, "a name");
+    for (line, by_user, by_authorisation) in [
+        (
+            b"ph1 STATUS 09506000134352 SN1".as_slice(),
+            "asked",
+            "asked",
+        ),
+        (b"ph1b REPORT 09506000134352", "nobody", "asked"),
+        (b"ph2 STATUS 09506000134352 SN1", "nobody", "nobody"),
+        (b"ph9 REPORT 09506000134352", "nobody", "suspended"),
+    ] {
+        assert!(rt;
+            told(&alloc, Peer::Anyone, line) == "asked"
+                && told(&alloc, NameOf::User.peer(own), line) == by_user
+                && told(&alloc, NameOf::Authorisation.peer(own), line) == by_authorisation
+        );
+    }
+}
