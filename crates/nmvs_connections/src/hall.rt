@@ -1,6 +1,7 @@
 //! What the threads of a server share.
 use crate::connection::Connection;
 use mio::{Events, Poll, Token, Waker};
+use nmvs_protocol::NameOf;
 use std::alloc::Global;
 use std::io;
 use std::net::Net;
@@ -23,6 +24,8 @@ pub struct Bounds {
     pub connections: usize,
     /// How long a connection may send nothing, where it may not for ever.
     pub idle: Option<Duration>,
+    /// Whose name the gateway's header has that each connection begins with, where it begins with one.
+    pub proxy: Option<NameOf>,
     /// How many sessions are served in which a line is served.
     pub sessions: u64,
 }
@@ -127,6 +130,11 @@ impl Hall {
     /// How long a connection may send nothing.
     pub(crate) fn idle(&self) -> Option<Duration> {
         self.bounds.idle
+    }
+
+    /// Whose name the header has that a connection begins with, where it does.
+    pub(crate) fn proxy(&self) -> Option<NameOf> {
+        self.bounds.proxy
     }
 
     /// Counts a connection that was accepted, where one more may be open.

@@ -1,11 +1,14 @@
 //! One connection of a worker.
 use crate::connection::{Connection, Moved};
 use crate::dialogue::Dialogue;
+use crate::greeting::{Greeting, read_greeting};
 use crate::hall::Hall;
 use crate::pieces::piece;
 use memchr::memchr;
 use mio::{Registry, Token};
-use nmvs_protocol::{Desk, NO_LIMITS, READ_SIZE, WithheldAnswers};
+use nmvs_protocol::{
+    Authorisations, Desk, NO_LIMITS, NameOf, OwnDesk, Peer, READ_SIZE, WithheldAnswers,
+};
 use std::alloc::{AllocError, Global};
 use std::io;
 use std::sync::Wait;
@@ -17,6 +20,9 @@ const SENDING: u64 = 30;
 /// For how many seconds a connection is read on behind the end of its session, and replies wait once the service is
 /// stopped (own).
 const PATIENCE: u64 = 1;
+
+/// For how many seconds the header of a gateway is waited for (own).
+const GREETING: u64 = 5;
 
 /// Room for the replies to what one read gives, but for a list or a report: the shortest line, that of no byte, has a
 /// reply of 13 (own).
@@ -60,6 +66,8 @@ impl<'a> Bench<'a> {
 /// How far a connection has come.
 #[derive(Clone, Copy, PartialEq, Eq)]
 enum Stage {
+    /// The header of a gateway is read, and nothing behind it.
+    Greeting(NameOf),
     /// Its lines are answered.
     Serving,
     /// No more lines are answered, and its replies are sent to the end.
@@ -85,7 +93,9 @@ pub(crate) enum After {
 pub(crate) struct Seat {
     connection: Connection,
     dialogue: Dialogue,
-    /// What was read, and is fed once the replies to what was fed are sent.
+    /// Whose lines it carries.
+    peer: Peer,
+    /// What was read, and is fed once the replies to what was fed are sent; first what has come of a header.
     unread: Vec<u8>,
     stage: Stage,
     /// Whether the peer is told that it sent nothing for too long.
@@ -102,12 +112,22 @@ pub(crate) struct Seat {
 }
 
 impl Seat {
-    pub(crate) fn new(alloc: Global, connection: Connection, now: Instant) -> Seat {
+    /// A connection, which begins with a gateway's header where that has this name.
+    pub(crate) fn new(
+        alloc: Global,
+        connection: Connection,
+        proxy: Option<NameOf>,
+        now: Instant,
+    ) -> Seat {
         Seat {
             connection,
             dialogue: Dialogue::new(alloc, NO_LIMITS.lines),
+            peer: Peer::Anyone,
             unread: Vec::new(alloc),
-            stage: Stage::Serving,
+            stage: match proxy {
+                Some(name_of) => Stage::Greeting(name_of),
+                None => Stage::Serving,
+            },
             was_idle: false,
             moved: now,
             hung_up: false,
@@ -138,12 +158,12 @@ impl Seat {
     }
 
     /// Sends what is unsent; then answers what one read gives, or takes a step towards the end.
-    pub(crate) fn take_turn<'a, R: Wait, D: Desk<'a>>(
+    pub(crate) fn take_turn<'a, R: Wait, D: Desk<'a> + Authorisations>(
         &mut self,
         rt: &R,
         hall: &Hall,
         bench: &mut Bench<'a>,
-        desk: &mut D,
+        desk: &mut OwnDesk<D>,
     ) -> After {
         if !self.dialogue.unsent().is_empty() {
             match self.send(bench.now) {
@@ -156,6 +176,8 @@ impl Seat {
             self.dialogue.exchange(&mut Vec::new(bench.alloc));
         }
         match self.stage {
+            Stage::Greeting(_) if self.stopped => After::Leaves,
+            Stage::Greeting(name_of) => self.greet(name_of, bench),
             Stage::Serving if self.unread.is_empty() && self.stopped => self.end(),
             Stage::Serving if self.unread.is_empty() => self.serve_read(rt, hall, bench, desk),
             Stage::Serving => self.serve_unread(bench, desk),
@@ -181,13 +203,37 @@ impl Seat {
         }
     }
 
+    /// Reads on in the header of a gateway, and no byte behind it. A connection that has none with a name is closed.
+    fn greet(&mut self, name_of: NameOf, bench: &mut Bench<'_>) -> After {
+        let missing = match read_greeting(self.unread.as_slice(), name_of) {
+            Greeting::Begun { missing } => missing.min(READ_SIZE),
+            Greeting::Whole(peer) => {
+                self.peer = peer;
+                self.unread.clear();
+                self.stage = Stage::Serving;
+                self.moved = bench.now;
+                return After::Goes;
+            }
+            Greeting::Broken => return self.end(),
+        };
+        let count = match self.connection.read(&mut bench.buffer[..missing]) {
+            Moved::Bytes(count) => count,
+            Moved::Blocked => return After::Waits,
+            Moved::Over => return After::Leaves,
+        };
+        match self.unread.extend_from_slice(&bench.buffer[..count]) {
+            Ok(()) => After::Goes,
+            Err(_) => After::Leaves,
+        }
+    }
+
     /// Reads once, and answers the first piece of that; the rest waits until the replies are sent.
-    fn serve_read<'a, R: Wait, D: Desk<'a>>(
+    fn serve_read<'a, R: Wait, D: Desk<'a> + Authorisations>(
         &mut self,
         rt: &R,
         hall: &Hall,
         bench: &mut Bench<'a>,
-        desk: &mut D,
+        desk: &mut OwnDesk<D>,
     ) -> After {
         let count = match self.connection.read(&mut bench.buffer) {
             Moved::Bytes(count) => count,
@@ -212,6 +258,7 @@ impl Seat {
         }
         self.dialogue.exchange(&mut bench.room);
         if self.dialogue.end().is_none() {
+            desk.turn_to(self.peer);
             self.dialogue
                 .feed(bench.alloc, &chunk[..cut], &mut bench.withheld, desk);
         }
@@ -219,13 +266,18 @@ impl Seat {
     }
 
     /// Answers the next piece of what was read.
-    fn serve_unread<'a, D: Desk<'a>>(&mut self, bench: &mut Bench<'a>, desk: &mut D) -> After {
+    fn serve_unread<'a, D: Desk<'a> + Authorisations>(
+        &mut self,
+        bench: &mut Bench<'a>,
+        desk: &mut OwnDesk<D>,
+    ) -> After {
         if bench.make_room().is_err() {
             return After::Leaves;
         }
         let cut = piece(self.unread.as_slice());
         self.dialogue.exchange(&mut bench.room);
         if self.dialogue.end().is_none() {
+            desk.turn_to(self.peer);
             self.dialogue.feed(
                 bench.alloc,
                 &self.unread.as_slice()[..cut],
@@ -290,8 +342,10 @@ impl Seat {
     /// What becomes of the connection by the time that has passed.
     pub(crate) fn grow_old(&mut self, now: Instant, idle: Option<Duration>) -> After {
         let age = now.duration_since(self.moved);
-        if self.stage == Stage::Draining {
-            return leaves_behind(age, PATIENCE);
+        match self.stage {
+            Stage::Draining => return leaves_behind(age, PATIENCE),
+            Stage::Greeting(_) => return leaves_behind(age, GREETING),
+            Stage::Serving | Stage::Ending => {}
         }
         if !self.dialogue.unsent().is_empty() {
             return leaves_behind(age, if self.stopped { PATIENCE } else { SENDING });

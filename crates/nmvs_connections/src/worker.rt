@@ -4,7 +4,7 @@ use crate::hall::{Hall, Station, WAKE};
 use crate::seat::{After, Bench, Seat};
 use mio::event::Event;
 use mio::{Events, Registry};
-use nmvs_protocol::Desk;
+use nmvs_protocol::{Authorisations, Desk, OwnDesk};
 use slab::Slab;
 use std::alloc::{AllocError, Global};
 use std::rt::Clock;
@@ -20,13 +20,13 @@ const TICK: u64 = 1;
 /// # Errors
 ///
 /// The system refused to wait, or the clock can't be read.
-pub fn serve<'a, R: Wait + Clock, D: Desk<'a>>(
+pub fn serve<'a, R: Wait + Clock, D: Desk<'a> + Authorisations>(
     rt: &R,
     alloc: Global,
     hall: &Hall,
     worker: usize,
     station: Station,
-    desk: &mut D,
+    desk: &mut OwnDesk<D>,
 ) -> io::Result<()> {
     let Station {
         mut poll,
@@ -131,7 +131,7 @@ impl Floor {
             let Some(connection) = hall.next_dealt(rt, worker) else {
                 return;
             };
-            if self.closing || self.admit(registry, connection, bench).is_err() {
+            if self.closing || self.admit(hall, registry, connection, bench).is_err() {
                 hall.leave(rt);
             }
         }
@@ -139,6 +139,7 @@ impl Floor {
 
     fn admit(
         &mut self,
+        hall: &Hall,
         registry: &Registry,
         connection: Connection,
         bench: &Bench<'_>,
@@ -146,7 +147,7 @@ impl Floor {
         let most = self.seats.len().saturating_add(1);
         self.turns.reserve(most)?;
         self.later.reserve(most)?;
-        let mut seat = Seat::new(bench.alloc, connection, bench.now);
+        let mut seat = Seat::new(bench.alloc, connection, hall.proxy(), bench.now);
         seat.register(registry, self.seats.vacant_key())?;
         match self.seats.insert(seat) {
             Ok(_key) => Ok(()),
@@ -180,12 +181,12 @@ impl Floor {
     }
 
     /// Gives each connection whose turn it is its turn.
-    fn take_turns<'a, R: Wait, D: Desk<'a>>(
+    fn take_turns<'a, R: Wait, D: Desk<'a> + Authorisations>(
         &mut self,
         rt: &R,
         hall: &Hall,
         bench: &mut Bench<'a>,
-        desk: &mut D,
+        desk: &mut OwnDesk<D>,
     ) {
         for index in 0..self.turns.len() {
             let Some(key) = self.turns.get(index).copied() else {

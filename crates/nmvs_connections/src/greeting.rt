@@ -1,0 +1,28 @@
+//! The header of a gateway, which a connection begins with.
+ghost use Rattle.nmvs_connections.specs.Greeting.{Greets};
+
+use nmvs_gateway::{Header, read_header};
+use nmvs_protocol::{NameOf, Peer};
+
+/// What the first bytes of a connection tell.
+pub(crate) enum Greeting {
+    /// There are so many bytes more of the header at least, and none behind it is to be read yet.
+    Begun { missing: usize },
+    /// They are a header, which tells who is at the other end.
+    Whole(Peer),
+    /// They are no header with the name of a verified certificate.
+    Broken,
+}
+
+/// What these bytes tell, which are all that was read of a connection.
+pub(crate) fn read_greeting(bytes: &[u8], name_of: NameOf) -> Greeting
+    ensures { Greets bytes.now name_of result }
+{
+    match read_header(bytes) {
+        Header::Begun { missing } => Greeting::Begun { missing },
+        Header::Whole { name, length } if length == bytes.len() => {
+            Greeting::Whole(name_of.peer(name))
+        }
+        Header::Whole { .. } | Header::Broken => Greeting::Broken,
+    }
+}
