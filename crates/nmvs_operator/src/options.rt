@@ -6,6 +6,7 @@ ghost use Rattle.nmvs_operator.specs.Options.{AreInRange};
 use clap::error::ErrorKind;
 use clap::{Arg, ArgAction, ArgMatches, Command, Error, value_parser};
 use nmvs_identifier::{LAST_MOMENT, Moment};
+use nmvs_protocol::NameOf;
 use std::alloc::{AllocError, Global};
 use std::net::IpAddr;
 
@@ -29,6 +30,9 @@ pub const MOST_IDLE: u64 = 86_400;
 
 /// The port that is listened on where the command line names none (own).
 pub const DEFAULT_PORT: u16 = 7161;
+
+/// The values of the option that says whose name a gateway's header has.
+const NAMES: &[&str] = &["user", "authorisation"];
 
 /// A command line that was taken (own).
 #[derive(Debug, Drop)]
@@ -55,6 +59,8 @@ pub struct Options {
     pub port: u16,
     /// Path of a Unix socket that is listened on.
     pub socket: Option<String>,
+    /// Whose name the gateway's header has that each connection begins with, where it begins with one.
+    pub proxy: Option<NameOf>,
     /// The moment of every line, in place of the clock's.
     pub moment: Option<Moment>,
     /// One session over standard input and output, in place of connections.
@@ -125,6 +131,7 @@ fn command<'a>(alloc: Global, default_port: &'a str) -> Result<Command<'a>, Allo
     let files = with_files(alloc, command)?;
     let counts = with_limits(alloc, with_counts(alloc, files)?)?;
     with_places(alloc, counts, default_port)?
+        .arg(proxy(alloc))?
         .arg(moment)?
         .arg(stdin)
 }
@@ -233,6 +240,18 @@ fn with_places<'a>(
     command.arg(bind)?.arg(port)?.arg(socket)
 }
 
+/// The option of a gateway's header.
+fn proxy<'a>(alloc: Global) -> Arg<'a> {
+    option(
+        alloc,
+        "proxy",
+        "WHOSE",
+        "Whose name the certificate has by which a gateway's header, PROXY version 2, begins each connection: a line of \
+        any other user is turned away",
+    )
+    .value_parser(NAMES)
+}
+
 fn option<'a>(alloc: Global, name: &'a str, value: &'a str, help: &'a str) -> Arg<'a> {
     Arg::new(alloc, name)
         .long(name)
@@ -263,6 +282,7 @@ fn options_of(alloc: Global, matches: &ArgMatches<'_>) -> Result<Options, Option
         bind: address_of(alloc, matches)?,
         port: within(alloc, matches, "port", 0, 65_535)? as u16,
         socket: path_of(alloc, matches, "socket")?,
+        proxy: proxy_of(alloc, matches)?,
         moment: moment_of(alloc, matches)?,
         stdin: matches.get_flag("stdin"),
     })
@@ -286,6 +306,16 @@ fn address_of(alloc: Global, matches: &ArgMatches<'_>) -> Result<IpAddr, OptionF
         alloc,
         "error: the value of '--bind <ADDRESS>' is no address\n",
     ))
+}
+
+/// Whose name a gateway's header has, where the option is given.
+fn proxy_of(alloc: Global, matches: &ArgMatches<'_>) -> Result<Option<NameOf>, OptionFault> {
+    match matches.get_str("proxy") {
+        None => Ok(None),
+        Some("user") => Ok(Some(NameOf::User)),
+        Some("authorisation") => Ok(Some(NameOf::Authorisation)),
+        Some(_) => Err(unreadable(alloc)),
+    }
 }
 
 /// The moment of every line, where the option is given.

@@ -1,11 +1,12 @@
 -- How the program's desk answers.
-use Rattle.std.proofs.Common.{◌≡◌, ◌≢◌, ◌∙◌, ◌∷◌, ◌++◌, ℕ, pos, true, List, [], refl, sym, ap, subst, inl, inr}
+use Rattle.std.proofs.Common.{◌≡◌, ◌≢◌, ◌∙◌, ◌∷◌, ◌++◌, ℕ, pos, true, List, [], Err, refl, sym, ap, subst, inl, inr}
 use Rattle.std.proofs.lemmas.Bool.Decides.{eqb_tells}
 use mathlib.Core.List.{IsPrefix}
 use Rattle.nmvs_history.proofs.Beginnings.{prefix_self}
 use Rattle.nmvs_identifier.specs.Name.{Name}
 use Rattle.nmvs_identifier.specs.ProductCode.{ProductCode}
 use Rattle.nmvs_directory.specs.Window.{Reads}
+use Rattle.nmvs_directory.specs.declared.change.Change.{Change}
 use Rattle.nmvs_directory.specs.declared.look.Look.TheVariants.{Known}
 use Rattle.nmvs_rules.specs.declared.actor.Actor.{Actor}
 use Rattle.nmvs_rules.specs.declared.entry.Entry.{Entry}
@@ -18,7 +19,7 @@ use Rattle.nmvs_desk.specs.declared.ask.Receipt.{Receipt}
 use Rattle.nmvs_desk.specs.declared.faults.AskFault.{AskFault}
 use Rattle.nmvs_desk.specs.declared.faults.AskFault.TheVariants as faults
 use Rattle.nmvs_record.specs.Report.{report_text}
-use Rattle.nmvs_server.specs.Desk.{DeskView, Receives, Reports, SeesShard, LeavesNone, IsInRole, IsTurned, may_put, turn_of_fault}
+use Rattle.nmvs_server.specs.Desk.{DeskView, NamesAuthorisation, Receives, Reports, SeesShard, LeavesNone, IsInRole, IsTurned, may_put, turn_of_fault}
 
 -- a question that the clerk put at the clock's moment
 pub received : (old new : DeskView) (user : Name) (q : Question) (moment : ℕ) (receipt : Receipt) (shown : List Entry)
@@ -103,3 +104,11 @@ told_report old mid new user actor shard sees sights receipts shards reads may s
       (actor, subst (λ l. Reads old.seen l user (Known actor)) (sym seen) reads, may),
       from,
     )
+
+-- a user of whom the directory tells no authorisation
+pub no_authorisation : (before after : List Change) (user : Name) (fault : AskFault) → TurnedAway before after user fault → fault ≢ faults.Memory
+    → NamesAuthorisation before after user (Err (turn_of_fault fault))
+no_authorisation before after user faults.Nobody reads looked = reads
+no_authorisation before after user faults.Suspended reads looked = reads
+no_authorisation before after user faults.Closed reads looked = reads
+no_authorisation before after user faults.Memory reads looked = absurd (looked refl)

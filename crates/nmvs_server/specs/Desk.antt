@@ -1,5 +1,5 @@
 -- The program's desk: what it may answer, and which receipt it then has (own).
-use Rattle.std.specs.Prelude.{◌≡◌, None, ◌≢◌, ◌+◌, ◌⊎◌, ℕ, ℤ, pos, ◌≤ℤ◌, Bool, true, false, List, [], ◌∷◌, ◌++◌}
+use Rattle.std.specs.Prelude.{◌≡◌, None, ◌≢◌, ◌+◌, ◌⊎◌, ℕ, ℤ, pos, ◌≤ℤ◌, Bool, true, false, List, [], ◌∷◌, ◌++◌, Result, Ok, Err}
 use mathlib.Core.List.{IsPrefix}
 use Rattle.nmvs_identifier.specs.Moment.{last_moment}
 use Rattle.nmvs_identifier.specs.Name.{Name}
@@ -141,3 +141,19 @@ Serves old ask said new =
 -- the desk takes a line with an answer that rests on no entry: it is told at once
 abbrev pub Takes : DeskView → Ask → Withheld → DeskView → Type 0
 Takes old ask withheld new = (withheld.basis ≡ None) × Serves old ask withheld.answer new
+
+-- the directory knows the user, and the authorisation is the user's; or a line of the user is turned away
+abbrev pub NamesAuthorisation : List Change → List Change → Name → Result Name Turn → Type 0
+NamesAuthorisation before after user (Ok authorisation) = (actor : Actor) × Reads before after user (looks.Known actor) × (authorisation ≡ actor.authorisation)
+NamesAuthorisation before after user (Err turns.Nobody) = Reads before after user looks.Nobody
+NamesAuthorisation before after user (Err turns.Suspended) = Reads before after user looks.Suspended
+NamesAuthorisation before after user (Err turns.Closed) = Reads before after user looks.Closed
+NamesAuthorisation before after user (Err _) = ⊥
+
+-- the clerk is told of the latest publication, and then the directory tells the user's authorisation. Nothing else changes
+pub record Tells (old : DeskView) (user : Name) (told : Result Name Turn) (new : DeskView) : Type 0 where
+  pub mid : DeskView
+  pub learns : IsPrefix old.seen mid.seen
+  pub still : mid ≡ record old { seen = mid.seen }
+  pub tells : NamesAuthorisation mid.seen new.seen user told
+  pub same : new ≡ record mid { seen = new.seen }

@@ -7,7 +7,9 @@ use nmvs_desk::{AskFault, Clerk, Reader, Repository, Served};
 use nmvs_directory::{Naming, Notice};
 use nmvs_history::Histories;
 use nmvs_identifier::{Moment, Name, ProductCode};
-use nmvs_protocol::{Answer, Ask, Desk, Entries, Released, Text, Turn, Withheld, WithheldAnswers};
+use nmvs_protocol::{
+    Answer, Ask, Authorisations, Desk, Entries, Released, Text, Turn, Withheld, WithheldAnswers,
+};
 use nmvs_record::report;
 use nmvs_rules::{Question, may_report};
 use nmvs_shard::Shard;
@@ -41,7 +43,8 @@ impl<'r, 'a, R: Wait, J: Naming, H: Histories, K: Clock> ClerkDesk<'r, 'a, R, J,
     ghost use Rattle.std.specs.Prelude.{◌≡◌, pos, IfOk, IfSome, IfNone, string_bytes};
     ghost use Rattle.nmvs_protocol.specs.declared.ask.Ask.TheVariants as asks;
     ghost use Rattle.nmvs_desk.specs.Placing.{shard_of};
-    ghost use Rattle.nmvs_server.specs.Desk.{KeepsClock, StopsAtClock, IsTold, AnswersTold, Reports, SeesShard};
+    ghost use mathlib.Core.List.{IsPrefix};
+    ghost use Rattle.nmvs_server.specs.Desk.{KeepsClock, NamesAuthorisation, StopsAtClock, IsTold, AnswersTold, Reports, SeesShard};
 
     /// A desk over a clerk of this repository, and the lock of the latest notice.
     ///
@@ -89,6 +92,26 @@ impl<'r, 'a, R: Wait, J: Naming, H: Histories, K: Clock> ClerkDesk<'r, 'a, R, J,
         let moment = Moment::new(self.clock.seconds())?;
         self.clerk.learn(&*self.latest.lock(self.rt));
         Some(moment)
+    }
+
+    /// Has the clerk learn the latest notice: it waits for the notice's lock, and lets it go.
+    fn learn_latest(&mut self)
+        ensures seen { IsPrefix self.old.seen self.new.seen }
+        ensures same { self.new ≡ record self.old { seen = self.new.seen } }
+    {
+        self.clerk.learn(&*self.latest.lock(self.rt));
+    }
+
+    /// The authorisation of a user by the directory, or why a line of the user is turned away.
+    #[tactic(auto, using(crate::proofs::DeskTurns::no_authorisation))]
+    fn look_up(&mut self, user: &Name) -> Result<Name, Turn>
+        ensures tells { NamesAuthorisation self.old.seen self.new.seen user.now result }
+        ensures same { self.new ≡ record self.old { seen = self.new.seen } }
+    {
+        match self.clerk.actor_of(user) {
+            Ok(actor) => Ok(actor.authorisation),
+            Err(fault) => Err(turn_by(fault)),
+        }
     }
 
     /// Puts a question by the clerk, at the moment that the clock gave.
@@ -200,5 +223,17 @@ impl<'r, 'a, R: Wait, J: Naming, H: Histories, K: Clock> Desk<'a>
 
     fn release<'h>(&mut self, withheld: &'h mut WithheldAnswers<'a>) -> (Released<'h, 'a>, ()) {
         (withheld.release(), ())
+    }
+}
+
+impl<'r, 'a, R: Wait, J: Naming, H: Histories, K: Clock> Authorisations
+    for ClerkDesk<'r, 'a, R, J, H, K> {
+    ghost use Rattle.nmvs_server.specs.Desk.{Tells};
+
+    ghost tells = { Tells };
+
+    fn authorisation_of(&mut self, user: &Name) -> Result<Name, Turn> {
+        self.learn_latest();
+        self.look_up(user)
     }
 }

@@ -7,6 +7,7 @@ use nmvs_desk::Clerk;
 use nmvs_directory::{Naming, Registrar};
 use nmvs_history::Histories;
 use nmvs_operator::{Console, Latest, Options, Sides, obey_all};
+use nmvs_protocol::OwnDesk;
 use nmvs_stream::{Sink, deliver};
 use std::alloc::{AllocError, Global};
 use std::rt::{Clock, Files};
@@ -26,6 +27,7 @@ pub(crate) fn bounds_of(options: &Options, workers: usize) -> Bounds {
             0 => None,
             seconds => Some(Duration::from_secs(seconds)),
         },
+        proxy: options.proxy,
         sessions: match options.sessions {
             0 => u64::MAX,
             sessions => sessions.saturating_mul(workers as u64),
@@ -46,11 +48,17 @@ fn work<'r, R: Wait + Clock, J: Naming, H: Histories>(
         return clerk;
     }
     let clock = ProgramClock::new(run.rt, run.options.moment);
-    let mut desk = ClerkDesk::new(run.rt, clerk, shared.repository, shared.latest, clock);
+    let mut desk = OwnDesk::new(ClerkDesk::new(
+        run.rt,
+        clerk,
+        shared.repository,
+        shared.latest,
+        clock,
+    ));
     if serve(run.rt, *run.alloc, shared.hall, number, station, &mut desk).is_err() {
         shared.hall.stop(run.rt);
     }
-    desk.into_clerk()
+    desk.into_desk().into_clerk()
 }
 
 /// Accepts connections for the workers. Where it can't go on it ends the service.

@@ -1,4 +1,5 @@
 use crate::{OptionFault, Options, read_options};
+use nmvs_protocol::NameOf;
 use std::alloc::Global;
 use std::net::{IpAddr, Ipv4Addr, Ipv6Addr};
 use std::process::Abort;
@@ -31,7 +32,7 @@ fn options_have_defaults(rt: HostRuntime) {
     );
     assert_eq!(rt; (options.connections, options.idle), (10_000, 300));
     assert_eq!(rt; options.bind, IpAddr::V4(Ipv4Addr::new(127, 0, 0, 1)));
-    assert!(rt; options.socket.is_none());
+    assert!(rt; options.socket.is_none() && options.proxy.is_none());
 }
 
 /// Whether a path is this one.
@@ -56,6 +57,7 @@ fn all_options_are_taken_together(rt: HostRuntime) {
         "--bind=::1",
         "--port=65535",
         "--socket=S",
+        "--proxy=authorisation",
         "--moment=4102444799",
         "--stdin",
     ];
@@ -71,6 +73,7 @@ fn all_options_are_taken_together(rt: HostRuntime) {
     assert_eq!(rt; (options.port, options.stdin), (65_535, true));
     assert_eq!(rt; (options.connections, options.idle), (100_000, 86_400));
     assert!(rt; is_path(&options.socket, "S"));
+    assert_eq!(rt; options.proxy, Some(NameOf::Authorisation));
     assert_eq!(rt;
         options.bind,
         IpAddr::V6(Ipv6Addr::new(0, 0, 0, 0, 0, 0, 0, 1))
@@ -92,6 +95,8 @@ fn other_lines_are_refused(rt: HostRuntime) {
         "--port=65536",
         "--moment=4102444800",
         "--moment=-1",
+        "--proxy",
+        "--proxy=users",
         "--none",
         "stray",
         "--users=G",

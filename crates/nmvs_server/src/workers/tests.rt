@@ -113,6 +113,7 @@ fn two_connections_are_served_at_once(rt: HostRuntime) -> Result<(), Fail> {
         bind: IpAddr::V4(Ipv4Addr::new(127, 0, 0, 1)),
         port: 0,
         socket: None,
+        proxy: None,
         moment: Moment::new(NEW_YEAR),
         stdin: false,
     };
