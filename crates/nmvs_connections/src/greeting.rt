@@ -5,6 +5,7 @@ use nmvs_gateway::{Header, read_header};
 use nmvs_protocol::{NameOf, Peer};
 
 /// What the first bytes of a connection tell.
+#[derive(Clone, Copy)]
 pub(crate) enum Greeting {
     /// There are so many bytes more of the header at least, and none behind it is to be read yet.
     Begun { missing: usize },
