@@ -4,3 +4,4 @@ pub mod ListLemmas
 pub mod GroupLemmas
 pub mod PackLemmas
 pub mod ReportRowLemmas
+pub mod ComparisonLemmas

@@ -4,3 +4,4 @@ pub mod Gathering
 pub mod Groups
 pub mod Packs
 pub mod Reports
+pub mod Comparison

@@ -2,11 +2,13 @@
 //!
 //! A [`Filter`] says which entries are wanted, as a definition over entries; [`write_list`] writes them, in order, in a
 //! [`Form`]. [`write_groups`] counts them by what they have in common, and [`write_packs`] tells how the packs of a batch
-//! stand. The trail is not copied: an answer is made from the shard of an import, a block at a time.
+//! stand. The trail is not copied: an answer is made from the shard of an import, a block at a time. [`first_departure`]
+//! says whether a later trail goes on from an earlier one.
 #![tactic(auto)]
 
 mod answer_fault;
 mod by;
+mod comparison;
 mod date;
 mod filter;
 mod form;
@@ -19,6 +21,7 @@ mod rows;
 
 pub use answer_fault::AnswerFault;
 pub use by::By;
+pub use comparison::{Departure, first_departure};
 pub use date::read_date;
 pub use filter::Filter;
 pub use form::Form;

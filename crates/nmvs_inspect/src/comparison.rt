@@ -1,0 +1,138 @@
+//! Two trails that are compared, product code by product code.
+ghost use Rattle.std.specs.Prelude.{◌≡◌, ◌↔◌, ◌<◌, cond, None, Some, true, length, slice_get, slice_index_or, IfOk, OnOk, IfSome};
+ghost use Rattle.nmvs_identifier.specs.ProductCode.{ProductCode};
+ghost use Rattle.nmvs_inspect.specs.Comparison as spec;
+
+use indexmap::IndexMap;
+use nmvs_identifier::ProductCode;
+use nmvs_record::{entry_line, entry_line_laws};
+use nmvs_rules::Entry;
+use std::alloc::{AllocError, Global};
+
+/// The first entry of an old trail that a new one does not have in its place.
+#[derive(Clone, Copy, Debug, PartialEq, Eq)]
+pub struct Departure {
+    /// Its number in the old trail, counted from 1.
+    pub number: usize,
+    pub entry: Entry,
+    /// What the new trail has there; None where no further entry of it is about the product code.
+    pub found: Option<Entry>,
+}
+
+/// A walk along the entries about each product code of a trail.
+#[derive(Drop)]
+pub(crate) struct Walk {
+    /// Where the first entry about each product code stands that was not passed.
+    heads: IndexMap<ProductCode, usize>,
+    /// Beside each entry, where the next one about its product code stands; the trail's length where none does.
+    nexts: Vec<usize>,
+}
+
+/// Where a new trail departs from an old one, if it does: it goes on from the old one where for each product code the
+/// entries of the old one about it are, in order, the first ones of the new one about it (own).
+///
+/// The entries about different product codes may stand in any order, as shards are exported one after another. It takes
+/// time and memory in proportion to the trails.
+///
+/// # Errors
+///
+/// There is no memory for the walk.
+pub fn first_departure(
+    alloc: Global,
+    old: &[Entry],
+    new: &[Entry],
+) -> Result<Option<Departure>, AllocError>
+    ensures goes_on { IfOk result (λ r. (r ≡ None) ↔ spec.GoesOn old.now new.now) }
+    ensures first { IfOk result (λ r. IfSome r (spec.Departs old.now new.now)) }
+{
+    let mut walk = walk_along(alloc, new)?;
+    for (place, entry) in old.iter().enumerate() {
+        let code = entry.put.question.code();
+        let at = head(&walk, &code);
+        let found = entry_at(new, at);
+        if !is_found(entry, &found) {
+            return Ok(Some(Departure {
+                number: place + 1,
+                entry: *entry,
+                found,
+            }));
+        }
+        pass(&mut walk, code, at)?;
+    }
+    Ok(None)
+}
+
+/// A walk before the first entry.
+fn walk_along(alloc: Global, entries: &[Entry]) -> Result<Walk, AllocError>
+    ensures { IfOk result (λ walk. spec.StandsBefore walk entries.now) }
+{
+    let mut heads = IndexMap::new(alloc);
+    let mut nexts = vec![in alloc; entries.len(); entries.len()]?;
+    let mut left = entries.len();
+    while left > 0 {
+        left -= 1;
+        let code = entries[left].put.question.code();
+        nexts[left] = put_head(&mut heads, code, left)?.unwrap_or(entries.len());
+    }
+    Ok(Walk { heads, nexts })
+}
+
+/// Gives a product code its head, and tells the one before.
+fn put_head(
+    heads: &mut IndexMap<ProductCode, usize>,
+    code: ProductCode,
+    head: usize,
+) -> Result<Option<usize>, AllocError>
+    ensures before { IfOk result (λ before. before ≡ spec.head heads.old code) }
+    ensures heads { OnOk result ((q : ProductCode) → spec.head heads.new q ≡ cond (spec.same_code code q) (Some head) (spec.head heads.old q)) }
+{
+    match heads.insert(code, head) {
+        Ok(before) => Ok(before),
+        Err(_) => Err(AllocError),
+    }
+}
+
+/// Where the walk stands with a product code.
+fn head(walk: &Walk, code: &ProductCode) -> usize
+    ensures { result ≡ spec.head_of walk.now code.now }
+{
+    walk.heads.get(code).copied().unwrap_or(walk.nexts.len())
+}
+
+/// The entry at a place.
+fn entry_at(entries: &[Entry], place: usize) -> Option<Entry>
+    ensures { result ≡ slice_get entries.now place }
+{
+    entries.get(place).copied()
+}
+
+/// Passes the entry about a product code at a place.
+fn pass(walk: &mut Walk, code: ProductCode, at: usize) -> Result<(), AllocError>
+    requires { at < length walk.old.nexts.items }
+    ensures heads { OnOk result ((q : ProductCode) → spec.head_of walk.new q
+        ≡ cond (spec.same_code code q) (slice_index_or walk.old.nexts.items at 0) (spec.head_of walk.old q)) }
+    ensures nexts { OnOk result (walk.new.nexts.items ≡ walk.old.nexts.items) }
+{
+    put_head(&mut walk.heads, code, walk.nexts[at])?;
+    Ok(())
+}
+
+/// Whether an entry is what was found.
+fn is_found(entry: &Entry, found: &Option<Entry>) -> bool
+    ensures { (result ≡ true) ↔ (found.now ≡ Some entry.now) }
+{
+    match found {
+        Some(found) => is_same(entry, found),
+        None => false,
+    }
+}
+
+/// Whether two entries are the same: they have the same line, as no others do.
+fn is_same(entry: &Entry, other: &Entry) -> bool
+    ensures { (result ≡ true) ↔ (other.now ≡ entry.now) }
+{
+    entry.tell_ranges();
+    other.tell_ranges();
+    entry_line_laws();
+    entry_line(entry).as_str() == entry_line(other).as_str()
+}
