@@ -43,7 +43,7 @@ pub(crate) fn tell<W: Sink>(
 }
 
 /// Writes a whole text.
-fn write<W: Sink>(text: &str, sink: &mut W) -> Result<(), AnswerFault>
+pub(crate) fn write<W: Sink>(text: &str, sink: &mut W) -> Result<(), AnswerFault>
     ensures { OnOk result (Delivers (W.taken sink.old) (W.taken sink.new) text.now) }
 {
     Ok(deliver(sink, text.as_bytes())?)
@@ -69,7 +69,10 @@ fn counts_text(alloc: Global, importer: &Importer<Shard<Global>>) -> Result<Stri
 }
 
 /// The product codes that the entries name, in order of first appearance.
-fn codes_named(alloc: Global, entries: &[Entry]) -> Result<IndexSet<ProductCode>, AllocError>
+pub(crate) fn codes_named(
+    alloc: Global,
+    entries: &[Entry],
+) -> Result<IndexSet<ProductCode>, AllocError>
     ensures { IfOk result (λ codes. codes.keys ≡ answers.codes_named entries.now) }
 {
     let mut codes = IndexSet::new(alloc);

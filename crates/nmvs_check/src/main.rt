@@ -2,6 +2,7 @@
 #![tactic(auto)]
 
 mod answers;
+mod comparison;
 mod filters;
 mod inputs;
 mod inspect_fault;
@@ -11,15 +12,16 @@ mod request;
 #[cfg(test)]
 mod tests;
 
+use crate::comparison::{CompareFault, compare};
 use crate::inputs::{InputFault, Inputs};
-use crate::inspect_fault::fault_text;
+use crate::inspect_fault::{InspectFault, fault_text};
 use crate::inspection::inspect;
-use crate::options::{OptionFault, Options, read_options};
+use crate::options::{Asked, OptionFault, Options, read_options};
 use nmvs_stream::Device;
 use std::alloc::{AllocError, Global};
 use std::process::ExitCode;
 use std::rt::Env;
-use std::{env, io};
+use std::{env, io, slice};
 
 /// The most reads of an export.
 const READS: u64 = 1_000_000_000;
@@ -30,7 +32,8 @@ fn main(rt: HostRuntime) -> ExitCode {
         return fail(&rt, "out of memory");
     };
     match read_options(alloc, &words) {
-        Ok(options) => check(&rt, alloc, &options),
+        Ok(Asked::Inspection(options)) => check(&rt, alloc, &options),
+        Ok(Asked::Comparison { old, new }) => compare_files(&rt, alloc, &old, &new),
         Err(OptionFault::Help(text)) => {
             let _ = print!(rt; "{text}");
             ExitCode::SUCCESS
@@ -51,13 +54,9 @@ fn words<R: Env + AllocGlobal>(rt: &R) -> io::Result<Vec<String>> {
 
 /// Checks the export that the options name, tells the answer or the fault, and gives the status.
 fn check(rt: &HostRuntime, alloc: Global, options: &Options) -> ExitCode {
-    let inputs = match Inputs::open(rt, alloc, &options.files) {
+    let inputs = match opened(rt, alloc, &options.files) {
         Ok(inputs) => inputs,
-        Err(InputFault::Closed(path)) => {
-            let _ = eprintln!(rt; "the file {path} cannot be opened");
-            return ExitCode::FAILURE;
-        }
-        Err(InputFault::Memory) => return fail(rt, "out of memory"),
+        Err(status) => return status,
     };
     let (mut source, mut sink) = (Device::new(inputs), Device::new(rt.stdout()));
     match inspect(alloc, &mut source, &mut sink, &options.request, READS) {
@@ -66,6 +65,53 @@ fn check(rt: &HostRuntime, alloc: Global, options: &Options) -> ExitCode {
             Ok(text) => fail(rt, &text),
             Err(AllocError) => fail(rt, "out of memory"),
         },
+    }
+}
+
+/// Compares the exports in two files, tells the answer or the fault, and gives the status.
+fn compare_files(rt: &HostRuntime, alloc: Global, old: &String, new: &String) -> ExitCode {
+    let before = match opened(rt, alloc, slice::from_ref(old)) {
+        Ok(inputs) => inputs,
+        Err(status) => return status,
+    };
+    let after = match opened(rt, alloc, slice::from_ref(new)) {
+        Ok(inputs) => inputs,
+        Err(status) => return status,
+    };
+    let (mut before, mut after) = (Device::new(before), Device::new(after));
+    let mut sink = Device::new(rt.stdout());
+    match compare(alloc, &mut before, &mut after, &mut sink, READS) {
+        Ok(true) => ExitCode::SUCCESS,
+        Ok(false) => ExitCode::FAILURE,
+        Err(CompareFault::Old(finding)) => fail_of(rt, alloc, old, &InspectFault::Found(finding)),
+        Err(CompareFault::New(finding)) => fail_of(rt, alloc, new, &InspectFault::Found(finding)),
+        Err(CompareFault::Answer(fault)) => {
+            let _ = eprintln!(rt; "{fault}");
+            ExitCode::FAILURE
+        }
+    }
+}
+
+/// Opens the files of an export. Where one cannot be opened it tells so, and gives the status.
+fn opened(rt: &HostRuntime, alloc: Global, paths: &[String]) -> Result<Inputs, ExitCode> {
+    match Inputs::open(rt, alloc, paths) {
+        Ok(inputs) => Ok(inputs),
+        Err(InputFault::Closed(path)) => {
+            let _ = eprintln!(rt; "the file {path} cannot be opened");
+            Err(ExitCode::FAILURE)
+        }
+        Err(InputFault::Memory) => Err(fail(rt, "out of memory")),
+    }
+}
+
+/// Tells a fault of the export in a file, and gives the status that it makes.
+fn fail_of(rt: &HostRuntime, alloc: Global, path: &str, fault: &InspectFault) -> ExitCode {
+    match fault_text(alloc, fault) {
+        Ok(text) => {
+            let _ = eprintln!(rt; "{path}: {text}");
+            ExitCode::FAILURE
+        }
+        Err(AllocError) => fail(rt, "out of memory"),
     }
 }
 

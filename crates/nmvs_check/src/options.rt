@@ -7,7 +7,21 @@ use nmvs_identifier::{Pack, ProductCode, Serial};
 use nmvs_inspect::Form;
 use std::alloc::{AllocError, Global};
 
-/// A command line that was taken (own).
+/// What a command line asks for (own).
+#[derive(Drop)]
+pub(crate) enum Asked {
+    /// To inspect an export.
+    Inspection(Options),
+    /// To compare two exports.
+    Comparison {
+        /// The path of the old one; `-` is standard input.
+        old: String,
+        /// That of the new one.
+        new: String,
+    },
+}
+
+/// A command line that was taken, and asks for an inspection (own).
 #[derive(Drop)]
 pub(crate) struct Options {
     /// Paths of the files that are the export, one after another; `-` is standard input, as where there is none.
@@ -53,17 +67,22 @@ const COUNT: &str =
 const PACKS: &str =
     "Lists the packs that were uploaded in a batch: the status of each, since when, and by whom";
 
-/// The options of the words after the program's own name.
+const COMPARE: &str =
+    "Tells whether a new export goes on from an old one: for each product code the lines of the old one about it are, in \
+    order, the first lines of the new one about it. If so it tells GOES ON and the status is 0; else it tells the first \
+    line of the old one that the new one does not have in its place, with what it has there, and the status is 1";
+
+/// What the words after the program's own name ask for.
 ///
 /// # Errors
 ///
 /// The words are no command line, or ask for help.
-pub(crate) fn read_options(alloc: Global, words: &[String]) -> Result<Options, OptionFault> {
+pub(crate) fn read_options(alloc: Global, words: &[String]) -> Result<Asked, OptionFault> {
     match command(alloc)?
         .no_binary_name(true)
         .try_get_matches_from(words)
     {
-        Ok(matches) => options_of(alloc, &matches),
+        Ok(matches) => asked_of(alloc, &matches),
         Err(error) => Err(fault_of(alloc, &error)),
     }
 }
@@ -89,7 +108,8 @@ fn command<'a>(alloc: Global) -> Result<Command<'a>, AllocError> {
         .subcommand(list(alloc)?)?
         .subcommand(count(alloc)?)?
         .subcommand(packs(alloc)?)?
-        .subcommand(reports(alloc)?)
+        .subcommand(reports(alloc)?)?
+        .subcommand(compare(alloc)?)
 }
 
 fn files<'a>(alloc: Global) -> Arg<'a> {
@@ -151,6 +171,39 @@ fn reports<'a>(alloc: Global) -> Result<Command<'a>, AllocError> {
         .arg(all)?
         .arg(files(alloc))?;
     with_form(alloc, command)
+}
+
+fn compare<'a>(alloc: Global) -> Result<Command<'a>, AllocError> {
+    let old = Arg::new(alloc, "old")
+        .value_name("OLD")
+        .required(true)
+        .help("The file of the old export; standard input where it is -");
+    let new = Arg::new(alloc, "new")
+        .value_name("NEW")
+        .required(true)
+        .help("The file of the new export; standard input where it is -");
+    Command::new(alloc, "compare")
+        .about(COMPARE)
+        .arg(old)?
+        .arg(new)
+}
+
+fn asked_of(alloc: Global, matches: &ArgMatches<'_>) -> Result<Asked, OptionFault> {
+    let Some(("compare", asked)) = matches.subcommand() else {
+        return Ok(Asked::Inspection(options_of(alloc, matches)?));
+    };
+    let (Some(old), Some(new)) = (asked.get_str("old"), asked.get_str("new")) else {
+        let wanted = "error: two exports are wanted\n";
+        return Err(OptionFault::Refused(String::from_str(alloc, wanted)?));
+    };
+    if old == "-" && new == "-" {
+        let wanted = "error: only one of two exports can be standard input\n";
+        return Err(OptionFault::Refused(String::from_str(alloc, wanted)?));
+    }
+    Ok(Asked::Comparison {
+        old: String::from_str(alloc, old)?,
+        new: String::from_str(alloc, new)?,
+    })
 }
 
 fn options_of(alloc: Global, matches: &ArgMatches<'_>) -> Result<Options, OptionFault> {

@@ -1,6 +1,7 @@
+use crate::comparison::{CompareFault, compare};
 use crate::inspect_fault::fault_text;
 use crate::inspection::inspect;
-use crate::options::{OptionFault, Options, read_options};
+use crate::options::{Asked, OptionFault, read_options};
 use crate::request::Request;
 use nmvs_identifier::{Batch, Pack, ProductCode, Serial};
 use nmvs_inspect::{By, Filter, Form};
@@ -209,8 +210,71 @@ fn entries_are_counted_and_told_as_rows(rt: HostRuntime) -> Result<(), Fail> {
     Ok(())
 }
 
+/// What is told of these bytes as an old export and as a new one, or why nothing is.
+fn compared(
+    alloc: Global,
+    old: &str,
+    new: &str,
+) -> Result<(Result<bool, CompareFault>, String), AllocError> {
+    let mut bytes = Vec::new(alloc);
+    let (mut before, mut after) = (Device::new(old.as_bytes()), Device::new(new.as_bytes()));
+    let mut sink = Device::new(&mut bytes);
+    let answer = compare(alloc, &mut before, &mut after, &mut sink, 1_000);
+    drop(sink);
+    Ok((answer, String::from_utf8_lossy(alloc, &bytes)?))
+}
+
+/// The first alert on another product code.
+const OTHER: &str =
+    r#"[2,1767225600,"ph1","PHARMACY","PH-1","P1",["VERIFY","04012345678901","SN1"],["ALERT","UNKNOWN","FLAGGED",1]]
+"#;
+
+/// The alert in the worked example.
+const ALERT: &str =
+    r#"[2,1767225600,"ph1","PHARMACY","PH-1","P1",["VERIFY","09506000134352","SN1"],["ALERT","RECALLED","UNFLAGGED",1]]
+"#;
+
+#[test]
+fn exports_are_compared_product_code_by_product_code(rt: HostRuntime) -> Result<(), Fail> {
+    let alloc = rt.alloc();
+    let Some((front, _)) = EXPORT.split_once("[2,1767225600,\"au1\"") else {
+        panic!(rt; "the export has no status");
+    };
+    // Lines about another product code may come between, before or behind.
+    let old = format!(in alloc; "{front}{OTHER}")?;
+    let new = format!(in alloc; "{OTHER}{EXPORT}")?;
+    let (answer, text) = compared(alloc, &old, &new)?;
+    assert_eq!(rt; text.as_str(), "GOES ON PRODUCTS 2 ENTRIES 6 MORE 1\n");
+    assert!(rt; answer == Ok(true));
+    // The last line of the old export is not in the new one.
+    let (answer, text) = compared(alloc, &new, &old)?;
+    assert!(rt; text.starts_with("DEPARTS 7 09506000134352\nOLD [2,1767225600,\"au1\""));
+    assert!(rt; text.ends_with("\"280200\"]]\nENDS\n"));
+    assert!(rt; answer == Ok(false));
+    let (answer, text) = compared(alloc, &old, EXPORT)?;
+    let lost = format!(in alloc; "DEPARTS 6 04012345678901\nOLD {OTHER}ENDS\n")?;
+    assert_eq!(rt; text.as_str(), lost.as_str());
+    assert!(rt; answer == Ok(false));
+    // A question on which no later reply rests is left out.
+    let Some((before, behind)) = EXPORT.split_once(ALERT) else {
+        panic!(rt; "the export has no alert");
+    };
+    let (answer, text) = compared(alloc, EXPORT, &format!(in alloc; "{before}{behind}")?)?;
+    let lost = format!(in alloc; "DEPARTS 5 09506000134352\nOLD {ALERT}NEW {behind}")?;
+    assert_eq!(rt; text.as_str(), lost.as_str());
+    assert!(rt; answer == Ok(false));
+    // Nothing is told where one of them is not lawful.
+    let (answer, text) = compared(alloc, "\n", EXPORT)?;
+    assert_eq!(rt; text.as_str(), "");
+    assert!(rt; matches!(answer, Err(CompareFault::Old(_))));
+    let (answer, text) = compared(alloc, EXPORT, "\n")?;
+    assert_eq!(rt; text.as_str(), "");
+    assert!(rt; matches!(answer, Err(CompareFault::New(_))));
+    Ok(())
+}
+
 /// The options of a line of words, which single spaces part.
-fn options(alloc: Global, line: &str) -> Result<Result<Options, OptionFault>, AllocError> {
+fn options(alloc: Global, line: &str) -> Result<Result<Asked, OptionFault>, AllocError> {
     let mut words = Vec::new(alloc);
     for word in line.split(' ') {
         words.push(String::from_str(alloc, word)?)?;
@@ -241,7 +305,7 @@ fn a_command_line_is_taken(rt: HostRuntime) -> Result<(), Fail> {
         ("--report 09506000134352 export", Request::Report(code), 1),
         ("export --audit 09506000134352 SN1", Request::Audit(pack), 1),
     ] {
-        let Ok(options) = options(rt.alloc(), line)? else {
+        let Ok(Asked::Inspection(options)) = options(rt.alloc(), line)? else {
             panic!(rt; "{line} is refused");
         };
         assert!(rt; is_same(&options.request, &request), "{line}");
@@ -266,6 +330,8 @@ fn a_command_line_is_refused(rt: HostRuntime) -> Result<(), Fail> {
         "--audit 09506000134352 SN#1",
         "--report 09506000134352 --audit 09506000134352 SN1",
         "--other",
+        "compare export",
+        "compare - -",
     ] {
         let refused = matches!(options(rt.alloc(), line)?, Err(OptionFault::Refused(_)));
         assert!(rt; refused, "{line}");

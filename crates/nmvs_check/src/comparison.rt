@@ -1,0 +1,114 @@
+//! The comparison of two exports.
+ghost use Rattle.std.specs.Prelude.{◌≡◌, false, IfOk, IfErr, string_bytes};
+ghost use Rattle.nmvs_record.specs.declared.finding.Finding.{Finding as AFinding};
+ghost use Rattle.nmvs_record.specs.Lines.{Imported};
+ghost use Rattle.nmvs_record.specs.Import.{Imports, FailsToImport};
+ghost use Rattle.nmvs_check.specs.Comparison as spec;
+
+use crate::answers::{codes_named, write};
+use nmvs_inspect::{AnswerFault, Departure, first_departure};
+use nmvs_record::{Finding, entry_line, examine};
+use nmvs_rules::Entry;
+use nmvs_shard::Shard;
+use nmvs_stream::{Sink, Source};
+use std::alloc::{AllocError, Global};
+
+/// Why nothing is told of two exports.
+#[derive(Clone, Copy, Debug, PartialEq, Eq)]
+pub(crate) enum CompareFault {
+    /// The old one is no export of a lawful trail, or was not read to its end.
+    Old(Finding),
+    /// The old one is lawful, and the new one is not, or was not read to its end.
+    New(Finding),
+    /// Both are lawful, and the answer was not told to its end.
+    Answer(AnswerFault),
+}
+
+/// Reads two exports to their ends, tells whether the new one goes on from the old one, and gives the same.
+///
+/// # Errors
+///
+/// What was found where one is no export of a lawful trail, or so many reads did not reach its end, and then nothing is
+/// told; out of memory; or the answer cannot be written.
+pub(crate) fn compare<R: Source, W: Sink>(
+    alloc: Global,
+    old: &mut R,
+    new: &mut R,
+    sink: &mut W,
+    reads: u64,
+) -> Result<bool, CompareFault>
+    requires old_open { (R.told old.old).ended ≡ false }
+    requires new_open { (R.told new.old).ended ≡ false }
+    ensures told { IfOk result (λ goes_on. (before : Imported) × Imports (R.told old.old) (R.told old.new) before
+        × (after : Imported) × Imports (R.told new.old) (R.told new.new) after
+        × spec.Tells before.trail after.trail goes_on (W.taken sink.old) (W.taken sink.new)) }
+    ensures old_found { IfErr result (λ fault. (finding : AFinding) → fault ≡ CompareFault.Old finding
+        → FailsToImport (R.told old.old) (R.told old.new) reads finding × (W.taken sink.new ≡ W.taken sink.old)) }
+    ensures new_found { IfErr result (λ fault. (finding : AFinding) → fault ≡ CompareFault.New finding
+        → FailsToImport (R.told new.old) (R.told new.new) reads finding × (W.taken sink.new ≡ W.taken sink.old)) }
+{
+    let before = match examine(alloc, alloc, old, reads) {
+        Ok(before) => before,
+        Err(finding) => return Err(CompareFault::Old(finding)),
+    };
+    let after = match examine(alloc, alloc, new, reads) {
+        Ok(after) => after,
+        Err(finding) => return Err(CompareFault::New(finding)),
+    };
+    match tell(alloc, before.shard(), after.shard(), sink) {
+        Ok(goes_on) => Ok(goes_on),
+        Err(fault) => Err(CompareFault::Answer(fault)),
+    }
+}
+
+/// Tells whether the new trail goes on from the old one, and gives the same.
+fn tell<W: Sink>(
+    alloc: Global,
+    old: &Shard<Global>,
+    new: &Shard<Global>,
+    sink: &mut W,
+) -> Result<bool, AnswerFault>
+    ensures { IfOk result (λ goes_on. spec.Tells old.now new.now goes_on (W.taken sink.old) (W.taken sink.new)) }
+{
+    match first_departure(alloc, old.trail(), new.trail())? {
+        None => {
+            write(&on_text(alloc, old.trail(), new.trail())?, sink)?;
+            Ok(true)
+        }
+        Some(departure) => {
+            write(&departure_text(alloc, &departure)?, sink)?;
+            Ok(false)
+        }
+    }
+}
+
+/// What is told where a trail goes on: how many product codes the old one names, how many entries it has, and how many
+/// more the new one has.
+fn on_text(alloc: Global, old: &[Entry], new: &[Entry]) -> Result<String, AllocError>
+    ensures { IfOk result (λ text. string_bytes text ≡ spec.on_text old.now new.now) }
+{
+    let products = codes_named(alloc, old)?.len();
+    let entries = old.len();
+    let more = new.len().saturating_sub(entries);
+    format!(in alloc; "GOES ON PRODUCTS {products} ENTRIES {entries} MORE {more}\n")
+}
+
+/// What is told where a trail departs: the number and the product code of the old line, that line, and what the new export
+/// has in its place.
+fn departure_text(alloc: Global, departure: &Departure) -> Result<String, AllocError>
+    ensures { IfOk result (λ text. string_bytes text ≡ spec.departure_text departure.now) }
+{
+    let number = departure.number;
+    let code = departure.entry.put.question.code();
+    let code = code.text();
+    let old = entry_line(&departure.entry);
+    let old = old.as_str();
+    match &departure.found {
+        Some(found) => {
+            let new = entry_line(found);
+            let new = new.as_str();
+            format!(in alloc; "DEPARTS {number} {code}\nOLD {old}\nNEW {new}\n")
+        }
+        None => format!(in alloc; "DEPARTS {number} {code}\nOLD {old}\nENDS\n"),
+    }
+}
