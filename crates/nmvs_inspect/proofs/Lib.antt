@@ -5,3 +5,4 @@ pub mod GroupLemmas
 pub mod PackLemmas
 pub mod ReportRowLemmas
 pub mod ComparisonLemmas
+pub mod HtmlLemmas

@@ -34,3 +34,14 @@ list_text-more f ds d =
 pub flat_map-next : {X : Type 0} (f : X → List ℕ) (xs : List X) (i : ℕ) (d : X) → i < length xs → flat_map f (take (i + 1) xs) ≡ flat_map f (take i xs) ++ f (get_or xs i d)
 flat_map-next {X} f xs i d l =
     ap (flat_map f) (take_more xs i d l) ∙ flat_map-append f (take i xs) (get_or xs i d ∷ []) ∙ ap (λ (x : List ℕ). flat_map f (take i xs) ++ x) (append-nil (f (get_or xs i d)))
+
+-- a block with the text of one element more
+pub block-next : {X : Type 0} (f : X → List ℕ) (old block new : List ℕ) (xs : List X) (i : ℕ) (d : X) → i < length xs → block ≡ old ++ flat_map f (take i xs)
+    → new ≡ block ++ f (get_or xs i d) → new ≡ old ++ flat_map f (take (i + 1) xs)
+block-next f old block new xs i d l inv more =
+    more ∙ ap (λ (x : List ℕ). x ++ f (get_or xs i d)) inv ∙ append_assoc old (flat_map f (take i xs)) (f (get_or xs i d))
+    ∙ ap (λ (x : List ℕ). old ++ x) (sym (flat_map-next f xs i d l))
+
+-- a block with one text more
+pub text-next : (old front text block new : List ℕ) → block ≡ old ++ front → new ≡ block ++ text → new ≡ old ++ (front ++ text)
+text-next old front text block new inv more = more ∙ ap (λ (x : List ℕ). x ++ text) inv ∙ append_assoc old front text

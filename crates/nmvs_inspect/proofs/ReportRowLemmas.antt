@@ -5,15 +5,15 @@ use Rattle.nmvs_identifier.specs.ProductCode.{ProductCode}
 use Rattle.nmvs_rules.specs.declared.entry.Entry.{Entry}
 use Rattle.nmvs_rules.specs.declared.facts.BatchRecord.{BatchRecord}
 use Rattle.nmvs_rules.specs.Trail.{is_known_batch, lock_of, counts_of, batch_record}
-use Rattle.nmvs_inspect.specs.Reports.{record_row, batch_row}
 
 -- the row of a batch by its record
-pub record_row-batch : (t : List Entry) (c : ProductCode) (b : Batch) (r : BatchRecord) → batch_record t c b ≡ Some r → record_row c b r ≡ batch_row t c b
-record_row-batch t c b r e = go (is_known_batch t c b) e
+pub row-batch : (row : BatchRecord → List ℕ) (t : List Entry) (c : ProductCode) (b : Batch) (r : BatchRecord) → batch_record t c b ≡ Some r
+    → row r ≡ row (record { lock = lock_of t c b; counts = counts_of t c b })
+row-batch row t c b r e = go (is_known_batch t c b) e
   where
     whole : BatchRecord
     whole = record { lock = lock_of t c b; counts = counts_of t c b }
 
-    go : (known : Bool) → cond known (Some whole) None ≡ Some r → record_row c b r ≡ batch_row t c b
-    go true e = let same : whole ≡ r = cc in ap (record_row c b) (sym same)
+    go : (known : Bool) → cond known (Some whole) None ≡ Some r → row r ≡ row whole
+    go true e = let same : whole ≡ r = cc in ap row (sym same)
     go false e = absurd cc

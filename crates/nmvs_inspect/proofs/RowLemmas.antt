@@ -44,8 +44,10 @@ pub header-row : (f : Form) → f ≢ form.Json → header f ≡ row f columns
 header-row form.Json n = absurd (n refl)
 header-row form.Csv n = refl
 header-row form.Table n = refl
+header-row form.Html n = refl
 
 pub entry_text-row : (f : Form) (d : Dated) → f ≢ form.Json → entry_text f d ≡ row f (cells d)
 entry_text-row form.Json d n = absurd (n refl)
 entry_text-row form.Csv d n = refl
 entry_text-row form.Table d n = refl
+entry_text-row form.Html d n = refl

@@ -27,6 +27,24 @@ use Rattle.nmvs_words.specs.declared.reply_kind.ReplyKind.{ReplyKind}
 use Rattle.nmvs_words.specs.declared.reply_kind.ReplyKind.TheVariants as kinds
 use Rattle.nmvs_inspect.specs.declared.filter.Filter.{Filter}
 
+-- no test is set
+abbrev pub every : Filter
+every = record {
+  from = None;
+  to = None;
+  user = None;
+  role = None;
+  authorisation = None;
+  premises = None;
+  code = None;
+  serial = None;
+  batch = None;
+  question = None;
+  reply = None;
+  flagged = false;
+  refused = false;
+}
+
 -- whether a value passes a test that is set, if it is
 abbrev pub is_wanted : {A : Type 0} → (A → Bool) → Option A → Bool
 is_wanted test wanted = option_map_or test wanted true

@@ -1,7 +1,10 @@
 pub mod Filter
+pub mod Html
 pub mod Rows
 pub mod Gathering
 pub mod Groups
 pub mod Packs
 pub mod Reports
 pub mod Comparison
+pub mod Weeks
+pub mod Page

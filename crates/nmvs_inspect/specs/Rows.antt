@@ -18,6 +18,7 @@ use Rattle.nmvs_inspect.specs.declared.filter.Filter.{Filter}
 use Rattle.nmvs_inspect.specs.declared.form.Form.{Form}
 use Rattle.nmvs_inspect.specs.declared.form.Form.TheVariants as form
 use Rattle.nmvs_inspect.specs.Filter.{named_batch, takes}
+use Rattle.nmvs_inspect.specs.Html.{html_row}
 
 -- an entry with the date and the time of its moment, by UTC
 pub record Dated : Type 0 where
@@ -79,6 +80,7 @@ abbrev pub row_in : List ℕ → Form → List (List ℕ) → List ℕ
 row_in ws form.Table cs = table_row ws cs
 row_in ws form.Csv cs = row_text default_writer cs
 row_in ws form.Json cs = table_row ws cs
+row_in ws form.Html cs = html_row cs []
 
 abbrev pub row : Form → List (List ℕ) → List ℕ
 row form cs = row_in widths form cs
@@ -87,11 +89,13 @@ abbrev pub header : Form → List ℕ
 header form.Json = []
 header form.Csv = row form.Csv columns
 header form.Table = row form.Table columns
+header form.Html = row form.Html columns
 
 abbrev pub entry_text : Form → Dated → List ℕ
 entry_text form.Json d = ended_line d.entry
 entry_text form.Csv d = row form.Csv (cells d)
 entry_text form.Table d = row form.Table (cells d)
+entry_text form.Html d = row form.Html (cells d)
 
 -- the entries of a trail that a filter takes, in order, with their dates
 pub record AreTaken (f : Filter) (t : List Entry) (ds : List Dated) : Type 0 where

@@ -7,4 +7,6 @@ pub enum Form {
     Csv,
     /// Entry lines, as an export has them.
     Json,
+    /// Rows of a table in HTML.
+    Html,
 }

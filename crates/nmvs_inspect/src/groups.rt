@@ -60,7 +60,7 @@ pub fn write_groups<A: Allocator, W: Sink>(
 }
 
 /// The groups of the entries that a filter takes.
-fn groups_of<A: Allocator>(
+pub(crate) fn groups_of<A: Allocator>(
     alloc: Global,
     shard: &Shard<A>,
     filter: &Filter,
@@ -242,7 +242,7 @@ fn head_cells(alloc: Global, by: &[By]) -> Result<Vec<&'static [u8]>, AllocError
 }
 
 /// Puts the rows of groups at the end of a block.
-fn append_groups(
+pub(crate) fn append_groups(
     alloc: Global,
     block: &mut Vec<u8>,
     form: Form,

@@ -93,7 +93,7 @@ fn append_alerts(
 }
 
 /// The name of a holder, or a mark that begins no name.
-fn holder_text(holder: &Option<Name>) -> &str
+pub(crate) fn holder_text(holder: &Option<Name>) -> &str
     ensures { result.now ≡ holder_word holder.now }
 {
     match holder {
@@ -155,7 +155,7 @@ fn append_batch(
 }
 
 /// The word of a batch's lock.
-fn lock_text(kept: &BatchRecord) -> &str
+pub(crate) fn lock_text(kept: &BatchRecord) -> &str
     ensures { result.now ≡ word_of_lock kept.now.lock }
 {
     lock_word(kept.lock)

@@ -2,8 +2,8 @@ use Rattle.std.proofs.Common.{◌++◌, ◌∙◌, List, ℕ, take, sym, ap, ap�
 use Rattle.std.specs.List.{flat_map}
 use Rattle.nmvs_tables.specs.Listing.{code_batches}
 use Rattle.nmvs_record.proofs.ReportLemmas.{lines-next, none_past}
-use Rattle.nmvs_inspect.specs.Reports.{batch_row}
-use Rattle.nmvs_inspect.proofs.ReportRowLemmas.{record_row-batch}
+use Rattle.nmvs_inspect.specs.Reports.{batch_row, record_row}
+use Rattle.nmvs_inspect.proofs.ReportRowLemmas.{row-batch}
 use Rattle.nmvs_inspect.proofs.reports.append_batches.Goals as goal
 use Rattle.nmvs_inspect.proofs.reports.append_batches.Goals.{in-Some+in_ok-append_batch-in-Some, in-None}
 
@@ -18,7 +18,7 @@ loop-index-preserved g c t agree =
           let b = w.in-Some.found.0 in
           rw w.block-is (
           w.in_ok-append_batch-in-Some.ensures
-          ∙ ap₂ (λ (x y : List ℕ). x ++ y) (c.loop-index.invariant t agree) (record_row-batch t code b w.in-Some.found.1 (w.in-Some.ensures.counts t agree))
+          ∙ ap₂ (λ (x y : List ℕ). x ++ y) (c.loop-index.invariant t agree) (row-batch (record_row code b) t code b w.in-Some.found.1 (w.in-Some.ensures.counts t agree))
           ∙ append_assoc c.args.block.now.items before (batch_row t code b)
           ∙ ap (λ (x : List ℕ). c.args.block.now.items ++ x) (sym (lines-next (batch_row t code) batches i b (sym (w.in-Some.ensures.batch t agree))))
           )

@@ -1,0 +1,73 @@
+-- A page for a browser (own): a verdict, product codes with their counts, alerts by week, and the flagged alerts.
+use Rattle.std.specs.Prelude.{ℕ, List, [], ◌∷◌, ◌++◌, Option, Some, true}
+use Rattle.std.specs.List.{flat_map}
+use Rattle.nmvs_identifier.specs.Batch.{Batch}
+use Rattle.nmvs_identifier.specs.Name.{Name}
+use Rattle.nmvs_identifier.specs.ProductCode.{ProductCode}
+use Rattle.nmvs_rules.specs.declared.entry.Entry.{Entry}
+use Rattle.nmvs_rules.specs.declared.facts.BatchRecord.{BatchRecord}
+use Rattle.nmvs_rules.specs.Trail.{alerts_of, counts_of, holder_of, lock_of}
+use Rattle.nmvs_tables.specs.Codes.{flagged_alerts_of}
+use Rattle.nmvs_tables.specs.Listing.{code_batches}
+use Rattle.nmvs_words.specs.Words.{lock_word}
+use Rattle.nmvs_words.specs.declared.reply_kind.ReplyKind.TheVariants as kinds
+use Rattle.nmvs_record.specs.Report.{holder_word}
+use Rattle.nmvs_inspect.specs.declared.by.By.{By}
+use Rattle.nmvs_inspect.specs.declared.by.By.TheVariants as by
+use Rattle.nmvs_inspect.specs.declared.filter.Filter.{Filter}
+use Rattle.nmvs_inspect.specs.declared.form.Form.TheVariants as form
+use Rattle.nmvs_inspect.specs.declared.page.TheConstants.{HEAD, PRODUCTS, BATCHES, CHART, WEEKS, ALERTS, FOOT}
+use Rattle.nmvs_inspect.specs.Filter.{every}
+use Rattle.nmvs_inspect.specs.Groups.{Group, group_row, groups_of}
+use Rattle.nmvs_inspect.specs.Html.{escaped, html_row}
+use Rattle.nmvs_inspect.specs.Rows.{Dated, entry_text}
+use Rattle.nmvs_inspect.specs.Weeks.{chart}
+
+-- the filters of alerts, and of those that are flagged
+abbrev pub alerts : Filter
+alerts = record every { reply = Some kinds.Alert }
+
+abbrev pub flagged_alerts : Filter
+flagged_alerts = record every { flagged = true }
+
+-- the row of a product code: its holder, its alerts, and how many of them were flagged
+abbrev pub holder_row : ProductCode → Option Name → ℕ → ℕ → List ℕ
+holder_row c holder alerts flagged = html_row (c.bytes ∷ holder_word holder ∷ []) (alerts ∷ flagged ∷ [])
+
+abbrev pub product_row : List Entry → ProductCode → List ℕ
+product_row t c = holder_row c (holder_of t c) (alerts_of t c) (flagged_alerts_of t c)
+
+-- the row of a batch with a record: its lock, and how many of its packs have each own status
+abbrev pub record_row : ProductCode → Batch → BatchRecord → List ℕ
+record_row c b r = let n = r.counts in
+    html_row (c.bytes ∷ b.bytes ∷ lock_word r.lock ∷ [])
+    (n.active ∷ n.held ∷ n.supplied ∷ n.exported ∷ n.sampled ∷ n.destroyed ∷ n.stolen ∷ [])
+
+abbrev pub batch_row : List Entry → ProductCode → Batch → List ℕ
+batch_row t c b = record_row c b (record { lock = lock_of t c b; counts = counts_of t c b })
+
+-- the rows of a product code's batches, in the order of their first accepted uploads
+abbrev pub batch_rows : List Entry → ProductCode → List ℕ
+batch_rows t c = flat_map (batch_row t c) (code_batches t c)
+
+-- the verdict, the rows of product codes, and those of their batches
+unfoldable pub head_text : List ℕ → List ℕ
+head_text verdict = HEAD.now ++ (escaped verdict ++ PRODUCTS.now)
+
+unfoldable pub front_text : List ℕ → List Entry → List ProductCode → List ℕ
+front_text verdict t cs = head_text verdict ++ (flat_map (product_row t) cs ++ (BATCHES.now ++ flat_map (batch_rows t) cs))
+
+-- a picture of weeks, and their rows
+abbrev pub by_week : List By
+by_week = by.Week ∷ []
+
+unfoldable pub weeks_text : List Group → List ℕ
+weeks_text gs = CHART.now ++ (chart gs ++ (WEEKS.now ++ flat_map (group_row form.Html by_week) gs))
+
+-- the rows of entries, and the end
+unfoldable pub alerts_text : List Dated → List ℕ
+alerts_text ds = ALERTS.now ++ (flat_map (entry_text form.Html) ds ++ FOOT.now)
+
+-- the page of product codes, alerts, each as a group of one, and flagged alerts
+abbrev pub page_text : List ℕ → List Entry → List ProductCode → List Group → List Dated → List ℕ
+page_text verdict t cs each ds = front_text verdict t cs ++ (weeks_text (groups_of by_week each) ++ alerts_text ds)
