@@ -15,6 +15,7 @@ use Rattle.nmvs_record.specs.Lines.{Imported, newer}
 use Rattle.nmvs_record.specs.Report.{product_line, report_text}
 use Rattle.nmvs_inspect.specs.Groups.{AreSingle, groups_text}
 use Rattle.nmvs_inspect.specs.Packs.{Standing, AreOfBatch, packs_text}
+use Rattle.nmvs_inspect.specs.Page.{alerts, flagged_alerts, page_text}
 use Rattle.nmvs_inspect.specs.Reports.{rows_text}
 use Rattle.nmvs_inspect.specs.Rows.{Dated, AreTaken, list_text}
 use Rattle.nmvs_check.specs.declared.request.Request.{Request}
@@ -49,6 +50,12 @@ report_rows_text t = rows_text t (codes_named t)
 abbrev pub audit_text : List Entry → Pack → List ℕ
 audit_text t p = let shown = filter (is_about p) t in reply_text (Shown (length shown)) shown
 
+-- the page of all product codes, under these counts, that a sink took
+abbrev pub Shows : Imported → Taken → Taken → Type 0
+Shows it old new =
+    (each : List _) × AreSingle alerts it.trail each × ((ds : List Dated) × AreTaken flagged_alerts it.trail ds
+    × Delivers old new (page_text (counts_text it) it.trail (codes_named it.trail) each ds))
+
 -- the answer that a sink took, between what it told before and after
 abbrev pub Tells : Imported → Request → Taken → Taken → Type 0
 Tells it request.Summary old new = Delivers old new (summary_text it)
@@ -58,4 +65,5 @@ Tells it request.ReportRows old new = Delivers old new (report_rows_text it.trai
 Tells it (request.Audit p) old new = Delivers old new (audit_text it.trail p)
 Tells it (request.List f form) old new = (ds : List Dated) × AreTaken f it.trail ds × Delivers old new (list_text form ds)
 Tells it (request.Count f bs form) old new = (ds : List _) × AreSingle f it.trail ds × Delivers old new (groups_text form bs.items ds)
+Tells it (request.Page _) old new = Shows it old new
 Tells it (request.Packs c b form) old new = (ps : List (Standing it.trail)) × AreOfBatch c b it.trail ps × Delivers old new (packs_text form it.trail ps)

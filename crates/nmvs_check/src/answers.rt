@@ -8,7 +8,9 @@ ghost use Rattle.nmvs_check.specs.Answers as answers;
 use crate::request::Request;
 use indexmap::IndexSet;
 use nmvs_identifier::{Pack, ProductCode};
-use nmvs_inspect::{AnswerFault, write_groups, write_list, write_packs, write_report_rows};
+use nmvs_inspect::{
+    AnswerFault, write_groups, write_list, write_packs, write_page, write_report_rows,
+};
 use nmvs_protocol::reply_text;
 use nmvs_record::{Importer, product_line, report};
 use nmvs_rules::{Entry, Reply};
@@ -38,6 +40,7 @@ pub(crate) fn tell<W: Sink>(
         Request::Audit(pack) => write(&audit(alloc, shard, pack)?, sink),
         Request::List(filter, form) => write_list(alloc, shard, filter, *form, sink),
         Request::Count(filter, by, form) => write_groups(alloc, shard, filter, by, *form, sink),
+        Request::Page(_) => page(alloc, importer, sink),
         Request::Packs(code, batch, form) => write_packs(alloc, shard, code, batch, *form, sink),
     }
 }
@@ -121,6 +124,20 @@ fn report_rows<W: Sink>(
 {
     let codes = codes_named(alloc, shard.trail())?;
     write_report_rows(alloc, shard, codes.as_slice(), sink)
+}
+
+/// Writes a page for a browser, with all product codes that the entries name.
+fn page<W: Sink>(
+    alloc: Global,
+    importer: &Importer<Shard<Global>>,
+    sink: &mut W,
+) -> Result<(), AnswerFault>
+    ensures { OnOk result (answers.Shows importer.now (W.taken sink.old) (W.taken sink.new)) }
+{
+    let shard = importer.shard();
+    let verdict = counts_text(alloc, importer)?;
+    let codes = codes_named(alloc, shard.trail())?;
+    write_page(alloc, shard, &verdict, codes.as_slice(), sink)
 }
 
 /// Puts the reports of product codes at the end of a text.

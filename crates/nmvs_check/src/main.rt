@@ -8,6 +8,7 @@ mod inputs;
 mod inspect_fault;
 mod inspection;
 mod options;
+mod page_file;
 mod request;
 #[cfg(test)]
 mod tests;
@@ -17,6 +18,8 @@ use crate::inputs::{InputFault, Inputs};
 use crate::inspect_fault::{InspectFault, fault_text};
 use crate::inspection::inspect;
 use crate::options::{Asked, OptionFault, Options, read_options};
+use crate::page_file::{PageFault, write_page};
+use crate::request::Request;
 use nmvs_stream::Device;
 use std::alloc::{AllocError, Global};
 use std::process::ExitCode;
@@ -58,13 +61,28 @@ fn check(rt: &HostRuntime, alloc: Global, options: &Options) -> ExitCode {
         Ok(inputs) => inputs,
         Err(status) => return status,
     };
+    if let Request::Page(path) = &options.request {
+        return match write_page(rt, alloc, inputs, &options.request, path, READS) {
+            Ok(()) => ExitCode::SUCCESS,
+            Err(PageFault::Inspect(fault)) => fail_at(rt, alloc, &fault),
+            Err(PageFault::File) => {
+                let _ = eprintln!(rt; "the file {path} cannot be written");
+                ExitCode::FAILURE
+            }
+        };
+    }
     let (mut source, mut sink) = (Device::new(inputs), Device::new(rt.stdout()));
     match inspect(alloc, &mut source, &mut sink, &options.request, READS) {
         Ok(()) => ExitCode::SUCCESS,
-        Err(fault) => match fault_text(alloc, &fault) {
-            Ok(text) => fail(rt, &text),
-            Err(AllocError) => fail(rt, "out of memory"),
-        },
+        Err(fault) => fail_at(rt, alloc, &fault),
+    }
+}
+
+/// Tells the fault of an export, and gives the status that it makes.
+fn fail_at(rt: &HostRuntime, alloc: Global, fault: &InspectFault) -> ExitCode {
+    match fault_text(alloc, fault) {
+        Ok(text) => fail(rt, &text),
+        Err(AllocError) => fail(rt, "out of memory"),
     }
 }
 

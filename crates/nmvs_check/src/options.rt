@@ -72,6 +72,9 @@ const COMPARE: &str =
     order, the first lines of the new one about it. If so it tells GOES ON and the status is 0; else it tells the first \
     line of the old one that the new one does not have in its place, with what it has there, and the status is 1";
 
+const PAGE: &str =
+    "Writes a page for a browser: the counts, product codes and batches, alerts by week, and the flagged alerts";
+
 /// What the words after the program's own name ask for.
 ///
 /// # Errors
@@ -109,7 +112,8 @@ fn command<'a>(alloc: Global) -> Result<Command<'a>, AllocError> {
         .subcommand(count(alloc)?)?
         .subcommand(packs(alloc)?)?
         .subcommand(reports(alloc)?)?
-        .subcommand(compare(alloc)?)
+        .subcommand(compare(alloc)?)?
+        .subcommand(page(alloc)?)
 }
 
 fn files<'a>(alloc: Global) -> Arg<'a> {
@@ -162,6 +166,17 @@ fn packs<'a>(alloc: Global) -> Result<Command<'a>, AllocError> {
         .arg(batch)?
         .arg(files(alloc))?;
     with_form(alloc, command)
+}
+
+fn page<'a>(alloc: Global) -> Result<Command<'a>, AllocError> {
+    let page = Arg::new(alloc, "page")
+        .value_name("PAGE")
+        .required(true)
+        .help("The file that the page is written to, as page.html");
+    Command::new(alloc, "page")
+        .about(PAGE)
+        .arg(page)?
+        .arg(files(alloc))
 }
 
 fn reports<'a>(alloc: Global) -> Result<Command<'a>, AllocError> {
@@ -231,6 +246,10 @@ fn options_of(alloc: Global, matches: &ArgMatches<'_>) -> Result<Options, Option
             files: files_of(alloc, asked)?,
             request: packs_of(alloc, asked)?,
         }),
+        Some(("page", asked)) => Ok(Options {
+            files: files_of(alloc, asked)?,
+            request: Request::Page(path_of(alloc, asked)?),
+        }),
         Some(("report", asked)) => Ok(Options {
             files: files_of(alloc, asked)?,
             request: match form_of(asked) {
@@ -253,6 +272,17 @@ fn files_of(alloc: Global, matches: &ArgMatches<'_>) -> Result<Vec<String>, Allo
         }
     }
     Ok(files)
+}
+
+/// The path that the page is written to.
+fn path_of(alloc: Global, matches: &ArgMatches<'_>) -> Result<String, OptionFault> {
+    match matches.get_str("page") {
+        Some(path) => Ok(String::from_str(alloc, path)?),
+        None => Err(OptionFault::Refused(String::from_str(
+            alloc,
+            "error: a file for the page is wanted\n",
+        )?)),
+    }
 }
 
 fn request_of(alloc: Global, matches: &ArgMatches<'_>) -> Result<Request, OptionFault> {

@@ -18,6 +18,8 @@ pub(crate) enum Request {
     List(Filter, Form),
     /// How many of the entries that the filter takes have the same parts.
     Count(Filter, Vec<By>, Form),
+    /// A page for a browser, in the file of this path.
+    Page(String),
     /// The packs of a batch.
     Packs(ProductCode, Batch, Form),
 }

@@ -321,6 +321,7 @@ fn a_command_line_is_refused(rt: HostRuntime) -> Result<(), Fail> {
         "list --role DOCTOR",
         "list --word LOCKED",
         "list --csv --json",
+        "page",
         "count",
         "count --by day,hour",
         "packs --code 09506000134352",
@@ -338,5 +339,46 @@ fn a_command_line_is_refused(rt: HostRuntime) -> Result<(), Fail> {
     }
     let helped = matches!(options(rt.alloc(), "--help")?, Err(OptionFault::Help(_)));
     assert!(rt; helped);
+    Ok(())
+}
+
+/// An alert of a serial number that HTML reads otherwise, which is flagged.
+const MARKED: &str =
+    r#"[2,1767225600,"ph1","PHARMACY","PH-1","P1",["VERIFY","04012345678901","A<&>"],["ALERT","UNKNOWN","FLAGGED",1]]
+"#;
+
+#[test]
+fn a_page_shows_counts_weeks_and_flagged_alerts(rt: HostRuntime) -> Result<(), Fail> {
+    let asked = Request::Page(String::new(rt.alloc()));
+    let quiet = told(rt.alloc(), EXPORT, &asked)?;
+    let marked = format!(in rt.alloc(); "{EXPORT}{MARKED}")?;
+    let marked = told(rt.alloc(), &marked, &asked)?;
+    // 1 January 2026 was a Thursday.
+    for (page, part) in [
+        (&quiet, "<pre>LAWFUL 6\nVERSION 1 0\nVERSION 2 6\n</pre>"),
+        (
+            &quiet,
+            "<tr><td>09506000134352</td><td>MAH-1</td><td class=n>1</td><td class=n>0</td></tr>\n</tbody>",
+        ),
+        (
+            &quiet,
+            "<tr><td>09506000134352</td><td>B1</td><td>RECALLED</td><td class=n>0</td><td class=n>1</td><td class=n>0</td>",
+        ),
+        (&quiet, "<title>2025-12-29: 1</title>"),
+        (&quiet, "<tr><td>2025-12-29</td><td>1</td></tr>\n</tbody>"),
+        (&quiet, "<th>Reply</th></tr></thead><tbody></tbody>"),
+        (
+            &marked,
+            "<tr><td>04012345678901</td><td>-</td><td class=n>1</td><td class=n>1</td></tr>\n",
+        ),
+        (&marked, "<title>2025-12-29: 2</title>"),
+        (
+            &marked,
+            "<tbody><tr><td>2026-01-01 00:00:00</td><td>ph1</td><td>PHARMACY</td><td>PH-1</td><td>P1</td><td>VERIFY</td>\
+            <td>04012345678901</td><td>A&lt;&amp;&gt;</td><td></td><td>ALERT UNKNOWN FLAGGED 1</td></tr>\n</tbody>",
+        ),
+    ] {
+        assert!(rt; page.contains(part), "{part}");
+    }
     Ok(())
 }

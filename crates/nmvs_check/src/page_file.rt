@@ -1,0 +1,56 @@
+//! Pages in files. A file that has its name is whole: it is written beside its place, and then renamed.
+use crate::inputs::Inputs;
+use crate::inspect_fault::InspectFault;
+use crate::inspection::inspect;
+use crate::request::Request;
+use nmvs_inspect::AnswerFault;
+use nmvs_stream::Device;
+use std::alloc::Global;
+use std::fs::{self, File};
+use std::io::{self, ErrorKind};
+use std::rt::HostRuntime;
+
+/// Why a page is not written. The file of its name is then what it was before, if there was one.
+#[derive(Drop)]
+pub(crate) enum PageFault {
+    /// Nothing is told of the export.
+    Inspect(InspectFault),
+    /// The file cannot be written.
+    File,
+}
+
+/// Writes the page that is asked of an export to the file of this path.
+///
+/// # Errors
+///
+/// What was found where the input is no export of a lawful trail, or so many reads did not reach its end; there is no
+/// memory; or the system refuses the file.
+pub(crate) fn write_page(
+    rt: &HostRuntime,
+    alloc: Global,
+    inputs: Inputs,
+    asked: &Request,
+    path: &str,
+    reads: u64,
+) -> Result<(), PageFault> {
+    let memory = PageFault::Inspect(InspectFault::Answer(AnswerFault::Memory));
+    let part = format!(in alloc; "{path}.part").or(Err(memory))?;
+    let file = create(rt, path, &part).or(Err(PageFault::File))?;
+    let (mut source, mut sink) = (Device::new(inputs), Device::new(file));
+    let written = match inspect(alloc, &mut source, &mut sink, asked, reads) {
+        Ok(()) => fs::rename(rt, &part, path).or(Err(PageFault::File)),
+        Err(fault) => Err(PageFault::Inspect(fault)),
+    };
+    if written.is_err() {
+        let _ = fs::remove_file(rt, &part);
+    }
+    written
+}
+
+/// A new file beside the one of this path, which is a file or nothing.
+fn create(rt: &HostRuntime, path: &str, part: &str) -> io::Result<File> {
+    match fs::metadata(rt, path) {
+        Ok(found) if !found.is_file() => Err(io::Error::from(ErrorKind::InvalidInput)),
+        _ => fs::create(rt, part),
+    }
+}
