@@ -1,15 +1,13 @@
 -- How a users file is gone through, line by line.
-use Rattle.std.proofs.Common.{◌≡◌, ◌≢◌, ◌∙◌, ◌++◌, ◌∷◌, ◌+◌, ◌<◌, ◌⊎◌, ◌==◌, [], inl, inr, refl, sym, ap, arith, ℕ, List, length, map, slice_index, Some, Ok, true, false}
+use Rattle.std.proofs.Common.{◌≡◌, ◌∙◌, ◌++◌, ◌∷◌, ◌+◌, ◌<◌, ◌⊎◌, [], inl, inr, refl, sym, ap, arith, ℕ, List, length, map, Some, Ok, true, false}
 use Rattle.std.specs.Prelude.{IsTrue, filter}
-use Rattle.std.proofs.lemmas.Bool.{ne_eqb}
 use Rattle.std.proofs.lemmas.List.{append-nil, append_assoc, length-append, map-append}
 use Rattle.std.proofs.lemmas.List.Elements.{All-append, All-cons, All-nil, filter-append}
 use Rattle.nmvs_directory.specs.declared.change.Change.{Change}
 use Rattle.nmvs_protocol.specs.Commands.{command_line, first_command_fault, is_command, ReadsCommand}
-use Rattle.nmvs_protocol.specs.InputLines.{lines_after, rest_after, input_lines, unfinished_line}
+use Rattle.nmvs_protocol.specs.InputLines.{input_lines, unfinished_line}
 use Rattle.nmvs_protocol.specs.declared.command.Command.{Command}
 use Rattle.nmvs_protocol.specs.declared.command.CommandFault.{CommandFault}
-use Rattle.nmvs_protocol.proofs.LinesOfPieces.{lines_after-append, rest_after-append, no_line}
 use Rattle.nmvs_stream.specs.Source.{Told}
 use Rattle.nmvs_operator.specs.Users.{change_of, says, AreCommands, AreLinesOf, Adds, AddsAll, AddsFirst, StopsAt, StopsShort, Tells, ReadFails, LoadFails}
 use Rattle.nmvs_operator.specs.declared.faults.LoadFault.{LoadFault}
