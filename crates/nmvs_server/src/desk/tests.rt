@@ -13,11 +13,13 @@ use boxcar::tag::Tag;
 use nmvs_desk::{Keepers, MOST_CLERKS};
 use nmvs_directory::{Directory, Naming, Notice, Registrar};
 use nmvs_history::Histories;
-use nmvs_operator::{Deed, Latest, Service, ServiceFault, load_users, obey_all};
+use nmvs_operator::{Console, Deed, Latest, Service, ServiceFault, load_users, obey_all};
 use nmvs_protocol::{Desk, SESSION_LIMITS, serve};
 use nmvs_shard::Shards;
-use nmvs_stream::Device;
+use nmvs_stream::{Device, deliver};
 use std::alloc::Global;
+use std::io;
+use std::io::{ErrorKind, Write};
 use std::marker::Brand;
 use std::process::Abort;
 use std::sync::{Mutex, Wait};
@@ -116,24 +118,47 @@ impl Service for Willing {
     }
 }
 
-/// What the registrar is answered to one command.
-fn commanded<'r, J: Naming, R: Wait>(
+/// Takes these bytes and no others.
+#[derive(Drop)]
+struct Awaited {
+    left: &'static [u8],
+}
+
+impl Write for Awaited {
+    fn write(&mut self, buffer: &[u8]) -> io::Result<usize> {
+        match self.left.strip_prefix(buffer) {
+            Some(left) => {
+                self.left = left;
+                Ok(buffer.len())
+            }
+            None => Err(io::Error::from(ErrorKind::InvalidData)),
+        }
+    }
+
+    fn flush(&mut self) -> io::Result<()> {
+        Ok(())
+    }
+}
+
+/// Suspends ph1 by an order, which is answered.
+fn suspend<'r, J: Naming, R: Wait + Abort>(
     rt: &'r R,
-    alloc: Global,
     registrar: &mut Registrar<J, &'r R, &Global>,
     latest: &Mutex<Notice<J>>,
-    line: &str,
-) -> Result<Vec<u8>, Fail> {
-    let input = format!(in alloc; "{line}\n")?;
-    let mut output = Vec::new(alloc);
+) {
+    let order = b"SUSPEND ph1\n".as_slice();
+    let mut console = Console::new(
+        Device::new(order),
+        Device::new(Awaited { left: b"DONE\n." }),
+    );
     obey_all(
-        &mut Device::new(input.as_bytes()),
-        &mut Device::new(&mut output),
+        &mut console,
         registrar,
         &mut Latest::new(rt, latest),
         &mut Willing,
     );
-    Ok(output)
+    // the sink takes it behind the answer alone
+    assert_eq!(rt; deliver(&mut console.sink, b"."), Ok(()));
 }
 
 /// Whether the answer is to a question that was put.
@@ -166,11 +191,11 @@ fn at_desk<'r, 'a, J: Naming, H: Histories, R: Wait + Abort>(
     let mut desk = ClerkDesk::new(rt, clerk, &opened.repository, latest, clock);
     for (line, answer) in example.lines {
         let wanted = format!(in *alloc; "{answer}\n")?;
-        let said = if line.starts_with("SUSPEND") {
-            commanded(rt, *alloc, registrar, latest, line)?
-        } else {
-            asked(*alloc, &mut desk, line)?
-        };
+        if *line == "SUSPEND ph1" {
+            suspend(rt, registrar, latest);
+            continue;
+        }
+        let said = asked(*alloc, &mut desk, line)?;
         assert_eq!(rt; said.as_slice(), wanted.as_bytes(), "{}", example.shows);
     }
     let answers = example.lines.iter().map(|(_, answer)| *answer);
