@@ -222,45 +222,38 @@ fn asked_of(alloc: Global, matches: &ArgMatches<'_>) -> Result<Asked, OptionFaul
 }
 
 fn options_of(alloc: Global, matches: &ArgMatches<'_>) -> Result<Options, OptionFault> {
-    match matches.subcommand() {
-        Some(("list", asked)) => {
-            let form = if asked.get_flag("json") {
-                Form::Json
-            } else {
-                form_of(asked)
-            };
-            Ok(Options {
-                files: files_of(alloc, asked)?,
-                request: Request::List(filter_of(alloc, asked)?, form),
-            })
-        }
-        Some(("count", asked)) => Ok(Options {
-            files: files_of(alloc, asked)?,
-            request: Request::Count(
-                filter_of(alloc, asked)?,
-                by_of(alloc, asked)?,
-                form_of(asked),
-            ),
-        }),
-        Some(("packs", asked)) => Ok(Options {
-            files: files_of(alloc, asked)?,
-            request: packs_of(alloc, asked)?,
-        }),
-        Some(("page", asked)) => Ok(Options {
-            files: files_of(alloc, asked)?,
-            request: Request::Page(path_of(alloc, asked)?),
-        }),
-        Some(("report", asked)) => Ok(Options {
-            files: files_of(alloc, asked)?,
-            request: match form_of(asked) {
-                Form::Csv => Request::ReportRows,
-                _ => Request::Reports,
-            },
-        }),
-        _ => Ok(Options {
-            files: files_of(alloc, matches)?,
-            request: request_of(alloc, matches)?,
-        }),
+    let (asked, request) = match matches.subcommand() {
+        Some(("list", asked)) => (asked, list_of(alloc, asked)?),
+        Some(("count", asked)) => (asked, count_of(alloc, asked)?),
+        Some(("packs", asked)) => (asked, packs_of(alloc, asked)?),
+        Some(("page", asked)) => (asked, Request::Page(path_of(alloc, asked)?)),
+        Some(("report", asked)) => (asked, reports_of(asked)),
+        _ => (matches, request_of(alloc, matches)?),
+    };
+    Ok(Options {
+        files: files_of(alloc, asked)?,
+        request,
+    })
+}
+
+fn list_of(alloc: Global, matches: &ArgMatches<'_>) -> Result<Request, OptionFault> {
+    let form = if matches.get_flag("json") {
+        Form::Json
+    } else {
+        form_of(matches)
+    };
+    Ok(Request::List(filter_of(alloc, matches)?, form))
+}
+
+fn count_of(alloc: Global, matches: &ArgMatches<'_>) -> Result<Request, OptionFault> {
+    let filter = filter_of(alloc, matches)?;
+    Ok(Request::Count(filter, by_of(alloc, matches)?, form_of(matches)))
+}
+
+fn reports_of(matches: &ArgMatches<'_>) -> Request {
+    match form_of(matches) {
+        Form::Csv => Request::ReportRows,
+        _ => Request::Reports,
     }
 }
 
