@@ -9,11 +9,11 @@ use Rattle.nmvs_protocol.specs.declared.end.End.{End}
 use Rattle.nmvs_protocol.specs.declared.withheld.Withheld.{Withheld}
 use Rattle.nmvs_protocol.specs.declared.end.End.TheVariants as ends
 use Rattle.nmvs_protocol.specs.declared.session.Session.{Session}
-use Rattle.nmvs_protocol.specs.InputLines.{input_lines, lines_after, rest_after, unfinished_line}
+use Rattle.nmvs_stream.specs.InputLines.{input_lines, lines_after, rest_after, unfinished_line}
 use Rattle.nmvs_protocol.specs.Progress.{Fed, Stands, Gathers, kept_part}
 use Rattle.nmvs_protocol.specs.Session.{AnswersLines, session_text}
 use Rattle.nmvs_protocol.specs.Texts.{text as text_of}
-use Rattle.nmvs_protocol.proofs.LinesOfPieces.{lines_after-append}
+use Rattle.nmvs_stream.proofs.LinesOfPieces.{lines_after-append}
 use Rattle.nmvs_connections.specs.Replies.{Answered, Replies, Leaves, GoesOn}
 
 -- one answer a line

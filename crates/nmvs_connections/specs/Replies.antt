@@ -6,7 +6,7 @@ use Rattle.nmvs_protocol.specs.declared.end.End.{End}
 use Rattle.nmvs_protocol.specs.declared.withheld.Withheld.{Withheld}
 use Rattle.nmvs_protocol.specs.declared.end.End.TheVariants as ends
 use Rattle.nmvs_protocol.specs.declared.session.Session.{Session}
-use Rattle.nmvs_protocol.specs.InputLines.{input_lines, unfinished_line}
+use Rattle.nmvs_stream.specs.InputLines.{input_lines, unfinished_line}
 use Rattle.nmvs_protocol.specs.Progress.{kept_part}
 use Rattle.nmvs_protocol.specs.Session.{AnswersLines, session_text}
 

@@ -1,6 +1,6 @@
 //! A session whose bytes others move.
 ghost use Rattle.std.specs.Prelude.{◌≡◌, ◌≤◌, ◌++◌, List, [], ℕ, None, length, take, drop};
-ghost use Rattle.nmvs_protocol.specs.InputLines.{lines_after, unfinished_line};
+ghost use Rattle.nmvs_stream.specs.InputLines.{lines_after, unfinished_line};
 ghost use Rattle.nmvs_connections.specs.Replies.{Answered, Replies};
 
 use crate::gathered::Gathered;

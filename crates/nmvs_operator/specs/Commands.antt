@@ -2,7 +2,7 @@
 use Rattle.std.specs.Prelude.{◌≡◌, ◌+◌, ◌⊎◌, ℕ, Bool, true, false, List, [], ◌∷◌, ◌++◌, All, codes, Option, Some, None, Result, Ok, Err}
 use Rattle.nmvs_directory.specs.Registrar.{Register}
 use Rattle.nmvs_directory.specs.declared.change.Change.{Change}
-use Rattle.nmvs_protocol.specs.InputLines.{input_lines, unfinished_line}
+use Rattle.nmvs_stream.specs.InputLines.{input_lines, unfinished_line}
 use Rattle.nmvs_protocol.specs.declared.command.Command.{Command}
 use Rattle.nmvs_protocol.specs.declared.command.CommandFault.{CommandFault}
 use Rattle.nmvs_protocol.specs.declared.command.CommandFault.TheVariants as commands

@@ -1,6 +1,6 @@
 -- How the operator's orders stand between two bytes of them (own).
 use Rattle.std.specs.Prelude.{◌≡◌, ℕ, List, [], ◌∷◌, ◌++◌, Result, Ok}
-use Rattle.nmvs_protocol.specs.InputLines.{input_lines, unfinished_line}
+use Rattle.nmvs_stream.specs.InputLines.{input_lines, unfinished_line}
 use Rattle.nmvs_protocol.specs.Progress.{kept_part}
 use Rattle.nmvs_stream.specs.Source.{Told}
 use Rattle.nmvs_stream.specs.Sink.{Taken}

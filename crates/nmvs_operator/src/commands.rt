@@ -3,7 +3,7 @@ ghost use Rattle.std.specs.Prelude.{◌≡◌, ◌⊎◌, ◌<◌, ◌++◌, ◌
 ghost use Rattle.std.specs.Result.{result_err};
 ghost use Rattle.nmvs_directory.specs.Changes.{pending_changes, KeepsEntered, IsFull};
 ghost use Rattle.nmvs_directory.specs.Registrar.{register_of, published, pending};
-ghost use Rattle.nmvs_protocol.specs.InputLines.{input_lines, unfinished_line};
+ghost use Rattle.nmvs_stream.specs.InputLines.{input_lines, unfinished_line};
 ghost use Rattle.nmvs_protocol.specs.Progress.{kept_part};
 ghost use Rattle.nmvs_stream.specs.Sink.{Taken};
 ghost use Rattle.nmvs_operator.specs.declared.faults.ObeyFault.{ObeyFault as AFault};
@@ -15,8 +15,8 @@ ghost use Rattle.nmvs_operator.specs.Progress.{AnsweredOrders, StoppedIn, Carrie
 
 use crate::{Console, Deed, Latest, ObeyFault, Order, Service, ServiceFault, Sides, read_order};
 use nmvs_directory::{Changes, Naming, Notice, Registrar};
-use nmvs_protocol::{Command, CommandFault, PendingLine, cut_line};
-use nmvs_stream::{Failed, Sink, Source, deliver};
+use nmvs_protocol::{Command, CommandFault, PendingLine};
+use nmvs_stream::{Failed, Sink, Source, cut_line, deliver};
 use std::alloc::{AllocError, Allocator};
 use std::sync::Wait;
 

@@ -1,6 +1,5 @@
 pub mod FieldLemmas
 pub mod KeptLines
-pub mod LinesOfPieces
 pub mod QuitLines
 pub mod SessionSteps
 pub mod PlainLemmas

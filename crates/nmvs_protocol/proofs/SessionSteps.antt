@@ -19,8 +19,8 @@ use Rattle.nmvs_protocol.specs.declared.end.End.{End}
 use Rattle.nmvs_protocol.specs.declared.end.End.TheVariants as ends
 use Rattle.nmvs_protocol.specs.Lines.{line_text}
 use Rattle.nmvs_protocol.specs.Texts.{text, takes_memory}
-use Rattle.nmvs_protocol.specs.InputLines.{input_lines, unfinished_line, lines_after, rest_after}
-use Rattle.nmvs_protocol.proofs.LinesOfPieces.{lines_after-append}
+use Rattle.nmvs_stream.specs.InputLines.{input_lines, unfinished_line, lines_after, rest_after}
+use Rattle.nmvs_stream.proofs.LinesOfPieces.{lines_after-append}
 use Rattle.nmvs_protocol.specs.Session.{TakesLine, TakesLines, StaysOrMoves, answer_of, is_kept, is_of_repository, told_where, AnswersLine, AnswersLines, AreReleased, StaysOrTurns, NoQuit, NoQuitBeforeLast, EndsWithQuit, AnswersAll, DeliversAll, BreaksOff, LacksLast, Closes, Session, session_text, is_input_end, is_read_fault, is_write_fault}
 use Rattle.nmvs_protocol.specs.Progress.{AreShortButLast, TellsWithheld, Gathers, Delivered, Tells, Stands, AnsweredSo, Fed, Served, has_write_fault, kept_part}
 

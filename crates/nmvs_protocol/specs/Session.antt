@@ -19,7 +19,7 @@ use Rattle.nmvs_protocol.specs.declared.end.End.{End}
 use Rattle.nmvs_protocol.specs.declared.end.End.TheVariants as ends
 use Rattle.nmvs_protocol.specs.Lines.{line_text, ReadsLine}
 use Rattle.nmvs_protocol.specs.Texts.{text, takes_memory}
-use Rattle.nmvs_protocol.specs.InputLines.{input_lines}
+use Rattle.nmvs_stream.specs.InputLines.{input_lines}
 
 -- the answer that is withheld
 abbrev pub answer_of : Withheld → Answer

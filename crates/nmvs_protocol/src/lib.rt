@@ -32,7 +32,7 @@ pub use limits::{
 };
 pub use lines::{line_text, read_line};
 pub use peer::{Authorisations, NameOf, OwnDesk, Peer};
-pub use pending_line::{PendingLine, cut_line};
+pub use pending_line::PendingLine;
 pub use replies::reply_text;
 pub use serving::serve;
 pub use session::Session;

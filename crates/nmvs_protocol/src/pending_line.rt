@@ -1,15 +1,10 @@
-//! How lines are read from bytes that come in pieces: the first LF is searched, and what was begun is kept.
-ghost use Rattle.std.specs.Prelude.{◌≡◌, ◌<◌, ◌++◌, ◌∷◌, ◌==◌, [], ℕ, List, length, IfSome, IfNone};
-ghost use Rattle.nmvs_protocol.specs.InputLines.{lines_after, rest_after, input_lines, unfinished_line};
+//! What is kept of a line that was begun.
+ghost use Rattle.std.specs.Prelude.{◌≡◌, ◌++◌, ◌==◌, [], length};
 ghost use Rattle.nmvs_protocol.specs.Progress.{kept_part};
 
 use crate::LONGEST_LINE;
 use arrayvec::ArrayVec;
-use memchr::memchr;
 use std::marker::Model;
-
-#[cfg(test)]
-mod tests;
 
 /// How many bytes are kept of a line: one more than a line may have, which tells that it is too
 /// long.
@@ -67,18 +62,4 @@ impl PendingLine {
     {
         self.bytes.clear();
     }
-}
-
-/// The bytes that end the line that was begun before these, and those behind its LF, where they have one.
-pub fn cut_line(bytes: &[u8]) -> Option<(&[u8], &[u8])>
-    ensures shorter { IfSome result (λ cut. length cut.1.now < length bytes.now) }
-    ensures line { IfSome result (λ cut. (begun : List ℕ) →
-        lines_after begun bytes.now ≡ (begun ++ cut.0.now) ∷ input_lines cut.1.now) }
-    ensures left { IfSome result (λ cut. (begun : List ℕ) →
-        rest_after begun bytes.now ≡ unfinished_line cut.1.now) }
-    ensures none { IfNone result ((begun : List ℕ) →
-        (lines_after begun bytes.now ≡ []) × (rest_after begun bytes.now ≡ begun ++ bytes.now)) }
-{
-    let lf = memchr(b'\n', bytes)?;
-    Some((&bytes[..lf], &bytes[lf + 1..]))
 }

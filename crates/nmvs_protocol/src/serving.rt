@@ -1,7 +1,7 @@
 //! Sessions over a source of bytes.
 ghost use Rattle.std.specs.Prelude.{◌≡◌, ◌≤◌, ◌++◌, List, ℕ, false, IfNone};
 ghost use Rattle.nmvs_stream.specs.Sink.{Taken};
-ghost use Rattle.nmvs_protocol.specs.InputLines.{lines_after, unfinished_line};
+ghost use Rattle.nmvs_stream.specs.InputLines.{lines_after, unfinished_line};
 ghost use Rattle.nmvs_protocol.specs.Session.{Session as TheSession};
 ghost use Rattle.nmvs_protocol.specs.Progress.{Served, has_write_fault, kept_part};
 

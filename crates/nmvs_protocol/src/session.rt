@@ -1,6 +1,6 @@
 //! A session that is fed bytes.
 ghost use Rattle.std.specs.Prelude.{◌≡◌, ◌≤◌, ◌<◌, ◌++◌, ◌∷◌, ◌↔◌, [], List, ℕ, Ok, IsTrue, IfNone};
-ghost use Rattle.nmvs_protocol.specs.InputLines.{lines_after, unfinished_line};
+ghost use Rattle.nmvs_stream.specs.InputLines.{lines_after, unfinished_line};
 ghost use Rattle.nmvs_protocol.specs.Lines.{line_text};
 ghost use Rattle.nmvs_protocol.specs.Session.{Answers, TakesLine};
 ghost use Rattle.nmvs_protocol.specs.Progress.{Fed, Tells, TellsWithheld, AreShortButLast, kept_part};
@@ -8,8 +8,8 @@ ghost use Rattle.nmvs_protocol.specs.Progress.{Fed, Tells, TellsWithheld, AreSho
 use crate::pending_line::PendingLine;
 use crate::replies::wording;
 use crate::withheld::WithheldAnswers;
-use crate::{Answer, Desk, End, Line, LineFault, Released, Withheld, cut_line, read_line};
-use nmvs_stream::{Failed, Sink, write_all};
+use crate::{Answer, Desk, End, Line, LineFault, Released, Withheld, read_line};
+use nmvs_stream::{Failed, Sink, cut_line, write_all};
 use std::alloc::Global;
 
 /// How far a session has come: the line that was begun, how many lines were answered, and how many may be.

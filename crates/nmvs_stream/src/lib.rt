@@ -1,9 +1,10 @@
-//! Sources and sinks of bytes, which tell contracts what they gave and what they took.
+//! Sources and sinks of bytes, which tell contracts what they gave and what they took; and lines of bytes.
 #![tactic(auto)]
 
 mod delivery;
 mod device;
 mod failed;
+mod lines;
 mod sink;
 mod source;
 mod tape;
@@ -13,5 +14,6 @@ mod tests;
 pub use delivery::{deliver, write_all};
 pub use device::Device;
 pub use failed::Failed;
+pub use lines::cut_line;
 pub use sink::Sink;
 pub use source::Source;

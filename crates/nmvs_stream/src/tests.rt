@@ -1,4 +1,4 @@
-use crate::{Device, Failed, Sink, Source};
+use crate::{Device, Failed, Sink, Source, cut_line};
 use std::cell::Cell;
 use std::io;
 use std::io::{ErrorKind, Read, Write};
@@ -149,4 +149,15 @@ fn an_interrupted_call_is_not_tried_again(rt: HostRuntime) {
 fn a_failure_has_its_text(rt: HostRuntime) {
     let shown = format!(in rt.alloc(); "{Failed}");
     assert!(rt; shown.is_ok_and(|text| text.as_str() == "a device failed"));
+}
+
+#[test]
+fn a_line_is_cut_off_at_its_first_lf(rt: HostRuntime) {
+    let (line, behind) = cut_line(b"SUSPEND ph1\n\nQUIT\n").unwrap_or((&[], &[]));
+    assert_eq!(rt; line, b"SUSPEND ph1".as_slice());
+    assert_eq!(rt; behind, b"\nQUIT\n".as_slice());
+    let (line, behind) = cut_line(behind).unwrap_or((b"none", &[]));
+    assert!(rt; line.is_empty());
+    assert_eq!(rt; behind, b"QUIT\n".as_slice());
+    assert!(rt; cut_line(b"QUIT").is_none());
 }

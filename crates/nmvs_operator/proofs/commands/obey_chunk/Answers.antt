@@ -1,9 +1,10 @@
 use Rattle.std.proofs.Common.{◌≡◌, ◌∙◌, ◌++◌, ◌∷◌, [], ℕ, List, sym, ap, subst}
 use Rattle.std.proofs.lemmas.List.{append-nil}
 use Rattle.nmvs_directory.specs.Registrar.{register_of}
-use Rattle.nmvs_protocol.specs.InputLines.{input_lines}
+use Rattle.nmvs_stream.specs.InputLines.{input_lines}
 use Rattle.nmvs_protocol.specs.Progress.{kept_part}
 use Rattle.nmvs_operator.specs.Commands.{office, AnswersOrder}
+use Rattle.nmvs_stream.proofs.LinesOfPieces.{no_line, line_cut, left_cut}
 use Rattle.nmvs_operator.proofs.CommandLemmas.{one_more, one_stop, same_lines, ahead_first, ahead_next, goes_on}
 use Rattle.nmvs_operator.proofs.commands.obey_chunk.Goals as goal
 
@@ -21,7 +22,7 @@ returns-then-obey_line g c first start input is so_far =
     let line : c.as_slice.result.now ≡ kept_part x = c.as_slice.ensures ∙ c.extend.ensures ∙ goes_on inv.begun c.in-Some.tail.now inv.keeps in
     let answers = subst (λ (t : List ℕ). AnswersOrder g.S.Service.does old t o.0 new) line o.1 in
     one_stop new (g.W.Sink.taken c.obey_line.new.sink) x o.0 (input ++ c.args.chunk.now) (input_lines behind) inv.answered answers o.2
-    (sym o.3 ∙ c.if-obey_line.true) (sym (ahead_next inv x behind (c.in-Some.ensures.line inv.begun)))
+    (sym o.3 ∙ c.if-obey_line.true) (sym (ahead_next inv x behind (line_cut inv.begun _ _ c.in-Some.ensures.cut c.in-Some.ensures.whole)))
 
 pub loop-tail-preserved : goal.loop-tail-preserved
 loop-tail-preserved g c first start input is so_far =
@@ -37,14 +38,14 @@ loop-tail-preserved g c first start input is so_far =
       begun = [];
       keeps = c.clear.ensures;
       answered = one_more new (g.W.Sink.taken c.obey_line.new.sink) x o.0 inv.answered answers o.2 (sym o.3 ∙ c.if-obey_line.false);
-      ahead = ahead_next inv x behind (c.in-Some.ensures.line inv.begun);
-      left = sym (c.in-Some.ensures.left inv.begun) ∙ inv.left;
+      ahead = ahead_next inv x behind (line_cut inv.begun _ _ c.in-Some.ensures.cut c.in-Some.ensures.whole);
+      left = sym (left_cut inv.begun _ _ c.in-Some.ensures.cut c.in-Some.ensures.whole) ∙ inv.left;
     }
 
 pub returns : goal.returns
 returns g c first start input is so_far =
     let inv = c.loop-tail.invariant first start input is so_far in
-    let none = c.in_default.ensures.none inv.begun in (
+    let none = no_line inv.begun c.loop-tail.rest.now c.in_default.ensures.none in (
       c.extend-2.ensures ∙ goes_on inv.begun c.loop-tail.rest.now inv.keeps ∙ ap kept_part (sym none.1 ∙ inv.left),
       same_lines (sym (append-nil inv.done) ∙ ap (λ (t : List (List ℕ)). inv.done ++ t) (sym none.0) ∙ inv.ahead) inv.answered,
     )

@@ -2,7 +2,7 @@ use Rattle.std.proofs.Common.{◌≡◌, ◌∙◌, ◌++◌, [], ℕ, List, tak
 use Rattle.std.proofs.lemmas.List.{append-nil, append_assoc}
 use Rattle.std.proofs.lemmas.List.Elements.{All-nil}
 use Rattle.nmvs_directory.specs.Registrar.{register_of}
-use Rattle.nmvs_protocol.specs.InputLines.{lines_after, rest_after}
+use Rattle.nmvs_stream.specs.InputLines.{lines_after, rest_after}
 use Rattle.nmvs_operator.specs.Commands.{office}
 use Rattle.nmvs_operator.proofs.CommandLemmas.{end_read}
 use Rattle.nmvs_operator.proofs.commands.obey_lines.Goals as goal

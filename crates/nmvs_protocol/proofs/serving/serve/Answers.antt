@@ -1,7 +1,7 @@
 use Rattle.std.proofs.Common.{rules, inr, ◌==◌, ◌||◌, ◌++◌, ◌≤◌, [], List, ℕ, Bool, take, length, refl, sym, ap, ◌∙◌, arith}
 use Rattle.std.proofs.lemmas.List.{append-nil, append_assoc, length-take-le}
 use Rattle.std.proofs.lemmas.Bool.{ne_eqb}
-use Rattle.nmvs_protocol.specs.InputLines.{input_lines}
+use Rattle.nmvs_stream.specs.InputLines.{input_lines}
 use Rattle.nmvs_protocol.proofs.SessionSteps.{so_far_none, so_far_more, closed}
 use Rattle.nmvs_protocol.proofs.serving.serve.Goals as goal
 

@@ -1,7 +1,7 @@
 use Rattle.std.proofs.Common.{◌≡◌, ◌∙◌, ◌≤◌, ◌++◌, ℕ, List, Option, None, length, drop, sym, ap, subst, arith}
 use Rattle.std.proofs.lemmas.List.{append_assoc, drop-append-le, length-append}
 use Rattle.nmvs_protocol.specs.declared.end.End.{End}
-use Rattle.nmvs_protocol.specs.InputLines.{lines_after, unfinished_line}
+use Rattle.nmvs_stream.specs.InputLines.{lines_after, unfinished_line}
 use Rattle.nmvs_connections.specs.Replies.{Answered, Replies, GoesOn}
 use Rattle.nmvs_connections.proofs.RepliesSteps.{fed_answered, replies_more, goes_on}
 use Rattle.nmvs_connections.proofs.dialogue.Dialogue.feed.Goals as goal

@@ -5,11 +5,11 @@ use Rattle.std.proofs.lemmas.Bool.Decides.{nat_tests}
 use Rattle.std.proofs.lemmas.Grind.{common_steps}
 use Rattle.nmvs_protocol.specs.declared.withheld.Withheld.{Withheld}
 use Rattle.nmvs_protocol.specs.declared.end.End.TheVariants as ends
-use Rattle.nmvs_protocol.specs.InputLines.{lines_after, rest_after}
+use Rattle.nmvs_stream.specs.InputLines.{lines_after, rest_after}
 use Rattle.nmvs_protocol.specs.Progress.{AreShortButLast, kept_part}
 use Rattle.nmvs_protocol.specs.Session.{answer_of}
 use Rattle.nmvs_protocol.proofs.KeptLines.{kept_more}
-use Rattle.nmvs_protocol.proofs.LinesOfPieces.{rest_after-append}
+use Rattle.nmvs_stream.proofs.LinesOfPieces.{rest_after-append, no_line, line_cut, left_cut}
 use Rattle.nmvs_protocol.proofs.SessionSteps.{IsShort, all_short, short_but_last, no_quit_more, holds_none, holds_more, holds_told, tells, fed_broken, fed_all, fed_whole, if_none}
 use Rattle.nmvs_protocol.proofs.session.Session.feed.Goals as goal
 
@@ -33,7 +33,7 @@ pub returns-in-Some-tell : goal.returns-in-Some-tell
 returns-in-Some-tell g c fed is within =
     let inv = c.loop-tail.invariant.2 fed is within in
     let rest = c.loop-tail.rest.now in
-    let split = c.in-Some.ensures.line inv.line in
+    let split = line_cut inv.line _ _ c.in-Some.ensures.cut c.in-Some.ensures.whole in
     let told = tells g.D.Desk.takes g.D.Desk.releases g.D.Desk.moves _ (Some c.in-Some-tell.end) inv.holds (all_short c.loop-tail.withheld inv.short) c.in-Some-tell.ensures.tells in (
       fed_broken g.D.Desk.takes g.D.Desk.releases g.D.Desk.moves {session' = c.loop-tail.self} _ _ c.in-Some-tell.end told
           (ap (λ (t : List (List ℕ)). inv.taken ++ t) (sym split) ∙ inv.ahead) c.loop-tail.invariant.1 (inl inv.no_quit),
@@ -44,7 +44,7 @@ pub returns-in-None : goal.returns-in-None
 returns-in-None g c fed is within =
     let inv = c.loop-tail.invariant.2 fed is within in
     let rest = c.loop-tail.rest.now in
-    let split = c.in-Some.ensures.line inv.line in
+    let split = line_cut inv.line _ _ c.in-Some.ensures.cut c.in-Some.ensures.whole in
     let told = tells g.D.Desk.takes g.D.Desk.releases g.D.Desk.moves _ None inv.holds (all_short c.loop-tail.withheld inv.short) c.in-None.ensures.tells in (
       fed_all g.D.Desk.takes g.D.Desk.releases g.D.Desk.moves {session' = c.loop-tail.self} _ _ (Some ends.Limit) told
           (ap (λ (t : List (List ℕ)). inv.taken ++ t) (sym split) ∙ inv.ahead) c.loop-tail.invariant.1 refl
@@ -57,7 +57,7 @@ returns-in-Some-tell-2 g c fed is within =
     let inv = c.loop-tail.invariant.2 fed is within in
     let took = c.take_tail-answer.ensures in
     let tail = c.in-Some.tail.now in
-    let split = c.in-Some.ensures.line inv.line in
+    let split = line_cut inv.line _ _ c.in-Some.ensures.cut c.in-Some.ensures.whole in
     let x = inv.line ++ tail in
     let holds = holds_more g.D.Desk.takes g.D.Desk.releases g.D.Desk.moves {count' = c.take_tail-answer.new.self.answered + 1} x c.take_tail-answer.result.0 c.take_tail-answer.new.desk inv.holds
     (omega (arith, c.if-self.false, c.loop-tail.invariant.1)) (took.takes inv.line inv.keeps) (ap (λ (n : ℕ). n + 1) took.counts.0) c.push.ensures in
@@ -76,7 +76,7 @@ returns-in-None-tell g c fed is within =
     let inv = c.loop-tail.invariant.2 fed is within in
     let took = c.take_tail-answer.ensures in
     let tail = c.in-Some.tail.now in
-    let split = c.in-Some.ensures.line inv.line in
+    let split = line_cut inv.line _ _ c.in-Some.ensures.cut c.in-Some.ensures.whole in
     let x = inv.line ++ tail in
     let holds = holds_more g.D.Desk.takes g.D.Desk.releases g.D.Desk.moves {count' = c.take_tail-answer.new.self.answered + 1} x c.take_tail-answer.result.0 c.take_tail-answer.new.desk inv.holds
     (omega (arith, c.if-self.false, c.loop-tail.invariant.1)) (took.takes inv.line inv.keeps) (ap (λ (n : ℕ). n + 1) took.counts.0) c.push.ensures in
@@ -95,7 +95,7 @@ returns-in-Some-tell-3 g c fed is within =
     let inv = c.loop-tail.invariant.2 fed is within in
     let took = c.take_tail-answer.ensures in
     let tail = c.in-Some.tail.now in
-    let split = c.in-Some.ensures.line inv.line in
+    let split = line_cut inv.line _ _ c.in-Some.ensures.cut c.in-Some.ensures.whole in
     let x = inv.line ++ tail in
     let holds = holds_more g.D.Desk.takes g.D.Desk.releases g.D.Desk.moves {count' = c.take_tail-answer.new.self.answered + 1} x c.take_tail-answer.result.0 c.take_tail-answer.new.desk inv.holds
     (omega (arith, c.if-self.false, c.loop-tail.invariant.1)) (took.takes inv.line inv.keeps) (ap (λ (n : ℕ). n + 1) took.counts.0) c.push.ensures in
@@ -117,7 +117,7 @@ loop-tail-preserved-in-Some g c =
       λ fed is within.
           let inv = c.loop-tail.invariant.2 fed is within in
           let tail = c.in-Some.tail.now in
-          let split = c.in-Some.ensures.line inv.line in
+          let split = line_cut inv.line _ _ c.in-Some.ensures.cut c.in-Some.ensures.whole in
           let x = inv.line ++ tail in
           let holds = holds_more g.D.Desk.takes g.D.Desk.releases g.D.Desk.moves {count' = c.take_tail-answer.new.self.answered + 1} x c.take_tail-answer.result.0 c.take_tail-answer.new.desk inv.holds
           (omega (arith, c.if-self.false, c.loop-tail.invariant.1)) (took.takes inv.line inv.keeps) (ap (λ (n : ℕ). n + 1) took.counts.0) c.push.ensures in
@@ -131,7 +131,7 @@ loop-tail-preserved-in-Some g c =
             no_quit = no_quit_more inv.taken x inv.no_quit (λ e. absurd (cc ((took.quit inv.line inv.keeps).1 e, c.if-quits.false)));
             short = rw c.tell-then-is_long.ensures.none_withheld (All-nil _);
             ahead = append_assoc inv.taken (x ∷ []) (lines_after [] behind) ∙ ap (λ (t : List (List ℕ)). inv.taken ++ t) (sym split) ∙ inv.ahead;
-            left = sym (c.in-Some.ensures.left inv.line) ∙ inv.left;
+            left = sym (left_cut inv.line _ _ c.in-Some.ensures.cut c.in-Some.ensures.whole) ∙ inv.left;
           },
     )
 
@@ -146,7 +146,7 @@ loop-tail-preserved g c =
       λ fed is within.
           let inv = c.loop-tail.invariant.2 fed is within in
           let tail = c.in-Some.tail.now in
-          let split = c.in-Some.ensures.line inv.line in
+          let split = line_cut inv.line _ _ c.in-Some.ensures.cut c.in-Some.ensures.whole in
           let x = inv.line ++ tail in
           record {
             taken = inv.taken ++ x ∷ [];
@@ -158,7 +158,7 @@ loop-tail-preserved g c =
             short = subst (λ (h : List Withheld). All IsShort h) (sym c.push.ensures)
                 (All-append IsShort c.loop-tail.withheld (c.take_tail-answer.result.0 ∷ []) inv.short (All-cons IsShort c.take_tail-answer.result.0 [] (sym c.takes_memory-is_long.ensures ∙ c.if-is_long.false) (All-nil IsShort)));
             ahead = append_assoc inv.taken (x ∷ []) (lines_after [] behind) ∙ ap (λ (t : List (List ℕ)). inv.taken ++ t) (sym split) ∙ inv.ahead;
-            left = sym (c.in-Some.ensures.left inv.line) ∙ inv.left;
+            left = sym (left_cut inv.line _ _ c.in-Some.ensures.cut c.in-Some.ensures.whole) ∙ inv.left;
           },
     )
 
@@ -166,7 +166,7 @@ pub returns : goal.returns
 returns g c fed is within =
     let inv = c.loop-tail.invariant.2 fed is within in
     let rest = c.loop-tail.rest.now in
-    let none = c.in_default.ensures.none inv.line in
+    let none = no_line inv.line rest c.in_default.ensures.none in
     let told = tells g.D.Desk.takes g.D.Desk.releases g.D.Desk.moves _ c.tell-2.result inv.holds (all_short c.loop-tail.withheld inv.short) c.tell-2.ensures.tells in (
       fed_whole g.D.Desk.takes g.D.Desk.releases g.D.Desk.moves {session' = record { line = c.extend.new.self; answered = c.loop-tail.self.answered; limit = c.loop-tail.self.limit }} _ c.tell-2.result told
           (sym (append-nil inv.taken) ∙ ap (λ (t : List (List ℕ)). inv.taken ++ t) (sym none.0) ∙ inv.ahead) c.loop-tail.invariant.1 inv.no_quit,

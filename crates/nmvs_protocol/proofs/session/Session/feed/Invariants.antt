@@ -1,6 +1,6 @@
 use Rattle.std.proofs.Common.{◌≡◌, ◌≤◌, ◌<◌, ℕ, List, length}
 use Rattle.nmvs_protocol.specs.declared.withheld.TheConstants.{MOST_WITHHELD}
-use Rattle.nmvs_protocol.specs.InputLines.{lines_after, rest_after, unfinished_line}
+use Rattle.nmvs_stream.specs.InputLines.{lines_after, rest_after, unfinished_line}
 use Rattle.nmvs_protocol.specs.Progress.{kept_part}
 use Rattle.nmvs_protocol.proofs.SessionSteps.{Ahead}
 use Rattle.nmvs_protocol.proofs.session.Session.feed.Given as goal

@@ -1,5 +1,9 @@
 -- The lines of an input: the pieces that end with LF, each without it. What follows the last LF is no line (own).
-use Rattle.std.specs.Prelude.{ℕ, List, [], ◌∷◌, ◌++◌, ◌==◌, if◌then◌else◌}
+use Rattle.std.specs.Prelude.{◌≢◌, ◌<◌, ◌==◌, if◌then◌else◌, ℕ, List, [], ◌∷◌, ◌++◌, length, slice_index}
+
+-- no LF is among these bytes
+abbrev pub HasNoLf : List ℕ → Type 0
+HasNoLf bytes = (k : ℕ) → k < length bytes → slice_index bytes k ≢ 10
 
 -- the lines of bytes that go on a line begun before
 unfoldable pub lines_after : List ℕ → List ℕ → List (List ℕ)
