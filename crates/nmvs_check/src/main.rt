@@ -20,6 +20,7 @@ use crate::inspection::inspect;
 use crate::options::{Asked, OptionFault, Options, read_options};
 use crate::page_file::{PageFault, write_page};
 use crate::request::Request;
+use nmvs_shard::HashKey;
 use nmvs_stream::Device;
 use std::alloc::{AllocError, Global};
 use std::process::ExitCode;
@@ -35,8 +36,7 @@ fn main(rt: HostRuntime) -> ExitCode {
         return fail(&rt, "out of memory");
     };
     match read_options(alloc, &words) {
-        Ok(Asked::Inspection(options)) => check(&rt, alloc, &options),
-        Ok(Asked::Comparison { old, new }) => compare_files(&rt, alloc, &old, &new),
+        Ok(asked) => answer(&rt, alloc, &asked),
         Err(OptionFault::Help(text)) => {
             let _ = print!(rt; "{text}");
             ExitCode::SUCCESS
@@ -55,14 +55,25 @@ fn words<R: Env + AllocGlobal>(rt: &R) -> io::Result<Vec<String>> {
     Ok(words)
 }
 
+/// Does what is asked, and gives the status.
+fn answer(rt: &HostRuntime, alloc: Global, asked: &Asked) -> ExitCode {
+    let Ok(key) = HashKey::draw(rt) else {
+        return fail(rt, "no random bytes");
+    };
+    match asked {
+        Asked::Inspection(options) => check(rt, alloc, key, options),
+        Asked::Comparison { old, new } => compare_files(rt, alloc, key, old, new),
+    }
+}
+
 /// Checks the export that the options name, tells the answer or the fault, and gives the status.
-fn check(rt: &HostRuntime, alloc: Global, options: &Options) -> ExitCode {
+fn check(rt: &HostRuntime, alloc: Global, key: HashKey, options: &Options) -> ExitCode {
     let inputs = match opened(rt, alloc, &options.files) {
         Ok(inputs) => inputs,
         Err(status) => return status,
     };
     if let Request::Page(path) = &options.request {
-        return match write_page(rt, alloc, inputs, &options.request, path, READS) {
+        return match write_page(rt, alloc, key, inputs, &options.request, path, READS) {
             Ok(()) => ExitCode::SUCCESS,
             Err(PageFault::Inspect(fault)) => fail_at(rt, alloc, &fault),
             Err(PageFault::File) => {
@@ -72,7 +83,7 @@ fn check(rt: &HostRuntime, alloc: Global, options: &Options) -> ExitCode {
         };
     }
     let (mut source, mut sink) = (Device::new(inputs), Device::new(rt.stdout()));
-    match inspect(alloc, &mut source, &mut sink, &options.request, READS) {
+    match inspect(alloc, key, &mut source, &mut sink, &options.request, READS) {
         Ok(()) => ExitCode::SUCCESS,
         Err(fault) => fail_at(rt, alloc, &fault),
     }
@@ -87,7 +98,13 @@ fn fail_at(rt: &HostRuntime, alloc: Global, fault: &InspectFault) -> ExitCode {
 }
 
 /// Compares the exports in two files, tells the answer or the fault, and gives the status.
-fn compare_files(rt: &HostRuntime, alloc: Global, old: &String, new: &String) -> ExitCode {
+fn compare_files(
+    rt: &HostRuntime,
+    alloc: Global,
+    key: HashKey,
+    old: &String,
+    new: &String,
+) -> ExitCode {
     let before = match opened(rt, alloc, slice::from_ref(old)) {
         Ok(inputs) => inputs,
         Err(status) => return status,
@@ -98,7 +115,7 @@ fn compare_files(rt: &HostRuntime, alloc: Global, old: &String, new: &String) ->
     };
     let (mut before, mut after) = (Device::new(before), Device::new(after));
     let mut sink = Device::new(rt.stdout());
-    match compare(alloc, &mut before, &mut after, &mut sink, READS) {
+    match compare(alloc, key, &mut before, &mut after, &mut sink, READS) {
         Ok(true) => ExitCode::SUCCESS,
         Ok(false) => ExitCode::FAILURE,
         Err(CompareFault::Old(finding)) => fail_of(rt, alloc, old, &InspectFault::Found(finding)),

@@ -30,6 +30,8 @@ pub enum Fault<'a> {
     CannotListenAt(&'a str),
     /// Fewer workers gave their clerk back than there are clerks.
     LostClerk,
+    /// The system gives no random bytes.
+    Random,
     /// Memory was wanting, or a thread for a worker.
     Memory,
     /// A read of the session over standard input failed.
@@ -58,6 +60,7 @@ impl<'a> fmt::Display for Fault<'a> {
             Fault::CannotListen(port) => write!(f, "cannot listen on port {port}"),
             Fault::CannotListenAt(path) => write!(f, "cannot listen at {path}"),
             Fault::LostClerk => f.write_str("a clerk was lost"),
+            Fault::Random => f.write_str("no random bytes"),
             Fault::Memory => f.write_str("out of memory"),
             Fault::SessionRead => f.write_str("session read fault"),
             Fault::SessionWrite => f.write_str("session write fault"),

@@ -15,7 +15,7 @@ use nmvs_directory::{Directory, Naming, Notice, Registrar};
 use nmvs_history::Histories;
 use nmvs_operator::{Console, Deed, Latest, Service, ServiceFault, load_users, obey_all};
 use nmvs_protocol::{Desk, SESSION_LIMITS, serve};
-use nmvs_shard::Shards;
+use nmvs_shard::{HashKey, Shards};
 use nmvs_stream::{Device, deliver};
 use std::alloc::Global;
 use std::io;
@@ -218,7 +218,7 @@ fn at_directory<J: Naming, R: Wait + Abort + Sync>(
     let notice = load_users(*alloc, &mut users, &mut registrar, 2)?;
     let opening = Opening {
         windows,
-        shards: Shards::new(alloc, 1)?.into_shards(),
+        shards: Shards::new(alloc, 1, HashKey::of(1))?.into_shards(),
         keepers: Keepers::new(alloc, 1)?,
     };
     let latest = Mutex::new(notice);
