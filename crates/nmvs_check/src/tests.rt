@@ -220,7 +220,14 @@ fn compared(
     let mut bytes = Vec::new(alloc);
     let (mut before, mut after) = (Device::new(old.as_bytes()), Device::new(new.as_bytes()));
     let mut sink = Device::new(&mut bytes);
-    let answer = compare(alloc, HashKey::of(1), &mut before, &mut after, &mut sink, 1_000);
+    let answer = compare(
+        alloc,
+        HashKey::of(1),
+        &mut before,
+        &mut after,
+        &mut sink,
+        1_000,
+    );
     drop(sink);
     Ok((answer, String::from_utf8_lossy(alloc, &bytes)?))
 }

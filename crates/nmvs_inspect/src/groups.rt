@@ -133,7 +133,10 @@ fn count(
 }
 
 /// The place of a key, and whether it is new; then it comes last.
-fn place_of(keys: &mut IndexSet<Vec<u8>, HashKey>, key: Vec<u8>) -> Result<(usize, bool), AllocError>
+fn place_of(
+    keys: &mut IndexSet<Vec<u8>, HashKey>,
+    key: Vec<u8>,
+) -> Result<(usize, bool), AllocError>
     ensures place { IfOk result (λ r. r.0 ≡ position_or_len (λ k. bytes_eq key.items k.items) keys.old.keys) }
     ensures new { IfOk result (λ r. r.1 ≡ not (list_any (λ k. bytes_eq key.items k.items) keys.old.keys)) }
     ensures keys { IfOk result (λ r. keys.new.keys ≡ (if r.1 then keys.old.keys ++ key ∷ [] else keys.old.keys)) }
