@@ -1,4 +1,8 @@
 //! The workers that serve connections, and the registrar beside them.
+ghost use Rattle.std.specs.Prelude.{◌≡◌};
+ghost use Rattle.nmvs_server.specs.Bounds.{sessions_of};
+
+use crate::announcements::{listening_at, listening_on};
 use crate::host::Shared;
 use crate::service::Running;
 use crate::{ClerkDesk, ProgramClock};
@@ -20,7 +24,11 @@ use std::time::Duration;
 mod tests;
 
 /// How far the connections of so many workers may go.
-pub(crate) fn bounds_of(options: &Options, workers: usize) -> Bounds {
+pub(crate) fn bounds_of(options: &Options, workers: usize) -> Bounds
+    ensures connections { result.connections ≡ options.now.connections }
+    ensures proxy { result.proxy ≡ options.now.proxy }
+    ensures sessions { result.sessions ≡ sessions_of options.now.sessions workers }
+{
     Bounds {
         connections: options.connections,
         idle: match options.idle {
@@ -125,8 +133,8 @@ pub(crate) fn serve_connections<
 /// Tells on which port the program listens, or where its socket is. A failed write changes nothing.
 fn tell_port<W: Sink>(alloc: Global, options: &Options, listener: &Listener, out: &mut W) {
     let text = match (listener.port(), &options.socket) {
-        (Some(port), _) => format!(in alloc; "LISTENING {port}\n"),
-        (None, Some(path)) => format!(in alloc; "LISTENING {path}\n"),
+        (Some(port), _) => listening_on(alloc, port),
+        (None, Some(path)) => listening_at(alloc, path),
         (None, None) => return,
     };
     if let Ok(text) = text {

@@ -51,6 +51,15 @@ const TURNED_AWAY: &[Example] = &[
             ("ph1b STATUS 09506000134352 SN1", "NOPACK"),
         ],
     },
+    Example {
+        shows: "a suspension is learnt before the next report",
+        moments: &[NEW_YEAR],
+        lines: &[
+            ("ph1 REPORT 09506000134352", "FAULT ROLE"),
+            ("SUSPEND ph1", "DONE"),
+            ("ph1 REPORT 09506000134352", "FAULT SUSPENDED"),
+        ],
+    },
 ];
 
 /// Gives these seconds in turn, and the last of them again and again.
