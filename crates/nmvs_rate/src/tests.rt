@@ -2,10 +2,11 @@ use crate::{Bucket, Gate, Passage, Rate, RatedDesk, Rates, SharedRates, Turnstil
 use linked_list_allocator::LocalHeap;
 use nmvs_identifier::Name;
 use nmvs_protocol::{
-    Answer, Ask, Authorisations, Desk, Entries, Line, Released, Turn, Withheld, WithheldAnswers,
-    read_line,
+    Answer, Ask, Authorisations, Desk, End, Entries, Released, SESSION_LIMITS, Turn, Withheld,
+    WithheldAnswers, serve,
 };
 use nmvs_rules::Reply;
+use nmvs_stream::Device;
 use std::alloc::{AllocError, Global};
 use std::process::Abort;
 use std::test::*;
@@ -113,11 +114,10 @@ impl Turnstile for Fixed {
     }
 }
 
-/// Finds no pack, and counts what it is asked. All users but ph9 are known.
+/// Finds no pack. All users but ph9 are known.
 #[derive(Clone, Copy)]
 struct Empty<'a> {
     alloc: &'a Global,
-    asked: usize,
 }
 
 impl<'a> Desk<'a> for Empty<'a> {
@@ -132,7 +132,6 @@ impl<'a> Desk<'a> for Empty<'a> {
     ghost moves = { Stays };
 
     fn take(&mut self, _ask: &Ask) -> Withheld<'a> {
-        self.asked = self.asked.saturating_add(1);
         let none = Entries::new(Vec::new(self.alloc));
         Withheld::new(Answer::Replied(Reply::NoPack, none))
     }
@@ -153,38 +152,38 @@ impl<'a> Authorisations for Empty<'a> {
     }
 }
 
-/// What becomes of a line behind this turnstile.
-fn told(alloc: &Global, turnstile: Fixed, line: &[u8]) -> &'static str {
-    let Ok(Line::Ask(ask)) = read_line(line) else {
-        return "unread";
-    };
-    let mut desk = RatedDesk::new(Empty { alloc, asked: 0 }, turnstile);
-    let withheld = desk.take(&ask);
-    match (withheld.answer(), desk.into_desk().asked) {
-        (Answer::Turned(Turn::Rate), 0) => "rate",
-        (Answer::Turned(Turn::Memory), 0) => "memory",
-        (Answer::Turned(Turn::Suspended), 0) => "suspended",
-        (Answer::Replied(..), 1) => "asked",
-        _ => "wrong",
-    }
+/// What is told of a line behind this turnstile.
+fn told(rt: &impl Abort, alloc: Global, turnstile: Fixed, line: &[u8]) -> Vec<u8> {
+    let lent = alloc;
+    let mut desk = RatedDesk::new(Empty { alloc: &lent }, turnstile);
+    let mut output = Vec::new(alloc);
+    let end = serve(
+        alloc,
+        &mut Device::new(line),
+        &mut Device::new(&mut output),
+        &mut desk,
+        SESSION_LIMITS,
+    );
+    assert!(rt; end == End::Ended);
+    output
 }
 
 #[test]
 fn a_desk_is_asked_what_is_let_through(rt: HostRuntime) {
-    let alloc = rt.alloc();
-    let known = b"ph1 STATUS 09506000134352 SN1".as_slice();
-    let suspended = b"ph9 REPORT 09506000134352".as_slice();
+    let known = b"ph1 STATUS 09506000134352 SN1\n".as_slice();
+    let suspended = b"ph9 REPORT 09506000134352\n".as_slice();
     let (open, shut) = (Some(Passage::Open), Some(Passage::Shut));
     for (passage, admitted, line, wanted) in [
-        (Passage::Open, None, known, "asked"),
-        (Passage::Shut, open, known, "rate"),
-        (Passage::Stranger, open, known, "asked"),
-        (Passage::Stranger, shut, known, "rate"),
-        (Passage::Stranger, None, known, "memory"),
-        (Passage::Stranger, open, suspended, "suspended"),
+        (Passage::Open, None, known, "NOPACK\n"),
+        (Passage::Shut, open, known, "FAULT RATE\n"),
+        (Passage::Stranger, open, known, "NOPACK\n"),
+        (Passage::Stranger, shut, known, "FAULT RATE\n"),
+        (Passage::Stranger, None, known, "FAULT MEMORY\n"),
+        (Passage::Stranger, open, suspended, "FAULT SUSPENDED\n"),
     ] {
         let turnstile = Fixed { passage, admitted };
-        assert!(rt; told(&alloc, turnstile, line) == wanted, "{wanted}");
+        let output = told(&rt, rt.alloc(), turnstile, line);
+        assert!(rt; output.as_slice() == wanted.as_bytes(), "{wanted}");
     }
 }
 
