@@ -15,7 +15,7 @@ one_more : (rate : Rate) (bucket : Bucket) (now to : ℕ) → now ≤ to → (la
     → ((b : Bucket) → length (later b) * LINE ≤ b.parts + rate.lines * (to - b.moment))
     → (p : Bool) → passes rate bucket now ≡ p
     → let rest = later (if p then taken rate bucket now else bucket) in
-      length (if p then now ∷ rest else rest) * LINE ≤ bucket.parts + rate.lines * (to - bucket.moment)
+    length (if p then now ∷ rest else rest) * LINE ≤ bucket.parts + rate.lines * (to - bucket.moment)
 one_more rate bucket now to within later so true e =
     let rest : length (later (taken rate bucket now)) * LINE ≤ filled rate bucket now - LINE + rate.lines * (to - max bucket.moment now) = so (taken rate bucket now) in
     let there = whole rate bucket now e in
@@ -37,7 +37,7 @@ first : (rate : Rate) (bucket : Bucket) (from now to : ℕ) → from ≤ now →
     → length (later bucket) * LINE ≤ allowed rate from to
     → (p : Bool) → passes rate bucket now ≡ p
     → let rest = later (if p then taken rate bucket now else bucket) in
-      length (if p then now ∷ rest else rest) * LINE ≤ allowed rate from to
+    length (if p then now ∷ rest else rest) * LINE ≤ allowed rate from to
 first rate bucket from now to above within later so others true e =
     let rest : length (later (taken rate bucket now)) * LINE ≤ filled rate bucket now - LINE + rate.lines * (to - max bucket.moment now) = so (taken rate bucket now) in
     let there = whole rate bucket now e in

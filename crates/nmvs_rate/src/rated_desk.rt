@@ -7,9 +7,7 @@ ghost use Rattle.nmvs_rate.specs.Rated.{TakesPassed};
 
 use crate::Passage;
 use nmvs_identifier::Name;
-use nmvs_protocol::{
-    Answer, Ask, Authorisations, Desk, Released, Turn, Withheld, WithheldAnswers,
-};
+use nmvs_protocol::{Answer, Ask, Authorisations, Desk, Released, Turn, Withheld, WithheldAnswers};
 use std::alloc::AllocError;
 
 /// What lets lines of users through or not.
