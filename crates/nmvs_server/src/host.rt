@@ -4,6 +4,7 @@ use nmvs_desk::Repository;
 use nmvs_directory::{Naming, Notice};
 use nmvs_history::Histories;
 use nmvs_operator::Options;
+use nmvs_rate::SharedRates;
 use nmvs_shard::HashKey;
 use std::alloc::Global;
 use std::net::Net;
@@ -37,6 +38,8 @@ pub(crate) struct Shared<'s, 'r, 'o, R, J: Naming, H: Histories> {
     pub(crate) hall: &'s Hall,
     pub(crate) repository: &'s Repository<'r, H>,
     pub(crate) latest: &'s Mutex<Notice<J>>,
+    /// How much each user may still ask, where there is a rate.
+    pub(crate) rates: Option<&'s SharedRates<Global>>,
     /// Whether the workers may begin: it is locked until all of them are there.
     pub(crate) ready: &'s Mutex<bool>,
 }

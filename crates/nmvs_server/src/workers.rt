@@ -12,6 +12,7 @@ use nmvs_directory::{Naming, Registrar};
 use nmvs_history::Histories;
 use nmvs_operator::{Console, Latest, Options, Sides, obey_all};
 use nmvs_protocol::OwnDesk;
+use nmvs_rate::{Gate, RatedDesk};
 use nmvs_stream::{Sink, deliver};
 use std::alloc::{AllocError, Global};
 use std::rt::{Clock, Files};
@@ -56,17 +57,12 @@ fn work<'r, R: Wait + Clock, J: Naming, H: Histories>(
         return clerk;
     }
     let clock = ProgramClock::new(run.rt, run.options.moment);
-    let mut desk = OwnDesk::new(ClerkDesk::new(
-        run.rt,
-        clerk,
-        shared.repository,
-        shared.latest,
-        clock,
-    ));
+    let desk = ClerkDesk::new(run.rt, clerk, shared.repository, shared.latest, clock);
+    let mut desk = OwnDesk::new(RatedDesk::new(desk, Gate::new(run.rt, shared.rates)));
     if serve(run.rt, *run.alloc, shared.hall, number, station, &mut desk).is_err() {
         shared.hall.stop(run.rt);
     }
-    desk.into_desk().into_clerk()
+    desk.into_desk().into_desk().into_clerk()
 }
 
 /// Accepts connections for the workers. Where it can't go on it ends the service.
