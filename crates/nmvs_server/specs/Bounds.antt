@@ -1,5 +1,5 @@
 -- How many sessions a server serves before it ends (own).
-use Rattle.std.specs.Prelude.{ℕ, suc, ◌*◌, min}
+use Rattle.std.specs.Prelude.{ℕ, ◌*◌, ◌==◌, min, if◌then◌else◌}
 
 -- the most that a u64 counts
 abbrev pub without_end : ℕ
@@ -7,5 +7,4 @@ without_end = 18446744073709551615
 
 -- so many for each of so many workers, where 0 is without end
 abbrev pub sessions_of : ℕ → ℕ → ℕ
-sessions_of 0 workers = without_end
-sessions_of (suc n) workers = min (suc n * workers) without_end
+sessions_of sessions workers = if sessions == 0 then without_end else min (sessions * workers) without_end

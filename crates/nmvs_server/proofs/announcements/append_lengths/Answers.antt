@@ -1,6 +1,5 @@
-use Rattle.std.proofs.Common.{◌++◌, ◌∙◌, List, ℕ, take, get_or, length, string_bytes, sym, ap, ap₂, append_assoc}
+use Rattle.std.proofs.Common.{◌++◌, ◌∙◌, List, ℕ, take, get_or, string_bytes, sym, ap, ap₂, append_assoc}
 use Rattle.std.specs.List.{flat_map}
-use Rattle.nmvs_rules.specs.declared.entry.Entry.{Entry}
 use Rattle.nmvs_server.specs.Announcements.{length_text}
 use Rattle.nmvs_server.proofs.Lengths.{lengths-next}
 use Rattle.nmvs_server.proofs.announcements.append_lengths.Goals as goal
