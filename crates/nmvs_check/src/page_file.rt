@@ -28,7 +28,7 @@ pub(crate) enum PageFault {
 pub(crate) fn write_page(
     rt: &HostRuntime,
     alloc: Global,
-    inputs: Inputs,
+    inputs: &mut Inputs,
     asked: &Request,
     path: &str,
     reads: u64,
