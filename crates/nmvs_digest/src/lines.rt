@@ -23,11 +23,7 @@ pub fn digest_line(alloc: Global, sum: &[u8; 32], name: &str) -> Result<String, 
 /// # Errors
 ///
 /// There is no memory for the line.
-pub fn read_digest(
-    alloc: Global,
-    text: &[u8],
-    name: &str,
-) -> Result<Option<[u8; 32]>, AllocError>
+pub fn read_digest(alloc: Global, text: &[u8], name: &str) -> Result<Option<[u8; 32]>, AllocError>
     ensures told { IfOk result (λ read. IfSome read (λ sum. text.now ≡ line_of sum name.now)) }
     ensures none { IfOk result (λ read. IfNone read
         ((sum : List ℕ) → length sum ≡ 32 → IsBytes sum → text.now ≢ line_of sum name.now)) }

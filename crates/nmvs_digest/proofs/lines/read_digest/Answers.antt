@@ -24,7 +24,7 @@ returns-clause-none c = λ sum sized bytes same.
     let digits = c.in-Some.ensures.cases.1 ∙ digits_first c.args.text.now sum c.args.name.now sized same in
     let decoded = c.from_hex.ensures ∙ (ap (λ (s : List ℕ). decode_sized s 32) digits ∙ decode_sized-encode_lower sum 32 sized bytes) in
     let found : c.in-Ok.sum ≡ sum
-        = ap (λ (r : Result (List ℕ) FromHexError). result_unwrap_or r []) (sym c.in-Ok.is ∙ decoded) in
+    = ap (λ (r : Result (List ℕ) FromHexError). result_unwrap_or r []) (sym c.in-Ok.is ∙ decoded) in
     let line = c.as_bytes.ensures.value ∙ (c.in_ok-line.ensures ∙ (ap (λ (s : List ℕ). digest_line s c.args.name.now) found ∙ sym same)) in
     let equal = c.eq.ensures ∙ (bytes_decides c.as_bytes.result.now c.args.text.now).1 line in
     cc (equal, c.if-eq.false)

@@ -11,7 +11,7 @@ pub returns : goal.returns
 returns g c =
     let bytes = (g.S.Source.told c.args.self.source).bytes in
     let summed : c.finalize.result ≡ sha256 bytes
-        = ∥∥₁_elim c.args.self.digests (Coded-set (coded_list coded_ℕ) _ _) (λ holds. c.finalize.ensures bytes holds) in
+    = ∥∥₁_elim c.args.self.digests (Coded-set (coded_list coded_ℕ) _ _) (λ holds. c.finalize.ensures bytes holds) in
     let decides = bytes_decides c.finalize.result c.in-Some.sum in
     rw c.in-Some.is (
       λ equal. sym (decides.0 (sym c.eq.ensures ∙ equal)) ∙ summed,
