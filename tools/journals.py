@@ -1,6 +1,7 @@
 """What the tools about journals have in common: the built program over a journal, the disk under it (tools/disk.c), and what
 stands in the journal's files."""
 import json
+import os
 import pathlib
 import signal
 import socket
@@ -42,7 +43,7 @@ class Disk:
         told = {"LD_PRELOAD": self.library, "DISK_FOLDER": self.folder, "DISK_NOTES": self.notes, "DISK_DELAY": delay}
         if call:
             told.update(DISK_CALL=call, DISK_NUMBER=number, DISK_FAULT=fault)
-        return {name: str(value) for name, value in told.items()}
+        return {**os.environ, **{name: str(value) for name, value in told.items()}}
 
     def calls(self):
         """How many calls of each kind there were."""
@@ -119,6 +120,11 @@ def journal_files(folder):
     return sorted(folder.glob("shard-*-of-*.txt"))
 
 
+def kept_commands(folder):
+    """The commands that a journal's users file has; the line above each tells when it was given."""
+    return [line for line in (folder / "users.txt").read_text().splitlines() if not line.startswith("#")]
+
+
 def entries_by_code(folder):
     """The lines of a journal by their product codes, in order."""
     entries = {}
@@ -137,12 +143,12 @@ def faults_of(product, asker, lines):
             break
         due = product.ask(*question)
         if number < len(asker.told) and asker.told[number] != due:
-            return [question, asker.told[number], due]
+            return [(question, asker.told[number], due)]
     entries = [line for _, line in product.entries[had:]]
     if entries == lines:
         return []
     place = next((i for i, pair in enumerate(zip(entries, lines)) if pair[0] != pair[1]), min(len(entries), len(lines)))
-    return [len(asker.told), len(entries), len(lines), entries[place:place + 1], lines[place:place + 1]]
+    return [(len(asker.told), len(entries), len(lines), entries[place:place + 1], lines[place:place + 1])]
 
 
 def lawful(folder):
