@@ -30,7 +30,7 @@ pub(crate) fn write_page(
     rt: &HostRuntime,
     alloc: Global,
     key: HashKey,
-    inputs: Inputs,
+    inputs: &mut Inputs,
     asked: &Request,
     path: &str,
     reads: u64,
