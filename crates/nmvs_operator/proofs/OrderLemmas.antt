@@ -20,6 +20,8 @@ few_fields : (o : Order) → length (order_fields o) < 7
 few_fields (orders.Change (Enrol user actor)) = lit≤ tt
 few_fields (orders.Change (Suspend user)) = lit≤ tt
 few_fields (orders.Export path) = lit≤ tt
+few_fields orders.Users = lit≤ tt
+few_fields (orders.Count topic) = lit≤ tt
 few_fields orders.Stop = lit≤ tt
 few_fields orders.Help = lit≤ tt
 
@@ -43,8 +45,11 @@ pub order_fault-take : (fs : List (List ℕ)) → order_fault (take 7 fs) ≡ or
 order_fault-take [] = refl
 order_fault-take (word ∷ texts) = λ i.
     cond (bytes_eq word (codes "EXPORT")) (export_fault-take texts i)
+    (cond (bytes_eq word (codes "USERS")) (alone_fault-take texts i)
+    (cond (bytes_eq word (codes "STATS")) (alone_fault-take texts i)
+    (cond (bytes_eq word (codes "CONNECTIONS")) (alone_fault-take texts i)
     (cond (bytes_eq word (codes "STOP")) (alone_fault-take texts i)
-    (cond (bytes_eq word (codes "HELP")) (alone_fault-take texts i) (fields_fault-take (word ∷ texts) i)))
+    (cond (bytes_eq word (codes "HELP")) (alone_fault-take texts i) (fields_fault-take (word ∷ texts) i))))))
 
 long_fault : (x : List ℕ) → 200 < length x → first_order_fault x ≡ Some fault.Long
 unfolding first_order_fault

@@ -4,6 +4,7 @@ ghost use Rattle.std.specs.Result.{result_err};
 ghost use Rattle.nmvs_protocol.specs.Commands.{fields_fault};
 ghost use Rattle.nmvs_operator.specs.Orders.{ReadsOrder, order_fields, is_order, order_fault, alone_fault, export_fault};
 
+use crate::Topic;
 use nmvs_protocol::{Command, CommandFault, command_of, fields_of};
 
 #[cfg(test)]
@@ -16,6 +17,10 @@ pub enum Order<'l> {
     Change(Command),
     /// The audit trail as it is now, written to the file of this path.
     Export(&'l str),
+    /// The users that were published, and how they stand.
+    Users,
+    /// What the server counts.
+    Count(Topic),
     /// The end of the server.
     Stop,
     /// The lines that there are.
@@ -47,14 +52,11 @@ fn read_fields<'l>(fields: &[&'l str]) -> Result<Order<'l>, CommandFault>
         [] => Err(CommandFault::Word),
         [word, texts @ ..] => match *word {
             "EXPORT" => read_export(texts),
-            "STOP" => {
-                stands_alone(texts)?;
-                Ok(Order::Stop)
-            }
-            "HELP" => {
-                stands_alone(texts)?;
-                Ok(Order::Help)
-            }
+            "USERS" => alone(Order::Users, texts),
+            "STATS" => alone(Order::Count(Topic::Stats), texts),
+            "CONNECTIONS" => alone(Order::Count(Topic::Connections), texts),
+            "STOP" => alone(Order::Stop, texts),
+            "HELP" => alone(Order::Help, texts),
             _ => read_change(fields),
         },
     }
@@ -72,13 +74,14 @@ fn read_export<'l>(texts: &[&'l str]) -> Result<Order<'l>, CommandFault>
     }
 }
 
-/// Whether no text comes after a word that stands alone.
-fn stands_alone(texts: &[&str]) -> Result<(), CommandFault>
+/// The order whose word stands alone, where no text comes after it.
+fn alone<'l>(order: Order<'l>, texts: &[&str]) -> Result<Order<'l>, CommandFault>
+    ensures order { IfOk result (λ taken. taken ≡ order) }
     ensures alone { OnOk result (map (λ t. t.now) texts.now ≡ []) }
     ensures fault { result_err result ≡ alone_fault (map (λ t. t.now) texts.now) }
 {
     match texts {
-        [] => Ok(()),
+        [] => Ok(order),
         _ => Err(CommandFault::Fields),
     }
 }

@@ -1,33 +1,33 @@
-use Rattle.std.proofs.Common.{rules, subst, ◌≡◌, ℕ, List, Ok, Err, refl, sym}
+use Rattle.std.proofs.Common.{rules, [], Ok, Err, refl, sym, ◌++◌, codes, string_bytes}
+use Rattle.nmvs_directory.specs.Registrar.{register_of, published}
+use Rattle.nmvs_directory.specs.Users.{users_of}
 use Rattle.nmvs_operator.specs.declared.faults.ObeyFault.TheVariants as obey
-use Rattle.nmvs_operator.specs.Commands.{Tries, is_stop}
-use Rattle.nmvs_operator.proofs.CommandLemmas.{tells, not_stop}
+use Rattle.nmvs_operator.specs.declared.order.Order.TheVariants as orders
+use Rattle.nmvs_operator.specs.Commands.{office, ways, saying}
+use Rattle.nmvs_operator.specs.Figures.{figure_lines}
+use Rattle.nmvs_operator.specs.Roll.{user_lines}
+use Rattle.nmvs_operator.proofs.CommandLemmas.{tells, not_stop, no_lines, made_lines, on_ok}
 use Rattle.nmvs_operator.proofs.commands.obey_line.Goals as goal
 
 pub returns-in-Err : goal.returns-in-Err
-returns-in-Err g c =
-    (Err (obey.Unread c.in-Err.fault), (c.in-Err.ensures, refl), tells c.fault_text.ensures c.tell.ensures, refl)
-
-pub returns-in-Err-carry_out : goal.returns-in-Err-carry_out
-returns-in-Err-carry_out g c = (
-  Err c.in-Err-carry_out.fault,
-  c.in-Err-carry_out.ensures.answers c.args.line.now c.in-Ok.ensures,
-  tells c.fault_text-in-Err-carry_out.ensures c.tell-in-Err-carry_out.ensures,
+returns-in-Err g c = (
+  saying [] (Err (obey.Unread c.in-Err.fault)),
+  ((c.in-Err.ensures, refl), refl),
+  tells c.fault_text.ensures c.tell.ensures,
   refl,
 )
 
+pub returns-in-Users : goal.returns-in-Users
+returns-in-Users g c = ?
+
+pub returns-in-Count : goal.returns-in-Count
+returns-in-Count g c = ?
+
+pub returns-in-Err-carry_out : goal.returns-in-Err-carry_out
+returns-in-Err-carry_out g c = ?
+
 pub returns-in-Stop : goal.returns-in-Stop
-returns-in-Stop g c = (
-  Ok c.in-Ok.order,
-  c.in-Ok-carry_out.ensures.answers c.args.line.now c.in-Ok.ensures,
-  tells c.done_text.ensures c.tell-in-Ok-carry_out.ensures,
-  search rules,
-)
+returns-in-Stop g c = ?
 
 pub returns-in_default : goal.returns-in_default
-returns-in_default g c = (
-  Ok c.in-Ok.order,
-  c.in-Ok-carry_out.ensures.answers c.args.line.now c.in-Ok.ensures,
-  tells c.done_text.ensures c.tell-in-Ok-carry_out.ensures,
-  sym (not_stop c.in-Ok.order c.in_default.not-Stop),
-)
+returns-in_default g c = ?
