@@ -52,11 +52,26 @@ fn read_fields<'l>(fields: &[&'l str]) -> Result<Order<'l>, CommandFault>
         [] => Err(CommandFault::Word),
         [word, texts @ ..] => match *word {
             "EXPORT" => read_export(texts),
-            "USERS" => alone(Order::Users, texts),
-            "STATS" => alone(Order::Count(Topic::Stats), texts),
-            "CONNECTIONS" => alone(Order::Count(Topic::Connections), texts),
-            "STOP" => alone(Order::Stop, texts),
-            "HELP" => alone(Order::Help, texts),
+            "USERS" => {
+                stands_alone(texts)?;
+                Ok(Order::Users)
+            }
+            "STATS" => {
+                stands_alone(texts)?;
+                Ok(Order::Count(Topic::Stats))
+            }
+            "CONNECTIONS" => {
+                stands_alone(texts)?;
+                Ok(Order::Count(Topic::Connections))
+            }
+            "STOP" => {
+                stands_alone(texts)?;
+                Ok(Order::Stop)
+            }
+            "HELP" => {
+                stands_alone(texts)?;
+                Ok(Order::Help)
+            }
             _ => read_change(fields),
         },
     }
@@ -74,14 +89,13 @@ fn read_export<'l>(texts: &[&'l str]) -> Result<Order<'l>, CommandFault>
     }
 }
 
-/// The order whose word stands alone, where no text comes after it.
-fn alone<'l>(order: Order<'l>, texts: &[&str]) -> Result<Order<'l>, CommandFault>
-    ensures order { IfOk result (λ taken. taken ≡ order) }
+/// Whether no text comes after a word that stands alone.
+fn stands_alone(texts: &[&str]) -> Result<(), CommandFault>
     ensures alone { OnOk result (map (λ t. t.now) texts.now ≡ []) }
     ensures fault { result_err result ≡ alone_fault (map (λ t. t.now) texts.now) }
 {
     match texts {
-        [] => Ok(order),
+        [] => Ok(()),
         _ => Err(CommandFault::Fields),
     }
 }
