@@ -25,8 +25,8 @@ pub(crate) fn users_text<J: Naming, R: Wait + Drop, A: Allocator>(
     let mut text = String::new(alloc);
     for place in 0..registrar.user_count() {
         match registrar.user(place) {
-            Some((name, standing)) => {
-                let line = user_line(alloc, &name, &standing)?;
+            Some(user) => {
+                let line = user_line(alloc, &user.0, &user.1)?;
                 text.push_str(&line)?;
             }
             None => {}
