@@ -47,17 +47,23 @@ abbrev pub alone_fault : List (List ℕ) → Option CommandFault
 alone_fault [] = None
 alone_fault _ = Some fault.Fields
 
+-- the first fault of these fields, of an order that asks for lines or changes the users
+abbrev pub listing_fault : List (List ℕ) → Option CommandFault
+listing_fault [] = Some fault.Word
+listing_fault (word ∷ texts) =
+    if bytes_eq word (codes "USERS") then alone_fault texts
+    else if bytes_eq word (codes "STATS") then alone_fault texts
+    else if bytes_eq word (codes "CONNECTIONS") then alone_fault texts
+    else fields_fault (word ∷ texts)
+
 -- the first fault of these fields
 abbrev pub order_fault : List (List ℕ) → Option CommandFault
 order_fault [] = Some fault.Word
 order_fault (word ∷ texts) =
     if bytes_eq word (codes "EXPORT") then export_fault texts
-    else if bytes_eq word (codes "USERS") then alone_fault texts
-    else if bytes_eq word (codes "STATS") then alone_fault texts
-    else if bytes_eq word (codes "CONNECTIONS") then alone_fault texts
     else if bytes_eq word (codes "STOP") then alone_fault texts
     else if bytes_eq word (codes "HELP") then alone_fault texts
-    else fields_fault (word ∷ texts)
+    else listing_fault (word ∷ texts)
 
 -- the first fault of a line
 unfoldable pub first_order_fault : List ℕ → Option CommandFault

@@ -164,23 +164,25 @@ fn obey_line<'r, J: Naming, R: Wait, A: Allocator, W: Sink, S: Service>(
             tell(fault_text(ObeyFault::Unread(fault)), sink);
             false
         }
-        Ok(Order::Users) => {
-            tell_made(listed_text(alloc, registrar), sink);
-            false
-        }
-        Ok(Order::Count(topic)) => {
-            tell_made(counted_text(alloc, topic, service), sink);
-            false
-        }
-        Ok(order) => match carry_out(&order, registrar, latest, service) {
-            Err(fault) => {
-                tell(fault_text(fault), sink);
+        Ok(order) => match order {
+            Order::Users => {
+                tell_made(listed_text(alloc, registrar), sink);
                 false
             }
-            Ok(()) => {
-                tell(done_text(&order), sink);
-                matches!(order, Order::Stop)
+            Order::Count(topic) => {
+                tell_made(counted_text(alloc, topic, service), sink);
+                false
             }
+            _ => match carry_out(&order, registrar, latest, service) {
+                Err(fault) => {
+                    tell(fault_text(fault), sink);
+                    false
+                }
+                Ok(()) => {
+                    tell(done_text(&order), sink);
+                    matches!(order, Order::Stop)
+                }
+            },
         },
     }
 }

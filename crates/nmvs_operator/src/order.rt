@@ -2,7 +2,7 @@
 ghost use Rattle.std.specs.Prelude.{◌≡◌, [], ◌∷◌, map, IfOk, OnOk, IsTrue, codes};
 ghost use Rattle.std.specs.Result.{result_err};
 ghost use Rattle.nmvs_protocol.specs.Commands.{fields_fault};
-ghost use Rattle.nmvs_operator.specs.Orders.{ReadsOrder, order_fields, is_order, order_fault, alone_fault, export_fault};
+ghost use Rattle.nmvs_operator.specs.Orders.{ReadsOrder, order_fields, is_order, order_fault, listing_fault, alone_fault, export_fault};
 
 use crate::Topic;
 use nmvs_protocol::{Command, CommandFault, command_of, fields_of};
@@ -52,6 +52,28 @@ fn read_fields<'l>(fields: &[&'l str]) -> Result<Order<'l>, CommandFault>
         [] => Err(CommandFault::Word),
         [word, texts @ ..] => match *word {
             "EXPORT" => read_export(texts),
+            "STOP" => {
+                stands_alone(texts)?;
+                Ok(Order::Stop)
+            }
+            "HELP" => {
+                stands_alone(texts)?;
+                Ok(Order::Help)
+            }
+            _ => read_listing(fields),
+        },
+    }
+}
+
+/// The order that has these fields, where it asks for lines or changes the users.
+fn read_listing<'l>(fields: &[&'l str]) -> Result<Order<'l>, CommandFault>
+    ensures fields { IfOk result (λ order. order_fields order ≡ map (λ f. f.now) fields.now) }
+    ensures valid { IfOk result (λ order. IsTrue (is_order order)) }
+    ensures fault { result_err result ≡ listing_fault (map (λ f. f.now) fields.now) }
+{
+    match fields {
+        [] => Err(CommandFault::Word),
+        [word, texts @ ..] => match *word {
             "USERS" => {
                 stands_alone(texts)?;
                 Ok(Order::Users)
@@ -63,14 +85,6 @@ fn read_fields<'l>(fields: &[&'l str]) -> Result<Order<'l>, CommandFault>
             "CONNECTIONS" => {
                 stands_alone(texts)?;
                 Ok(Order::Count(Topic::Connections))
-            }
-            "STOP" => {
-                stands_alone(texts)?;
-                Ok(Order::Stop)
-            }
-            "HELP" => {
-                stands_alone(texts)?;
-                Ok(Order::Help)
             }
             _ => read_change(fields),
         },
