@@ -13,11 +13,15 @@ use Rattle.nmvs_protocol.proofs.KeptLines.{kept_more}
 use Rattle.nmvs_stream.proofs.LinesOfPieces.{lines_after-append, rest_after-append}
 use Rattle.nmvs_operator.specs.declared.faults.ObeyFault.{ObeyFault}
 use Rattle.nmvs_operator.specs.declared.faults.ObeyFault.TheVariants as obey
+use Rattle.nmvs_directory.specs.Users.{users_of}
+use Rattle.nmvs_operator.specs.declared.figures.Figure.{Figure}
 use Rattle.nmvs_operator.specs.declared.figures.Topic.{Topic}
 use Rattle.nmvs_operator.specs.declared.order.Order.{Order}
 use Rattle.nmvs_operator.specs.declared.order.Order.TheVariants as orders
 use Rattle.nmvs_operator.specs.Orders.{ReadsOrder}
-use Rattle.nmvs_operator.specs.Commands.{Office, Does, Counts, Ways, Said, saying, Ends, Lists, AnswersOrder, AnswersOrders, Tries, TellsAnswers, Obeys, CarriesOut, answer_text, order_text, asks_lines, last_answer, stops, is_stop, GoesOn}
+use Rattle.nmvs_operator.specs.Figures.{figure_lines}
+use Rattle.nmvs_operator.specs.Roll.{user_lines}
+use Rattle.nmvs_operator.specs.Commands.{Office, Does, Counts, Ways, Said, saying, Ends, Lists, AnswersOrder, AnswersOrders, Tries, TellsAnswers, CarriesOut, answer_text, order_text, last_answer, stops, is_stop, GoesOn}
 use Rattle.nmvs_operator.specs.Progress.{AnsweredOrders, StoppedIn, CarriesOutLines, StoppedBy}
 use Rattle.nmvs_operator.proofs.OrderLemmas.{kept_reads_order}
 
@@ -227,51 +231,39 @@ no_lines counts office (orders.Count topic) users counted = absurd (counted topi
 no_lines counts office orders.Stop users counted = refl
 no_lines counts office orders.Help users counted = refl
 
--- an order that the office has done nothing for was carried out
-idle : {S : Type 0} (does : Does S) (office : Office S) (line : List ℕ) (order : Order) → asks_lines order ≡ true → ReadsOrder line (Ok order) → Obeys does office line order office
-idle does office line orders.Users asks read = record { read = read; performs = refl; changes = (refl, refl) }
-idle does office line (orders.Count topic) asks read = record { read = read; performs = refl; changes = (refl, refl) }
-idle does office line (orders.Change command) asks read = absurd cc
-idle does office line (orders.Export path) asks read = absurd cc
-idle does office line orders.Stop asks read = absurd cc
-idle does office line orders.Help asks read = absurd cc
-
-asks_not_stop : (order : Order) → asks_lines order ≡ true → false ≡ stops (Ok order)
-asks_not_stop orders.Users asks = refl
-asks_not_stop (orders.Count topic) asks = refl
-asks_not_stop (orders.Change command) asks = refl
-asks_not_stop (orders.Export path) asks = refl
-asks_not_stop orders.Stop asks = absurd cc
-asks_not_stop orders.Help asks = refl
-
-done_lines : (order : Order) → asks_lines order ≡ true → order_text (Ok order) ≡ codes "DONE\n"
-done_lines orders.Users asks = refl
-done_lines (orders.Count topic) asks = refl
-done_lines (orders.Change command) asks = refl
-done_lines (orders.Export path) asks = refl
-done_lines orders.Stop asks = refl
-done_lines orders.Help asks = absurd cc
-
--- an order that asks for lines is answered by them, or there was no memory for them
-pub made_lines : {S T E : Type 0} (ways : Ways S) (office : Office S) (line : List ℕ) (before after : Taken) (order : Order) (bytes : T → List ℕ) (text : Result T E)
-    → asks_lines order ≡ true → ReadsOrder line (Ok order)
-    → IfOk text (λ t. (lines : List ℕ) × Lists ways.counts office (Ok order) lines × (bytes t ≡ lines ++ codes "DONE\n"))
+-- USERS is answered by the lines of the published users, or there was no memory for them
+pub users_told : {S T E : Type 0} (ways : Ways S) (office : Office S) (line : List ℕ) (before after : Taken) (bytes : T → List ℕ) (text : Result T E)
+    → ReadsOrder line (Ok orders.Users) → IfOk text (λ t. bytes t ≡ user_lines (users_of office.register.published) ++ codes "DONE\n")
     → MatchResult text (λ t. Tries before after (bytes t)) (λ _. Tries before after (codes "FAULT MEMORY\n"))
     → (said : Said) × AnswersOrder ways office line said office × Tries before after (answer_text said) × (false ≡ is_stop said)
-made_lines ways office line before after order bytes (Ok t) asks read made tries = (
-  saying made.0 (Ok order),
-  (idle ways.does office line order asks read, made.1),
-  tells (made.2 ∙ ap (λ (d : List ℕ). made.0 ++ d) (sym (done_lines order asks))) tries,
-  asks_not_stop order asks,
+users_told ways office line before after bytes (Ok t) read made tries = (
+  saying (user_lines (users_of office.register.published)) (Ok orders.Users),
+  (record { read = read; performs = refl; changes = (refl, refl) }, refl),
+  tells made tries,
+  refl,
 )
-made_lines ways office line before after order bytes (Err e) asks read made tries = (
+users_told ways office line before after bytes (Err e) read made tries = (
   saying [] (Err obey.Memory),
-  (inr (record { order = order; read = read; asks = asks; stays = refl }), refl),
+  (inr (record { order = orders.Users; read = read; asks = refl; stays = refl }), refl),
   tries,
   refl,
 )
 
--- what follows of a value, where there is one
-pub on_ok : {T E : Type 0} {P Q : T → Type 0} (r : Result T E) → ((t : T) → P t → Q t) → IfOk r P → IfOk r Q
-on_ok (Ok t) follows p = follows t p
-on_ok (Err e) follows p = p
+-- an order that asks numbers is answered by the lines of figures that the server may count, or there was no memory for them
+pub figures_told : {S T E : Type 0} (ways : Ways S) (office : Office S) (line : List ℕ) (before after : Taken) (topic : Topic) (bytes : T → List ℕ) (text : Result T E)
+    → ReadsOrder line (Ok (orders.Count topic))
+    → IfOk text (λ t. (figures : List Figure) × ways.counts office.service topic figures × (bytes t ≡ figure_lines figures ++ codes "DONE\n"))
+    → MatchResult text (λ t. Tries before after (bytes t)) (λ _. Tries before after (codes "FAULT MEMORY\n"))
+    → (said : Said) × AnswersOrder ways office line said office × Tries before after (answer_text said) × (false ≡ is_stop said)
+figures_told ways office line before after topic bytes (Ok t) read made tries = (
+  saying (figure_lines made.0) (Ok (orders.Count topic)),
+  (record { read = read; performs = refl; changes = (refl, refl) }, (made.0, made.1, refl)),
+  tells made.2 tries,
+  refl,
+)
+figures_told ways office line before after topic bytes (Err e) read made tries = (
+  saying [] (Err obey.Memory),
+  (inr (record { order = orders.Count topic; read = read; asks = refl; stays = refl }), refl),
+  tries,
+  refl,
+)

@@ -1,14 +1,11 @@
-use Rattle.std.proofs.Common.{rules, subst, ◌≡◌, ℕ, List, [], Ok, Err, refl, sym, ap, string_bytes}
-use Rattle.nmvs_directory.specs.Registrar.{register_of, published}
-use Rattle.nmvs_directory.specs.Users.{users_of}
+use Rattle.std.proofs.Common.{rules, subst, [], Ok, Err, refl, sym, string_bytes}
+use Rattle.nmvs_directory.specs.Registrar.{register_of}
 use Rattle.nmvs_operator.specs.declared.faults.ObeyFault.TheVariants as obey
 use Rattle.nmvs_operator.specs.declared.order.Order.{Order}
 use Rattle.nmvs_operator.specs.declared.order.Order.TheVariants as orders
 use Rattle.nmvs_operator.specs.Orders.{ReadsOrder}
 use Rattle.nmvs_operator.specs.Commands.{office, ways, saying}
-use Rattle.nmvs_operator.specs.Figures.{figure_lines}
-use Rattle.nmvs_operator.specs.Roll.{user_lines}
-use Rattle.nmvs_operator.proofs.CommandLemmas.{tells, not_stop, no_lines, made_lines, on_ok}
+use Rattle.nmvs_operator.proofs.CommandLemmas.{tells, not_stop, no_lines, users_told, figures_told}
 use Rattle.nmvs_operator.proofs.commands.obey_line.Goals as goal
 
 pub returns-in-Err : goal.returns-in-Err
@@ -21,18 +18,15 @@ returns-in-Err g c = (
 
 pub returns-in-Users : goal.returns-in-Users
 returns-in-Users g c =
-    let old = office (register_of c.args.registrar.now) c.args.latest.now c.args.service.now in
-    let read = subst (λ (o : Order). ReadsOrder c.args.line.now (Ok o)) c.in-Users.is c.in-Ok.ensures in
-    made_lines (ways g.S.Service.does g.S.Service.counts) old c.args.line.now _ _ orders.Users string_bytes c.listed_text.result refl read
-    (on_ok c.listed_text.result (λ t e. (user_lines (users_of (published c.args.registrar.now)), refl, e)) c.listed_text.ensures)
-    c.tell_made.ensures
+    let now = office (register_of c.args.registrar.now) c.args.latest.now c.args.service.now in
+    users_told (ways g.S.Service.does g.S.Service.counts) now c.args.line.now (g.W.Sink.taken c.args.sink.now) (g.W.Sink.taken c.tell_made.new.sink)
+    string_bytes c.listed_text.result (subst (λ (o : Order). ReadsOrder c.args.line.now (Ok o)) c.in-Users.is c.in-Ok.ensures) c.listed_text.ensures c.tell_made.ensures
 
 pub returns-in-Count : goal.returns-in-Count
 returns-in-Count g c =
-    let old = office (register_of c.args.registrar.now) c.args.latest.now c.args.service.now in
-    let read = subst (λ (o : Order). ReadsOrder c.args.line.now (Ok o)) c.in-Count.is c.in-Ok.ensures in
-    made_lines (ways g.S.Service.does g.S.Service.counts) old c.args.line.now _ _ (orders.Count c.in-Count.topic) string_bytes c.counted_text.result refl read
-    (on_ok c.counted_text.result (λ t e. (figure_lines e.0, (e.0, e.1, refl), e.2)) c.counted_text.ensures)
+    let now = office (register_of c.args.registrar.now) c.args.latest.now c.args.service.now in
+    figures_told (ways g.S.Service.does g.S.Service.counts) now c.args.line.now (g.W.Sink.taken c.args.sink.now) (g.W.Sink.taken c.tell_made-in-Count.new.sink)
+    c.in-Count.topic string_bytes c.counted_text.result (subst (λ (o : Order). ReadsOrder c.args.line.now (Ok o)) c.in-Count.is c.in-Ok.ensures) c.counted_text.ensures
     c.tell_made-in-Count.ensures
 
 pub returns-in-Err-carry_out : goal.returns-in-Err-carry_out
@@ -46,10 +40,15 @@ returns-in-Err-carry_out g c = (
 pub returns-in-Stop : goal.returns-in-Stop
 returns-in-Stop g c = (
   saying [] (Ok c.in-Ok.order),
-  (c.in-Ok-carry_out.ensures.answers c.args.line.now c.in-Ok.ensures, no_lines g.S.Service.counts _ c.in-Ok.order (search rules) (search rules)),
+  (c.in-Ok-carry_out.ensures.answers c.args.line.now c.in-Ok.ensures, no_lines g.S.Service.counts (office (register_of c.args.registrar.now) c.args.latest.now c.args.service.now) c.in-Ok.order (search rules) (search rules)),
   tells c.done_text.ensures c.tell-in-Ok-carry_out.ensures,
   search rules,
 )
 
 pub returns-in_default : goal.returns-in_default
-returns-in_default g c = ?
+returns-in_default g c = (
+  saying [] (Ok c.in-Ok.order),
+  (c.in-Ok-carry_out.ensures.answers c.args.line.now c.in-Ok.ensures, no_lines g.S.Service.counts (office (register_of c.args.registrar.now) c.args.latest.now c.args.service.now) c.in-Ok.order (search rules) (search rules)),
+  tells c.done_text.ensures c.tell-in-Ok-carry_out.ensures,
+  sym (not_stop c.in-Ok.order (search rules)),
+)
