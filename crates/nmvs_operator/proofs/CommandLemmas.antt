@@ -4,7 +4,8 @@ use Rattle.std.proofs.lemmas.List.{append-nil, append_assoc, length-take}
 use Rattle.std.proofs.lemmas.Bool.{eqb-true}
 use Rattle.std.proofs.lemmas.List.Elements.{All-append, All-cons, All-nil}
 use Rattle.std.proofs.Math.Bool.{or-true}
-use Rattle.std.specs.Prelude.{IfOk, MatchResult}
+use Rattle.std.specs.Prelude.{IfOk, MatchResult, is_ok}
+use Rattle.std.specs.Result.{result_err}
 use Rattle.nmvs_stream.specs.Source.{Told, Gives}
 use Rattle.nmvs_stream.specs.Sink.{Taken}
 use Rattle.nmvs_stream.specs.InputLines.{lines_after, rest_after, input_lines, unfinished_line}
@@ -267,3 +268,8 @@ figures_told ways office line before after topic bytes (Err e) read made tries =
   tries,
   refl,
 )
+
+-- what went well has no fault
+pub no_err : {A E : Type 0} (r : Result A E) → true ≡ is_ok r → result_err r ≡ None
+no_err (Ok x) well = refl
+no_err (Err e) well = absurd cc

@@ -41,6 +41,7 @@ alone_fault-take [] = refl
 alone_fault-take (a ∷ texts) = refl
 
 listing_fault-take : (fs : List (List ℕ)) → listing_fault (take 7 fs) ≡ listing_fault fs
+unfolding listing_fault
 listing_fault-take [] = refl
 listing_fault-take (word ∷ texts) = λ i.
     cond (bytes_eq word (codes "USERS")) (alone_fault-take texts i)

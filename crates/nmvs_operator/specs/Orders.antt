@@ -48,7 +48,7 @@ alone_fault [] = None
 alone_fault _ = Some fault.Fields
 
 -- the first fault of these fields, of an order that asks for lines or changes the users
-abbrev pub listing_fault : List (List ℕ) → Option CommandFault
+unfoldable pub listing_fault : List (List ℕ) → Option CommandFault
 listing_fault [] = Some fault.Word
 listing_fault (word ∷ texts) =
     if bytes_eq word (codes "USERS") then alone_fault texts

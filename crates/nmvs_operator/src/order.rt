@@ -66,6 +66,7 @@ fn read_fields<'l>(fields: &[&'l str]) -> Result<Order<'l>, CommandFault>
 }
 
 /// The order that has these fields, where it asks for lines or changes the users.
+#[tactic(auto, unfolding(crate::specs::Orders::listing_fault))]
 fn read_listing<'l>(fields: &[&'l str]) -> Result<Order<'l>, CommandFault>
     ensures fields { IfOk result (λ order. order_fields order ≡ map (λ f. f.now) fields.now) }
     ensures valid { IfOk result (λ order. IsTrue (is_order order)) }

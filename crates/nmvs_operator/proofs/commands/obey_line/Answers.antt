@@ -45,8 +45,8 @@ returns-in-Stop g c = (
   search rules,
 )
 
-pub returns-in_default : goal.returns-in_default
-returns-in_default g c = (
+pub returns-in_default-matches : goal.returns-in_default-matches
+returns-in_default-matches g c = (
   saying [] (Ok c.in-Ok.order),
   (c.in-Ok-carry_out.ensures.answers c.args.line.now c.in-Ok.ensures, no_lines g.S.Service.counts (office (register_of c.args.registrar.now) c.args.latest.now c.args.service.now) c.in-Ok.order (search rules) (search rules)),
   tells c.done_text.ensures c.tell-in-Ok-carry_out.ensures,
