@@ -117,7 +117,7 @@ pub(crate) fn serve_connections<
         tell_port(*run.alloc, run.options, shared.listener, &mut console.sink);
         let mut latest = Latest::new(run.rt, shared.latest);
         let mut service = Running { shared };
-        obey_all(console, registrar, &mut latest, &mut service);
+        obey_all(*run.alloc, console, registrar, &mut latest, &mut service);
         for worker in workers {
             back.push(worker.join(run.rt))?;
         }
