@@ -16,7 +16,7 @@ loop-left-init c =
         whole = search rules;
         right = λ i e above stands. let l = slice_get_within t i e stands in absurd (omega (arith, l, above));
       };
-      heads = λ q. let none : head c.new-heads.result q ≡ None = search rules in ap (λ (o : Option ℕ). unwrap_or o (length t)) none ∙ sym (seek-end q t (length t) (omega arith));
+      heads = λ q. let none : head c.with_hasher-heads.result q ≡ None = search rules in ap (λ (o : Option ℕ). unwrap_or o (length t)) none ∙ sym (seek-end q t (length t) (omega arith));
     }
 
 pub loop-left-preserved : goal.loop-left-preserved
