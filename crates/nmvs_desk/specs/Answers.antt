@@ -61,12 +61,10 @@ pub record IsServed (count index : ℕ) (put : Put) (was now : TokenView) (r : R
   pub answered : IsAnswered count was.seen now.seen r shown
   pub token : now ≡ record was { seen = now.seen; places = was.places ++ r.place ∷ [] }
 
--- what was seen of a shard, of `count`, begins what is seen now: a lawful trail whose entries belong to the shard and are in
--- their grammars and ranges
+-- what was seen of a shard, of `count`, begins what is seen now: a lawful trail whose entries belong to the shard
 pub record IsShown (count index : ℕ) (before after : List Entry) : Type 0 where
   pub begins : IsPrefix before after
   pub lawful : IsLawful after
-  pub in_range : AreEntries after
   pub placed : IsPlaced count index after
 
 -- by the answer of the directory a question by this user was not put; or it is for want of memory, and the directory

@@ -39,7 +39,7 @@ pub(crate) struct Shared<'s, 'r, 'o, R, J: Naming, H: Histories> {
     pub(crate) repository: &'s Repository<'r, H>,
     pub(crate) latest: &'s Mutex<Notice<J>>,
     /// How much each user may still ask, where there is a rate.
-    pub(crate) rates: Option<&'s SharedRates<Global>>,
+    pub(crate) rates: &'s Option<SharedRates<Global>>,
     /// Whether the workers may begin: it is locked until all of them are there.
     pub(crate) ready: &'s Mutex<bool>,
 }

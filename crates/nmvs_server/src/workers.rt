@@ -58,7 +58,7 @@ fn work<'r, R: Wait + Clock, J: Naming, H: Histories>(
     }
     let clock = ProgramClock::new(run.rt, run.options.moment);
     let desk = ClerkDesk::new(run.rt, clerk, shared.repository, shared.latest, clock);
-    let mut desk = OwnDesk::new(RatedDesk::new(desk, Gate::new(run.rt, shared.rates)));
+    let mut desk = OwnDesk::new(RatedDesk::new(desk, Gate::new(run.rt, shared.rates.as_ref())));
     if serve(run.rt, *run.alloc, shared.hall, number, station, &mut desk).is_err() {
         shared.hall.stop(run.rt);
     }
