@@ -14,15 +14,14 @@ fn orders_and_faults_are_read(rt: HostRuntime) {
         read_order(b"EXPORT /srv/trail.txt"),
         Ok(Order::Export("/srv/trail.txt"))
     );
-    for (line, order) in [
-        ("USERS", Order::Users),
-        ("STATS", Order::Count(Topic::Stats)),
-        ("CONNECTIONS", Order::Count(Topic::Connections)),
-        ("STOP", Order::Stop),
-        ("HELP", Order::Help),
-    ] {
-        assert_eq!(rt; read_order(line.as_bytes()), Ok(order), "{line}");
-    }
+    assert_eq!(rt; read_order(b"USERS"), Ok(Order::Users));
+    assert_eq!(rt; read_order(b"STATS"), Ok(Order::Count(Topic::Stats)));
+    assert_eq!(rt;
+        read_order(b"CONNECTIONS"),
+        Ok(Order::Count(Topic::Connections))
+    );
+    assert_eq!(rt; read_order(b"STOP"), Ok(Order::Stop));
+    assert_eq!(rt; read_order(b"HELP"), Ok(Order::Help));
     for (line, fault) in [
         ("EXPORT", CommandFault::Fields),
         ("EXPORT a b", CommandFault::Fields),
