@@ -27,6 +27,8 @@ fault_text (faults.UsersLine number fault) = codes "users line " ++ decimal numb
 fault_text (faults.UsersEnd number) = codes "users line " ++ decimal number ++ codes ": it has no end: UNENDED"
 fault_text (faults.ImportLine number) = codes "import line " ++ decimal number
 fault_text (faults.ImportUnlawful number) = codes "import line " ++ decimal number ++ codes " is unlawful"
+fault_text (faults.JournalRefused path) = codes "journal " ++ path.now ++ codes " refused"
+fault_text (faults.JournalUnwritten path) = codes "cannot write journal " ++ path.now
 fault_text faults.Directory = codes "directory refused"
 fault_text (faults.CannotListen port) = codes "cannot listen on port " ++ decimal port
 fault_text (faults.CannotListenAt path) = codes "cannot listen at " ++ path.now
@@ -40,7 +42,9 @@ fault_text faults.SessionLimit = codes "session limit"
 abbrev pub fault_status : Fault → ℕ
 fault_status (faults.ImportLine number) = 3
 fault_status (faults.ImportUnlawful number) = 3
+fault_status (faults.JournalRefused path) = 3
 fault_status (faults.CannotWrite path) = 4
+fault_status (faults.JournalUnwritten path) = 4
 fault_status faults.LostClerk = 5
 fault_status _ = 1
 

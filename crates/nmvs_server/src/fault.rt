@@ -22,6 +22,10 @@ pub enum Fault<'a> {
     ImportLine(usize),
     /// The reply in this line of the import is not that of the rules.
     ImportUnlawful(usize),
+    /// The journals in the folder of this path are not gone on from.
+    JournalRefused(&'a str),
+    /// Not all of the trail is confirmed by the journals in the folder of this path.
+    JournalUnwritten(&'a str),
     /// A worker was refused its window on the directory.
     Directory,
     /// The port is not to be had.
@@ -54,6 +58,8 @@ impl<'a> fmt::Display for Fault<'a> {
             Fault::UsersEnd(number) => { write!(f, "users line {number}: it has no end: UNENDED") }
             Fault::ImportLine(number) => write!(f, "import line {number}"),
             Fault::ImportUnlawful(number) => write!(f, "import line {number} is unlawful"),
+            Fault::JournalRefused(path) => write!(f, "journal {path} refused"),
+            Fault::JournalUnwritten(path) => write!(f, "cannot write journal {path}"),
             Fault::Directory => f.write_str("directory refused"),
             Fault::CannotListen(port) => write!(f, "cannot listen on port {port}"),
             Fault::CannotListenAt(path) => write!(f, "cannot listen at {path}"),
@@ -86,14 +92,14 @@ impl<'a> Outcome<'a> {
 }
 
 impl<'a> Fault<'a> {
-    /// The status that the program ends with: 3 where a line of the import is refused, 4 where the export is not written,
-    /// 5 where the repository does not settle, and else 1.
+    /// The status that the program ends with: 3 where a line of the import or a journal is refused, 4 where the export or a
+    /// journal is not written, 5 where the repository does not settle, and else 1.
     pub fn status(&self) -> u8
         ensures { result ≡ fault_status self.now }
     {
         match self {
-            Fault::ImportLine(_) | Fault::ImportUnlawful(_) => 3,
-            Fault::CannotWrite(_) => 4,
+            Fault::ImportLine(_) | Fault::ImportUnlawful(_) | Fault::JournalRefused(_) => 3,
+            Fault::CannotWrite(_) | Fault::JournalUnwritten(_) => 4,
             Fault::LostClerk => 5,
             _ => 1,
         }
