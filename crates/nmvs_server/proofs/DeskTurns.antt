@@ -127,7 +127,7 @@ receives_grows old new receipt shown answered others i =
     elim (eqb_tells i receipt.shard) [
       | inl e ↦
           let here : IsPrefix (row old.sights receipt.shard) (row new.sights receipt.shard) =
-            prefix_trans (row old.sights receipt.shard) answered.trail (row new.sights receipt.shard) answered.begins (receipt.entry ∷ [], sym answered.seen) in
+          prefix_trans (row old.sights receipt.shard) answered.trail (row new.sights receipt.shard) answered.begins (receipt.entry ∷ [], sym answered.seen) in
           subst (λ j. IsPrefix (row old.sights j) (row new.sights j)) (sym e.1) here
       | inr e ↦ subst (λ t. IsPrefix (row old.sights i) t) (sym (others i e.1)) (prefix_self (row old.sights i))
     ]

@@ -180,10 +180,7 @@ impl<'r, 'a, R: Wait, J: Naming, H: Histories, K: Clock> ClerkDesk<'r, 'a, R, J,
 
     /// The report of a product code, by its shard, on all of whose trail it rests.
     #[tactic(auto, using(crate::proofs::DeskTurns::sees, crate::proofs::DeskTurns::reports))]
-    fn report_on(
-        &mut self,
-        code: &ProductCode,
-    ) -> Result<(String, Option<Basis>), AllocError>
+    fn report_on(&mut self, code: &ProductCode) -> Result<(String, Option<Basis>), AllocError>
         ensures clock { KeepsClock self.old self.new }
         ensures seen { self.new.seen ≡ self.old.seen }
         ensures receipts { self.new.receipts ≡ self.old.receipts }

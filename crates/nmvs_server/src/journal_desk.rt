@@ -45,8 +45,18 @@ impl<'r, 'v, 'f, 'a, R: Wait, J: Naming, H: Histories, K: Clock, D: Store, L: Al
     ghost invariant = { λ d. IsWithin d.reach d.desk.sights };
 }
 
-impl<'r, 'v, 'f, 'a, R: Wait, J: Naming, H: Histories, K: Clock, D: Store, L: Alarm>
-    JournalDesk<'r, 'v, 'f, 'a, R, J, H, K, D, L> {
+impl<'r, 'v, 'f, 'a, R: Wait, J: Naming, H: Histories, K: Clock, D: Store, L: Alarm> JournalDesk<
+    'r,
+    'v,
+    'f,
+    'a,
+    R,
+    J,
+    H,
+    K,
+    D,
+    L,
+> {
     /// A desk over a clerk's, the offices of its repository's shards, and an alarm.
     pub fn new(
         desk: ClerkDesk<'r, 'a, R, J, H, K>,
@@ -76,8 +86,8 @@ impl<'r, 'v, 'f, 'a, R: Wait, J: Naming, H: Histories, K: Clock, D: Store, L: Al
     }
 }
 
-impl<'r, 'v, 'f, 'a, R: Wait, J: Naming, H: Histories, K: Clock, D: Store + Drop, L: Alarm>
-    Desk<'a> for JournalDesk<'r, 'v, 'f, 'a, R, J, H, K, D, L> {
+impl<'r, 'v, 'f, 'a, R: Wait, J: Naming, H: Histories, K: Clock, D: Store + Drop, L: Alarm> Desk<'a>
+    for JournalDesk<'r, 'v, 'f, 'a, R, J, H, K, D, L> {
     ghost use Rattle.nmvs_offices.specs.Told.{AreKept, IsTold};
     ghost use Rattle.nmvs_server.specs.Desk.{LetsGo, Takes};
 

@@ -14,6 +14,9 @@ returns-clause-answers g c =
           rw (← c.self.view_is, w.result-is, w.new.ensures) (received _ _ _ _ _ _ _ _ gave e.kept e.put e.shard e.answered e.others refl)
       | in-Err w ↦
           let e = w.in-Err.ensures in
-          rw (← c.self.view_is, w.result-is, w.turn_by.ensures) (refl, turned_away _ _ _ _
-          (stays _ _ (ap (λ (v : ClerkView). v.receipts) e.unchanged) (ap (λ (v : ClerkView). v.sights) e.unchanged)) e.turned_away)
+          rw (← c.self.view_is, w.result-is, w.turn_by.ensures) (
+            refl,
+            turned_away _ _ _ _
+                (stays _ _ (ap (λ (v : ClerkView). v.receipts) e.unchanged) (ap (λ (v : ClerkView). v.sights) e.unchanged)) e.turned_away,
+          )
     ]
