@@ -58,8 +58,9 @@ fn accept_all<R: Wait>(
     for _ in 0..u64::MAX {
         match listener.accept() {
             Ok(connection) => {
-                if hall.enter(rt) {
-                    hall.deal(rt, *number, connection);
+                let worker = hall.worker_of(*number);
+                if hall.enter(rt, worker) {
+                    hall.deal(rt, worker, connection);
                     *number = number.wrapping_add(1);
                 } else {
                     turn_away(connection);

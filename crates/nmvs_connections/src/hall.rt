@@ -2,7 +2,7 @@
 use crate::connection::Connection;
 use mio::{Events, Poll, Token, Waker};
 use nmvs_protocol::NameOf;
-use std::alloc::Global;
+use std::alloc::{AllocError, Global};
 use std::io;
 use std::net::Net;
 use std::sync::{Mutex, Wait};
@@ -34,9 +34,42 @@ pub struct Bounds {
 #[derive(Drop)]
 struct Counts {
     open: usize,
+    /// How many of them each worker has.
+    workers: Vec<usize>,
+    /// How many sessions have begun.
+    begun: u64,
     /// How many more sessions may begin.
     sessions: u64,
     stopped: bool,
+}
+
+impl Counts {
+    /// Counts a connection more of the worker of this number.
+    fn enter(&mut self, worker: usize) {
+        self.open = self.open.saturating_add(1);
+        if let Some(open) = self.workers.get_mut(worker) {
+            *open = open.saturating_add(1);
+        }
+    }
+
+    /// Counts a connection less of the worker of this number.
+    fn leave(&mut self, worker: usize) {
+        self.open = self.open.saturating_sub(1);
+        if let Some(open) = self.workers.get_mut(worker) {
+            *open = open.saturating_sub(1);
+        }
+    }
+}
+
+/// What a hall counts, at one moment.
+#[derive(Debug, Drop)]
+pub struct Load {
+    /// How many connections are open.
+    pub open: usize,
+    /// How many of them each worker has.
+    pub workers: Vec<usize>,
+    /// How many sessions have begun in which a line is served.
+    pub sessions: u64,
 }
 
 /// How a worker is reached: the connections that were dealt to it, and what ends its wait.
@@ -92,6 +125,8 @@ impl Hall {
             bounds,
             counts: Mutex::new(Counts {
                 open: 0,
+                workers: Vec::from_elem(alloc, 0, workers)?,
+                begun: 0,
                 sessions: bounds.sessions,
                 stopped: false,
             }),
@@ -137,20 +172,42 @@ impl Hall {
         self.bounds.proxy
     }
 
-    /// Counts a connection that was accepted, where one more may be open.
-    pub(crate) fn enter(&self, rt: &impl Wait) -> bool {
+    /// What it counts now. Connections are counted where they begin and end, and no line costs anything for it.
+    ///
+    /// # Errors
+    ///
+    /// There is no memory for the list of workers.
+    pub fn load(&self, rt: &impl Wait, alloc: Global) -> Result<Load, AllocError> {
+        let mut workers = Vec::with_capacity(alloc, self.places.len())?;
+        let counts = self.counts.lock(rt);
+        for open in &counts.workers {
+            workers.push(*open)?;
+        }
+        Ok(Load {
+            open: counts.open,
+            workers,
+            sessions: counts.begun,
+        })
+    }
+
+    /// The worker to which the connection of this number is dealt: the next one of their row.
+    pub(crate) fn worker_of(&self, number: usize) -> usize {
+        number.checked_rem(self.places.len()).unwrap_or(0)
+    }
+
+    /// Counts a connection that was accepted for a worker, where one more may be open.
+    pub(crate) fn enter(&self, rt: &impl Wait, worker: usize) -> bool {
         let mut counts = self.counts.lock(rt);
         let enters = counts.open < self.bounds.connections;
         if enters {
-            counts.open = counts.open.saturating_add(1);
+            counts.enter(worker);
         }
         enters
     }
 
-    /// Counts a connection no more.
-    pub(crate) fn leave(&self, rt: &impl Wait) {
-        let mut counts = self.counts.lock(rt);
-        counts.open = counts.open.saturating_sub(1);
+    /// Counts a connection of a worker no more.
+    pub(crate) fn leave(&self, rt: &impl Wait, worker: usize) {
+        self.counts.lock(rt).leave(worker);
     }
 
     /// Counts a session in which a line is to be served, where one more may begin. With the last of them the other
@@ -163,6 +220,7 @@ impl Hall {
         if self.bounds.sessions < u64::MAX {
             counts.sessions = counts.sessions.saturating_sub(1);
         }
+        counts.begun = counts.begun.saturating_add(1);
         let was_last = counts.sessions == 0;
         drop(counts);
         if was_last {
@@ -171,17 +229,14 @@ impl Hall {
         true
     }
 
-    /// Deals a connection to a worker: the next one of their row.
-    pub(crate) fn deal(&self, rt: &impl Wait, number: usize, connection: Connection) {
-        let Some(place) = self
-            .places
-            .get(number.checked_rem(self.places.len()).unwrap_or(0))
-        else {
+    /// Deals a connection to a worker.
+    pub(crate) fn deal(&self, rt: &impl Wait, worker: usize, connection: Connection) {
+        let Some(place) = self.places.get(worker) else {
             return;
         };
         match place.inbox.lock(rt).push(connection) {
             Ok(()) => {}
-            Err(_) => self.leave(rt),
+            Err(_) => self.leave(rt, worker),
         }
         let _full = place.waker.wake();
     }

@@ -33,13 +33,13 @@ pub fn serve<'a, R: Wait + Clock, D: Desk<'a> + Authorisations>(
         mut events,
     } = station;
     let mut bench = Bench::new(alloc, Instant::now(rt)?);
-    let mut floor = Floor::new(alloc, bench.now);
+    let mut floor = Floor::new(alloc, worker, bench.now);
     for _ in 0..u64::MAX {
         poll.poll(&mut events, floor.patience())?;
         bench.now = Instant::now(rt)?;
         if floor.note_all(&events) {
             floor.heed(rt, hall);
-            floor.admit_all(rt, hall, worker, poll.registry(), &bench);
+            floor.admit_all(rt, hall, poll.registry(), &bench);
         }
         floor.take_turns(rt, hall, &mut bench, desk);
         floor.grow_old(rt, hall, bench.now);
@@ -53,6 +53,8 @@ pub fn serve<'a, R: Wait + Clock, D: Desk<'a> + Authorisations>(
 /// The connections of a worker, and whose turns come.
 #[derive(Drop)]
 struct Floor {
+    /// The number of the worker.
+    worker: usize,
     seats: Slab<Seat>,
     turns: Vec<usize>,
     later: Vec<usize>,
@@ -63,8 +65,9 @@ struct Floor {
 }
 
 impl Floor {
-    fn new(alloc: Global, now: Instant) -> Floor {
+    fn new(alloc: Global, worker: usize, now: Instant) -> Floor {
         Floor {
+            worker,
             seats: Slab::new(alloc),
             turns: Vec::new(alloc),
             later: Vec::new(alloc),
@@ -119,20 +122,13 @@ impl Floor {
     }
 
     /// Admits the connections that were dealt to the worker.
-    fn admit_all<R: Wait>(
-        &mut self,
-        rt: &R,
-        hall: &Hall,
-        worker: usize,
-        registry: &Registry,
-        bench: &Bench<'_>,
-    ) {
+    fn admit_all<R: Wait>(&mut self, rt: &R, hall: &Hall, registry: &Registry, bench: &Bench<'_>) {
         for _ in 0..u64::MAX {
-            let Some(connection) = hall.next_dealt(rt, worker) else {
+            let Some(connection) = hall.next_dealt(rt, self.worker) else {
                 return;
             };
             if self.closing || self.admit(hall, registry, connection, bench).is_err() {
-                hall.leave(rt);
+                hall.leave(rt, self.worker);
             }
         }
     }
@@ -218,7 +214,7 @@ impl Floor {
     /// Closes a connection.
     fn remove<R: Wait>(&mut self, rt: &R, hall: &Hall, key: usize) {
         if self.seats.try_remove(key).is_some() {
-            hall.leave(rt);
+            hall.leave(rt, self.worker);
         }
     }
 

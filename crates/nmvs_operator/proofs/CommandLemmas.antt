@@ -1,9 +1,11 @@
 -- The operator's orders go on, line by line.
-use Rattle.std.proofs.Common.{◌≡◌, ◌≢◌, ◌∙◌, ◌++◌, ◌∷◌, ◌<◌, ◌==◌, ◌||◌, ◌⊎◌, [], inl, inr, refl, sym, ap, subst, arith, ℕ, true, false, List, length, take, Option, Some, None, Result, Ok, Err}
+use Rattle.std.proofs.Common.{◌≡◌, ◌≢◌, ◌∙◌, ◌++◌, ◌∷◌, ◌<◌, ◌==◌, ◌||◌, ◌⊎◌, [], inl, inr, refl, sym, ap, subst, arith, ℕ, true, false, List, length, take, codes, Option, Some, None, Result, Ok, Err}
 use Rattle.std.proofs.lemmas.List.{append-nil, append_assoc, length-take}
 use Rattle.std.proofs.lemmas.Bool.{eqb-true}
 use Rattle.std.proofs.lemmas.List.Elements.{All-append, All-cons, All-nil}
 use Rattle.std.proofs.Math.Bool.{or-true}
+use Rattle.std.specs.Prelude.{IfOk, MatchResult, is_ok}
+use Rattle.std.specs.Result.{result_err}
 use Rattle.nmvs_stream.specs.Source.{Told, Gives}
 use Rattle.nmvs_stream.specs.Sink.{Taken}
 use Rattle.nmvs_stream.specs.InputLines.{lines_after, rest_after, input_lines, unfinished_line}
@@ -12,89 +14,108 @@ use Rattle.nmvs_protocol.proofs.KeptLines.{kept_more}
 use Rattle.nmvs_stream.proofs.LinesOfPieces.{lines_after-append, rest_after-append}
 use Rattle.nmvs_operator.specs.declared.faults.ObeyFault.{ObeyFault}
 use Rattle.nmvs_operator.specs.declared.faults.ObeyFault.TheVariants as obey
+use Rattle.nmvs_directory.specs.Users.{users_of}
+use Rattle.nmvs_operator.specs.declared.figures.Figure.{Figure}
+use Rattle.nmvs_operator.specs.declared.figures.Topic.{Topic}
 use Rattle.nmvs_operator.specs.declared.order.Order.{Order}
 use Rattle.nmvs_operator.specs.declared.order.Order.TheVariants as orders
-use Rattle.nmvs_operator.specs.Commands.{Office, Does, AnswersOrder, AnswersOrders, Tries, TellsAnswers, CarriesOut, order_text, last_answer, is_stop, GoesOn}
+use Rattle.nmvs_operator.specs.Orders.{ReadsOrder}
+use Rattle.nmvs_operator.specs.Figures.{figure_lines}
+use Rattle.nmvs_operator.specs.Roll.{user_lines}
+use Rattle.nmvs_operator.specs.Commands.{Office, Does, Counts, Ways, Said, saying, Ends, Lists, AnswersOrder, AnswersOrders, Tries, TellsAnswers, CarriesOut, answer_text, order_text, last_answer, stops, is_stop, GoesOn}
 use Rattle.nmvs_operator.specs.Progress.{AnsweredOrders, StoppedIn, CarriesOutLines, StoppedBy}
 use Rattle.nmvs_operator.proofs.OrderLemmas.{kept_reads_order}
 
--- what is kept of an order is answered as the order is
-kept_answers : {S : Type 0} (does : Does S) (old : Office S) (x : List ℕ) (a : Result Order ObeyFault) (new : Office S) → AnswersOrder does old (kept_part x) a new → AnswersOrder does old x a new
-kept_answers does old x (Ok order) new h = record { read = kept_reads_order x (Ok order) h.read; performs = h.performs; changes = h.changes }
-kept_answers does old x (Err (obey.Unread fault)) new h = (kept_reads_order x (Err fault) h.0, h.1)
-kept_answers does old x (Err (obey.Undone fault)) new h =
+-- what is kept of an order ends as the order does
+kept_ends : {S : Type 0} (does : Does S) (old : Office S) (x : List ℕ) (a : Result Order ObeyFault) (new : Office S) → Ends does old (kept_part x) a new → Ends does old x a new
+kept_ends does old x (Ok order) new h = record { read = kept_reads_order x (Ok order) h.read; performs = h.performs; changes = h.changes }
+kept_ends does old x (Err (obey.Unread fault)) new h = (kept_reads_order x (Err fault) h.0, h.1)
+kept_ends does old x (Err (obey.Undone fault)) new h =
     record { order = h.order; read = kept_reads_order x (Ok h.order) h.read; performs = h.performs; stays = h.stays }
-kept_answers does old x (Err obey.Memory) new h = record {
+kept_ends does old x (Err obey.Memory) new (inl h) = inl (record {
   command = h.command;
   read = kept_reads_order x (Ok (orders.Change h.command)) h.read;
   performs = h.performs;
   published = h.published;
   pending = h.pending;
   latest = h.latest;
-}
-kept_answers does old x (Err obey.Unended) new h = absurd h
+})
+kept_ends does old x (Err obey.Memory) new (inr h) =
+    inr (record { order = h.order; read = kept_reads_order x (Ok h.order) h.read; asks = h.asks; stays = h.stays })
+kept_ends does old x (Err obey.Unended) new h = absurd h
 
-answers_more : {S : Type 0} (does : Does S) (first : Office S) (xs : List (List ℕ)) (said : List (Result Order ObeyFault)) (now new : Office S) (x : List ℕ) (a : Result Order ObeyFault)
-    → AnswersOrders does first xs said now → AnswersOrder does now x a new → AnswersOrders does first (xs ++ x ∷ []) (said ++ a ∷ []) new
-answers_more {S} does first [] [] now new x a r s = (new, subst (λ (d : Office S). AnswersOrder does d x a new) r s, refl)
-answers_more does first (y ∷ ys) (b ∷ bs) now new x a r s = (r.0, r.1, answers_more does r.0 ys bs now new x a r.2 s)
-answers_more does first [] (b ∷ bs) now new x a r s = absurd r
-answers_more does first (y ∷ ys) [] now new x a r s = absurd r
+-- what is kept of an order is answered as the order is
+kept_answers : {S : Type 0} (ways : Ways S) (old : Office S) (x : List ℕ) (a : Said) (new : Office S) → AnswersOrder ways old (kept_part x) a new → AnswersOrder ways old x a new
+kept_answers ways old x a new h = (kept_ends ways.does old x a.ends new h.0, h.1)
 
-told_more : (start : Taken) (said : List (Result Order ObeyFault)) (now new : Taken) (a : Result Order ObeyFault)
-    → TellsAnswers start said now → Tries now new (order_text a) → TellsAnswers start (said ++ a ∷ []) new
-told_more start [] now new a r s = (new, subst (λ (t : Taken). Tries t new (order_text a)) r s, refl)
+answers_more : {S : Type 0} (ways : Ways S) (first : Office S) (xs : List (List ℕ)) (said : List Said) (now new : Office S) (x : List ℕ) (a : Said)
+    → AnswersOrders ways first xs said now → AnswersOrder ways now x a new → AnswersOrders ways first (xs ++ x ∷ []) (said ++ a ∷ []) new
+answers_more {S} ways first [] [] now new x a r s = (new, subst (λ (d : Office S). AnswersOrder ways d x a new) r s, refl)
+answers_more ways first (y ∷ ys) (b ∷ bs) now new x a r s = (r.0, r.1, answers_more ways r.0 ys bs now new x a r.2 s)
+answers_more ways first [] (b ∷ bs) now new x a r s = absurd r
+answers_more ways first (y ∷ ys) [] now new x a r s = absurd r
+
+told_more : (start : Taken) (said : List Said) (now new : Taken) (a : Said)
+    → TellsAnswers start said now → Tries now new (answer_text a) → TellsAnswers start (said ++ a ∷ []) new
+told_more start [] now new a r s = (new, subst (λ (t : Taken). Tries t new (answer_text a)) r s, refl)
 told_more start (b ∷ bs) now new a r s = (r.0, r.1, told_more r.0 bs now new a r.2 s)
 
 -- one order more, which does not stop the server
-pub one_more : {S : Type 0} {does : Does S} {first now : Office S} {start sink : Taken} {lines : List (List ℕ)} (new : Office S) (sink' : Taken) (x : List ℕ) (a : Result Order ObeyFault)
-    → AnsweredOrders does first start now sink lines → AnswersOrder does now (kept_part x) a new
-    → Tries sink sink' (order_text a) → is_stop a ≡ false → AnsweredOrders does first start new sink' (lines ++ x ∷ [])
-one_more {does = does} {first = first} {now = now} {start = start} {sink = sink} {lines = lines} new sink' x a so_far answers told goes = record {
+pub one_more : {S : Type 0} {ways : Ways S} {first now : Office S} {start sink : Taken} {lines : List (List ℕ)} (new : Office S) (sink' : Taken) (x : List ℕ) (a : Said)
+    → AnsweredOrders ways first start now sink lines → AnswersOrder ways now (kept_part x) a new
+    → Tries sink sink' (answer_text a) → is_stop a ≡ false → AnsweredOrders ways first start new sink' (lines ++ x ∷ [])
+one_more {ways = ways} {first = first} {now = now} {start = start} {sink = sink} {lines = lines} new sink' x a so_far answers told goes = record {
   said = so_far.said ++ a ∷ [];
-  answers = answers_more does first lines so_far.said now new x a so_far.answers (kept_answers does now x a new answers);
+  answers = answers_more ways first lines so_far.said now new x a so_far.answers (kept_answers ways now x a new answers);
   told = told_more start so_far.said sink sink' a so_far.told told;
   goes_on = All-append (λ a. is_stop a ≡ false) so_far.said (a ∷ []) so_far.goes_on (All-cons (λ a. is_stop a ≡ false) a [] goes (All-nil _));
 }
 
+-- an order that stopped the server asked for no lines
+stop_lines : {S : Type 0} (counts : Counts S) (old : Office S) (ends : Result Order ObeyFault) (lines : List ℕ) → Lists counts old ends lines → stops ends ≡ true
+    → saying lines ends ≡ saying [] (Ok orders.Stop)
+stop_lines counts old (Ok orders.Stop) lines none stop = ap (λ (l : List ℕ). saying l (Ok orders.Stop)) none
+stop_lines counts old (Ok (orders.Change c)) lines none stop = absurd cc
+stop_lines counts old (Ok (orders.Export p)) lines none stop = absurd cc
+stop_lines counts old (Ok orders.Users) lines none stop = absurd cc
+stop_lines counts old (Ok (orders.Count t)) lines none stop = absurd cc
+stop_lines counts old (Ok orders.Help) lines none stop = absurd cc
+stop_lines counts old (Err f) lines none stop = absurd cc
+
 -- one order more, which stops the server; what is behind it is not looked at
-pub one_stop : {S : Type 0} {does : Does S} {first now : Office S} {start sink : Taken} {lines : List (List ℕ)} (new : Office S) (sink' : Taken) (x : List ℕ) (a : Result Order ObeyFault) (input : List ℕ) (rest : List (List ℕ))
-    → AnsweredOrders does first start now sink lines → AnswersOrder does now (kept_part x) a new
-    → Tries sink sink' (order_text a) → is_stop a ≡ true → input_lines input ≡ (lines ++ x ∷ []) ++ rest → StoppedIn does first start new sink' input
-one_stop {does = does} {first = first} {now = now} {start = start} {sink = sink} {lines = lines} new sink' x (Ok orders.Stop) input rest so_far answers told stops these = record {
+pub one_stop : {S : Type 0} {ways : Ways S} {first now : Office S} {start sink : Taken} {lines : List (List ℕ)} (new : Office S) (sink' : Taken) (x : List ℕ) (a : Said) (input : List ℕ) (rest : List (List ℕ))
+    → AnsweredOrders ways first start now sink lines → AnswersOrder ways now (kept_part x) a new
+    → Tries sink sink' (answer_text a) → is_stop a ≡ true → input_lines input ≡ (lines ++ x ∷ []) ++ rest → StoppedIn ways first start new sink' input
+one_stop {ways = ways} {first = first} {now = now} {start = start} {sink = sink} {lines = lines} new sink' x a input rest so_far answers told stops these = record {
   lines = lines ++ x ∷ [];
-  said = so_far.said ++ Ok orders.Stop ∷ [];
-  answers = answers_more does first lines so_far.said now new x (Ok orders.Stop) so_far.answers (kept_answers does now x (Ok orders.Stop) new answers);
+  said = so_far.said ++ a ∷ [];
+  answers = answers_more ways first lines so_far.said now new x a so_far.answers (kept_answers ways now x a new answers);
   ends = record {
     rest = rest;
     these = these;
     before = so_far.said;
-    last = refl;
+    last = ap (λ (s : Said). so_far.said ++ s ∷ []) (stop_lines ways.counts now a.ends a.lines answers.1 stops);
     goes_on = so_far.goes_on;
-    told = told_more start so_far.said sink sink' (Ok orders.Stop) so_far.told told;
+    told = told_more start so_far.said sink sink' a so_far.told told;
   };
 }
-one_stop new sink' x (Ok (orders.Change c)) input rest so_far answers told stops these = absurd cc
-one_stop new sink' x (Ok (orders.Export p)) input rest so_far answers told stops these = absurd cc
-one_stop new sink' x (Ok orders.Help) input rest so_far answers told stops these = absurd cc
-one_stop new sink' x (Err f) input rest so_far answers told stops these = absurd cc
 
 -- the same of equal lines
-pub same_lines : {S : Type 0} {does : Does S} {first now : Office S} {start sink : Taken} {xs ys : List (List ℕ)} → xs ≡ ys
-    → AnsweredOrders does first start now sink xs → AnsweredOrders does first start now sink ys
-same_lines {does = does} {first = first} {now = now} {start = start} {sink = sink} e h = subst (λ (t : List (List ℕ)). AnsweredOrders does first start now sink t) e h
+pub same_lines : {S : Type 0} {ways : Ways S} {first now : Office S} {start sink : Taken} {xs ys : List (List ℕ)} → xs ≡ ys
+    → AnsweredOrders ways first start now sink xs → AnsweredOrders ways first start now sink ys
+same_lines {ways = ways} {first = first} {now = now} {start = start} {sink = sink} e h = subst (λ (t : List (List ℕ)). AnsweredOrders ways first start now sink t) e h
 
 -- the answers, where an order was begun behind the last one
-one_last : (begun : List ℕ) (said : List (Result Order ObeyFault)) (sink mid sink' : Taken) → 0 < length begun → TellsAnswers sink said mid
+one_last : (begun : List ℕ) (said : List Said) (sink mid sink' : Taken) → 0 < length begun → TellsAnswers sink said mid
     → Tries mid sink' (order_text (Err obey.Unended)) → TellsAnswers sink (said ++ last_answer begun) sink'
 one_last [] said sink mid sink' some told tries = absurd (omega arith)
-one_last (b ∷ begun) said sink mid sink' some told tries = told_more sink said mid sink' (Err obey.Unended) told tries
+one_last (b ∷ begun) said sink mid sink' some told tries = told_more sink said mid sink' (saying [] (Err obey.Unended)) told tries
 
 -- the orders of an input behind which an order was begun
-pub carried-begun : {S : Type 0} (does : Does S) (old new : Office S) (source source' : Told) (sink mid sink' : Taken) (begun : List ℕ)
-    → CarriesOutLines does old source sink new source' mid begun → 0 < length begun → Tries mid sink' (order_text (Err obey.Unended))
-    → CarriesOut does old source sink new source' sink'
-carried-begun does old new source source' sink mid sink' begun carried some tries = record {
+pub carried-begun : {S : Type 0} (ways : Ways S) (old new : Office S) (source source' : Told) (sink mid sink' : Taken) (begun : List ℕ)
+    → CarriesOutLines ways old source sink new source' mid begun → 0 < length begun → Tries mid sink' (order_text (Err obey.Unended))
+    → CarriesOut ways old source sink new source' sink'
+carried-begun ways old new source source' sink mid sink' begun carried some tries = record {
   input = carried.input;
   read = carried.read;
   lines = input_lines carried.input;
@@ -113,9 +134,9 @@ carried-begun does old new source source' sink mid sink' begun carried some trie
     kept_some (b ∷ x) lt = omega arith
 
 -- the orders of an input behind which none was begun
-pub carried-all : {S : Type 0} (does : Does S) (old new : Office S) (source source' : Told) (sink sink' : Taken) (begun : List ℕ)
-    → CarriesOutLines does old source sink new source' sink' begun → (length begun == 0) ≡ true → CarriesOut does old source sink new source' sink'
-carried-all does old new source source' sink sink' begun carried none = record {
+pub carried-all : {S : Type 0} (ways : Ways S) (old new : Office S) (source source' : Told) (sink sink' : Taken) (begun : List ℕ)
+    → CarriesOutLines ways old source sink new source' sink' begun → (length begun == 0) ≡ true → CarriesOut ways old source sink new source' sink'
+carried-all ways old new source source' sink sink' begun carried none = record {
   input = carried.input;
   read = carried.read;
   lines = input_lines carried.input;
@@ -137,9 +158,9 @@ carried-all does old new source source' sink sink' begun carried none = record {
         absurd (omega (arith, counted, none))
 
 -- the orders of an input that stopped the server
-pub carried-stopped : {S : Type 0} (does : Does S) (old new : Office S) (source source' : Told) (sink sink' : Taken)
-    → StoppedBy does old source sink new source' sink' → CarriesOut does old source sink new source' sink'
-carried-stopped does old new source source' sink sink' by = record {
+pub carried-stopped : {S : Type 0} (ways : Ways S) (old new : Office S) (source source' : Told) (sink sink' : Taken)
+    → StoppedBy ways old source sink new source' sink' → CarriesOut ways old source sink new source' sink'
+carried-stopped ways old new source source' sink sink' by = record {
   input = by.input;
   read = by.read;
   lines = by.stopped.lines;
@@ -157,18 +178,18 @@ end_read old new buffer count none gives = (
 
 -- of the lines of some bytes these were answered; the others, and what has no end, are in the rest of a read and in what
 -- was begun before it, of which so much is kept
-pub record OrdersAhead {S : Type 0} (does : Does S) (first : Office S) (start : Taken) (now : Office S) (sink : Taken) (line rest bytes : List ℕ) : Type 0 where
+pub record OrdersAhead {S : Type 0} (ways : Ways S) (first : Office S) (start : Taken) (now : Office S) (sink : Taken) (line rest bytes : List ℕ) : Type 0 where
   pub done : List (List ℕ)
   pub begun : List ℕ
   pub keeps : line ≡ kept_part begun
-  pub answered : AnsweredOrders does first start now sink done
+  pub answered : AnsweredOrders ways first start now sink done
   pub ahead : done ++ lines_after begun rest ≡ input_lines bytes
   pub left : rest_after begun rest ≡ unfinished_line bytes
 
 -- before anything of a read is looked at
-pub ahead_first : {S : Type 0} {does : Does S} {first now : Office S} {start sink : Taken} {line : List ℕ} (input chunk : List ℕ)
-    → line ≡ kept_part (unfinished_line input) → AnsweredOrders does first start now sink (input_lines input)
-    → OrdersAhead does first start now sink line chunk (input ++ chunk)
+pub ahead_first : {S : Type 0} {ways : Ways S} {first now : Office S} {start sink : Taken} {line : List ℕ} (input chunk : List ℕ)
+    → line ≡ kept_part (unfinished_line input) → AnsweredOrders ways first start now sink (input_lines input)
+    → OrdersAhead ways first start now sink line chunk (input ++ chunk)
 ahead_first input chunk is so_far = record {
   done = input_lines input;
   begun = unfinished_line input;
@@ -179,7 +200,7 @@ ahead_first input chunk is so_far = record {
 }
 
 -- the line that is next, with those behind it
-pub ahead_next : {S : Type 0} {does : Does S} {first now : Office S} {start sink : Taken} {line rest bytes : List ℕ} (p : OrdersAhead does first start now sink line rest bytes)
+pub ahead_next : {S : Type 0} {ways : Ways S} {first now : Office S} {start sink : Taken} {line rest bytes : List ℕ} (p : OrdersAhead ways first start now sink line rest bytes)
     (x behind : List ℕ) → lines_after p.begun rest ≡ x ∷ input_lines behind → (p.done ++ x ∷ []) ++ input_lines behind ≡ input_lines bytes
 ahead_next p x behind cut =
     append_assoc p.done (x ∷ []) (input_lines behind) ∙ ap (λ (t : List (List ℕ)). p.done ++ t) (sym cut) ∙ p.ahead
@@ -193,8 +214,62 @@ pub tells : {old new : Taken} {text wanted : List ℕ} → text ≡ wanted → T
 tells {old} {new} e tries = subst (λ (t : List ℕ). Tries old new t) e tries
 
 -- another order than STOP does not stop the server
-pub not_stop : (order : Order) → order ≢ orders.Stop → is_stop (Ok order) ≡ false
+pub not_stop : (order : Order) → order ≢ orders.Stop → stops (Ok order) ≡ false
 not_stop (orders.Change command) other = refl
 not_stop (orders.Export path) other = refl
+not_stop orders.Users other = refl
+not_stop (orders.Count topic) other = refl
 not_stop orders.Stop other = absurd (other refl)
 not_stop orders.Help other = refl
+
+-- another order than USERS, STATS and CONNECTIONS lists nothing
+pub no_lines : {S : Type 0} (counts : Counts S) (office : Office S) (order : Order) → order ≢ orders.Users → ((topic : Topic) → order ≢ orders.Count topic)
+    → Lists counts office (Ok order) []
+no_lines counts office (orders.Change command) users counted = refl
+no_lines counts office (orders.Export path) users counted = refl
+no_lines counts office orders.Users users counted = absurd (users refl)
+no_lines counts office (orders.Count topic) users counted = absurd (counted topic refl)
+no_lines counts office orders.Stop users counted = refl
+no_lines counts office orders.Help users counted = refl
+
+-- USERS is answered by the lines of the published users, or there was no memory for them
+pub users_told : {S T E : Type 0} (ways : Ways S) (office : Office S) (line : List ℕ) (before after : Taken) (bytes : T → List ℕ) (text : Result T E)
+    → ReadsOrder line (Ok orders.Users) → IfOk text (λ t. bytes t ≡ user_lines (users_of office.register.published) ++ codes "DONE\n")
+    → MatchResult text (λ t. Tries before after (bytes t)) (λ _. Tries before after (codes "FAULT MEMORY\n"))
+    → (said : Said) × AnswersOrder ways office line said office × Tries before after (answer_text said) × (false ≡ is_stop said)
+users_told ways office line before after bytes (Ok t) read made tries = (
+  saying (user_lines (users_of office.register.published)) (Ok orders.Users),
+  (record { read = read; performs = refl; changes = (refl, refl) }, refl),
+  tells made tries,
+  refl,
+)
+users_told ways office line before after bytes (Err e) read made tries = (
+  saying [] (Err obey.Memory),
+  (inr (record { order = orders.Users; read = read; asks = refl; stays = refl }), refl),
+  tries,
+  refl,
+)
+
+-- an order that asks numbers is answered by the lines of figures that the server may count, or there was no memory for them
+pub figures_told : {S T E : Type 0} (ways : Ways S) (office : Office S) (line : List ℕ) (before after : Taken) (topic : Topic) (bytes : T → List ℕ) (text : Result T E)
+    → ReadsOrder line (Ok (orders.Count topic))
+    → IfOk text (λ t. (figures : List Figure) × ways.counts office.service topic figures × (bytes t ≡ figure_lines figures ++ codes "DONE\n"))
+    → MatchResult text (λ t. Tries before after (bytes t)) (λ _. Tries before after (codes "FAULT MEMORY\n"))
+    → (said : Said) × AnswersOrder ways office line said office × Tries before after (answer_text said) × (false ≡ is_stop said)
+figures_told ways office line before after topic bytes (Ok t) read made tries = (
+  saying (figure_lines made.0) (Ok (orders.Count topic)),
+  (record { read = read; performs = refl; changes = (refl, refl) }, (made.0, made.1, refl)),
+  tells made.2 tries,
+  refl,
+)
+figures_told ways office line before after topic bytes (Err e) read made tries = (
+  saying [] (Err obey.Memory),
+  (inr (record { order = orders.Count topic; read = read; asks = refl; stays = refl }), refl),
+  tries,
+  refl,
+)
+
+-- what went well has no fault
+pub no_err : {A E : Type 0} (r : Result A E) → true ≡ is_ok r → result_err r ≡ None
+no_err (Ok x) well = refl
+no_err (Err e) well = absurd cc

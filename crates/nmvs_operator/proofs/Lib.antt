@@ -1,3 +1,4 @@
 mod UsersFile
 mod CommandLemmas
 mod OrderLemmas
+mod UserLines

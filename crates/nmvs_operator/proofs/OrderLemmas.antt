@@ -14,12 +14,14 @@ use Rattle.nmvs_protocol.proofs.CommandLemmas.{fields_fault-take}
 use Rattle.nmvs_protocol.proofs.FieldLemmas.{line_of_kept}
 use Rattle.nmvs_operator.specs.declared.order.Order.{Order}
 use Rattle.nmvs_operator.specs.declared.order.Order.TheVariants as orders
-use Rattle.nmvs_operator.specs.Orders.{ReadsOrder, order_fields, is_order, order_fault, export_fault, alone_fault, first_order_fault}
+use Rattle.nmvs_operator.specs.Orders.{ReadsOrder, order_fields, is_order, order_fault, listing_fault, export_fault, alone_fault, first_order_fault}
 
 few_fields : (o : Order) → length (order_fields o) < 7
 few_fields (orders.Change (Enrol user actor)) = lit≤ tt
 few_fields (orders.Change (Suspend user)) = lit≤ tt
 few_fields (orders.Export path) = lit≤ tt
+few_fields orders.Users = lit≤ tt
+few_fields (orders.Count topic) = lit≤ tt
 few_fields orders.Stop = lit≤ tt
 few_fields orders.Help = lit≤ tt
 
@@ -38,13 +40,21 @@ alone_fault-take : (texts : List (List ℕ)) → alone_fault (take 6 texts) ≡ 
 alone_fault-take [] = refl
 alone_fault-take (a ∷ texts) = refl
 
+listing_fault-take : (fs : List (List ℕ)) → listing_fault (take 7 fs) ≡ listing_fault fs
+unfolding listing_fault
+listing_fault-take [] = refl
+listing_fault-take (word ∷ texts) = λ i.
+    cond (bytes_eq word (codes "USERS")) (alone_fault-take texts i)
+    (cond (bytes_eq word (codes "STATS")) (alone_fault-take texts i)
+    (cond (bytes_eq word (codes "CONNECTIONS")) (alone_fault-take texts i) (fields_fault-take (word ∷ texts) i)))
+
 -- what is kept of a line's fields tells their fault
 pub order_fault-take : (fs : List (List ℕ)) → order_fault (take 7 fs) ≡ order_fault fs
 order_fault-take [] = refl
 order_fault-take (word ∷ texts) = λ i.
     cond (bytes_eq word (codes "EXPORT")) (export_fault-take texts i)
     (cond (bytes_eq word (codes "STOP")) (alone_fault-take texts i)
-    (cond (bytes_eq word (codes "HELP")) (alone_fault-take texts i) (fields_fault-take (word ∷ texts) i)))
+    (cond (bytes_eq word (codes "HELP")) (alone_fault-take texts i) (listing_fault-take (word ∷ texts) i)))
 
 long_fault : (x : List ℕ) → 200 < length x → first_order_fault x ≡ Some fault.Long
 unfolding first_order_fault

@@ -1,6 +1,7 @@
 -- Orders of the operator, and their answers (own).
 use Rattle.std.specs.Prelude.{◌≡◌, ◌+◌, ◌⊎◌, ℕ, Bool, true, false, List, [], ◌∷◌, ◌++◌, All, codes, Option, Some, None, Result, Ok, Err}
 use Rattle.nmvs_directory.specs.Registrar.{Register}
+use Rattle.nmvs_directory.specs.Users.{users_of}
 use Rattle.nmvs_directory.specs.declared.change.Change.{Change}
 use Rattle.nmvs_stream.specs.InputLines.{input_lines, unfinished_line}
 use Rattle.nmvs_protocol.specs.declared.command.Command.{Command}
@@ -10,10 +11,14 @@ use Rattle.nmvs_stream.specs.Source.{Told}
 use Rattle.nmvs_stream.specs.Sink.{Taken}
 use Rattle.nmvs_stream.specs.Delivery.{Delivers, DeliversPart}
 use Rattle.nmvs_operator.specs.Orders.{ReadsOrder, first_order_fault}
+use Rattle.nmvs_operator.specs.Figures.{figure_lines}
+use Rattle.nmvs_operator.specs.Roll.{user_lines}
 use Rattle.nmvs_operator.specs.Users.{change_of}
 use Rattle.nmvs_operator.specs.declared.commands.TheConstants.{MOST_ORDER_READS}
 use Rattle.nmvs_operator.specs.declared.faults.ObeyFault.{ObeyFault}
 use Rattle.nmvs_operator.specs.declared.faults.ObeyFault.TheVariants as obey
+use Rattle.nmvs_operator.specs.declared.figures.Figure.{Figure}
+use Rattle.nmvs_operator.specs.declared.figures.Topic.{Topic}
 use Rattle.nmvs_operator.specs.declared.order.Order.{Order}
 use Rattle.nmvs_operator.specs.declared.order.Order.TheVariants as orders
 use Rattle.nmvs_operator.specs.declared.service.Deed.{Deed}
@@ -34,11 +39,27 @@ office register latest service = record { register = register; latest = latest; 
 abbrev pub Does : Type 0 → Type 1
 Does S = S → Deed → Option ServiceFault → S → Type 0
 
+-- what a server in a state may count of a topic
+abbrev pub Counts : Type 0 → Type 1
+Counts S = S → Topic → List Figure → Type 0
+
+-- what a server may do and count
+pub record Ways (S : Type 0) : Type 1 where
+  pub does : Does S
+  pub counts : Counts S
+
+abbrev pub ways : {S : Type 0} → Does S → Counts S → Ways S
+ways does counts = record { does = does; counts = counts }
+
 -- the server did what an order asks of it, where no fault is that it did
 abbrev pub Performs : {S : Type 0} → Does S → S → Order → Option ServiceFault → S → Type 0
 Performs does old (orders.Change command) fault new = does old (deeds.Keep command) fault new
 Performs does old (orders.Export path) fault new = does old (deeds.Export path) fault new
 Performs does old orders.Stop fault new = does old deeds.Stop fault new
+Performs does old orders.Users None new = new ≡ old
+Performs does old orders.Users (Some fault) new = ⊥
+Performs does old (orders.Count topic) None new = new ≡ old
+Performs does old (orders.Count topic) (Some fault) new = ⊥
 Performs does old orders.Help None new = new ≡ old
 Performs does old orders.Help (Some fault) new = ⊥
 
@@ -56,6 +77,8 @@ UsersStay old new = (new.register ≡ old.register) × (new.latest ≡ old.lates
 abbrev pub Changes : {S : Type 0} → Office S → Order → Office S → Type 0
 Changes old (orders.Change command) new = Publishes old command new
 Changes old (orders.Export path) new = UsersStay old new
+Changes old orders.Users new = UsersStay old new
+Changes old (orders.Count topic) new = UsersStay old new
 Changes old orders.Stop new = UsersStay old new
 Changes old orders.Help new = UsersStay old new
 
@@ -81,24 +104,63 @@ pub record Lacks {S : Type 0} (does : Does S) (old : Office S) (line : List ℕ)
   pub pending : (new.register.pending ≡ old.register.pending) ⊎ (new.register.pending ≡ old.register.pending ++ change_of command ∷ [])
   pub latest : new.latest ≡ old.latest
 
+-- whether an order asks for lines that take memory
+abbrev pub asks_lines : Order → Bool
+asks_lines (orders.Change command) = false
+asks_lines (orders.Export path) = false
+asks_lines orders.Users = true
+asks_lines (orders.Count topic) = true
+asks_lines orders.Stop = false
+asks_lines orders.Help = false
+
+-- memory was wanting for the lines that an order asks for, and nothing changed
+pub record LacksLines {S : Type 0} (old : Office S) (line : List ℕ) (new : Office S) : Type 0 where
+  pub order : Order
+  pub read : ReadsOrder line (Ok order)
+  pub asks : asks_lines order ≡ true
+  pub stays : new ≡ old
+
 -- an order was not carried out: it can't be read, and nothing changed; the server failed; or memory was wanting
 abbrev pub Refuses : {S : Type 0} → Does S → Office S → List ℕ → ObeyFault → Office S → Type 0
 Refuses does old line (obey.Unread fault) new = (first_order_fault line ≡ Some fault) × (new ≡ old)
 Refuses does old line (obey.Undone fault) new = Fails does old line fault new
-Refuses does old line obey.Memory new = Lacks does old line new
+Refuses does old line obey.Memory new = Lacks does old line new ⊎ LacksLines old line new
 Refuses does old line obey.Unended new = ⊥
 
--- an order is answered so: as the order that was carried out, or by a fault
-abbrev pub AnswersOrder : {S : Type 0} → Does S → Office S → List ℕ → Result Order ObeyFault → Office S → Type 0
-AnswersOrder does old line (Ok order) new = Obeys does old line order new
-AnswersOrder does old line (Err fault) new = Refuses does old line fault new
+-- an order ended so: as the order that was carried out, or by a fault
+abbrev pub Ends : {S : Type 0} → Does S → Office S → List ℕ → Result Order ObeyFault → Office S → Type 0
+Ends does old line (Ok order) new = Obeys does old line order new
+Ends does old line (Err fault) new = Refuses does old line fault new
+
+-- the lines that an order that ended so asked for: those of the published users, those of some of the figures that the
+-- server may count, and else none
+abbrev pub Lists : {S : Type 0} → Counts S → Office S → Result Order ObeyFault → List ℕ → Type 0
+Lists counts old (Ok orders.Users) lines = lines ≡ user_lines (users_of old.register.published)
+Lists counts old (Ok (orders.Count topic)) lines = (figures : List Figure) × counts old.service topic figures × (lines ≡ figure_lines figures)
+Lists counts old (Ok (orders.Change command)) lines = lines ≡ []
+Lists counts old (Ok (orders.Export path)) lines = lines ≡ []
+Lists counts old (Ok orders.Stop) lines = lines ≡ []
+Lists counts old (Ok orders.Help) lines = lines ≡ []
+Lists counts old (Err fault) lines = lines ≡ []
+
+-- what is said to an order: the lines that it asked for, and how it ended
+pub record Said : Type 0 where
+  pub lines : List ℕ
+  pub ends : Result Order ObeyFault
+
+abbrev pub saying : List ℕ → Result Order ObeyFault → Said
+saying lines ends = record { lines = lines; ends = ends }
+
+-- an order ended so, and these are its lines
+abbrev pub AnswersOrder : {S : Type 0} → Ways S → Office S → List ℕ → Said → Office S → Type 0
+AnswersOrder ways old line said new = Ends ways.does old line said.ends new × Lists ways.counts old said.ends said.lines
 
 -- orders are answered so, one by one in order
-abbrev pub AnswersOrders : {S : Type 0} → Does S → Office S → List (List ℕ) → List (Result Order ObeyFault) → Office S → Type 0
-AnswersOrders does old [] [] new = new ≡ old
-AnswersOrders {S} does old (x ∷ xs) (a ∷ said) new = (mid : Office S) × AnswersOrder does old x a mid × AnswersOrders does mid xs said new
-AnswersOrders does old [] (a ∷ said) new = ⊥
-AnswersOrders does old (x ∷ xs) [] new = ⊥
+abbrev pub AnswersOrders : {S : Type 0} → Ways S → Office S → List (List ℕ) → List Said → Office S → Type 0
+AnswersOrders ways old [] [] new = new ≡ old
+AnswersOrders {S} ways old (x ∷ xs) (a ∷ said) new = (mid : Office S) × AnswersOrder ways old x a mid × AnswersOrders ways mid xs said new
+AnswersOrders ways old [] (a ∷ said) new = ⊥
+AnswersOrders ways old (x ∷ xs) [] new = ⊥
 
 -- why a line can't be read
 abbrev pub command_word : CommandFault → List ℕ
@@ -118,9 +180,9 @@ service_word service.Clock = codes "CLOCK"
 
 -- the lines that there are
 abbrev pub help_text : List ℕ
-help_text = codes "ENROL user role authorisation premises\nSUSPEND user\nEXPORT file\nSTOP\nHELP\nDONE\n"
+help_text = codes "ENROL user role authorisation premises\nSUSPEND user\nEXPORT file\nUSERS\nSTATS\nCONNECTIONS\nSTOP\nHELP\nDONE\n"
 
--- the answer to an order
+-- the last line that is said to an order; and to HELP all of them
 abbrev pub order_text : Result Order ObeyFault → List ℕ
 order_text (Ok orders.Help) = help_text
 order_text (Ok _) = codes "DONE\n"
@@ -133,24 +195,32 @@ order_text (Err obey.Unended) = codes "FAULT UNENDED\n"
 abbrev pub Tries : Taken → Taken → List ℕ → Type 0
 Tries old new text = Delivers old new text ⊎ DeliversPart old new text
 
+-- the text of what is said to an order
+abbrev pub answer_text : Said → List ℕ
+answer_text said = said.lines ++ order_text said.ends
+
 -- the texts of these answers were delivered one by one, but for what a failed write left of one
-abbrev pub TellsAnswers : Taken → List (Result Order ObeyFault) → Taken → Type 0
+abbrev pub TellsAnswers : Taken → List Said → Taken → Type 0
 TellsAnswers old [] new = new ≡ old
 TellsAnswers old (a ∷ said) new =
-    (mid : Taken) × Tries old mid (order_text a) × TellsAnswers mid said new
+    (mid : Taken) × Tries old mid (answer_text a) × TellsAnswers mid said new
 
 -- the answer to what was begun and has no end: none where nothing was begun
-abbrev pub last_answer : List ℕ → List (Result Order ObeyFault)
+abbrev pub last_answer : List ℕ → List Said
 last_answer [] = []
-last_answer (b ∷ begun) = Err obey.Unended ∷ []
+last_answer (b ∷ begun) = saying [] (Err obey.Unended) ∷ []
+
+-- whether an order that ended so stopped the server
+abbrev pub stops : Result Order ObeyFault → Bool
+stops (Ok orders.Stop) = true
+stops _ = false
 
 -- whether the server was stopped
-abbrev pub is_stop : Result Order ObeyFault → Bool
-is_stop (Ok orders.Stop) = true
-is_stop _ = false
+abbrev pub is_stop : Said → Bool
+is_stop said = stops said.ends
 
 -- none of these answers is that the server was stopped
-abbrev pub GoesOn : List (Result Order ObeyFault) → Type 0
+abbrev pub GoesOn : List Said → Type 0
 GoesOn said = All (λ a. is_stop a ≡ false) said
 
 -- an input is at its end: its end was read, a read failed, or the most reads were made
@@ -160,28 +230,28 @@ InputEnds source source' =
 
 -- all lines of an input that have their LF were answered, and none stopped the server; what was begun behind them is
 -- answered, and not carried out
-pub record EndsWithInput (input : List ℕ) (source : Told) (sink : Taken) (lines : List (List ℕ)) (said : List (Result Order ObeyFault)) (source' : Told) (sink' : Taken) : Type 0 where
+pub record EndsWithInput (input : List ℕ) (source : Told) (sink : Taken) (lines : List (List ℕ)) (said : List Said) (source' : Told) (sink' : Taken) : Type 0 where
   pub all : lines ≡ input_lines input
   pub goes_on : GoesOn said
   pub told : TellsAnswers sink (said ++ last_answer (unfinished_line input)) sink'
   pub ends : InputEnds source source'
 
 -- the first lines of an input were answered, up to the one that stopped the server; no other was looked at
-pub record EndsByStop (input : List ℕ) (sink : Taken) (lines : List (List ℕ)) (said : List (Result Order ObeyFault)) (sink' : Taken) : Type 0 where
+pub record EndsByStop (input : List ℕ) (sink : Taken) (lines : List (List ℕ)) (said : List Said) (sink' : Taken) : Type 0 where
   pub rest : List (List ℕ)
   pub these : input_lines input ≡ lines ++ rest
-  pub before : List (Result Order ObeyFault)
-  pub last : said ≡ before ++ Ok orders.Stop ∷ []
+  pub before : List Said
+  pub last : said ≡ before ++ saying [] (Ok orders.Stop) ∷ []
   pub goes_on : GoesOn before
   pub told : TellsAnswers sink said sink'
 
 -- the orders of a source were carried out and answered, up to its end or to the one that stopped the server
-pub record CarriesOut {S : Type 0} (does : Does S) (old : Office S) (source : Told) (sink : Taken) (new : Office S) (source' : Told) (sink' : Taken) : Type 0 where
+pub record CarriesOut {S : Type 0} (ways : Ways S) (old : Office S) (source : Told) (sink : Taken) (new : Office S) (source' : Told) (sink' : Taken) : Type 0 where
   -- these bytes were read
   pub input : List ℕ
   pub read : source'.bytes ≡ source.bytes ++ input
   -- and these of their lines answered
   pub lines : List (List ℕ)
-  pub said : List (Result Order ObeyFault)
-  pub answers : AnswersOrders does old lines said new
+  pub said : List Said
+  pub answers : AnswersOrders ways old lines said new
   pub ends : EndsWithInput input source sink lines said source' sink' ⊎ EndsByStop input sink lines said sink'

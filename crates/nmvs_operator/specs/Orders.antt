@@ -5,13 +5,22 @@ use Rattle.nmvs_protocol.specs.Commands.{command_fields, is_command, fields_faul
 use Rattle.nmvs_protocol.specs.Fields.{line_of_fields, line_fault}
 use Rattle.nmvs_protocol.specs.declared.command.CommandFault.{CommandFault}
 use Rattle.nmvs_protocol.specs.declared.command.CommandFault.TheVariants as fault
+use Rattle.nmvs_operator.specs.declared.figures.Topic.{Topic}
+use Rattle.nmvs_operator.specs.declared.figures.Topic.TheVariants.{Stats, Connections}
 use Rattle.nmvs_operator.specs.declared.order.Order.{Order}
 use Rattle.nmvs_operator.specs.declared.order.Order.TheVariants as orders
+
+-- the word of what numbers are asked about
+abbrev pub topic_word : Topic → List ℕ
+topic_word Stats = codes "STATS"
+topic_word Connections = codes "CONNECTIONS"
 
 -- the fields of an order
 abbrev pub order_fields : Order → List (List ℕ)
 order_fields (orders.Change command) = command_fields command
 order_fields (orders.Export path) = codes "EXPORT" ∷ path.now ∷ []
+order_fields orders.Users = codes "USERS" ∷ []
+order_fields (orders.Count topic) = topic_word topic ∷ []
 order_fields orders.Stop = codes "STOP" ∷ []
 order_fields orders.Help = codes "HELP" ∷ []
 
@@ -23,6 +32,8 @@ order_line o = line_of_fields (order_fields o)
 abbrev pub is_order : Order → Bool
 is_order (orders.Change command) = is_command command
 is_order (orders.Export path) = true
+is_order orders.Users = true
+is_order (orders.Count topic) = true
 is_order orders.Stop = true
 is_order orders.Help = true
 
@@ -36,6 +47,15 @@ abbrev pub alone_fault : List (List ℕ) → Option CommandFault
 alone_fault [] = None
 alone_fault _ = Some fault.Fields
 
+-- the first fault of these fields, of an order that asks for lines or changes the users
+unfoldable pub listing_fault : List (List ℕ) → Option CommandFault
+listing_fault [] = Some fault.Word
+listing_fault (word ∷ texts) =
+    if bytes_eq word (codes "USERS") then alone_fault texts
+    else if bytes_eq word (codes "STATS") then alone_fault texts
+    else if bytes_eq word (codes "CONNECTIONS") then alone_fault texts
+    else fields_fault (word ∷ texts)
+
 -- the first fault of these fields
 abbrev pub order_fault : List (List ℕ) → Option CommandFault
 order_fault [] = Some fault.Word
@@ -43,7 +63,7 @@ order_fault (word ∷ texts) =
     if bytes_eq word (codes "EXPORT") then export_fault texts
     else if bytes_eq word (codes "STOP") then alone_fault texts
     else if bytes_eq word (codes "HELP") then alone_fault texts
-    else fields_fault (word ∷ texts)
+    else listing_fault (word ∷ texts)
 
 -- the first fault of a line
 unfoldable pub first_order_fault : List ℕ → Option CommandFault

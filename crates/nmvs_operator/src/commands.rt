@@ -1,23 +1,29 @@
 //! The operator's orders, carried out.
-ghost use Rattle.std.specs.Prelude.{◌≡◌, ◌⊎◌, ◌<◌, ◌++◌, ◌∷◌, [], ℕ, List, length, Result, OnOk, OnErr, IfOk, IfErr, IfSome, IfNone, MatchBool, MatchResult, Ok, Err};
+ghost use Rattle.std.specs.Prelude.{◌≡◌, ◌⊎◌, ◌<◌, ◌++◌, ◌∷◌, [], ℕ, List, length, OnOk, OnErr, IfOk, IfErr, IfSome, IfNone, MatchBool, MatchResult, Ok, Err, codes, string_bytes};
 ghost use Rattle.std.specs.Result.{result_err};
 ghost use Rattle.nmvs_directory.specs.Changes.{pending_changes, KeepsEntered, IsFull};
 ghost use Rattle.nmvs_directory.specs.Registrar.{register_of, published, pending};
 ghost use Rattle.nmvs_stream.specs.InputLines.{input_lines, unfinished_line};
 ghost use Rattle.nmvs_protocol.specs.Progress.{kept_part};
 ghost use Rattle.nmvs_stream.specs.Sink.{Taken};
-ghost use Rattle.nmvs_operator.specs.declared.faults.ObeyFault.{ObeyFault as AFault};
-ghost use Rattle.nmvs_operator.specs.declared.order.Order.{Order as AnOrder};
+ghost use Rattle.nmvs_directory.specs.Users.{users_of};
+ghost use Rattle.nmvs_operator.specs.declared.figures.Figure.{Figure as AFigure};
+ghost use Rattle.nmvs_operator.specs.Figures.{figure_lines};
+ghost use Rattle.nmvs_operator.specs.Roll.{user_lines};
 ghost use Rattle.nmvs_operator.specs.Orders.{ReadsOrder};
 ghost use Rattle.nmvs_operator.specs.Users.{change_of};
-ghost use Rattle.nmvs_operator.specs.Commands.{Office, office, Performs, Obeys, Refuses, AnswersOrder, order_text as text_of_answer, is_stop, Tries, CarriesOut};
+ghost use Rattle.nmvs_operator.specs.Commands.{Office, office, ways, Performs, Obeys, Refuses, Said, AnswersOrder, answer_text, order_text as text_of_answer, is_stop, Tries, CarriesOut};
 ghost use Rattle.nmvs_operator.specs.Progress.{AnsweredOrders, StoppedIn, CarriesOutLines, StoppedBy};
 
-use crate::{Console, Deed, Latest, ObeyFault, Order, Service, ServiceFault, Sides, read_order};
+use crate::figures::figures_text;
+use crate::roll::users_text;
+use crate::{
+    Console, Deed, Latest, ObeyFault, Order, Service, ServiceFault, Sides, Topic, read_order,
+};
 use nmvs_directory::{Changes, Naming, Notice, Registrar};
 use nmvs_protocol::{Command, CommandFault, PendingLine};
 use nmvs_stream::{Failed, Sink, Source, cut_line, deliver};
-use std::alloc::{AllocError, Allocator};
+use std::alloc::{AllocError, Allocator, Global};
 use std::sync::Wait;
 
 #[cfg(test)]
@@ -26,9 +32,12 @@ mod tests;
 /// The most reads that are made of orders: more than any input has.
 const MOST_ORDER_READS: u64 = u64::MAX;
 
+/// The last line of the answer to an order that was carried out.
+const DONE: &str = "DONE\n";
+
 /// The answer to `HELP`.
 const HELP: &str =
-    "ENROL user role authorisation premises\nSUSPEND user\nEXPORT file\nSTOP\nHELP\nDONE\n";
+    "ENROL user role authorisation premises\nSUSPEND user\nEXPORT file\nUSERS\nSTATS\nCONNECTIONS\nSTOP\nHELP\nDONE\n";
 
 /// Carries out the orders of a console one by one, as they come, and answers each. A change of the users is kept by the
 /// server first, then published at once, and its notice shown as the latest.
@@ -37,17 +46,18 @@ const HELP: &str =
 /// line. What was begun at the end of the input, and has no LF, is answered and not carried out. A failed write changes
 /// nothing. It waits for the lock of the latest notice, and lets it go.
 pub fn obey_all<'r, J: Naming, R: Wait, A: Allocator, T: Sides, S: Service>(
+    alloc: Global,
     console: &mut Console<T>,
     registrar: &mut Registrar<J, &'r R, A>,
     latest: &mut Latest<'_, J, R>,
     service: &mut S,
 )
-    ensures { CarriesOut S.does (office (register_of registrar.old) latest.old service.old)
+    ensures { CarriesOut (ways S.does S.counts) (office (register_of registrar.old) latest.old service.old)
         (T.Source.told console.old.source) (T.Sink.taken console.old.sink)
         (office (register_of registrar.new) latest.new service.new)
         (T.Source.told console.new.source) (T.Sink.taken console.new.sink) }
 {
-    match obey_lines(console, registrar, latest, service) {
+    match obey_lines(alloc, console, registrar, latest, service) {
         Some(begun) => {
             if !begun.is_empty() {
                 tell(fault_text(ObeyFault::Unended), &mut console.sink);
@@ -60,16 +70,17 @@ pub fn obey_all<'r, J: Naming, R: Wait, A: Allocator, T: Sides, S: Service>(
 /// Carries out and answers the orders that have their LF, and gives what is kept of what was begun behind them; or
 /// nothing, where the server was stopped.
 fn obey_lines<'r, J: Naming, R: Wait, A: Allocator, T: Sides, S: Service>(
+    alloc: Global,
     console: &mut Console<T>,
     registrar: &mut Registrar<J, &'r R, A>,
     latest: &mut Latest<'_, J, R>,
     service: &mut S,
 ) -> Option<PendingLine>
-    ensures all { IfSome result (λ begun. CarriesOutLines S.does (office (register_of registrar.old) latest.old service.old)
+    ensures all { IfSome result (λ begun. CarriesOutLines (ways S.does S.counts) (office (register_of registrar.old) latest.old service.old)
         (T.Source.told console.old.source) (T.Sink.taken console.old.sink)
         (office (register_of registrar.new) latest.new service.new)
         (T.Source.told console.new.source) (T.Sink.taken console.new.sink) begun) }
-    ensures stopped { IfNone result (StoppedBy S.does (office (register_of registrar.old) latest.old service.old)
+    ensures stopped { IfNone result (StoppedBy (ways S.does S.counts) (office (register_of registrar.old) latest.old service.old)
         (T.Source.told console.old.source) (T.Sink.taken console.old.sink)
         (office (register_of registrar.new) latest.new service.new)
         (T.Source.told console.new.source) (T.Sink.taken console.new.sink)) }
@@ -82,6 +93,7 @@ fn obey_lines<'r, J: Naming, R: Wait, A: Allocator, T: Sides, S: Service>(
             Ok(0) => return Some(line),
             Ok(count) => {
                 if obey_chunk(
+                    alloc,
                     &mut line,
                     &buffer[..count],
                     &mut console.sink,
@@ -99,6 +111,7 @@ fn obey_lines<'r, J: Naming, R: Wait, A: Allocator, T: Sides, S: Service>(
 
 /// Goes on with the bytes of one read, behind the line that was begun, and tells whether the server was stopped.
 fn obey_chunk<'r, J: Naming, R: Wait, A: Allocator, W: Sink, S: Service>(
+    alloc: Global,
     line: &mut PendingLine,
     chunk: &[u8],
     sink: &mut W,
@@ -108,19 +121,19 @@ fn obey_chunk<'r, J: Naming, R: Wait, A: Allocator, W: Sink, S: Service>(
 ) -> bool
     ensures { (first : Office S) (start : Taken) (input : List ℕ)
         → line.old ≡ kept_part (unfinished_line input)
-        → AnsweredOrders S.does first start (office (register_of registrar.old) latest.old service.old) (W.taken sink.old)
+        → AnsweredOrders (ways S.does S.counts) first start (office (register_of registrar.old) latest.old service.old) (W.taken sink.old)
         (input_lines input)
         → MatchBool result
-        (StoppedIn S.does first start (office (register_of registrar.new) latest.new service.new) (W.taken sink.new)
+        (StoppedIn (ways S.does S.counts) first start (office (register_of registrar.new) latest.new service.new) (W.taken sink.new)
         (input ++ chunk.now))
         ((line.new ≡ kept_part (unfinished_line (input ++ chunk.now)))
-        × AnsweredOrders S.does first start (office (register_of registrar.new) latest.new service.new) (W.taken sink.new)
+        × AnsweredOrders (ways S.does S.counts) first start (office (register_of registrar.new) latest.new service.new) (W.taken sink.new)
         (input_lines (input ++ chunk.now))) }
 {
     let mut rest = chunk;
     while let Some((tail, behind)) = cut_line(rest) {
         line.extend(tail);
-        if obey_line(line.as_slice(), sink, registrar, latest, service) {
+        if obey_line(alloc, line.as_slice(), sink, registrar, latest, service) {
             return true;
         }
         line.clear();
@@ -133,16 +146,17 @@ fn obey_chunk<'r, J: Naming, R: Wait, A: Allocator, W: Sink, S: Service>(
 /// Carries out one order, of which as much is given as is kept of it, answers it, and tells whether it stopped the
 /// server. A failed write changes nothing.
 fn obey_line<'r, J: Naming, R: Wait, A: Allocator, W: Sink, S: Service>(
+    alloc: Global,
     line: &[u8],
     sink: &mut W,
     registrar: &mut Registrar<J, &'r R, A>,
     latest: &mut Latest<'_, J, R>,
     service: &mut S,
 ) -> bool
-    ensures { (said : Result AnOrder AFault)
-        × AnswersOrder S.does (office (register_of registrar.old) latest.old service.old) line.now said
+    ensures { (said : Said)
+        × AnswersOrder (ways S.does S.counts) (office (register_of registrar.old) latest.old service.old) line.now said
         (office (register_of registrar.new) latest.new service.new)
-        × Tries (W.taken sink.old) (W.taken sink.new) (text_of_answer said)
+        × Tries (W.taken sink.old) (W.taken sink.new) (answer_text said)
         × (result ≡ is_stop said) }
 {
     match read_order(line) {
@@ -150,15 +164,25 @@ fn obey_line<'r, J: Naming, R: Wait, A: Allocator, W: Sink, S: Service>(
             tell(fault_text(ObeyFault::Unread(fault)), sink);
             false
         }
-        Ok(order) => match carry_out(&order, registrar, latest, service) {
-            Err(fault) => {
-                tell(fault_text(fault), sink);
+        Ok(order) => match order {
+            Order::Users => {
+                tell_made(listed_text(alloc, registrar), sink);
                 false
             }
-            Ok(()) => {
-                tell(done_text(&order), sink);
-                matches!(order, Order::Stop)
+            Order::Count(topic) => {
+                tell_made(counted_text(alloc, topic, service), sink);
+                false
             }
+            _ => match carry_out(&order, registrar, latest, service) {
+                Err(fault) => {
+                    tell(fault_text(fault), sink);
+                    false
+                }
+                Ok(()) => {
+                    tell(done_text(&order), sink);
+                    matches!(order, Order::Stop)
+                }
+            },
         },
     }
 }
@@ -202,7 +226,7 @@ fn perform<S: Service>(order: &Order<'_>, service: &mut S) -> Result<(), Service
         Order::Change(command) => service.perform(&Deed::Keep(*command)),
         Order::Export(path) => service.perform(&Deed::Export(path)),
         Order::Stop => service.perform(&Deed::Stop),
-        Order::Help => Ok(()),
+        Order::Users | Order::Count(_) | Order::Help => Ok(()),
     }
 }
 
@@ -239,6 +263,41 @@ pub(crate) fn add<A: Allocator>(
     }
 }
 
+/// The answer to an order that asks numbers about a topic.
+fn counted_text<S: Service>(alloc: Global, topic: Topic, service: &S) -> Result<String, AllocError>
+    ensures { IfOk result (λ text. (figures : List AFigure) × S.counts service.now topic figures
+        × (string_bytes text ≡ figure_lines figures ++ codes "DONE\n")) }
+{
+    let figures = service.count(alloc, topic)?;
+    let mut text = figures_text(alloc, &figures)?;
+    text.push_str(DONE)?;
+    Ok(text)
+}
+
+/// The answer to an order that asks for the users.
+fn listed_text<J: Naming, R: Wait + Drop, A: Allocator>(
+    alloc: Global,
+    registrar: &Registrar<J, R, A>,
+) -> Result<String, AllocError>
+    ensures { IfOk result (λ text. string_bytes text
+        ≡ user_lines (users_of (published registrar.now)) ++ codes "DONE\n") }
+{
+    let mut text = users_text(alloc, registrar)?;
+    text.push_str(DONE)?;
+    Ok(text)
+}
+
+/// Answers an order by a text, or tells that there was no memory for it.
+fn tell_made<W: Sink>(text: Result<String, AllocError>, sink: &mut W)
+    ensures { MatchResult text (λ text. Tries (W.taken sink.old) (W.taken sink.new) (string_bytes text))
+        (λ _. Tries (W.taken sink.old) (W.taken sink.new) (codes "FAULT MEMORY\n")) }
+{
+    match text {
+        Ok(text) => tell(&text, sink),
+        Err(AllocError) => tell(fault_text(ObeyFault::Memory), sink),
+    }
+}
+
 /// Answers an order.
 fn tell<W: Sink>(text: &str, sink: &mut W)
     ensures { Tries (W.taken sink.old) (W.taken sink.new) text.now }
@@ -252,7 +311,7 @@ fn done_text(order: &Order<'_>) -> &'static str
 {
     match order {
         Order::Help => HELP,
-        _ => "DONE\n",
+        _ => DONE,
     }
 }
 

@@ -2,7 +2,8 @@
 //!
 //! [`read_options`] takes a command line; [`load_users`] publishes the users of a file, all at once, by a
 //! `nmvs_directory::Registrar`, and [`obey_all`] carries out the [`Order`]s of a [`Console`] as they come: of a change of the
-//! users it shows the notice by a [`Latest`] before it answers; what only the server can do it has done by a [`Service`].
+//! users it shows the notice by a [`Latest`] before it answers; what only the server can do or count it has done and
+//! counted by a [`Service`].
 //!
 //! It serves nobody: what is served, and when commands are read, is `nmvs_server`'s.
 #![tactic(auto)]
@@ -10,18 +11,21 @@
 mod commands;
 mod console;
 mod faults;
+mod figures;
 mod latest;
 mod options;
 mod order;
+mod roll;
 mod service;
 mod users;
 
 pub use commands::obey_all;
 pub use console::{Console, Sides};
 pub use faults::{LoadFault, ObeyFault};
+pub use figures::{Figure, Topic};
 pub use latest::Latest;
 pub use options::{
-    DEFAULT_PORT, MOST_CONNECTIONS, MOST_IDLE, MOST_SESSIONS, MOST_SHARDS, MOST_WORKERS,
+    DEFAULT_PORT, MOST_CONNECTIONS, MOST_IDLE, MOST_RATE, MOST_SESSIONS, MOST_SHARDS, MOST_WORKERS,
     OptionFault, Options, read_options,
 };
 pub use order::{Order, read_order};

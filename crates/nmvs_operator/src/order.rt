@@ -2,8 +2,9 @@
 ghost use Rattle.std.specs.Prelude.{◌≡◌, [], ◌∷◌, map, IfOk, OnOk, IsTrue, codes};
 ghost use Rattle.std.specs.Result.{result_err};
 ghost use Rattle.nmvs_protocol.specs.Commands.{fields_fault};
-ghost use Rattle.nmvs_operator.specs.Orders.{ReadsOrder, order_fields, is_order, order_fault, alone_fault, export_fault};
+ghost use Rattle.nmvs_operator.specs.Orders.{ReadsOrder, order_fields, is_order, order_fault, listing_fault, alone_fault, export_fault};
 
+use crate::Topic;
 use nmvs_protocol::{Command, CommandFault, command_of, fields_of};
 
 #[cfg(test)]
@@ -16,6 +17,10 @@ pub enum Order<'l> {
     Change(Command),
     /// The audit trail as it is now, written to the file of this path.
     Export(&'l str),
+    /// The users that were published, and how they stand.
+    Users,
+    /// What the server counts.
+    Count(Topic),
     /// The end of the server.
     Stop,
     /// The lines that there are.
@@ -54,6 +59,33 @@ fn read_fields<'l>(fields: &[&'l str]) -> Result<Order<'l>, CommandFault>
             "HELP" => {
                 stands_alone(texts)?;
                 Ok(Order::Help)
+            }
+            _ => read_listing(fields),
+        },
+    }
+}
+
+/// The order that has these fields, where it asks for lines or changes the users.
+#[tactic(auto, unfolding(crate::specs::Orders::listing_fault))]
+fn read_listing<'l>(fields: &[&'l str]) -> Result<Order<'l>, CommandFault>
+    ensures fields { IfOk result (λ order. order_fields order ≡ map (λ f. f.now) fields.now) }
+    ensures valid { IfOk result (λ order. IsTrue (is_order order)) }
+    ensures fault { result_err result ≡ listing_fault (map (λ f. f.now) fields.now) }
+{
+    match fields {
+        [] => Err(CommandFault::Word),
+        [word, texts @ ..] => match *word {
+            "USERS" => {
+                stands_alone(texts)?;
+                Ok(Order::Users)
+            }
+            "STATS" => {
+                stands_alone(texts)?;
+                Ok(Order::Count(Topic::Stats))
+            }
+            "CONNECTIONS" => {
+                stands_alone(texts)?;
+                Ok(Order::Count(Topic::Connections))
             }
             _ => read_change(fields),
         },

@@ -1,10 +1,14 @@
 //! What a server does for its operator.
-ghost use Rattle.std.specs.Prelude.{Option};
+ghost use Rattle.std.specs.Prelude.{List, Option, IfOk};
 ghost use Rattle.std.specs.Result.{result_err};
+ghost use Rattle.nmvs_operator.specs.declared.figures.Figure.{Figure as TheFigure};
+ghost use Rattle.nmvs_operator.specs.declared.figures.Topic.{Topic as TheTopic};
 ghost use Rattle.nmvs_operator.specs.declared.service.Deed.{Deed as TheDeed};
 ghost use Rattle.nmvs_operator.specs.declared.service.ServiceFault.{ServiceFault as TheFault};
 
+use crate::{Figure, Topic};
 use nmvs_protocol::Command;
+use std::alloc::{AllocError, Global};
 use thiserror::Error;
 
 /// What an order asks of the server (own).
@@ -36,7 +40,18 @@ pub trait Service {
     // Whether a server in this state may do this deed, or fail so, and be in that state then.
     ghost does: { Self → TheDeed → Option TheFault → Self → Type 0 };
 
+    // Whether a server in this state may count these figures of a topic.
+    ghost counts: { Self → TheTopic → List TheFigure → Type 0 };
+
     /// Does what an order asks.
     fn perform(&mut self, deed: &Deed<'_>) -> Result<(), ServiceFault>
         ensures { does self.old deed.now (result_err result) self.new };
+
+    /// Counts what an order asks numbers about.
+    ///
+    /// # Errors
+    ///
+    /// There is no memory for the figures.
+    fn count(&self, alloc: Global, topic: Topic) -> Result<Vec<Figure>, AllocError>
+        ensures { IfOk result (λ figures. counts self.now topic figures.items) };
 }

@@ -1,3 +1,4 @@
 mod ShardExports
 mod DeskTurns
 mod Journals
+mod Lengths

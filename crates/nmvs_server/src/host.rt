@@ -6,17 +6,23 @@ use nmvs_history::Histories;
 use nmvs_journal::Filed;
 use nmvs_offices::Offices;
 use nmvs_operator::Options;
+use nmvs_rate::SharedRates;
+use nmvs_shard::HashKey;
 use std::alloc::Global;
 use std::fs::File;
 use std::net::Net;
+use std::random::RandomSource;
 use std::rt::{Clock, Files};
 use std::sync::{Mutex, Wait};
 use std::thread::Threads;
 
 /// What a run uses of the machine.
-pub trait Host: Files<File = File> + Clock + Threads + Wait + Net + Eprint {}
+pub trait Host:
+    Files<File = File> + Clock + Threads + Wait + Net + RandomSource + Eprint
+{
+}
 
-impl<R: Files<File = File> + Clock + Threads + Wait + Net + Eprint> Host for R {}
+impl<R: Files<File = File> + Clock + Threads + Wait + Net + RandomSource + Eprint> Host for R {}
 
 /// What a run goes by.
 #[derive(Drop)]
@@ -24,6 +30,8 @@ pub(crate) struct Run<'r, 'o, H> {
     pub(crate) rt: &'r H,
     pub(crate) alloc: &'r Global,
     pub(crate) options: &'o Options,
+    /// What the tables of the shards hash with, drawn for this run.
+    pub(crate) key: HashKey,
     /// Connections are accepted here; where there is none, one session is served over the console.
     pub(crate) listener: Option<&'r Listener>,
 }
@@ -38,6 +46,8 @@ pub(crate) struct Shared<'s, 'f, 'r, 'o, R, J: Naming, H: Histories> {
     /// Where answers wait for the journals, where there are journals.
     pub(crate) offices: Option<&'s Offices<'f, 'r, Filed<File>, H>>,
     pub(crate) latest: &'s Mutex<Notice<J>>,
+    /// How much each user may still ask, where there is a rate.
+    pub(crate) rates: Option<&'s SharedRates<Global>>,
     /// Whether the workers may begin: it is locked until all of them are there.
     pub(crate) ready: &'s Mutex<bool>,
 }

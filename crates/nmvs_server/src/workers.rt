@@ -1,4 +1,8 @@
 //! The workers that serve connections, and the registrar beside them.
+ghost use Rattle.std.specs.Prelude.{◌≡◌};
+ghost use Rattle.nmvs_server.specs.Bounds.{sessions_of};
+
+use crate::announcements::{listening_at, listening_on};
 use crate::host::Shared;
 use crate::journal_files::JournalAlarm;
 use crate::kept_users::KeptUsers;
@@ -10,6 +14,7 @@ use nmvs_directory::{Naming, Registrar};
 use nmvs_history::Histories;
 use nmvs_operator::{Console, Latest, Options, Sides, obey_all};
 use nmvs_protocol::{Authorisations, Desk, OwnDesk};
+use nmvs_rate::{Gate, RatedDesk};
 use nmvs_stream::{Sink, deliver};
 use std::alloc::{AllocError, Global};
 use std::fs::File;
@@ -23,7 +28,11 @@ use std::time::Duration;
 mod tests;
 
 /// How far the connections of so many workers may go.
-pub(crate) fn bounds_of(options: &Options, workers: usize) -> Bounds {
+pub(crate) fn bounds_of(options: &Options, workers: usize) -> Bounds
+    ensures connections { result.connections ≡ options.now.connections }
+    ensures proxy { result.proxy ≡ options.now.proxy }
+    ensures sessions { result.sessions ≡ sessions_of options.now.sessions workers }
+{
     Bounds {
         connections: options.connections,
         idle: match options.idle {
@@ -65,7 +74,8 @@ fn work<'r, R: Wait + Clock + Eprint, J: Naming, H: Histories>(
     }
 }
 
-/// Serves connections by a desk, and gives it back. Where it can't go on it ends the service.
+/// Serves connections by a desk, each user within the rate, and gives the desk back. Where it can't go on it ends the
+/// service.
 fn serve_by_desk<'r, R: Wait + Clock, J: Naming, H: Histories, D: Desk<'r> + Authorisations>(
     shared: &Shared<'_, '_, 'r, '_, R, J, H>,
     number: usize,
@@ -73,11 +83,11 @@ fn serve_by_desk<'r, R: Wait + Clock, J: Naming, H: Histories, D: Desk<'r> + Aut
     desk: D,
 ) -> D {
     let run = shared.run;
-    let mut own = OwnDesk::new(desk);
+    let mut own = OwnDesk::new(RatedDesk::new(desk, Gate::new(run.rt, shared.rates)));
     if serve(run.rt, *run.alloc, shared.hall, number, station, &mut own).is_err() {
         shared.hall.stop(run.rt);
     }
-    own.into_desk()
+    own.into_desk().into_desk()
 }
 
 /// Accepts connections for the workers. Where it can't go on it ends the service.
@@ -133,7 +143,7 @@ pub(crate) fn serve_connections<
         tell_port(*run.alloc, run.options, shared.listener, &mut console.sink);
         let mut latest = Latest::new(run.rt, shared.latest);
         let mut service = Running { shared, users };
-        obey_all(console, registrar, &mut latest, &mut service);
+        obey_all(*run.alloc, console, registrar, &mut latest, &mut service);
         for worker in workers {
             back.push(worker.join(run.rt))?;
         }
@@ -145,8 +155,8 @@ pub(crate) fn serve_connections<
 /// Tells on which port the program listens, or where its socket is. A failed write changes nothing.
 fn tell_port<W: Sink>(alloc: Global, options: &Options, listener: &Listener, out: &mut W) {
     let text = match (listener.port(), &options.socket) {
-        (Some(port), _) => format!(in alloc; "LISTENING {port}\n"),
-        (None, Some(path)) => format!(in alloc; "LISTENING {path}\n"),
+        (Some(port), _) => listening_on(alloc, port),
+        (None, Some(path)) => listening_at(alloc, path),
         (None, None) => return,
     };
     if let Ok(text) = text {

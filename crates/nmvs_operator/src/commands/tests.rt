@@ -1,11 +1,11 @@
 ghost use Rattle.std.specs.Prelude.{◌≡◌};
 ghost use Rattle.nmvs_directory.specs.Directory.{directory_book};
 
-use crate::{Console, Deed, Latest, Service, ServiceFault, obey_all};
+use crate::{Console, Deed, Figure, Latest, Service, ServiceFault, Topic, obey_all};
 use nmvs_directory::{Directory, Look, Naming, Notice, Registrar};
 use nmvs_identifier::Name;
 use nmvs_stream::{Device, deliver};
-use std::alloc::Global;
+use std::alloc::{AllocError, Global};
 use std::io;
 use std::io::{ErrorKind, Write};
 use std::marker::Brand;
@@ -23,10 +23,19 @@ const COMMANDS: &[u8] =
 
 /// What stops the server, and a command behind it.
 const STOP: &[u8] =
-    b"EXPORT full\nEXPORT trail.txt\nHELP\nSUSPEND ph9\nSTOP\nENROL ph9 PHARMACY PH-9 P9\n";
+    b"EXPORT full\nEXPORT trail.txt\nHELP\nUSERS\nSTATS\nCONNECTIONS\nSUSPEND ph9\nSTOP\nENROL ph9 PHARMACY PH-9 P9\n";
 
 const HELPED: &[u8] =
-    b"FAULT WRITE\nDONE\nENROL user role authorisation premises\nSUSPEND user\nEXPORT file\nSTOP\nHELP\nDONE\nFAULT JOURNAL\nDONE\n.";
+    b"FAULT WRITE\nDONE\nENROL user role authorisation premises\nSUSPEND user\nEXPORT file\nUSERS\nSTATS\nCONNECTIONS\n\
+    STOP\nHELP\nDONE\nUSER ph9 PHARMACY PH-9 P9 SUSPENDED\nDONE\nCONNECTIONS 2\nSESSIONS 3\nENTRIES 0 5\nENTRIES 1 0\nDONE\n\
+    WORKER 0 2\nDONE\nFAULT JOURNAL\nDONE\n.";
+
+const STATS: &[Figure] = &[
+    Figure::Connections(2),
+    Figure::Sessions(3),
+    Figure::Entries(0, 5),
+    Figure::Entries(1, 0),
+];
 
 /// A server that keeps so many changes, and writes no file named `full`.
 #[derive(Drop)]
@@ -38,6 +47,8 @@ struct Narrow {
 impl Service for Narrow {
     ghost does = { λ old deed fault new. Unit {0} };
 
+    ghost counts = { λ server topic figures. Unit {0} };
+
     fn perform(&mut self, deed: &Deed<'_>) -> Result<(), ServiceFault> {
         match deed {
             Deed::Keep(_) => {
@@ -48,6 +59,13 @@ impl Service for Narrow {
             Deed::Stop => self.stopped = true,
         }
         Ok(())
+    }
+
+    fn count(&self, alloc: Global, topic: Topic) -> Result<Vec<Figure>, AllocError> {
+        match topic {
+            Topic::Stats => Vec::from_slice(alloc, STATS),
+            Topic::Connections => Vec::from_slice(alloc, &[Figure::Worker(0, 2)]),
+        }
     }
 }
 
@@ -76,6 +94,7 @@ impl Write for Awaited {
 /// Carries out orders, which have these answers, a full stop behind them.
 fn has_answers<'r, J: Naming, R: Wait + Abort + Sync>(
     rt: &'r R,
+    alloc: Global,
     registrar: &mut Registrar<J, &'r R, Global>,
     latest: &Mutex<Notice<J>>,
     service: &mut Narrow,
@@ -85,6 +104,7 @@ fn has_answers<'r, J: Naming, R: Wait + Abort + Sync>(
     let answers = Awaited { left: answers };
     let mut console = Console::new(Device::new(commands), Device::new(answers));
     obey_all(
+        alloc,
         &mut console,
         registrar,
         &mut Latest::new(rt, latest),
@@ -107,6 +127,7 @@ fn commands_come<J: Naming, R: Wait + Abort + Sync>(rt: &R, alloc: Global, direc
     };
     has_answers(
         rt,
+        alloc,
         &mut registrar,
         &latest,
         &mut service,
@@ -116,11 +137,27 @@ fn commands_come<J: Naming, R: Wait + Abort + Sync>(rt: &R, alloc: Global, direc
     window.learn(&*latest.lock(rt));
     assert!(rt; matches!(window.look(&ph9), Look::Known(_)));
     let all = b"FAULT LONG\nFAULT WORD\nDONE\nFAULT UNENDED\n.";
-    has_answers(rt, &mut registrar, &latest, &mut service, COMMANDS, all);
+    has_answers(
+        rt,
+        alloc,
+        &mut registrar,
+        &latest,
+        &mut service,
+        COMMANDS,
+        all,
+    );
     window.learn(&*latest.lock(rt));
     assert_eq!(rt; window.look(&ph9), Look::Suspended);
     assert!(rt; !service.stopped);
-    has_answers(rt, &mut registrar, &latest, &mut service, STOP, HELPED);
+    has_answers(
+        rt,
+        alloc,
+        &mut registrar,
+        &latest,
+        &mut service,
+        STOP,
+        HELPED,
+    );
     assert!(rt; service.stopped);
     registrar.close();
 }

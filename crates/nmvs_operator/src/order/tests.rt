@@ -1,4 +1,4 @@
-use crate::{Order, read_order};
+use crate::{Order, Topic, read_order};
 use nmvs_identifier::Name;
 use nmvs_protocol::{Command, CommandFault};
 use std::test::*;
@@ -14,13 +14,21 @@ fn orders_and_faults_are_read(rt: HostRuntime) {
         read_order(b"EXPORT /srv/trail.txt"),
         Ok(Order::Export("/srv/trail.txt"))
     );
-    assert_eq!(rt; read_order(b"STOP"), Ok(Order::Stop));
-    assert_eq!(rt; read_order(b"HELP"), Ok(Order::Help));
+    for (line, order) in [
+        ("USERS", Order::Users),
+        ("STATS", Order::Count(Topic::Stats)),
+        ("CONNECTIONS", Order::Count(Topic::Connections)),
+        ("STOP", Order::Stop),
+        ("HELP", Order::Help),
+    ] {
+        assert_eq!(rt; read_order(line.as_bytes()), Ok(order), "{line}");
+    }
     for (line, fault) in [
         ("EXPORT", CommandFault::Fields),
         ("EXPORT a b", CommandFault::Fields),
         ("EXPORT ", CommandFault::Fields),
         ("STOP now", CommandFault::Fields),
+        ("USERS ph1", CommandFault::Fields),
         ("stop", CommandFault::Word),
         ("SUSPEND", CommandFault::Fields),
         ("STOP\r", CommandFault::Bytes),

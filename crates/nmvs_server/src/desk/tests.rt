@@ -13,11 +13,13 @@ use boxcar::tag::Tag;
 use nmvs_desk::{Keepers, MOST_CLERKS};
 use nmvs_directory::{Directory, Naming, Notice, Registrar};
 use nmvs_history::Histories;
-use nmvs_operator::{Console, Deed, Latest, Service, ServiceFault, load_users, obey_all};
+use nmvs_operator::{
+    Console, Deed, Figure, Latest, Service, ServiceFault, Topic, load_users, obey_all,
+};
 use nmvs_protocol::{Desk, SESSION_LIMITS, serve};
-use nmvs_shard::Shards;
+use nmvs_shard::{HashKey, Shards};
 use nmvs_stream::{Device, deliver};
-use std::alloc::Global;
+use std::alloc::{AllocError, Global};
 use std::io;
 use std::io::{ErrorKind, Write};
 use std::marker::Brand;
@@ -49,6 +51,15 @@ const TURNED_AWAY: &[Example] = &[
             ("SUSPEND ph1", "DONE"),
             ("ph1 STATUS 09506000134352 SN1", "FAULT SUSPENDED"),
             ("ph1b STATUS 09506000134352 SN1", "NOPACK"),
+        ],
+    },
+    Example {
+        shows: "a suspension is learnt before the next report",
+        moments: &[NEW_YEAR],
+        lines: &[
+            ("ph1 REPORT 09506000134352", "FAULT ROLE"),
+            ("SUSPEND ph1", "DONE"),
+            ("ph1 REPORT 09506000134352", "FAULT SUSPENDED"),
         ],
     },
 ];
@@ -113,8 +124,14 @@ struct Willing;
 impl Service for Willing {
     ghost does = { λ old deed fault new. Unit {0} };
 
+    ghost counts = { λ server topic figures. Unit {0} };
+
     fn perform(&mut self, _deed: &Deed<'_>) -> Result<(), ServiceFault> {
         Ok(())
+    }
+
+    fn count(&self, alloc: Global, _topic: Topic) -> Result<Vec<Figure>, AllocError> {
+        Ok(Vec::new(alloc))
     }
 }
 
@@ -143,6 +160,7 @@ impl Write for Awaited {
 /// Suspends ph1 by an order, which is answered.
 fn suspend<'r, J: Naming, R: Wait + Abort>(
     rt: &'r R,
+    alloc: Global,
     registrar: &mut Registrar<J, &'r R, &Global>,
     latest: &Mutex<Notice<J>>,
 ) {
@@ -152,6 +170,7 @@ fn suspend<'r, J: Naming, R: Wait + Abort>(
         Device::new(Awaited { left: b"DONE\n." }),
     );
     obey_all(
+        alloc,
         &mut console,
         registrar,
         &mut Latest::new(rt, latest),
@@ -192,7 +211,7 @@ fn at_desk<'r, 'a, J: Naming, H: Histories, R: Wait + Abort>(
     for (line, answer) in example.lines {
         let wanted = format!(in *alloc; "{answer}\n")?;
         if *line == "SUSPEND ph1" {
-            suspend(rt, registrar, latest);
+            suspend(rt, *alloc, registrar, latest);
             continue;
         }
         let said = asked(*alloc, &mut desk, line)?;
@@ -218,7 +237,7 @@ fn at_directory<J: Naming, R: Wait + Abort + Sync>(
     let notice = load_users(*alloc, &mut users, &mut registrar, 2)?;
     let opening = Opening {
         windows,
-        shards: Shards::new(alloc, 1)?.into_shards(),
+        shards: Shards::new(alloc, 1, HashKey::of(1))?.into_shards(),
         keepers: Keepers::new(alloc, 1)?,
     };
     let latest = Mutex::new(notice);

@@ -3,7 +3,7 @@ use Rattle.std.proofs.lemmas.List.{append-nil}
 use Rattle.nmvs_directory.specs.Registrar.{register_of}
 use Rattle.nmvs_stream.specs.InputLines.{input_lines}
 use Rattle.nmvs_protocol.specs.Progress.{kept_part}
-use Rattle.nmvs_operator.specs.Commands.{office, AnswersOrder}
+use Rattle.nmvs_operator.specs.Commands.{office, ways, AnswersOrder}
 use Rattle.nmvs_stream.proofs.LinesOfPieces.{no_line, line_cut, left_cut}
 use Rattle.nmvs_operator.proofs.CommandLemmas.{one_more, one_stop, same_lines, ahead_first, ahead_next, goes_on}
 use Rattle.nmvs_operator.proofs.commands.obey_chunk.Goals as goal
@@ -20,7 +20,7 @@ returns-then-obey_line g c first start input is so_far =
     let old = office (register_of c.loop-tail.registrar) c.loop-tail.latest c.loop-tail.service in
     let new = office (register_of c.obey_line.new.registrar) c.obey_line.new.latest c.obey_line.new.service in
     let line : c.as_slice.result.now ≡ kept_part x = c.as_slice.ensures ∙ c.extend.ensures ∙ goes_on inv.begun c.in-Some.tail.now inv.keeps in
-    let answers = subst (λ (t : List ℕ). AnswersOrder g.S.Service.does old t o.0 new) line o.1 in
+    let answers = subst (λ (t : List ℕ). AnswersOrder (ways g.S.Service.does g.S.Service.counts) old t o.0 new) line o.1 in
     one_stop new (g.W.Sink.taken c.obey_line.new.sink) x o.0 (input ++ c.args.chunk.now) (input_lines behind) inv.answered answers o.2
     (sym o.3 ∙ c.if-obey_line.true) (sym (ahead_next inv x behind (line_cut inv.begun _ _ c.in-Some.ensures.cut c.in-Some.ensures.whole)))
 
@@ -33,7 +33,7 @@ loop-tail-preserved g c first start input is so_far =
     let old = office (register_of c.loop-tail.registrar) c.loop-tail.latest c.loop-tail.service in
     let new = office (register_of c.obey_line.new.registrar) c.obey_line.new.latest c.obey_line.new.service in
     let line : c.as_slice.result.now ≡ kept_part x = c.as_slice.ensures ∙ c.extend.ensures ∙ goes_on inv.begun c.in-Some.tail.now inv.keeps in
-    let answers = subst (λ (t : List ℕ). AnswersOrder g.S.Service.does old t o.0 new) line o.1 in record {
+    let answers = subst (λ (t : List ℕ). AnswersOrder (ways g.S.Service.does g.S.Service.counts) old t o.0 new) line o.1 in record {
       done = inv.done ++ x ∷ [];
       begun = [];
       keeps = c.clear.ensures;

@@ -1,0 +1,22 @@
+-- The lines of users, one by one.
+use Rattle.std.proofs.Common.{◌≡◌, ℕ, suc, ◌+◌, ◌<◌, arith, List, [], ◌∷◌, ◌++◌, take, length, Option, Some, None, inl, inr, ap, ◌∙◌}
+use Rattle.std.specs.List.{flat_map, slice_get}
+use Rattle.std.proofs.lemmas.List.{append-nil}
+use Rattle.std.proofs.lemmas.List.Concat.{flat_map-append}
+use Rattle.std.proofs.lemmas.Option.{slice_get_within, get_or_from_slice_get, slice_get_cases}
+use lib.Seq.{take-suc}
+
+-- the lines of one item more
+pub lines_more : {X : Type 0} (f : X → List ℕ) (xs : List X) (i : ℕ) (x : X) → Some x ≡ slice_get xs i → flat_map f (take (i + 1) xs) ≡ flat_map f (take i xs) ++ f x
+lines_more f xs i x is =
+    let e : slice_get xs i ≡ Some x = cc in
+    let on : i + 1 ≡ suc i = omega arith in
+    ap (λ n. flat_map f (take n xs)) on ∙ ap (flat_map f) (take-suc xs i x (slice_get_within xs i x e) ∙ ap (λ y. take i xs ++ y ∷ []) (get_or_from_slice_get xs i x x e))
+    ∙ flat_map-append f (take i xs) (x ∷ []) ∙ ap (λ (y : List ℕ). flat_map f (take i xs) ++ y) (append-nil (f x))
+
+-- each place of a list has an item
+pub none_behind : {X : Type 0} (xs : List X) (i : ℕ) → None ≡ slice_get xs i → i < length xs → ⊥
+none_behind xs i none within = elim (slice_get_cases xs i).1 [
+  | inl there ↦ let e = there.2 in absurd (cc (e, none))
+  | inr past ↦ absurd (omega (arith, past.0, within))
+]

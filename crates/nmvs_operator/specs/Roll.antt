@@ -1,0 +1,27 @@
+-- What the operator is told of the users (own).
+use Rattle.std.specs.Prelude.{ℕ, List, [], ◌∷◌, codes, None, Some}
+use Rattle.std.specs.List.{flat_map}
+use Rattle.nmvs_identifier.specs.Name.{Name}
+use Rattle.nmvs_rules.specs.declared.actor.Actor.{Actor}
+use Rattle.nmvs_words.specs.Words.{role_word, spaced}
+use Rattle.nmvs_directory.specs.declared.standing.Standing.{Standing}
+use Rattle.nmvs_directory.specs.declared.standing.Standing.TheVariants.{Enrolled, Suspended}
+
+-- the line of a user of this name that is enrolled as this actor
+abbrev pub enrolled : List ℕ → Actor → List ℕ
+enrolled name actor = spaced (codes "USER" ∷ name ∷ role_word actor.role ∷ actor.authorisation.bytes ∷ actor.premises.bytes ∷ [])
+
+-- the line of a user of this name that is suspended, and was enrolled as this actor last
+abbrev pub suspended : List ℕ → Actor → List ℕ
+suspended name actor =
+    spaced (codes "USER" ∷ name ∷ role_word actor.role ∷ actor.authorisation.bytes ∷ actor.premises.bytes ∷ codes "SUSPENDED" ∷ [])
+
+-- the line of a user, with LF: one that was never enrolled has no role
+abbrev pub user_line : Name × Standing → List ℕ
+user_line (name, Enrolled actor) = enrolled name.bytes actor
+user_line (name, Suspended (Some actor)) = suspended name.bytes actor
+user_line (name, Suspended None) = spaced (codes "USER" ∷ name.bytes ∷ codes "SUSPENDED" ∷ [])
+
+-- the lines of users, in their order
+abbrev pub user_lines : List (Name × Standing) → List ℕ
+user_lines users = flat_map user_line users

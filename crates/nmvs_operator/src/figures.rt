@@ -1,0 +1,55 @@
+//! What a server counts, and what its operator is told of it.
+ghost use Rattle.std.specs.Prelude.{◌≡◌, ◌++◌, IfOk, OnOk, string_bytes};
+ghost use Rattle.std.specs.List.{flat_map};
+ghost use Rattle.nmvs_operator.specs.Figures.{figure_line as line_of_figure, figure_lines};
+
+use std::alloc::{AllocError, Global};
+
+/// What the operator asks numbers about (own).
+#[derive(Clone, Copy, Debug, PartialEq, Eq)]
+pub enum Topic {
+    /// What is served, and what is recorded.
+    Stats,
+    /// The connections of each worker.
+    Connections,
+}
+
+/// One number that a server counts (own).
+#[derive(Clone, Copy, Debug, PartialEq, Eq)]
+pub enum Figure {
+    /// How many connections are open.
+    Connections(u64),
+    /// How many sessions have begun in which a line is served.
+    Sessions(u64),
+    /// How many entries the trail of the shard of this number has.
+    Entries(u64, u64),
+    /// How many connections the worker of this number has.
+    Worker(u64, u64),
+}
+
+/// The lines of figures, one a line.
+///
+/// # Errors
+///
+/// There is no memory for the text.
+pub(crate) fn figures_text(alloc: Global, figures: &[Figure]) -> Result<String, AllocError>
+    ensures { IfOk result (λ text. string_bytes text ≡ figure_lines figures.now) }
+{
+    let mut text = String::new(alloc);
+    for figure in figures {
+        let line = figure_line(alloc, figure)?;
+        text.push_str(&line)?;
+    }
+    Ok(text)
+}
+
+fn figure_line(alloc: Global, figure: &Figure) -> Result<String, AllocError>
+    ensures { IfOk result (λ text. string_bytes text ≡ line_of_figure figure.now) }
+{
+    match figure {
+        Figure::Connections(number) => format!(in alloc; "CONNECTIONS {number}\n"),
+        Figure::Sessions(number) => format!(in alloc; "SESSIONS {number}\n"),
+        Figure::Entries(shard, number) => format!(in alloc; "ENTRIES {shard} {number}\n"),
+        Figure::Worker(worker, number) => format!(in alloc; "WORKER {worker} {number}\n"),
+    }
+}
