@@ -5,6 +5,7 @@ use Rattle.std.proofs.lemmas.List.Elements.{All-nil}
 use Rattle.std.proofs.lemmas.Option.{slice_get-get_or}
 use Rattle.nmvs_history.specs.Views.{HistoryId, TokenView}
 use Rattle.nmvs_rules.specs.declared.entry.Entry.{Entry}
+use Rattle.nmvs_rules.specs.Entries.{AreEntries}
 use Rattle.nmvs_rules.specs.Questions.{code_of}
 use Rattle.nmvs_rules.specs.Rules.{IsLawful}
 use Rattle.nmvs_desk.specs.declared.ask.Receipt.{Receipt}
@@ -50,7 +51,7 @@ let_go tables count tokens receipts is = record {
   shards = is.shards;
   each = λ i k at.
       let it = is.each i k at in
-      record { table = it.table; places = record { gone = k.places; is = sym (append-nil k.places) }; lawful = it.lawful; placed = it.placed };
+      record { table = it.table; places = record { gone = k.places; is = sym (append-nil k.places) }; lawful = it.lawful; in_range = it.in_range; placed = it.placed };
   stand = λ n r there. absurd cc;
   rising = λ k m p q less at_k at_m same. absurd cc;
 }
@@ -66,6 +67,7 @@ new_clerk tables count opening tokens new = record {
         table = ap (λ (k : TokenView). k.table) it.is;
         places = record { gone = []; is = ap (λ (k : TokenView). k.places) it.is };
         lawful = subst (λ t. IsLawful t) (sym seen) it.lawful;
+        in_range = subst (λ t. AreEntries t) (sym seen) it.in_range;
         placed = subst (λ t. IsPlaced count i t) (sym seen) it.placed;
       };
   stand = λ n r there. absurd cc;

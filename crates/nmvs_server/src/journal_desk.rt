@@ -99,7 +99,6 @@ impl<'r, 'v, 'f, 'a, R: Wait, J: Naming, H: Histories, K: Clock, D: Store + Drop
 
     ghost moves = { LetsGo };
 
-    #[tactic(auto, using(crate::proofs::DeskTurns::grows, crate::proofs::DeskTurns::reaches))]
     fn take(&mut self, ask: &Ask) -> Withheld<'a> {
         let (answer, basis) = self.desk.answer(ask);
         self.reach.note(basis);

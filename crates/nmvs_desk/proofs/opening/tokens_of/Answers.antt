@@ -21,7 +21,7 @@ loop-index-preserved g c =
     let there = slice_get_read l.shards.items (length l.shards.items) l.index old refl within c.index_mut.ensures.value in
     let is = given.rest l.index old (omega arith) there in (
       (λ left locked. given_more left h.shards l.index h.opening l.shards.items old c.token.new.self (l.invariant.0 left locked) (omega (arith, within, given.length)) there c.token.ensures.parts),
-      rw c.push_reserved.ensures.items (new_more h.tables h.shards h.opening l.index l.tokens.items c.token.result old l.invariant.1 (ap (λ (h : LockedView). h.trail) is, ap (λ (h : LockedView). h.index) is) c.token.ensures.token c.token.ensures.kept),
+      rw c.push_reserved.ensures.items (new_more h.tables h.shards h.opening l.index l.tokens.items c.token.result old l.invariant.1 (ap (λ (h : LockedView). h.trail) is, ap (λ (h : LockedView). h.index) is) c.token.ensures.token c.token.ensures.kept c.token.ensures.in_range),
       omega (arith, c.push_reserved.ensures.len, l.invariant.2),
       omega (arith, c.push_reserved.ensures.capacity, l.invariant.3),
     )
