@@ -115,8 +115,8 @@ impl<'a> Fault<'a> {
         ensures { result ≡ fault_status self.now }
     {
         match self {
-    /// The status that the program ends with: 3 where a line of the import, its digest or a journal is refused, 4 where the
-    /// export or a journal is not written, 5 where the repository does not settle, and else 1.
+            /// The status that the program ends with: 3 where a line of the import, its digest or a journal is refused, 4 where the
+            /// export or a journal is not written, 5 where the repository does not settle, and else 1.
             Fault::LostClerk => 5,
             _ => 1,
         }

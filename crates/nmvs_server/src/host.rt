@@ -17,10 +17,7 @@ use std::sync::{Mutex, Wait};
 use std::thread::Threads;
 
 /// What a run uses of the machine.
-pub trait Host:
-    Files<File = File> + Clock + Threads + Wait + Net + RandomSource + Eprint
-{
-}
+pub trait Host: Files<File = File> + Clock + Threads + Wait + Net + RandomSource + Eprint {}
 
 impl<R: Files<File = File> + Clock + Threads + Wait + Net + RandomSource + Eprint> Host for R {}
 
