@@ -1,5 +1,5 @@
 //! Answers that are withheld until the desk releases them.
-ghost use Rattle.std.specs.Prelude.{◌≡◌, ◌==◌, ◌<◌, ◌++◌, ◌∷◌, [], length, map, None};
+ghost use Rattle.std.specs.Prelude.{◌≡◌, ◌==◌, ◌<◌, ◌++◌, ◌∷◌, [], false, length, map, None};
 ghost use Rattle.nmvs_protocol.specs.Session.{AreReleased, answer_of, is_kept, is_of_repository as of_repository, told_where};
 ghost use Rattle.nmvs_protocol.specs.Texts.{takes_memory as text_takes_memory};
 
@@ -136,7 +136,8 @@ impl<'a> WithheldAnswers<'a> {
 
     /// Whether no more may be withheld.
     pub(crate) fn is_full(&self) -> bool
-        ensures { result ≡ (length self.now == MOST_WITHHELD) }
+        ensures full { result ≡ (length self.now == MOST_WITHHELD) }
+        ensures room { result ≡ false → length self.now < MOST_WITHHELD }
     {
         self.list.is_full()
     }

@@ -1,6 +1,6 @@
 use crate::{
-    Answer, Ask, Basis, Desk, End, Entries, Limits, Released, Session, Withheld, WithheldAnswers,
-    serve,
+    Answer, Ask, Basis, Desk, End, Entries, Limits, Released, Session, Taking, Withheld,
+    WithheldAnswers, serve,
 };
 use nmvs_identifier::{Batch, Expiry};
 use nmvs_rules::{Question, Reply};
@@ -320,6 +320,38 @@ fn a_session_is_fed_in_any_pieces(rt: HostRuntime) {
         assert_eq!(rt; end, Some(End::Quit));
         assert_eq!(rt; taken.as_slice(), output.as_slice(), "{piece}");
     }
+}
+
+/// Answers stand in the order in which their lines were taken, and each session goes on behind its own.
+#[test]
+fn two_sessions_take_into_one_list(rt: HostRuntime) {
+    let alloc = rt.alloc();
+    let mut desk = Shelf {
+        alloc: &alloc,
+        uploaded: None,
+        asked: 0,
+        kept: [ALL],
+    };
+    let mut withheld = WithheldAnswers::new();
+    let (mut one, mut other) = (Session::new(9), Session::new(1));
+    for (session, more, bytes, end) in [
+        (&mut one, b"ph1\nph1 VER".as_slice(), 11, None),
+        (&mut other, b"\n\n", 1, Some(End::Limit)),
+    ] {
+        let taking = session.take(more, &mut withheld, &mut desk);
+        assert_eq!(rt; taking, Taking { bytes, end });
+    }
+    let more = b"IFY 09506000134352 SN1\nQUIT\nph1\n";
+    let taking = one.take(more, &mut withheld, &mut desk);
+    assert_eq!(rt; (taking.bytes, taking.end), (28, Some(End::Quit)));
+    let (released, ()) = desk.release(&mut withheld);
+    assert!(rt; matches!(
+        released.list(),
+        [fields, empty, reply, bye] if matches!(fields.answer(), Answer::Unread(_))
+            && matches!(empty.answer(), Answer::Unread(_))
+            && matches!(reply.answer(), Answer::Replied(..))
+            && matches!(bye.answer(), Answer::Bye)
+    ));
 }
 
 #[test]
