@@ -1,6 +1,7 @@
 -- How a session goes on by one line, by the answers that are released together, and by one read.
 use Rattle.std.proofs.Common.{◌≡◌, ◌≢◌, ◌==◌, not, ◌||◌, if◌then◌else◌, ◌+◌, ◌-◌, take, drop, ◌<◌, ◌≤◌, ◌⊎◌, ℕ, Bool, true, false, List, [], ◌∷◌, ◌++◌, All, IsTrue, IfNone, Option, Some, None, length, map, refl, sym, ap, ◌∙◌, subst, inl, inr, arith}
-use Rattle.std.proofs.lemmas.List.{flat_map_more, append-nil, length-append, length_push, append_assoc, take_at, drop_at, take_all, take-append-drop, nil_from_length}
+use Rattle.std.proofs.lemmas.List.{flat_map_more, append-nil, length-append, length_push, append_assoc, take_at, drop_at, take_all, take-append-drop, length-drop}
+use Rattle.std.proofs.lemmas.Bool.{ne_eqb}
 use Rattle.std.proofs.Math.Seq.{drop-length}
 use Rattle.std.proofs.lemmas.List.Elements.{All-append, All-cons, All-nil, All-head, All-tail}
 use Rattle.std.proofs.lemmas.Grind.{flat_map-append}
@@ -250,6 +251,11 @@ flush_fails (Some ends.ReadFault) limit count answered left said old mid new non
 -- bytes that are cut once more
 pub whole_cut : (n : ℕ) (bytes rest : List ℕ) {all : List ℕ} → bytes ++ rest ≡ all → (bytes ++ take n rest) ++ drop n rest ≡ all
 whole_cut n bytes rest whole = append_assoc bytes (take n rest) (drop n rest) ∙ ap (λ (t : List ℕ). bytes ++ t) (take-append-drop n rest) ∙ whole
+
+pub whole_left : (n : ℕ) (bytes rest : List ℕ) {all : List ℕ} → bytes ++ rest ≡ all → (bytes ++ take n rest) ++ take (length rest - n) (drop n rest) ≡ all
+whole_left n bytes rest whole =
+    let left = length-drop n rest in
+    ap (λ (t : List ℕ). (bytes ++ take n rest) ++ t) (take_all (length rest - n) (drop n rest) (omega (arith, left))) ∙ whole_cut n bytes rest whole
 
 -- what is behind a line
 pub behind_line : (bytes tail behind : List ℕ) {rest all : List ℕ} → bytes ++ rest ≡ all → rest ≡ tail ++ 10 ∷ behind → (bytes ++ (tail ++ 10 ∷ [])) ++ behind ≡ all
@@ -598,12 +604,13 @@ module _ {D : Type 0} (takes : D → Ask → Withheld → D → Type 0) where
     last_on (Some ends.Ended) limit count begun bytes more left a h = absurd h
     last_on (Some ends.ReadFault) limit count begun bytes more left a h = absurd h
 
-    pub ahead_more : {session session' session'' : TheSession} {first : D} {start : Taken} {now at new : D} {sink sink' : Taken} {begun bytes : List ℕ} {withheld : List Withheld} (more left : List ℕ)
-        → (a : Ahead session first start now sink session' begun bytes) → Took takes session' now [] (rest_after begun bytes) more left session'' at withheld None
-        → TellsWithheld releases moves withheld at new None sink sink' → Ahead session first start new sink' session'' begun (bytes ++ more)
-    ahead_more {begun = begun} {bytes = bytes} more left a t told = record {
+    pub ahead_more : {session session' session'' : TheSession} {first : D} {start : Taken} {now at new : D} {sink sink' : Taken} {begun bytes : List ℕ} {withheld : List Withheld} {halt : Option End} (more left : List ℕ)
+        → (a : Ahead session first start now sink session' begun bytes) → Took takes session' now [] (rest_after begun bytes) more left session'' at withheld halt
+        → halt ≡ None → TellsWithheld releases moves withheld at new None sink sink' → Ahead session first start new sink' session'' begun (bytes ++ more)
+    ahead_more {session' = session'} {session'' = session''} {begun = begun} {bytes = bytes} more left a t goes told = record {
       told = told_on more left None a t told;
-      no_quit = no_quit_on begun bytes more a.no_quit t.halts;
+      no_quit = no_quit_on begun bytes more a.no_quit
+          (subst (λ (h : Option End). Halts h session'.limit session''.answered (lines_after (rest_after begun bytes) more) (rest_after (rest_after begun bytes) more) left) goes t.halts);
       line = t.line ∙ ap kept_part (sym (rest_after-append begun bytes more));
       limit = t.limit ∙ a.limit;
     }
@@ -623,30 +630,40 @@ module _ {D : Type 0} (takes : D → Ask → Withheld → D → Type 0) where
         (last_on halt _ session''.answered begun bytes more left a.no_quit t.halts)
 
     -- .. or the taking told its end
-    pub feed_halted : {session session' session'' : TheSession} {first : D} {start : Taken} {now at new : D} {sink sink' : Taken} {begun bytes : List ℕ} {withheld : List Withheld} (more left all : List ℕ) (halt : End)
-        → (a : Ahead session first start now sink session' begun bytes) → Took takes session' now [] (rest_after begun bytes) more left session'' at withheld (Some halt)
-        → TellsWithheld releases moves withheld at new None sink sink' → (bytes ++ more) ++ left ≡ all
+    halted : {session session' : TheSession} {first : D} {start : Taken} {now : D} {sink sink' : Taken} {begun bytes : List ℕ} {new : D} (session'' : TheSession) (more left : List ℕ) (halt : End)
+        → (a : Ahead session first start now sink session' begun bytes) → (told : AllTold session first start new sink' session''.answered (lines_after begun (bytes ++ more)) None)
+        → Halts (Some halt) session'.limit session''.answered (lines_after (rest_after begun bytes) more) (rest_after (rest_after begun bytes) more) left
+        → (has_write_fault (Some halt) ≡ false)
+        × Stands (Some halt) (Gathers start sink') session.limit session''.answered (lines_after begun (bytes ++ more)) (lines_after (rest_after (rest_after begun bytes) more) left) told.said start sink'
+    halted {begun = begun} {bytes = bytes} session'' more left ends.Quit a told h = (refl, (ends_on begun bytes more a.no_quit h, told.told))
+    halted {begun = begun} {bytes = bytes} session'' more left ends.Limit a told h =
+        (refl, (no_quit_on begun bytes more a.no_quit h.0, told.told, record { reached = h.1.reached ∙ a.limit; more = h.1.more }))
+    halted session'' more left ends.WriteFault a told h = absurd h
+    halted session'' more left ends.Memory a told h = absurd h
+    halted session'' more left ends.Ended a told h = absurd h
+    halted session'' more left ends.ReadFault a told h = absurd h
+
+    pub feed_halted : {session session' session'' : TheSession} {first : D} {start : Taken} {now at new : D} {sink sink' : Taken} {begun bytes : List ℕ} {withheld : List Withheld} {end : Option End} (more left all : List ℕ) (halt : End)
+        → (a : Ahead session first start now sink session' begun bytes) → Took takes session' now [] (rest_after begun bytes) more left session'' at withheld end
+        → end ≡ Some halt → TellsWithheld releases moves withheld at new None sink sink' → (bytes ++ more) ++ left ≡ all
         → Fed takes releases moves session first start (lines_after begun all) session'' new sink' (Some halt)
-    feed_halted {begun = begun} {bytes = bytes} more left all ends.Quit a t told whole =
+    feed_halted {session' = session'} {session'' = session''} {begun = begun} {bytes = bytes} more left all halt a t ends_so told whole =
         let told_so = told_on more left None a t told in
-        fed_all (lines_after (rest_after (rest_after begun bytes) more) left) (lines_after begun all) (Some ends.Quit) told_so (behind begun bytes more left all whole) (t.limit ∙ a.limit) refl
-        (ends_on begun bytes more a.no_quit t.halts, told_so.told)
-    feed_halted {begun = begun} {bytes = bytes} more left all ends.Limit a t told whole =
-        let told_so = told_on more left None a t told in
-        fed_all (lines_after (rest_after (rest_after begun bytes) more) left) (lines_after begun all) (Some ends.Limit) told_so (behind begun bytes more left all whole) (t.limit ∙ a.limit) refl
-        (no_quit_on begun bytes more a.no_quit t.halts.0, told_so.told, record { reached = t.halts.1.reached ∙ a.limit; more = t.halts.1.more })
-    feed_halted more left all ends.WriteFault a t told whole = absurd t.halts
-    feed_halted more left all ends.Memory a t told whole = absurd t.halts
-    feed_halted more left all ends.Ended a t told whole = absurd t.halts
-    feed_halted more left all ends.ReadFault a t told whole = absurd t.halts
+        let so = halted session'' more left halt a told_so
+        (subst (λ (h : Option End). Halts h session'.limit session''.answered (lines_after (rest_after begun bytes) more) (rest_after (rest_after begun bytes) more) left) ends_so t.halts) in
+        fed_all (lines_after (rest_after (rest_after begun bytes) more) left) (lines_after begun all) (Some halt) told_so (behind begun bytes more left all whole) (t.limit ∙ a.limit) so.0 so.1
+
+    no_rest : (xs : List ℕ) → (length xs == 0) ≡ true → xs ≡ []
+    no_rest [] none = refl
+    no_rest (x ∷ xs) none = let some = ne_eqb (length (x ∷ xs)) 0 (λ z. absurd (omega (arith, z))) in absurd (cc (none, some))
 
     -- all bytes are told of
     pub feed_all : {session session' : TheSession} {first : D} {start : Taken} {now : D} {sink : Taken} {bytes : List ℕ} (fed rest all : List ℕ)
-        → (a : Ahead session first start now sink session' (unfinished_line fed) bytes) → bytes ++ rest ≡ all → length rest ≡ 0
+        → (a : Ahead session first start now sink session' (unfinished_line fed) bytes) → bytes ++ rest ≡ all → (length rest == 0) ≡ true
         → Fed takes releases moves session first start (lines_after (unfinished_line fed) all) session' now sink None
         × (session'.line ≡ kept_part (unfinished_line (fed ++ all)))
     feed_all {session} {session'} {first} {start} {now} {sink} {bytes} fed rest all a whole none =
-        let is : bytes ≡ all = sym (append-nil bytes) ∙ ap (λ (t : List ℕ). bytes ++ t) (sym (nil_from_length rest none)) ∙ whole in (
+        let is : bytes ≡ all = sym (append-nil bytes) ∙ ap (λ (t : List ℕ). bytes ++ t) (sym (no_rest rest none)) ∙ whole in (
           fed_whole (lines_after (unfinished_line fed) all) None a.told (ap (lines_after (unfinished_line fed)) is) a.limit a.no_quit,
           a.line ∙ ap (λ (t : List ℕ). kept_part (rest_after (unfinished_line fed) t)) is ∙ ap kept_part (sym (rest_after-append [] fed all)),
         )

@@ -345,13 +345,15 @@ fn two_sessions_take_into_one_list(rt: HostRuntime) {
     let taking = one.take(more, &mut withheld, &mut desk);
     assert_eq!(rt; (taking.bytes, taking.end), (28, Some(End::Quit)));
     let (released, ()) = desk.release(&mut withheld);
-    assert!(rt; matches!(
+    assert!(rt;
+        matches!(
         released.list(),
         [fields, empty, reply, bye] if matches!(fields.answer(), Answer::Unread(_))
             && matches!(empty.answer(), Answer::Unread(_))
             && matches!(reply.answer(), Answer::Replied(..))
             && matches!(bye.answer(), Answer::Bye)
-    ));
+    )
+    );
 }
 
 #[test]
