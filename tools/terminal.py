@@ -11,12 +11,19 @@ class Terminal:
         self.replies = self.connection.makefile("r", encoding="ascii", newline="\n")
 
     def ask(self, line):
-        """The lines of the reply to this one. ConnectionError: the session ended, and what became of the line is unknown.
+        """The lines of the reply to this one. ConnectionError: the session ended, and what became of the line is unknown."""
+        self.send(line)
+        return self.reply()
+
+    def send(self, line):
+        """Puts a line, whose reply is read behind those of the lines before.
         ValueError: the line has a character that no line may have. An LF within it would be answered by one reply more, and
         every later reply would be that of the question before."""
         if not all(" " <= character <= "~" for character in line):
             raise ValueError("a line has no control character, and ASCII alone")
         self.connection.sendall(line.encode("ascii") + b"\n")
+
+    def reply(self):
         reply = [self.read()]
         word, _, number = reply[0].partition(" ")
         if word == "SHOWN":

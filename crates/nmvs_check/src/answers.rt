@@ -13,8 +13,8 @@ use nmvs_inspect::{
 };
 use nmvs_protocol::reply_text;
 use nmvs_record::{Importer, product_line, report};
-use nmvs_rules::{Entry, Reply};
-use nmvs_shard::Shard;
+use nmvs_rules::Reply;
+use nmvs_shard::{HashKey, Shard};
 use nmvs_stream::{Sink, deliver};
 use std::alloc::{AllocError, Global};
 
@@ -57,7 +57,7 @@ fn summary(alloc: Global, importer: &Importer<Shard<Global>>) -> Result<String, 
 {
     let shard = importer.shard();
     let mut text = counts_text(alloc, importer)?;
-    let codes = codes_named(alloc, shard.trail())?;
+    let codes = codes_named(alloc, shard)?;
     append_products(alloc, shard, codes.as_slice(), &mut text)?;
     Ok(text)
 }
@@ -74,11 +74,12 @@ fn counts_text(alloc: Global, importer: &Importer<Shard<Global>>) -> Result<Stri
 /// The product codes that the entries name, in order of first appearance.
 pub(crate) fn codes_named(
     alloc: Global,
-    entries: &[Entry],
-) -> Result<IndexSet<ProductCode>, AllocError>
-    ensures { IfOk result (λ codes. codes.keys ≡ answers.codes_named entries.now) }
+    shard: &Shard<Global>,
+) -> Result<IndexSet<ProductCode, HashKey>, AllocError>
+    ensures { IfOk result (λ codes. codes.keys ≡ answers.codes_named shard.now) }
 {
-    let mut codes = IndexSet::new(alloc);
+    let entries = shard.trail();
+    let mut codes = IndexSet::with_hasher(alloc, shard.tables().key());
     for entry in entries {
         match codes.insert(entry.put.question.code()) {
             Ok(_) => {}
@@ -109,7 +110,7 @@ fn reports(alloc: Global, shard: &Shard<Global>) -> Result<String, AllocError>
     ensures { IfOk result (λ text. string_bytes text ≡ answers.reports_text shard.now) }
 {
     let mut text = String::new(alloc);
-    let codes = codes_named(alloc, shard.trail())?;
+    let codes = codes_named(alloc, shard)?;
     append_reports(alloc, shard, codes.as_slice(), &mut text)?;
     Ok(text)
 }
@@ -122,7 +123,7 @@ fn report_rows<W: Sink>(
 ) -> Result<(), AnswerFault>
     ensures { OnOk result (Delivers (W.taken sink.old) (W.taken sink.new) (answers.report_rows_text shard.now)) }
 {
-    let codes = codes_named(alloc, shard.trail())?;
+    let codes = codes_named(alloc, shard)?;
     write_report_rows(alloc, shard, codes.as_slice(), sink)
 }
 
@@ -136,7 +137,7 @@ fn page<W: Sink>(
 {
     let shard = importer.shard();
     let verdict = counts_text(alloc, importer)?;
-    let codes = codes_named(alloc, shard.trail())?;
+    let codes = codes_named(alloc, shard)?;
     write_page(alloc, shard, &verdict, codes.as_slice(), sink)
 }
 

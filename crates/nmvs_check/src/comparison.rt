@@ -8,8 +8,7 @@ ghost use Rattle.nmvs_check.specs.Comparison as spec;
 use crate::answers::{codes_named, write};
 use nmvs_inspect::{AnswerFault, Departure, first_departure};
 use nmvs_record::{Finding, entry_line, examine};
-use nmvs_rules::Entry;
-use nmvs_shard::Shard;
+use nmvs_shard::{HashKey, Shard};
 use nmvs_stream::{Sink, Source};
 use std::alloc::{AllocError, Global};
 
@@ -32,6 +31,7 @@ pub(crate) enum CompareFault {
 /// told; out of memory; or the answer cannot be written.
 pub(crate) fn compare<R: Source, W: Sink>(
     alloc: Global,
+    key: HashKey,
     old: &mut R,
     new: &mut R,
     sink: &mut W,
@@ -47,11 +47,11 @@ pub(crate) fn compare<R: Source, W: Sink>(
     ensures new_found { IfErr result (λ fault. (finding : AFinding) → fault ≡ CompareFault.New finding
         → FailsToImport (R.told new.old) (R.told new.new) reads finding × (W.taken sink.new ≡ W.taken sink.old)) }
 {
-    let before = match examine(alloc, alloc, old, reads) {
+    let before = match examine(alloc, alloc, key, old, reads) {
         Ok(before) => before,
         Err(finding) => return Err(CompareFault::Old(finding)),
     };
-    let after = match examine(alloc, alloc, new, reads) {
+    let after = match examine(alloc, alloc, key, new, reads) {
         Ok(after) => after,
         Err(finding) => return Err(CompareFault::New(finding)),
     };
@@ -70,9 +70,9 @@ fn tell<W: Sink>(
 ) -> Result<bool, AnswerFault>
     ensures { IfOk result (λ goes_on. spec.Tells old.now new.now goes_on (W.taken sink.old) (W.taken sink.new)) }
 {
-    match first_departure(alloc, old.trail(), new.trail())? {
+    match first_departure(alloc, old.trail(), new.trail(), new.tables().key())? {
         None => {
-            write(&on_text(alloc, old.trail(), new.trail())?, sink)?;
+            write(&on_text(alloc, old, new)?, sink)?;
             Ok(true)
         }
         Some(departure) => {
@@ -84,12 +84,12 @@ fn tell<W: Sink>(
 
 /// What is told where a trail goes on: how many product codes the old one names, how many entries it has, and how many
 /// more the new one has.
-fn on_text(alloc: Global, old: &[Entry], new: &[Entry]) -> Result<String, AllocError>
+fn on_text(alloc: Global, old: &Shard<Global>, new: &Shard<Global>) -> Result<String, AllocError>
     ensures { IfOk result (λ text. string_bytes text ≡ spec.on_text old.now new.now) }
 {
     let products = codes_named(alloc, old)?.len();
-    let entries = old.len();
-    let more = new.len().saturating_sub(entries);
+    let entries = old.trail().len();
+    let more = new.trail().len().saturating_sub(entries);
     format!(in alloc; "GOES ON PRODUCTS {products} ENTRIES {entries} MORE {more}\n")
 }
 

@@ -1,22 +1,42 @@
-//! Files that are read one after another.
+//! Files that are read one after another, each compared with the digest beside it.
+use nmvs_digest::{DigestFault, Digested, stored_digest};
+use nmvs_stream::{Device, Source};
 use std::alloc::{AllocError, Global};
 use std::fs::{self, File};
-use std::io::{self, Read};
+use std::io::{self, ErrorKind, Read};
 use std::rt::{HostRuntime, Stdin};
 
 /// Something that is read.
 #[derive(Drop)]
-enum Input {
+enum Handle {
     Standard(Stdin),
     File(File),
 }
 
-/// The bytes of files, one after another.
+impl Read for Handle {
+    fn read(&mut self, buffer: &mut [u8]) -> io::Result<usize> {
+        match self {
+            Handle::Standard(input) => input.read(buffer),
+            Handle::File(file) => file.read(buffer),
+        }
+    }
+}
+
+/// A file, and the digest that it has to have.
+#[derive(Drop)]
+struct Input {
+    path: String,
+    stored: Option<[u8; 32]>,
+    source: Digested<Device<Handle>>,
+}
+
+/// The bytes of files, one after another. A read fails at the end of a file whose digest is not the one beside it.
 #[derive(Drop)]
 pub(crate) struct Inputs {
+    /// Those that were not read to their end, the next one last.
     inputs: Vec<Input>,
-    /// How many of them were read to their end.
-    ended: usize,
+    /// The file whose digest is not the one beside it.
+    differing: Option<String>,
 }
 
 /// Why files are not read.
@@ -25,6 +45,8 @@ pub(crate) enum InputFault {
     Memory,
     /// The file at this path cannot be opened.
     Closed(String),
+    /// It is not known which digest the file at this path has to have.
+    Digest(String, DigestFault),
 }
 
 impl From<AllocError> for InputFault {
@@ -38,46 +60,90 @@ impl Inputs {
     ///
     /// # Errors
     ///
-    /// A file cannot be opened, or there is no memory for the list.
+    /// A file or the digest beside it cannot be opened, the digest is none, or there is no memory for the list.
     pub(crate) fn open(
         rt: &HostRuntime,
         alloc: Global,
         paths: &[String],
     ) -> Result<Inputs, InputFault> {
         let mut inputs = Vec::new(alloc);
-        for path in paths {
-            let input = if path.as_str() == "-" {
-                Input::Standard(rt.stdin())
-            } else {
-                match fs::open(rt, path) {
-                    Ok(file) => Input::File(file),
-                    Err(_) => return Err(InputFault::Closed(String::from_str(alloc, path)?)),
-                }
-            };
+        for path in paths.iter().rev() {
+            let input = open_input(rt, alloc, path)?;
             inputs.push(input).map_err(|_| AllocError)?;
         }
         if paths.is_empty() {
-            inputs
-                .push(Input::Standard(rt.stdin()))
-                .map_err(|_| AllocError)?;
+            let input = open_input(rt, alloc, "-")?;
+            inputs.push(input).map_err(|_| AllocError)?;
         }
-        Ok(Inputs { inputs, ended: 0 })
+        Ok(Inputs {
+            inputs,
+            differing: None,
+        })
+    }
+
+    /// The path of the file whose digest is not the one beside it, where a read failed for that.
+    pub(crate) fn differing(&self) -> Option<&String> {
+        self.differing.as_ref()
+    }
+}
+
+fn open_input(rt: &HostRuntime, alloc: Global, path: &str) -> Result<Input, InputFault> {
+    let named = String::from_str(alloc, path)?;
+    if path == "-" {
+        return Ok(Input {
+            path: named,
+            stored: None,
+            source: Digested::new(Device::new(Handle::Standard(rt.stdin()))),
+        });
+    }
+    let stored = match stored_digest(rt, alloc, path) {
+        Ok(stored) => stored,
+        Err(DigestFault::Memory) => return Err(InputFault::Memory),
+        Err(fault) => return Err(InputFault::Digest(named, fault)),
+    };
+    match fs::open(rt, path) {
+        Ok(file) => Ok(Input {
+            path: named,
+            stored,
+            source: Digested::new(Device::new(Handle::File(file))),
+        }),
+        Err(_) => Err(InputFault::Closed(named)),
     }
 }
 
 impl Read for Inputs {
     fn read(&mut self, buffer: &mut [u8]) -> io::Result<usize> {
-        for i in self.ended..self.inputs.len() {
-            let count = match self.inputs.get_mut(i) {
-                Some(Input::Standard(input)) => input.read(buffer)?,
-                Some(Input::File(input)) => input.read(buffer)?,
-                None => 0,
+        for _ in 0..self.inputs.len() {
+            let Some(input) = self.inputs.last_mut() else {
+                return Ok(0);
             };
-            if count > 0 {
-                return Ok(count);
+            match input.source.read(buffer) {
+                Ok(0) => self.end()?,
+                Ok(count) => return Ok(count),
+                Err(_) => return Err(io::Error::from(ErrorKind::Other)),
             }
-            self.ended = i + 1;
         }
         Ok(0)
+    }
+}
+
+impl Inputs {
+    /// Compares the file whose end was read with the digest beside it, and goes on to the next one.
+    fn end(&mut self) -> io::Result<()> {
+        let Some(
+            Input {
+                path,
+                stored,
+                source,
+            },
+        ) = self.inputs.pop()
+        else {
+            return Ok(());
+        };
+        if source.agrees(stored) {
+            return Ok(());
+        }
+        self.differing = Some(path);
+        Err(io::Error::from(ErrorKind::InvalidData))
     }
 }

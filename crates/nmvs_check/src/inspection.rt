@@ -9,6 +9,7 @@ use crate::answers::tell;
 use crate::inspect_fault::InspectFault;
 use crate::request::Request;
 use nmvs_record::examine;
+use nmvs_shard::HashKey;
 use nmvs_stream::{Sink, Source};
 use std::alloc::Global;
 
@@ -20,6 +21,7 @@ use std::alloc::Global;
 /// nothing is told; out of memory; or the answer cannot be written.
 pub(crate) fn inspect<R: Source, W: Sink>(
     alloc: Global,
+    key: HashKey,
     source: &mut R,
     sink: &mut W,
     request: &Request,
@@ -31,7 +33,7 @@ pub(crate) fn inspect<R: Source, W: Sink>(
     ensures found { IfErr result (λ fault. (finding : AFinding) → fault ≡ InspectFault.Found finding
         → FailsToImport (R.told source.old) (R.told source.new) reads finding × (W.taken sink.new ≡ W.taken sink.old)) }
 {
-    match examine(alloc, alloc, source, reads) {
+    match examine(alloc, alloc, key, source, reads) {
         Err(finding) => Err(InspectFault::Found(finding)),
         Ok(importer) => match tell(alloc, &importer, request, sink) {
             Ok(()) => Ok(()),

@@ -20,6 +20,8 @@ use crate::inspection::inspect;
 use crate::options::{Asked, OptionFault, Options, read_options};
 use crate::page_file::{PageFault, write_page};
 use crate::request::Request;
+use nmvs_record::Finding;
+use nmvs_shard::HashKey;
 use nmvs_stream::Device;
 use std::alloc::{AllocError, Global};
 use std::process::ExitCode;
@@ -35,8 +37,7 @@ fn main(rt: HostRuntime) -> ExitCode {
         return fail(&rt, "out of memory");
     };
     match read_options(alloc, &words) {
-        Ok(Asked::Inspection(options)) => check(&rt, alloc, &options),
-        Ok(Asked::Comparison { old, new }) => compare_files(&rt, alloc, &old, &new),
+        Ok(asked) => answer(&rt, alloc, &asked),
         Err(OptionFault::Help(text)) => {
             let _ = print!(rt; "{text}");
             ExitCode::SUCCESS
@@ -55,31 +56,48 @@ fn words<R: Env + AllocGlobal>(rt: &R) -> io::Result<Vec<String>> {
     Ok(words)
 }
 
+/// Does what is asked, and gives the status.
+fn answer(rt: &HostRuntime, alloc: Global, asked: &Asked) -> ExitCode {
+    let Ok(key) = HashKey::draw(rt) else {
+        return fail(rt, "no random bytes");
+    };
+    match asked {
+        Asked::Inspection(options) => check(rt, alloc, key, options),
+        Asked::Comparison { old, new } => compare_files(rt, alloc, key, old, new),
+    }
+}
+
 /// Checks the export that the options name, tells the answer or the fault, and gives the status.
-fn check(rt: &HostRuntime, alloc: Global, options: &Options) -> ExitCode {
-    let inputs = match opened(rt, alloc, &options.files) {
+fn check(rt: &HostRuntime, alloc: Global, key: HashKey, options: &Options) -> ExitCode {
+    let mut inputs = match opened(rt, alloc, &options.files) {
         Ok(inputs) => inputs,
         Err(status) => return status,
     };
     if let Request::Page(path) = &options.request {
-        return match write_page(rt, alloc, inputs, &options.request, path, READS) {
+        return match write_page(rt, alloc, key, &mut inputs, &options.request, path, READS) {
             Ok(()) => ExitCode::SUCCESS,
-            Err(PageFault::Inspect(fault)) => fail_at(rt, alloc, &fault),
+            Err(PageFault::Inspect(fault)) => fail_at(rt, alloc, &inputs, &fault),
             Err(PageFault::File) => {
                 let _ = eprintln!(rt; "the file {path} cannot be written");
                 ExitCode::FAILURE
             }
         };
     }
-    let (mut source, mut sink) = (Device::new(inputs), Device::new(rt.stdout()));
-    match inspect(alloc, &mut source, &mut sink, &options.request, READS) {
+    let inspected = {
+        let (mut source, mut sink) = (Device::new(&mut inputs), Device::new(rt.stdout()));
+        inspect(alloc, key, &mut source, &mut sink, &options.request, READS)
+    };
+    match inspected {
         Ok(()) => ExitCode::SUCCESS,
-        Err(fault) => fail_at(rt, alloc, &fault),
+        Err(fault) => fail_at(rt, alloc, &inputs, &fault),
     }
 }
 
 /// Tells the fault of an export, and gives the status that it makes.
-fn fail_at(rt: &HostRuntime, alloc: Global, fault: &InspectFault) -> ExitCode {
+fn fail_at(rt: &HostRuntime, alloc: Global, inputs: &Inputs, fault: &InspectFault) -> ExitCode {
+    if let Some(path) = inputs.differing() {
+        return fail_digest(rt, path);
+    }
     match fault_text(alloc, fault) {
         Ok(text) => fail(rt, &text),
         Err(AllocError) => fail(rt, "out of memory"),
@@ -87,22 +105,31 @@ fn fail_at(rt: &HostRuntime, alloc: Global, fault: &InspectFault) -> ExitCode {
 }
 
 /// Compares the exports in two files, tells the answer or the fault, and gives the status.
-fn compare_files(rt: &HostRuntime, alloc: Global, old: &String, new: &String) -> ExitCode {
-    let before = match opened(rt, alloc, slice::from_ref(old)) {
+fn compare_files(
+    rt: &HostRuntime,
+    alloc: Global,
+    key: HashKey,
+    old: &String,
+    new: &String,
+) -> ExitCode {
+    let mut before = match opened(rt, alloc, slice::from_ref(old)) {
         Ok(inputs) => inputs,
         Err(status) => return status,
     };
-    let after = match opened(rt, alloc, slice::from_ref(new)) {
+    let mut after = match opened(rt, alloc, slice::from_ref(new)) {
         Ok(inputs) => inputs,
         Err(status) => return status,
     };
-    let (mut before, mut after) = (Device::new(before), Device::new(after));
-    let mut sink = Device::new(rt.stdout());
-    match compare(alloc, &mut before, &mut after, &mut sink, READS) {
+    let compared = {
+        let (mut old, mut new) = (Device::new(&mut before), Device::new(&mut after));
+        let mut sink = Device::new(rt.stdout());
+        compare(alloc, key, &mut old, &mut new, &mut sink, READS)
+    };
+    match compared {
         Ok(true) => ExitCode::SUCCESS,
         Ok(false) => ExitCode::FAILURE,
-        Err(CompareFault::Old(finding)) => fail_of(rt, alloc, old, &InspectFault::Found(finding)),
-        Err(CompareFault::New(finding)) => fail_of(rt, alloc, new, &InspectFault::Found(finding)),
+        Err(CompareFault::Old(finding)) => fail_of(rt, alloc, old, &before, finding),
+        Err(CompareFault::New(finding)) => fail_of(rt, alloc, new, &after, finding),
         Err(CompareFault::Answer(fault)) => {
             let _ = eprintln!(rt; "{fault}");
             ExitCode::FAILURE
@@ -118,13 +145,32 @@ fn opened(rt: &HostRuntime, alloc: Global, paths: &[String]) -> Result<Inputs, E
             let _ = eprintln!(rt; "the file {path} cannot be opened");
             Err(ExitCode::FAILURE)
         }
+        Err(InputFault::Digest(path, fault)) => {
+            let _ = eprintln!(rt; "{path}.sha256: {fault}");
+            Err(ExitCode::FAILURE)
+        }
         Err(InputFault::Memory) => Err(fail(rt, "out of memory")),
     }
 }
 
-/// Tells a fault of the export in a file, and gives the status that it makes.
-fn fail_of(rt: &HostRuntime, alloc: Global, path: &str, fault: &InspectFault) -> ExitCode {
-    match fault_text(alloc, fault) {
+/// Tells that the digest of a file is not the one beside it, and gives the status that this makes.
+fn fail_digest(rt: &HostRuntime, path: &str) -> ExitCode {
+    let _ = eprintln!(rt; "the digest of {path} is not the one in {path}.sha256");
+    ExitCode::FAILURE
+}
+
+/// Tells what was found of the export in a file, and gives the status that it makes.
+fn fail_of(
+    rt: &HostRuntime,
+    alloc: Global,
+    path: &str,
+    inputs: &Inputs,
+    finding: Finding,
+) -> ExitCode {
+    if inputs.differing().is_some() {
+        return fail_digest(rt, path);
+    }
+    match fault_text(alloc, &InspectFault::Found(finding)) {
         Ok(text) => {
             let _ = eprintln!(rt; "{path}: {text}");
             ExitCode::FAILURE

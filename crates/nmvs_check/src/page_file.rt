@@ -4,6 +4,7 @@ use crate::inspect_fault::InspectFault;
 use crate::inspection::inspect;
 use crate::request::Request;
 use nmvs_inspect::AnswerFault;
+use nmvs_shard::HashKey;
 use nmvs_stream::Device;
 use std::alloc::Global;
 use std::fs::{self, File};
@@ -28,7 +29,8 @@ pub(crate) enum PageFault {
 pub(crate) fn write_page(
     rt: &HostRuntime,
     alloc: Global,
-    inputs: Inputs,
+    key: HashKey,
+    inputs: &mut Inputs,
     asked: &Request,
     path: &str,
     reads: u64,
@@ -37,7 +39,7 @@ pub(crate) fn write_page(
     let part = format!(in alloc; "{path}.part").or(Err(memory))?;
     let file = create(rt, path, &part).or(Err(PageFault::File))?;
     let (mut source, mut sink) = (Device::new(inputs), Device::new(file));
-    let written = match inspect(alloc, &mut source, &mut sink, asked, reads) {
+    let written = match inspect(alloc, key, &mut source, &mut sink, asked, reads) {
         Ok(()) => fs::rename(rt, &part, path).or(Err(PageFault::File)),
         Err(fault) => Err(PageFault::Inspect(fault)),
     };

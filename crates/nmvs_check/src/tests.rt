@@ -5,6 +5,7 @@ use crate::options::{Asked, OptionFault, read_options};
 use crate::request::Request;
 use nmvs_identifier::{Batch, Pack, ProductCode, Serial};
 use nmvs_inspect::{By, Filter, Form};
+use nmvs_shard::HashKey;
 use nmvs_stream::Device;
 use nmvs_words::ReplyKind;
 use std::alloc::{AllocError, Global};
@@ -27,7 +28,7 @@ fn told(alloc: Global, export: &str, asked: &Request) -> Result<String, AllocErr
     let mut bytes = Vec::new(alloc);
     let mut source = Device::new(export.as_bytes());
     let mut sink = Device::new(&mut bytes);
-    let inspected = inspect(alloc, &mut source, &mut sink, asked, 1_000);
+    let inspected = inspect(alloc, HashKey::of(1), &mut source, &mut sink, asked, 1_000);
     drop(sink);
     match inspected {
         Ok(()) => String::from_utf8_lossy(alloc, &bytes),
@@ -219,7 +220,14 @@ fn compared(
     let mut bytes = Vec::new(alloc);
     let (mut before, mut after) = (Device::new(old.as_bytes()), Device::new(new.as_bytes()));
     let mut sink = Device::new(&mut bytes);
-    let answer = compare(alloc, &mut before, &mut after, &mut sink, 1_000);
+    let answer = compare(
+        alloc,
+        HashKey::of(1),
+        &mut before,
+        &mut after,
+        &mut sink,
+        1_000,
+    );
     drop(sink);
     Ok((answer, String::from_utf8_lossy(alloc, &bytes)?))
 }

@@ -9,6 +9,7 @@ use Rattle.nmvs_directory.specs.declared.look.Look.TheVariants as look
 use Rattle.nmvs_rules.specs.declared.actor.Actor.{Actor}
 use Rattle.nmvs_rules.specs.declared.entry.Entry.{Entry}
 use Rattle.nmvs_rules.specs.declared.put.Put.{Put}
+use Rattle.nmvs_rules.specs.Entries.{AreEntries}
 use Rattle.nmvs_rules.specs.Rules.{reply_of, shown_of, answered, IsLawful}
 use Rattle.nmvs_desk.specs.declared.faults.AskFault.{AskFault}
 use Rattle.nmvs_desk.specs.declared.faults.AskFault.TheVariants as fault
@@ -18,8 +19,8 @@ use Rattle.nmvs_desk.specs.Settlement.{row}
 use Rattle.nmvs_desk.specs.Views.{LockedView}
 
 -- what a question that is put does to a locked shard and to the token by which it is put: its entry is the next one, with
--- the reply of the rules, and the entries are shown that the rules show; what the token had seen begins the trail, and
--- then it has seen the entry, whose place it owns
+-- the reply of the rules, and the entries are shown that the rules show; what the token had seen begins the trail, whose
+-- entries are in their grammars and ranges, and then it has seen the entry, whose place it owns
 pub record Steps (old : LockedView) (was : TokenView) (put : Put) (r : Receipt) (shown : List Entry) (new : LockedView) (now : TokenView) : Type 0 where
   pub shard : r.shard ≡ old.index
   pub place : r.place ≡ length old.trail
@@ -27,12 +28,15 @@ pub record Steps (old : LockedView) (was : TokenView) (put : Put) (r : Receipt) 
   pub shows : shown ≡ shown_of old.trail put
   pub trail : new ≡ record old { trail = old.trail ++ r.entry ∷ [] }
   pub begins : IsPrefix was.seen old.trail
+  pub in_range : AreEntries old.trail
   pub token : now ≡ record was { seen = old.trail ++ r.entry ∷ []; places = was.places ++ r.place ∷ [] }
 
--- on this trail of the receipt's shard the receipt's entry is the next one: the trail is lawful, has the product codes
--- of that shard and as many entries as the place says, the reply is that of the rules, and these entries are shown
+-- on this trail of the receipt's shard the receipt's entry is the next one: the trail is lawful, its entries are in their
+-- grammars and ranges, it has the product codes of that shard and as many entries as the place says, the reply is that of
+-- the rules, and these entries are shown
 pub record IsNext (count : ℕ) (r : Receipt) (shown : List Entry) (trail : List Entry) : Type 0 where
   pub lawful : IsLawful trail
+  pub in_range : AreEntries trail
   pub placed : IsPlaced count r.shard trail
   pub length : length trail ≡ r.place
   pub reply : r.entry.reply ≡ reply_of trail r.entry.put
@@ -57,10 +61,12 @@ pub record IsServed (count index : ℕ) (put : Put) (was now : TokenView) (r : R
   pub answered : IsAnswered count was.seen now.seen r shown
   pub token : now ≡ record was { seen = now.seen; places = was.places ++ r.place ∷ [] }
 
--- what was seen of a shard, of `count`, begins what is seen now: a lawful trail whose entries belong to the shard
+-- what was seen of a shard, of `count`, begins what is seen now: a lawful trail whose entries belong to the shard and are in
+-- their grammars and ranges
 pub record IsShown (count index : ℕ) (before after : List Entry) : Type 0 where
   pub begins : IsPrefix before after
   pub lawful : IsLawful after
+  pub in_range : AreEntries after
   pub placed : IsPlaced count index after
 
 -- by the answer of the directory a question by this user was not put; or it is for want of memory, and the directory

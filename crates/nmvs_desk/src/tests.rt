@@ -4,5 +4,6 @@ mod asking;
 mod crew;
 mod market;
 mod memory;
+mod opening;
 mod settling;
 mod threads;

@@ -15,7 +15,7 @@
 //! }
 //! ```
 //!
-//! It judges no question, has no list of its users, and keeps nothing beyond the end of the process.
+//! It judges no question, and keeps nothing beyond the end of the process.
 #![tactic(auto)]
 
 mod change;
@@ -27,6 +27,7 @@ mod look;
 mod naming;
 mod notice;
 mod registrar;
+mod standing;
 #[cfg(test)]
 mod tests;
 mod users;
@@ -39,4 +40,5 @@ pub use look::Look;
 pub use naming::Naming;
 pub use notice::Notice;
 pub use registrar::Registrar;
+pub use standing::Standing;
 pub use window::Window;

@@ -1,12 +1,14 @@
 //! Who changes the users.
-ghost use Rattle.std.specs.Prelude.{◌≡◌, ◌+◌, ◌<◌, ◌≤◌, ◌++◌, [], ◌∷◌, take, length, fold, MatchResult, IfOk, IsOk};
+ghost use Rattle.std.specs.Prelude.{◌≡◌, ◌+◌, ◌<◌, ◌≤◌, ◌++◌, [], ◌∷◌, take, length, slice_get, fold, MatchResult, IfOk, IsOk};
 ghost use Rattle.left_right.specs.Handles;
 ghost use Rattle.nmvs_directory.specs.Changes.{entered_changes};
+ghost use Rattle.nmvs_directory.specs.Users.{users_of};
 
 use crate::history::{History, Tail};
 use crate::users::Users;
-use crate::{Change, Changes, Naming, Notice};
+use crate::{Change, Changes, Naming, Notice, Standing};
 use left_right::{Absorb, WriteHandle};
+use nmvs_identifier::Name;
 use std::alloc::{AllocError, Allocator};
 use std::sync::Wait;
 
@@ -129,6 +131,21 @@ impl<J: Naming, R: Wait + Drop, A: Allocator> Registrar<J, R, A> {
             self.changes.clear();
         }
         Ok(Notice::new(self.published.again()))
+    }
+
+    /// How many users the published changes name.
+    pub fn user_count(&self) -> usize
+        ensures { result ≡ length (users_of (published self.now)) }
+    {
+        self.writer.published().count()
+    }
+
+    /// The user at this place, counted from 0, of the order in which the published changes first named them, and how it
+    /// stands; `None` behind the last.
+    pub fn user(&self, place: usize) -> Option<(Name, Standing)>
+        ensures { result ≡ slice_get (users_of (published self.now)) place }
+    {
+        self.writer.published().user(place)
     }
 
     /// Ends the directory. Pending changes are lost, and what its windows answer afterwards is left open. It waits for

@@ -1,7 +1,7 @@
 ghost use Rattle.std.specs.Prelude.{◌≡◌, ◌<◌};
 ghost use Rattle.nmvs_directory.specs.Directory.{directory_book};
 
-use crate::{Directory, DirectoryFault, Look, MOST_WINDOWS, Naming, Registrar, Window};
+use crate::{Directory, DirectoryFault, Look, MOST_WINDOWS, Naming, Registrar, Standing, Window};
 use linked_list_allocator::LocalHeap;
 use nmvs_identifier::Name;
 use nmvs_rules::{Actor, Role};
@@ -61,12 +61,11 @@ fn shows_changes<J: Naming, R: Wait + Abort>(
     registrar: &mut Registrar<J, &R, Global>,
     window: &mut Window<J, Global>,
 ) {
-    let user = name(rt, "ph1");
     enrol(rt, registrar, "ph1", "PH-1");
     tell(rt, registrar, window);
     shows(rt, window, "ph1", Look::Known(pharmacy(rt, "PH-1")));
     shows(rt, window, "zed", Look::Nobody);
-    registrar.changes.suspend(user).expect(rt, "memory");
+    suspend(rt, registrar, "ph1");
     shows(rt, window, "ph1", Look::Known(pharmacy(rt, "PH-1")));
     tell(rt, registrar, window);
     shows(rt, window, "ph1", Look::Suspended);
@@ -105,6 +104,62 @@ fn changes_reach<J: Naming, R: Wait + Abort + Sync>(rt: &R, alloc: Global, direc
 #[test]
 fn a_notice_brings_a_change_to_each_window(rt: HostRuntime) {
     changes_reach::<Brand, _>(&rt, rt.alloc(), Directory::new());
+}
+
+fn suspend<J: Naming, A: Allocator, R: Wait + Abort>(
+    rt: &R,
+    registrar: &mut Registrar<J, &R, A>,
+    user: &str,
+) {
+    let user = name(rt, user);
+    registrar.changes.suspend(user).expect(rt, "memory");
+}
+
+/// Five changes name `zed` and `ph1` twice, and `new`, which is suspended and never enrolled. None is listed before they
+/// are published.
+fn lists_users<J: Naming, R: Wait + Abort>(rt: &R, registrar: &mut Registrar<J, &R, Global>) {
+    enrol(rt, registrar, "zed", "PH-1");
+    enrol(rt, registrar, "ph1", "PH-1");
+    enrol(rt, registrar, "zed", "PH-2");
+    suspend(rt, registrar, "ph1");
+    suspend(rt, registrar, "new");
+    assert_eq!(rt; registrar.user_count(), 0);
+    registrar.publish().expect(rt, "memory");
+    let was = Some(pharmacy(rt, "PH-1"));
+    stands(
+        rt,
+        registrar,
+        0,
+        "zed",
+        Standing::Enrolled(pharmacy(rt, "PH-2")),
+    );
+    stands(rt, registrar, 1, "ph1", Standing::Suspended(was));
+    stands(rt, registrar, 2, "new", Standing::Suspended(None));
+    assert_eq!(rt; registrar.user_count(), 3);
+}
+
+/// The user at this place has this name, and stands so.
+fn stands<J: Naming, R: Wait + Abort>(
+    rt: &R,
+    registrar: &Registrar<J, &R, Global>,
+    place: usize,
+    user: &str,
+    standing: Standing,
+) {
+    assert_eq!(rt; registrar.user(place), Some((name(rt, user), standing)));
+}
+
+fn users_are_listed<J: Naming, R: Wait + Abort + Sync>(rt: &R, alloc: Global, directory: Directory)
+    requires { directory_book directory ≡ J.book }
+{
+    let (mut registrar, _windows) = directory.open::<J, _, _>(rt, alloc, 1).expect(rt, "memory");
+    lists_users(rt, &mut registrar);
+    registrar.close();
+}
+
+#[test]
+fn users_are_listed_as_they_were_first_named(rt: HostRuntime) {
+    users_are_listed::<Brand, _>(&rt, rt.alloc(), Directory::new());
 }
 
 #[test]

@@ -1,37 +1,40 @@
 //! One copy of the users.
-ghost use Rattle.std.specs.Prelude.{◌≡◌, [], ◌∷◌, ◌++◌, IfSome};
+ghost use Rattle.std.specs.Prelude.{◌≡◌, [], ◌∷◌, ◌++◌, length, slice_get, IfSome};
 ghost use Rattle.nmvs_directory.specs.Known.{known};
+ghost use Rattle.nmvs_directory.specs.Users.{users_of};
 
 use crate::history::History;
-use crate::{Change, Look, Naming};
+use crate::{Change, Look, Naming, Standing};
 use indexmap::IndexMap;
 use left_right::Absorb;
 use nmvs_identifier::Name;
-use nmvs_rules::Actor;
 use std::alloc::{AllocError, Allocator};
 use std::hash::{BuildHasherDefault, FoldHasher};
 use std::marker::Model;
 
-/// What the last change that names it made of each user. Contracts see the changes, of which no list is kept.
+/// How each user stands after the changes that name it. Contracts see the changes, of which no list is kept.
 #[derive(Drop)]
 pub struct Users<J: Naming, A: Allocator> {
-    actors: IndexMap<Name, Option<Actor>, BuildHasherDefault<FoldHasher>, A>,
+    standings: IndexMap<Name, Standing, BuildHasherDefault<FoldHasher>, A>,
     history: History<J>,
 }
 
 impl<J: Naming, A: Allocator> Model for Users<J, A> {
     ghost use Rattle.std.specs.Prelude.{◌≡◌, List};
+    ghost use Rattle.std.specs.Option.{option_map};
     ghost use Rattle.indexmap.specs.IndexMap.{get};
     ghost use Rattle.nmvs_identifier.specs.Name.{Name};
     ghost use Rattle.nmvs_identifier.specs.Texts.{same_text};
     ghost use Rattle.nmvs_directory.specs.Known.{last_actor};
+    ghost use Rattle.nmvs_directory.specs.Users.{users_of, actor_of};
     ghost use Rattle.nmvs_directory.specs.declared.change.Change.{Change};
 
     ghost Value = { List Change };
 
     ghost view = { λ u. u.history };
 
-    ghost invariant = { λ u. (user : Name) → get same_text u.actors user ≡ last_actor u.history user };
+    ghost invariant = { λ u. (u.standings.entries ≡ users_of u.history)
+        × ((user : Name) → option_map actor_of (get same_text u.standings user) ≡ last_actor u.history user) };
 }
 
 impl<J: Naming, A: Allocator + Copy> Users<J, A> {
@@ -40,7 +43,7 @@ impl<J: Naming, A: Allocator + Copy> Users<J, A> {
         ensures { result ≡ [] }
     {
         Users {
-            actors: IndexMap::new(alloc),
+            standings: IndexMap::new(alloc),
             history,
         }
     }
@@ -58,11 +61,26 @@ impl<J: Naming, A: Allocator> Users<J, A> {
     pub fn look(&self, user: &Name) -> Look
         ensures { result ≡ known self.now user.now }
     {
-        match self.actors.get(user) {
+        match self.standings.get(user) {
             None => Look::Nobody,
-            Some(None) => Look::Suspended,
-            Some(Some(actor)) => Look::Known(*actor),
+            Some(Standing::Suspended(_)) => Look::Suspended,
+            Some(Standing::Enrolled(actor)) => Look::Known(*actor),
         }
+    }
+
+    /// How many users the changes name.
+    pub fn count(&self) -> usize
+        ensures { result ≡ length (users_of self.now) }
+    {
+        self.standings.len()
+    }
+
+    /// The user at this place of the order in which the changes first named them, and how it stands.
+    pub fn user(&self, place: usize) -> Option<(Name, Standing)>
+        ensures { result ≡ slice_get (users_of self.now) place }
+    {
+        let (name, standing) = self.standings.get_index(place)?;
+        Some((*name, *standing))
     }
 }
 
@@ -92,7 +110,10 @@ impl<J: Naming, A: Allocator> Absorb<History<J>> for Users<J, A> {
         _other: &Users<J, A>,
     ) -> Result<(), AllocError> {
         let Change { user, actor } = next(&self.history, operation).ok_or(AllocError)?;
-        self.actors.insert(user, actor).map_err(|_| AllocError)?;
+        let standing = Standing::after(self.standings.get(&user).copied(), actor);
+        self.standings
+            .insert(user, standing)
+            .map_err(|_| AllocError)?;
         self.history = operation.again();
         Ok(())
     }

@@ -7,6 +7,7 @@ use indexmap::IndexMap;
 use nmvs_identifier::ProductCode;
 use nmvs_record::{entry_line, entry_line_laws};
 use nmvs_rules::Entry;
+use nmvs_shard::HashKey;
 use std::alloc::{AllocError, Global};
 
 /// The first entry of an old trail that a new one does not have in its place.
@@ -23,7 +24,7 @@ pub struct Departure {
 #[derive(Drop)]
 pub(crate) struct Walk {
     /// Where the first entry about each product code stands that was not passed.
-    heads: IndexMap<ProductCode, usize>,
+    heads: IndexMap<ProductCode, usize, HashKey>,
     /// Beside each entry, where the next one about its product code stands; the trail's length where none does.
     nexts: Vec<usize>,
 }
@@ -32,7 +33,7 @@ pub(crate) struct Walk {
 /// entries of the old one about it are, in order, the first ones of the new one about it (own).
 ///
 /// The entries about different product codes may stand in any order, as shards are exported one after another. It takes
-/// time and memory in proportion to the trails.
+/// time and memory in proportion to the trails, and hashes with the key.
 ///
 /// # Errors
 ///
@@ -41,11 +42,12 @@ pub fn first_departure(
     alloc: Global,
     old: &[Entry],
     new: &[Entry],
+    key: HashKey,
 ) -> Result<Option<Departure>, AllocError>
     ensures goes_on { IfOk result (λ r. (r ≡ None) ↔ spec.GoesOn old.now new.now) }
     ensures first { IfOk result (λ r. IfSome r (spec.Departs old.now new.now)) }
 {
-    let mut walk = walk_along(alloc, new)?;
+    let mut walk = walk_along(alloc, new, key)?;
     for (place, entry) in old.iter().enumerate() {
         let code = entry.put.question.code();
         let at = head(&walk, &code);
@@ -63,10 +65,10 @@ pub fn first_departure(
 }
 
 /// A walk before the first entry.
-fn walk_along(alloc: Global, entries: &[Entry]) -> Result<Walk, AllocError>
+fn walk_along(alloc: Global, entries: &[Entry], key: HashKey) -> Result<Walk, AllocError>
     ensures { IfOk result (λ walk. spec.StandsBefore walk entries.now) }
 {
-    let mut heads = IndexMap::new(alloc);
+    let mut heads = IndexMap::with_hasher(alloc, key);
     let mut nexts = vec![in alloc; entries.len(); entries.len()]?;
     let mut left = entries.len();
     while left > 0 {
@@ -79,7 +81,7 @@ fn walk_along(alloc: Global, entries: &[Entry]) -> Result<Walk, AllocError>
 
 /// Gives a product code its head, and tells the one before.
 fn put_head(
-    heads: &mut IndexMap<ProductCode, usize>,
+    heads: &mut IndexMap<ProductCode, usize, HashKey>,
     code: ProductCode,
     head: usize,
 ) -> Result<Option<usize>, AllocError>

@@ -16,7 +16,7 @@ use indexmap::IndexSet;
 use jiff::civil::Date;
 use jiff_core::civil;
 use nmvs_rules::{Entry, Reply};
-use nmvs_shard::Shard;
+use nmvs_shard::{HashKey, Shard};
 use nmvs_stream::{Sink, deliver};
 use nmvs_words::{QuestionKind, cause_word, role_word};
 use std::alloc::{AllocError, Allocator, Global};
@@ -71,7 +71,7 @@ pub(crate) fn groups_of<A: Allocator>(
 {
     let entries = shard.trail();
     let tables = shard.tables();
-    let mut keys = IndexSet::new(alloc);
+    let mut keys = IndexSet::with_hasher(alloc, tables.key());
     let mut groups = Vec::new(alloc);
     for (place, entry) in entries.iter().enumerate() {
         if filter.takes(tables, entry) {
@@ -108,7 +108,7 @@ fn date_of(day: i64) -> Date
 /// Counts one entry in the groups of the entries before this place, whose parts the keys are.
 fn count(
     alloc: Global,
-    keys: &mut IndexSet<Vec<u8>>,
+    keys: &mut IndexSet<Vec<u8>, HashKey>,
     groups: &mut Vec<Group>,
     by: &[By],
     place: usize,
@@ -133,7 +133,10 @@ fn count(
 }
 
 /// The place of a key, and whether it is new; then it comes last.
-fn place_of(keys: &mut IndexSet<Vec<u8>>, key: Vec<u8>) -> Result<(usize, bool), AllocError>
+fn place_of(
+    keys: &mut IndexSet<Vec<u8>, HashKey>,
+    key: Vec<u8>,
+) -> Result<(usize, bool), AllocError>
     ensures place { IfOk result (λ r. r.0 ≡ position_or_len (λ k. bytes_eq key.items k.items) keys.old.keys) }
     ensures new { IfOk result (λ r. r.1 ≡ not (list_any (λ k. bytes_eq key.items k.items) keys.old.keys)) }
     ensures keys { IfOk result (λ r. keys.new.keys ≡ (if r.1 then keys.old.keys ++ key ∷ [] else keys.old.keys)) }

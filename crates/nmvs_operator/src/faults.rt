@@ -3,6 +3,9 @@ use nmvs_protocol::CommandFault;
 use std::alloc::AllocError;
 use thiserror::Error;
 
+#[cfg(test)]
+mod tests;
+
 /// Why the users of a file are not published.
 #[derive(Clone, Copy, Debug, PartialEq, Eq, Error)]
 pub enum LoadFault {

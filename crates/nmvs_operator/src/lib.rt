@@ -21,7 +21,7 @@ pub use console::{Console, Sides};
 pub use faults::{LoadFault, ObeyFault};
 pub use latest::Latest;
 pub use options::{
-    DEFAULT_PORT, MOST_CONNECTIONS, MOST_IDLE, MOST_SESSIONS, MOST_SHARDS, MOST_WORKERS,
+    DEFAULT_PORT, MOST_CONNECTIONS, MOST_IDLE, MOST_RATE, MOST_SESSIONS, MOST_SHARDS, MOST_WORKERS,
     OptionFault, Options, read_options,
 };
 pub use order::{Order, read_order};

@@ -28,6 +28,9 @@ pub const MOST_CONNECTIONS: u64 = 100_000;
 /// The longest that a connection may ask nothing, in seconds: a day (own).
 pub const MOST_IDLE: u64 = 86_400;
 
+/// The most lines of a user that are let through in a second, and at once (own).
+pub const MOST_RATE: u64 = 1_000_000;
+
 /// The port that is listened on where the command line names none (own).
 pub const DEFAULT_PORT: u16 = 7161;
 
@@ -53,6 +56,10 @@ pub struct Options {
     pub connections: usize,
     /// How long a connection may ask nothing, in seconds, 0 to 86,400, where 0 is without end.
     pub idle: u64,
+    /// How many lines of each user are let through in a second, 0 to 1,000,000, where 0 is all.
+    pub rate: u64,
+    /// How many of them at once, 0 to 1,000,000: as many as in a second where the command line does not say.
+    pub burst: u64,
     /// The address that is listened on.
     pub bind: IpAddr,
     /// The port that is listened on, where 0 is one that the system chooses.
@@ -129,8 +136,8 @@ fn command<'a>(alloc: Global, default_port: &'a str) -> Result<Command<'a>, Allo
         .after_help(REHEARSAL)
         .version(VERSION);
     let files = with_files(alloc, command)?;
-    let counts = with_limits(alloc, with_counts(alloc, files)?)?;
-    with_places(alloc, counts, default_port)?
+    let limits = with_limits(alloc, with_counts(alloc, files)?)?;
+    with_places(alloc, with_rates(alloc, limits)?, default_port)?
         .arg(proxy(alloc))?
         .arg(moment)?
         .arg(stdin)
@@ -210,6 +217,26 @@ fn with_limits<'a>(alloc: Global, command: Command<'a>) -> Result<Command<'a>, A
     command.arg(sessions)?.arg(idle)
 }
 
+/// With the options that say how much each user may ask.
+fn with_rates<'a>(alloc: Global, command: Command<'a>) -> Result<Command<'a>, AllocError> {
+    let rate = number(
+        alloc,
+        "rate",
+        "Lines a second that are taken from each user over connections, 0 to 1000000; 0 is all",
+        0,
+        MOST_RATE as i64,
+    )
+    .default_value("0");
+    let burst = number(
+        alloc,
+        "burst",
+        "Lines that are taken from a user at once, 1 to 1000000, where there is a rate; without it those of a second",
+        1,
+        MOST_RATE as i64,
+    );
+    command.arg(rate)?.arg(burst)
+}
+
 /// With the options that say where connections come from, and the text of the default port.
 fn with_places<'a>(
     alloc: Global,
@@ -270,6 +297,7 @@ fn options_of(alloc: Global, matches: &ArgMatches<'_>) -> Result<Options, Option
     let Some(users) = matches.get_str("users") else {
         return Err(unreadable(alloc));
     };
+    let rate = within(alloc, matches, "rate", 0, MOST_RATE)?;
     Ok(Options {
         users: String::from_str(alloc, users)?,
         import: path_of(alloc, matches, "import")?,
@@ -279,6 +307,8 @@ fn options_of(alloc: Global, matches: &ArgMatches<'_>) -> Result<Options, Option
         sessions: within(alloc, matches, "sessions", 0, MOST_SESSIONS)?,
         connections: within(alloc, matches, "connections", 1, MOST_CONNECTIONS)? as usize,
         idle: within(alloc, matches, "idle", 0, MOST_IDLE)?,
+        rate,
+        burst: burst_of(alloc, matches, rate)?,
         bind: address_of(alloc, matches)?,
         port: within(alloc, matches, "port", 0, 65_535)? as u16,
         socket: path_of(alloc, matches, "socket")?,
@@ -286,6 +316,17 @@ fn options_of(alloc: Global, matches: &ArgMatches<'_>) -> Result<Options, Option
         moment: moment_of(alloc, matches)?,
         stdin: matches.get_flag("stdin"),
     })
+}
+
+/// The lines of a user at once, by the option or else those of a second.
+fn burst_of(alloc: Global, matches: &ArgMatches<'_>, rate: u64) -> Result<u64, OptionFault>
+    requires { rate ≤ MOST_RATE }
+    ensures { IfOk result (λ n. n ≤ MOST_RATE) }
+{
+    if !matches.contains_id("burst") {
+        return Ok(rate);
+    }
+    within(alloc, matches, "burst", 1, MOST_RATE)
 }
 
 /// The path that an option names, where it is given.

@@ -24,6 +24,7 @@ turn_word turns.Suspended = codes "SUSPENDED"
 turn_word turns.Closed = codes "CLOSED"
 turn_word turns.Role = codes "ROLE"
 turn_word turns.Memory = codes "MEMORY"
+turn_word turns.Rate = codes "RATE"
 turn_word turns.Journal = codes "JOURNAL"
 
 -- why a line cannot be read

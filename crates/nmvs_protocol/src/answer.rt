@@ -37,6 +37,8 @@ pub enum Turn {
     Role,
     /// Out of memory.
     Memory,
+    /// The user has asked more lines than its rate lets through.
+    Rate,
     /// What the answer rests on is not kept: the journal failed. The operation may stand in the record or not.
     Journal,
 }

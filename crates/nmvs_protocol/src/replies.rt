@@ -192,6 +192,7 @@ fn word_of_turn(turn: Turn) -> &'static str
         Turn::Closed => "CLOSED",
         Turn::Role => "ROLE",
         Turn::Memory => "MEMORY",
+        Turn::Rate => "RATE",
         Turn::Journal => "JOURNAL",
     }
 }

@@ -4,6 +4,7 @@
 use nmvs_operator::{Console, OptionFault, read_options};
 use nmvs_server::{Fault, serve_rehearsal, start};
 use nmvs_stream::Device;
+use std::io::BufWriter;
 use std::process::ExitCode;
 use std::rt::Env;
 use std::{env, io};
@@ -13,7 +14,10 @@ fn main(rt: HostRuntime) -> ExitCode {
     let Ok(words) = words(&rt) else {
         return ended(&rt, &[Some(Fault::Memory)]);
     };
-    let mut console = Console::new(Device::new(rt.stdin()), Device::new(rt.stdout()));
+    let Ok(output) = BufWriter::new(alloc, rt.stdout()) else {
+        return ended(&rt, &[Some(Fault::Memory)]);
+    };
+    let mut console = Console::new(Device::new(rt.stdin()), Device::new(output));
     if words.is_empty() {
         let rehearsed = serve_rehearsal(alloc, &mut console.source, &mut console.sink);
         return ended(&rt, &[rehearsed.err()]);

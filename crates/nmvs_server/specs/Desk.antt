@@ -108,6 +108,7 @@ IsTurned old new user may turns.Suspended = Reads old.seen new.seen user looks.S
 IsTurned old new user may turns.Closed = Reads old.seen new.seen user looks.Closed
 IsTurned old new user may turns.Role = IsInRole old new user may false
 IsTurned old new user may turns.Memory = IsInRole old new user may true
+IsTurned old new user may turns.Rate = ⊥
 IsTurned old new user may turns.Journal = ⊥
 
 -- the turn of a line whose question was not put

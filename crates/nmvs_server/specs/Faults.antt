@@ -5,6 +5,8 @@ use Rattle.nmvs_protocol.specs.declared.end.End.{End}
 use Rattle.nmvs_protocol.specs.declared.end.End.TheVariants as ends
 use Rattle.nmvs_server.specs.declared.fault.Fault.{Fault}
 use Rattle.nmvs_server.specs.declared.fault.Fault.TheVariants as faults
+use Rattle.nmvs_digest.specs.declared.digest_fault.DigestFault.{DigestFault}
+use Rattle.nmvs_digest.specs.declared.digest_fault.DigestFault.TheVariants as digests
 use Rattle.nmvs_operator.specs.Users.{users_trouble}
 use Rattle.nmvs_record.specs.declared.finding.Finding.{Finding}
 use Rattle.nmvs_record.specs.declared.finding.Finding.TheVariants as findings
@@ -27,10 +29,14 @@ fault_text (faults.UsersLine number fault) = codes "users line " ++ decimal numb
 fault_text (faults.UsersEnd number) = codes "users line " ++ decimal number ++ codes ": it has no end: UNENDED"
 fault_text (faults.ImportLine number) = codes "import line " ++ decimal number
 fault_text (faults.ImportUnlawful number) = codes "import line " ++ decimal number ++ codes " is unlawful"
+fault_text (faults.ImportDigest path) = codes "the digest of " ++ path.now ++ codes " is not the one in " ++ path.now ++ codes ".sha256"
+fault_text (faults.NoDigest path) = path.now ++ codes ".sha256 is no digest of " ++ path.now
+fault_text (faults.CannotReadDigest path) = codes "cannot read " ++ path.now ++ codes ".sha256"
 fault_text faults.Directory = codes "directory refused"
 fault_text (faults.CannotListen port) = codes "cannot listen on port " ++ decimal port
 fault_text (faults.CannotListenAt path) = codes "cannot listen at " ++ path.now
 fault_text faults.LostClerk = codes "a clerk was lost"
+fault_text faults.Random = codes "no random bytes"
 fault_text faults.Memory = codes "out of memory"
 fault_text faults.SessionRead = codes "session read fault"
 fault_text faults.SessionWrite = codes "session write fault"
@@ -40,6 +46,8 @@ fault_text faults.SessionLimit = codes "session limit"
 abbrev pub fault_status : Fault → ℕ
 fault_status (faults.ImportLine number) = 3
 fault_status (faults.ImportUnlawful number) = 3
+fault_status (faults.ImportDigest path) = 3
+fault_status (faults.NoDigest path) = 3
 fault_status (faults.CannotWrite path) = 4
 fault_status faults.LostClerk = 5
 fault_status _ = 1
@@ -51,3 +59,9 @@ import_text path (findings.Unended number) = codes "import line " ++ decimal num
 import_text path (findings.Line number objections.Memory) = codes "out of memory"
 import_text path (findings.Line number (objections.Unlawful stored rules)) = codes "import line " ++ decimal number ++ codes " is unlawful"
 import_text path (findings.Line number objection) = codes "import line " ++ decimal number
+
+-- what is told where it is not known which digest the import of this path has to have
+abbrev pub digest_text : List ℕ → DigestFault → List ℕ
+digest_text path digests.Memory = codes "out of memory"
+digest_text path digests.Unread = codes "cannot read " ++ path ++ codes ".sha256"
+digest_text path digests.Malformed = path ++ codes ".sha256 is no digest of " ++ path

@@ -4,3 +4,5 @@ pub mod Rehearsal
 pub mod Faults
 pub mod Desk
 pub mod Exports
+pub mod Announcements
+pub mod Bounds

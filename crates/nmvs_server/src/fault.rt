@@ -1,7 +1,8 @@
 //! Why the program ends in failure.
 ghost use Rattle.std.specs.Prelude.{◌≡◌, None, Some};
-ghost use Rattle.nmvs_server.specs.Faults.{fault_text, fault_status, import_text, outcome};
+ghost use Rattle.nmvs_server.specs.Faults.{fault_text, fault_status, import_text, digest_text, outcome};
 
+use nmvs_digest::DigestFault;
 use nmvs_operator::users_trouble;
 use nmvs_protocol::{CommandFault, End};
 use nmvs_record::{Finding, Objection};
@@ -22,6 +23,12 @@ pub enum Fault<'a> {
     ImportLine(usize),
     /// The reply in this line of the import is not that of the rules.
     ImportUnlawful(usize),
+    /// The digest of the import of this path is not the one that stands beside it.
+    ImportDigest(&'a str),
+    /// What stands beside the import of this path is no digest of it.
+    NoDigest(&'a str),
+    /// The digest beside the import of this path can't be read.
+    CannotReadDigest(&'a str),
     /// A worker was refused its window on the directory.
     Directory,
     /// The port is not to be had.
@@ -30,6 +37,8 @@ pub enum Fault<'a> {
     CannotListenAt(&'a str),
     /// Fewer workers gave their clerk back than there are clerks.
     LostClerk,
+    /// The system gives no random bytes.
+    Random,
     /// Memory was wanting, or a thread for a worker.
     Memory,
     /// A read of the session over standard input failed.
@@ -54,10 +63,16 @@ impl<'a> fmt::Display for Fault<'a> {
             Fault::UsersEnd(number) => { write!(f, "users line {number}: it has no end: UNENDED") }
             Fault::ImportLine(number) => write!(f, "import line {number}"),
             Fault::ImportUnlawful(number) => write!(f, "import line {number} is unlawful"),
+            Fault::ImportDigest(path) => {
+                write!(f, "the digest of {path} is not the one in {path}.sha256")
+            }
+            Fault::NoDigest(path) => write!(f, "{path}.sha256 is no digest of {path}"),
+            Fault::CannotReadDigest(path) => write!(f, "cannot read {path}.sha256"),
             Fault::Directory => f.write_str("directory refused"),
             Fault::CannotListen(port) => write!(f, "cannot listen on port {port}"),
             Fault::CannotListenAt(path) => write!(f, "cannot listen at {path}"),
             Fault::LostClerk => f.write_str("a clerk was lost"),
+            Fault::Random => f.write_str("no random bytes"),
             Fault::Memory => f.write_str("out of memory"),
             Fault::SessionRead => f.write_str("session read fault"),
             Fault::SessionWrite => f.write_str("session write fault"),
@@ -86,13 +101,14 @@ impl<'a> Outcome<'a> {
 }
 
 impl<'a> Fault<'a> {
-    /// The status that the program ends with: 3 where a line of the import is refused, 4 where the export is not written,
-    /// 5 where the repository does not settle, and else 1.
+    /// The status that the program ends with: 3 where a line of the import or its digest is refused, 4 where the export is
+    /// not written, 5 where the repository does not settle, and else 1.
     pub fn status(&self) -> u8
         ensures { result ≡ fault_status self.now }
     {
         match self {
             Fault::ImportLine(_) | Fault::ImportUnlawful(_) => 3,
+            Fault::ImportDigest(_) | Fault::NoDigest(_) => 3,
             Fault::CannotWrite(_) => 4,
             Fault::LostClerk => 5,
             _ => 1,
@@ -110,6 +126,17 @@ impl<'a> Fault<'a> {
             Finding::Line(_, Objection::Memory) => Fault::Memory,
             Finding::Line(number, Objection::Unlawful { .. }) => Fault::ImportUnlawful(number),
             Finding::Line(number, _) => Fault::ImportLine(number),
+        }
+    }
+
+    /// Why it is not known which digest the import of this path has to have.
+    pub(crate) fn of_digest(path: &'a str, fault: DigestFault) -> Fault<'a>
+        ensures { fault_text result ≡ digest_text path.now fault }
+    {
+        match fault {
+            DigestFault::Memory => Fault::Memory,
+            DigestFault::Unread => Fault::CannotReadDigest(path),
+            DigestFault::Malformed => Fault::NoDigest(path),
         }
     }
 }

@@ -4,16 +4,19 @@ use nmvs_desk::Repository;
 use nmvs_directory::{Naming, Notice};
 use nmvs_history::Histories;
 use nmvs_operator::Options;
+use nmvs_rate::SharedRates;
+use nmvs_shard::HashKey;
 use std::alloc::Global;
 use std::net::Net;
+use std::random::RandomSource;
 use std::rt::{Clock, Files};
 use std::sync::{Mutex, Wait};
 use std::thread::Threads;
 
 /// What a run uses of the machine.
-pub trait Host: Files + Clock + Threads + Wait + Net {}
+pub trait Host: Files + Clock + Threads + Wait + Net + RandomSource {}
 
-impl<R: Files + Clock + Threads + Wait + Net> Host for R {}
+impl<R: Files + Clock + Threads + Wait + Net + RandomSource> Host for R {}
 
 /// What a run goes by.
 #[derive(Drop)]
@@ -21,6 +24,8 @@ pub(crate) struct Run<'r, 'o, H> {
     pub(crate) rt: &'r H,
     pub(crate) alloc: &'r Global,
     pub(crate) options: &'o Options,
+    /// What the tables of the shards hash with, drawn for this run.
+    pub(crate) key: HashKey,
     /// Connections are accepted here; where there is none, one session is served over the console.
     pub(crate) listener: Option<&'r Listener>,
 }
@@ -33,6 +38,8 @@ pub(crate) struct Shared<'s, 'r, 'o, R, J: Naming, H: Histories> {
     pub(crate) hall: &'s Hall,
     pub(crate) repository: &'s Repository<'r, H>,
     pub(crate) latest: &'s Mutex<Notice<J>>,
+    /// How much each user may still ask, where there is a rate.
+    pub(crate) rates: Option<&'s SharedRates<Global>>,
     /// Whether the workers may begin: it is locked until all of them are there.
     pub(crate) ready: &'s Mutex<bool>,
 }

@@ -7,6 +7,7 @@
 //! `main` is `nmvs_serve`'s; options, users files and commands are `nmvs_operator`'s.
 #![tactic(auto)]
 
+mod announcements;
 mod clock;
 mod desk;
 #[cfg(test)]

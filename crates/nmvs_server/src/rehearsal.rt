@@ -16,7 +16,7 @@ use nmvs_protocol::{
 };
 use nmvs_record::report;
 use nmvs_rules::{Put, Question, may_report};
-use nmvs_shard::{Answered, Shard};
+use nmvs_shard::{Answered, HashKey, Shard};
 use nmvs_stream::{Sink, Source};
 use std::alloc::Global;
 use std::marker::Model;
@@ -26,6 +26,9 @@ mod tests;
 
 /// 1 January 2026, 00:00:00 UTC, in seconds: the one moment of the program's rehearsal (own).
 const NEW_YEAR: i64 = 1_767_225_600;
+
+/// The seed of a rehearsal's hashes: who makes some collide delays nobody else.
+const NO_SECRET: u64 = 0;
 
 /// The program without any option: one rehearsal, each of its lines at 1 January 2026, 00:00:00 UTC (own).
 ///
@@ -64,7 +67,7 @@ pub fn rehearse<R: Source, W: Sink>(
 {
     let mut desk = RehearsalDesk {
         alloc: &alloc,
-        shard: Shard::new(&alloc),
+        shard: Shard::new(&alloc, HashKey::of(NO_SECRET)),
         moments,
     };
     serve(alloc, source, sink, &mut desk, SESSION_LIMITS)

@@ -1,4 +1,8 @@
 //! The workers that serve connections, and the registrar beside them.
+ghost use Rattle.std.specs.Prelude.{◌≡◌};
+ghost use Rattle.nmvs_server.specs.Bounds.{sessions_of};
+
+use crate::announcements::{listening_at, listening_on};
 use crate::host::Shared;
 use crate::service::Running;
 use crate::{ClerkDesk, ProgramClock};
@@ -8,6 +12,7 @@ use nmvs_directory::{Naming, Registrar};
 use nmvs_history::Histories;
 use nmvs_operator::{Console, Latest, Options, Sides, obey_all};
 use nmvs_protocol::OwnDesk;
+use nmvs_rate::{Gate, RatedDesk};
 use nmvs_stream::{Sink, deliver};
 use std::alloc::{AllocError, Global};
 use std::rt::{Clock, Files};
@@ -20,7 +25,11 @@ use std::time::Duration;
 mod tests;
 
 /// How far the connections of so many workers may go.
-pub(crate) fn bounds_of(options: &Options, workers: usize) -> Bounds {
+pub(crate) fn bounds_of(options: &Options, workers: usize) -> Bounds
+    ensures connections { result.connections ≡ options.now.connections }
+    ensures proxy { result.proxy ≡ options.now.proxy }
+    ensures sessions { result.sessions ≡ sessions_of options.now.sessions workers }
+{
     Bounds {
         connections: options.connections,
         idle: match options.idle {
@@ -48,17 +57,12 @@ fn work<'r, R: Wait + Clock, J: Naming, H: Histories>(
         return clerk;
     }
     let clock = ProgramClock::new(run.rt, run.options.moment);
-    let mut desk = OwnDesk::new(ClerkDesk::new(
-        run.rt,
-        clerk,
-        shared.repository,
-        shared.latest,
-        clock,
-    ));
+    let desk = ClerkDesk::new(run.rt, clerk, shared.repository, shared.latest, clock);
+    let mut desk = OwnDesk::new(RatedDesk::new(desk, Gate::new(run.rt, shared.rates)));
     if serve(run.rt, *run.alloc, shared.hall, number, station, &mut desk).is_err() {
         shared.hall.stop(run.rt);
     }
-    desk.into_desk().into_clerk()
+    desk.into_desk().into_desk().into_clerk()
 }
 
 /// Accepts connections for the workers. Where it can't go on it ends the service.
@@ -125,8 +129,8 @@ pub(crate) fn serve_connections<
 /// Tells on which port the program listens, or where its socket is. A failed write changes nothing.
 fn tell_port<W: Sink>(alloc: Global, options: &Options, listener: &Listener, out: &mut W) {
     let text = match (listener.port(), &options.socket) {
-        (Some(port), _) => format!(in alloc; "LISTENING {port}\n"),
-        (None, Some(path)) => format!(in alloc; "LISTENING {path}\n"),
+        (Some(port), _) => listening_on(alloc, port),
+        (None, Some(path)) => listening_at(alloc, path),
         (None, None) => return,
     };
     if let Ok(text) = text {

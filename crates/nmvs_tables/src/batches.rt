@@ -7,13 +7,13 @@ ghost use Rattle.nmvs_tables.specs.declared.batches.BatchKey.{BatchKey};
 ghost use Rattle.nmvs_rules.specs.Questions.{code_of, locked_batch};
 ghost use Rattle.nmvs_tables.specs.Batches.{same_batch, batch_named_in, batch_in, batch_meant, batch_changed, batches_after, changes_batch, count_in, own_before, own_after, NotesBatch, lock_after, first_of};
 
+use crate::HashKey;
 use crate::counts::counts_after;
 use crate::writes::{find, write};
 use indexmap::IndexMap;
 use nmvs_identifier::{Batch, ProductCode};
 use nmvs_rules::{BatchLock, BatchRecord, Counts, Entry, Known, OwnStatus, Question};
 use std::alloc::Allocator;
-use std::hash::{BuildHasherDefault, FoldHasher};
 
 /// A batch of a product.
 #[derive(Clone, Copy, PartialEq, Eq, Hash)]
@@ -22,7 +22,7 @@ pub(crate) struct BatchKey {
     pub batch: Batch,
 }
 
-pub(crate) type Batches<A> = IndexMap<BatchKey, BatchRecord, BuildHasherDefault<FoldHasher>, A>;
+pub(crate) type Batches<A> = IndexMap<BatchKey, BatchRecord, HashKey, A>;
 
 /// The record of a batch.
 pub(crate) fn record_of<A: Allocator>(batches: &Batches<A>, key: &BatchKey) -> Option<BatchRecord>

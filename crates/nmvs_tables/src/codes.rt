@@ -4,12 +4,12 @@ ghost use Rattle.indexmap.specs.IndexMap.{spare};
 ghost use Rattle.nmvs_identifier.specs.ProductCode.{ProductCode};
 ghost use Rattle.nmvs_tables.specs.Codes.{code_in, code_noted, code_after};
 
+use crate::HashKey;
 use crate::writes::{find, write};
 use indexmap::IndexMap;
 use nmvs_identifier::{Name, ProductCode};
 use nmvs_rules::{Entry, Question, Reply};
 use std::alloc::Allocator;
-use std::hash::{BuildHasherDefault, FoldHasher};
 
 /// What is kept of a product code.
 #[derive(Clone, Copy)]
@@ -21,7 +21,7 @@ pub(crate) struct CodeRecord {
     pub flagged: u64,
 }
 
-pub(crate) type Codes<A> = IndexMap<ProductCode, CodeRecord, BuildHasherDefault<FoldHasher>, A>;
+pub(crate) type Codes<A> = IndexMap<ProductCode, CodeRecord, HashKey, A>;
 
 /// The record of a product code that no entry changed.
 const NO_CODE: CodeRecord = CodeRecord {

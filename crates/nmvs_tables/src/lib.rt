@@ -7,6 +7,7 @@
 mod batches;
 mod codes;
 mod counts;
+mod hash_key;
 mod listing;
 mod packs;
 mod tables;
@@ -14,5 +15,6 @@ mod tables;
 mod tests;
 mod writes;
 
+pub use hash_key::HashKey;
 pub use packs::PackRecord;
 pub use tables::Tables;

@@ -5,12 +5,12 @@ ghost use Rattle.nmvs_identifier.specs.ProductCode.{ProductCode};
 ghost use Rattle.nmvs_tables.specs.declared.batches.BatchKey.{BatchKey};
 ghost use Rattle.nmvs_tables.specs.Listing.{same_index, listed_in, AreListed, HasRoomToList};
 
+use crate::HashKey;
 use crate::batches::BatchKey;
 use crate::writes::{find, insert, write};
 use indexmap::IndexMap;
 use nmvs_identifier::{Batch, ProductCode};
 use std::alloc::{AllocError, Allocator};
-use std::hash::{BuildHasherDefault, FoldHasher};
 
 /// An index among the batches of a product code, counted from 0.
 #[derive(Clone, Copy, PartialEq, Eq, Hash)]
@@ -22,18 +22,18 @@ pub(crate) struct BatchIndex {
 /// How many batches each product code has, and which one is at each index.
 #[derive(Drop)]
 pub(crate) struct Listing<A: Allocator> {
-    counts: IndexMap<ProductCode, u64, BuildHasherDefault<FoldHasher>, A>,
-    batches: IndexMap<BatchIndex, Batch, BuildHasherDefault<FoldHasher>, A>,
+    counts: IndexMap<ProductCode, u64, HashKey, A>,
+    batches: IndexMap<BatchIndex, Batch, HashKey, A>,
 }
 
 impl<A: Allocator + Copy> Listing<A> {
     /// The listing of no batches.
-    pub fn new(alloc: A) -> Self
+    pub fn new(alloc: A, key: HashKey) -> Self
         ensures { AreListed result [] }
     {
         Listing {
-            counts: IndexMap::new(alloc),
-            batches: IndexMap::new(alloc),
+            counts: IndexMap::with_hasher(alloc, key),
+            batches: IndexMap::with_hasher(alloc, key),
         }
     }
 }

@@ -6,12 +6,12 @@ ghost use Rattle.nmvs_rules.specs.Questions.{pack_of};
 ghost use Rattle.nmvs_rules.specs.Trail.{marked_by};
 ghost use Rattle.nmvs_tables.specs.Packs.{row_in, row_named, record_by, row_after, pack_after};
 
+use crate::HashKey;
 use crate::writes::{find, write};
 use indexmap::IndexMap;
 use nmvs_identifier::Pack;
 use nmvs_rules::{Entry, Known, Mark, OwnStatus, Question};
 use std::alloc::Allocator;
-use std::hash::{BuildHasherDefault, FoldHasher};
 
 /// What is kept of a pack that some entry is about (Article 35).
 #[derive(Clone, Copy, Debug, PartialEq, Eq)]
@@ -30,7 +30,7 @@ pub(crate) struct PackRow {
     pub last: u64,
 }
 
-pub(crate) type Packs<A> = IndexMap<Pack, PackRow, BuildHasherDefault<FoldHasher>, A>;
+pub(crate) type Packs<A> = IndexMap<Pack, PackRow, HashKey, A>;
 
 /// The row of a pack that no entry is about.
 const NO_ENTRIES: PackRow = PackRow {

@@ -11,7 +11,7 @@ use nmvs_directory::{Directory, Naming, Registrar, Window};
 use nmvs_history::Histories;
 use nmvs_identifier::{Moment, Name};
 use nmvs_rules::{Put, Question};
-use nmvs_shard::{Shard, shard_number};
+use nmvs_shard::{HashKey, Shard, shard_number};
 use std::alloc::{AllocError, Allocator, Global};
 use std::marker::Brand;
 use std::process::Abort;
@@ -42,7 +42,7 @@ pub fn shards_with<'a, B: Allocator>(
     assert!(rt; 0 < count);
     let mut shards = Vec::with_capacity(alloc, count)?;
     for _shard in 0..count {
-        shards.push_reserved(Shard::new(alloc));
+        shards.push_reserved(Shard::new(alloc, HashKey::of(1)));
     }
     for digits in codes {
         append(&mut shards, &put(rt, "mah1", upload(rt, digits)))?;

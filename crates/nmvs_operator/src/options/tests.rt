@@ -31,6 +31,7 @@ fn options_have_defaults(rt: HostRuntime) {
         (7161, None, false)
     );
     assert_eq!(rt; (options.connections, options.idle), (10_000, 300));
+    assert_eq!(rt; (options.rate, options.burst), (0, 0));
     assert_eq!(rt; options.bind, IpAddr::V4(Ipv4Addr::new(127, 0, 0, 1)));
     assert!(rt; options.socket.is_none() && options.proxy.is_none());
 }
@@ -54,6 +55,8 @@ fn all_options_are_taken_together(rt: HostRuntime) {
         "--sessions=1000000",
         "--connections=100000",
         "--idle=86400",
+        "--rate=1000000",
+        "--burst=1",
         "--bind=::1",
         "--port=65535",
         "--socket=S",
@@ -72,6 +75,7 @@ fn all_options_are_taken_together(rt: HostRuntime) {
     );
     assert_eq!(rt; (options.port, options.stdin), (65_535, true));
     assert_eq!(rt; (options.connections, options.idle), (100_000, 86_400));
+    assert_eq!(rt; (options.rate, options.burst), (1_000_000, 1));
     assert!(rt; is_path(&options.socket, "S"));
     assert_eq!(rt; options.proxy, Some(NameOf::Authorisation));
     assert_eq!(rt;
@@ -91,6 +95,8 @@ fn other_lines_are_refused(rt: HostRuntime) {
         "--connections=0",
         "--connections=100001",
         "--idle=86401",
+        "--rate=1000001",
+        "--burst=0",
         "--bind=localhost",
         "--port=65536",
         "--moment=4102444800",

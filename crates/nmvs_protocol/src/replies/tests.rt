@@ -89,6 +89,7 @@ fn each_other_answer_has_its_text(rt: HostRuntime) {
         (Answer::Turned(Turn::Closed), "FAULT CLOSED\n"),
         (Answer::Turned(Turn::Role), "FAULT ROLE\n"),
         (Answer::Turned(Turn::Memory), "FAULT MEMORY\n"),
+        (Answer::Turned(Turn::Rate), "FAULT RATE\n"),
         (Answer::Turned(Turn::Journal), "FAULT JOURNAL\n"),
         (Answer::Unread(LineFault::Long), "FAULT LONG\n"),
         (Answer::Unread(LineFault::Bytes), "FAULT BYTES\n"),

@@ -15,7 +15,7 @@ use nmvs_directory::{Directory, Naming, Notice, Registrar};
 use nmvs_history::Histories;
 use nmvs_operator::{Console, Deed, Latest, Service, ServiceFault, load_users, obey_all};
 use nmvs_protocol::{Desk, SESSION_LIMITS, serve};
-use nmvs_shard::Shards;
+use nmvs_shard::{HashKey, Shards};
 use nmvs_stream::{Device, deliver};
 use std::alloc::Global;
 use std::io;
@@ -49,6 +49,15 @@ const TURNED_AWAY: &[Example] = &[
             ("SUSPEND ph1", "DONE"),
             ("ph1 STATUS 09506000134352 SN1", "FAULT SUSPENDED"),
             ("ph1b STATUS 09506000134352 SN1", "NOPACK"),
+        ],
+    },
+    Example {
+        shows: "a suspension is learnt before the next report",
+        moments: &[NEW_YEAR],
+        lines: &[
+            ("ph1 REPORT 09506000134352", "FAULT ROLE"),
+            ("SUSPEND ph1", "DONE"),
+            ("ph1 REPORT 09506000134352", "FAULT SUSPENDED"),
         ],
     },
 ];
@@ -218,7 +227,7 @@ fn at_directory<J: Naming, R: Wait + Abort + Sync>(
     let notice = load_users(*alloc, &mut users, &mut registrar, 2)?;
     let opening = Opening {
         windows,
-        shards: Shards::new(alloc, 1)?.into_shards(),
+        shards: Shards::new(alloc, 1, HashKey::of(1))?.into_shards(),
         keepers: Keepers::new(alloc, 1)?,
     };
     let latest = Mutex::new(notice);

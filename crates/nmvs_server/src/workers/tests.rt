@@ -110,6 +110,8 @@ fn two_connections_are_served_at_once(rt: HostRuntime) -> Result<(), Fail> {
         sessions: 1,
         connections: 2,
         idle: 0,
+        rate: 0,
+        burst: 0,
         bind: IpAddr::V4(Ipv4Addr::new(127, 0, 0, 1)),
         port: 0,
         socket: None,

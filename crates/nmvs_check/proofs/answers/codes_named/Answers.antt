@@ -8,4 +8,4 @@ use Rattle.nmvs_check.proofs.answers.codes_named.Goals as goal
 pub loop-entry-preserved : goal.loop-entry-preserved
 loop-entry-preserved c =
     c.in-Ok.ensures.keys ∙ ap₂ with_code c.loop-entry.invariant (c.code.ensures ∙ ap (λ (e : Entry). code_of e.put.question) c.entry-item.is)
-    ∙ sym (codes_named-next c.args.entries.now c.loop-entry.entry-index c.entry-item.result c.loop-entry-test.true)
+    ∙ sym (codes_named-next c.trail-entries.result.now c.loop-entry.entry-index c.entry-item.result c.loop-entry-test.true)

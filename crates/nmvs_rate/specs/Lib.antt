@@ -1,0 +1,4 @@
+pub mod Buckets
+pub mod Laws
+pub mod Rates
+pub mod Rated

@@ -1,0 +1,53 @@
+//! The bucket of a user.
+ghost use Rattle.std.specs.Prelude.{◌≡◌};
+ghost use Rattle.nmvs_rate.specs.Buckets.{after, filled, full, passes};
+
+use crate::Rate;
+
+/// How many parts a line has: in each millisecond a bucket gains a part for each line a second of its rate.
+pub const LINE: u64 = 1_000;
+
+/// What is left of the lines that a user may ask. Moments are in milliseconds since some beginning (own).
+#[derive(Clone, Copy, Debug, PartialEq, Eq)]
+pub struct Bucket {
+    /// The parts of lines that were left when a line was last taken out.
+    parts: u64,
+    /// When that was.
+    moment: u64,
+}
+
+impl Bucket {
+    /// A bucket with all lines of the burst.
+    pub fn full(rate: Rate, now: u64) -> Bucket
+        ensures { result ≡ full rate now }
+    {
+        Bucket {
+            parts: rate.burst() * LINE,
+            moment: now,
+        }
+    }
+
+    /// The parts that are there at this moment.
+    fn filled(&self, rate: Rate, now: u64) -> u64
+        ensures { result ≡ filled rate self.now now }
+    {
+        let gained = rate.lines().saturating_mul(now.saturating_sub(self.moment));
+        self.parts.saturating_add(gained).min(rate.burst() * LINE)
+    }
+
+    /// Takes a line out at this moment, where a whole one is there. Else it takes nothing.
+    pub fn take(&mut self, rate: Rate, now: u64) -> bool
+        ensures taken { result ≡ passes rate self.old now }
+        ensures left { self.new ≡ after rate self.old now }
+    {
+        let parts = self.filled(rate, now);
+        if parts < LINE {
+            return false;
+        }
+        *self = Bucket {
+            parts: parts - LINE,
+            moment: self.moment.max(now),
+        };
+        true
+    }
+}
