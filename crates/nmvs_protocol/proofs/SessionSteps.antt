@@ -1,13 +1,13 @@
 -- How a session goes on by one line, by the answers that are released together, and by one read.
-use Rattle.std.proofs.Common.{◌≡◌, ◌≢◌, ◌==◌, not, ◌||◌, if◌then◌else◌, ◌+◌, ◌-◌, take, drop, ◌<◌, ◌≤◌, ◌⊎◌, ℕ, Bool, true, false, List, [], ◌∷◌, ◌++◌, All, IsTrue, IfNone, Option, Some, None, length, map, refl, sym, ap, ◌∙◌, subst, inl, inr, arith}
+use Rattle.std.proofs.Common.{◌≡◌, ◌≢◌, ◌==◌, not, ◌||◌, if◌then◌else◌, ◌+◌, ◌-◌, take, drop, ◌<◌, ◌≤◌, ℕ, Bool, true, false, List, [], ◌∷◌, ◌++◌, All, IsTrue, IfNone, Option, Some, None, length, map, refl, sym, ap, ◌∙◌, subst, inl, inr, arith}
 use Rattle.std.proofs.lemmas.List.{flat_map_more, append-nil, length-append, length_push, append_assoc, take_at, drop_at, take_all, take-append-drop, length-drop}
 use Rattle.std.proofs.lemmas.Bool.{ne_eqb}
 use Rattle.std.proofs.Math.Seq.{drop-length}
-use Rattle.std.proofs.lemmas.List.Elements.{All-append, All-cons, All-nil, All-head, All-tail}
+use Rattle.std.proofs.lemmas.List.Elements.{All-append, All-cons, All-nil, All-tail}
 use Rattle.std.proofs.lemmas.Grind.{flat_map-append}
 use Rattle.nmvs_stream.specs.Source.{Told}
 use Rattle.nmvs_stream.specs.Sink.{Taken, Flushes, FailsToTake}
-use Rattle.nmvs_stream.specs.Delivery.{Writes, Delivers, DeliversPart}
+use Rattle.nmvs_stream.specs.Delivery.{DeliversPart}
 use Rattle.nmvs_protocol.specs.declared.ask.Ask.{Ask}
 use Rattle.nmvs_protocol.specs.declared.ask.Line.TheVariants as lines
 use Rattle.nmvs_protocol.specs.declared.answer.Answer.{Answer}
@@ -25,8 +25,8 @@ use Rattle.nmvs_protocol.specs.Texts.{text, takes_memory}
 use Rattle.nmvs_stream.specs.InputLines.{HasNoLf, input_lines, unfinished_line, lines_after, rest_after}
 use Rattle.nmvs_stream.proofs.LinesOfPieces.{lines_after-append, rest_after-append, no_line, line_cut, left_cut}
 use Rattle.nmvs_protocol.proofs.KeptLines.{kept_more}
-use Rattle.nmvs_protocol.specs.Session.{TakesLine, TakesLines, StaysOrMoves, answer_of, is_kept, is_of_repository, told_where, AnswersLine, AnswersLines, AreReleased, StaysOrTurns, NoQuit, NoQuitBeforeLast, EndsWithQuit, AnswersAll, DeliversAll, BreaksOff, LacksLast, Closes, Session, session_text, is_input_end, is_read_fault, is_write_fault}
-use Rattle.nmvs_protocol.specs.Progress.{AreShortButLast, TellsWithheld, Halts, Took, Gathers, Delivered, Tells, Stands, AnsweredSo, Fed, Served, has_write_fault, kept_part}
+use Rattle.nmvs_protocol.specs.Session.{TakesLine, TakesLines, answer_of, is_kept, is_of_repository, told_where, AnswersLines, AreReleased, StaysOrTurns, NoQuit, NoQuitBeforeLast, EndsWithQuit, DeliversAll, BreaksOff, Closes, Session, session_text, is_input_end, is_read_fault}
+use Rattle.nmvs_protocol.specs.Progress.{AreShortButLast, TellsWithheld, Halts, Took, Gathers, Delivered, Tells, Stands, Fed, Served, has_write_fault, kept_part}
 
 -- one line more that is not QUIT
 pub no_quit_more : (xs : List (List ℕ)) (x : List ℕ) → NoQuit xs → x ≢ line_text lines.Quit → NoQuit (xs ++ x ∷ [])

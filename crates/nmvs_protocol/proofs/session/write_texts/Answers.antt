@@ -1,7 +1,6 @@
 use Rattle.std.proofs.Common.{◌≡◌, ◌∙◌, ◌++◌, ◌∷◌, [], ◌+◌, List, Some, map, take, drop, sym, ap, subst}
 use Rattle.std.proofs.lemmas.List.{map_more, map-append, take-append-drop, append_assoc}
 use Rattle.nmvs_protocol.specs.declared.answer.Answer.{Answer}
-use Rattle.nmvs_protocol.specs.declared.withheld.Withheld.{Withheld}
 use Rattle.nmvs_protocol.specs.Progress.{AreShortButLast, Gathers, Tells}
 use Rattle.nmvs_protocol.specs.Session.{answer_of}
 use Rattle.nmvs_protocol.proofs.SessionSteps.{gathers_more, tells_until}

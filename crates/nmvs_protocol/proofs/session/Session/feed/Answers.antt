@@ -1,4 +1,4 @@
-use Rattle.std.proofs.Common.{◌≡◌, ◌∙◌, ◌++◌, [], List, ℕ, None, take, refl, sym, arith}
+use Rattle.std.proofs.Common.{◌∙◌, ◌++◌, [], take, refl, sym, arith}
 use Rattle.nmvs_stream.specs.InputLines.{rest_after, unfinished_line}
 use Rattle.nmvs_protocol.proofs.SessionSteps.{took_first, ahead_none, ahead_more, feed_broken, feed_halted, feed_all, whole_cut, whole_left}
 use Rattle.nmvs_protocol.proofs.session.Session.feed.Goals as goal
