@@ -4,7 +4,7 @@ use crate::hall::{Hall, Station, WAKE};
 use crate::seat::{After, Bench, Seat};
 use mio::event::Event;
 use mio::{Events, Registry};
-use nmvs_protocol::{Authorisations, Desk, OwnDesk};
+use nmvs_protocol::{Authorisations, Desk, OwnDesk, WithheldAnswers};
 use slab::Slab;
 use std::alloc::{AllocError, Global};
 use std::rt::Clock;
@@ -33,6 +33,7 @@ pub fn serve<'a, R: Wait + Clock, D: Desk<'a> + Authorisations>(
         mut events,
     } = station;
     let mut bench = Bench::new(alloc, Instant::now(rt)?);
+    let mut withheld = WithheldAnswers::new();
     let mut floor = Floor::new(alloc, bench.now);
     for _ in 0..u64::MAX {
         poll.poll(&mut events, floor.patience())?;
@@ -41,7 +42,7 @@ pub fn serve<'a, R: Wait + Clock, D: Desk<'a> + Authorisations>(
             floor.heed(rt, hall);
             floor.admit_all(rt, hall, worker, poll.registry(), &bench);
         }
-        floor.take_turns(rt, hall, &mut bench, desk);
+        floor.take_turns(rt, hall, &mut bench, &mut withheld, desk);
         floor.grow_old(rt, hall, bench.now);
         if floor.closing && floor.seats.is_empty() {
             return Ok(());
@@ -56,6 +57,8 @@ struct Floor {
     seats: Slab<Seat>,
     turns: Vec<usize>,
     later: Vec<usize>,
+    /// Whose answers wait for the release.
+    asking: Vec<usize>,
     /// When those were looked for last that waited too long.
     looked: Instant,
     /// Whether no more sessions begin.
@@ -68,6 +71,7 @@ impl Floor {
             seats: Slab::new(alloc),
             turns: Vec::new(alloc),
             later: Vec::new(alloc),
+            asking: Vec::new(alloc),
             looked: now,
             closing: false,
         }
@@ -125,7 +129,7 @@ impl Floor {
         hall: &Hall,
         worker: usize,
         registry: &Registry,
-        bench: &Bench<'_>,
+        bench: &Bench,
     ) {
         for _ in 0..u64::MAX {
             let Some(connection) = hall.next_dealt(rt, worker) else {
@@ -142,11 +146,12 @@ impl Floor {
         hall: &Hall,
         registry: &Registry,
         connection: Connection,
-        bench: &Bench<'_>,
+        bench: &Bench,
     ) -> io::Result<()> {
         let most = self.seats.len().saturating_add(1);
         self.turns.reserve(most)?;
         self.later.reserve(most)?;
+        self.asking.reserve(most)?;
         let mut seat = Seat::new(bench.alloc, connection, hall.proxy(), bench.now);
         seat.register(registry, self.seats.vacant_key())?;
         match self.seats.insert(seat) {
@@ -180,12 +185,14 @@ impl Floor {
         }
     }
 
-    /// Gives each connection whose turn it is its turn.
+    /// Gives each connection whose turn it is its turn. The answers of all of them are released together, as far as the
+    /// list of them has room and none shows a list.
     fn take_turns<'a, R: Wait, D: Desk<'a> + Authorisations>(
         &mut self,
         rt: &R,
         hall: &Hall,
-        bench: &mut Bench<'a>,
+        bench: &mut Bench,
+        withheld: &mut WithheldAnswers<'a>,
         desk: &mut OwnDesk<D>,
     ) {
         for index in 0..self.turns.len() {
@@ -195,18 +202,60 @@ impl Floor {
             let after = match self.seats.get_mut(key) {
                 Some(seat) => {
                     seat.queued = false;
-                    seat.take_turn(rt, hall, bench, desk)
+                    seat.take_turn(rt, hall, bench, withheld, desk)
                 }
                 None => After::Waits,
             };
-            match after {
-                After::Goes => self.queue_later(key),
-                After::Waits => {}
-                After::Leaves => self.remove(rt, hall, key),
+            self.go_on(rt, hall, key, after);
+            if after == After::AsksAtOnce {
+                self.tell_all(rt, hall, bench, withheld, desk);
             }
         }
+        self.tell_all(rt, hall, bench, withheld, desk);
         self.turns.clear();
         mem::swap(&mut self.turns, &mut self.later);
+    }
+
+    /// Has the desk release what is withheld, once for all connections that wait for it, and each of them tell its own.
+    fn tell_all<'a, R: Wait, D: Desk<'a> + Authorisations>(
+        &mut self,
+        rt: &R,
+        hall: &Hall,
+        bench: &mut Bench,
+        withheld: &mut WithheldAnswers<'a>,
+        desk: &mut OwnDesk<D>,
+    ) {
+        if self.asking.is_empty() {
+            return;
+        }
+        let (released, _evidence) = desk.release(withheld);
+        for index in 0..self.asking.len() {
+            let Some(key) = self.asking.get(index).copied() else {
+                break;
+            };
+            let after = match self.seats.get_mut(key) {
+                Some(seat) => seat.tell(bench, &released),
+                None => After::Waits,
+            };
+            self.go_on(rt, hall, key, after);
+        }
+        withheld.clear();
+        self.asking.clear();
+    }
+
+    /// Does with a connection what becomes of it behind its turn.
+    fn go_on<R: Wait>(&mut self, rt: &R, hall: &Hall, key: usize, after: After) {
+        match after {
+            After::Goes => self.queue_later(key),
+            After::Waits => {}
+            After::Leaves => self.remove(rt, hall, key),
+            After::Asks | After::AsksAtOnce => {
+                // Room was made when the connection was admitted.
+                if self.asking.push(key).is_err() {
+                    self.remove(rt, hall, key);
+                }
+            }
+        }
     }
 
     fn queue_later(&mut self, key: usize) {
@@ -235,8 +284,8 @@ impl Floor {
             };
             match after {
                 After::Goes => self.queue(key),
-                After::Waits => {}
                 After::Leaves => self.remove(rt, hall, key),
+                After::Waits | After::Asks | After::AsksAtOnce => {}
             }
         }
     }

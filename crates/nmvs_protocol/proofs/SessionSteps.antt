@@ -26,7 +26,7 @@ use Rattle.nmvs_stream.specs.InputLines.{HasNoLf, input_lines, unfinished_line, 
 use Rattle.nmvs_stream.proofs.LinesOfPieces.{lines_after-append, rest_after-append, no_line, line_cut, left_cut}
 use Rattle.nmvs_protocol.proofs.KeptLines.{kept_more}
 use Rattle.nmvs_protocol.specs.Session.{TakesLine, TakesLines, answer_of, is_kept, is_of_repository, told_where, AnswersLines, AreReleased, StaysOrTurns, NoQuit, NoQuitBeforeLast, EndsWithQuit, DeliversAll, BreaksOff, Closes, Session, session_text, is_input_end, is_read_fault}
-use Rattle.nmvs_protocol.specs.Progress.{AreShortButLast, TellsWithheld, Halts, Took, Gathers, Delivered, Tells, Stands, Fed, Served, has_write_fault, kept_part}
+use Rattle.nmvs_protocol.specs.Progress.{AreShortButLast, TellsWithheld, Halts, Took, Gathers, Delivered, Tells, TellsFirst, Stands, Fed, Served, has_write_fault, kept_part}
 
 -- one line more that is not QUIT
 pub no_quit_more : (xs : List (List ℕ)) (x : List ℕ) → NoQuit xs → x ≢ line_text lines.Quit → NoQuit (xs ++ x ∷ [])
@@ -125,9 +125,9 @@ breaks_after old mid new before more a b = record {
 }
 
 -- writing breaks off at an answer, after those that were told, or there is no memory for its text
-pub tells_until : (end : End) (old mid new : Taken) (before : List Answer) (a : Answer) (later : List Answer) → AreShortButLast (before ++ a ∷ later) → Gathers old mid before
-    → Tells (Some end) mid new (a ∷ []) → Tells (Some end) old new (before ++ a ∷ later)
-tells_until ends.WriteFault old mid new before a later short g t = breaks_after old mid new before (a ∷ later) g (record {
+pub tells_until : (end : End) (old mid new : Taken) (before : List Answer) (a : Answer) (later : List Answer) → Gathers old mid before
+    → Tells (Some end) mid new (a ∷ []) → TellsFirst (Some end) old new (before ++ a ∷ later)
+tells_until ends.WriteFault old mid new before a later g t = breaks_after old mid new before (a ∷ later) g (record {
   written = t.written;
   unwritten = t.unwritten ++ session_text later;
   cut = ap (λ (u : List ℕ). u ++ session_text later) (sym (append-nil (text a)) ∙ t.cut) ∙ append_assoc t.written t.unwritten (session_text later);
@@ -135,13 +135,13 @@ tells_until ends.WriteFault old mid new before a later short g t = breaks_after 
   flushed = t.flushed;
   failed = t.failed;
 })
-tells_until ends.Memory old mid new before a later short g t =
-    let alone = one_left t.before t.last a (sym t.these) in
-    let memory = subst (λ (b : Answer). IsTrue (takes_memory b)) alone.1 t.memory in record {
+tells_until ends.Memory old mid new before a later g t =
+    let alone = one_left t.before t.last a (sym t.these) in record {
       before = before;
       last = a;
-      these = ap (λ (r : List Answer). before ++ a ∷ r) (none_behind before a later short memory);
-      memory = memory;
+      later = later;
+      these = refl;
+      memory = subst (λ (b : Answer). IsTrue (takes_memory b)) alone.1 t.memory;
       told = subst (λ (r : List Answer). Gathers old new r) (ap (λ (r : List Answer). before ++ r) alone.0 ∙ append-nil before) (gathers_more old mid new before t.before g t.told);
     }
   where
@@ -149,10 +149,27 @@ tells_until ends.Memory old mid new before a later short g t =
     one_left [] x y e = (refl, cc e)
     one_left (z ∷ []) x y e = absurd (cc e)
     one_left (z ∷ w ∷ xs) x y e = absurd (cc e)
-tells_until ends.Quit old mid new before a later short g t = absurd t
-tells_until ends.Limit old mid new before a later short g t = absurd t
-tells_until ends.Ended old mid new before a later short g t = absurd t
-tells_until ends.ReadFault old mid new before a later short g t = absurd t
+tells_until ends.Quit old mid new before a later g t = absurd t
+tells_until ends.Limit old mid new before a later g t = absurd t
+tells_until ends.Ended old mid new before a later g t = absurd t
+tells_until ends.ReadFault old mid new before a later g t = absurd t
+
+-- behind an answer that there is no memory for there is none, where none but the last takes memory
+pub tells_short : (end : Option End) (sink sink' : Taken) (said : List Answer) → AreShortButLast said → TellsFirst end sink sink' said → Tells end sink sink' said
+tells_short (Some ends.Memory) sink sink' said short t =
+    let last = none_behind t.before t.last t.later (subst AreShortButLast t.these short) t.memory in record {
+      before = t.before;
+      last = t.last;
+      these = t.these ∙ ap (λ (r : List Answer). t.before ++ t.last ∷ r) last;
+      memory = t.memory;
+      told = t.told;
+    }
+tells_short (None) sink sink' said short t = t
+tells_short (Some ends.WriteFault) sink sink' said short t = t
+tells_short (Some ends.Quit) sink sink' said short t = absurd t
+tells_short (Some ends.Limit) sink sink' said short t = absurd t
+tells_short (Some ends.Ended) sink sink' said short t = absurd t
+tells_short (Some ends.ReadFault) sink sink' said short t = absurd t
 
 -- what is told of answers after others
 tells_more : (end : Option End) (old mid new : Taken) (before more : List Answer) → Gathers old mid before → Tells end mid new more → Tells end old new (before ++ more)

@@ -1,5 +1,5 @@
 -- How a session stands between its lines and between its reads (own).
-use Rattle.std.specs.Prelude.{◌≡◌, ◌≤◌, ◌<◌, ◌+◌, ℕ, Bool, false, List, [], ◌∷◌, ◌++◌, length, map, take, Option, Some, None}
+use Rattle.std.specs.Prelude.{◌≡◌, ◌≤◌, ◌<◌, ◌+◌, ℕ, Bool, false, List, [], ◌∷◌, ◌++◌, length, map, take, Option, Some, None, IsTrue}
 use Rattle.nmvs_stream.specs.Sink.{Taken}
 use Rattle.nmvs_stream.specs.Delivery.{Writes, Delivers, DeliversPart}
 use Rattle.nmvs_protocol.specs.declared.ask.Ask.{Ask}
@@ -40,6 +40,20 @@ Tells (Some ends.Quit) sink sink' said = ⊥
 Tells (Some ends.Limit) sink sink' said = ⊥
 Tells (Some ends.Ended) sink sink' said = ⊥
 Tells (Some ends.ReadFault) sink sink' said = ⊥
+
+-- of these answers the first are told so; the text of the next takes memory, and is missing with those behind it
+pub record LacksRest (tells : List Answer → Type 0) (said : List Answer) : Type 0 where
+  pub before : List Answer
+  pub last : Answer
+  pub later : List Answer
+  pub these : said ≡ before ++ last ∷ later
+  pub memory : IsTrue (takes_memory last)
+  pub told : tells before
+
+-- what writing the text of any answers comes to
+abbrev pub TellsFirst : Option End → Taken → Taken → List Answer → Type 0
+TellsFirst (Some ends.Memory) sink sink' said = LacksRest (Gathers sink sink') said
+TellsFirst end sink sink' said = Tells end sink sink' said
 
 -- what telling what is withheld comes to, and what it makes of the desk: where there is none the desk is not asked
 abbrev pub TellsWithheld : {D E : Type 0} → (D → E → Withheld → Answer → Type 0) → (D → D → Type 0) → List Withheld → D → D → Option End → Taken → Taken → Type 0

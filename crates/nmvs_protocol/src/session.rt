@@ -3,7 +3,7 @@ ghost use Rattle.std.specs.Prelude.{◌≡◌, ◌≤◌, ◌<◌, ◌-◌, ◌+
 ghost use Rattle.nmvs_stream.specs.InputLines.{lines_after, unfinished_line};
 ghost use Rattle.nmvs_protocol.specs.Lines.{line_text};
 ghost use Rattle.nmvs_protocol.specs.Session.{Answers, TakesLine};
-ghost use Rattle.nmvs_protocol.specs.Progress.{Fed, Took, Tells, TellsWithheld, AreShortButLast, kept_part};
+ghost use Rattle.nmvs_protocol.specs.Progress.{Fed, Took, Tells, TellsFirst, TellsWithheld, kept_part};
 
 use crate::pending_line::PendingLine;
 use crate::replies::wording;
@@ -202,9 +202,15 @@ fn tell<'a, W: Sink, D: Desk<'a>>(
     told
 }
 
-/// Writes the texts of the answers, up to one that there is no memory for.
-fn write_texts<W: Sink>(alloc: Global, released: Released<'_, '_>, sink: &mut W) -> Option<End>
-    ensures { AreShortButLast released.entry → Tells result (W.taken sink.old) (W.taken sink.new) released.entry }
+/// Writes the texts of the answers, up to one that there is no memory for. The sink is left to be flushed.
+///
+/// `None` is that all were written; else the session has ended so.
+pub fn write_texts<W: Sink>(
+    alloc: Global,
+    released: Released<'_, '_>,
+    sink: &mut W,
+) -> Option<End>
+    ensures { TellsFirst result (W.taken sink.old) (W.taken sink.new) released.entry }
 {
     for withheld in released.list() {
         match write_text(alloc, withheld.answer(), sink) {
