@@ -81,14 +81,17 @@ told_first (Some ends.Limit) sink sink' part t = absurd t
 told_first (Some ends.Ended) sink sink' part t = absurd t
 told_first (Some ends.ReadFault) sink sink' part t = absurd t
 
+positive : (n : ℕ) → 0 < n → n ≡ 0 → ⊥
+positive n some none = omega (arith, some, none)
+
 -- a session that waits has a line left for each answer, and no text untold
 waits : (ended : Option End) (waiting : ℕ) (left : List (List ℕ)) (untold : List ℕ) → 0 < waiting → Leaves ended waiting left untold
     → (length left ≡ waiting) × (untold ≡ []) × Leaves ended 0 [] []
 waits (None) waiting left untold some l = (l.0, l.1, (refl, refl))
 waits (Some ends.Quit) waiting left untold some l = (l.0, l.1, (refl, refl))
 waits (Some ends.Limit) waiting left untold some l = (l.0, l.1, (refl, refl))
-waits (Some ends.Memory) waiting left untold some l = absurd (cc (omega (arith, some, l)))
-waits (Some ends.WriteFault) waiting left untold some l = absurd (cc (omega (arith, some, l)))
+waits (Some ends.Memory) waiting left untold some l = absurd (positive waiting some l)
+waits (Some ends.WriteFault) waiting left untold some l = absurd (positive waiting some l)
 waits (Some ends.Ended) waiting left untold some l = absurd l
 waits (Some ends.ReadFault) waiting left untold some l = absurd l
 

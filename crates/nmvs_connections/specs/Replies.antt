@@ -56,6 +56,19 @@ LacksMemory (Some ends.Memory) = Unit {0}
 LacksMemory (Some ends.WriteFault) = Unit {0}
 LacksMemory _ = ⊥
 
+-- so many of the answers that were released, from this place on, were worded behind these bytes, up to what is left untold; where
+-- there are not so many, none
+pub record WordsPart (first count : ℕ) (released : List Answer) (old new : List ℕ) (told : Option End) : Type 0 where
+  pub part : List Answer
+  pub its_own : first + count ≤ length released → part ≡ take count (drop first released)
+  pub none : length released < first + count → part ≡ []
+  pub there : (length part ≡ count) ⊎ (told ≡ Some ends.WriteFault)
+  pub text : List ℕ
+  pub untold : List ℕ
+  pub bytes : new ≡ old ++ text
+  pub text_is : session_text part ≡ text ++ untold
+  pub all : ((told ≡ None) × (untold ≡ [])) ⊎ LacksMemory told
+
 -- the session stands as before, and no text is left untold; or it ended for want of memory
 abbrev pub StaysOrLacks : Option End → Option End → List ℕ → Type 0
 StaysOrLacks ended ended' untold = ((ended' ≡ ended) × (untold ≡ [])) ⊎ LacksMemory ended'

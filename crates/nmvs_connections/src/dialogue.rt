@@ -1,6 +1,6 @@
 //! A session whose bytes others move.
 ghost use Rattle.std.specs.Prelude.{◌≡◌, ◌≤◌, ◌++◌, List, [], ℕ, None, length, take, drop};
-ghost use Rattle.nmvs_connections.specs.Replies.{Asked, Replies, TellsPart};
+ghost use Rattle.nmvs_connections.specs.Replies.{Asked, Replies, TellsPart, WordsPart};
 
 use crate::gathered::Gathered;
 use boxcar::tag::{Names, Tag};
@@ -117,10 +117,13 @@ impl Dialogue {
         if self.waiting == 0 {
             return;
         }
-        let told = match released.part(self.first, self.waiting) {
-            Some(part) => write_texts(alloc, part, &mut self.replies),
-            None => Some(End::WriteFault),
-        };
+        let told = word_part(
+            alloc,
+            released,
+            self.first,
+            self.waiting,
+            &mut self.replies,
+        );
         self.waiting = 0;
         if told.is_some() {
             self.end = told;
@@ -152,6 +155,22 @@ impl Dialogue {
         mem::swap(&mut self.replies.bytes, room);
         self.gone = 0;
         room.clear();
+    }
+}
+
+/// Words so many of the answers that were released, from this place on. Where they are not there, that is as a failed write.
+fn word_part(
+    alloc: Global,
+    released: &Released<'_, '_>,
+    first: usize,
+    count: usize,
+    replies: &mut Gathered,
+) -> Option<End>
+    ensures { WordsPart first count released.now replies.old.bytes replies.new.bytes result }
+{
+    match released.part(first, count) {
+        Some(part) => write_texts(alloc, part, replies),
+        None => Some(End::WriteFault),
     }
 }
 
