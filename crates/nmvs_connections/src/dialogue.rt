@@ -166,7 +166,7 @@ fn word_part(
     count: usize,
     replies: &mut Gathered,
 ) -> Option<End>
-    ensures { WordsPart first count released.now replies.old.bytes replies.new.bytes result }
+    ensures { WordsPart first count released.now replies.old.bytes.items replies.new.bytes.items result }
 {
     match released.part(first, count) {
         Some(part) => write_texts(alloc, part, replies),
