@@ -117,13 +117,7 @@ impl Dialogue {
         if self.waiting == 0 {
             return;
         }
-        let told = word_part(
-            alloc,
-            released,
-            self.first,
-            self.waiting,
-            &mut self.replies,
-        );
+        let told = word_part(alloc, released, self.first, self.waiting, &mut self.replies);
         self.waiting = 0;
         if told.is_some() {
             self.end = told;

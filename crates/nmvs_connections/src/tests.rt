@@ -55,11 +55,7 @@ fn dialogues_beside_each_other_are_answered_each(rt: HostRuntime) -> Result<(), 
     let mut taken = [0; 3];
     taken[0] = take(&mut one, b"ph1 STATUS 0950", &mut withheld);
     taken[1] = take(&mut other, b"\n\n", &mut withheld);
-    taken[2] = take(
-        &mut one,
-        b"6000134352 SN1\nph1\nQUIT\nph1\n",
-        &mut withheld,
-    );
+    taken[2] = take(&mut one, b"6000134352 SN1\nph1\nQUIT\nph1\n", &mut withheld);
     assert_eq!(rt; taken, [15, 1, 24]);
     assert_eq!(rt; one.unsent(), b"".as_slice());
     let (released, ()) = Stranger.release(&mut withheld);

@@ -205,11 +205,7 @@ fn tell<'a, W: Sink, D: Desk<'a>>(
 /// Writes the texts of the answers, up to one that there is no memory for. The sink is left to be flushed.
 ///
 /// `None` is that all were written; else the session has ended so.
-pub fn write_texts<W: Sink>(
-    alloc: Global,
-    released: Released<'_, '_>,
-    sink: &mut W,
-) -> Option<End>
+pub fn write_texts<W: Sink>(alloc: Global, released: Released<'_, '_>, sink: &mut W) -> Option<End>
     ensures { TellsFirst result (W.taken sink.old) (W.taken sink.new) released.entry }
 {
     for withheld in released.list() {
