@@ -29,6 +29,10 @@ pub enum Fault<'a> {
     NoDigest(&'a str),
     /// The digest beside the import of this path can't be read.
     CannotReadDigest(&'a str),
+    /// The journals in the folder of this path are not gone on from.
+    JournalRefused(&'a str),
+    /// Not all of the trail is confirmed by the journals in the folder of this path.
+    JournalUnwritten(&'a str),
     /// A worker was refused its window on the directory.
     Directory,
     /// The port is not to be had.
@@ -66,6 +70,8 @@ impl<'a> fmt::Display for Fault<'a> {
             }
             Fault::NoDigest(path) => write!(f, "{path}.sha256 is no digest of {path}"),
             Fault::CannotReadDigest(path) => write!(f, "cannot read {path}.sha256"),
+            Fault::JournalRefused(path) => write!(f, "journal {path} refused"),
+            Fault::JournalUnwritten(path) => write!(f, "cannot write journal {path}"),
             Fault::Directory => f.write_str("directory refused"),
             Fault::CannotListen(port) => write!(f, "cannot listen on port {port}"),
             Fault::CannotListenAt(path) => write!(f, "cannot listen at {path}"),
@@ -98,15 +104,15 @@ impl<'a> Outcome<'a> {
 }
 
 impl<'a> Fault<'a> {
-    /// The status that the program ends with: 3 where a line of the import or its digest is refused, 4 where the export is
-    /// not written, 5 where the repository does not settle, and else 1.
+    /// The status that the program ends with: 3 where a line of the import, its digest or a journal is refused, 4 where the
+    /// export or a journal is not written, 5 where the repository does not settle, and else 1.
     pub fn status(&self) -> u8
         ensures { result ≡ fault_status self.now }
     {
         match self {
-            Fault::ImportLine(_) | Fault::ImportUnlawful(_) => 3,
+            Fault::ImportLine(_) | Fault::ImportUnlawful(_) | Fault::JournalRefused(_) => 3,
             Fault::ImportDigest(_) | Fault::NoDigest(_) => 3,
-            Fault::CannotWrite(_) => 4,
+            Fault::CannotWrite(_) | Fault::JournalUnwritten(_) => 4,
             Fault::LostClerk => 5,
             _ => 1,
         }

@@ -3,17 +3,20 @@ use nmvs_connections::{Hall, Listener};
 use nmvs_desk::Repository;
 use nmvs_directory::{Naming, Notice};
 use nmvs_history::Histories;
+use nmvs_journal::Filed;
+use nmvs_offices::Offices;
 use nmvs_operator::Options;
 use std::alloc::Global;
+use std::fs::File;
 use std::net::Net;
 use std::rt::{Clock, Files};
 use std::sync::{Mutex, Wait};
 use std::thread::Threads;
 
 /// What a run uses of the machine.
-pub trait Host: Files + Clock + Threads + Wait + Net {}
+pub trait Host: Files<File = File> + Clock + Threads + Wait + Net + Eprint {}
 
-impl<R: Files + Clock + Threads + Wait + Net> Host for R {}
+impl<R: Files<File = File> + Clock + Threads + Wait + Net + Eprint> Host for R {}
 
 /// What a run goes by.
 #[derive(Drop)]
@@ -27,11 +30,13 @@ pub(crate) struct Run<'r, 'o, H> {
 
 /// What the workers of a run share.
 #[derive(Drop)]
-pub(crate) struct Shared<'s, 'r, 'o, R, J: Naming, H: Histories> {
+pub(crate) struct Shared<'s, 'f, 'r, 'o, R, J: Naming, H: Histories> {
     pub(crate) run: &'s Run<'r, 'o, R>,
     pub(crate) listener: &'s Listener,
     pub(crate) hall: &'s Hall,
     pub(crate) repository: &'s Repository<'r, H>,
+    /// Where answers wait for the journals, where there are journals.
+    pub(crate) offices: Option<&'s Offices<'f, 'r, Filed<File>, H>>,
     pub(crate) latest: &'s Mutex<Notice<J>>,
     /// Whether the workers may begin: it is locked until all of them are there.
     pub(crate) ready: &'s Mutex<bool>,
