@@ -66,7 +66,10 @@ class Server:
                    "--moment", str(model.MOMENT), *options]
         pipe = subprocess.PIPE
         self.process = subprocess.Popen(command, stdin=pipe, stdout=pipe, stderr=pipe, text=True, env=environment)
+        bound = threading.Timer(BOUND, self.process.kill)
+        bound.start()
         told = self.process.stdout.readline()
+        bound.cancel()
         self.port = int(told.split()[1]) if told.startswith("LISTENING ") else None
 
     def command(self, text):
