@@ -4,7 +4,6 @@ import json
 import os
 import pathlib
 import signal
-import socket
 import struct
 import subprocess
 import threading
