@@ -2,7 +2,7 @@
 use Rattle.std.proofs.Common.{◌≡◌, ◌≢◌, ◌<◌, ◌∙◌, ◌∷◌, ◌++◌, ℕ, pos, true, List, [], Option, Some, None, IfSome, Err, length, refl, sym, ap, subst, inl, inr, tt, arith, length-append}
 use Rattle.std.proofs.lemmas.Bool.Decides.{eqb_tells}
 use mathlib.Core.List.{IsPrefix}
-use Rattle.nmvs_history.proofs.Beginnings.{prefix_self, prefix_trans}
+use Rattle.nmvs_history.proofs.Beginnings.{prefix_self, prefix_trans, prefix_length}
 use Rattle.nmvs_identifier.specs.Name.{Name}
 use Rattle.nmvs_identifier.specs.ProductCode.{ProductCode}
 use Rattle.nmvs_directory.specs.Window.{Reads}
@@ -23,6 +23,7 @@ use Rattle.nmvs_protocol.specs.declared.ask.Ask.TheVariants as asks
 use Rattle.nmvs_protocol.specs.declared.answer.Answer.{Answer}
 use Rattle.nmvs_protocol.specs.declared.answer.Answer.TheVariants as answers
 use Rattle.nmvs_protocol.specs.declared.withheld.Basis.{Basis}
+use Rattle.nmvs_offices.specs.Told.{IsWithin}
 use Rattle.nmvs_record.specs.Report.{report_text}
 use Rattle.nmvs_server.specs.Desk.{DeskView, AnswersTold, NamesAuthorisation, Receives, Reports, RestsOnAll, SeesShard, Serves, LeavesNone, IsInRole, IsTurned, may_put, turn_of_fault}
 
@@ -183,3 +184,7 @@ reaches old new ask said basis serves =
       | inl stops ↦ none_within new basis stops.2
       | inr goes ↦ told_within goes.0 new ask said basis goes.3
     ]
+
+-- what is withheld rests on no more than was seen, where more was seen since
+pub within_more : (reach : List ℕ) (old new : List (List Entry)) → ((i : ℕ) → IsPrefix (row old i) (row new i)) → IsWithin reach old → IsWithin reach new
+within_more reach old new grown within i = omega (arith, within i, prefix_length (row old i) (row new i) (grown i))
