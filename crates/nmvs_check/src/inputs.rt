@@ -113,6 +113,9 @@ fn open_input(rt: &HostRuntime, alloc: Global, path: &str) -> Result<Input, Inpu
 
 impl Read for Inputs {
     fn read(&mut self, buffer: &mut [u8]) -> io::Result<usize> {
+        if buffer.is_empty() {
+            return Ok(0);
+        }
         for _ in 0..self.inputs.len() {
             let Some(input) = self.inputs.last_mut() else {
                 return Ok(0);
