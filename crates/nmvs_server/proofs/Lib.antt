@@ -1,2 +1,3 @@
 mod ShardExports
 mod DeskTurns
+mod Journals
