@@ -133,11 +133,13 @@ impl Read for Inputs {
 impl Inputs {
     /// Compares the file whose end was read with the digest beside it, and goes on to the next one.
     fn end(&mut self) -> io::Result<()> {
-        let Some(Input {
-            path,
-            stored,
-            source,
-        }) = self.inputs.pop()
+        let Some(
+            Input {
+                path,
+                stored,
+                source,
+            },
+        ) = self.inputs.pop()
         else {
             return Ok(());
         };
