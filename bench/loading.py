@@ -4,6 +4,7 @@ import os
 import pathlib
 import socket
 import subprocess
+import typing
 
 HERE = pathlib.Path(__file__).resolve().parent
 SERVER = HERE.parent / "crates/nmvs_serve/out/nmvs_serve"
@@ -24,6 +25,32 @@ def build_load(folder):
     load = folder / "load"
     subprocess.run(["cc", "-O2", "-pthread", "-o", load, HERE / "load.c"], check=True)
     return load
+
+
+class Told(typing.NamedTuple):
+    """What became of the lines that were put: how many a second, how many in all, and the microseconds from a line to its reply:
+    the median, what one in 100 exceeds, and the most."""
+    rate: float
+    lines: int
+    median: int
+    late: int
+    slowest: int
+
+
+def begin_load(load, port, window, files, pause=0, seconds=0):
+    """Begins to put lines, a connection a file: each once, or over and over for so many seconds; with a pause of so many
+    milliseconds between two lines of a connection."""
+    options = [*(("-p", str(pause)) if pause else ()), *(("-s", str(seconds)) if seconds else ())]
+    return subprocess.Popen([load, *options, str(port), str(window), *files], stdout=subprocess.PIPE, text=True)
+
+
+def end_load(putting):
+    """Waits until the lines are answered."""
+    said, _ = putting.communicate()
+    assert putting.returncode == 0, "lines were not answered"
+    nanoseconds, faults, lines, *waits = map(int, said.split())
+    assert faults == 0, f"{faults} faults"
+    return Told(lines / nanoseconds * 1e9, lines, *waits)
 
 
 class Program:
@@ -47,12 +74,9 @@ class Program:
     def put(self, load, window, files):
         """Lines a second, and microseconds of a line in the program and in the kernel."""
         before = self.processor()
-        ran = subprocess.run([load, str(self.port), str(window), *files], capture_output=True, text=True, check=True)
-        nanoseconds, faults = map(int, ran.stdout.split())
-        assert faults == 0, f"{faults} faults"
-        lines = sum(file.read_bytes().count(b"\n") for file in files)
-        inside, kernel = ((now - then) / lines * 1e6 for now, then in zip(self.processor(), before))
-        return lines / nanoseconds * 1e9, inside, kernel
+        told = end_load(begin_load(load, self.port, window, files))
+        inside, kernel = ((now - then) / told.lines * 1e6 for now, then in zip(self.processor(), before))
+        return told.rate, inside, kernel
 
     def end(self):
         self.process.terminate()

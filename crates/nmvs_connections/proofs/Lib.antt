@@ -1,1 +1,3 @@
 mod RepliesSteps
+mod SeatLemmas
+mod TurnSteps

@@ -1,3 +1,4 @@
 pub mod Replies
 pub mod Moved
 pub mod Greeting
+pub mod Turns

@@ -1,46 +1,38 @@
 -- What a connection is told of the bytes that it was fed, while others use the same desk (own).
-use Rattle.std.specs.Prelude.{◌≡◌, ◌≤◌, ℕ, List, [], ◌++◌, length, Option, Some, None}
+use Rattle.std.specs.Prelude.{◌≡◌, ◌≤◌, ◌<◌, ◌+◌, ◌⊎◌, ℕ, List, [], ◌++◌, length, take, drop, Option, Some, None}
 use Rattle.nmvs_protocol.specs.declared.ask.Ask.{Ask}
 use Rattle.nmvs_protocol.specs.declared.answer.Answer.{Answer}
 use Rattle.nmvs_protocol.specs.declared.end.End.{End}
 use Rattle.nmvs_protocol.specs.declared.withheld.Withheld.{Withheld}
 use Rattle.nmvs_protocol.specs.declared.end.End.TheVariants as ends
 use Rattle.nmvs_protocol.specs.declared.session.Session.{Session}
-use Rattle.nmvs_stream.specs.InputLines.{input_lines, unfinished_line}
+use Rattle.nmvs_stream.specs.InputLines.{input_lines, lines_after, unfinished_line}
 use Rattle.nmvs_protocol.specs.Progress.{kept_part}
-use Rattle.nmvs_protocol.specs.Session.{AnswersLines, session_text}
+use Rattle.nmvs_protocol.specs.Session.{TakesLines, session_text}
 
--- a connection: the bytes that it was fed, the replies that were sent, those that are unsent, and how its session ended
+-- a connection: the bytes that it was fed, the replies that were sent, those that are unsent, how its session ended, and where
+-- the answers begin that it waits for, among those that are withheld, and how many they are
 pub record Talk : Type 0 where
   pub fed : List ℕ
   pub sent : List ℕ
   pub unsent : List ℕ
   pub ended : Option End
+  pub first : ℕ
+  pub waiting : ℕ
 
--- the lines that an end leaves unanswered, and the text that it leaves untold: a session that goes on leaves none; at QUIT and
--- at the limit all text is told; for want of memory some is missing
-abbrev pub Leaves : Option End → List (List ℕ) → List ℕ → Type 0
-Leaves (None) left untold = (left ≡ []) × (untold ≡ [])
-Leaves (Some ends.Quit) left untold = untold ≡ []
-Leaves (Some ends.Limit) left untold = untold ≡ []
-Leaves (Some ends.Memory) left untold = Unit {0}
-Leaves (Some ends.WriteFault) left untold = Unit {0}
-Leaves (Some ends.Ended) left untold = ⊥
-Leaves (Some ends.ReadFault) left untold = ⊥
-
--- of these lines the first were answered, the desk going from old to new by exactly their takes and releases, and this is the text
-pub record Answered {D E : Type 0} (takes : D → Ask → Withheld → D → Type 0) (releases : D → E → Withheld → Answer → Type 0) (moves : D → D → Type 0) (lines : List (List ℕ)) (old new : D) (text : List ℕ) (ended : Option End) : Type 0 where
-  pub answered : List (List ℕ)
-  pub left : List (List ℕ)
-  pub these : lines ≡ answered ++ left
-  pub said : List Answer
-  pub answers : AnswersLines takes releases moves old answered said new
-  pub untold : List ℕ
-  pub text_is : session_text said ≡ text ++ untold
-  pub leaves : Leaves ended left untold
+-- the lines that are left unanswered, and the text that is left untold: up to QUIT and the limit one line for each answer that is
+-- waited for, and none; for want of memory some is missing, and nothing is waited for
+abbrev pub Leaves : Option End → ℕ → List (List ℕ) → List ℕ → Type 0
+Leaves (None) waiting left untold = (length left ≡ waiting) × (untold ≡ [])
+Leaves (Some ends.Quit) waiting left untold = (length left ≡ waiting) × (untold ≡ [])
+Leaves (Some ends.Limit) waiting left untold = (length left ≡ waiting) × (untold ≡ [])
+Leaves (Some ends.Memory) waiting left untold = waiting ≡ 0
+Leaves (Some ends.WriteFault) waiting left untold = waiting ≡ 0
+Leaves (Some ends.Ended) waiting left untold = ⊥
+Leaves (Some ends.ReadFault) waiting left untold = ⊥
 
 -- of the lines of these bytes the first were answered, one answer a line, in order, and this is the text
-pub record Replies (fed text : List ℕ) (ended : Option End) : Type 0 where
+pub record Replies (fed text : List ℕ) (waiting : ℕ) (ended : Option End) : Type 0 where
   pub answered : List (List ℕ)
   pub left : List (List ℕ)
   pub these : input_lines fed ≡ answered ++ left
@@ -48,7 +40,48 @@ pub record Replies (fed text : List ℕ) (ended : Option End) : Type 0 where
   pub one : length said ≡ length answered
   pub untold : List ℕ
   pub text_is : session_text said ≡ text ++ untold
-  pub leaves : Leaves ended left untold
+  pub leaves : Leaves ended waiting left untold
+
+-- the lines that these bytes complete behind what was fed were taken, the desk going from old to new by exactly their takes; their
+-- answers, one a line, were put behind those that were withheld, and are waited for
+pub record Asked {D : Type 0} (takes : D → Ask → Withheld → D → Type 0) (fed bytes : List ℕ) (old new : D) (withheld withheld' : List Withheld) (waiting : ℕ) : Type 0 where
+  pub held : List Withheld
+  pub behind : withheld' ≡ withheld ++ held
+  pub answers : TakesLines takes old (lines_after (unfinished_line fed) bytes) held new
+  pub one : length held ≡ waiting
+
+-- the session ended for want of memory
+abbrev pub LacksMemory : Option End → Type 0
+LacksMemory (Some ends.Memory) = Unit {0}
+LacksMemory (Some ends.WriteFault) = Unit {0}
+LacksMemory _ = ⊥
+
+-- so many of the answers that were released, from this place on, were worded behind these bytes, up to what is left untold; where
+-- there are not so many, none
+pub record WordsPart (first count : ℕ) (released : List Answer) (old new : List ℕ) (told : Option End) : Type 0 where
+  pub part : List Answer
+  pub its_own : first + count ≤ length released → part ≡ take count (drop first released)
+  pub none : length released < first + count → part ≡ []
+  pub text : List ℕ
+  pub untold : List ℕ
+  pub there : (length part ≡ count) ⊎ ((told ≡ Some ends.WriteFault) × (text ≡ []))
+  pub bytes : new ≡ old ++ text
+  pub text_is : session_text part ≡ text ++ untold
+  pub all : ((told ≡ None) × (untold ≡ [])) ⊎ LacksMemory told
+
+-- the session stands as before, and no text is left untold; or it ended for want of memory
+abbrev pub StaysOrLacks : Option End → Option End → List ℕ → Type 0
+StaysOrLacks ended ended' untold = ((ended' ≡ ended) × (untold ≡ [])) ⊎ LacksMemory ended'
+
+-- this is the text of so many of the answers that were released, from this place on, up to what is left untold. Where there are not
+-- so many there is none, and the session ends as for want of memory
+pub record TellsPart (first count : ℕ) (released : List Answer) (text : List ℕ) (ended ended' : Option End) : Type 0 where
+  pub untold : List ℕ
+  pub part : List Answer
+  pub its_own : first + count ≤ length released → part ≡ take count (drop first released)
+  pub none : length released < first + count → part ≡ []
+  pub text_is : session_text part ≡ text ++ untold
+  pub stays : StaysOrLacks ended ended' untold
 
 -- a session that goes on has kept the line that was begun, and has answered no more lines than it may
 abbrev pub GoesOn : Option End → Session → List ℕ → Type 0

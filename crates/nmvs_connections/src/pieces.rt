@@ -1,26 +1,42 @@
 //! How what was read is cut, so that no connection is owed many long replies at once.
-ghost use Rattle.std.specs.Prelude.{◌≤◌, length};
+ghost use Rattle.std.specs.Prelude.{◌≤◌, length, IfSome};
 
 use memchr::{memchr, memmem};
 
-/// How many of these bytes are fed at once: those up to the end of the first line that may ask for a list, an audit or a
-/// report, or all. The replies to them are sent before the others are fed (own).
-pub(crate) fn piece(bytes: &[u8]) -> usize
-    ensures { result ≤ length bytes.now }
+/// What is taken at once of the bytes that were read.
+#[derive(Clone, Copy)]
+pub(crate) struct Piece {
+    /// How many bytes it has, from the front.
+    pub(crate) count: usize,
+    /// Whether its last line may ask for a list.
+    pub(crate) lists: bool,
+}
+
+/// What is taken at once: the bytes up to the end of the first line that may ask for a list, an audit or a report, or all.
+/// The replies to them are sent before the others are taken (own).
+pub(crate) fn first_piece(bytes: &[u8]) -> Piece
+    ensures { result.count ≤ length bytes.now }
 {
-    let long = match (
-        memmem::find(bytes, b" AUDIT "),
-        memmem::find(bytes, b" REPORT "),
-    ) {
+    match end_of_list_line(bytes) {
+        Some(count) => Piece { count, lists: true },
+        None => Piece {
+            count: bytes.len(),
+            lists: false,
+        },
+    }
+}
+
+/// Where the first line ends that may ask for a list, where it ends.
+fn end_of_list_line(bytes: &[u8]) -> Option<usize>
+    ensures { IfSome result (λ end. end ≤ length bytes.now) }
+{
+    let audit = memmem::find(bytes, b" AUDIT ");
+    let report = memmem::find(bytes, b" REPORT ");
+    let long = match (audit, report) {
         (Some(audit), Some(report)) => audit.min(report),
         (Some(place), None) | (None, Some(place)) => place,
-        (None, None) => return bytes.len(),
+        (None, None) => return None,
     };
-    let Some(behind) = bytes.get(long..) else {
-        return bytes.len();
-    };
-    match memchr(b'\n', behind) {
-        Some(end) => long.saturating_add(end).saturating_add(1).min(bytes.len()),
-        None => bytes.len(),
-    }
+    let end = memchr(b'\n', bytes.get(long..)?)?;
+    Some(long.saturating_add(end).saturating_add(1).min(bytes.len()))
 }

@@ -1,13 +1,17 @@
 //! One connection of a worker.
+ghost use Rattle.std.specs.Prelude.{◌≡◌, ◌≤◌, ◌++◌, List, [], length, take};
+ghost use Rattle.nmvs_connections.specs.declared.seat.After.{After as TheAfter};
+ghost use Rattle.nmvs_connections.specs.Turns.{IsAsking, Kept, SeatSteps, TellsOwn};
+
 use crate::connection::{Connection, Moved};
 use crate::dialogue::Dialogue;
 use crate::greeting::{Greeting, read_greeting};
 use crate::hall::Hall;
-use crate::pieces::piece;
+use crate::pieces::{Piece, first_piece};
 use memchr::memchr;
 use mio::{Registry, Token};
 use nmvs_protocol::{
-    Authorisations, Desk, NO_LIMITS, NameOf, OwnDesk, Peer, READ_SIZE, WithheldAnswers,
+    Authorisations, Desk, NO_LIMITS, NameOf, OwnDesk, Peer, READ_SIZE, Released, WithheldAnswers,
 };
 use std::alloc::{AllocError, Global};
 use std::io;
@@ -33,22 +37,20 @@ const IDLE: &[u8] = b"FAULT IDLE\n";
 
 /// What a worker serves its connections with.
 #[derive(Drop)]
-pub(crate) struct Bench<'a> {
+pub(crate) struct Bench {
     pub(crate) alloc: Global,
     pub(crate) now: Instant,
     buffer: [u8; READ_SIZE],
     room: Vec<u8>,
-    withheld: WithheldAnswers<'a>,
 }
 
-impl<'a> Bench<'a> {
-    pub(crate) fn new(alloc: Global, now: Instant) -> Bench<'a> {
+impl Bench {
+    pub(crate) fn new(alloc: Global, now: Instant) -> Bench {
         Bench {
             alloc,
             now,
             buffer: [0; READ_SIZE],
             room: Vec::new(alloc),
-            withheld: WithheldAnswers::new(),
         }
     }
 
@@ -84,6 +86,10 @@ pub(crate) enum After {
     Goes,
     /// It waits until the system reports it.
     Waits,
+    /// Its answers wait until those of the turn are released.
+    Asks,
+    /// Its answers wait, and are released before more are withheld.
+    AsksAtOnce,
     /// It is closed.
     Leaves,
 }
@@ -95,9 +101,11 @@ pub(crate) struct Seat {
     dialogue: Dialogue,
     /// Whose lines it carries.
     peer: Peer,
-    /// What was read, and is fed once the replies to what was fed are sent; first what has come of a header.
+    /// What was read, and is taken once the replies to what was taken are sent; first what has come of a header.
     unread: Vec<u8>,
     stage: Stage,
+    /// Whether its last read filled the buffer, so that more may be there to be read at once.
+    filled: bool,
     /// Whether the peer is told that it sent nothing for too long.
     was_idle: bool,
     /// When bytes were moved last.
@@ -128,6 +136,7 @@ impl Seat {
                 Some(name_of) => Stage::Greeting(name_of),
                 None => Stage::Serving,
             },
+            filled: false,
             was_idle: false,
             moved: now,
             hung_up: false,
@@ -157,37 +166,57 @@ impl Seat {
         self.stopped = true;
     }
 
-    /// Sends what is unsent; then answers what one read gives, or takes a step towards the end.
+    /// Sends what is unsent; then takes the lines of what one read gives, or takes a step towards the end.
     pub(crate) fn take_turn<'a, R: Wait, D: Desk<'a> + Authorisations>(
         &mut self,
         rt: &R,
         hall: &Hall,
-        bench: &mut Bench<'a>,
+        bench: &mut Bench,
+        withheld: &mut WithheldAnswers<'a>,
         desk: &mut OwnDesk<D>,
-    ) -> After {
-        if !self.dialogue.unsent().is_empty() {
-            match self.send(bench.now) {
-                After::Goes => {}
-                other => return other,
-            }
-            if !self.dialogue.unsent().is_empty() {
-                return After::Goes;
-            }
-            self.dialogue.exchange(&mut Vec::new(bench.alloc));
+    ) -> After
+        ensures { SeatSteps D.takes D.tells self.old.peer desk.old.desk desk.new.desk withheld.old withheld.new result self.old.dialogue self.new.dialogue }
+    {
+        match self.send(bench.now) {
+            After::Goes => {}
+            other => return other,
         }
+        if !self.dialogue.unsent().is_empty() {
+            return After::Goes;
+        }
+        self.dialogue.exchange(&mut Vec::new(bench.alloc));
+        self.step(rt, hall, bench, withheld, desk)
+    }
+
+    /// Takes the lines of what one read gives, or takes a step towards the end.
+    fn step<'a, R: Wait, D: Desk<'a> + Authorisations>(
+        &mut self,
+        rt: &R,
+        hall: &Hall,
+        bench: &mut Bench,
+        withheld: &mut WithheldAnswers<'a>,
+        desk: &mut OwnDesk<D>,
+    ) -> After
+        ensures { SeatSteps D.takes D.tells self.old.peer desk.old.desk desk.new.desk withheld.old withheld.new result self.old.dialogue self.new.dialogue }
+    {
         match self.stage {
             Stage::Greeting(_) if self.stopped => After::Leaves,
             Stage::Greeting(name_of) => self.greet(name_of, bench),
             Stage::Serving if self.unread.is_empty() && self.stopped => self.end(),
-            Stage::Serving if self.unread.is_empty() => self.serve_read(rt, hall, bench, desk),
-            Stage::Serving => self.serve_unread(bench, desk),
+            Stage::Serving if self.unread.is_empty() => {
+                self.take_read(rt, hall, bench, withheld, desk)
+            }
+            Stage::Serving => self.take_unread(withheld, desk),
             Stage::Ending => self.part(bench.now),
             Stage::Draining => self.drain(bench),
         }
     }
 
     /// Sends as much of what is unsent as the system takes.
-    fn send(&mut self, now: Instant) -> After {
+    fn send(&mut self, now: Instant) -> After
+        ensures kept { Kept self.old.dialogue self.new.dialogue }
+        ensures peer { self.new.peer ≡ self.old.peer }
+    {
         let unsent = self.dialogue.unsent();
         if unsent.is_empty() {
             return After::Goes;
@@ -204,7 +233,9 @@ impl Seat {
     }
 
     /// Reads on in the header of a gateway, and no byte behind it. A connection that has none with a name is closed.
-    fn greet(&mut self, name_of: NameOf, bench: &mut Bench<'_>) -> After {
+    fn greet(&mut self, name_of: NameOf, bench: &mut Bench) -> After
+        ensures { self.new.dialogue ≡ self.old.dialogue }
+    {
         let missing = match read_greeting(self.unread.as_slice(), name_of) {
             Greeting::Begun { missing } => missing.min(READ_SIZE),
             Greeting::Whole(peer) => {
@@ -227,20 +258,24 @@ impl Seat {
         }
     }
 
-    /// Reads once, and answers the first piece of that; the rest waits until the replies are sent.
-    fn serve_read<'a, R: Wait, D: Desk<'a> + Authorisations>(
+    /// Reads once, and takes the lines of the first piece of that; the rest waits until the replies are sent.
+    fn take_read<'a, R: Wait, D: Desk<'a> + Authorisations>(
         &mut self,
         rt: &R,
         hall: &Hall,
-        bench: &mut Bench<'a>,
+        bench: &mut Bench,
+        withheld: &mut WithheldAnswers<'a>,
         desk: &mut OwnDesk<D>,
-    ) -> After {
+    ) -> After
+        ensures { SeatSteps D.takes D.tells self.old.peer desk.old.desk desk.new.desk withheld.old withheld.new result self.old.dialogue self.new.dialogue }
+    {
         let count = match self.connection.read(&mut bench.buffer) {
             Moved::Bytes(count) => count,
             Moved::Blocked => return After::Waits,
             Moved::Over => return After::Leaves,
         };
         self.moved = bench.now;
+        self.filled = count == READ_SIZE;
         let chunk = &bench.buffer[..count];
         if !self.served && memchr(b'\n', chunk).is_some() {
             if !hall.begin_session(rt) {
@@ -248,51 +283,60 @@ impl Seat {
             }
             self.served = true;
         }
-        if bench.make_room().is_err() {
-            return After::Leaves;
+        let piece = first_piece(chunk);
+        let bytes = &chunk[..piece.count];
+        let taken = take_lines(&mut self.dialogue, self.peer, bytes, withheld, desk);
+        if self.unread.extend_from_slice(&chunk[taken..]).is_err() {
+            self.stage = Stage::Ending;
         }
-        let chunk = &bench.buffer[..count];
-        let mut cut = piece(chunk);
-        if self.unread.extend_from_slice(&chunk[cut..]).is_err() {
-            cut = count;
-        }
-        self.dialogue.exchange(&mut bench.room);
-        if self.dialogue.end().is_none() {
-            desk.turn_to(self.peer);
-            self.dialogue
-                .feed(bench.alloc, &chunk[..cut], &mut bench.withheld, desk);
-        }
-        self.reply(bench, count == READ_SIZE)
+        self.ask(piece, taken)
     }
 
-    /// Answers the next piece of what was read.
-    fn serve_unread<'a, D: Desk<'a> + Authorisations>(
+    /// Takes the lines of the next piece of what was read.
+    fn take_unread<'a, D: Desk<'a> + Authorisations>(
         &mut self,
-        bench: &mut Bench<'a>,
+        withheld: &mut WithheldAnswers<'a>,
         desk: &mut OwnDesk<D>,
-    ) -> After {
-        if bench.make_room().is_err() {
-            return After::Leaves;
-        }
-        let cut = piece(self.unread.as_slice());
-        self.dialogue.exchange(&mut bench.room);
-        if self.dialogue.end().is_none() {
-            desk.turn_to(self.peer);
-            self.dialogue.feed(
-                bench.alloc,
-                &self.unread.as_slice()[..cut],
-                &mut bench.withheld,
-                desk,
-            );
-        }
-        let left = self.unread.len() - cut;
-        self.unread.rotate_left(cut);
+    ) -> After
+        ensures { SeatSteps D.takes D.tells self.old.peer desk.old.desk desk.new.desk withheld.old withheld.new result self.old.dialogue self.new.dialogue }
+    {
+        self.filled = true;
+        let piece = first_piece(self.unread.as_slice());
+        let bytes = &self.unread.as_slice()[..piece.count];
+        let taken = take_lines(&mut self.dialogue, self.peer, bytes, withheld, desk);
+        let left = self.unread.len() - taken;
+        self.unread.rotate_left(taken);
         self.unread.truncate(left);
-        self.reply(bench, true)
+        self.ask(piece, taken)
+    }
+
+    /// Waits for what was taken of the piece to be released. At once where a list may have been asked for, or where there
+    /// was no room for more answers.
+    fn ask(&self, piece: Piece, taken: usize) -> After
+        ensures { IsAsking result }
+    {
+        if piece.lists || taken < piece.count {
+            After::AsksAtOnce
+        } else {
+            After::Asks
+        }
+    }
+
+    /// Tells its part of the answers that are released, and sends the replies.
+    pub(crate) fn tell(&mut self, bench: &mut Bench, released: &Released<'_, '_>) -> After
+        ensures { TellsOwn released.now self.old.dialogue self.new.dialogue }
+    {
+        if bench.make_room().is_ok() {
+            self.dialogue.exchange(&mut bench.room);
+        }
+        self.dialogue.tell(bench.alloc, released);
+        self.reply(bench)
     }
 
     /// Sends the replies. More may be there to be read at once.
-    fn reply(&mut self, bench: &mut Bench<'_>, more: bool) -> After {
+    fn reply(&mut self, bench: &mut Bench) -> After
+        ensures { Kept self.old.dialogue self.new.dialogue }
+    {
         if self.dialogue.end().is_some() {
             self.stage = Stage::Ending;
         }
@@ -304,7 +348,8 @@ impl Seat {
             return After::Goes;
         }
         self.dialogue.exchange(&mut bench.room);
-        if more || self.hung_up || self.stage != Stage::Serving || !self.unread.is_empty() {
+        let more = self.filled || !self.unread.is_empty();
+        if more || self.hung_up || self.stage != Stage::Serving {
             After::Goes
         } else {
             After::Waits
@@ -312,13 +357,17 @@ impl Seat {
     }
 
     /// Answers no more lines.
-    fn end(&mut self) -> After {
+    fn end(&mut self) -> After
+        ensures { self.new.dialogue ≡ self.old.dialogue }
+    {
         self.stage = Stage::Ending;
         After::Goes
     }
 
     /// Tells the peer that no more is written.
-    fn part(&mut self, now: Instant) -> After {
+    fn part(&mut self, now: Instant) -> After
+        ensures { self.new.dialogue ≡ self.old.dialogue }
+    {
         if self.was_idle {
             match self.connection.write(IDLE) {
                 Moved::Bytes(_) | Moved::Blocked => {}
@@ -331,7 +380,9 @@ impl Seat {
         After::Goes
     }
 
-    fn drain(&mut self, bench: &mut Bench<'_>) -> After {
+    fn drain(&mut self, bench: &mut Bench) -> After
+        ensures { self.new.dialogue ≡ self.old.dialogue }
+    {
         match self.connection.read(&mut bench.buffer) {
             Moved::Bytes(_) => After::Goes,
             Moved::Blocked => After::Waits,
@@ -358,6 +409,28 @@ impl Seat {
             _ => After::Waits,
         }
     }
+}
+
+/// Takes the lines of these bytes for this peer, where the session goes on, and tells how many of the bytes are done with.
+fn take_lines<'a, D: Desk<'a> + Authorisations>(
+    dialogue: &mut Dialogue,
+    peer: Peer,
+    bytes: &[u8],
+    withheld: &mut WithheldAnswers<'a>,
+    desk: &mut OwnDesk<D>,
+) -> usize
+    ensures within { result ≤ length bytes.now }
+    ensures steps { (after : TheAfter) → IsAsking after
+        → SeatSteps D.takes D.tells peer desk.old.desk desk.new.desk withheld.old withheld.new after dialogue.old dialogue.new }
+{
+    if dialogue.end().is_some() {
+        return bytes.len();
+    }
+    if dialogue.waiting() != 0 {
+        return 0;
+    }
+    desk.turn_to(peer);
+    dialogue.take(bytes, withheld, desk)
 }
 
 /// A connection that waited so long is closed behind this number of seconds.

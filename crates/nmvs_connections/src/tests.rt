@@ -31,10 +31,12 @@ impl<'a> Desk<'a> for Stranger {
     }
 }
 
-/// Feeds a session that goes on.
-fn feed(alloc: Global, dialogue: &mut Dialogue, more: &[u8]) {
-    if dialogue.end().is_none() {
-        dialogue.feed(alloc, more, &mut WithheldAnswers::new(), &mut Stranger);
+/// Has a session that goes on take these bytes, and tells how many it took.
+fn take(dialogue: &mut Dialogue, more: &[u8], withheld: &mut WithheldAnswers<'_>) -> usize {
+    if dialogue.end().is_none() && dialogue.waiting() == 0 {
+        dialogue.take(more, withheld, &mut Stranger)
+    } else {
+        0
     }
 }
 
@@ -49,10 +51,16 @@ fn send(dialogue: &mut Dialogue, count: usize) {
 fn dialogues_beside_each_other_are_answered_each(rt: HostRuntime) -> Result<(), Fail> {
     let alloc = rt.alloc();
     let (mut one, mut other) = (Dialogue::new(alloc, 9), Dialogue::new(alloc, 1));
-    feed(alloc, &mut one, b"ph1 STATUS 0950");
-    feed(alloc, &mut other, b"\n\n");
+    let mut withheld = WithheldAnswers::new();
+    let mut taken = [0; 3];
+    taken[0] = take(&mut one, b"ph1 STATUS 0950", &mut withheld);
+    taken[1] = take(&mut other, b"\n\n", &mut withheld);
+    taken[2] = take(&mut one, b"6000134352 SN1\nph1\nQUIT\nph1\n", &mut withheld);
+    assert_eq!(rt; taken, [15, 1, 24]);
     assert_eq!(rt; one.unsent(), b"".as_slice());
-    feed(alloc, &mut one, b"6000134352 SN1\nph1\nQUIT\nph1\n");
+    let (released, ()) = Stranger.release(&mut withheld);
+    other.tell(alloc, &released);
+    one.tell(alloc, &released);
     assert_eq!(rt;
         one.unsent(),
         b"FAULT NOBODY\nFAULT FIELDS\nBYE\n".as_slice()

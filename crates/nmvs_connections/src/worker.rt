@@ -1,16 +1,25 @@
 //! The loop of a worker.
+ghost use Rattle.std.specs.Prelude.{◌≡◌, ◌≢◌, ◌++◌, ◌∷◌, [], ℕ, Some, None};
+ghost use Rattle.std.specs.List.{Contains};
+ghost use Rattle.slab.specs.Slab.{get};
+ghost use Rattle.nmvs_connections.specs.declared.seat.Seat.{Seat as TheSeat};
+ghost use Rattle.nmvs_connections.specs.Turns.{EachGoes, IsAsking, TellsAll, TellsOwn, TellsWhereAsked, TurnOfOne, WorkerTurn};
+
 use crate::connection::Connection;
 use crate::hall::{Hall, Station, WAKE};
 use crate::seat::{After, Bench, Seat};
 use mio::event::Event;
 use mio::{Events, Registry};
-use nmvs_protocol::{Authorisations, Desk, OwnDesk};
+use nmvs_protocol::{Authorisations, Desk, OwnDesk, Released, WithheldAnswers};
 use slab::Slab;
 use std::alloc::{AllocError, Global};
 use std::rt::Clock;
 use std::sync::Wait;
 use std::time::{Duration, Instant};
 use std::{io, mem};
+
+#[cfg(test)]
+mod tests;
 
 /// How many seconds behind each other a worker looks for connections that waited too long (own).
 const TICK: u64 = 1;
@@ -33,6 +42,7 @@ pub fn serve<'a, R: Wait + Clock, D: Desk<'a> + Authorisations>(
         mut events,
     } = station;
     let mut bench = Bench::new(alloc, Instant::now(rt)?);
+    let mut withheld = WithheldAnswers::new();
     let mut floor = Floor::new(alloc, worker, bench.now);
     for _ in 0..u64::MAX {
         poll.poll(&mut events, floor.patience())?;
@@ -41,7 +51,7 @@ pub fn serve<'a, R: Wait + Clock, D: Desk<'a> + Authorisations>(
             floor.heed(rt, hall);
             floor.admit_all(rt, hall, poll.registry(), &bench);
         }
-        floor.take_turns(rt, hall, &mut bench, desk);
+        floor.take_turns(rt, hall, &mut bench, &mut withheld, desk);
         floor.grow_old(rt, hall, bench.now);
         if floor.closing && floor.seats.is_empty() {
             return Ok(());
@@ -58,6 +68,8 @@ struct Floor {
     seats: Slab<Seat>,
     turns: Vec<usize>,
     later: Vec<usize>,
+    /// Whose answers wait for the release.
+    asking: Vec<usize>,
     /// When those were looked for last that waited too long.
     looked: Instant,
     /// Whether no more sessions begin.
@@ -71,6 +83,7 @@ impl Floor {
             seats: Slab::new(alloc),
             turns: Vec::new(alloc),
             later: Vec::new(alloc),
+            asking: Vec::new(alloc),
             looked: now,
             closing: false,
         }
@@ -122,7 +135,7 @@ impl Floor {
     }
 
     /// Admits the connections that were dealt to the worker.
-    fn admit_all<R: Wait>(&mut self, rt: &R, hall: &Hall, registry: &Registry, bench: &Bench<'_>) {
+    fn admit_all<R: Wait>(&mut self, rt: &R, hall: &Hall, registry: &Registry, bench: &Bench) {
         for _ in 0..u64::MAX {
             let Some(connection) = hall.next_dealt(rt, self.worker) else {
                 return;
@@ -138,11 +151,12 @@ impl Floor {
         hall: &Hall,
         registry: &Registry,
         connection: Connection,
-        bench: &Bench<'_>,
+        bench: &Bench,
     ) -> io::Result<()> {
         let most = self.seats.len().saturating_add(1);
         self.turns.reserve(most)?;
         self.later.reserve(most)?;
+        self.asking.reserve(most)?;
         let mut seat = Seat::new(bench.alloc, connection, hall.proxy(), bench.now);
         seat.register(registry, self.seats.vacant_key())?;
         match self.seats.insert(seat) {
@@ -176,43 +190,164 @@ impl Floor {
         }
     }
 
-    /// Gives each connection whose turn it is its turn.
+    /// Gives each connection whose turn it is its turn. The answers of all of them are released together, as far as the
+    /// list of them has room and none shows a list.
     fn take_turns<'a, R: Wait, D: Desk<'a> + Authorisations>(
         &mut self,
         rt: &R,
         hall: &Hall,
-        bench: &mut Bench<'a>,
+        bench: &mut Bench,
+        withheld: &mut WithheldAnswers<'a>,
         desk: &mut OwnDesk<D>,
-    ) {
+    )
+        requires { withheld.old ≡ [] }
+        ensures none_withheld { withheld.new ≡ [] }
+        ensures turn { WorkerTurn D.takes D.tells D.releases D.moves desk.old.desk desk.new.desk self.old.seats self.new.seats }
+    {
         for index in 0..self.turns.len() {
             let Some(key) = self.turns.get(index).copied() else {
-                break;
+                continue;
             };
-            let after = match self.seats.get_mut(key) {
-                Some(seat) => {
-                    seat.queued = false;
-                    seat.take_turn(rt, hall, bench, desk)
-                }
-                None => After::Waits,
-            };
-            match after {
-                After::Goes => self.queue_later(key),
-                After::Waits => {}
-                After::Leaves => self.remove(rt, hall, key),
+            if !self.take_turn(rt, hall, key, bench, withheld, desk) {
+                continue;
             }
+            self.tell_all(rt, hall, bench, withheld, desk);
         }
+        self.tell_all(rt, hall, bench, withheld, desk);
         self.turns.clear();
         mem::swap(&mut self.turns, &mut self.later);
     }
 
-    fn queue_later(&mut self, key: usize) {
+    /// Gives a connection its turn, and tells whether what is withheld is released before another has its own.
+    fn take_turn<'a, R: Wait, D: Desk<'a> + Authorisations>(
+        &mut self,
+        rt: &R,
+        hall: &Hall,
+        key: usize,
+        bench: &mut Bench,
+        withheld: &mut WithheldAnswers<'a>,
+        desk: &mut OwnDesk<D>,
+    ) -> bool
+        ensures { TurnOfOne D.takes D.tells key desk.old.desk desk.new.desk withheld.old withheld.new self.old.asking.items self.new.asking.items self.old.seats self.new.seats }
+    {
+        let Some(seat) = self.seats.get_mut(key) else {
+            return false;
+        };
+        seat.queued = false;
+        let after = seat.take_turn(rt, hall, bench, withheld, desk);
+        self.settle(rt, hall, key, after);
+        after == After::AsksAtOnce
+    }
+
+    /// Does with a connection what becomes of it behind its turn.
+    fn settle<R: Wait>(&mut self, rt: &R, hall: &Hall, key: usize, after: After)
+        ensures asks { IsAsking after → (seat : TheSeat) → get self.new.seats key ≡ Some seat → Contains self.new.asking.items key }
+        ensures still { (other : ℕ) → Contains self.old.asking.items other → Contains self.new.asking.items other }
+        ensures seats { EachGoes (λ key talk talk'. talk' ≡ talk) self.old.seats self.new.seats }
+    {
+        match after {
+            After::Asks | After::AsksAtOnce => self.note_asking(rt, hall, key),
+            After::Goes | After::Waits | After::Leaves => self.go_on(rt, hall, key, after),
+        }
+    }
+
+    /// Has the desk release what is withheld, once for all connections that wait for it, and each of them tell its own.
+    /// Where nothing is withheld the desk is not asked.
+    fn tell_all<'a, R: Wait, D: Desk<'a> + Authorisations>(
+        &mut self,
+        rt: &R,
+        hall: &Hall,
+        bench: &mut Bench,
+        withheld: &mut WithheldAnswers<'a>,
+        desk: &mut OwnDesk<D>,
+    )
+        ensures none_withheld { withheld.new ≡ [] }
+        ensures none_asks { self.new.asking.items ≡ [] }
+        ensures tells { TellsAll D.releases D.moves desk.old.desk desk.new.desk withheld.old self.old.asking.items self.old.seats self.new.seats }
+    {
+        if withheld.len() == 0 {
+            self.tell_each(rt, hall, bench, &withheld.release());
+            return;
+        }
+        let (released, _evidence) = desk.release(withheld);
+        self.tell_each(rt, hall, bench, &released);
+        withheld.clear();
+    }
+
+    /// Has each connection that waits for it tell its own of what was released.
+    fn tell_each<R: Wait>(
+        &mut self,
+        rt: &R,
+        hall: &Hall,
+        bench: &mut Bench,
+        released: &Released<'_, '_>,
+    )
+        ensures none_asks { self.new.asking.items ≡ [] }
+        ensures tells { EachGoes (TellsWhereAsked released.now self.old.asking.items) self.old.seats self.new.seats }
+    {
+        while let Some(key) = self.asking.pop() {
+            self.tell(rt, hall, key, bench, released);
+        }
+    }
+
+    /// Has a connection tell its own of what was released.
+    fn tell<R: Wait>(
+        &mut self,
+        rt: &R,
+        hall: &Hall,
+        key: usize,
+        bench: &mut Bench,
+        released: &Released<'_, '_>,
+    )
+        ensures asking { self.new.asking ≡ self.old.asking }
+        ensures tells { EachGoes (λ other talk talk'. (other ≡ key → TellsOwn released.now talk talk') × (other ≢ key → talk' ≡ talk)) self.old.seats self.new.seats }
+    {
+        let Some(seat) = self.seats.get_mut(key) else {
+            return;
+        };
+        let after = seat.tell(bench, released);
+        self.go_on(rt, hall, key, after);
+    }
+
+    /// Does with a connection what becomes of it where it waits for no release.
+    fn go_on<R: Wait>(&mut self, rt: &R, hall: &Hall, key: usize, after: After)
+        ensures asking { self.new.asking ≡ self.old.asking }
+        ensures seats { EachGoes (λ key talk talk'. talk' ≡ talk) self.old.seats self.new.seats }
+    {
+        match after {
+            After::Goes => self.queue_later(key),
+            After::Leaves => self.remove(rt, hall, key),
+            After::Waits | After::Asks | After::AsksAtOnce => {}
+        }
+    }
+
+    /// Notes that a connection waits for the release. Where it can't be noted, it is closed.
+    fn note_asking<R: Wait>(&mut self, rt: &R, hall: &Hall, key: usize)
+        ensures asks { (seat : TheSeat) → get self.new.seats key ≡ Some seat → self.new.asking.items ≡ self.old.asking.items ++ key ∷ [] }
+        ensures still { (other : ℕ) → Contains self.old.asking.items other → Contains self.new.asking.items other }
+        ensures seats { EachGoes (λ key talk talk'. talk' ≡ talk) self.old.seats self.new.seats }
+    {
+        // Room was made when the connection was admitted.
+        if self.asking.push(key).is_err() {
+            self.remove(rt, hall, key);
+        }
+    }
+
+    fn queue_later(&mut self, key: usize)
+        ensures asking { self.new.asking ≡ self.old.asking }
+        ensures seats { EachGoes (λ key talk talk'. talk' ≡ talk) self.old.seats self.new.seats }
+    {
         if let Some(seat) = self.seats.get_mut(key) {
             seat.queued = self.later.push(key).is_ok();
         }
     }
 
     /// Closes a connection.
-    fn remove<R: Wait>(&mut self, rt: &R, hall: &Hall, key: usize) {
+    fn remove<R: Wait>(&mut self, rt: &R, hall: &Hall, key: usize)
+        ensures asking { self.new.asking ≡ self.old.asking }
+        ensures gone { get self.new.seats key ≡ None }
+        ensures seats { EachGoes (λ key talk talk'. talk' ≡ talk) self.old.seats self.new.seats }
+    {
         if self.seats.try_remove(key).is_some() {
             hall.leave(rt, self.worker);
         }
@@ -231,8 +366,8 @@ impl Floor {
             };
             match after {
                 After::Goes => self.queue(key),
-                After::Waits => {}
                 After::Leaves => self.remove(rt, hall, key),
+                After::Waits | After::Asks | After::AsksAtOnce => {}
             }
         }
     }

@@ -104,6 +104,7 @@ module _ (tables : ℕ → HistoryId) (count : ℕ) (tokens : List TokenView) (r
                 ∙ append_assoc own.places.gone (places_in index receipts) (r.place ∷ []) ∙ ap (λ l. own.places.gone ++ l) (sym (places_here index receipts r served.shard));
           };
           lawful = subst (λ t. IsLawful t) (sym a.seen) (IsLawful-push a.trail r.entry a.next.lawful a.next.reply);
+          in_range = served.in_range;
           placed = subst (λ t. IsPlaced count index t) (sym a.seen) (All-push P a.trail r.entry (subst Q served.shard a.next.placed) fits);
         }
 
@@ -121,6 +122,7 @@ module _ (tables : ℕ → HistoryId) (count : ℕ) (tokens : List TokenView) (r
                   is = other.places.is ∙ ap (λ l. other.places.gone ++ l) (sym (places_else i receipts r (λ q. apart (sym q ∙ served.shard))));
                 };
                 lawful = other.lawful;
+                in_range = other.in_range;
                 placed = other.placed;
               })
         ]
@@ -190,6 +192,7 @@ module _ (tables : ℕ → HistoryId) (count : ℕ) (tokens : List TokenView) (r
                 table = ap (λ (k : TokenView). k.table) token ∙ own.table;
                 places = subst (λ l. AreOwn index receipts l) (sym (ap (λ (k : TokenView). k.places) token)) own.places;
                 lawful = look.lawful;
+                in_range = look.in_range;
                 placed = look.placed;
               }))
           | inr e ↦ is.each i k e.1

@@ -1,10 +1,11 @@
 -- What is true of a clerk's receipts and sights, and of a new clerk.
 use Rattle.std.proofs.Common.{◌≡◌, ◌<◌, ◌∙◌, ℕ, zero, suc, List, [], ◌∷◌, refl, sym, ap, subst, arith, get_or, append-nil}
-use Rattle.std.specs.Prelude.{Some, slice_get}
+use Rattle.std.specs.Prelude.{IsTrue, Some, slice_get}
 use Rattle.std.proofs.lemmas.List.Elements.{All-nil}
 use Rattle.std.proofs.lemmas.Option.{slice_get-get_or}
 use Rattle.nmvs_history.specs.Views.{HistoryId, TokenView}
 use Rattle.nmvs_rules.specs.declared.entry.Entry.{Entry}
+use Rattle.nmvs_rules.specs.Entries.{is_entry, AreEntries}
 use Rattle.nmvs_rules.specs.Questions.{code_of}
 use Rattle.nmvs_rules.specs.Rules.{IsLawful}
 use Rattle.nmvs_desk.specs.declared.ask.Receipt.{Receipt}
@@ -29,12 +30,12 @@ all_sights P none [] each i = none i
 all_sights P none (t ∷ ts) each zero = each zero t refl
 all_sights P none (t ∷ ts) each (suc i) = all_sights (λ j. P (suc j)) (λ j. none (suc j)) ts (λ j k h. each (suc j) k h) i
 
--- what a clerk has seen of a shard is lawful, and belongs to the shard
+-- what a clerk has seen of a shard is lawful, in grammars and ranges, and belongs to the shard
 pub lawful : (tables : ℕ → HistoryId) (count : ℕ) (tokens : List TokenView) (receipts : List Receipt) → IsClerk tables count tokens receipts
-    → (i : ℕ) → IsLawful (row (sights_of tokens) i) × IsPlaced count i (row (sights_of tokens) i)
+    → (i : ℕ) → IsLawful (row (sights_of tokens) i) × AreEntries (row (sights_of tokens) i) × IsPlaced count i (row (sights_of tokens) i)
 lawful tables count tokens receipts is =
-    all_sights (λ i t. IsLawful t × IsPlaced count i t) (λ i. (tt, All-nil (λ (e : Entry). shard_of count (code_of e.put.question) ≡ i))) tokens
-    (λ i k at. ((is.each i k at).lawful, (is.each i k at).placed))
+    all_sights (λ i t. IsLawful t × AreEntries t × IsPlaced count i t) (λ i. (tt, All-nil (λ (e : Entry). IsTrue (is_entry e)), All-nil (λ (e : Entry). shard_of count (code_of e.put.question) ≡ i))) tokens
+    (λ i k at. ((is.each i k at).lawful, (is.each i k at).in_range, (is.each i k at).placed))
 
 -- and its receipts' places are among its own
 pub own : (tables : ℕ → HistoryId) (count : ℕ) (tokens : List TokenView) (receipts : List Receipt) → IsClerk tables count tokens receipts
@@ -50,7 +51,7 @@ let_go tables count tokens receipts is = record {
   shards = is.shards;
   each = λ i k at.
       let it = is.each i k at in
-      record { table = it.table; places = record { gone = k.places; is = sym (append-nil k.places) }; lawful = it.lawful; placed = it.placed };
+      record { table = it.table; places = record { gone = k.places; is = sym (append-nil k.places) }; lawful = it.lawful; in_range = it.in_range; placed = it.placed };
   stand = λ n r there. absurd cc;
   rising = λ k m p q less at_k at_m same. absurd cc;
 }
@@ -66,6 +67,7 @@ new_clerk tables count opening tokens new = record {
         table = ap (λ (k : TokenView). k.table) it.is;
         places = record { gone = []; is = ap (λ (k : TokenView). k.places) it.is };
         lawful = subst (λ t. IsLawful t) (sym seen) it.lawful;
+        in_range = subst (λ t. AreEntries t) (sym seen) it.in_range;
         placed = subst (λ t. IsPlaced count i t) (sym seen) it.placed;
       };
   stand = λ n r there. absurd cc;

@@ -6,6 +6,7 @@ use Rattle.std.proofs.lemmas.List.{length-map}
 use Rattle.std.proofs.lemmas.Option.{slice_get-get_or, get_or_from_slice_get, slice_get-map, slice_get_within}
 use Rattle.nmvs_history.specs.Views.{HistoryId, KeeperView, TokenView, no_table}
 use Rattle.nmvs_rules.specs.declared.entry.Entry.{Entry}
+use Rattle.nmvs_rules.specs.Entries.{AreEntries}
 use Rattle.nmvs_rules.specs.Rules.{IsLawful}
 use Rattle.nmvs_desk.specs.Views.{LockedView, IsNumbered}
 use Rattle.nmvs_desk.specs.Opening.{table_of, AreLocked, IsFresh, IsOpened, IsNewToken, AreNew}
@@ -118,5 +119,6 @@ new_more tables count opening n tokens k h so_far there is kept = record {
     now = record {
       is = is ∙ (λ j. record { table = tables (there.1 j); seen = there.0 j; places = [] });
       lawful = subst (λ t. IsLawful t) there.0 kept.lawful;
+      in_range = subst (λ t. AreEntries t) there.0 kept.in_range;
       placed = subst (λ (p : ℕ × List Entry). IsPlaced count p.0 p.1) (λ j. (there.1 j, there.0 j)) kept.placed;
     }

@@ -1,11 +1,12 @@
 -- The trails of shards that are taken out of their locks.
 use Rattle.std.proofs.Common.{◌≡◌, ◌⊎◌, inl, inr, ◌<◌, ◌≤◌, ◌∙◌, ℕ, zero, suc, Bool, true, false, ◌||◌, List, [], ◌∷◌, refl, sym, ap, subst, arith, map, length, get_or}
-use Rattle.std.specs.Prelude.{All, slice_index}
+use Rattle.std.specs.Prelude.{All, IsTrue, slice_index}
 use Rattle.std.specs.List.{list_any}
 use Rattle.std.proofs.lemmas.List.{length-map, get_or-map}
 use Rattle.std.proofs.lemmas.List.Elements.{All-nil, All-head, All-tail}
 use Rattle.nmvs_identifier.specs.ProductCode.{ProductCode}
 use Rattle.nmvs_rules.specs.declared.entry.Entry.{Entry}
+use Rattle.nmvs_rules.specs.Entries.{is_entry, AreEntries}
 use Rattle.nmvs_rules.specs.Questions.{code_of}
 use Rattle.nmvs_rules.specs.Rules.{IsLawful}
 use Rattle.nmvs_rules.specs.Trail.{has_code}
@@ -33,15 +34,15 @@ row_of count (h ∷ locked) kept (suc i) =
     ]
 
 kept_row : (count : ℕ) (locked : List LockedView) → All (IsKept count) locked → IsNumbered (numbers_of locked) → (i : ℕ)
-    → IsLawful (row (trails_of locked) i) × IsPlaced count i (row (trails_of locked) i)
+    → IsLawful (row (trails_of locked) i) × AreEntries (row (trails_of locked) i) × IsPlaced count i (row (trails_of locked) i)
 kept_row count locked kept numbered i =
-    let P : List Entry → Type 0 = λ t. IsLawful t × IsPlaced count i t in
+    let P : List Entry → Type 0 = λ t. IsLawful t × AreEntries t × IsPlaced count i t in
     elim (row_of count locked kept i) [
-      | inl e ↦ subst P (sym e) (tt, All-nil (λ (x : Entry). shard_of count (code_of x.put.question) ≡ i))
+      | inl e ↦ subst P (sym e) (tt, All-nil (λ (x : Entry). IsTrue (is_entry x)), All-nil (λ (x : Entry). shard_of count (code_of x.put.question) ≡ i))
       | inr e ↦
           let index : e.0.index ≡ i = sym e.3 ∙ numbered i (omega (arith, e.2, length-map locked (λ (h : LockedView). h.index))) in
           let Q : ℕ → Type 0 = λ n. IsPlaced count n e.0.trail in
-          subst P (sym e.4) (e.1.lawful, subst Q index e.1.placed)
+          subst P (sym e.4) (e.1.lawful, e.1.in_range, subst Q index e.1.placed)
     ]
 
 -- a product code that stands in a shard's trail belongs to the shard
@@ -63,9 +64,10 @@ are_trails count locked many kept numbered =
     record {
       shards = length-map locked (λ (h : LockedView). h.trail) ∙ many;
       lawful = λ i. (rows i).0;
-      placed = λ i. (rows i).1;
+      in_range = λ i. (rows i).1;
+      placed = λ i. (rows i).2;
       whole = λ t merging. IsLawful-merged (row ts) t merging
-          (λ c i j a b. sym (code_placed count i c (row ts i) (rows i).1 a) ∙ code_placed count j c (row ts j) (rows j).1 b)
+          (λ c i j a b. sym (code_placed count i c (row ts i) (rows i).2 a) ∙ code_placed count j c (row ts j) (rows j).2 b)
           (λ i. (rows i).0);
     }
 

@@ -29,6 +29,7 @@ pub record Steps (old : LockedView) (was : TokenView) (put : Put) (r : Receipt) 
   pub trail : new ≡ record old { trail = old.trail ++ r.entry ∷ [] }
   pub begins : IsPrefix was.seen old.trail
   pub in_range : AreEntries old.trail
+  pub in_range_then : AreEntries new.trail
   pub token : now ≡ record was { seen = old.trail ++ r.entry ∷ []; places = was.places ++ r.place ∷ [] }
 
 -- on this trail of the receipt's shard the receipt's entry is the next one: the trail is lawful, its entries are in their
@@ -54,17 +55,21 @@ pub record OwnsOneMore (before after : List (List ℕ)) (r : Receipt) : Type 0 w
   pub here : row after r.shard ≡ row before r.shard ++ r.place ∷ []
   pub others : (i : ℕ) → i ≢ r.shard → row after i ≡ row before i
 
--- the receipt is of this question, in the shard of this number, and there is such a trail for the token
+-- the receipt is of this question, in the shard of this number, and there is such a trail for the token; what it has seen then is
+-- in grammars and ranges
 pub record IsServed (count index : ℕ) (put : Put) (was now : TokenView) (r : Receipt) (shown : List Entry) : Type 0 where
   pub shard : r.shard ≡ index
   pub asked : r.entry.put ≡ put
   pub answered : IsAnswered count was.seen now.seen r shown
+  pub in_range : AreEntries now.seen
   pub token : now ≡ record was { seen = now.seen; places = was.places ++ r.place ∷ [] }
 
--- what was seen of a shard, of `count`, begins what is seen now: a lawful trail whose entries belong to the shard
+-- what was seen of a shard, of `count`, begins what is seen now: a lawful trail whose entries belong to the shard and are in
+-- their grammars and ranges
 pub record IsShown (count index : ℕ) (before after : List Entry) : Type 0 where
   pub begins : IsPrefix before after
   pub lawful : IsLawful after
+  pub in_range : AreEntries after
   pub placed : IsPlaced count index after
 
 -- by the answer of the directory a question by this user was not put; or it is for want of memory, and the directory

@@ -2,17 +2,19 @@
 use Rattle.std.specs.Prelude.{ℕ, ◌≡◌, List, Some, length}
 use Rattle.std.specs.List.{slice_get}
 use Rattle.nmvs_history.specs.Views.{HistoryId, TokenView}
+use Rattle.nmvs_rules.specs.Entries.{AreEntries}
 use Rattle.nmvs_rules.specs.Rules.{IsLawful}
 use Rattle.nmvs_desk.specs.declared.ask.Receipt.{Receipt}
 use Rattle.nmvs_desk.specs.Placing.{IsPlaced}
 use Rattle.nmvs_desk.specs.Settlement.{AreOwn, Rises}
 
 -- the token of a shard, of `count`, is of the shard's history, owns the places of the receipts that name the shard, and of
--- those that were let go, and has seen a lawful trail whose entries belong to it
+-- those that were let go, and has seen a lawful trail whose entries belong to it and are in their grammars and ranges
 pub record IsTokenOf (tables : ℕ → HistoryId) (count : ℕ) (receipts : List Receipt) (shard : ℕ) (k : TokenView) : Type 0 where
   pub table : k.table ≡ tables shard
   pub places : AreOwn shard receipts k.places
   pub lawful : IsLawful k.seen
+  pub in_range : AreEntries k.seen
   pub placed : IsPlaced count shard k.seen
 
 -- the receipt's entry stands at its place in what the token of its shard has seen

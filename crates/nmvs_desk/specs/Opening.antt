@@ -3,6 +3,7 @@ use Rattle.std.specs.Prelude.{ℕ, ◌≡◌, ◌+◌, ◌<◌, Some, List, [], 
 use Rattle.std.specs.List.{slice_index_or}
 use Rattle.nmvs_history.specs.Views.{HistoryId, KeeperView, TokenView, no_table}
 use Rattle.nmvs_rules.specs.declared.entry.Entry.{Entry}
+use Rattle.nmvs_rules.specs.Entries.{AreEntries}
 use Rattle.nmvs_rules.specs.Rules.{IsLawful}
 use Rattle.nmvs_desk.specs.Placing.{IsPlaced}
 use Rattle.nmvs_desk.specs.Settlement.{row}
@@ -29,6 +30,7 @@ IsOpened clerks h = h.parts + clerks ≡ 8
 pub record IsNewToken (tables : ℕ → HistoryId) (count : ℕ) (opening : ℕ → List Entry) (shard : ℕ) (k : TokenView) : Type 0 where
   pub is : k ≡ record { table = tables shard; seen = opening shard; places = [] }
   pub lawful : IsLawful (opening shard)
+  pub in_range : AreEntries (opening shard)
   pub placed : IsPlaced count shard (opening shard)
 
 -- the tokens of the first n shards, of `count`

@@ -3,6 +3,7 @@ ghost use Rattle.std.specs.Prelude.{◌≡◌, ◌≢◌, ◌<◌, ◌⊎◌, �
 ghost use mathlib.Core.List.{IsPrefix};
 ghost use Rattle.nmvs_directory.specs.Window.{Reads};
 ghost use Rattle.nmvs_directory.specs.declared.look.Look.TheVariants.{Known};
+ghost use Rattle.nmvs_rules.specs.Entries.{AreEntries};
 ghost use Rattle.nmvs_rules.specs.Questions.{code_of};
 ghost use Rattle.nmvs_rules.specs.Rules.{IsLawful};
 ghost use Rattle.nmvs_desk.specs.declared.ask.Receipt.{Receipt};
@@ -91,14 +92,15 @@ impl<'a, J: Naming, H: Histories, B: Allocator> Clerk<'a, J, H, B> {
     }
 
     /// The receipts in hand, oldest first. At any time each receipt's entry stands at its place in what the clerk has seen of
-    /// its shard, which is lawful, the place is the clerk's own, and the places rise in each shard.
+    /// its shard, which is lawful and whose entries are in their grammars and ranges, the place is the clerk's own, and the
+    /// places rise in each shard.
     pub fn receipts(&self) -> &[Receipt]
         ensures receipts { result.now ≡ self.now.receipts }
         ensures stand { (n : ℕ) (r : Receipt) → slice_get result.now n ≡ Some r
             → at self.now.sights r.shard r.place ≡ Some r.entry }
         ensures own { (i : ℕ) → i < H.shards → AreOwn i result.now (row self.now.places i) }
         ensures rising { Rises result.now }
-        ensures lawful { (i : ℕ) → IsLawful (row self.now.sights i) × IsPlaced H.shards i (row self.now.sights i) }
+        ensures lawful { (i : ℕ) → IsLawful (row self.now.sights i) × AreEntries (row self.now.sights i) × IsPlaced H.shards i (row self.now.sights i) }
     {
         self.receipts.as_slice()
     }

@@ -1,2 +1,2 @@
 mod Starting
-mod Telling
+pub mod Telling

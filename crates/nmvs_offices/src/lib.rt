@@ -4,9 +4,10 @@
 //! - A [`ShardTrail`] is the trail of one shard of a repository, as its journal sees it.
 //! - [`Offices`] are opened over the store of each shard, as a [`Start`] tells what it has. A clerk waits there (`wait`), and
 //!   lets its withheld answers be told (`release`): each that is told rests on entries whose lines were confirmed. How far they
-//!   reach it has noted ([`Reach`]).
+//!   reach it has noted ([`Reach`]). An [`Alarm`] is told of a file that failed.
 #![tactic(auto)]
 
+mod alarm;
 mod offices;
 mod reach;
 mod releasing;
@@ -15,6 +16,7 @@ mod start;
 #[cfg(test)]
 mod tests;
 
+pub use alarm::Alarm;
 pub use offices::Offices;
 pub use reach::Reach;
 pub use releasing::Evidence;

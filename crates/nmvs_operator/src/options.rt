@@ -46,6 +46,8 @@ pub struct Options {
     pub import: Option<String>,
     /// Path that the export is written to at the end.
     pub export: Option<String>,
+    /// Path of the folder of the journals.
+    pub journal: Option<String>,
     /// How many shards the repository has, 1 to 8.
     pub shards: usize,
     /// How many workers accept connections, 1 to 8.
@@ -164,7 +166,24 @@ fn with_files<'a>(alloc: Global, command: Command<'a>) -> Result<Command<'a>, Al
         "FILE",
         "Where the audit trail is written at the end, one line an entry; what the file had before is lost",
     );
-    command.arg(users)?.arg(import)?.arg(export)
+    let journal = option(
+        alloc,
+        "journal",
+        "DIR",
+        "Folder of the journals: no answer is told before its entry is on the disk there, and each start goes on from them",
+    );
+    let config = option(
+        alloc,
+        "config",
+        "FILE",
+        "File of options, TOML with a key an option, as shards = 2: what the command line says goes before it",
+    );
+    command
+        .arg(users)?
+        .arg(import)?
+        .arg(export)?
+        .arg(journal)?
+        .arg(config)
 }
 
 /// With the options that are counts of what is there at once.
@@ -297,11 +316,18 @@ fn options_of(alloc: Global, matches: &ArgMatches<'_>) -> Result<Options, Option
     let Some(users) = matches.get_str("users") else {
         return Err(unreadable(alloc));
     };
+    if matches.contains_id("journal") && matches.get_flag("stdin") {
+        return Err(refused(
+            alloc,
+            "error: '--journal <DIR>' is for connections, and can't be used with '--stdin'\n",
+        ));
+    }
     let rate = within(alloc, matches, "rate", 0, MOST_RATE)?;
     Ok(Options {
         users: String::from_str(alloc, users)?,
         import: path_of(alloc, matches, "import")?,
         export: path_of(alloc, matches, "export")?,
+        journal: path_of(alloc, matches, "journal")?,
         shards: within(alloc, matches, "shards", 1, MOST_SHARDS)? as usize,
         workers: within(alloc, matches, "workers", 1, MOST_WORKERS)? as usize,
         sessions: within(alloc, matches, "sessions", 0, MOST_SESSIONS)?,

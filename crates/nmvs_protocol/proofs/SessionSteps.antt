@@ -1,11 +1,13 @@
 -- How a session goes on by one line, by the answers that are released together, and by one read.
-use Rattle.std.proofs.Common.{◌≡◌, ◌≢◌, ◌==◌, not, ◌||◌, if◌then◌else◌, ◌+◌, ◌<◌, ◌≤◌, ◌⊎◌, ℕ, Bool, true, false, List, [], ◌∷◌, ◌++◌, All, IsTrue, IfNone, Option, Some, None, length, map, refl, sym, ap, ◌∙◌, subst, inl, inr, arith}
-use Rattle.std.proofs.lemmas.List.{flat_map_more, append-nil, length-append, length_push, append_assoc}
-use Rattle.std.proofs.lemmas.List.Elements.{All-append, All-cons, All-nil, All-head, All-tail}
+use Rattle.std.proofs.Common.{◌≡◌, ◌≢◌, ◌==◌, not, ◌||◌, if◌then◌else◌, ◌+◌, ◌-◌, take, drop, ◌<◌, ◌≤◌, ℕ, Bool, true, false, List, [], ◌∷◌, ◌++◌, All, IsTrue, IfNone, Option, Some, None, length, map, refl, sym, ap, ◌∙◌, subst, inl, inr, arith}
+use Rattle.std.proofs.lemmas.List.{flat_map_more, append-nil, length-append, length_push, append_assoc, take_at, drop_at, take_all, take-append-drop, length-drop}
+use Rattle.std.proofs.lemmas.Bool.{ne_eqb}
+use Rattle.std.proofs.Math.Seq.{drop-length}
+use Rattle.std.proofs.lemmas.List.Elements.{All-append, All-cons, All-nil, All-tail}
 use Rattle.std.proofs.lemmas.Grind.{flat_map-append}
 use Rattle.nmvs_stream.specs.Source.{Told}
 use Rattle.nmvs_stream.specs.Sink.{Taken, Flushes, FailsToTake}
-use Rattle.nmvs_stream.specs.Delivery.{Writes, Delivers, DeliversPart}
+use Rattle.nmvs_stream.specs.Delivery.{DeliversPart}
 use Rattle.nmvs_protocol.specs.declared.ask.Ask.{Ask}
 use Rattle.nmvs_protocol.specs.declared.ask.Line.TheVariants as lines
 use Rattle.nmvs_protocol.specs.declared.answer.Answer.{Answer}
@@ -15,14 +17,16 @@ use Rattle.nmvs_protocol.specs.declared.withheld.Withheld.{Withheld}
 use Rattle.nmvs_protocol.specs.declared.limits.Limits.{Limits}
 use Rattle.nmvs_protocol.specs.declared.limits.TheConstants.{READ_SIZE}
 use Rattle.nmvs_protocol.specs.declared.session.Session.{Session as TheSession}
+use Rattle.nmvs_protocol.specs.declared.session.Taking.{Taking}
 use Rattle.nmvs_protocol.specs.declared.end.End.{End}
 use Rattle.nmvs_protocol.specs.declared.end.End.TheVariants as ends
 use Rattle.nmvs_protocol.specs.Lines.{line_text}
 use Rattle.nmvs_protocol.specs.Texts.{text, takes_memory}
-use Rattle.nmvs_stream.specs.InputLines.{input_lines, unfinished_line, lines_after, rest_after}
-use Rattle.nmvs_stream.proofs.LinesOfPieces.{lines_after-append}
-use Rattle.nmvs_protocol.specs.Session.{TakesLine, TakesLines, StaysOrMoves, answer_of, is_kept, is_of_repository, told_where, AnswersLine, AnswersLines, AreReleased, StaysOrTurns, NoQuit, NoQuitBeforeLast, EndsWithQuit, AnswersAll, DeliversAll, BreaksOff, LacksLast, Closes, Session, session_text, is_input_end, is_read_fault, is_write_fault}
-use Rattle.nmvs_protocol.specs.Progress.{AreShortButLast, TellsWithheld, Gathers, Delivered, Tells, Stands, AnsweredSo, Fed, Served, has_write_fault, kept_part}
+use Rattle.nmvs_stream.specs.InputLines.{HasNoLf, input_lines, unfinished_line, lines_after, rest_after}
+use Rattle.nmvs_stream.proofs.LinesOfPieces.{lines_after-append, rest_after-append, no_line, line_cut, left_cut}
+use Rattle.nmvs_protocol.proofs.KeptLines.{kept_more}
+use Rattle.nmvs_protocol.specs.Session.{TakesLine, TakesLines, answer_of, is_kept, is_of_repository, told_where, AnswersLines, AreReleased, StaysOrTurns, NoQuit, NoQuitBeforeLast, EndsWithQuit, DeliversAll, BreaksOff, Closes, Session, session_text, is_input_end, is_read_fault}
+use Rattle.nmvs_protocol.specs.Progress.{AreShortButLast, TellsWithheld, Halts, Took, Gathers, Delivered, Tells, TellsFirst, Stands, Fed, Served, has_write_fault, kept_part}
 
 -- one line more that is not QUIT
 pub no_quit_more : (xs : List (List ℕ)) (x : List ℕ) → NoQuit xs → x ≢ line_text lines.Quit → NoQuit (xs ++ x ∷ [])
@@ -121,9 +125,9 @@ breaks_after old mid new before more a b = record {
 }
 
 -- writing breaks off at an answer, after those that were told, or there is no memory for its text
-pub tells_until : (end : End) (old mid new : Taken) (before : List Answer) (a : Answer) (later : List Answer) → AreShortButLast (before ++ a ∷ later) → Gathers old mid before
-    → Tells (Some end) mid new (a ∷ []) → Tells (Some end) old new (before ++ a ∷ later)
-tells_until ends.WriteFault old mid new before a later short g t = breaks_after old mid new before (a ∷ later) g (record {
+pub tells_until : (end : End) (old mid new : Taken) (before : List Answer) (a : Answer) (later : List Answer) → Gathers old mid before
+    → Tells (Some end) mid new (a ∷ []) → TellsFirst (Some end) old new (before ++ a ∷ later)
+tells_until ends.WriteFault old mid new before a later g t = breaks_after old mid new before (a ∷ later) g (record {
   written = t.written;
   unwritten = t.unwritten ++ session_text later;
   cut = ap (λ (u : List ℕ). u ++ session_text later) (sym (append-nil (text a)) ∙ t.cut) ∙ append_assoc t.written t.unwritten (session_text later);
@@ -131,13 +135,13 @@ tells_until ends.WriteFault old mid new before a later short g t = breaks_after 
   flushed = t.flushed;
   failed = t.failed;
 })
-tells_until ends.Memory old mid new before a later short g t =
-    let alone = one_left t.before t.last a (sym t.these) in
-    let memory = subst (λ (b : Answer). IsTrue (takes_memory b)) alone.1 t.memory in record {
+tells_until ends.Memory old mid new before a later g t =
+    let alone = one_left t.before t.last a (sym t.these) in record {
       before = before;
       last = a;
-      these = ap (λ (r : List Answer). before ++ a ∷ r) (none_behind before a later short memory);
-      memory = memory;
+      later = later;
+      these = refl;
+      memory = subst (λ (b : Answer). IsTrue (takes_memory b)) alone.1 t.memory;
       told = subst (λ (r : List Answer). Gathers old new r) (ap (λ (r : List Answer). before ++ r) alone.0 ∙ append-nil before) (gathers_more old mid new before t.before g t.told);
     }
   where
@@ -145,10 +149,27 @@ tells_until ends.Memory old mid new before a later short g t =
     one_left [] x y e = (refl, cc e)
     one_left (z ∷ []) x y e = absurd (cc e)
     one_left (z ∷ w ∷ xs) x y e = absurd (cc e)
-tells_until ends.Quit old mid new before a later short g t = absurd t
-tells_until ends.Limit old mid new before a later short g t = absurd t
-tells_until ends.Ended old mid new before a later short g t = absurd t
-tells_until ends.ReadFault old mid new before a later short g t = absurd t
+tells_until ends.Quit old mid new before a later g t = absurd t
+tells_until ends.Limit old mid new before a later g t = absurd t
+tells_until ends.Ended old mid new before a later g t = absurd t
+tells_until ends.ReadFault old mid new before a later g t = absurd t
+
+-- behind an answer that there is no memory for there is none, where none but the last takes memory
+pub tells_short : (end : Option End) (sink sink' : Taken) (said : List Answer) → AreShortButLast said → TellsFirst end sink sink' said → Tells end sink sink' said
+tells_short (Some ends.Memory) sink sink' said short t =
+    let last = none_behind t.before t.last t.later (subst AreShortButLast t.these short) t.memory in record {
+      before = t.before;
+      last = t.last;
+      these = t.these ∙ ap (λ (r : List Answer). t.before ++ t.last ∷ r) last;
+      memory = t.memory;
+      told = t.told;
+    }
+tells_short (None) sink sink' said short t = t
+tells_short (Some ends.WriteFault) sink sink' said short t = t
+tells_short (Some ends.Quit) sink sink' said short t = absurd t
+tells_short (Some ends.Limit) sink sink' said short t = absurd t
+tells_short (Some ends.Ended) sink sink' said short t = absurd t
+tells_short (Some ends.ReadFault) sink sink' said short t = absurd t
 
 -- what is told of answers after others
 tells_more : (end : Option End) (old mid new : Taken) (before more : List Answer) → Gathers old mid before → Tells end mid new more → Tells end old new (before ++ more)
@@ -244,6 +265,37 @@ flush_fails (Some ends.WriteFault) limit count answered left said old mid new no
 flush_fails (Some ends.Ended) limit count answered left said old mid new none f s = absurd s
 flush_fails (Some ends.ReadFault) limit count answered left said old mid new none f s = absurd s
 
+-- bytes that are cut once more
+pub whole_cut : (n : ℕ) (bytes rest : List ℕ) {all : List ℕ} → bytes ++ rest ≡ all → (bytes ++ take n rest) ++ drop n rest ≡ all
+whole_cut n bytes rest whole = append_assoc bytes (take n rest) (drop n rest) ∙ ap (λ (t : List ℕ). bytes ++ t) (take-append-drop n rest) ∙ whole
+
+pub whole_left : (n : ℕ) (bytes rest : List ℕ) {all : List ℕ} → bytes ++ rest ≡ all → (bytes ++ take n rest) ++ take (length rest - n) (drop n rest) ≡ all
+whole_left n bytes rest whole =
+    let left = length-drop n rest in
+    ap (λ (t : List ℕ). (bytes ++ take n rest) ++ t) (take_all (length rest - n) (drop n rest) (omega (arith, left))) ∙ whole_cut n bytes rest whole
+
+-- what is behind a line
+pub behind_line : (bytes tail behind : List ℕ) {rest all : List ℕ} → bytes ++ rest ≡ all → rest ≡ tail ++ 10 ∷ behind → (bytes ++ (tail ++ 10 ∷ [])) ++ behind ≡ all
+behind_line bytes tail behind whole cut =
+    append_assoc bytes (tail ++ 10 ∷ []) behind ∙ ap (λ (t : List ℕ). bytes ++ t) (append_assoc tail (10 ∷ []) behind ∙ sym cut) ∙ whole
+
+pub some_bytes : (bytes tail : List ℕ) → bytes ++ (tail ++ 10 ∷ []) ≡ [] → ⊥
+some_bytes bytes tail none =
+    let n = ap (λ (l : List ℕ). length l) none in
+    let m = length-append bytes (tail ++ 10 ∷ []) in
+    let k = length-append tail (10 ∷ []) in
+    omega (arith, n, m, k)
+
+-- the bytes that are left tell how many were taken
+pub taken_part : {bytes left all : List ℕ} → bytes ++ left ≡ all → (take (length all - length left) all ≡ bytes) × (drop (length all - length left) all ≡ left)
+taken_part {bytes} {left} {all} whole =
+    let n = length-append bytes left in
+    let m = ap (λ (l : List ℕ). length l) whole in
+    let is : length all - length left ≡ length bytes = omega arith in (
+      (λ i. take (is i) (sym whole i)) ∙ take_at bytes left (length bytes) refl,
+      (λ i. drop (is i) (sym whole i)) ∙ drop_at bytes left (length bytes) refl,
+    )
+
 module _ {D : Type 0} (takes : D → Ask → Withheld → D → Type 0) where
   taken_more : (old : D) (xs : List (List ℕ)) (withheld : List Withheld) (now new : D) (x : List ℕ) (w : Withheld)
       → TakesLines takes old xs withheld now → TakesLine takes now x w new → TakesLines takes old (xs ++ x ∷ []) (withheld ++ w ∷ []) new
@@ -251,6 +303,144 @@ module _ {D : Type 0} (takes : D → Ask → Withheld → D → Type 0) where
   taken_more old (y ∷ ys) (v ∷ withheld) now new x w t one = (t.0, t.1, taken_more t.0 ys withheld now new x w t.2 one)
   taken_more old [] (v ∷ withheld) now new x w t one = absurd t
   taken_more old (y ∷ ys) [] now new x w t one = absurd t
+
+  -- how far a session has taken bytes: the answers to the lines of the first are withheld
+  pub record TakesOn (session : TheSession) (first : D) (withheld : List Withheld) (begun bytes : List ℕ) (session' : TheSession) (now : D) (withheld' : List Withheld) : Type 0 where
+    pub held : List Withheld
+    pub behind : withheld' ≡ withheld ++ held
+    pub answers : TakesLines takes first (lines_after begun bytes) held now
+    pub line : session'.line ≡ kept_part (rest_after begun bytes)
+    pub counted : session'.answered ≡ session.answered + length held
+    pub limit : session'.limit ≡ session.limit
+    pub within : session'.answered ≤ session.limit
+    pub no_quit : NoQuit (lines_after begun bytes)
+    pub short : All IsShort held
+
+  pub takes_none : (session : TheSession) (first : D) (withheld : List Withheld) (begun : List ℕ) → session.line ≡ kept_part begun → session.answered ≤ session.limit
+      → TakesOn session first withheld begun [] session first withheld
+  unfolding lines_after rest_after
+  takes_none session first withheld begun line within = record {
+    held = [];
+    behind = sym (append-nil withheld);
+    answers = refl;
+    line = line;
+    counted = omega arith;
+    limit = refl;
+    within = within;
+    no_quit = All-nil _;
+    short = All-nil _;
+  }
+
+  -- the bytes up to an LF end one line
+  pub one_line : (begun bytes tail : List ℕ) → HasNoLf tail
+      → (lines_after begun (bytes ++ (tail ++ 10 ∷ [])) ≡ lines_after begun bytes ++ (rest_after begun bytes ++ tail) ∷ []) × (rest_after begun (bytes ++ (tail ++ 10 ∷ [])) ≡ [])
+  unfolding lines_after rest_after
+  one_line begun bytes tail none = (
+    lines_after-append begun bytes (tail ++ 10 ∷ []) ∙ ap (λ (t : List (List ℕ)). lines_after begun bytes ++ t) (line_cut (rest_after begun bytes) tail [] refl none),
+    rest_after-append begun bytes (tail ++ 10 ∷ []) ∙ left_cut (rest_after begun bytes) tail [] refl none,
+  )
+
+  -- one line more is taken
+  pub took_line : {session session' session'' : TheSession} {first now new : D} {withheld withheld' withheld'' : List Withheld} {begun bytes : List ℕ} {end : Option End} (tail left : List ℕ) (w : Withheld)
+      → (k : TakesOn session first withheld begun bytes session' now withheld') → session'.answered < session'.limit → HasNoLf tail → TakesLine takes now (rest_after begun bytes ++ tail) w new
+      → session''.answered ≡ session'.answered + 1 → session''.limit ≡ session'.limit → session''.line ≡ [] → withheld'' ≡ withheld' ++ w ∷ []
+      → Halts end session.limit session''.answered (lines_after begun bytes ++ (rest_after begun bytes ++ tail) ∷ []) [] left
+      → Took takes session first withheld begun (bytes ++ (tail ++ 10 ∷ [])) left session'' new withheld'' end
+  took_line {session} {session'} {session''} {first} {now} {new} {withheld} {withheld'} {withheld''} {begun} {bytes} {end} tail left w k lt none one next same line more halts =
+      let n = length_push k.held w in
+      let cut = one_line begun bytes tail none in
+      let counted = k.counted in
+      let limit = k.limit in record {
+        held = k.held ++ w ∷ [];
+        behind = more ∙ ap (λ (ws : List Withheld). ws ++ w ∷ []) k.behind ∙ append_assoc withheld k.held (w ∷ []);
+        answers = subst (λ (xs : List (List ℕ)). TakesLines takes first xs (k.held ++ w ∷ []) new) (sym cut.0) (taken_more first (lines_after begun bytes) k.held now new (rest_after begun bytes ++ tail) w k.answers one);
+        line = line ∙ ap kept_part (sym cut.1);
+        counted = omega arith;
+        limit = same ∙ k.limit;
+        within = omega arith;
+        short = short_but_last k.held w k.short;
+        halts = subst (λ (r : List ℕ). Halts end session.limit session''.answered (lines_after begun (bytes ++ (tail ++ 10 ∷ []))) r left) (sym cut.1)
+            (subst (λ (xs : List (List ℕ)). Halts end session.limit session''.answered xs [] left) (sym cut.0) halts);
+      }
+
+  -- and the answer is short
+  pub takes_line : {session session' session'' : TheSession} {first now new : D} {withheld withheld' withheld'' : List Withheld} {begun bytes : List ℕ} (tail : List ℕ) (w : Withheld)
+      → (k : TakesOn session first withheld begun bytes session' now withheld') → session'.answered < session'.limit → HasNoLf tail → TakesLine takes now (rest_after begun bytes ++ tail) w new
+      → session''.answered ≡ session'.answered + 1 → session''.limit ≡ session'.limit → session''.line ≡ [] → withheld'' ≡ withheld' ++ w ∷ []
+      → rest_after begun bytes ++ tail ≢ line_text lines.Quit → IsShort w
+      → TakesOn session first withheld begun (bytes ++ (tail ++ 10 ∷ [])) session'' new withheld''
+  unfolding took_line
+  takes_line {begun = begun} {bytes = bytes} tail w k lt none one next same line more other short =
+      let t = took_line {end = None} tail [] w k lt none one next same line more (no_quit_more (lines_after begun bytes) (rest_after begun bytes ++ tail) k.no_quit other) in record {
+        held = t.held;
+        behind = t.behind;
+        answers = t.answers;
+        line = t.line;
+        counted = t.counted;
+        limit = t.limit;
+        within = t.within;
+        no_quit = t.halts;
+        short = All-append IsShort k.held (w ∷ []) k.short (All-cons IsShort w [] short (All-nil IsShort));
+      }
+
+  -- no line more is taken
+  pub took_all : {session session' : TheSession} {first now : D} {withheld withheld' : List Withheld} {begun bytes : List ℕ} (left : List ℕ) (end : Option End)
+      → (k : TakesOn session first withheld begun bytes session' now withheld') → Halts end session.limit session'.answered (lines_after begun bytes) (rest_after begun bytes) left
+      → Took takes session first withheld begun bytes left session' now withheld' end
+  took_all left end k halts = record {
+    held = k.held;
+    behind = k.behind;
+    answers = k.answers;
+    line = k.line;
+    counted = k.counted;
+    limit = k.limit;
+    within = k.within;
+    short = all_short k.held k.short;
+    halts = halts;
+  }
+
+  -- told by how many bytes were taken
+  pub took_until : {session session' : TheSession} {first now : D} {withheld withheld' : List Withheld} {begun bytes left all : List ℕ} {end : Option End} (result : Taking)
+      → bytes ++ left ≡ all → result ≡ record { bytes = length all - length left; end = end } → Took takes session first withheld begun bytes left session' now withheld' end
+      → Took takes session first withheld begun (take result.bytes all) (drop result.bytes all) session' now withheld' result.end
+  took_until {session} {session'} {first} {now} {withheld} {withheld'} {begun} {bytes} {left} {all} {end} result whole is t =
+      let part = taken_part {bytes = bytes} {left = left} whole in
+      subst (λ (r : Taking). Took takes session first withheld begun (take r.bytes all) (drop r.bytes all) session' now withheld' r.end) (sym is)
+      (subst (λ (l : List ℕ). Took takes session first withheld begun (take (length all - length left) all) l session' now withheld' end) (sym part.1)
+      (subst (λ (b : List ℕ). Took takes session first withheld begun b left session' now withheld' end) (sym part.0) t))
+
+  -- none was withheld before
+  pub took_first : {session session' : TheSession} {first now : D} {withheld withheld' : List Withheld} {begun bytes left : List ℕ} {end : Option End}
+      → withheld ≡ [] → Took takes session first withheld begun bytes left session' now withheld' end → Took takes session first [] begun bytes left session' now withheld' end
+  took_first {session} {session'} {first} {now} {withheld} {withheld'} {begun} {bytes} {left} {end} none t =
+      subst (λ (ws : List Withheld). Took takes session first ws begun bytes left session' now withheld' end) none t
+
+  -- all bytes are taken
+  pub took_whole : {session session' : TheSession} {first now : D} {withheld withheld' : List Withheld} {begun bytes : List ℕ} {end : Option End} (all : List ℕ)
+      → bytes ≡ all → Took takes session first withheld begun bytes [] session' now withheld' end
+      → Took takes session first withheld begun (take (length all) all) (drop (length all) all) session' now withheld' end
+  took_whole {session} {session'} {first} {now} {withheld} {withheld'} {begun} {bytes} {end} all whole t =
+      subst (λ (l : List ℕ). Took takes session first withheld begun (take (length all) all) l session' now withheld' end) (sym (drop-length all))
+      (subst (λ (b : List ℕ). Took takes session first withheld begun b [] session' now withheld' end) (whole ∙ sym (take_all (length all) all (omega arith))) t)
+
+  -- what is left ends no line
+  pub took_rest : {session session' session'' : TheSession} {first now : D} {withheld withheld' : List Withheld} {begun bytes : List ℕ} (rest : List ℕ)
+      → (k : TakesOn session first withheld begun bytes session' now withheld') → HasNoLf rest → session''.line ≡ kept_part (session'.line ++ rest)
+      → session''.answered ≡ session'.answered → session''.limit ≡ session'.limit → Took takes session first withheld begun (bytes ++ rest) [] session'' now withheld' None
+  took_rest {session} {session'} {session''} {first} {now} {withheld} {withheld'} {begun} {bytes} rest k none line same limit =
+      let ends = no_line (rest_after begun bytes) rest none in
+      let these : lines_after begun (bytes ++ rest) ≡ lines_after begun bytes = lines_after-append begun bytes rest ∙ ap (λ (t : List (List ℕ)). lines_after begun bytes ++ t) ends.0 ∙ append-nil (lines_after begun bytes) in
+      let counted = k.counted in record {
+        held = k.held;
+        behind = k.behind;
+        answers = subst (λ (xs : List (List ℕ)). TakesLines takes first xs k.held now) (sym these) k.answers;
+        line = line ∙ ap (λ (t : List ℕ). kept_part (t ++ rest)) k.line ∙ kept_more (rest_after begun bytes) rest ∙ ap kept_part (sym (rest_after-append begun bytes rest ∙ ends.1));
+        counted = same ∙ k.counted;
+        limit = limit ∙ k.limit;
+        within = omega (arith, k.within, same);
+        short = all_short k.held k.short;
+        halts = subst NoQuit (sym these) k.no_quit;
+      }
 
   module _ {E : Type 0} (releases : D → E → Withheld → Answer → Type 0) (moves : D → D → Type 0) where
     answered_length : (old : D) (xs : List (List ℕ)) (said : List Answer) (new : D) → AnswersLines takes releases moves old xs said new → length said ≡ length xs
@@ -290,52 +480,6 @@ module _ {D : Type 0} (takes : D → Ask → Withheld → D → Type 0) where
     answers_both old [] ys (s ∷ said) more mid new a b = absurd a
     answers_both old (x ∷ xs) ys [] more mid new a b = absurd a
 
-    -- lines of which the first are told, and the answers to the others are withheld
-    pub record Holds (session : TheSession) (first : D) (start : Taken) (now : D) (sink : Taken) (count : ℕ) (lines : List (List ℕ)) (withheld : List Withheld) : Type 0 where
-      pub told : List (List ℕ)
-      pub waiting : List (List ℕ)
-      pub these : lines ≡ told ++ waiting
-      pub said : List Answer
-      pub mid : D
-      pub answers : AnswersLines takes releases moves first told said mid
-      pub taken : TakesLines takes mid waiting withheld now
-      pub counted : count ≡ session.answered + length said + length withheld
-      pub within : count ≤ session.limit
-      pub written : Gathers start sink said
-
-    pub holds_none : (session : TheSession) (first : D) (start : Taken) → session.answered ≤ session.limit → Holds session first start first start session.answered [] []
-    holds_none session first start within = record {
-      told = [];
-      waiting = [];
-      these = refl;
-      said = [];
-      mid = first;
-      answers = refl;
-      taken = refl;
-      counted = omega arith;
-      within = within;
-      written = record { bytes = sym (append-nil start.bytes); flushed = λ none. refl; failed = refl };
-    }
-
-    pub holds_more : {session : TheSession} {first : D} {start : Taken} {now : D} {sink : Taken} {count count' : ℕ} {lines : List (List ℕ)} {withheld withheld' : List Withheld} (x : List ℕ) (w : Withheld) (new : D)
-        → Holds session first start now sink count lines withheld → count < session.limit → TakesLine takes now x w new → count' ≡ count + 1 → withheld' ≡ withheld ++ w ∷ []
-        → Holds session first start new sink count' (lines ++ x ∷ []) withheld'
-    holds_more {session} {now = now} {withheld = withheld} {withheld' = withheld'} x w new k lt one next more =
-        let n = length_push withheld w in
-        let m = ap (λ (l : List Withheld). length l) more in
-        let counted = k.counted in record {
-          told = k.told;
-          waiting = k.waiting ++ x ∷ [];
-          these = ap (λ (t : List (List ℕ)). t ++ x ∷ []) k.these ∙ append_assoc k.told k.waiting (x ∷ []);
-          said = k.said;
-          mid = k.mid;
-          answers = k.answers;
-          taken = subst (λ (l : List Withheld). TakesLines takes k.mid (k.waiting ++ x ∷ []) l new) (sym more) (taken_more k.mid k.waiting withheld now new x w k.taken one);
-          counted = omega arith;
-          within = omega arith;
-          written = k.written;
-        }
-
     -- lines whose answers were all released, and told so
     pub record AllTold (session : TheSession) (first : D) (start : Taken) (now : D) (sink : Taken) (count : ℕ) (lines : List (List ℕ)) (end : Option End) : Type 0 where
       pub said : List Answer
@@ -348,31 +492,40 @@ module _ {D : Type 0} (takes : D → Ask → Withheld → D → Type 0) where
     none_waiting mid now [] t = (refl, t)
     none_waiting mid now (x ∷ xs) t = absurd t
 
-    pub tells : {session : TheSession} {first : D} {start : Taken} {now new : D} {sink sink' : Taken} {count : ℕ} {lines : List (List ℕ)} (withheld : List Withheld) (end : Option End)
-        → Holds session first start now sink count lines withheld → AreShortButLast (map answer_of withheld) → TellsWithheld releases moves withheld now new end sink sink'
-        → AllTold session first start new sink' count lines end
-    tells {session} {first} {start} {now} {new} {sink} {sink'} {lines = lines} [] end k short told =
-        let none = none_waiting k.mid now k.waiting k.taken in
+    -- no line was fed
+    pub all_told_none : (session : TheSession) (first : D) (start : Taken) → session.answered ≤ session.limit → AllTold session first start first start session.answered [] None
+    all_told_none session first start within = record {
+      said = [];
+      answers = refl;
+      counted = omega arith;
+      within = within;
+      told = record { bytes = sym (append-nil start.bytes); flushed = λ none. refl; failed = refl };
+    }
+
+    -- lines more, whose answers were withheld, and are told so
+    tells : {session : TheSession} {first : D} {start : Taken} {now new : D} {sink sink' : Taken} {count count' : ℕ} {lines : List (List ℕ)} (at : D) (xs : List (List ℕ)) (withheld : List Withheld) (end : Option End)
+        → AllTold session first start now sink count lines None → TakesLines takes now xs withheld at → count' ≡ count + length withheld → count' ≤ session.limit
+        → AreShortButLast (map answer_of withheld) → TellsWithheld releases moves withheld at new end sink sink' → AllTold session first start new sink' count' (lines ++ xs) end
+    tells {session} {first} {start} {now} {new} {sink} {sink'} {lines = lines} at xs [] end k taken more within short told =
+        let none = none_waiting now at xs taken in
         let counted = k.counted in record {
           said = k.said;
-          answers = subst (λ (d : D). AnswersLines takes releases moves first lines k.said d) (sym (told.0 ∙ none.1))
-              (subst (λ (xs : List (List ℕ)). AnswersLines takes releases moves first xs k.said k.mid) (sym (append-nil k.told) ∙ ap (λ (xs : List (List ℕ)). k.told ++ xs) (sym none.0) ∙ sym k.these) k.answers);
+          answers = subst (λ (d : D). AnswersLines takes releases moves first (lines ++ xs) k.said d) (sym (told.0 ∙ none.1))
+              (subst (λ (ys : List (List ℕ)). AnswersLines takes releases moves first ys k.said now) (sym (append-nil lines) ∙ ap (λ (ys : List (List ℕ)). lines ++ ys) (sym none.0)) k.answers);
           counted = omega arith;
-          within = k.within;
-          told = subst (λ (e : Option End). Tells e start sink' k.said) (sym told.1) (subst (λ (s : Taken). Gathers start s k.said) (sym told.2) k.written);
+          within = within;
+          told = subst (λ (e : Option End). Tells e start sink' k.said) (sym told.1) (subst (λ (s : Taken). Gathers start s k.said) (sym told.2) k.told);
         }
-    tells {session} {first} {start} {now} {new} {sink} {sink'} {lines = lines} (w ∷ withheld) end k short told =
+    tells {session} {first} {start} {now} {new} {sink} {sink'} {lines = lines} at xs (w ∷ withheld) end k taken more within short told =
         let said = told.2 in
-        let n = released_length (releases now told.1) (w ∷ withheld) said told.3 in
+        let n = released_length (releases at told.1) (w ∷ withheld) said told.3 in
         let m = length-append k.said said in
-        let counted = k.counted in
-        let all = answers_both first k.told k.waiting k.said said k.mid new k.answers (released_lines told.1 k.mid k.waiting w withheld said now new k.taken told.3 told.0) in
-        record {
+        let counted = k.counted in record {
           said = k.said ++ said;
-          answers = subst (λ (xs : List (List ℕ)). AnswersLines takes releases moves first xs (k.said ++ said) new) (sym k.these) all;
+          answers = answers_both first lines xs k.said said now new k.answers (released_lines told.1 now xs w withheld said at new taken told.3 told.0);
           counted = omega arith;
-          within = k.within;
-          told = tells_more end start sink sink' k.said said k.written (told.4 short);
+          within = within;
+          told = tells_more end start sink sink' k.said said k.told (told.4 short);
         }
 
     -- what is told of some that were withheld
@@ -381,22 +534,6 @@ module _ {D : Type 0} (takes : D → Ask → Withheld → D → Type 0) where
     told_withheld [] old new evidence said end sink sink' some m r told = absurd (cc some)
     told_withheld (w ∷ withheld) old new evidence said end sink sink' some m r told =
         (m, evidence, said, r, λ short. told (released_short (releases old evidence) (w ∷ withheld) said r short))
-
-    -- none is withheld, once all are told
-    pub holds_told : {session : TheSession} {first : D} {start : Taken} {now : D} {sink : Taken} {count : ℕ} {lines : List (List ℕ)} → AllTold session first start now sink count lines (None)
-        → Holds session first start now sink count lines []
-    holds_told {now = now} {lines = lines} a = let counted = a.counted in record {
-      told = lines;
-      waiting = [];
-      these = sym (append-nil lines);
-      said = a.said;
-      mid = now;
-      answers = a.answers;
-      taken = refl;
-      counted = omega arith;
-      within = a.within;
-      written = a.told;
-    }
 
     -- all lines are told so, and those behind them are left
     answered_so : (session session' : TheSession) (first : D) (start : Taken) (now : D) (sink : Taken) (lines left all : List (List ℕ)) (said : List Answer) (end : Option End)
@@ -438,16 +575,115 @@ module _ {D : Type 0} (takes : D → Ask → Withheld → D → Type 0) where
     fed_whole {lines = lines} all None a these limit quit = fed_all [] all None a (append-nil lines ∙ these) limit refl (record { all = refl; no_quit = quit }, a.told)
     fed_whole {lines = lines} all (Some end) a these limit quit = fed_broken [] all end a (append-nil lines ∙ these) limit (inl quit)
 
-    -- how far the bytes that were fed are taken: so many lines were, one is begun, and these bytes are left
-    pub record Ahead (session : TheSession) (first : D) (start : Taken) (now : D) (sink : Taken) (count : ℕ) (begun rest : List ℕ) (withheld : List Withheld) (lines : List (List ℕ)) (unfinished : List ℕ) : Type 0 where
-      pub taken : List (List ℕ)
-      pub line : List ℕ
-      pub keeps : begun ≡ kept_part line
-      pub holds : Holds session first start now sink count taken withheld
-      pub no_quit : NoQuit taken
-      pub short : All IsShort withheld
-      pub ahead : taken ++ lines_after line rest ≡ lines
-      pub left : rest_after line rest ≡ unfinished
+    no_quit_both : (xs ys : List (List ℕ)) → NoQuit xs → NoQuit ys → NoQuit (xs ++ ys)
+    no_quit_both xs ys a b = All-append (λ (y : List ℕ). y ≢ line_text lines.Quit) xs ys a b
+
+    ends_both : (xs ys : List (List ℕ)) → NoQuit xs → EndsWithQuit ys → EndsWithQuit (xs ++ ys)
+    ends_both xs ys a b = record {
+      before = xs ++ b.before;
+      these = ap (λ (t : List (List ℕ)). xs ++ t) b.these ∙ sym (append_assoc xs b.before (line_text lines.Quit ∷ []));
+      no_quit = no_quit_both xs b.before a b.no_quit;
+    }
+
+    -- the lines that the first bytes complete are told so, and the session stands behind these bytes
+    pub record Ahead (session : TheSession) (first : D) (start : Taken) (now : D) (sink : Taken) (session' : TheSession) (begun bytes : List ℕ) : Type 0 where
+      pub told : AllTold session first start now sink session'.answered (lines_after begun bytes) None
+      pub no_quit : NoQuit (lines_after begun bytes)
+      pub line : session'.line ≡ kept_part (rest_after begun bytes)
+      pub limit : session'.limit ≡ session.limit
+
+    pub ahead_none : (session : TheSession) (first : D) (start : Taken) (begun : List ℕ) → session.answered ≤ session.limit → session.line ≡ kept_part begun → Ahead session first start first start session begun []
+    unfolding lines_after rest_after
+    ahead_none session first start begun within line = record { told = all_told_none session first start within; no_quit = All-nil _; line = line; limit = refl }
+
+    -- what the next bytes complete is taken, and told so
+    pub told_on : {session session' session'' : TheSession} {first : D} {start : Taken} {now at new : D} {sink sink' : Taken} {begun bytes : List ℕ} {withheld : List Withheld} {halt : Option End} (more left : List ℕ) (end : Option End)
+        → (a : Ahead session first start now sink session' begun bytes) → Took takes session' now [] (rest_after begun bytes) more left session'' at withheld halt
+        → TellsWithheld releases moves withheld at new end sink sink' → AllTold session first start new sink' session''.answered (lines_after begun (bytes ++ more)) end
+    told_on {session} {session'} {session''} {first} {start} {now} {at} {new} {sink} {sink'} {begun} {bytes} more left end a t told =
+        subst (λ (ys : List (List ℕ)). AllTold session first start new sink' session''.answered ys end) (sym (lines_after-append begun bytes more))
+        (tells at (lines_after (rest_after begun bytes) more) t.held end a.told t.answers t.counted (omega (arith, t.within, a.limit)) t.short
+        (subst (λ (ws : List Withheld). TellsWithheld releases moves ws at new end sink sink') t.behind told))
+
+    no_quit_on : (begun bytes more : List ℕ) → NoQuit (lines_after begun bytes) → NoQuit (lines_after (rest_after begun bytes) more) → NoQuit (lines_after begun (bytes ++ more))
+    no_quit_on begun bytes more a b = subst NoQuit (sym (lines_after-append begun bytes more)) (no_quit_both (lines_after begun bytes) (lines_after (rest_after begun bytes) more) a b)
+
+    ends_on : (begun bytes more : List ℕ) → NoQuit (lines_after begun bytes) → EndsWithQuit (lines_after (rest_after begun bytes) more) → EndsWithQuit (lines_after begun (bytes ++ more))
+    ends_on begun bytes more a b = subst EndsWithQuit (sym (lines_after-append begun bytes more)) (ends_both (lines_after begun bytes) (lines_after (rest_after begun bytes) more) a b)
+
+    last_on : (halt : Option End) (limit count : ℕ) (begun bytes more left : List ℕ) → NoQuit (lines_after begun bytes)
+        → Halts halt limit count (lines_after (rest_after begun bytes) more) (rest_after (rest_after begun bytes) more) left → NoQuitBeforeLast (lines_after begun (bytes ++ more))
+    last_on (None) limit count begun bytes more left a h = inl (no_quit_on begun bytes more a h)
+    last_on (Some ends.Quit) limit count begun bytes more left a h = inr (ends_on begun bytes more a h)
+    last_on (Some ends.Limit) limit count begun bytes more left a h = inl (no_quit_on begun bytes more a h.0)
+    last_on (Some ends.WriteFault) limit count begun bytes more left a h = absurd h
+    last_on (Some ends.Memory) limit count begun bytes more left a h = absurd h
+    last_on (Some ends.Ended) limit count begun bytes more left a h = absurd h
+    last_on (Some ends.ReadFault) limit count begun bytes more left a h = absurd h
+
+    pub ahead_more : {session session' session'' : TheSession} {first : D} {start : Taken} {now at new : D} {sink sink' : Taken} {begun bytes : List ℕ} {withheld : List Withheld} {halt : Option End} (more left : List ℕ)
+        → (a : Ahead session first start now sink session' begun bytes) → Took takes session' now [] (rest_after begun bytes) more left session'' at withheld halt
+        → halt ≡ None → TellsWithheld releases moves withheld at new None sink sink' → Ahead session first start new sink' session'' begun (bytes ++ more)
+    ahead_more {session' = session'} {session'' = session''} {begun = begun} {bytes = bytes} more left a t goes told = record {
+      told = told_on more left None a t told;
+      no_quit = no_quit_on begun bytes more a.no_quit
+          (subst (λ (h : Option End). Halts h session'.limit session''.answered (lines_after (rest_after begun bytes) more) (rest_after (rest_after begun bytes) more) left) goes t.halts);
+      line = t.line ∙ ap kept_part (sym (rest_after-append begun bytes more));
+      limit = t.limit ∙ a.limit;
+    }
+
+    -- the lines that are left
+    behind : (begun bytes more left all : List ℕ) → (bytes ++ more) ++ left ≡ all → lines_after begun (bytes ++ more) ++ lines_after (rest_after (rest_after begun bytes) more) left ≡ lines_after begun all
+    behind begun bytes more left all whole =
+        ap (λ (t : List ℕ). lines_after begun (bytes ++ more) ++ lines_after t left) (sym (rest_after-append begun bytes more)) ∙ sym (lines_after-append begun (bytes ++ more) left) ∙ ap (lines_after begun) whole
+
+    -- the session ends with what was taken last: writing broke off, or there was no memory; ..
+    pub feed_broken : {session session' session'' : TheSession} {first : D} {start : Taken} {now at new : D} {sink sink' : Taken} {begun bytes : List ℕ} {withheld : List Withheld} {halt : Option End} (more left all : List ℕ) (end : End)
+        → (a : Ahead session first start now sink session' begun bytes) → Took takes session' now [] (rest_after begun bytes) more left session'' at withheld halt
+        → TellsWithheld releases moves withheld at new (Some end) sink sink' → (bytes ++ more) ++ left ≡ all
+        → Fed takes releases moves session first start (lines_after begun all) session'' new sink' (Some end)
+    feed_broken {session = session} {session'' = session''} {begun = begun} {bytes = bytes} {halt = halt} more left all end a t told whole =
+        fed_broken (lines_after (rest_after (rest_after begun bytes) more) left) (lines_after begun all) end (told_on more left (Some end) a t told) (behind begun bytes more left all whole) (t.limit ∙ a.limit)
+        (last_on halt _ session''.answered begun bytes more left a.no_quit t.halts)
+
+    -- .. or the taking told its end
+    halted : {session session' : TheSession} {first : D} {start : Taken} {now : D} {sink sink' : Taken} {begun bytes : List ℕ} {new : D} (session'' : TheSession) (more left : List ℕ) (halt : End)
+        → (a : Ahead session first start now sink session' begun bytes) → (told : AllTold session first start new sink' session''.answered (lines_after begun (bytes ++ more)) None)
+        → Halts (Some halt) session'.limit session''.answered (lines_after (rest_after begun bytes) more) (rest_after (rest_after begun bytes) more) left
+        → (has_write_fault (Some halt) ≡ false)
+        × Stands (Some halt) (Gathers start sink') session.limit session''.answered (lines_after begun (bytes ++ more)) (lines_after (rest_after (rest_after begun bytes) more) left) told.said start sink'
+    halted {begun = begun} {bytes = bytes} session'' more left ends.Quit a told h = (refl, (ends_on begun bytes more a.no_quit h, told.told))
+    halted {begun = begun} {bytes = bytes} session'' more left ends.Limit a told h =
+        (refl, (no_quit_on begun bytes more a.no_quit h.0, told.told, record { reached = h.1.reached ∙ a.limit; more = h.1.more }))
+    halted session'' more left ends.WriteFault a told h = absurd h
+    halted session'' more left ends.Memory a told h = absurd h
+    halted session'' more left ends.Ended a told h = absurd h
+    halted session'' more left ends.ReadFault a told h = absurd h
+
+    pub feed_halted : {session session' session'' : TheSession} {first : D} {start : Taken} {now at new : D} {sink sink' : Taken} {begun bytes : List ℕ} {withheld : List Withheld} {end : Option End} (more left all : List ℕ) (halt : End)
+        → (a : Ahead session first start now sink session' begun bytes) → Took takes session' now [] (rest_after begun bytes) more left session'' at withheld end
+        → end ≡ Some halt → TellsWithheld releases moves withheld at new None sink sink' → (bytes ++ more) ++ left ≡ all
+        → Fed takes releases moves session first start (lines_after begun all) session'' new sink' (Some halt)
+    feed_halted {session' = session'} {session'' = session''} {begun = begun} {bytes = bytes} more left all halt a t ends_so told whole =
+        let told_so = told_on more left None a t told in
+        let so = halted session'' more left halt a told_so
+        (subst (λ (h : Option End). Halts h session'.limit session''.answered (lines_after (rest_after begun bytes) more) (rest_after (rest_after begun bytes) more) left) ends_so t.halts) in
+        fed_all (lines_after (rest_after (rest_after begun bytes) more) left) (lines_after begun all) (Some halt) told_so (behind begun bytes more left all whole) (t.limit ∙ a.limit) so.0 so.1
+
+    no_rest : (xs : List ℕ) → (length xs == 0) ≡ true → xs ≡ []
+    no_rest [] none = refl
+    no_rest (x ∷ xs) none = let some = ne_eqb (length (x ∷ xs)) 0 (λ z. absurd (omega (arith, z))) in absurd (cc (none, some))
+
+    -- all bytes are told of
+    pub feed_all : {session session' : TheSession} {first : D} {start : Taken} {now : D} {sink : Taken} {bytes : List ℕ} (fed rest all : List ℕ)
+        → (a : Ahead session first start now sink session' (unfinished_line fed) bytes) → bytes ++ rest ≡ all → (length rest == 0) ≡ true
+        → Fed takes releases moves session first start (lines_after (unfinished_line fed) all) session' now sink None
+        × (session'.line ≡ kept_part (unfinished_line (fed ++ all)))
+    feed_all {session} {session'} {first} {start} {now} {sink} {bytes} fed rest all a whole none =
+        let is : bytes ≡ all = sym (append-nil bytes) ∙ ap (λ (t : List ℕ). bytes ++ t) (sym (no_rest rest none)) ∙ whole in (
+          fed_whole (lines_after (unfinished_line fed) all) None a.told (ap (lines_after (unfinished_line fed)) is) a.limit a.no_quit,
+          a.line ∙ ap (λ (t : List ℕ). kept_part (rest_after (unfinished_line fed) t)) is ∙ ap kept_part (sym (rest_after-append [] fed all)),
+        )
 
     -- what was fed is flushed
     pub served : {session session' : TheSession} {first now : D} {start mid new : Taken} {lines : List (List ℕ)} (end : Option End) → has_write_fault end ≡ false → Flushes mid new
@@ -530,9 +766,6 @@ module _ {D : Type 0} (takes : D → Ask → Withheld → D → Type 0) where
       flushed = λ some. b.flushed;
     }
 
-    no_quit_both : (xs ys : List (List ℕ)) → NoQuit xs → NoQuit ys → NoQuit (xs ++ ys)
-    no_quit_both xs ys a b = All-append (λ (y : List ℕ). y ≢ line_text lines.Quit) xs ys a b
-
     -- the lines of one read more
     pub so_far_more : {limit : ℕ} {first now new : D} {start sink sink' : Taken} {session session' : TheSession} {input : List ℕ} (chunk : List ℕ) → SoFar limit first start now sink session input
         → Served takes releases moves session now sink (lines_after (unfinished_line input) chunk) session' new sink' None → session'.line ≡ kept_part (unfinished_line (input ++ chunk))
@@ -553,13 +786,6 @@ module _ {D : Type 0} (takes : D → Ask → Withheld → D → Type 0) where
           sound = h.sound a.sound;
           begun = begun;
         }
-
-    ends_both : (xs ys : List (List ℕ)) → NoQuit xs → EndsWithQuit ys → EndsWithQuit (xs ++ ys)
-    ends_both xs ys a b = record {
-      before = xs ++ b.before;
-      these = ap (λ (t : List (List ℕ)). xs ++ t) b.these ∙ sym (append_assoc xs b.before (line_text lines.Quit ∷ []));
-      no_quit = no_quit_both xs b.before a b.no_quit;
-    }
 
     before_last_both : (xs ys : List (List ℕ)) → NoQuit xs → NoQuitBeforeLast ys → NoQuitBeforeLast (xs ++ ys)
     before_last_both xs ys a (inl b) = inl (no_quit_both xs ys a b)

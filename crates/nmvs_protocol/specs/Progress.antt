@@ -1,5 +1,5 @@
 -- How a session stands between its lines and between its reads (own).
-use Rattle.std.specs.Prelude.{◌≡◌, ◌≤◌, ◌<◌, ◌+◌, ◌⊎◌, ℕ, Bool, true, false, List, [], ◌∷◌, ◌++◌, length, map, take, Option, Some, None}
+use Rattle.std.specs.Prelude.{◌≡◌, ◌≤◌, ◌<◌, ◌+◌, ℕ, Bool, false, List, [], ◌∷◌, ◌++◌, length, map, take, Option, Some, None, IsTrue}
 use Rattle.nmvs_stream.specs.Sink.{Taken}
 use Rattle.nmvs_stream.specs.Delivery.{Writes, Delivers, DeliversPart}
 use Rattle.nmvs_protocol.specs.declared.ask.Ask.{Ask}
@@ -9,7 +9,8 @@ use Rattle.nmvs_protocol.specs.declared.end.End.TheVariants as ends
 use Rattle.nmvs_protocol.specs.declared.pending_line.TheConstants.{KEPT}
 use Rattle.nmvs_protocol.specs.declared.session.Session.{Session}
 use Rattle.nmvs_protocol.specs.declared.withheld.Withheld.{Withheld}
-use Rattle.nmvs_protocol.specs.Session.{AnswersLines, AreReleased, answer_of, AnswersAll, NoQuit, EndsWithQuit, NoQuitBeforeLast, LacksLast, session_text, is_write_fault}
+use Rattle.nmvs_stream.specs.InputLines.{lines_after, rest_after}
+use Rattle.nmvs_protocol.specs.Session.{TakesLines, AnswersLines, AreReleased, answer_of, AnswersAll, NoQuit, EndsWithQuit, NoQuitBeforeLast, LacksLast, session_text, is_write_fault}
 use Rattle.nmvs_protocol.specs.Texts.{takes_memory}
 
 -- what is kept of a line: enough to judge it, since one byte more than a line may have tells that it is too long
@@ -40,6 +41,20 @@ Tells (Some ends.Limit) sink sink' said = ⊥
 Tells (Some ends.Ended) sink sink' said = ⊥
 Tells (Some ends.ReadFault) sink sink' said = ⊥
 
+-- of these answers the first are told so; the text of the next takes memory, and is missing with those behind it
+pub record LacksRest (tells : List Answer → Type 0) (said : List Answer) : Type 0 where
+  pub before : List Answer
+  pub last : Answer
+  pub later : List Answer
+  pub these : said ≡ before ++ last ∷ later
+  pub memory : IsTrue (takes_memory last)
+  pub told : tells before
+
+-- what writing the text of any answers comes to
+abbrev pub TellsFirst : Option End → Taken → Taken → List Answer → Type 0
+TellsFirst (Some ends.Memory) sink sink' said = LacksRest (Gathers sink sink') said
+TellsFirst end sink sink' said = Tells end sink sink' said
+
 -- what telling what is withheld comes to, and what it makes of the desk: where there is none the desk is not asked
 abbrev pub TellsWithheld : {D E : Type 0} → (D → E → Withheld → Answer → Type 0) → (D → D → Type 0) → List Withheld → D → D → Option End → Taken → Taken → Type 0
 TellsWithheld releases moves [] old new end sink sink' = (new ≡ old) × (end ≡ None) × (sink' ≡ sink)
@@ -51,6 +66,29 @@ TellsWithheld {E = E} releases moves (w ∷ withheld) old new end sink sink' =
 pub record LimitReached (count limit : ℕ) (left : List (List ℕ)) : Type 0 where
   pub reached : count ≡ limit
   pub more : 0 < length left
+
+-- what the end of a taking says of the lines that were taken, and of the bytes that are left
+abbrev pub Halts : Option End → ℕ → ℕ → List (List ℕ) → List ℕ → List ℕ → Type 0
+Halts (None) limit count taken begun left = NoQuit taken
+Halts (Some ends.Quit) limit count taken begun left = EndsWithQuit taken
+Halts (Some ends.Limit) limit count taken begun left = NoQuit taken × LimitReached count limit (lines_after begun left)
+Halts (Some ends.WriteFault) limit count taken begun left = ⊥
+Halts (Some ends.Memory) limit count taken begun left = ⊥
+Halts (Some ends.Ended) limit count taken begun left = ⊥
+Halts (Some ends.ReadFault) limit count taken begun left = ⊥
+
+-- a session took the lines that these bytes complete, behind the line that was begun, and their answers were put behind those
+-- that were withheld; these bytes are left
+pub record Took {D : Type 0} (takes : D → Ask → Withheld → D → Type 0) (session : Session) (desk : D) (withheld : List Withheld) (begun bytes left : List ℕ) (session' : Session) (desk' : D) (withheld' : List Withheld) (end : Option End) : Type 0 where
+  pub held : List Withheld
+  pub behind : withheld' ≡ withheld ++ held
+  pub answers : TakesLines takes desk (lines_after begun bytes) held desk'
+  pub line : session'.line ≡ kept_part (rest_after begun bytes)
+  pub counted : session'.answered ≡ session.answered + length held
+  pub limit : session'.limit ≡ session.limit
+  pub within : session'.answered ≤ session.limit
+  pub short : AreShortButLast (map answer_of held)
+  pub halts : Halts end session.limit session'.answered (lines_after begun bytes) (rest_after begun bytes) left
 
 -- what may be said after some bytes, where None is to go on and an answer is told so
 abbrev pub Stands : Option End → (List Answer → Type 0) → ℕ → ℕ → List (List ℕ) → List (List ℕ) → List Answer → Taken → Taken → Type 0

@@ -35,5 +35,5 @@ pub use peer::{Authorisations, NameOf, OwnDesk, Peer};
 pub use pending_line::PendingLine;
 pub use replies::reply_text;
 pub use serving::serve;
-pub use session::Session;
+pub use session::{Session, Taking, write_texts};
 pub use withheld::{Basis, Released, Withheld, WithheldAnswers};

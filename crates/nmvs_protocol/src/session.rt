@@ -1,9 +1,9 @@
 //! A session that is fed bytes.
-ghost use Rattle.std.specs.Prelude.{◌≡◌, ◌≤◌, ◌<◌, ◌++◌, ◌∷◌, ◌↔◌, [], List, ℕ, Ok, IsTrue, IfNone};
+ghost use Rattle.std.specs.Prelude.{◌≡◌, ◌≤◌, ◌<◌, ◌-◌, ◌++◌, ◌∷◌, ◌↔◌, [], List, ℕ, Ok, IsTrue, IfNone, length, take, drop};
 ghost use Rattle.nmvs_stream.specs.InputLines.{lines_after, unfinished_line};
 ghost use Rattle.nmvs_protocol.specs.Lines.{line_text};
 ghost use Rattle.nmvs_protocol.specs.Session.{Answers, TakesLine};
-ghost use Rattle.nmvs_protocol.specs.Progress.{Fed, Tells, TellsWithheld, AreShortButLast, kept_part};
+ghost use Rattle.nmvs_protocol.specs.Progress.{Fed, Took, Tells, TellsFirst, TellsWithheld, kept_part};
 
 use crate::pending_line::PendingLine;
 use crate::replies::wording;
@@ -18,6 +18,15 @@ pub struct Session {
     line: PendingLine,
     answered: u64,
     limit: u64,
+}
+
+/// How far a session has taken bytes.
+#[derive(Clone, Copy, Debug, PartialEq, Eq)]
+pub struct Taking {
+    /// How many bytes it took, from the front.
+    pub bytes: usize,
+    /// How it ends once the answers are told, where it does.
+    pub end: Option<End>,
 }
 
 impl Session {
@@ -58,12 +67,43 @@ impl Session {
     {
         withheld.clear();
         let mut rest = more;
+        while !rest.is_empty() {
+            let taking = self.take(rest, withheld, desk);
+            match tell(alloc, withheld, sink, desk) {
+                Some(end) => return Some(end),
+                None => {}
+            }
+            match taking.end {
+                Some(end) => return Some(end),
+                None => rest = &rest[taking.bytes..],
+            }
+        }
+        None
+    }
+
+    /// Takes the lines that these bytes complete, after what was taken before, and puts their answers behind those that are
+    /// withheld. It stops behind a line whose answer's text will take memory, and before a line whose answer finds no room.
+    ///
+    /// Once those answers are told, the session goes on with the bytes that are left, or has ended.
+    pub fn take<'a, D: Desk<'a>>(
+        &mut self,
+        more: &[u8],
+        withheld: &mut WithheldAnswers<'a>,
+        desk: &mut D,
+    ) -> Taking
+        ensures within { result.bytes ≤ length more.now }
+        ensures moves { 0 < length more.now → withheld.old ≡ [] → IfNone result.end (0 < result.bytes) }
+        ensures takes { (begun : List ℕ) → self.old.line ≡ kept_part begun → self.old.answered ≤ self.old.limit
+            → Took D.takes self.old desk.old withheld.old begun (take result.bytes more.now) (drop result.bytes more.now)
+            self.new desk.new withheld.new result.end }
+    {
+        let mut rest = more;
         while let Some((tail, behind)) = cut_line(rest) {
             if self.answered >= self.limit {
-                return match tell(alloc, withheld, sink, desk) {
-                    Some(end) => Some(end),
-                    None => Some(End::Limit),
-                };
+                return taken_until(more, rest, Some(End::Limit));
+            }
+            if withheld.is_full() {
+                return taken_until(more, rest, None);
             }
             rest = behind;
             let (answer, quits) = self.take_tail(tail, desk);
@@ -71,20 +111,17 @@ impl Session {
             withheld.push(answer);
             self.answered += 1;
             if quits {
-                return match tell(alloc, withheld, sink, desk) {
-                    Some(end) => Some(end),
-                    None => Some(End::Quit),
-                };
+                return taken_until(more, rest, Some(End::Quit));
             }
-            if is_long || withheld.is_full() {
-                match tell(alloc, withheld, sink, desk) {
-                    Some(end) => return Some(end),
-                    None => {}
-                }
+            if is_long {
+                return taken_until(more, rest, None);
             }
         }
         self.line.extend(rest);
-        tell(alloc, withheld, sink, desk)
+        Taking {
+            bytes: more.len(),
+            end: None,
+        }
     }
 
     /// Takes the line that these bytes end, and tells whether it is QUIT.
@@ -104,6 +141,17 @@ impl Session {
         let taken = take_line(self.line.as_slice(), desk);
         self.line.clear();
         taken
+    }
+}
+
+/// What was taken where these bytes are left.
+fn taken_until(more: &[u8], left: &[u8], end: Option<End>) -> Taking
+    requires { length left.now ≤ length more.now }
+    ensures { result ≡ record { bytes = length more.now - length left.now; end = end } }
+{
+    Taking {
+        bytes: more.len() - left.len(),
+        end,
     }
 }
 
@@ -154,9 +202,11 @@ fn tell<'a, W: Sink, D: Desk<'a>>(
     told
 }
 
-/// Writes the texts of the answers, up to one that there is no memory for.
-fn write_texts<W: Sink>(alloc: Global, released: Released<'_, '_>, sink: &mut W) -> Option<End>
-    ensures { AreShortButLast released.entry → Tells result (W.taken sink.old) (W.taken sink.new) released.entry }
+/// Writes the texts of the answers, up to one that there is no memory for. The sink is left to be flushed.
+///
+/// `None` is that all were written; else the session has ended so.
+pub fn write_texts<W: Sink>(alloc: Global, released: Released<'_, '_>, sink: &mut W) -> Option<End>
+    ensures { TellsFirst result (W.taken sink.old) (W.taken sink.new) released.entry }
 {
     for withheld in released.list() {
         match write_text(alloc, withheld.answer(), sink) {

@@ -1,5 +1,5 @@
 //! Answers that are withheld until the desk releases them.
-ghost use Rattle.std.specs.Prelude.{◌≡◌, ◌==◌, ◌<◌, ◌++◌, ◌∷◌, [], length, map, None};
+ghost use Rattle.std.specs.Prelude.{◌≡◌, ◌==◌, ◌<◌, ◌≤◌, ◌+◌, ◌++◌, ◌∷◌, ◌↔◌, [], false, length, map, take, drop, None, IsSome, IfSome};
 ghost use Rattle.nmvs_protocol.specs.Session.{AreReleased, answer_of, is_kept, is_of_repository as of_repository, told_where};
 ghost use Rattle.nmvs_protocol.specs.Texts.{takes_memory as text_takes_memory};
 
@@ -127,6 +127,13 @@ impl<'a> WithheldAnswers<'a> {
         self.list.push(withheld);
     }
 
+    /// How many there are.
+    pub fn len(&self) -> usize
+        ensures { result ≡ length self.now }
+    {
+        self.list.len()
+    }
+
     /// Whether there is none.
     pub(crate) fn is_empty(&self) -> bool
         ensures { result ≡ (length self.now == 0) }
@@ -136,13 +143,14 @@ impl<'a> WithheldAnswers<'a> {
 
     /// Whether no more may be withheld.
     pub(crate) fn is_full(&self) -> bool
-        ensures { result ≡ (length self.now == MOST_WITHHELD) }
+        ensures full { result ≡ (length self.now == MOST_WITHHELD) }
+        ensures room { result ≡ false → length self.now < MOST_WITHHELD }
     {
         self.list.is_full()
     }
 
     /// Lets all of them go.
-    pub(crate) fn clear(&mut self)
+    pub fn clear(&mut self)
         ensures { self.new ≡ [] }
     {
         self.list.clear();
@@ -194,6 +202,15 @@ impl<'h, 'a> Model for Released<'h, 'a> {
 }
 
 impl<'h, 'a> Released<'h, 'a> {
+    /// So many of them from this place on, where there are so many.
+    pub fn part(&self, first: usize, count: usize) -> Option<Released<'h, 'a>>
+        ensures there { IsSome result ↔ (first + count ≤ length self.now) }
+        ensures part { IfSome result (λ part. part ≡ take count (drop first self.now)) }
+    {
+        let list = self.list.get(first..)?.get(..count)?;
+        Some(Released { list })
+    }
+
     /// Those that were withheld, whose answers may now be put in words.
     pub(crate) fn list(&self) -> &'h [Withheld<'a>]
         ensures { map answer_of result.now ≡ self.now }

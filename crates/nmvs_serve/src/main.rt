@@ -1,13 +1,22 @@
 //! The program of the repository.
 #![tactic(auto)]
 
-use nmvs_operator::{Console, OptionFault, read_options};
+ghost use Rattle.std.specs.Prelude.{IfOk};
+ghost use Rattle.nmvs_operator.specs.Options.{AreInRange};
+
+use nmvs_config::{ConfigFault, config_path, read_config, with_config};
+use nmvs_operator::{Console, OptionFault, Options, read_options};
 use nmvs_server::{Fault, serve_rehearsal, start};
 use nmvs_stream::Device;
-use std::io::BufWriter;
+use std::io::{BufWriter, Eprint, IsTerminal, Print};
 use std::process::ExitCode;
-use std::rt::Env;
-use std::{env, io};
+use std::rt::{Env, Files};
+use std::{env, fs, io};
+
+/// What the rehearsal is, told where somebody sits at a terminal.
+const GREETING: &str =
+    "A rehearsal: nothing is kept. Users: mah1 mah2 ph1 ph1b ph2 wh1 mf1 au1. QUIT or Ctrl-D ends it.\n\
+    A line is a user and a question, as ph1 STATUS 09506000134352 SN1; docs/TERMINALS.md tells them all.";
 
 fn main(rt: HostRuntime) -> ExitCode {
     let alloc = rt.alloc();
@@ -19,23 +28,18 @@ fn main(rt: HostRuntime) -> ExitCode {
     };
     let mut console = Console::new(Device::new(rt.stdin()), Device::new(output));
     if words.is_empty() {
+        if rt.stdin().is_terminal() && rt.stdout().is_terminal() {
+            let _ = println!(rt; "{GREETING}");
+        }
         let rehearsed = serve_rehearsal(alloc, &mut console.source, &mut console.sink);
         return ended(&rt, &[rehearsed.err()]);
     }
-    match read_options(alloc, &words) {
+    match options(&rt, words) {
         Ok(options) => {
             let outcome = start(&rt, alloc, &options, &mut console);
             ended(&rt, &[outcome.session, outcome.program])
         }
-        Err(OptionFault::Help(text)) => {
-            let _ = print!(rt; "{text}");
-            ExitCode::SUCCESS
-        }
-        Err(OptionFault::Refused(text)) => {
-            let _ = eprint!(rt; "{text}");
-            ExitCode::from(2)
-        }
-        Err(OptionFault::Memory) => ended(&rt, &[Some(Fault::Memory)]),
+        Err(status) => status,
     }
 }
 
@@ -43,6 +47,68 @@ fn main(rt: HostRuntime) -> ExitCode {
 fn words<R: Env + AllocGlobal>(rt: &R) -> io::Result<Vec<String>> {
     let words = env::args(rt)?.skip(1).collect(rt.alloc())?;
     Ok(words)
+}
+
+/// The options of the command line and of the file that it names. Where there are none it tells why, or the help that was
+/// asked for, and gives the status.
+fn options<R: Files + Print + Eprint + AllocGlobal>(
+    rt: &R,
+    words: Vec<String>,
+) -> Result<Options, ExitCode>
+    ensures { IfOk result AreInRange }
+{
+    let words = with_file(rt, words)?;
+    match read_options(rt.alloc(), &words) {
+        Ok(options) => Ok(options),
+        Err(OptionFault::Help(text)) => {
+            let _ = print!(rt; "{text}");
+            Err(ExitCode::SUCCESS)
+        }
+        Err(OptionFault::Refused(text)) => {
+            let _ = eprint!(rt; "{text}");
+            Err(ExitCode::from(2))
+        }
+        Err(OptionFault::Memory) => Err(ended(rt, &[Some(Fault::Memory)])),
+    }
+}
+
+/// The words of the file that the command line names, where it names one, and behind them those of the command line. One
+/// that asks for help or the version reads no file. Where the file is refused it tells why, and gives the status.
+fn with_file<R: Files + Eprint + AllocGlobal>(
+    rt: &R,
+    words: Vec<String>,
+) -> Result<Vec<String>, ExitCode> {
+    let named = match config_path(&words) {
+        Some(path) if !asks_help(&words) => String::from_str(rt.alloc(), path),
+        _ => return Ok(words),
+    };
+    let Ok(path) = named else {
+        return Err(ended(rt, &[Some(Fault::Memory)]));
+    };
+    match read_words(rt, &path, words) {
+        Ok(words) => Ok(words),
+        Err(ConfigFault::Memory) => Err(ended(rt, &[Some(Fault::Memory)])),
+        Err(fault) => {
+            let _ = eprintln!(rt; "error: invalid value '{path}' for '--config <FILE>': {fault}");
+            Err(ExitCode::from(2))
+        }
+    }
+}
+
+/// The words of the file at this path, and behind them those of the command line.
+fn read_words<R: Files + AllocGlobal>(
+    rt: &R,
+    path: &str,
+    words: Vec<String>,
+) -> Result<Vec<String>, ConfigFault> {
+    let file = fs::open(rt, path).map_err(|error| ConfigFault::Open(error))?;
+    let text = read_config(rt.alloc(), &mut Device::new(file))?;
+    with_config(rt.alloc(), &text, words)
+}
+
+/// Whether one of the words asks for help or the version.
+fn asks_help(words: &[String]) -> bool {
+    words.iter().any(|word| matches!(word.as_str(), "--help" | "-h" | "--version" | "-V"))
 }
 
 /// Tells the faults, and gives the status that the last one makes.

@@ -1,8 +1,8 @@
 -- How the program's desk answers.
-use Rattle.std.proofs.Common.{◌≡◌, ◌≢◌, ◌∙◌, ◌∷◌, ◌++◌, ℕ, pos, true, List, [], Err, refl, sym, ap, subst, inl, inr}
+use Rattle.std.proofs.Common.{◌≡◌, ◌≢◌, ◌<◌, ◌∙◌, ◌∷◌, ◌++◌, ℕ, pos, true, List, [], Option, Some, None, IfSome, Err, length, refl, sym, ap, subst, inl, inr, arith, length-append}
 use Rattle.std.proofs.lemmas.Bool.Decides.{eqb_tells}
 use mathlib.Core.List.{IsPrefix}
-use Rattle.nmvs_history.proofs.Beginnings.{prefix_self}
+use Rattle.nmvs_history.proofs.Beginnings.{prefix_self, prefix_trans, prefix_length}
 use Rattle.nmvs_identifier.specs.Name.{Name}
 use Rattle.nmvs_identifier.specs.ProductCode.{ProductCode}
 use Rattle.nmvs_directory.specs.Window.{Reads}
@@ -18,17 +18,24 @@ use Rattle.nmvs_desk.specs.Settlement.{row}
 use Rattle.nmvs_desk.specs.declared.ask.Receipt.{Receipt}
 use Rattle.nmvs_desk.specs.declared.faults.AskFault.{AskFault}
 use Rattle.nmvs_desk.specs.declared.faults.AskFault.TheVariants as faults
+use Rattle.nmvs_protocol.specs.declared.ask.Ask.{Ask}
+use Rattle.nmvs_protocol.specs.declared.ask.Ask.TheVariants as asks
+use Rattle.nmvs_protocol.specs.declared.answer.Answer.{Answer}
+use Rattle.nmvs_protocol.specs.declared.answer.Answer.TheVariants as answers
+use Rattle.nmvs_protocol.specs.declared.withheld.Basis.{Basis}
+use Rattle.nmvs_offices.specs.Told.{IsWithin}
 use Rattle.nmvs_record.specs.Report.{report_text}
-use Rattle.nmvs_server.specs.Desk.{DeskView, NamesAuthorisation, Receives, Reports, SeesShard, LeavesNone, IsInRole, IsTurned, may_put, turn_of_fault}
+use Rattle.nmvs_server.specs.Desk.{DeskView, AnswersTold, NamesAuthorisation, Receives, Reports, RestsOnAll, SeesShard, Serves, LeavesNone, IsInRole, IsTurned, LetsGo, may_put, turn_of_fault}
 
 -- a question that the clerk put at the clock's moment
-pub received : (old new : DeskView) (user : Name) (q : Question) (moment : ℕ) (receipt : Receipt) (shown : List Entry)
+pub received : (old new : DeskView) (user : Name) (q : Question) (moment : ℕ) (receipt : Receipt) (shown : List Entry) (basis : Option Basis)
     → pos moment ≡ old.gave → new.receipts ≡ old.receipts ++ receipt ∷ []
     → (receipt.entry.put.moment ≡ moment) × (receipt.entry.put.user ≡ user) × (receipt.entry.put.question ≡ q)
     × Reads old.seen new.seen user (Known receipt.entry.put.actor)
     → receipt.shard ≡ shard_of old.shards (code_of q) → IsAnswered old.shards (row old.sights receipt.shard) (row new.sights receipt.shard) receipt shown
-    → ((i : ℕ) → i ≢ receipt.shard → row new.sights i ≡ row old.sights i) → Receives old new user q receipt.entry.reply shown
-received old new user q moment receipt shown gave kept put shard answered others = record {
+    → ((i : ℕ) → i ≢ receipt.shard → row new.sights i ≡ row old.sights i) → basis ≡ Some (record { shard = receipt.shard; place = receipt.place })
+    → Receives old new user q receipt.entry.reply shown basis
+received old new user q moment receipt shown basis gave kept put shard answered others rests = record {
   receipt = receipt;
   kept = kept;
   moment = ap pos put.0 ∙ gave;
@@ -39,6 +46,7 @@ received old new user q moment receipt shown gave kept put shard answered others
   shard = shard;
   answered = answered;
   others = others;
+  rests = rests;
 }
 
 -- what was seen stands where nothing more was seen, or more of one shard
@@ -81,9 +89,9 @@ turned_by old new user faults.Closed reads = reads
 turned_by old new user faults.Memory reads = (reads.0, reads.1, refl)
 
 -- a question that the clerk did not put leaves all that was seen
-pub turned_away : (old new : DeskView) (user : Name) (fault : AskFault) → LeavesNone old new → TurnedAway old.seen new.seen user fault
-    → LeavesNone old new × IsTurned old new user may_put (turn_of_fault fault)
-turned_away old new user fault leaves away = (leaves, turned_by old new user fault away)
+pub turned_away : (old new : DeskView) (user : Name) (fault : AskFault) (basis : Option Basis) → basis ≡ None → LeavesNone old new → TurnedAway old.seen new.seen user fault
+    → (basis ≡ None) × LeavesNone old new × IsTurned old new user may_put (turn_of_fault fault)
+turned_away old new user fault basis none leaves away = (none, leaves, turned_by old new user fault away)
 
 -- a user whom the directory does not let ask for a report
 pub looked_away : (old new : DeskView) (user : Name) (fault : AskFault) → TurnedAway old.seen new.seen user fault → fault ≢ faults.Memory
@@ -112,3 +120,79 @@ no_authorisation before after user faults.Nobody reads looked = reads
 no_authorisation before after user faults.Suspended reads looked = reads
 no_authorisation before after user faults.Closed reads looked = reads
 no_authorisation before after user faults.Memory reads looked = absurd (looked refl)
+
+-- after a question was put, more was seen
+receives_grows : (old new : DeskView) (receipt : Receipt) (shown : List Entry) → IsAnswered old.shards (row old.sights receipt.shard) (row new.sights receipt.shard) receipt shown
+    → ((i : ℕ) → i ≢ receipt.shard → row new.sights i ≡ row old.sights i) → (i : ℕ) → IsPrefix (row old.sights i) (row new.sights i)
+receives_grows old new receipt shown answered others i =
+    elim (eqb_tells i receipt.shard) [
+      | inl e ↦
+          let here : IsPrefix (row old.sights receipt.shard) (row new.sights receipt.shard) =
+          prefix_trans (row old.sights receipt.shard) answered.trail (row new.sights receipt.shard) answered.begins (receipt.entry ∷ [], sym answered.seen) in
+          subst (λ j. IsPrefix (row old.sights j) (row new.sights j)) (sym e.1) here
+      | inr e ↦ subst (λ t. IsPrefix (row old.sights i) t) (sym (others i e.1)) (prefix_self (row old.sights i))
+    ]
+
+told_grows : (old new : DeskView) (ask : Ask) (said : Answer) (basis : Option Basis) → AnswersTold old ask said basis new → (i : ℕ) → IsPrefix (row old.sights i) (row new.sights i)
+told_grows old new (asks.Question user q) (answers.Replied r shown) basis a i = receives_grows old new a.receipt shown a.answered a.others i
+told_grows old new (asks.Question user q) (answers.Reported t) basis a i = absurd a
+told_grows old new (asks.Question user q) (answers.Turned t) basis a i = a.1.sights i
+told_grows old new (asks.Question user q) (answers.Unread f) basis a i = absurd a
+told_grows old new (asks.Question user q) answers.Bye basis a i = absurd a
+told_grows old new (asks.Report user c) (answers.Replied r shown) basis a i = absurd a
+told_grows old new (asks.Report user c) (answers.Reported t) basis a i = a.1.sights i
+told_grows old new (asks.Report user c) (answers.Turned t) basis a i = a.1.sights i
+told_grows old new (asks.Report user c) (answers.Unread f) basis a i = absurd a
+told_grows old new (asks.Report user c) answers.Bye basis a i = absurd a
+
+-- whatever is asked, what was seen begins what is seen then
+pub grows : (old new : DeskView) (ask : Ask) (said : Answer) (basis : Option Basis) → Serves old ask said basis new → (i : ℕ) → IsPrefix (row old.sights i) (row new.sights i)
+grows old new ask said basis serves i =
+    elim serves [
+      | inl stops ↦ subst (λ t. IsPrefix (row old.sights i) (row t i)) (sym stops.0.clock.sights) (prefix_self (row old.sights i))
+      | inr goes ↦ subst (λ t. IsPrefix (row t i) (row new.sights i)) goes.1.clock.sights (told_grows goes.0 new ask said basis goes.3 i)
+    ]
+
+-- an answer rests on what was seen
+abbrev Within : DeskView → Option Basis → Type 0
+Within new basis = IfSome basis (λ (b : Basis). b.place < length (row new.sights b.shard))
+
+none_within : (new : DeskView) (basis : Option Basis) → basis ≡ None → Within new basis
+none_within new basis e = subst (Within new) (sym e) tt
+
+all_within : (new : DeskView) (shard : ℕ) (basis : Option Basis) → RestsOnAll shard (row new.sights shard) basis → Within new basis
+all_within new shard None r = tt
+all_within new shard (Some b) r = subst (λ i. b.place < length (row new.sights i)) (sym r.0) (omega (arith, r.1))
+
+told_within : (old new : DeskView) (ask : Ask) (said : Answer) (basis : Option Basis) → AnswersTold old ask said basis new → Within new basis
+told_within old new (asks.Question user q) (answers.Replied r shown) basis a =
+    let long = ap length a.answered.seen ∙ length-append a.answered.trail (a.receipt.entry ∷ []) in
+    subst (Within new) (sym a.rests) (omega (arith, long, a.answered.next.length))
+told_within old new (asks.Question user q) (answers.Reported t) basis a = absurd a
+told_within old new (asks.Question user q) (answers.Turned t) basis a = none_within new basis a.0
+told_within old new (asks.Question user q) (answers.Unread f) basis a = absurd a
+told_within old new (asks.Question user q) answers.Bye basis a = absurd a
+told_within old new (asks.Report user c) (answers.Replied r shown) basis a = absurd a
+told_within old new (asks.Report user c) (answers.Reported t) basis a = all_within new _ basis a.0
+told_within old new (asks.Report user c) (answers.Turned t) basis a = none_within new basis a.0
+told_within old new (asks.Report user c) (answers.Unread f) basis a = absurd a
+told_within old new (asks.Report user c) answers.Bye basis a = absurd a
+
+pub reaches : (old new : DeskView) (ask : Ask) (said : Answer) (basis : Option Basis) → Serves old ask said basis new → IfSome basis (λ (b : Basis). b.place < length (row new.sights b.shard))
+reaches old new ask said basis serves =
+    elim serves [
+      | inl stops ↦ none_within new basis stops.2
+      | inr goes ↦ told_within goes.0 new ask said basis goes.3
+    ]
+
+-- a release, after which the clerk has seen more and has no receipts
+pub lets_go : (old new : DeskView) → ((i : ℕ) → IsPrefix (row old.sights i) (row new.sights i)) → new.seen ≡ old.seen → new.receipts ≡ [] → new.shards ≡ old.shards
+    → new.asked ≡ old.asked → new.gave ≡ old.gave → LetsGo old new
+lets_go old new begins seen none shards asked gave = record {
+  sights = begins;
+  same = λ i. record { seen = seen i; sights = new.sights; receipts = none i; shards = shards i; asked = asked i; gave = gave i };
+}
+
+-- what is withheld rests on no more than was seen, where more was seen since
+pub within_more : (reach : List ℕ) (old new : List (List Entry)) → ((i : ℕ) → IsPrefix (row old i) (row new i)) → IsWithin reach old → IsWithin reach new
+within_more reach old new grown within i = omega (arith, within i, prefix_length (row old i) (row new i) (grown i))

@@ -1,3 +1,6 @@
 mod ShardExports
 mod DeskTurns
+mod Journals
 mod Lengths
+mod KeptLines
+mod Releasing

@@ -1,5 +1,5 @@
 -- The program's desk: what it may answer, and which receipt it then has (own).
-use Rattle.std.specs.Prelude.{◌≡◌, None, ◌≢◌, ◌+◌, ◌⊎◌, ℕ, ℤ, pos, ◌≤ℤ◌, Bool, true, false, List, [], ◌∷◌, ◌++◌, Result, Ok, Err}
+use Rattle.std.specs.Prelude.{◌≡◌, ◌≢◌, ◌+◌, ◌⊎◌, ℕ, ℤ, pos, ◌≤ℤ◌, Bool, true, false, List, [], ◌∷◌, ◌++◌, Option, Some, None, length, Result, Ok, Err}
 use mathlib.Core.List.{IsPrefix}
 use Rattle.nmvs_identifier.specs.Moment.{last_moment}
 use Rattle.nmvs_identifier.specs.Name.{Name}
@@ -25,6 +25,7 @@ use Rattle.nmvs_protocol.specs.declared.answer.Answer.{Answer}
 use Rattle.nmvs_protocol.specs.declared.answer.Answer.TheVariants as answers
 use Rattle.nmvs_protocol.specs.declared.answer.Turn.{Turn}
 use Rattle.nmvs_protocol.specs.declared.answer.Turn.TheVariants as turns
+use Rattle.nmvs_protocol.specs.declared.withheld.Basis.{Basis}
 use Rattle.nmvs_protocol.specs.declared.withheld.Withheld.{Withheld}
 use Rattle.nmvs_record.specs.Report.{report_text}
 
@@ -74,8 +75,9 @@ pub record SeesShard (old : DeskView) (shard : ℕ) (new : DeskView) : Type 0 wh
 
 -- the question was put: there is one receipt more, with the moment that the clock gave, the user, in the capacity that the
 -- directory gives, the question, and, on a trail of its shard that begins with all that the clerk had seen of it, the reply of
--- the rules and the entries that they show; now the clerk has seen the entry, too, and no more of another shard
-pub record Receives (old new : DeskView) (user : Name) (question : Question) (said : Reply) (shown : List Entry) : Type 0 where
+-- the rules and the entries that they show; now the clerk has seen the entry, too, and no more of another shard; and the answer
+-- rests on the entries up to this one
+pub record Receives (old new : DeskView) (user : Name) (question : Question) (said : Reply) (shown : List Entry) (basis : Option Basis) : Type 0 where
   pub receipt : Receipt
   pub kept : new.receipts ≡ old.receipts ++ receipt ∷ []
   pub moment : pos receipt.entry.put.moment ≡ old.gave
@@ -86,6 +88,7 @@ pub record Receives (old new : DeskView) (user : Name) (question : Question) (sa
   pub shard : receipt.shard ≡ shard_of old.shards (code_of question)
   pub answered : IsAnswered old.shards (row old.sights receipt.shard) (row new.sights receipt.shard) receipt shown
   pub others : (i : ℕ) → i ≢ receipt.shard → row new.sights i ≡ row old.sights i
+  pub rests : basis ≡ Some (record { shard = receipt.shard; place = receipt.place })
 
 -- the directory knows the user, in a role that may ask or may not
 abbrev pub IsInRole : DeskView → DeskView → Name → (Role → Bool) → Bool → Type 0
@@ -94,6 +97,11 @@ IsInRole old new user may answer = (actor : Actor) × Reads old.seen new.seen us
 -- the text is the report of the product code on what the clerk has seen of its shard
 abbrev pub Reports : DeskView → ProductCode → List ℕ → Type 0
 Reports new code text = text ≡ report_text (row new.sights (shard_of new.shards code)) code
+
+-- what rests on all of a shard's trail
+abbrev pub RestsOnAll : ℕ → List Entry → Option Basis → Type 0
+RestsOnAll shard t None = length t ≡ 0
+RestsOnAll shard t (Some basis) = (basis.shard ≡ shard) × (basis.place + 1 ≡ length t)
 
 -- each role may put a question, since a refusal is a reply
 abbrev pub may_put : Role → Bool
@@ -123,25 +131,32 @@ pub record LeavesNone (old new : DeskView) : Type 0 where
   pub receipts : new.receipts ≡ old.receipts
   pub sights : (i : ℕ) → IsPrefix (row old.sights i) (row new.sights i)
 
--- what the desk may answer at the moment that its clock gave, once the clerk was told
-abbrev pub AnswersTold : DeskView → Ask → Answer → DeskView → Type 0
-AnswersTold old (asks.Question user q) (answers.Replied r shown) new = Receives old new user q r shown
-AnswersTold old (asks.Question user q) (answers.Turned turn) new = LeavesNone old new × IsTurned old new user may_put turn
-AnswersTold old (asks.Report user c) (answers.Reported text) new =
-    LeavesNone old new × IsInRole old new user may_report true × SeesShard old (shard_of old.shards c) new × Reports new c text
-AnswersTold old (asks.Report user c) (answers.Turned turn) new = LeavesNone old new × IsTurned old new user may_report turn
-AnswersTold _ _ _ _ = ⊥
+-- what the desk may answer at the moment that its clock gave, once the clerk was told, and on what the answer rests: a reply on
+-- the entries up to its own, a report on all that was seen of the shard
+abbrev pub AnswersTold : DeskView → Ask → Answer → Option Basis → DeskView → Type 0
+AnswersTold old (asks.Question user q) (answers.Replied r shown) basis new = Receives old new user q r shown basis
+AnswersTold old (asks.Question user q) (answers.Turned turn) basis new = (basis ≡ None) × LeavesNone old new × IsTurned old new user may_put turn
+AnswersTold old (asks.Report user c) (answers.Reported text) basis new =
+    RestsOnAll (shard_of new.shards c) (row new.sights (shard_of new.shards c)) basis
+    × LeavesNone old new × IsInRole old new user may_report true × SeesShard old (shard_of old.shards c) new × Reports new c text
+AnswersTold old (asks.Report user c) (answers.Turned turn) basis new = (basis ≡ None) × LeavesNone old new × IsTurned old new user may_report turn
+AnswersTold _ _ _ _ _ = ⊥
 
--- what the desk may answer, whatever is asked: the clock turns the line away; or the clerk is told, and then the line is
--- answered
-abbrev pub Serves : DeskView → Ask → Answer → DeskView → Type 0
-Serves old ask said new =
-    (StopsAtClock old new × (said ≡ answers.Turned turns.Clock))
-    ⊎ ((told : DeskView) × IsTold old told × KeepsClock told new × AnswersTold told ask said new)
+-- what the desk may answer, whatever is asked, and on what the answer rests: the clock turns the line away; or the clerk is
+-- told, and then the line is answered
+abbrev pub Serves : DeskView → Ask → Answer → Option Basis → DeskView → Type 0
+Serves old ask said basis new =
+    (StopsAtClock old new × (said ≡ answers.Turned turns.Clock) × (basis ≡ None))
+    ⊎ ((told : DeskView) × IsTold old told × KeepsClock told new × AnswersTold told ask said basis new)
 
--- the desk takes a line with an answer that rests on no entry: it is told at once
+-- the desk takes a line with such an answer
 abbrev pub Takes : DeskView → Ask → Withheld → DeskView → Type 0
-Takes old ask withheld new = (withheld.basis ≡ None) × Serves old ask withheld.answer new
+Takes old ask withheld new = Serves old ask withheld.answer withheld.basis new
+
+-- a release of answers that waited: the receipts are let go, and the clerk may have seen more of each shard
+pub record LetsGo (old new : DeskView) : Type 0 where
+  pub sights : (i : ℕ) → IsPrefix (row old.sights i) (row new.sights i)
+  pub same : new ≡ record old { sights = new.sights; receipts = [] }
 
 -- the directory knows the user, and the authorisation is the user's; or a line of the user is turned away
 abbrev pub NamesAuthorisation : List Change → List Change → Name → Result Name Turn → Type 0

@@ -29,6 +29,8 @@ fault_text (faults.UsersLine number fault) = codes "users line " ++ decimal numb
 fault_text (faults.UsersEnd number) = codes "users line " ++ decimal number ++ codes ": it has no end: UNENDED"
 fault_text (faults.ImportLine number) = codes "import line " ++ decimal number
 fault_text (faults.ImportUnlawful number) = codes "import line " ++ decimal number ++ codes " is unlawful"
+fault_text (faults.JournalRefused path) = codes "journal " ++ path.now ++ codes " refused"
+fault_text (faults.JournalUnwritten path) = codes "cannot write journal " ++ path.now
 fault_text (faults.ImportDigest path) = codes "the digest of " ++ path.now ++ codes " is not the one in " ++ path.now ++ codes ".sha256"
 fault_text (faults.NoDigest path) = path.now ++ codes ".sha256 is no digest of " ++ path.now
 fault_text (faults.CannotReadDigest path) = codes "cannot read " ++ path.now ++ codes ".sha256"
@@ -46,9 +48,11 @@ fault_text faults.SessionLimit = codes "session limit"
 abbrev pub fault_status : Fault → ℕ
 fault_status (faults.ImportLine number) = 3
 fault_status (faults.ImportUnlawful number) = 3
+fault_status (faults.JournalRefused path) = 3
 fault_status (faults.ImportDigest path) = 3
 fault_status (faults.NoDigest path) = 3
 fault_status (faults.CannotWrite path) = 4
+fault_status (faults.JournalUnwritten path) = 4
 fault_status faults.LostClerk = 5
 fault_status _ = 1
 

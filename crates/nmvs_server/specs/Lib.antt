@@ -6,3 +6,6 @@ pub mod Desk
 pub mod Exports
 pub mod Announcements
 pub mod Bounds
+pub mod KeptUsers
+pub mod WholeLines
+pub mod Journals

@@ -1,14 +1,19 @@
 //! The program's desk.
-ghost use Rattle.std.specs.Prelude.{◌≡◌};
-ghost use Rattle.nmvs_server.specs.Desk.{turn_of_fault};
+ghost use Rattle.std.specs.Prelude.{◌≡◌, List, length};
+ghost use Rattle.nmvs_rules.specs.declared.entry.Entry.{Entry};
+ghost use Rattle.nmvs_desk.specs.Settlement.{row};
+ghost use Rattle.nmvs_server.specs.Desk.{turn_of_fault, RestsOnAll};
 
 use crate::Clock;
 use nmvs_desk::{AskFault, Clerk, Reader, Repository, Served};
 use nmvs_directory::{Naming, Notice};
 use nmvs_history::Histories;
 use nmvs_identifier::{Moment, Name, ProductCode};
+use nmvs_journal::Store;
+use nmvs_offices::{Alarm, Evidence, Offices, Reach};
 use nmvs_protocol::{
-    Answer, Ask, Authorisations, Desk, Entries, Released, Text, Turn, Withheld, WithheldAnswers,
+    Answer, Ask, Authorisations, Basis, Desk, Entries, Released, Text, Turn, Withheld,
+    WithheldAnswers,
 };
 use nmvs_record::report;
 use nmvs_rules::{Question, may_report};
@@ -44,7 +49,7 @@ impl<'r, 'a, R: Wait, J: Naming, H: Histories, K: Clock> ClerkDesk<'r, 'a, R, J,
     ghost use Rattle.nmvs_protocol.specs.declared.ask.Ask.TheVariants as asks;
     ghost use Rattle.nmvs_desk.specs.Placing.{shard_of};
     ghost use mathlib.Core.List.{IsPrefix};
-    ghost use Rattle.nmvs_server.specs.Desk.{KeepsClock, NamesAuthorisation, StopsAtClock, IsTold, AnswersTold, Reports, SeesShard};
+    ghost use Rattle.nmvs_server.specs.Desk.{AnswersTold, IsTold, KeepsClock, NamesAuthorisation, Reports, RestsOnAll, SeesShard, Serves, StopsAtClock};
 
     /// A desk over a clerk of this repository, and the lock of the latest notice.
     ///
@@ -114,56 +119,118 @@ impl<'r, 'a, R: Wait, J: Naming, H: Histories, K: Clock> ClerkDesk<'r, 'a, R, J,
         }
     }
 
+    /// The answer to a line, and on what it rests.
+    pub(crate) fn answer(&mut self, ask: &Ask) -> (Answer<'a>, Option<Basis>)
+        ensures { Serves self.old ask.now result.0 result.1 self.new }
+    {
+        let Some(moment) = self.next_moment() else {
+            return (Answer::Turned(Turn::Clock), None);
+        };
+        match ask {
+            Ask::Question(user, question) => self.ask(moment, user, question),
+            Ask::Report(user, code) => self.report(user, code),
+        }
+    }
+
     /// Puts a question by the clerk, at the moment that the clock gave.
-    fn ask(&mut self, moment: Moment, user: &Name, question: &Question) -> Answer<'a>
+    fn ask(
+        &mut self,
+        moment: Moment,
+        user: &Name,
+        question: &Question,
+    ) -> (Answer<'a>, Option<Basis>)
         requires { pos moment ≡ self.old.gave }
         ensures clock { KeepsClock self.old self.new }
-        ensures answers { AnswersTold self.old (asks.Question user.now question.now) result self.new }
+        ensures answers { AnswersTold self.old (asks.Question user.now question.now) result.0 result.1 self.new }
     {
         let (rt, repository) = (self.rt, self.repository);
         match self.clerk.ask(rt, repository, moment, user, question) {
             Ok(Served { receipt, shown }) => {
-                Answer::Replied(receipt.entry.reply, Entries::new(shown))
+                let basis = Basis {
+                    shard: receipt.shard,
+                    place: receipt.place,
+                };
+                (
+                    Answer::Replied(receipt.entry.reply, Entries::new(shown)),
+                    Some(basis),
+                )
             }
-            Err(fault) => Answer::Turned(turn_by(fault)),
+            Err(fault) => (Answer::Turned(turn_by(fault)), None),
         }
     }
 
     /// Reports on a product code to those who may have it. It waits for the code's shard, and leaves no receipt.
     #[tactic(auto, using(crate::proofs::DeskTurns::looked_away, crate::proofs::DeskTurns::stays))]
-    fn report(&mut self, user: &Name, code: &ProductCode) -> Answer<'a>
+    fn report(&mut self, user: &Name, code: &ProductCode) -> (Answer<'a>, Option<Basis>)
         ensures clock { KeepsClock self.old self.new }
-        ensures answers { AnswersTold self.old (asks.Report user.now code.now) result self.new }
+        ensures answers { AnswersTold self.old (asks.Report user.now code.now) result.0 result.1 self.new }
     {
         match self.clerk.actor_of(user) {
-            Err(fault) => Answer::Turned(turn_by(fault)),
+            Err(fault) => (Answer::Turned(turn_by(fault)), None),
             Ok(actor) => if may_report(actor.role) {
                 match self.report_on(code) {
-                    Ok(text) => Answer::Reported(Text::new(text)),
-                    Err(_) => Answer::Turned(Turn::Memory),
+                    Ok((text, basis)) => (Answer::Reported(Text::new(text)), basis),
+                    Err(_) => (Answer::Turned(Turn::Memory), None),
                 }
             } else {
-                Answer::Turned(Turn::Role)
+                (Answer::Turned(Turn::Role), None)
             },
         }
     }
 
-    /// The report of a product code, by its shard.
+    /// The report of a product code, by its shard, on all of whose trail it rests.
     #[tactic(auto, using(crate::proofs::DeskTurns::sees, crate::proofs::DeskTurns::reports))]
-    fn report_on(&mut self, code: &ProductCode) -> Result<String, AllocError>
+    fn report_on(&mut self, code: &ProductCode) -> Result<(String, Option<Basis>), AllocError>
         ensures clock { KeepsClock self.old self.new }
         ensures seen { self.new.seen ≡ self.old.seen }
         ensures receipts { self.new.receipts ≡ self.old.receipts }
         ensures sees { SeesShard self.old (shard_of self.old.shards code.now) self.new }
-        ensures reports { IfOk result (λ text. Reports self.new code.now (string_bytes text)) }
+        ensures reports { IfOk result (λ told. Reports self.new code.now (string_bytes told.0)) }
+        ensures rests { IfOk result (λ told. RestsOnAll (shard_of self.new.shards code.now) (row self.new.sights (shard_of self.new.shards code.now)) told.1) }
     {
         let (rt, repository) = (self.rt, self.repository);
         let alloc = *self.clerk.allocator();
         let shard = repository.shard_of(code);
         let reader = ReportOf { alloc, code };
-        let text = self.clerk.look_at(rt, repository, shard, reader)?;
-        Ok(text)
+        let (text, count) = self.clerk.look_at(rt, repository, shard, reader)?;
+        Ok((text, basis_of(shard, count)))
     }
+}
+
+impl<'r, 'a, R: Wait, J: Naming, H: Histories, K: Clock> ClerkDesk<'r, 'a, R, J, H, K> {
+    ghost use Rattle.nmvs_protocol.specs.Session.{AreReleased};
+    ghost use Rattle.nmvs_offices.specs.Told.{AreKept, IsTold, IsWithin};
+    ghost use Rattle.nmvs_server.specs.Desk.{LetsGo};
+
+    /// Releases answers by the offices of the repository's shards, once what they rest on is kept.
+    pub(crate) fn release_by<'h, D: Store + Drop, L: Alarm>(
+        &mut self,
+        offices: &Offices<'_, 'a, D, H>,
+        reach: &mut Reach,
+        withheld: &'h mut WithheldAnswers<'a>,
+        alarm: &L,
+    ) -> (Released<'h, 'a>, Evidence)
+        requires seen { IsWithin reach.old self.old.sights }
+        ensures reach { (sights : List (List Entry)) → IsWithin reach.new sights }
+        ensures released { AreReleased (IsTold result.1.items) withheld.old result.0 }
+        ensures kept { AreKept result.1.items self.old.sights }
+        ensures moves { LetsGo self.old self.new }
+    {
+        offices.release(self.rt, &mut self.clerk, reach, withheld, alarm)
+    }
+}
+
+/// What rests on all of a trail of so many entries.
+fn basis_of(shard: usize, count: usize) -> Option<Basis>
+    ensures { (t : List Entry) → length t ≡ count → RestsOnAll shard t result }
+{
+    if count == 0 {
+        return None;
+    }
+    Some(Basis {
+        shard,
+        place: count - 1,
+    })
 }
 
 /// Why the line of a question is turned away.
@@ -178,7 +245,7 @@ fn turn_by(fault: AskFault) -> Turn
     }
 }
 
-/// Makes the report of a product code from a shard that is held.
+/// Makes the report of a product code from a shard that is held, and counts the entries of its trail.
 #[derive(Clone, Copy)]
 struct ReportOf<'c> {
     alloc: Global,
@@ -186,15 +253,16 @@ struct ReportOf<'c> {
 }
 
 impl<'a, 'c> Reader<Shard<&'a Global>> for ReportOf<'c> {
-    type Output = Result<String, AllocError>;
+    type Output = Result<(String, usize), AllocError>;
 
-    ghost use Rattle.std.specs.Prelude.{◌≡◌, IfOk, string_bytes};
+    ghost use Rattle.std.specs.Prelude.{◌≡◌, IfOk, length, string_bytes};
     ghost use Rattle.nmvs_record.specs.Report.{report_text};
 
-    ghost tells = { λ r t result. IfOk result (λ text. string_bytes text ≡ report_text t r.code.now) };
+    ghost tells = { λ r t result. IfOk result (λ made. (string_bytes made.0 ≡ report_text t r.code.now) × (length t ≡ made.1)) };
 
-    fn read(self, shard: &Shard<&'a Global>) -> Result<String, AllocError> {
-        report(self.alloc, shard, self.code)
+    fn read(self, shard: &Shard<&'a Global>) -> Result<(String, usize), AllocError> {
+        let text = report(self.alloc, shard, self.code)?;
+        Ok((text, shard.trail().len()))
     }
 }
 
@@ -212,13 +280,8 @@ impl<'r, 'a, R: Wait, J: Naming, H: Histories, K: Clock> Desk<'a>
     ghost moves = { Stays };
 
     fn take(&mut self, ask: &Ask) -> Withheld<'a> {
-        let Some(moment) = self.next_moment() else {
-            return Withheld::new(Answer::Turned(Turn::Clock));
-        };
-        Withheld::new(match ask {
-            Ask::Question(user, question) => self.ask(moment, user, question),
-            Ask::Report(user, code) => self.report(user, code),
-        })
+        let (answer, basis) = self.answer(ask);
+        Withheld::resting_on(basis, answer)
     }
 
     fn release<'h>(&mut self, withheld: &'h mut WithheldAnswers<'a>) -> (Released<'h, 'a>, ()) {

@@ -23,6 +23,10 @@ pub enum Fault<'a> {
     ImportLine(usize),
     /// The reply in this line of the import is not that of the rules.
     ImportUnlawful(usize),
+    /// The journals in the folder of this path are not gone on from.
+    JournalRefused(&'a str),
+    /// Not all of the trail is confirmed by the journals in the folder of this path.
+    JournalUnwritten(&'a str),
     /// The digest of the import of this path is not the one that stands beside it.
     ImportDigest(&'a str),
     /// What stands beside the import of this path is no digest of it.
@@ -63,6 +67,8 @@ impl<'a> fmt::Display for Fault<'a> {
             Fault::UsersEnd(number) => { write!(f, "users line {number}: it has no end: UNENDED") }
             Fault::ImportLine(number) => write!(f, "import line {number}"),
             Fault::ImportUnlawful(number) => write!(f, "import line {number} is unlawful"),
+            Fault::JournalRefused(path) => write!(f, "journal {path} refused"),
+            Fault::JournalUnwritten(path) => write!(f, "cannot write journal {path}"),
             Fault::ImportDigest(path) => {
                 write!(f, "the digest of {path} is not the one in {path}.sha256")
             }
@@ -101,15 +107,16 @@ impl<'a> Outcome<'a> {
 }
 
 impl<'a> Fault<'a> {
-    /// The status that the program ends with: 3 where a line of the import or its digest is refused, 4 where the export is
-    /// not written, 5 where the repository does not settle, and else 1.
+    /// The status that the program ends with: 3 where a line of the import, its digest or a journal is refused, 4 where the
+    /// export or a journal is not written, 5 where the repository does not settle, and else 1.
     pub fn status(&self) -> u8
         ensures { result ≡ fault_status self.now }
     {
         match self {
             Fault::ImportLine(_) | Fault::ImportUnlawful(_) => 3,
             Fault::ImportDigest(_) | Fault::NoDigest(_) => 3,
-            Fault::CannotWrite(_) => 4,
+            Fault::JournalRefused(_) => 3,
+            Fault::CannotWrite(_) | Fault::JournalUnwritten(_) => 4,
             Fault::LostClerk => 5,
             _ => 1,
         }

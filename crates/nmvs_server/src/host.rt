@@ -3,10 +3,13 @@ use nmvs_connections::{Hall, Listener};
 use nmvs_desk::Repository;
 use nmvs_directory::{Naming, Notice};
 use nmvs_history::Histories;
+use nmvs_journal::Filed;
+use nmvs_offices::Offices;
 use nmvs_operator::Options;
 use nmvs_rate::SharedRates;
 use nmvs_shard::HashKey;
 use std::alloc::Global;
+use std::fs::File;
 use std::net::Net;
 use std::random::RandomSource;
 use std::rt::{Clock, Files};
@@ -14,9 +17,9 @@ use std::sync::{Mutex, Wait};
 use std::thread::Threads;
 
 /// What a run uses of the machine.
-pub trait Host: Files + Clock + Threads + Wait + Net + RandomSource {}
+pub trait Host: Files<File = File> + Clock + Threads + Wait + Net + RandomSource + Eprint {}
 
-impl<R: Files + Clock + Threads + Wait + Net + RandomSource> Host for R {}
+impl<R: Files<File = File> + Clock + Threads + Wait + Net + RandomSource + Eprint> Host for R {}
 
 /// What a run goes by.
 #[derive(Drop)]
@@ -32,11 +35,13 @@ pub(crate) struct Run<'r, 'o, H> {
 
 /// What the workers of a run share.
 #[derive(Drop)]
-pub(crate) struct Shared<'s, 'r, 'o, R, J: Naming, H: Histories> {
+pub(crate) struct Shared<'s, 'f, 'r, 'o, R, J: Naming, H: Histories> {
     pub(crate) run: &'s Run<'r, 'o, R>,
     pub(crate) listener: &'s Listener,
     pub(crate) hall: &'s Hall,
     pub(crate) repository: &'s Repository<'r, H>,
+    /// Where answers wait for the journals, where there are journals.
+    pub(crate) offices: &'s Option<Offices<'f, 'r, Filed<File>, H>>,
     pub(crate) latest: &'s Mutex<Notice<J>>,
     /// How much each user may still ask, where there is a rate.
     pub(crate) rates: &'s Option<SharedRates<Global>>,

@@ -1,7 +1,8 @@
 //! The server of the repository: sessions of users over the rules' shards.
 //!
 //! [`start`] does what the options say, and [`run`] serves connections on an open listener. [`ClerkDesk`] answers the lines of
-//! their sessions by a clerk of a repository, at the moments of a [`Clock`]. [`rehearse`] is one session over an empty trail,
+//! their sessions by a clerk of a repository, at the moments of a [`Clock`]; over a [`JournalDesk`] each answer waits until
+//! the journals have confirmed what it rests on. [`rehearse`] is one session over an empty trail,
 //! with users of its own.
 //!
 //! `main` is `nmvs_serve`'s; options, users files and commands are `nmvs_operator`'s.
@@ -14,18 +15,25 @@ mod desk;
 mod examples;
 mod export_files;
 mod exports;
+#[cfg(test)]
+mod fake_file;
 mod fault;
 mod host;
+mod journal_desk;
+mod journal_files;
+mod kept_users;
 mod launch;
 mod opening;
 mod rehearsal;
 mod roster;
 mod service;
+mod users_file;
 mod workers;
 
 pub use clock::{Clock, ProgramClock};
 pub use desk::ClerkDesk;
 pub use fault::{Fault, Outcome};
 pub use host::Host;
+pub use journal_desk::JournalDesk;
 pub use launch::{run, start};
 pub use rehearsal::{rehearse, serve_rehearsal};

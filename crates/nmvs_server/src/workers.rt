@@ -4,17 +4,20 @@ ghost use Rattle.nmvs_server.specs.Bounds.{sessions_of};
 
 use crate::announcements::{listening_at, listening_on};
 use crate::host::Shared;
+use crate::journal_files::JournalAlarm;
+use crate::kept_users::KeptUsers;
 use crate::service::Running;
-use crate::{ClerkDesk, ProgramClock};
+use crate::{ClerkDesk, JournalDesk, ProgramClock};
 use nmvs_connections::{Bounds, Hall, Listener, Station, admit, serve};
 use nmvs_desk::Clerk;
 use nmvs_directory::{Naming, Registrar};
 use nmvs_history::Histories;
 use nmvs_operator::{Console, Latest, Options, Sides, obey_all};
-use nmvs_protocol::OwnDesk;
+use nmvs_protocol::{Authorisations, Desk, OwnDesk};
 use nmvs_rate::{Gate, RatedDesk};
 use nmvs_stream::{Sink, deliver};
 use std::alloc::{AllocError, Global};
+use std::fs::File;
 use std::rt::{Clock, Files};
 use std::sync::Wait;
 use std::thread;
@@ -46,8 +49,8 @@ pub(crate) fn bounds_of(options: &Options, workers: usize) -> Bounds
 
 /// Serves the connections that are dealt to the worker of this number, and gives the clerk back. Where it can't go on it
 /// ends the service.
-fn work<'r, R: Wait + Clock, J: Naming, H: Histories>(
-    shared: &Shared<'_, 'r, '_, R, J, H>,
+fn work<'r, R: Wait + Clock + Eprint, J: Naming, H: Histories>(
+    shared: &Shared<'_, '_, 'r, '_, R, J, H>,
     clerk: Clerk<'r, J, H>,
     number: usize,
     station: Station,
@@ -58,11 +61,33 @@ fn work<'r, R: Wait + Clock, J: Naming, H: Histories>(
     }
     let clock = ProgramClock::new(run.rt, run.options.moment);
     let desk = ClerkDesk::new(run.rt, clerk, shared.repository, shared.latest, clock);
-    let mut desk = OwnDesk::new(RatedDesk::new(desk, Gate::new(run.rt, shared.rates.as_ref())));
-    if serve(run.rt, *run.alloc, shared.hall, number, station, &mut desk).is_err() {
+    match shared.offices {
+        None => serve_by_desk(shared, number, station, desk).into_clerk(),
+        Some(offices) => {
+            let alarm = JournalAlarm {
+                rt: run.rt,
+                options: run.options,
+            };
+            let desk = JournalDesk::new(desk, offices, alarm);
+            serve_by_desk(shared, number, station, desk).into_clerk()
+        }
+    }
+}
+
+/// Serves connections by a desk, each user within the rate, and gives the desk back. Where it can't go on it ends the
+/// service.
+fn serve_by_desk<'r, R: Wait + Clock, J: Naming, H: Histories, D: Desk<'r> + Authorisations>(
+    shared: &Shared<'_, '_, 'r, '_, R, J, H>,
+    number: usize,
+    station: Station,
+    desk: D,
+) -> D {
+    let run = shared.run;
+    let mut own = OwnDesk::new(RatedDesk::new(desk, Gate::new(run.rt, shared.rates.as_ref())));
+    if serve(run.rt, *run.alloc, shared.hall, number, station, &mut own).is_err() {
         shared.hall.stop(run.rt);
     }
-    desk.into_desk().into_desk().into_clerk()
+    own.into_desk().into_desk()
 }
 
 /// Accepts connections for the workers. Where it can't go on it ends the service.
@@ -81,14 +106,15 @@ fn keep_door<R: Wait>(rt: &R, hall: &Hall, listener: &Listener, door: Station) {
 pub(crate) fn serve_connections<
     'r,
     // Not `Host`: what a thread runs may rest on traits of the library alone.
-    R: Threads + Wait + Clock + Files + Sync,
+    R: Threads + Wait + Clock + Files + Eprint + Sync,
     J: Naming + Send + Sync,
     H: Histories + Send + Sync,
     T: Sides,
 >(
-    shared: &Shared<'_, 'r, '_, R, J, H>,
+    shared: &Shared<'_, '_, 'r, '_, R, J, H>,
     clerks: Vec<Clerk<'r, J, H>, &'r Global>,
     stations: (Vec<Station>, Station),
+    users: Option<KeptUsers<File>>,
     registrar: &mut Registrar<J, &'r R, &'r Global>,
     console: &mut Console<T>,
 ) -> Result<Vec<Clerk<'r, J, H>, &'r Global>, AllocError> {
@@ -116,7 +142,7 @@ pub(crate) fn serve_connections<
         drop(ready);
         tell_port(*run.alloc, run.options, shared.listener, &mut console.sink);
         let mut latest = Latest::new(run.rt, shared.latest);
-        let mut service = Running { shared };
+        let mut service = Running { shared, users };
         obey_all(*run.alloc, console, registrar, &mut latest, &mut service);
         for worker in workers {
             back.push(worker.join(run.rt))?;

@@ -33,7 +33,7 @@ fn options_have_defaults(rt: HostRuntime) {
     assert_eq!(rt; (options.connections, options.idle), (10_000, 300));
     assert_eq!(rt; (options.rate, options.burst), (0, 0));
     assert_eq!(rt; options.bind, IpAddr::V4(Ipv4Addr::new(127, 0, 0, 1)));
-    assert!(rt; options.socket.is_none() && options.proxy.is_none());
+    assert!(rt; options.socket.is_none() && options.proxy.is_none() && options.journal.is_none());
 }
 
 /// Whether a path is this one.
@@ -82,6 +82,14 @@ fn all_options_are_taken_together(rt: HostRuntime) {
         options.bind,
         IpAddr::V6(Ipv6Addr::new(0, 0, 0, 0, 0, 0, 0, 1))
     );
+    let Ok(options) = read(
+        &rt,
+        rt.alloc(),
+        &["--users=F", "--journal=D", "--config", "C"],
+    ) else {
+        panic!(rt; "refused");
+    };
+    assert!(rt; is_path(&options.journal, "D"));
 }
 
 #[test]
@@ -110,8 +118,15 @@ fn other_lines_are_refused(rt: HostRuntime) {
         let refused = read(&rt, rt.alloc(), &["--users", "F", word]);
         assert!(rt; matches!(refused, Err(OptionFault::Refused(_))), "{word}");
     }
-    let refused = read(&rt, rt.alloc(), &["--stdin"]);
-    assert!(rt; matches!(refused, Err(OptionFault::Refused(_))));
+    for words in [
+        &["--stdin"][..],
+        &["--users=F", "--journal=D", "--stdin"],
+        &["--users=F", "--config"],
+        &["--users=F", "--config=C", "--config=D"],
+    ] {
+        let refused = read(&rt, rt.alloc(), words);
+        assert!(rt; matches!(refused, Err(OptionFault::Refused(_))));
+    }
 }
 
 #[test]

@@ -322,6 +322,37 @@ fn a_session_is_fed_in_any_pieces(rt: HostRuntime) {
     }
 }
 
+/// Answers stand in the order in which their lines were taken, and each session goes on behind its own.
+#[test]
+fn two_sessions_take_into_one_list(rt: HostRuntime) {
+    let alloc = rt.alloc();
+    let mut desk = Shelf {
+        alloc: &alloc,
+        uploaded: None,
+        asked: 0,
+        kept: [ALL],
+    };
+    let mut withheld = WithheldAnswers::new();
+    let (mut one, mut other) = (Session::new(9), Session::new(1));
+    let taking = one.take(b"ph1\nph1 VER", &mut withheld, &mut desk);
+    assert_eq!(rt; (taking.bytes, taking.end), (11, None));
+    let taking = other.take(b"\n\n", &mut withheld, &mut desk);
+    assert_eq!(rt; (taking.bytes, taking.end), (1, Some(End::Limit)));
+    let more = b"IFY 09506000134352 SN1\nQUIT\nph1\n";
+    let taking = one.take(more, &mut withheld, &mut desk);
+    assert_eq!(rt; (taking.bytes, taking.end), (28, Some(End::Quit)));
+    let (released, ()) = desk.release(&mut withheld);
+    assert!(rt;
+        matches!(
+        released.list(),
+        [fields, empty, reply, bye] if matches!(fields.answer(), Answer::Unread(_))
+            && matches!(empty.answer(), Answer::Unread(_))
+            && matches!(reply.answer(), Answer::Replied(..))
+            && matches!(bye.answer(), Answer::Bye)
+    )
+    );
+}
+
 #[test]
 fn what_is_not_kept_is_not_told(rt: HostRuntime) {
     let alloc = rt.alloc();

@@ -105,6 +105,7 @@ fn two_connections_are_served_at_once(rt: HostRuntime) -> Result<(), Fail> {
         users: String::from_str(alloc, "/dev/null")?,
         import: None,
         export: None,
+        journal: None,
         shards: 2,
         workers: 2,
         sessions: 1,

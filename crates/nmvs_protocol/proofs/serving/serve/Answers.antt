@@ -1,4 +1,4 @@
-use Rattle.std.proofs.Common.{rules, inr, ◌==◌, ◌||◌, ◌++◌, ◌≤◌, [], List, ℕ, Bool, take, length, refl, sym, ap, ◌∙◌, arith}
+use Rattle.std.proofs.Common.{rules, inr, ◌==◌, ◌||◌, ◌++◌, [], List, ℕ, Bool, take, refl, sym, ap, ◌∙◌, arith}
 use Rattle.std.proofs.lemmas.List.{append-nil, append_assoc, length-take-le}
 use Rattle.std.proofs.lemmas.Bool.{ne_eqb}
 use Rattle.nmvs_stream.specs.InputLines.{input_lines}

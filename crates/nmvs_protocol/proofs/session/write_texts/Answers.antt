@@ -1,8 +1,7 @@
 use Rattle.std.proofs.Common.{◌≡◌, ◌∙◌, ◌++◌, ◌∷◌, [], ◌+◌, List, Some, map, take, drop, sym, ap, subst}
 use Rattle.std.proofs.lemmas.List.{map_more, map-append, take-append-drop, append_assoc}
 use Rattle.nmvs_protocol.specs.declared.answer.Answer.{Answer}
-use Rattle.nmvs_protocol.specs.declared.withheld.Withheld.{Withheld}
-use Rattle.nmvs_protocol.specs.Progress.{AreShortButLast, Gathers, Tells}
+use Rattle.nmvs_protocol.specs.Progress.{Gathers, TellsFirst}
 use Rattle.nmvs_protocol.specs.Session.{answer_of}
 use Rattle.nmvs_protocol.proofs.SessionSteps.{gathers_more, tells_until}
 use Rattle.nmvs_protocol.proofs.session.write_texts.Goals as goal
@@ -21,9 +20,9 @@ returns-in-Some g c =
     let whole : told ++ a ∷ later ≡ map answer_of all =
     sym (append_assoc told (a ∷ []) later) ∙ ap (λ (r : List Answer). r ++ later) (sym more)
     ∙ sym (map-append answer_of (take (i + 1) all) (drop (i + 1) all)) ∙ ap (map answer_of) (take-append-drop (i + 1) all) in
-    subst (λ (r : List Answer). AreShortButLast r → Tells (Some c.in-Some.end) (taken c.args.sink.now) (taken c.write_text.new.sink) r)
+    subst (λ (r : List Answer). TellsFirst (Some c.in-Some.end) (taken c.args.sink.now) (taken c.write_text.new.sink) r)
     (whole ∙ c.list-withheld-items.ensures)
-    (λ short. tells_until c.in-Some.end (taken c.args.sink.now) (taken c.loop-withheld.sink) (taken c.write_text.new.sink) told a later short c.loop-withheld.invariant c.in-Some.ensures)
+    (tells_until c.in-Some.end (taken c.args.sink.now) (taken c.loop-withheld.sink) (taken c.write_text.new.sink) told a later c.loop-withheld.invariant c.in-Some.ensures)
 
 pub loop-withheld-preserved : goal.loop-withheld-preserved
 loop-withheld-preserved g c =

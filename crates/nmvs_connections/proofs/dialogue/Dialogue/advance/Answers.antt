@@ -15,5 +15,5 @@ invariant_of-self c =
     let sent = c.extended-sent.ensures ∙ ap (λ (t : List ℕ). is.sent.numbers ++ take c.args.count t) shown in (
       omega (arith, fits, left, within),
       c.self.invariant.1,
-      subst (λ (t : List ℕ). Replies is.fed.numbers t is.end) (sym (ap (λ (t : List ℕ). t ++ drop (is.gone + c.args.count) is.replies.bytes.items) sent ∙ sent_more is.sent.numbers is.replies.bytes.items is.gone c.args.count)) c.self.invariant.2,
+      subst (λ (t : List ℕ). Replies is.fed.numbers t is.waiting is.end) (sym (ap (λ (t : List ℕ). t ++ drop (is.gone + c.args.count) is.replies.bytes.items) sent ∙ sent_more is.sent.numbers is.replies.bytes.items is.gone c.args.count)) c.self.invariant.2,
     )

@@ -26,7 +26,7 @@ hold-requires-clause-seen g c =
     let has = slice_get_read c.self.inside.tokens.items h.shards c.args.index was (sym is.shards) c.requires.index c.index_mut.ensures.value in
     let own = is.each c.args.index was has in
     let P : ℕ → Type 0 = λ i. IsPlaced h.shards i was.seen in
-    (own.lawful, subst P (sym c.requires.holder) own.placed)
+    (own.lawful, own.in_range, subst P (sym c.requires.holder) own.placed)
 
 pub hold-requires-clause-may : goal.hold-requires-clause-may
 hold-requires-clause-may g c =

@@ -1,16 +1,15 @@
-use Rattle.std.proofs.Common.{◌≡◌, ◌≤◌, ◌<◌, ℕ, List, length}
-use Rattle.nmvs_protocol.specs.declared.withheld.TheConstants.{MOST_WITHHELD}
-use Rattle.nmvs_stream.specs.InputLines.{lines_after, rest_after, unfinished_line}
+use Rattle.std.proofs.Common.{◌≡◌, ◌≤◌, ◌++◌, [], List, ℕ, length}
+use Rattle.nmvs_stream.specs.InputLines.{unfinished_line}
 use Rattle.nmvs_protocol.specs.Progress.{kept_part}
 use Rattle.nmvs_protocol.proofs.SessionSteps.{Ahead}
 use Rattle.nmvs_protocol.proofs.session.Session.feed.Given as goal
 
-abbrev pub invariant-loop-tail : goal.invariant-loop-tail
-invariant-loop-tail g l =
-    (length l.withheld < MOST_WITHHELD) × (l.self.limit ≡ l.fn.self.limit)
+abbrev pub invariant-loop-rest : goal.invariant-loop-rest
+invariant-loop-rest g l =
+    (l.withheld ≡ []) × (bytes : List ℕ) × (bytes ++ l.rest ≡ l.more)
     × ((fed : List ℕ) → l.fn.self.line ≡ kept_part (unfinished_line fed) → l.fn.self.answered ≤ l.fn.self.limit
     → Ahead g.D.Desk.takes g.D.Desk.releases g.D.Desk.moves l.fn.self l.fn.desk (g.W.Sink.taken l.fn.sink) l.desk (g.W.Sink.taken l.sink)
-    l.self.answered l.self.line l.rest l.withheld (lines_after (unfinished_line fed) l.more) (rest_after (unfinished_line fed) l.more))
+    l.self (unfinished_line fed) bytes)
 
-abbrev pub decreases-loop-tail : goal.decreases-loop-tail
-decreases-loop-tail g l = length l.rest
+abbrev pub decreases-loop-rest : goal.decreases-loop-rest
+decreases-loop-rest g l = length l.rest

@@ -1,0 +1,48 @@
+//! Which options there are, and what the value of each is.
+ghost use Rattle.std.specs.Prelude.{◌≡◌, Some};
+ghost use Rattle.nmvs_config.specs.Entries.{kind_of as kind_of_key, kind_text};
+
+use std::fmt;
+
+/// What the value of an option is (own).
+#[derive(Clone, Copy, Debug, PartialEq, Eq)]
+pub enum Kind {
+    Text,
+    Number,
+    /// Given or not.
+    Flag,
+}
+
+/// In the words of TOML.
+impl fmt::Display for Kind {
+    ghost output = { λ kind. Some (kind_text kind) };
+
+    fn fmt<W: fmt::Write>(&self, f: &mut fmt::Formatter<W>) -> fmt::Result {
+        match self {
+            Kind::Text => f.write_str("a string"),
+            Kind::Number => f.write_str("an integer"),
+            Kind::Flag => f.write_str("a boolean"),
+        }
+    }
+}
+
+/// The kind of the option of this name, where there is one that a file may have.
+#[tactic(auto, unfolding(crate::specs::Entries::kind_of))]
+pub(crate) fn kind_of(key: &str) -> Option<Kind>
+    ensures { result ≡ kind_of_key key.now }
+{
+    match key {
+        "users" | "import" | "export" | "journal" | "bind" | "socket" | "proxy" => Some(Kind::Text),
+        "shards"
+        | "workers"
+        | "sessions"
+        | "connections"
+        | "idle"
+        | "rate"
+        | "burst"
+        | "port"
+        | "moment" => Some(Kind::Number),
+        "stdin" => Some(Kind::Flag),
+        _ => None,
+    }
+}

@@ -1,0 +1,20 @@
+//! A file of options: TOML, a key an option, by its long name without dashes.
+//!
+//! [`config_path`] finds the file that a command line names, [`read_config`] reads its text, and [`with_config`] puts the
+//! words of its options in front of those of the command line, so that one reader judges both together.
+#![tactic(auto)]
+
+mod config;
+mod entries;
+mod faults;
+mod kinds;
+mod names;
+#[cfg(test)]
+mod tests;
+mod text;
+
+pub use config::with_config;
+pub use faults::{ConfigFault, EntryFault};
+pub use kinds::Kind;
+pub use names::config_path;
+pub use text::{LONGEST_CONFIG, read_config};

@@ -1,0 +1,572 @@
+-- How a worker's turn goes on, from one connection's turn to the next and from release to release.
+use Rattle.std.proofs.Common.{◌≡◌, ◌≢◌, ◌≤◌, ◌<◌, ◌==◌, ◌+◌, ◌⊎◌, inl, inr, ℕ, List, [], ◌∷◌, ◌++◌, Option, Some, None, IsSome, Result, cond, length, take, drop, refl, sym, ap, subst, ◌∙◌, arith, rules}
+use Rattle.std.specs.List.{Contains}
+use Rattle.std.proofs.lemmas.Bool.Decides.{eqb_tells, leb_tells}
+use Rattle.std.proofs.lemmas.Grind.{flat_map-append}
+use Rattle.std.proofs.lemmas.List.{append-nil, append_assoc, length-append, drop-drop}
+use Rattle.std.proofs.lemmas.List.Elements.{Contains-push_cases}
+use Rattle.slab.specs.Slab.{Slab, Updates, get, with_value}
+use Rattle.slab.proofs.SlabLemmas.{Updates-with_value}
+use Rattle.nmvs_identifier.specs.Name.{Name}
+use Rattle.nmvs_protocol.specs.declared.ask.Ask.{Ask}
+use Rattle.nmvs_protocol.specs.declared.answer.Answer.{Answer}
+use Rattle.nmvs_protocol.specs.declared.answer.Turn.{Turn}
+use Rattle.nmvs_protocol.specs.declared.end.End.{End}
+use Rattle.nmvs_protocol.specs.declared.peer.Peer.{Peer}
+use Rattle.nmvs_protocol.specs.declared.withheld.Withheld.{Withheld}
+use Rattle.nmvs_protocol.specs.Peers.{TakesOf}
+use Rattle.nmvs_protocol.specs.Session.{AreReleased, TakesLines, session_text}
+use Rattle.nmvs_protocol.specs.Texts.{text as text_of}
+use Rattle.nmvs_stream.specs.InputLines.{input_lines}
+use Rattle.nmvs_connections.specs.declared.seat.After.{After}
+use Rattle.nmvs_connections.specs.declared.seat.Seat.{Seat}
+use Rattle.nmvs_connections.specs.Replies.{Talk, TellsPart, LacksMemory, StaysOrLacks}
+use Rattle.nmvs_connections.specs.Turns.{Taking, Round, held_of, TakesAll, ReleasesAll, GoesRound, GoesRounds, lines_to, answers_to, lines_in, answers_in, Answered, EachGoes, WorkerTurn, Kept, IsAsking, LinesTaken, SeatSteps, TellsOwn, TellsWhereAsked, TellsAll, StepsOrStays, TurnOfOne}
+
+-- what was withheld of more
+pub held_of-append : (xs ys : List Taking) → held_of (xs ++ ys) ≡ held_of xs ++ held_of ys
+held_of-append [] ys = refl
+held_of-append (t ∷ xs) ys = ap (λ (l : List Withheld). t.held ++ l) (held_of-append xs ys) ∙ sym (append_assoc t.held (held_of xs) (held_of ys))
+
+lines_to-append : (key : ℕ) (xs ys : List Taking) → lines_to key (xs ++ ys) ≡ lines_to key xs ++ lines_to key ys
+lines_to-append key [] ys = refl
+lines_to-append key (t ∷ xs) ys =
+    let own = cond (t.key == key) t.lines [] in
+    ap (λ (l : List (List ℕ)). own ++ l) (lines_to-append key xs ys) ∙ sym (append_assoc own (lines_to key xs) (lines_to key ys))
+
+answers_to-append : (key : ℕ) (xs ys : List Taking) (said : List Answer) → answers_to key (xs ++ ys) said ≡ answers_to key xs said ++ answers_to key ys (drop (length (held_of xs)) said)
+answers_to-append key [] ys said = refl
+answers_to-append key (t ∷ xs) ys said =
+    let own = cond (t.key == key) (take (length t.held) said) [] in
+    let rest = drop (length t.held) said in
+    let gone : drop (length (held_of xs)) rest ≡ drop (length (t.held ++ held_of xs)) said =
+    drop-drop (length (held_of xs)) (length t.held) said ∙ ap (λ (n : ℕ). drop n said) (sym (length-append t.held (held_of xs))) in
+    ap (λ (l : List Answer). own ++ l) (answers_to-append key xs ys rest)
+    ∙ sym (append_assoc own (answers_to key xs rest) (answers_to key ys (drop (length (held_of xs)) rest)))
+    ∙ ap (λ (l : List Answer). (own ++ answers_to key xs rest) ++ answers_to key ys l) gone
+
+lines_in-append : (key : ℕ) (xs ys : List Round) → lines_in key (xs ++ ys) ≡ lines_in key xs ++ lines_in key ys
+lines_in-append key [] ys = refl
+lines_in-append key (r ∷ xs) ys =
+    ap (λ (l : List (List ℕ)). lines_to key r.takings ++ l) (lines_in-append key xs ys) ∙ sym (append_assoc (lines_to key r.takings) (lines_in key xs) (lines_in key ys))
+
+answers_in-append : (key : ℕ) (xs ys : List Round) → answers_in key (xs ++ ys) ≡ answers_in key xs ++ answers_in key ys
+answers_in-append key [] ys = refl
+answers_in-append key (r ∷ xs) ys =
+    ap (λ (l : List Answer). answers_to key r.takings r.said ++ l) (answers_in-append key xs ys)
+    ∙ sym (append_assoc (answers_to key r.takings r.said) (answers_in key xs) (answers_in key ys))
+
+-- one taking more
+takes_more : {D : Type 0} (takes : D → Ask → Withheld → D → Type 0) (tells : D → Name → Result Name Turn → D → Type 0) (old mid new : D) (takings : List Taking) (t : Taking)
+    → TakesAll takes tells old takings mid → TakesLines (TakesOf takes tells t.peer) mid t.lines t.held new → TakesAll takes tells old (takings ++ t ∷ []) new
+takes_more {D} takes tells old mid new [] t a l = (new, subst (λ (d : D). TakesLines (TakesOf takes tells t.peer) d t.lines t.held new) a l, refl)
+takes_more takes tells old mid new (s ∷ takings) t a l = (a.0, a.1, takes_more takes tells a.0 mid new takings t a.2 l)
+
+-- one round more
+rounds_more : {D E : Type 0} (takes : D → Ask → Withheld → D → Type 0) (tells : D → Name → Result Name Turn → D → Type 0) (releases : D → E → Withheld → Answer → Type 0) (moves : D → D → Type 0) (old mid new : D) (rounds : List Round) (r : Round)
+    → GoesRounds takes tells releases moves old rounds mid → GoesRound takes tells releases moves mid r new → GoesRounds takes tells releases moves old (rounds ++ r ∷ []) new
+rounds_more {D} takes tells releases moves old mid new [] r a g = (new, subst (λ (d : D). GoesRound takes tells releases moves d r new) a g, refl)
+rounds_more takes tells releases moves old mid new (s ∷ rounds) r a g = (a.0, a.1, rounds_more takes tells releases moves a.0 mid new rounds r a.2 g)
+
+-- there is an answer for each that was withheld
+released_length : (releases : Withheld → Answer → Type 0) (withheld : List Withheld) (said : List Answer) → AreReleased releases withheld said → length said ≡ length withheld
+released_length releases [] [] a = refl
+released_length releases (w ∷ withheld) (s ∷ said) a = let n = released_length releases withheld said a.2 in omega arith
+released_length releases [] (s ∷ said) a = absurd a
+released_length releases (w ∷ withheld) [] a = absurd a
+
+all_length : {D E : Type 0} (releases : D → E → Withheld → Answer → Type 0) (moves : D → D → Type 0) (old new : D) (withheld : List Withheld) (said : List Answer)
+    → ReleasesAll releases moves old withheld said new → length said ≡ length withheld
+all_length releases moves old new [] said r = ap (λ (l : List Answer). length l) r.0
+all_length releases moves old new (w ∷ withheld) said r = released_length (releases old r.1) (w ∷ withheld) said r.2
+
+nil_left : (xs ys : List ℕ) → xs ++ ys ≡ [] → xs ≡ []
+nil_left [] ys e = refl
+nil_left (x ∷ xs) ys e = absurd (cc e)
+
+nil_right : (xs ys : List ℕ) → xs ++ ys ≡ [] → ys ≡ []
+nil_right [] ys e = e
+nil_right (x ∷ xs) ys e = absurd (cc e)
+
+-- a connection within a turn: rounds are behind it, and what was taken since is to be released
+pub record Stands (key : ℕ) (rounds : List Round) (takings : List Taking) (asking : List ℕ) (old new : Talk) : Type 0 where
+  pub lines : input_lines new.fed ≡ (input_lines old.fed ++ lines_in key rounds) ++ lines_to key takings
+  pub text : List ℕ
+  pub untold : List ℕ
+  pub replies : new.sent ++ new.unsent ≡ (old.sent ++ old.unsent) ++ text
+  pub text_is : session_text (answers_in key rounds) ≡ text ++ untold
+  pub all : (untold ≡ []) ⊎ (LacksMemory new.ended × (new.waiting ≡ 0))
+  pub waits : (said : List Answer) → length (held_of takings) ≤ length said → answers_to key takings said ≡ take new.waiting (drop new.first said)
+  pub within : (new.waiting ≡ 0) ⊎ ((new.first + new.waiting ≤ length (held_of takings)) × Contains asking key)
+
+stands_first : (key : ℕ) (asking : List ℕ) (a : Talk) → a.waiting ≡ 0 → Stands key [] [] asking a a
+stands_first key asking a told = record {
+  lines = sym (append-nil _ ∙ append-nil (input_lines a.fed));
+  text = [];
+  untold = [];
+  replies = sym (append-nil (a.sent ++ a.unsent));
+  text_is = refl;
+  all = inl refl;
+  waits = λ said within. sym (ap (λ (n : ℕ). take n (drop a.first said)) told);
+  within = inl told;
+}
+
+stands_last : (key : ℕ) (rounds : List Round) (a b : Talk) → Stands key rounds [] [] a b → Answered key rounds a b
+stands_last key rounds a b s = record {
+  lines = s.lines ∙ append-nil (input_lines a.fed ++ lines_in key rounds);
+  text = s.text;
+  untold = s.untold;
+  replies = s.replies;
+  text_is = s.text_is;
+  all = elim s.all [ inl none ↦ inl none | inr lacks ↦ inr lacks.0 ];
+  told = elim s.within [ inl told ↦ told | inr waits ↦ absurd (omega (arith, waits.1.1)) ];
+}
+
+-- more was withheld of others
+stands_later : (key : ℕ) (rounds : List Round) (takings : List Taking) (t : Taking) (asking asking' : List ℕ) (a b : Talk)
+    → lines_to key (t ∷ []) ≡ [] → ((said : List Answer) → answers_to key (t ∷ []) said ≡ []) → (Contains asking key → Contains asking' key)
+    → Stands key rounds takings asking a b → Stands key rounds (takings ++ t ∷ []) asking' a b
+stands_later key rounds takings t asking asking' a b no_lines no_answers still s =
+    let more = ap (λ (l : List Withheld). length l) (held_of-append takings (t ∷ [])) ∙ length-append (held_of takings) (held_of (t ∷ [])) in
+    let before = input_lines a.fed ++ lines_in key rounds in record {
+      lines = s.lines ∙ ap (λ (l : List (List ℕ)). before ++ l) (sym (lines_to-append key takings (t ∷ []) ∙ ap (λ (l : List (List ℕ)). lines_to key takings ++ l) no_lines ∙ append-nil (lines_to key takings)));
+      text = s.text;
+      untold = s.untold;
+      replies = s.replies;
+      text_is = s.text_is;
+      all = s.all;
+      waits = λ said enough. answers_to-append key takings (t ∷ []) said
+          ∙ ap (λ (l : List Answer). answers_to key takings said ++ l) (no_answers (drop (length (held_of takings)) said))
+          ∙ append-nil (answers_to key takings said)
+          ∙ s.waits said (omega (arith, enough, more));
+      within = elim s.within [ inl told ↦ inl told | inr waits ↦ inr (omega (arith, waits.0, more), still waits.1) ];
+    }
+
+-- replies may have been sent
+stands_kept : (key : ℕ) (rounds : List Round) (takings : List Taking) (asking : List ℕ) (a b c : Talk) → Kept b c → Stands key rounds takings asking a b → Stands key rounds takings asking a c
+stands_kept key rounds takings asking a b c k s = record {
+  lines = ap (λ (f : List ℕ). input_lines f) k.fed ∙ s.lines;
+  text = s.text;
+  untold = s.untold;
+  replies = k.text ∙ s.replies;
+  text_is = s.text_is;
+  all = elim s.all [ inl none ↦ inl none | inr lacks ↦ inr (subst (λ (e : Option End). LacksMemory e) (sym k.ended) lacks.0, k.waiting ∙ lacks.1) ];
+  waits = λ said enough. s.waits said enough ∙ (λ i. take (sym k.waiting i) (drop (sym k.first i) said));
+  within = elim s.within [
+    | inl told ↦ inl (k.waiting ∙ told)
+    | inr waits ↦ inr (let f = k.first in let w = k.waiting in let within = waits.0 in omega (arith, f, w, within), waits.1)
+  ];
+}
+
+own_lines : (key : ℕ) (t : Taking) → t.key ≡ key → lines_to key (t ∷ []) ≡ t.lines
+own_lines key t own = elim (eqb_tells t.key key) [
+  | inl is ↦ ap (λ b. cond b t.lines [] ++ []) is.0 ∙ append-nil t.lines
+  | inr apart ↦ absurd (apart.1 own)
+]
+
+own_answers : (key : ℕ) (t : Taking) (said : List Answer) → t.key ≡ key → answers_to key (t ∷ []) said ≡ take (length t.held) said
+own_answers key t said own = elim (eqb_tells t.key key) [
+  | inl is ↦ ap (λ b. cond b (take (length t.held) said) [] ++ []) is.0 ∙ append-nil (take (length t.held) said)
+  | inr apart ↦ absurd (apart.1 own)
+]
+
+no_lines : (key : ℕ) (t : Taking) → (t.key ≡ key → ⊥) → lines_to key (t ∷ []) ≡ []
+no_lines key t other = elim (eqb_tells t.key key) [
+  | inl is ↦ absurd (other is.1)
+  | inr apart ↦ ap (λ b. cond b t.lines [] ++ []) apart.0
+]
+
+no_answers : (key : ℕ) (t : Taking) (said : List Answer) → (t.key ≡ key → ⊥) → answers_to key (t ∷ []) said ≡ []
+no_answers key t said other = elim (eqb_tells t.key key) [
+  | inl is ↦ absurd (other is.1)
+  | inr apart ↦ ap (λ b. cond b (take (length t.held) said) [] ++ []) apart.0
+]
+
+-- its lines were taken
+stands_taken : (key : ℕ) (rounds : List Round) (takings : List Taking) (t : Taking) (asking asking' : List ℕ) (a b c : Talk) → t.key ≡ key → Contains asking' key
+    → LinesTaken t.lines t.held (length (held_of takings)) b c → Stands key rounds takings asking a b → Stands key rounds (takings ++ t ∷ []) asking' a c
+stands_taken key rounds takings t asking asking' a b c own asks l s =
+    let more = ap (λ (l : List Withheld). length l) (held_of-append takings (t ∷ [])) ∙ length-append (held_of takings) (held_of (t ∷ [])) in
+    let last = ap (λ (l : List Withheld). length l) (append-nil t.held) in
+    let before = input_lines a.fed ++ lines_in key rounds in
+    let f = l.starts in
+    let w = l.waits in record {
+      lines = l.lines_are ∙ ap (λ (x : List (List ℕ)). x ++ t.lines) s.lines ∙ append_assoc before (lines_to key takings) t.lines
+          ∙ ap (λ (x : List (List ℕ)). before ++ x) (sym (lines_to-append key takings (t ∷ []) ∙ ap (λ (x : List (List ℕ)). lines_to key takings ++ x) (own_lines key t own)));
+      text = s.text;
+      untold = s.untold;
+      replies = l.text ∙ s.replies;
+      text_is = s.text_is;
+      all = elim s.all [ inl none ↦ inl none | inr lacks ↦ absurd (subst (λ (e : Option End). LacksMemory e) l.open_still lacks.0) ];
+      waits = λ said enough. answers_to-append key takings (t ∷ []) said
+          ∙ ap (λ (x : List Answer). x ++ answers_to key (t ∷ []) (drop (length (held_of takings)) said)) (s.waits said (omega (arith, enough, more)) ∙ ap (λ (n : ℕ). take n (drop b.first said)) l.told)
+          ∙ own_answers key t (drop (length (held_of takings)) said) own
+          ∙ (λ i. take (sym l.waits i) (drop (sym l.starts i) said));
+      within = inr (omega (arith, f, w, more, last), asks);
+    }
+
+-- the texts of answers, one behind the other
+both_told : (first second : List Answer) (x u y v : List ℕ) → session_text first ≡ x ++ u → session_text second ≡ y ++ v → session_text (first ++ second) ≡ (x ++ u) ++ (y ++ v)
+both_told first second x u y v e f = flat_map-append text_of first second ∙ (λ i. e i ++ f i)
+
+-- a round has ended, and the answers of the connection's lines in it were told, up to some text
+stands_released : (key : ℕ) (rounds : List Round) (r : Round) (asking : List ℕ) (a b c : Talk) (text untold : List ℕ)
+    → c.fed ≡ b.fed → c.sent ++ c.unsent ≡ (b.sent ++ b.unsent) ++ text → session_text (answers_to key r.takings r.said) ≡ text ++ untold → c.waiting ≡ 0
+    → (s : Stands key rounds r.takings asking a b)
+    → ((s.untold ≡ []) × ((untold ≡ []) ⊎ LacksMemory c.ended)) ⊎ (LacksMemory c.ended × (text ≡ []) × (untold ≡ []))
+    → Stands key (rounds ++ r ∷ []) [] [] a c
+stands_released key rounds r asking a b c text untold fed replies part told s how =
+    let own = answers_to key r.takings r.said in
+    let lines_more = lines_in-append key rounds (r ∷ []) ∙ ap (λ (l : List (List ℕ)). lines_in key rounds ++ l) (append-nil (lines_to key r.takings)) in
+    let answers_more = answers_in-append key rounds (r ∷ []) ∙ ap (λ (l : List Answer). answers_in key rounds ++ l) (append-nil own) in
+    let whole = ap (λ (l : List Answer). session_text l) answers_more ∙ both_told (answers_in key rounds) own s.text s.untold text untold s.text_is part in
+    let lines = ap (λ (f : List ℕ). input_lines f) fed ∙ s.lines ∙ append_assoc (input_lines a.fed) (lines_in key rounds) (lines_to key r.takings)
+    ∙ ap (λ (l : List (List ℕ)). input_lines a.fed ++ l) (sym lines_more) ∙ sym (append-nil (input_lines a.fed ++ lines_in key (rounds ++ r ∷ []))) in
+    let sent = replies ∙ ap (λ (x : List ℕ). x ++ text) s.replies ∙ append_assoc (a.sent ++ a.unsent) s.text text in
+    let none = λ (said : List Answer) (enough : 0 ≤ length said). sym (ap (λ (n : ℕ). take n (drop c.first said)) told) in
+    elim how [
+      | inl goes ↦ record {
+        lines = lines;
+        text = s.text ++ text;
+        untold = untold;
+        replies = sent;
+        text_is = whole ∙ ap (λ (x : List ℕ). x ++ (text ++ untold)) (ap (λ (u : List ℕ). s.text ++ u) goes.0 ∙ append-nil s.text) ∙ sym (append_assoc s.text text untold);
+        all = elim goes.1 [ inl all ↦ inl all | inr lacks ↦ inr (lacks, told) ];
+        waits = none;
+        within = inl told;
+      }
+      | inr lacks ↦ record {
+        lines = lines;
+        text = s.text ++ text;
+        untold = s.untold;
+        replies = sent;
+        text_is = whole ∙ (λ i. (s.text ++ s.untold) ++ (lacks.1 i ++ lacks.2 i)) ∙ append-nil (s.text ++ s.untold)
+            ∙ ap (λ (x : List ℕ). x ++ s.untold) (sym (ap (λ (y : List ℕ). s.text ++ y) lacks.1 ∙ append-nil s.text));
+        all = inr (lacks.0, told);
+        waits = none;
+        within = inl told;
+      }
+    ]
+
+le_or_lt : (a b : ℕ) → (a ≤ b) ⊎ (b < a)
+le_or_lt a b = elim (leb_tells a b) [ inl fits ↦ inl fits.1 | inr apart ↦ inr apart.1 ]
+
+-- what is told to a connection that asked is the part of the answers to its own lines
+part_is : (key : ℕ) (rounds : List Round) (takings : List Taking) (asking : List ℕ) (said part : List Answer) (a b : Talk) → length said ≡ length (held_of takings)
+    → (b.first + b.waiting ≤ length said → part ≡ take b.waiting (drop b.first said)) → (length said < b.first + b.waiting → part ≡ [])
+    → Stands key rounds takings asking a b → answers_to key takings said ≡ part
+part_is key rounds takings asking said part a b one its_own none s =
+    let enough : length (held_of takings) ≤ length said = omega (arith, one) in
+    elim (le_or_lt (b.first + b.waiting) (length said)) [
+      | inl fits ↦ s.waits said enough ∙ sym (its_own fits)
+      | inr past ↦ elim s.within [
+        | inl told ↦ s.waits said enough ∙ ap (λ (n : ℕ). take n (drop b.first said)) told ∙ sym (none past)
+        | inr waits ↦ absurd (let w = waits.0 in omega (arith, past, w, one))
+      ]
+    ]
+
+-- a connection that waits for nothing has no part
+no_part : (said part : List Answer) (text untold : List ℕ) (b : Talk) → b.waiting ≡ 0
+    → (b.first + b.waiting ≤ length said → part ≡ take b.waiting (drop b.first said)) → (length said < b.first + b.waiting → part ≡ [])
+    → session_text part ≡ text ++ untold → (text ≡ []) × (untold ≡ [])
+no_part said part text untold b told its_own none text_is =
+    let empty : part ≡ [] = elim (le_or_lt (b.first + b.waiting) (length said)) [
+      | inl fits ↦ its_own fits ∙ ap (λ (n : ℕ). take n (drop b.first said)) told
+      | inr past ↦ none past
+    ] in
+    let both : text ++ untold ≡ [] = sym text_is ∙ ap (λ (l : List Answer). session_text l) empty in
+    (nil_left text untold both, nil_right text untold both)
+
+lacks_still : (ended ended' : Option End) (untold : List ℕ) → StaysOrLacks ended ended' untold → LacksMemory ended → LacksMemory ended'
+lacks_still ended ended' untold s l = elim s [ inl stays ↦ subst (λ (e : Option End). LacksMemory e) (sym stays.0) l | inr lacks ↦ lacks ]
+
+-- what was released was told
+stands_told : (key : ℕ) (rounds : List Round) (r : Round) (asking : List ℕ) (a b c : Talk) → length r.said ≡ length (held_of r.takings)
+    → TellsWhereAsked r.said asking key b c → Stands key rounds r.takings asking a b → Stands key (rounds ++ r ∷ []) [] [] a c
+stands_told key rounds r asking a b c one t s = elim t [
+  | inl told ↦
+      let p = told.tells in
+      let is = part_is key rounds r.takings asking r.said p.part a b one p.its_own p.none s in
+      stands_released key rounds r asking a b c told.text p.untold told.fed told.replies (ap (λ (l : List Answer). session_text l) is ∙ p.text_is) told.told s
+      (elim s.all [
+        | inl none ↦ inl (none, elim p.stays [ inl stays ↦ inl stays.1 | inr lacks ↦ inr lacks ])
+        | inr lacks ↦
+            let n = no_part r.said p.part told.text p.untold b lacks.1 p.its_own p.none p.text_is in
+            inr (lacks_still b.ended c.ended p.untold p.stays lacks.0, n.0, n.1)
+      ])
+  | inr silent ↦
+      let told : b.waiting ≡ 0 = elim s.within [ inl told ↦ told | inr waits ↦ absurd (silent.1 waits.1) ] in
+      let enough : length (held_of r.takings) ≤ length r.said = omega (arith, one) in
+      let empty : answers_to key r.takings r.said ≡ [] = s.waits r.said enough ∙ ap (λ (n : ℕ). take n (drop b.first r.said)) told in
+      let same = silent.0 in
+      stands_released key rounds r asking a b c [] [] (ap (λ (d : Talk). d.fed) same) (ap (λ (d : Talk). d.sent ++ d.unsent) same ∙ sym (append-nil (b.sent ++ b.unsent)))
+      (ap (λ (l : List Answer). session_text l) empty) (ap (λ (d : Talk). d.waiting) same ∙ told) s
+      (elim s.all [
+        | inl none ↦ inl (none, inl refl)
+        | inr lacks ↦ inr (subst (λ (e : Option End). LacksMemory e) (sym (ap (λ (d : Talk). d.ended) same)) lacks.0, refl, refl)
+      ])
+]
+
+-- two steps of each connection, one behind the other
+pub each_then : (R S T : ℕ → Talk → Talk → Type 0) (s t u : Slab Seat) → EachGoes R s t → EachGoes S t u
+    → ((key : ℕ) (a b c : Talk) → R key a b → S key b c → T key a c) → EachGoes T s u
+each_then R S T s t u r q both = λ key seat there.
+    let second = q key seat there in
+    let first = r key second.0 second.1 in
+    (first.0, first.1, both key first.0.dialogue second.0.dialogue seat.dialogue first.2 second.2)
+
+-- no step
+pub each_stays : (R : ℕ → Talk → Talk → Type 0) (s : Slab Seat) → ((key : ℕ) (a : Talk) → R key a a) → EachGoes R s s
+each_stays R s same = λ key seat there. (seat, there, same key seat.dialogue)
+
+-- a turn that is not over: rounds are behind it, and what was taken since is withheld
+pub record OpenTurn {D E : Type 0} (takes : D → Ask → Withheld → D → Type 0) (tells : D → Name → Result Name Turn → D → Type 0) (releases : D → E → Withheld → Answer → Type 0) (moves : D → D → Type 0) (old new : D) (withheld : List Withheld) (asking : List ℕ) (seats seats' : Slab Seat) : Type 0 where
+  pub rounds : List Round
+  pub takings : List Taking
+  pub mid : D
+  pub gone : GoesRounds takes tells releases moves old rounds mid
+  pub taken : TakesAll takes tells mid takings new
+  pub holds : withheld ≡ held_of takings
+  pub each : EachGoes (λ key a b. a.waiting ≡ 0 → Stands key rounds takings asking a b) seats seats'
+
+pub open_first : {D E : Type 0} (takes : D → Ask → Withheld → D → Type 0) (tells : D → Name → Result Name Turn → D → Type 0) (releases : D → E → Withheld → Answer → Type 0) (moves : D → D → Type 0) (desk : D) (withheld : List Withheld) (asking : List ℕ) (seats : Slab Seat)
+    → withheld ≡ [] → OpenTurn takes tells releases moves desk desk withheld asking seats seats
+open_first takes tells releases moves desk withheld asking seats none = record {
+  rounds = [];
+  takings = [];
+  mid = desk;
+  gone = refl;
+  taken = refl;
+  holds = none;
+  each = each_stays _ seats (λ key a told. stands_first key asking a told);
+}
+
+-- a connection behind the turn of one, which may be itself
+stands_behind : (key : ℕ) (rounds : List Round) (takings : List Taking) (t : Taking) (asking asking' : List ℕ) (first : ℕ) (a b c : Talk) → first ≡ length (held_of takings)
+    → (Contains asking key → Contains asking' key) → (key ≢ t.key → c ≡ b) × (key ≡ t.key → StepsOrStays asking' t.key t.lines t.held first b c)
+    → Stands key rounds takings asking a b → Stands key rounds (takings ++ t ∷ []) asking' a c
+stands_behind key rounds takings t asking asking' first a b c begins still goes s = elim (eqb_tells key t.key) [
+  | inr apart ↦
+      let other : t.key ≡ key → ⊥ = λ is. apart.1 (sym is) in
+      subst (λ (d : Talk). Stands key rounds (takings ++ t ∷ []) asking' a d) (sym (goes.0 apart.1)) (stands_later key rounds takings t asking asking' a b (no_lines key t other) (λ said. no_answers key t said other) still s)
+  | inl is ↦
+      elim (goes.1 is.1) [
+        | inl kept ↦
+            stands_later key rounds takings t asking asking' a c (own_lines key t (sym is.1) ∙ kept.1)
+            (λ said. own_answers key t said (sym is.1) ∙ ap (λ (l : List Withheld). take (length l) said) kept.2)
+            still (stands_kept key rounds takings asking a b c kept.0 s)
+        | inr took ↦
+            stands_taken key rounds takings t asking asking' a b c (sym is.1) (subst (λ (k : ℕ). Contains asking' k) (sym is.1) took.0)
+            (subst (λ (n : ℕ). LinesTaken t.lines t.held n b c) begins took.1) s
+      ]
+]
+
+-- the turn of one connection
+pub open_taken : {D E : Type 0} (takes : D → Ask → Withheld → D → Type 0) (tells : D → Name → Result Name Turn → D → Type 0) (releases : D → E → Withheld → Answer → Type 0) (moves : D → D → Type 0) (key : ℕ) (old new next : D)
+    (withheld withheld' : List Withheld) (asking asking' : List ℕ) (s t u : Slab Seat)
+    → OpenTurn takes tells releases moves old new withheld asking s t → TurnOfOne takes tells key new next withheld withheld' asking asking' t u
+    → OpenTurn takes tells releases moves old next withheld' asking' s u
+open_taken takes tells releases moves key old new next withheld withheld' asking asking' s t u o n =
+    let taking : Taking = record { key = key; peer = n.peer; lines = n.lines; held = n.held } in record {
+      rounds = o.rounds;
+      takings = o.takings ++ taking ∷ [];
+      mid = o.mid;
+      gone = o.gone;
+      taken = takes_more takes tells o.mid new next o.takings taking o.taken n.desk;
+      holds = n.behind ∙ ap (λ (l : List Withheld). l ++ n.held) o.holds ∙ sym (held_of-append o.takings (taking ∷ []) ∙ ap (λ (l : List Withheld). held_of o.takings ++ l) (append-nil n.held));
+      each = each_then _ _ _ s t u o.each n.each (λ other a b c stood goes told. stands_behind other o.rounds o.takings taking asking asking' (length withheld) a b c (ap (λ (l : List Withheld). length l) o.holds) (n.still other) goes (stood told));
+    }
+
+-- a release
+pub open_told : {D E : Type 0} (takes : D → Ask → Withheld → D → Type 0) (tells : D → Name → Result Name Turn → D → Type 0) (releases : D → E → Withheld → Answer → Type 0) (moves : D → D → Type 0) (old new next : D)
+    (withheld withheld' : List Withheld) (asking asking' : List ℕ) (s t u : Slab Seat)
+    → OpenTurn takes tells releases moves old new withheld asking s t → TellsAll releases moves new next withheld asking t u → withheld' ≡ [] → asking' ≡ []
+    → OpenTurn takes tells releases moves old next withheld' asking' s u
+open_told takes tells releases moves old new next withheld withheld' asking asking' s t u o n none silent =
+    let r : Round = record { takings = o.takings; said = n.said } in
+    let released = subst (λ (l : List Withheld). ReleasesAll releases moves new l n.said next) o.holds n.released in
+    let one = all_length releases moves new next (held_of o.takings) n.said released in record {
+      rounds = o.rounds ++ r ∷ [];
+      takings = [];
+      mid = next;
+      gone = rounds_more takes tells releases moves old o.mid next o.rounds r o.gone (record { asked = new; taken = o.taken; released = released });
+      taken = refl;
+      holds = none;
+      each = subst (λ (l : List ℕ). EachGoes (λ key a b. a.waiting ≡ 0 → Stands key (o.rounds ++ r ∷ []) [] l a b) s u) (sym silent)
+          (each_then _ _ _ s t u o.each n.each (λ other a b c stood goes told. stands_told other o.rounds r asking a b c one goes (stood told)));
+    }
+
+-- a turn is over behind its last release
+pub open_last : {D E : Type 0} (takes : D → Ask → Withheld → D → Type 0) (tells : D → Name → Result Name Turn → D → Type 0) (releases : D → E → Withheld → Answer → Type 0) (moves : D → D → Type 0) (old new next : D)
+    (withheld : List Withheld) (asking : List ℕ) (s t u : Slab Seat)
+    → OpenTurn takes tells releases moves old new withheld asking s t → TellsAll releases moves new next withheld asking t u
+    → WorkerTurn takes tells releases moves old next s u
+open_last takes tells releases moves old new next withheld asking s t u o n =
+    let r : Round = record { takings = o.takings; said = n.said } in
+    let released = subst (λ (l : List Withheld). ReleasesAll releases moves new l n.said next) o.holds n.released in
+    let one = all_length releases moves new next (held_of o.takings) n.said released in record {
+      rounds = o.rounds ++ r ∷ [];
+      desk = rounds_more takes tells releases moves old o.mid next o.rounds r o.gone (record { asked = new; taken = o.taken; released = released });
+      each = each_then _ _ _ s t u o.each n.each (λ other a b c stood goes told. stands_last other (o.rounds ++ r ∷ []) a c (stands_told other o.rounds r asking a b c one goes (stood told)));
+    }
+
+-- a connection that is told twice is told nothing the second time
+told_again : (said : List Answer) (a b c : Talk) → TellsOwn said a b → TellsOwn said b c → TellsOwn said a c
+told_again said a b c t u =
+    let p = t.tells in
+    let q = u.tells in
+    let n = no_part said q.part u.text q.untold b t.told q.its_own q.none q.text_is in record {
+      fed = u.fed ∙ t.fed;
+      text = t.text;
+      replies = u.replies ∙ ap (λ (x : List ℕ). (b.sent ++ b.unsent) ++ x) n.0 ∙ append-nil (b.sent ++ b.unsent) ∙ t.replies;
+      tells = record {
+        untold = p.untold;
+        part = p.part;
+        its_own = p.its_own;
+        none = p.none;
+        text_is = p.text_is;
+        stays = elim p.stays [
+          | inl stays ↦ elim q.stays [ inl still ↦ inl (still.0 ∙ stays.0, stays.1) | inr lacks ↦ inr lacks ]
+          | inr lacks ↦ inr (lacks_still b.ended c.ended q.untold q.stays lacks)
+        ];
+      };
+      told = u.told;
+    }
+
+-- a connection while those that asked are told: it was told, or nothing was done with it, and it is still to be told if it asked
+abbrev pub ToldSoFar : List Answer → List ℕ → List ℕ → ℕ → Talk → Talk → Type 0
+ToldSoFar said asking left key old new = TellsOwn said old new ⊎ ((new ≡ old) × (Contains asking key → Contains left key))
+
+-- the step in which the connection under a key is told
+abbrev pub TellsOne : List Answer → ℕ → ℕ → Talk → Talk → Type 0
+TellsOne said key other old new = (other ≡ key → TellsOwn said old new) × (other ≢ key → new ≡ old)
+
+pub told_none : (said : List Answer) (asking : List ℕ) (s : Slab Seat) → EachGoes (ToldSoFar said asking asking) s s
+told_none said asking s = each_stays _ s (λ key a. inr (refl, λ h. h))
+
+told_one : (said : List Answer) (asking left left' : List ℕ) (key other : ℕ) (a b c : Talk) → left ≡ left' ++ key ∷ [] → ToldSoFar said asking left other a b
+    → TellsOne said key other b c → ToldSoFar said asking left' other a c
+told_one said asking left left' key other a b c popped told step = elim (eqb_tells other key) [
+  | inl same ↦ elim told [
+    | inl before ↦ inl (told_again said a b c before (step.0 same.1))
+    | inr silent ↦ inl (subst (λ (d : Talk). TellsOwn said d c) silent.0 (step.0 same.1))
+  ]
+  | inr apart ↦ elim told [
+    | inl before ↦ inl (subst (λ (d : Talk). TellsOwn said a d) (sym (step.1 apart.1)) before)
+    | inr silent ↦ inr (
+      step.1 apart.1 ∙ silent.0,
+      λ asked.
+          elim (Contains-push_cases left' key other (subst (λ (l : List ℕ). Contains l other) popped (silent.1 asked))) [
+            | inl there ↦ there
+            | inr is ↦ absurd (apart.1 (sym is))
+          ],
+    )
+  ]
+]
+
+pub told_more : (said : List Answer) (asking left left' : List ℕ) (key : ℕ) (s t u : Slab Seat) → left ≡ left' ++ key ∷ [] → EachGoes (ToldSoFar said asking left) s t
+    → EachGoes (TellsOne said key) t u → EachGoes (ToldSoFar said asking left') s u
+told_more said asking left left' key s t u popped told step = each_then _ _ _ s t u told step (λ other a b c before goes. told_one said asking left left' key other a b c popped before goes)
+
+pub told_all : (said : List Answer) (asking left : List ℕ) (s t : Slab Seat) → left ≡ [] → EachGoes (ToldSoFar said asking left) s t → EachGoes (TellsWhereAsked said asking) s t
+told_all said asking left s t none told = λ key seat there.
+    let one = told key seat there in (
+      one.0,
+      one.1,
+      elim one.2 [
+        | inl before ↦ inl before
+        | inr silent ↦ inr (silent.0, λ asked. let h = subst (λ (l : List ℕ). Contains l key) none (silent.1 asked) in absurd (omega (arith, h.1)))
+      ],
+    )
+
+-- a write of one connection
+pub each_written : (R : ℕ → Talk → Talk → Type 0) (s t : Slab Seat) (key : ℕ) (seat seat' : Seat) → get s key ≡ Some seat → Updates s t key (Some seat')
+    → R key seat.dialogue seat'.dialogue → ((other : ℕ) (a : Talk) → other ≢ key → R other a a) → EachGoes R s t
+each_written R s t key seat seat' was writes own others = λ other found there. elim (eqb_tells other key) [
+  | inl same ↦
+      let is : Some seat' ≡ Some found = sym writes.changed ∙ ap (λ (k : ℕ). get t k) (sym same.1) ∙ there in
+      let as_found : seat' ≡ found = cc in
+      (seat, ap (λ (k : ℕ). get s k) same.1 ∙ was, subst (λ (k : ℕ). R k seat.dialogue found.dialogue) (sym same.1) (subst (λ (x : Seat). R key seat.dialogue x.dialogue) as_found own))
+  | inr apart ↦ (found, sym (writes.others other apart.1) ∙ there, others other found.dialogue apart.1)
+]
+
+pub each_set : (R : ℕ → Talk → Talk → Type 0) (s : Slab Seat) (key : ℕ) (seat seat' : Seat) → Some seat ≡ get s key
+    → R key seat.dialogue seat'.dialogue → ((other : ℕ) (a : Talk) → other ≢ key → R other a a) → EachGoes R s (with_value s key seat')
+each_set R s key seat seat' was own others =
+    let some : IsSome (Some seat) = search rules in
+    let present : IsSome (get s key) = subst (λ (o : Option Seat). IsSome o) was some in
+    each_written R s (with_value s key seat') key seat seat' (sym was) (Updates-with_value s key seat' present) own others
+
+-- a connection is closed
+pub each_removed : (s t : Slab Seat) (key : ℕ) → Updates s t key None → EachGoes (λ other a b. b ≡ a) s t
+each_removed s t key removes = λ other found there. elim (eqb_tells other key) [
+  | inl same ↦
+      let none : None ≡ Some found = sym removes.changed ∙ ap (λ (k : ℕ). get t k) (sym same.1) ∙ there in
+      absurd (cc)
+  | inr apart ↦ (found, sym (removes.others other apart.1) ∙ there, refl)
+]
+
+-- a step of which no connection knows, behind another
+pub each_still : (R : ℕ → Talk → Talk → Type 0) (s t u : Slab Seat) → EachGoes R s t → EachGoes (λ other a b. b ≡ a) t u → EachGoes R s u
+each_still R s t u first still = each_then _ _ _ s t u first still (λ other a b c goes same. subst (λ (d : Talk). R other a d) (sym same) goes)
+
+-- the turn of one connection, which is then noted as asking or not
+pub turn_of_one : {D : Type 0} (takes : D → Ask → Withheld → D → Type 0) (tells : D → Name → Result Name Turn → D → Type 0) (peer : Peer) (key : ℕ) (old new : D) (withheld withheld' : List Withheld) (asking asking' : List ℕ) (after : After)
+    (seats seats' : Slab Seat) (seat seat' : Seat) → Some seat ≡ get seats key → SeatSteps takes tells peer old new withheld withheld' after seat.dialogue seat'.dialogue
+    → EachGoes (λ other a b. b ≡ a) (with_value seats key seat') seats' → ((other : ℕ) → Contains asking other → Contains asking' other)
+    → (IsAsking after → (found : Seat) → get seats' key ≡ Some found → Contains asking' key) → TurnOfOne takes tells key old new withheld withheld' asking asking' seats seats'
+turn_of_one takes tells peer key old new withheld withheld' asking asking' after seats seats' seat seat' was step settled still asks = record {
+  peer = peer;
+  lines = step.lines;
+  held = step.held;
+  behind = step.behind;
+  desk = step.desk;
+  still = still;
+  each = λ other found there.
+      let Own : Talk → Talk → Type 0 = λ a b. (Kept a b × (step.lines ≡ []) × (step.held ≡ [])) ⊎ (IsAsking after × LinesTaken step.lines step.held (length withheld) a b) in
+      let second = settled other found there in
+      let first = each_set (λ k a b. (k ≢ key → b ≡ a) × (k ≡ key → Own a b)) seats key seat seat' was (λ apart. absurd (apart refl), λ same. step.goes) (λ k a apart. (λ _. refl, λ same. absurd (apart same))) other second.0 second.1 in (
+        first.0,
+        first.1,
+        (
+          λ apart. second.2 ∙ first.2.0 apart,
+          λ same. subst (λ (d : Talk). StepsOrStays asking' key step.lines step.held (length withheld) first.0.dialogue d) (sym second.2) (elim (first.2.1 same) [
+            | inl kept ↦ inl kept
+            | inr took ↦ inr (asks took.0 found (ap (λ (k : ℕ). get seats' k) (sym same) ∙ there), took.1)
+          ]),
+        ),
+      );
+}
+
+-- nobody has a turn
+pub turn_of_none : {D : Type 0} (takes : D → Ask → Withheld → D → Type 0) (tells : D → Name → Result Name Turn → D → Type 0) (peer : Peer) (key : ℕ) (desk : D) (withheld : List Withheld) (asking : List ℕ) (seats : Slab Seat)
+    → None ≡ get seats key → TurnOfOne takes tells key desk desk withheld withheld asking asking seats seats
+turn_of_none takes tells peer key desk withheld asking seats none = record {
+  peer = peer;
+  lines = [];
+  held = [];
+  behind = sym (append-nil withheld);
+  desk = refl;
+  still = λ other asks. asks;
+  each = λ other found there. (
+    found,
+    there,
+    (
+      λ apart. refl,
+      λ same.
+          let both : None ≡ Some found = none ∙ ap (λ (k : ℕ). get seats k) (sym same) ∙ there in
+          absurd (cc),
+    ),
+  );
+}
+
+pub releases_none : {D E : Type 0} (releases : D → E → Withheld → Answer → Type 0) (moves : D → D → Type 0) (how : Withheld → Answer → Type 0) (desk : D) (withheld : List Withheld) (said : List Answer)
+    → length withheld ≡ 0 → AreReleased how withheld said → ReleasesAll releases moves desk withheld said desk
+releases_none releases moves how desk [] [] none a = (refl, refl)
+releases_none releases moves how desk [] (s ∷ said) none a = absurd a
+releases_none releases moves how desk (w ∷ withheld) said none a = absurd (omega (arith, none))
+
+pub releases_some : {D E : Type 0} (releases : D → E → Withheld → Answer → Type 0) (moves : D → D → Type 0) (old new : D) (evidence : E) (withheld : List Withheld) (said : List Answer)
+    → (length withheld ≡ 0 → ⊥) → moves old new → AreReleased (releases old evidence) withheld said → ReleasesAll releases moves old withheld said new
+releases_some releases moves old new evidence [] said some m a = absurd (some refl)
+releases_some releases moves old new evidence (w ∷ withheld) said some m a = (m, evidence, a)

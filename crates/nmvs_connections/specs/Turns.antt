@@ -1,0 +1,164 @@
+-- What a worker's turn makes of its connections, and of the desk that they share (own).
+use Rattle.std.specs.Prelude.{◌≡◌, ◌≢◌, ◌⊎◌, ◌==◌, if◌then◌else◌, ℕ, List, [], ◌∷◌, ◌++◌, length, take, drop, Option, Some, None, Result}
+use Rattle.std.specs.List.{Contains}
+use Rattle.slab.specs.Slab.{Slab, get}
+use Rattle.nmvs_identifier.specs.Name.{Name}
+use Rattle.nmvs_protocol.specs.declared.ask.Ask.{Ask}
+use Rattle.nmvs_protocol.specs.declared.answer.Answer.{Answer}
+use Rattle.nmvs_protocol.specs.declared.answer.Turn.{Turn}
+use Rattle.nmvs_protocol.specs.declared.peer.Peer.{Peer}
+use Rattle.nmvs_protocol.specs.declared.withheld.Withheld.{Withheld}
+use Rattle.nmvs_protocol.specs.Peers.{TakesOf}
+use Rattle.nmvs_protocol.specs.Session.{AreReleased, TakesLines, session_text}
+use Rattle.nmvs_stream.specs.InputLines.{input_lines}
+use Rattle.nmvs_connections.specs.declared.seat.Seat.{Seat}
+use Rattle.nmvs_connections.specs.declared.seat.After.{After}
+use Rattle.nmvs_connections.specs.declared.seat.After.TheVariants as afters
+use Rattle.nmvs_connections.specs.Replies.{Talk, TellsPart, LacksMemory}
+
+-- lines of the connection under this key that were taken together, each asked for the peer at its other end, and what was
+-- withheld of their answers
+pub record Taking : Type 0 where
+  pub key : ℕ
+  pub peer : Peer
+  pub lines : List (List ℕ)
+  pub held : List Withheld
+
+-- all that was withheld, in order
+abbrev pub held_of : List Taking → List Withheld
+held_of [] = []
+held_of (t ∷ more) = t.held ++ held_of more
+
+-- the desk goes from old to new by exactly the takes of these lines
+abbrev pub TakesAll : {D : Type 0} → (D → Ask → Withheld → D → Type 0) → (D → Name → Result Name Turn → D → Type 0) → D → List Taking → D → Type 0
+TakesAll takes tells old [] new = new ≡ old
+TakesAll {D} takes tells old (t ∷ more) new = (mid : D) × TakesLines (TakesOf takes tells t.peer) old t.lines t.held mid × TakesAll takes tells mid more new
+
+-- what is withheld is released at once, all of it; where there is none the desk is not asked
+abbrev pub ReleasesAll : {D E : Type 0} → (D → E → Withheld → Answer → Type 0) → (D → D → Type 0) → D → List Withheld → List Answer → D → Type 0
+ReleasesAll releases moves old [] said new = (said ≡ []) × (new ≡ old)
+ReleasesAll {E = E} releases moves old (w ∷ withheld) said new = moves old new × (evidence : E) × AreReleased (releases old evidence) (w ∷ withheld) said
+
+-- what was taken between two releases, and what the second let be told
+pub record Round : Type 0 where
+  pub takings : List Taking
+  pub said : List Answer
+
+-- a round takes the desk from old to new
+pub record GoesRound {D E : Type 0} (takes : D → Ask → Withheld → D → Type 0) (tells : D → Name → Result Name Turn → D → Type 0) (releases : D → E → Withheld → Answer → Type 0) (moves : D → D → Type 0) (old : D) (round : Round) (new : D) : Type 0 where
+  pub asked : D
+  pub taken : TakesAll takes tells old round.takings asked
+  pub released : ReleasesAll releases moves asked (held_of round.takings) round.said new
+
+-- rounds take the desk from old to new
+abbrev pub GoesRounds : {D E : Type 0} → (D → Ask → Withheld → D → Type 0) → (D → Name → Result Name Turn → D → Type 0) → (D → E → Withheld → Answer → Type 0) → (D → D → Type 0) → D → List Round → D → Type 0
+GoesRounds takes tells releases moves old [] new = new ≡ old
+GoesRounds {D} takes tells releases moves old (r ∷ more) new = (mid : D) × GoesRound takes tells releases moves old r mid × GoesRounds takes tells releases moves mid more new
+
+-- the lines of one connection among those that were taken
+abbrev pub lines_to : ℕ → List Taking → List (List ℕ)
+lines_to key [] = []
+lines_to key (t ∷ more) = (if t.key == key then t.lines else []) ++ lines_to key more
+
+-- the answers to the lines of one connection, among those to the lines of all
+abbrev pub answers_to : ℕ → List Taking → List Answer → List Answer
+answers_to key [] said = []
+answers_to key (t ∷ more) said = (if t.key == key then take (length t.held) said else []) ++ answers_to key more (drop (length t.held) said)
+
+-- the lines of one connection in these rounds
+abbrev pub lines_in : ℕ → List Round → List (List ℕ)
+lines_in key [] = []
+lines_in key (r ∷ more) = lines_to key r.takings ++ lines_in key more
+
+-- the answers to them
+abbrev pub answers_in : ℕ → List Round → List Answer
+answers_in key [] = []
+answers_in key (r ∷ more) = answers_to key r.takings r.said ++ answers_in key more
+
+-- a connection that bytes were fed to and replies were gathered for: the lines that were completed are its lines of these rounds,
+-- and the replies are the texts of the answers to them, in order, up to want of memory. It waits for no answer
+pub record Answered (key : ℕ) (rounds : List Round) (old new : Talk) : Type 0 where
+  pub lines : input_lines new.fed ≡ input_lines old.fed ++ lines_in key rounds
+  pub text : List ℕ
+  pub untold : List ℕ
+  pub replies : new.sent ++ new.unsent ≡ (old.sent ++ old.unsent) ++ text
+  pub text_is : session_text (answers_in key rounds) ≡ text ++ untold
+  pub all : (untold ≡ []) ⊎ LacksMemory new.ended
+  pub told : new.waiting ≡ 0
+
+-- each connection that is there was there, and has gone so
+abbrev pub EachGoes : (ℕ → Talk → Talk → Type 0) → Slab Seat → Slab Seat → Type 0
+EachGoes goes old new = (key : ℕ) (seat' : Seat) → get new key ≡ Some seat' → (seat : Seat) × (get old key ≡ Some seat) × goes key seat.dialogue seat'.dialogue
+
+-- a turn of a worker: rounds take the desk from old to new, and each connection that waited for no answer is answered in them,
+-- whatever others are served between its lines
+pub record WorkerTurn {D E : Type 0} (takes : D → Ask → Withheld → D → Type 0) (tells : D → Name → Result Name Turn → D → Type 0) (releases : D → E → Withheld → Answer → Type 0) (moves : D → D → Type 0) (old new : D) (seats seats' : Slab Seat) : Type 0 where
+  pub rounds : List Round
+  pub desk : GoesRounds takes tells releases moves old rounds new
+  pub each : EachGoes (λ key talk talk'. talk.waiting ≡ 0 → Answered key rounds talk talk') seats seats'
+
+-- replies may have been sent, and nothing else
+pub record Kept (old new : Talk) : Type 0 where
+  pub fed : new.fed ≡ old.fed
+  pub text : new.sent ++ new.unsent ≡ old.sent ++ old.unsent
+  pub ended : new.ended ≡ old.ended
+  pub first : new.first ≡ old.first
+  pub waiting : new.waiting ≡ old.waiting
+
+-- lines were taken, whose answers stand from this place on among those that are withheld
+pub record LinesTaken (lines : List (List ℕ)) (held : List Withheld) (first : ℕ) (old new : Talk) : Type 0 where
+  pub lines_are : input_lines new.fed ≡ input_lines old.fed ++ lines
+  pub text : new.sent ++ new.unsent ≡ old.sent ++ old.unsent
+  pub open_still : old.ended ≡ None
+  pub told : old.waiting ≡ 0
+  pub starts : new.first ≡ first
+  pub waits : new.waiting ≡ length held
+  pub sound : LacksMemory new.ended → ⊥
+
+-- the connection waits for a release
+abbrev pub IsAsking : After → Type 0
+IsAsking afters.Asks = Unit {0}
+IsAsking afters.AsksAtOnce = Unit {0}
+IsAsking _ = ⊥
+
+-- a connection's step behind what was withheld: it took these lines, and asks for their release; or none, and has done no more
+-- than to send
+pub record SeatSteps {D : Type 0} (takes : D → Ask → Withheld → D → Type 0) (tells : D → Name → Result Name Turn → D → Type 0) (peer : Peer) (old new : D) (withheld withheld' : List Withheld) (after : After) (talk talk' : Talk) : Type 0 where
+  pub lines : List (List ℕ)
+  pub held : List Withheld
+  pub behind : withheld' ≡ withheld ++ held
+  pub desk : TakesLines (TakesOf takes tells peer) old lines held new
+  pub goes : (Kept talk talk' × (lines ≡ []) × (held ≡ [])) ⊎ (IsAsking after × LinesTaken lines held (length withheld) talk talk')
+
+-- the connection told its part of what was released
+pub record TellsOwn (released : List Answer) (old new : Talk) : Type 0 where
+  pub fed : new.fed ≡ old.fed
+  pub text : List ℕ
+  pub replies : new.sent ++ new.unsent ≡ (old.sent ++ old.unsent) ++ text
+  pub tells : TellsPart old.first old.waiting released text old.ended new.ended
+  pub told : new.waiting ≡ 0
+
+-- each connection that asked told its part of what was released, once; no other did anything
+abbrev pub TellsWhereAsked : List Answer → List ℕ → ℕ → Talk → Talk → Type 0
+TellsWhereAsked released asking key old new = TellsOwn released old new ⊎ ((new ≡ old) × (Contains asking key → ⊥))
+
+-- what was withheld is released at once, and each connection that asked tells its part of that
+pub record TellsAll {D E : Type 0} (releases : D → E → Withheld → Answer → Type 0) (moves : D → D → Type 0) (old new : D) (withheld : List Withheld) (asking : List ℕ) (seats seats' : Slab Seat) : Type 0 where
+  pub said : List Answer
+  pub released : ReleasesAll releases moves old withheld said new
+  pub each : EachGoes (TellsWhereAsked said asking) seats seats'
+
+-- lines of the connection were taken, and it asks for the release of their answers; or none, and it has done no more than to send
+abbrev pub StepsOrStays : List ℕ → ℕ → List (List ℕ) → List Withheld → ℕ → Talk → Talk → Type 0
+StepsOrStays asking key lines held first old new = (Kept old new × (lines ≡ []) × (held ≡ [])) ⊎ (Contains asking key × LinesTaken lines held first old new)
+
+-- the turn of the connection under this key: the desk goes through the takes of its lines, and their answers are put behind those
+-- that are withheld; if there are any, it asks for their release. No other connection has changed
+pub record TurnOfOne {D : Type 0} (takes : D → Ask → Withheld → D → Type 0) (tells : D → Name → Result Name Turn → D → Type 0) (key : ℕ) (old new : D) (withheld withheld' : List Withheld) (asking asking' : List ℕ) (seats seats' : Slab Seat) : Type 0 where
+  pub peer : Peer
+  pub lines : List (List ℕ)
+  pub held : List Withheld
+  pub behind : withheld' ≡ withheld ++ held
+  pub desk : TakesLines (TakesOf takes tells peer) old lines held new
+  pub still : (other : ℕ) → Contains asking other → Contains asking' other
+  pub each : EachGoes (λ other talk talk'. (other ≢ key → talk' ≡ talk) × (other ≡ key → StepsOrStays asking' key lines held (length withheld) talk talk')) seats seats'

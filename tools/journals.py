@@ -1,0 +1,176 @@
+"""What the tools about journals have in common: the built program over a journal, the disk under it (tools/disk.c), and what
+stands in the journal's files."""
+import json
+import os
+import pathlib
+import signal
+import struct
+import subprocess
+import threading
+
+import model
+from terminal import Terminal
+
+TOP = pathlib.Path(__file__).resolve().parent.parent
+PROGRAM = TOP / "crates/nmvs_serve/out/nmvs_serve"
+CHECKER = TOP / "crates/nmvs_check/out/nmvs_check"
+BOUND = 300  # seconds that any wait takes at most; a start reads the whole journal
+SHARDS = 2
+
+passed, failed = [], []
+
+
+def judge(what, holds, seen=""):
+    (passed if holds else failed).append(what)
+    print(f"{what}: {'as it should be' if holds else 'WRONG'} {seen}".rstrip(), flush=True)
+
+
+class Disk:
+    """The files in a folder as tools/disk.c sees them: which calls there were, and what was confirmed of each file."""
+
+    CALLS = ("write", "sync", "open", "lock", "truncate")
+    FILES, NAME = 32, 120
+
+    def __init__(self, place, folder):
+        self.folder, self.library, self.notes = folder, place / "disk.so", place / "notes"
+        source = TOP / "tools/disk.c"
+        subprocess.run(["cc", "-O2", "-shared", "-fPIC", "-o", self.library, source], check=True)
+
+    def environment(self, call=None, number=0, fault="", delay=0):
+        """For a program whose call of this kind and number fails so, and whose syncs take so many microseconds longer."""
+        self.notes.write_bytes(bytes(8 * len(self.CALLS) + (self.NAME + 8) * self.FILES))
+        told = {"LD_PRELOAD": self.library, "DISK_FOLDER": self.folder, "DISK_NOTES": self.notes, "DISK_DELAY": delay}
+        if call:
+            told.update(DISK_CALL=call, DISK_NUMBER=number, DISK_FAULT=fault)
+        return {**os.environ, **{name: str(value) for name, value in told.items()}}
+
+    def calls(self):
+        """How many calls of each kind there were."""
+        return dict(zip(self.CALLS, struct.unpack_from(f"{len(self.CALLS)}q", self.notes.read_bytes())))
+
+    def confirmed(self):
+        """How many bytes of each file were confirmed, by its name."""
+        noted = self.notes.read_bytes()[8 * len(self.CALLS):]
+        rows = struct.iter_unpack(f"{self.NAME}sq", noted)
+        return {name.rstrip(b"\0").decode(): length for name, length in rows if name[0]}
+
+
+class Server:
+    """The program over the journal of a folder, which listens on a port that is free."""
+
+    def __init__(self, place, folder, *options, environment=None, before=()):
+        users = place / "users"
+        users.write_text(model.USERS_TEXT)
+        command = [*before, PROGRAM, "--users", users, "--journal", folder, "--port", "0", "--shards", str(SHARDS),
+                   "--moment", str(model.MOMENT), *options]
+        pipe = subprocess.PIPE
+        self.process = subprocess.Popen(command, stdin=pipe, stdout=pipe, stderr=pipe, text=True, env=environment)
+        self.is_late = False
+        bound = threading.Timer(BOUND, self.give_up)
+        bound.start()
+        told = self.process.stdout.readline()
+        bound.cancel()
+        self.port = int(told.split()[1]) if told.startswith("LISTENING ") else None
+
+    def give_up(self):
+        """Ends a start that takes too long."""
+        self.is_late = True
+        self.process.kill()
+
+    def refusal(self):
+        """How a start ended that does not listen: what it told on standard error, its status, and whether it took too long."""
+        faults = self.ended()[1]
+        return faults, self.process.returncode, "took too long" if self.is_late else "ended by itself"
+
+    def command(self, text):
+        """What a command is answered, or nothing where the server ended."""
+        try:
+            self.process.stdin.write(text + "\n")
+            self.process.stdin.flush()
+            return self.process.stdout.readline()
+        except OSError:
+            return ""
+
+    def resident(self):
+        """Bytes of memory that the program has."""
+        status = pathlib.Path(f"/proc/{self.process.pid}/status").read_text()
+        return int(status.split("VmRSS:")[1].split()[0]) << 10
+
+    def kill(self):
+        """Ends it as kill -9 does: what was not read of its answers, and what it told on standard error."""
+        self.process.send_signal(signal.SIGKILL)
+        return self.ended()
+
+    def ended(self):
+        said, faults = self.process.communicate(timeout=BOUND)
+        return said, faults
+
+
+class Asker(threading.Thread):
+    """A terminal that puts questions, so many in flight, until its session ends or there are none."""
+
+    def __init__(self, port, questions, window):
+        super().__init__()
+        self.port, self.questions, self.window = port, questions, window
+        self.asked, self.told = [], []
+
+    def run(self):
+        try:
+            terminal = Terminal(self.port)
+            for user, word, fields in self.questions:
+                self.asked.append((user, word, fields))
+                terminal.send(" ".join([user, word, *fields]))
+                if len(self.asked) - len(self.told) >= self.window:
+                    self.told.append(terminal.reply())
+            while len(self.told) < len(self.asked):
+                self.told.append(terminal.reply())
+            terminal.close()
+        except OSError:
+            pass
+
+
+def journal_files(folder):
+    return sorted(folder.glob("shard-*-of-*.txt"))
+
+
+def kept_commands(folder):
+    """The commands that a journal's users file has; the line above each tells when it was given."""
+    return [line for line in (folder / "users.txt").read_text().splitlines() if not line.startswith("#")]
+
+
+def entries_by_code(folder):
+    """The lines of a journal by their product codes, in order."""
+    entries = {}
+    for path in journal_files(folder):
+        for line in path.read_text().splitlines():
+            entries.setdefault(json.loads(line)[6][1], []).append(line)
+    return entries
+
+
+def faults_of(product, asker, lines):
+    """Lets the model follow what a journal has of these questions behind what it had, and tells what is wrong: each reply that
+    was read has its entry there, in order, and whatever else is there is that of the next questions."""
+    had = len(product.entries)
+    for number, question in enumerate(asker.asked):
+        if number >= len(asker.told) and len(product.entries) - had >= len(lines):
+            break
+        due = product.ask(*question)
+        if number < len(asker.told) and asker.told[number] != due:
+            return [(question, asker.told[number], due)]
+    entries = [line for _, line in product.entries[had:]]
+    if entries == lines:
+        return []
+    place = next((i for i, pair in enumerate(zip(entries, lines)) if pair[0] != pair[1]), min(len(entries), len(lines)))
+    return [(len(asker.told), len(entries), len(lines), entries[place:place + 1], lines[place:place + 1])]
+
+
+def lawful(folder):
+    """What the checker says of a journal: its first line, or a fault."""
+    ended = subprocess.run([CHECKER, *journal_files(folder)], capture_output=True, text=True, timeout=600)
+    return ended.stdout.partition("\n")[0] or ended.stderr.strip()
+
+
+def closing():
+    """Tells how many checks held, and gives the status of that."""
+    print(f"{len(passed)} passed, {len(failed)} failed")
+    return 1 if failed else 0
