@@ -25,6 +25,7 @@ mod kept_users;
 mod launch;
 mod opening;
 mod rehearsal;
+mod rehearsal_packs;
 mod roster;
 mod service;
 mod users_file;
