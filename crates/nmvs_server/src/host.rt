@@ -1,4 +1,5 @@
 //! What a run uses of the machine, and what it goes by.
+use log::Log;
 use nmvs_connections::{Hall, Listener};
 use nmvs_desk::Repository;
 use nmvs_directory::{Naming, Notice};
@@ -16,10 +17,11 @@ use std::rt::{Clock, Files};
 use std::sync::{Mutex, Wait};
 use std::thread::Threads;
 
-/// What a run uses of the machine.
-pub trait Host: Files<File = File> + Clock + Threads + Wait + Net + RandomSource + Eprint {}
+/// What a run uses of the machine. What happens is told to the operator by its log.
+pub trait Host: Files<File = File> + Clock + Threads + Wait + Net + RandomSource + Eprint + Log {}
 
-impl<R: Files<File = File> + Clock + Threads + Wait + Net + RandomSource + Eprint> Host for R {}
+impl<R: Files<File = File> + Clock + Threads + Wait + Net + RandomSource + Eprint + Log> Host
+    for R {}
 
 /// What a run goes by.
 #[derive(Drop)]

@@ -24,6 +24,7 @@ mod journal_files;
 mod kept_users;
 mod launch;
 mod opening;
+mod progress;
 mod rehearsal;
 mod rehearsal_packs;
 mod roster;

@@ -3,11 +3,12 @@ ghost use Rattle.std.specs.Prelude.{◌≡◌};
 ghost use Rattle.nmvs_server.specs.Bounds.{sessions_of};
 
 use crate::announcements::{listening_at, listening_on};
-use crate::host::Shared;
+use crate::host::{Run, Shared};
 use crate::journal_files::JournalAlarm;
 use crate::kept_users::KeptUsers;
 use crate::service::Running;
 use crate::{ClerkDesk, JournalDesk, ProgramClock};
+use log::{Log, info};
 use nmvs_connections::{Bounds, Hall, Listener, Station, admit, serve};
 use nmvs_desk::Clerk;
 use nmvs_directory::{Naming, Registrar};
@@ -49,7 +50,7 @@ pub(crate) fn bounds_of(options: &Options, workers: usize) -> Bounds
 
 /// Serves the connections that are dealt to the worker of this number, and gives the clerk back. Where it can't go on it
 /// ends the service.
-fn work<'r, R: Wait + Clock + Eprint, J: Naming, H: Histories>(
+fn work<'r, R: Wait + Clock + Log, J: Naming, H: Histories>(
     shared: &Shared<'_, '_, 'r, '_, R, J, H>,
     clerk: Clerk<'r, J, H>,
     number: usize,
@@ -106,7 +107,7 @@ fn keep_door<R: Wait>(rt: &R, hall: &Hall, listener: &Listener, door: Station) {
 pub(crate) fn serve_connections<
     'r,
     // Not `Host`: what a thread runs may rest on traits of the library alone.
-    R: Threads + Wait + Clock + Files + Eprint + Sync,
+    R: Threads + Wait + Clock + Files<File = File> + Eprint + Log + Sync,
     J: Naming + Send + Sync,
     H: Histories + Send + Sync,
     T: Sides,
@@ -140,7 +141,7 @@ pub(crate) fn serve_connections<
         };
         *ready = true;
         drop(ready);
-        tell_port(*run.alloc, run.options, shared.listener, &mut console.sink);
+        tell_port(run, shared.listener, &mut console.sink);
         let mut latest = Latest::new(run.rt, shared.latest);
         let mut service = Running { shared, users };
         obey_all(*run.alloc, console, registrar, &mut latest, &mut service);
@@ -153,10 +154,17 @@ pub(crate) fn serve_connections<
 }
 
 /// Tells on which port the program listens, or where its socket is. A failed write changes nothing.
-fn tell_port<W: Sink>(alloc: Global, options: &Options, listener: &Listener, out: &mut W) {
-    let text = match (listener.port(), &options.socket) {
-        (Some(port), _) => listening_on(alloc, port),
-        (None, Some(path)) => listening_at(alloc, path),
+fn tell_port<R: Log, W: Sink>(run: &Run<'_, '_, R>, listener: &Listener, out: &mut W) {
+    let alloc = *run.alloc;
+    let text = match (listener.port(), &run.options.socket) {
+        (Some(port), _) => {
+            info!(run.rt; port; "listening");
+            listening_on(alloc, port)
+        }
+        (None, Some(path)) => {
+            info!(run.rt; socket = path.as_str(); "listening");
+            listening_at(alloc, path)
+        }
         (None, None) => return,
     };
     if let Ok(text) = text {
