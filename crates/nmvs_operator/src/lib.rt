@@ -26,7 +26,7 @@ pub use figures::{Figure, Topic};
 pub use latest::Latest;
 pub use options::{
     DEFAULT_PORT, LogFormat, MOST_CONNECTIONS, MOST_IDLE, MOST_RATE, MOST_SESSIONS, MOST_SHARDS,
-    MOST_WORKERS, NEW_YEAR, OptionFault, Options, read_options,
+    MOST_WORKERS, NEW_YEAR, OptionFault, Options, VERSION, read_options,
 };
 pub use order::{Order, read_order};
 pub use service::{Deed, Service, ServiceFault};

@@ -122,7 +122,8 @@ const ABOUT: &str =
     "The national medicines verification repository: answers lines of users over connections, and takes commands of its \
     operator on standard input.";
 
-const VERSION: &str = "1 (proved by rattle-kit-13f logic dac8208d650f15bf)";
+/// The version of the program, and the toolchain that it is proved by (own).
+pub const VERSION: &str = "1 (proved by rattle-kit-13f logic dac8208d650f15bf)";
 
 const REHEARSAL: &str =
     "Without any option the program is a rehearsal: one session over standard input and output, with an empty \
