@@ -4,13 +4,18 @@
 ghost use Rattle.std.specs.Prelude.{IfOk};
 ghost use Rattle.nmvs_operator.specs.Options.{AreInRange};
 
+use log::Log;
+use nmvs_admin::{AdminFault, open, remove_socket};
 use nmvs_config::{ConfigFault, config_path, read_config, with_config};
 use nmvs_operator::{Console, OptionFault, Options, read_options};
-use nmvs_server::{Fault, serve_rehearsal, start};
-use nmvs_stream::Device;
+use nmvs_server::{Fault, Host, Outcome, serve_rehearsal, start};
+use nmvs_stream::{Device, Sink, Source};
+use std::alloc::Global;
 use std::io::{BufWriter, Eprint, IsTerminal, Print};
+use std::net::Net;
 use std::process::ExitCode;
-use std::rt::{Env, Files};
+use std::rt::{Clock, Env, Files};
+use std::sync::Wait;
 use std::{env, fs, io};
 
 /// What the rehearsal is, told where somebody sits at a terminal.
@@ -35,11 +40,50 @@ fn main(rt: HostRuntime) -> ExitCode {
         return ended(&rt, &[rehearsed.err()]);
     }
     match options(&rt, words) {
-        Ok(options) => {
+        Ok(options) if options.stdin => {
             let outcome = start(&rt, alloc, &options, &mut console);
             ended(&rt, &[outcome.session, outcome.program])
         }
+        Ok(options) => {
+            let outcome = serve(rt, &rt, alloc, &options, console);
+            ended(&rt, &[outcome.session, outcome.program])
+        }
         Err(status) => status,
+    }
+}
+
+/// Serves connections, while commands come by the console and by the socket of the options, where they name one. The first
+/// handle is the console's own.
+fn serve<'o, C: Log + Wait + Clock + Files + Net + Drop, R: Host + Sync, I: Source + Drop, W: Sink + Drop>(
+    own: C,
+    rt: &R,
+    alloc: Global,
+    options: &'o Options,
+    console: Console<(I, W)>,
+) -> Outcome<'o>
+    requires options { AreInRange options.now }
+{
+    let path = options.admin.as_deref();
+    match open(own, alloc, console, path) {
+        Ok(mut console) => {
+            let outcome = start(rt, alloc, options, &mut console);
+            if let Some(path) = path {
+                let _gone = remove_socket(rt, path);
+            }
+            outcome
+        }
+        Err(fault) => Outcome {
+            session: None,
+            program: Some(fault_of(fault, path)),
+        },
+    }
+}
+
+/// Why commands are not taken at this path.
+fn fault_of(fault: AdminFault, path: Option<&str>) -> Fault<'_> {
+    match (fault, path) {
+        (AdminFault::Socket, Some(path)) => Fault::CannotListenAt(path),
+        _ => Fault::Memory,
     }
 }
 
