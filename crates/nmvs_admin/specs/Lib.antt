@@ -1,2 +1,2 @@
 pub mod Incoming
-pub mod Turns
+pub mod Exchanges

@@ -4,7 +4,7 @@ ghost use Rattle.nmvs_stream.specs.Source.{untouched_source};
 ghost use Rattle.nmvs_stream.specs.Sink.{untouched_sink};
 ghost use Rattle.nmvs_stream.specs.Device.{told_of, taken_of};
 
-use crate::gate::Gate;
+use crate::connections::Connections;
 use crate::socket::listen_at;
 use crate::switchboard::Switchboard;
 use log::Log;
@@ -75,12 +75,12 @@ pub fn open<R: Log + Wait + Clock + Files + Net + Drop, I: Source + Drop, W: Sin
     ensures source { IfOk result (λ console. told_of console.source ≡ untouched_source) }
     ensures sink { IfOk result (λ console. taken_of console.sink ≡ untouched_sink) }
 {
-    let gate = match path {
-        Some(path) => Some(gate_at(&rt, alloc, path)?),
+    let connections = match path {
+        Some(path) => Some(connections_at(&rt, alloc, path)?),
         None => None,
     };
     let Console { source, sink } = standard;
-    let switchboard = Mutex::new(Switchboard::new(alloc, source, sink, gate));
+    let switchboard = Mutex::new(Switchboard::new(alloc, source, sink, connections));
     let Ok(shared) = Arc::new(alloc, Shared { rt, switchboard }) else {
         return Err(AdminFault::Memory);
     };
@@ -90,10 +90,10 @@ pub fn open<R: Log + Wait + Clock + Files + Net + Drop, I: Source + Drop, W: Sin
     Ok(Console::new(Device::new(lines), Device::new(Answers { shared })))
 }
 
-/// The gate of a socket at the path.
-fn gate_at<R: Files + Net>(rt: &R, alloc: Global, path: &str) -> Result<Gate, AdminFault> {
-    match listen_at(rt, path).and_then(|listener| Gate::open(rt, alloc, listener)) {
-        Ok(gate) => Ok(gate),
+/// The connections of a socket at the path.
+fn connections_at<R: Files + Net>(rt: &R, alloc: Global, path: &str) -> Result<Connections, AdminFault> {
+    match listen_at(rt, path).and_then(|listener| Connections::open(rt, alloc, listener)) {
+        Ok(connections) => Ok(connections),
         Err(error) if error.kind() == ErrorKind::OutOfMemory => Err(AdminFault::Memory),
         Err(_) => Err(AdminFault::Socket),
     }
@@ -115,6 +115,6 @@ impl<R: Log + Wait + Clock, I: Source, W: Sink> Write for Answers<R, I, W> {
 
     fn flush(&mut self) -> io::Result<()> {
         let Shared { rt, switchboard } = &*self.shared;
-        switchboard.lock(rt).end_turn(rt)
+        switchboard.lock(rt).end_exchange(rt)
     }
 }

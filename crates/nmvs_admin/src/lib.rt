@@ -6,15 +6,15 @@
 #![tactic(auto)]
 
 mod connection;
+mod connections;
 mod console;
-mod gate;
+mod exchange;
 mod incoming;
 mod logged;
 mod socket;
 mod switchboard;
 #[cfg(test)]
 mod tests;
-mod turn;
 
 pub use console::{AdminFault, AdminSides, open};
 pub use socket::remove_socket;

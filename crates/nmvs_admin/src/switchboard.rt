@@ -1,8 +1,8 @@
 //! The sides of a console, joined.
-use crate::gate::{Gate, MOST_CONNECTIONS};
+use crate::connections::{Connections, MOST_CONNECTIONS};
 use crate::incoming::Incoming;
 use crate::logged::{Shown, last_line};
-use crate::turn::{Said, Side, Turn};
+use crate::exchange::{Said, Side, Exchange};
 use log::{Log, info};
 use nmvs_protocol::{PendingLine, READ_SIZE};
 use nmvs_stream::{Failed, Sink, Source, deliver};
@@ -24,26 +24,26 @@ const NO_MEMORY: &[u8] = b"FAULT MEMORY\n";
 /// Standard input and output, and the connections of a socket, where there is one.
 #[derive(Drop)]
 pub(crate) struct Switchboard<I, W> {
-    turn: Turn,
+    exchange: Exchange,
     input: I,
     output: W,
     incoming: Incoming,
     /// Whether standard input ended.
     is_over: bool,
-    gate: Option<Gate>,
+    connections: Option<Connections>,
     /// The side that is looked at first for the next line.
     first: usize,
 }
 
 impl<I: Source, W: Sink> Switchboard<I, W> {
-    pub(crate) fn new(alloc: Global, input: I, output: W, gate: Option<Gate>) -> Switchboard<I, W> {
+    pub(crate) fn new(alloc: Global, input: I, output: W, connections: Option<Connections>) -> Switchboard<I, W> {
         Switchboard {
-            turn: Turn::new(alloc),
+            exchange: Exchange::new(alloc),
             input,
             output,
             incoming: Incoming::new(),
             is_over: false,
-            gate,
+            connections,
             first: 0,
         }
     }
@@ -59,19 +59,19 @@ impl<I: Source, W: Sink> Switchboard<I, W> {
         rt: &R,
         buffer: &mut [u8],
     ) -> io::Result<usize> {
-        if self.turn.is_read() {
+        if self.exchange.is_read() {
             self.wait_for_line(rt)?;
         }
-        Ok(self.turn.read(buffer))
+        Ok(self.exchange.read(buffer))
     }
 
-    /// Waits until a side has its turn, or no line can come any more.
+    /// Waits until a line of a side is handed over, or none can come any more.
     fn wait_for_line<R: Wait + Clock + Log>(&mut self, rt: &R) -> io::Result<()> {
         for _ in rt.forever() {
             if self.begin_next() {
                 return Ok(());
             }
-            if self.is_over && self.gate.is_none() {
+            if self.is_over && self.connections.is_none() {
                 self.begin_last();
                 return Ok(());
             }
@@ -81,13 +81,13 @@ impl<I: Source, W: Sink> Switchboard<I, W> {
         unreachable!()
     }
 
-    /// Begins the turn of the next side that has a line, and tells whether there is one. The sides have their turns in a row.
+    /// Hands over a line of the next side that has one, and tells whether there is one. The sides have their turns in a row.
     fn begin_next(&mut self) -> bool {
         for step in 0..MOST_SIDES {
             let place = self.first.wrapping_add(step) % MOST_SIDES;
             let side = side_of(place);
             if let Some(line) = self.next_line(side) {
-                self.turn.begin(side, line, true);
+                self.exchange.begin(side, line, true);
                 self.first = place.wrapping_add(1);
                 return true;
             }
@@ -99,7 +99,7 @@ impl<I: Source, W: Sink> Switchboard<I, W> {
     fn next_line(&mut self, side: Side) -> Option<PendingLine> {
         match side {
             Side::Standard => self.incoming.next_line(),
-            Side::Connection(number) => self.gate.as_mut()?.next_line(number),
+            Side::Connection(number) => self.connections.as_mut()?.next_line(number),
         }
     }
 
@@ -107,7 +107,7 @@ impl<I: Source, W: Sink> Switchboard<I, W> {
     fn begin_last(&mut self) {
         let begun = self.incoming.take_begun();
         if !begun.is_empty() {
-            self.turn.begin(Side::Standard, begun, false);
+            self.exchange.begin(Side::Standard, begun, false);
         }
     }
 
@@ -118,16 +118,16 @@ impl<I: Source, W: Sink> Switchboard<I, W> {
             self.end_side(rt, Side::Standard, begun);
         }
         for _ in 0..MOST_CONNECTIONS {
-            let over = match &mut self.gate {
-                Some(gate) => gate.next_over(),
+            let over = match &mut self.connections {
+                Some(connections) => connections.next_over(),
                 None => None,
             };
             let Some((number, begun)) = over else {
                 return;
             };
             self.end_side(rt, Side::Connection(number), begun);
-            if let Some(gate) = &mut self.gate {
-                gate.close(number);
+            if let Some(connections) = &mut self.connections {
+                connections.close(number);
             }
         }
     }
@@ -141,9 +141,9 @@ impl<I: Source, W: Sink> Switchboard<I, W> {
 
     /// Looks what the sides send. It waits where none has sent anything.
     fn look(&mut self) -> io::Result<()> {
-        if let Some(gate) = &mut self.gate {
-            let has_work = !self.is_over && gate.is_standard_ready();
-            gate.wait(has_work)?;
+        if let Some(connections) = &mut self.connections {
+            let has_work = !self.is_over && connections.is_standard_ready();
+            connections.wait(has_work)?;
         }
         self.read_standard();
         Ok(())
@@ -151,8 +151,8 @@ impl<I: Source, W: Sink> Switchboard<I, W> {
 
     /// Reads standard input once, where it may be read.
     fn read_standard(&mut self) {
-        let is_ready = match &self.gate {
-            Some(gate) => gate.is_standard_ready(),
+        let is_ready = match &self.connections {
+            Some(connections) => connections.is_standard_ready(),
             None => true,
         };
         if self.is_over || !is_ready || !self.incoming.is_looked_through() {
@@ -163,32 +163,32 @@ impl<I: Source, W: Sink> Switchboard<I, W> {
             Ok(count) if count > 0 => self.incoming.extend(&buffer[..count]),
             Ok(_) | Err(Failed) => self.is_over = true,
         }
-        if let Some(gate) = &mut self.gate {
-            gate.watch_standard();
+        if let Some(connections) = &mut self.connections {
+            connections.watch_standard();
         }
     }
 
-    /// Says this to the side whose turn it is.
+    /// Says this to the side whose line was handed over last.
     ///
     /// # Errors
     ///
     /// There is no memory for it. The side is told so in place of its answer.
     pub(crate) fn say<R: Wait + Clock + Log>(&mut self, rt: &R, bytes: &[u8]) -> io::Result<()> {
-        if self.turn.say(bytes).is_ok() {
+        if self.exchange.say(bytes).is_ok() {
             return Ok(());
         }
-        let Said { side, line, .. } = self.turn.end();
+        let Said { side, line, .. } = self.exchange.end();
         self.answer(rt, side, line, NO_MEMORY);
         Err(io::Error::from(ErrorKind::OutOfMemory))
     }
 
-    /// Ends the turn, and sends what was said to its side.
+    /// Sends what was said since the last line was handed over to its side.
     ///
     /// # Errors
     ///
     /// The side does not take it.
-    pub(crate) fn end_turn<R: Wait + Clock + Log>(&mut self, rt: &R) -> io::Result<()> {
-        let Said { side, line, text } = self.turn.end();
+    pub(crate) fn end_exchange<R: Wait + Clock + Log>(&mut self, rt: &R) -> io::Result<()> {
+        let Said { side, line, text } = self.exchange.end();
         if self.answer(rt, side, line, text.as_slice()) {
             Ok(())
         } else {
@@ -204,8 +204,8 @@ impl<I: Source, W: Sink> Switchboard<I, W> {
         line: Option<PendingLine>,
         text: &[u8],
     ) -> bool {
-        let is_taken = match (side, &mut self.gate) {
-            (Side::Connection(number), Some(gate)) => gate.send(rt, number, text),
+        let is_taken = match (side, &mut self.connections) {
+            (Side::Connection(number), Some(connections)) => connections.send(rt, number, text),
             _ => deliver(&mut self.output, text).is_ok(),
         };
         if let Some(line) = &line {

@@ -4,7 +4,7 @@
 ghost use Rattle.std.specs.Prelude.{IfOk};
 ghost use Rattle.nmvs_operator.specs.Options.{AreInRange};
 
-use log::Log;
+use log::{Log, Logged};
 use nmvs_admin::{AdminFault, open, remove_socket};
 use nmvs_config::{ConfigFault, config_path, read_config, with_config};
 use nmvs_operator::{Console, OptionFault, Options, read_options};
@@ -45,7 +45,8 @@ fn main(rt: HostRuntime) -> ExitCode {
             ended(&rt, &[outcome.session, outcome.program])
         }
         Ok(options) => {
-            let outcome = serve(rt, &rt, alloc, &options, console);
+            let logged = Logged::new(rt, options.log_level, log::sink::Console(rt));
+            let outcome = serve(logged, &rt, alloc, &options, console);
             ended(&rt, &[outcome.session, outcome.program])
         }
         Err(status) => status,

@@ -40,11 +40,11 @@ const BUSY: &[u8] = b"FAULT BUSY\n";
 
 /// The connections of a socket, and what the system reports of them, of the socket and of standard input.
 #[derive(Drop)]
-pub(crate) struct Gate {
+pub(crate) struct Connections {
     poll: Poll,
     events: Events,
     listener: UnixListener,
-    connections: Slab<Connection>,
+    open: Slab<Connection>,
     /// Whether connections may wait to be accepted.
     is_knocked_at: bool,
     /// Whether the system tells when standard input may be read. It does not of a file, which may be always.
@@ -53,23 +53,23 @@ pub(crate) struct Gate {
     is_standard_ready: bool,
 }
 
-impl Gate {
-    /// The gate of a socket, with no connection.
+impl Connections {
+    /// Those of a socket that is listened on: none yet.
     ///
     /// # Errors
     ///
     /// Memory or a descriptor was refused.
-    pub(crate) fn open(rt: &impl Net, alloc: Global, listener: UnixListener) -> io::Result<Gate> {
+    pub(crate) fn open(rt: &impl Net, alloc: Global, listener: UnixListener) -> io::Result<Connections> {
         let poll = Poll::new(rt)?;
         let mut listener = listener;
         poll.registry().register(&mut listener, LISTENER, Interest::READABLE)?;
         let standard = &mut SourceFd(&STANDARD_INPUT);
         let reports = poll.registry().register(standard, STANDARD, Interest::READABLE);
-        Ok(Gate {
+        Ok(Connections {
             poll,
             events: Events::with_capacity(alloc, REPORTS)?,
             listener,
-            connections: Slab::with_capacity(alloc, MOST_CONNECTIONS)?,
+            open: Slab::with_capacity(alloc, MOST_CONNECTIONS)?,
             is_knocked_at: false,
             reports_standard: reports.is_ok(),
             is_standard_ready: reports.is_err(),
@@ -102,8 +102,8 @@ impl Gate {
         self.poll.poll(&mut self.events, patience)?;
         self.note_all();
         self.accept_all();
-        for number in 0..self.connections.capacity() {
-            if let Some(connection) = self.connections.get_mut(number) {
+        for number in 0..self.open.capacity() {
+            if let Some(connection) = self.open.get_mut(number) {
                 connection.read();
             }
         }
@@ -112,7 +112,7 @@ impl Gate {
 
     /// How long the system's reports may be waited for.
     fn patience(&self, has_work: bool) -> Option<Duration> {
-        if has_work || self.connections.iter().any(|(_, connection)| connection.is_at_work()) {
+        if has_work || self.open.iter().any(|(_, connection)| connection.is_at_work()) {
             Some(Duration::ZERO)
         } else if self.is_knocked_at {
             Some(Duration::from_millis(PAUSE))
@@ -128,7 +128,7 @@ impl Gate {
                 LISTENER => self.is_knocked_at = true,
                 STANDARD => self.is_standard_ready = true,
                 Token(number) => {
-                    if let Some(connection) = self.connections.get_mut(number) {
+                    if let Some(connection) = self.open.get_mut(number) {
                         connection.is_ready = true;
                     }
                 }
@@ -154,27 +154,27 @@ impl Gate {
 
     fn admit(&mut self, stream: UnixStream) {
         let mut connection = Connection::new(stream);
-        if self.connections.len() >= MOST_CONNECTIONS {
+        if self.open.len() >= MOST_CONNECTIONS {
             let _untold = connection.write(BUSY);
             return;
         }
-        let token = Token(self.connections.vacant_key());
+        let token = Token(self.open.vacant_key());
         let both = Interest::READABLE | Interest::WRITABLE;
         let registry = self.poll.registry();
         if registry.register(&mut connection.stream, token, both).is_ok() {
-            let _room = self.connections.insert(connection);
+            let _room = self.open.insert(connection);
         }
     }
 
     /// The next line of the connection of this number, where it has one.
     pub(crate) fn next_line(&mut self, number: usize) -> Option<PendingLine> {
-        self.connections.get_mut(number)?.incoming.next_line()
+        self.open.get_mut(number)?.incoming.next_line()
     }
 
     /// Takes a connection that is over, and all of which is looked through: its number, and what it began and did not end.
     pub(crate) fn next_over(&mut self) -> Option<(usize, PendingLine)> {
-        for number in 0..self.connections.capacity() {
-            if let Some(connection) = self.connections.get_mut(number) {
+        for number in 0..self.open.capacity() {
+            if let Some(connection) = self.open.get_mut(number) {
                 if connection.is_over {
                     return Some((number, connection.incoming.take_begun()));
                 }
@@ -185,7 +185,7 @@ impl Gate {
 
     /// Closes the connection of this number.
     pub(crate) fn close(&mut self, number: usize) {
-        let _closed = self.connections.try_remove(number);
+        let _closed = self.open.try_remove(number);
     }
 
     /// Sends all of a text to the connection of this number, and tells whether it took it. One that does not take it in
@@ -209,7 +209,7 @@ impl Gate {
         let begun = Instant::now(rt)?;
         let mut rest = text;
         for _ in rt.forever() {
-            let Some(connection) = self.connections.get_mut(number) else {
+            let Some(connection) = self.open.get_mut(number) else {
                 return Ok(false);
             };
             match connection.write(rest) {

@@ -1,7 +1,7 @@
-//! The line that is obeyed, and what is said to it.
+//! A line that is handed over, and what is said to it.
 ghost use Rattle.std.specs.Prelude.{◌≡◌, ◌≤◌, ◌<◌, ◌+◌, ◌++◌, ◌∷◌, ◌==◌, [], None, Some, length, take, OnOk, OnErr, if◌then◌else◌};
 ghost use Rattle.nmvs_protocol.specs.declared.limits.TheConstants.{LONGEST_LINE};
-ghost use Rattle.nmvs_admin.specs.Turns.{line_bytes};
+ghost use Rattle.nmvs_admin.specs.Exchanges.{line_bytes};
 
 use arrayvec::ArrayVec;
 use nmvs_protocol::{LONGEST_LINE, PendingLine};
@@ -39,7 +39,7 @@ pub(crate) struct Said {
 
 /// The line that was handed over last, what of it is still to be read, and what is said to it so far.
 #[derive(Drop)]
-pub(crate) struct Turn {
+pub(crate) struct Exchange {
     alloc: Global,
     side: Side,
     line: Option<PendingLine>,
@@ -47,15 +47,15 @@ pub(crate) struct Turn {
     text: Vec<u8>,
 }
 
-impl Turn {
+impl Exchange {
     /// Before the first line: what is said goes to standard output.
-    pub(crate) fn new(alloc: Global) -> Turn
+    pub(crate) fn new(alloc: Global) -> Exchange
         ensures side { result.side ≡ Side.Standard }
         ensures line { result.line ≡ None }
         ensures unread { result.unread.items ≡ [] }
         ensures text { result.text.items ≡ [] }
     {
-        Turn {
+        Exchange {
             alloc,
             side: Side::Standard,
             line: None,
@@ -64,7 +64,7 @@ impl Turn {
         }
     }
 
-    /// The turn of a side, whose line this is; it is read with its LF where it has one.
+    /// Begins with a line of this side; it is read with its LF where it has one.
     pub(crate) fn begin(&mut self, side: Side, line: PendingLine, has_lf: bool)
         requires { length line ≤ LONGEST_LINE + 1 }
         ensures side { self.new.side ≡ side }
@@ -117,7 +117,7 @@ impl Turn {
         self.text.extend_from_slice(bytes)
     }
 
-    /// Ends the turn: all that was said since it began is the answer to its side. What is said next goes to standard output.
+    /// Ends it: all that was said since it began is the answer to its side. What is said next goes to standard output.
     pub(crate) fn end(&mut self) -> Said
         ensures side { result.side ≡ self.old.side }
         ensures line { result.line ≡ self.old.line }
