@@ -8,11 +8,12 @@ mod helped;
 
 use crate::helped::Helped;
 use log::info;
+use nmvs_admin::{AdminFault, open, remove_socket};
 use nmvs_config::{ConfigFault, config_path, read_config, with_config};
 use nmvs_log::logged;
 use nmvs_operator::{Console, OptionFault, Options, read_options};
-use nmvs_server::{Fault, serve_rehearsal, start};
-use nmvs_stream::{Device, Sink};
+use nmvs_server::{Fault, Host, Outcome, serve_rehearsal, start};
+use nmvs_stream::{Device, Sink, Source};
 use std::alloc::Global;
 use std::io::{BufWriter, Eprint, IsTerminal, Print};
 use std::process::ExitCode;
@@ -39,8 +40,12 @@ fn main(rt: HostRuntime) -> ExitCode {
     let mut console = Console::new(Device::new(rt.stdin()), output);
     match options(&rt, words) {
         Ok(options) => {
-            let rt = logged(&rt, options.log_level, options.log_format);
-            let outcome = start(&rt, alloc, &options, &mut console);
+            let rt = logged(rt, options.log_level, options.log_format);
+            let outcome = if options.stdin {
+                start(&rt, alloc, &options, &mut console)
+            } else {
+                serve(rt, alloc, &options, console)
+            };
             let status = ended(&rt, &[outcome.session, outcome.program]);
             info!(rt; "end");
             status
@@ -60,6 +65,39 @@ fn rehearse<W: Sink>(
     }
     let _ = println!(rt; "{GREETING}");
     serve_rehearsal(alloc, &mut Device::new(Helped::new(rt, rt.stdin())), output)
+}
+
+/// Serves connections, while commands come by the console and by the socket of the options, where they name one.
+fn serve<'o, R: Host + Sync + Copy + Drop, I: Source + Drop, W: Sink + Drop>(
+    rt: R,
+    alloc: Global,
+    options: &'o Options,
+    console: Console<(I, W)>,
+) -> Outcome<'o>
+    requires options { AreInRange options.now }
+{
+    let path = options.admin.as_deref();
+    match open(rt, alloc, console, path) {
+        Ok(mut console) => {
+            let outcome = start(&rt, alloc, options, &mut console);
+            if let Some(path) = path {
+                let _gone = remove_socket(&rt, path);
+            }
+            outcome
+        }
+        Err(fault) => Outcome {
+            session: None,
+            program: Some(fault_of(fault, path)),
+        },
+    }
+}
+
+/// Why commands are not taken at this path.
+fn fault_of(fault: AdminFault, path: Option<&str>) -> Fault<'_> {
+    match (fault, path) {
+        (AdminFault::Socket, Some(path)) => Fault::CannotListenAt(path),
+        _ => Fault::Memory,
+    }
 }
 
 /// The words of the command line after the program's own name.
