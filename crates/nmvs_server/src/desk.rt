@@ -7,9 +7,10 @@ ghost use Rattle.nmvs_server.specs.Desk.{turn_of_fault, RestsOnAll};
 use crate::Clock;
 use nmvs_desk::{AskFault, Clerk, Reader, Repository, Served};
 use nmvs_directory::{Naming, Notice};
+use nmvs_figures::Tally;
 use nmvs_history::Histories;
 use nmvs_identifier::{Moment, Name, ProductCode};
-use nmvs_journal::Store;
+use nmvs_journal::{Kept, Store};
 use nmvs_offices::{Alarm, Evidence, Offices, Reach};
 use nmvs_protocol::{
     Answer, Ask, Authorisations, Basis, Desk, Entries, Released, Text, Turn, Withheld,
@@ -34,6 +35,7 @@ pub struct ClerkDesk<'r, 'a, R: Wait, J: Naming, H: Histories, K: Clock> {
     repository: &'r Repository<'a, H>,
     latest: &'r Mutex<Notice<J>>,
     clock: K,
+    tally: Tally<'r>,
 }
 
 impl<'r, 'a, R: Wait, J: Naming, H: Histories, K: Clock> Model for ClerkDesk<'r, 'a, R, J, H, K> {
@@ -51,7 +53,7 @@ impl<'r, 'a, R: Wait, J: Naming, H: Histories, K: Clock> ClerkDesk<'r, 'a, R, J,
     ghost use mathlib.Core.List.{IsPrefix};
     ghost use Rattle.nmvs_server.specs.Desk.{AnswersTold, IsTold, KeepsClock, NamesAuthorisation, Reports, RestsOnAll, SeesShard, Serves, StopsAtClock};
 
-    /// A desk over a clerk of this repository, and the lock of the latest notice.
+    /// A desk over a clerk of this repository, and the lock of the latest notice. Its answers are counted on the tally.
     ///
     /// Condition: the clerk is one that `open` gave with the repository, which the names of their histories say.
     pub fn new(
@@ -60,6 +62,7 @@ impl<'r, 'a, R: Wait, J: Naming, H: Histories, K: Clock> ClerkDesk<'r, 'a, R, J,
         repository: &'r Repository<'a, H>,
         latest: &'r Mutex<Notice<J>>,
         clock: K,
+        tally: Tally<'r>,
     ) -> ClerkDesk<'r, 'a, R, J, H, K>
         ensures seen { result.seen ≡ clerk.entry.seen }
         ensures sights { result.sights ≡ clerk.entry.sights }
@@ -74,6 +77,7 @@ impl<'r, 'a, R: Wait, J: Naming, H: Histories, K: Clock> ClerkDesk<'r, 'a, R, J,
             repository,
             latest,
             clock,
+            tally,
         }
     }
 
@@ -126,10 +130,12 @@ impl<'r, 'a, R: Wait, J: Naming, H: Histories, K: Clock> ClerkDesk<'r, 'a, R, J,
         let Some(moment) = self.next_moment() else {
             return (Answer::Turned(Turn::Clock), None);
         };
-        match ask {
+        let (answer, basis) = match ask {
             Ask::Question(user, question) => self.ask(moment, user, question),
             Ask::Report(user, code) => self.report(user, code),
-        }
+        };
+        self.tally.note_answer(ask, &answer, basis);
+        (answer, basis)
     }
 
     /// Puts a question by the clerk, at the moment that the clock gave.
@@ -216,7 +222,18 @@ impl<'r, 'a, R: Wait, J: Naming, H: Histories, K: Clock> ClerkDesk<'r, 'a, R, J,
         ensures kept { AreKept result.1.items self.old.sights }
         ensures moves { LetsGo self.old self.new }
     {
-        offices.release(self.rt, &mut self.clerk, reach, withheld, alarm)
+        let (released, kept) = offices.release(self.rt, &mut self.clerk, reach, withheld, alarm);
+        note_confirmed(&self.tally, &kept);
+        (released, kept)
+    }
+}
+
+/// Counts what is confirmed of each shard that was waited for.
+fn note_confirmed(tally: &Tally<'_>, kept: &[Kept]) {
+    for (shard, kept) in kept.iter().enumerate() {
+        if kept.count() > 0 {
+            tally.note_confirmed(shard, kept.count() as u64);
+        }
     }
 }
 

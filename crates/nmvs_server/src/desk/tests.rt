@@ -12,6 +12,7 @@ use crate::{ClerkDesk, Clock, examples};
 use boxcar::tag::Tag;
 use nmvs_desk::{Keepers, MOST_CLERKS};
 use nmvs_directory::{Directory, Naming, Notice, Registrar};
+use nmvs_figures::Panel;
 use nmvs_history::Histories;
 use nmvs_operator::{
     Console, Deed, Figure, Latest, Service, ServiceFault, Topic, load_users, obey_all,
@@ -207,7 +208,9 @@ fn at_desk<'r, 'a, J: Naming, H: Histories, R: Wait + Abort>(
     };
     let clerk = opened.clerks.pop().ok_or("a clerk")?;
     let clock = Seconds::new(example.moments);
-    let mut desk = ClerkDesk::new(rt, clerk, &opened.repository, latest, clock);
+    let panel = Panel::new(*alloc, 1, 1, false)?;
+    let tally = panel.tally(0);
+    let mut desk = ClerkDesk::new(rt, clerk, &opened.repository, latest, clock, tally);
     for (line, answer) in example.lines {
         let wanted = format!(in *alloc; "{answer}\n")?;
         if *line == "SUSPEND ph1" {
