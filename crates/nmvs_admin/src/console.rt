@@ -91,7 +91,11 @@ pub fn open<R: Log + Wait + Clock + Files + Net + Drop, I: Source + Drop, W: Sin
 }
 
 /// The connections of a socket at the path.
-fn connections_at<R: Files + Net>(rt: &R, alloc: Global, path: &str) -> Result<Connections, AdminFault> {
+fn connections_at<R: Files + Net>(
+    rt: &R,
+    alloc: Global,
+    path: &str,
+) -> Result<Connections, AdminFault> {
     match listen_at(rt, path).and_then(|listener| Connections::open(rt, alloc, listener)) {
         Ok(connections) => Ok(connections),
         Err(error) if error.kind() == ErrorKind::OutOfMemory => Err(AdminFault::Memory),

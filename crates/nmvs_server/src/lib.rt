@@ -30,6 +30,7 @@ mod rehearsal_packs;
 mod roster;
 mod service;
 mod users_file;
+mod watched_file;
 mod workers;
 
 pub use clock::{Clock, ProgramClock};

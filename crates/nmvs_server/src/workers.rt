@@ -61,13 +61,22 @@ fn work<'r, R: Wait + Clock + Log, J: Naming, H: Histories>(
         return clerk;
     }
     let clock = ProgramClock::new(run.rt, run.options.moment);
-    let desk = ClerkDesk::new(run.rt, clerk, shared.repository, shared.latest, clock);
+    let tally = run.panel.tally(number);
+    let desk = ClerkDesk::new(
+        run.rt,
+        clerk,
+        shared.repository,
+        shared.latest,
+        clock,
+        tally,
+    );
     match shared.offices {
         None => serve_by_desk(shared, number, station, desk).into_clerk(),
         Some(offices) => {
             let alarm = JournalAlarm {
                 rt: run.rt,
                 options: run.options,
+                panel: run.panel,
             };
             let desk = JournalDesk::new(desk, offices, alarm);
             serve_by_desk(shared, number, station, desk).into_clerk()
@@ -77,7 +86,7 @@ fn work<'r, R: Wait + Clock + Log, J: Naming, H: Histories>(
 
 /// Serves connections by a desk, each user within the rate, and gives the desk back. Where it can't go on it ends the
 /// service.
-fn serve_by_desk<'r, R: Wait + Clock, J: Naming, H: Histories, D: Desk<'r> + Authorisations>(
+fn serve_by_desk<'r, R: Wait + Clock + Log, J: Naming, H: Histories, D: Desk<'r> + Authorisations>(
     shared: &Shared<'_, '_, 'r, '_, R, J, H>,
     number: usize,
     station: Station,
@@ -92,7 +101,7 @@ fn serve_by_desk<'r, R: Wait + Clock, J: Naming, H: Histories, D: Desk<'r> + Aut
 }
 
 /// Accepts connections for the workers. Where it can't go on it ends the service.
-fn keep_door<R: Wait>(rt: &R, hall: &Hall, listener: &Listener, door: Station) {
+fn keep_door<R: Wait + Log>(rt: &R, hall: &Hall<'_>, listener: &Listener, door: Station) {
     if admit(rt, hall, listener, door).is_err() {
         hall.stop(rt);
     }
@@ -141,6 +150,7 @@ pub(crate) fn serve_connections<
         };
         *ready = true;
         drop(ready);
+        run.panel.note_ready();
         tell_port(run, shared.listener, &mut console.sink);
         let mut latest = Latest::new(run.rt, shared.latest);
         let mut service = Running { shared, users };
