@@ -12,7 +12,6 @@ use nmvs_server::{Fault, Host, Outcome, serve_rehearsal, start};
 use nmvs_stream::{Device, Sink, Source};
 use std::alloc::Global;
 use std::io::{BufWriter, Eprint, IsTerminal, Print};
-use std::net::Net;
 use std::process::ExitCode;
 use std::rt::{Clock, Env, Files};
 use std::sync::Wait;
@@ -54,8 +53,8 @@ fn main(rt: HostRuntime) -> ExitCode {
 }
 
 /// Serves connections, while commands come by the console and by the socket of the options, where they name one. The first
-/// handle is the console's own.
-fn serve<'o, C: Log + Wait + Clock + Files + Net + Drop, R: Host + Sync, I: Source + Drop, W: Sink + Drop>(
+/// handle is the one that the console logs by.
+fn serve<'o, C: Log + Wait + Clock + Drop, R: Host + Sync, I: Source + Drop, W: Sink + Drop>(
     own: C,
     rt: &R,
     alloc: Global,
@@ -65,7 +64,7 @@ fn serve<'o, C: Log + Wait + Clock + Files + Net + Drop, R: Host + Sync, I: Sour
     requires options { AreInRange options.now }
 {
     let path = options.admin.as_deref();
-    match open(own, alloc, console, path) {
+    match open(own, rt, alloc, console, path) {
         Ok(mut console) => {
             let outcome = start(rt, alloc, options, &mut console);
             if let Some(path) = path {
