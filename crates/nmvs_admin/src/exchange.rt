@@ -1,6 +1,6 @@
 //! A line that is handed over, and what is said to it.
 ghost use Rattle.std.specs.Prelude.{◌≡◌, ◌≤◌, ◌<◌, ◌+◌, ◌++◌, ◌∷◌, ◌==◌, [], None, Some, length, take, OnOk, OnErr, if◌then◌else◌};
-ghost use Rattle.nmvs_protocol.specs.declared.limits.TheConstants.{LONGEST_LINE};
+ghost use Rattle.nmvs_protocol.specs.Progress.{kept_part};
 ghost use Rattle.nmvs_admin.specs.Exchanges.{line_bytes};
 
 use arrayvec::ArrayVec;
@@ -23,8 +23,8 @@ pub(crate) enum Side {
 impl fmt::Display for Side {
     fn fmt<W: fmt::Write>(&self, f: &mut fmt::Formatter<W>) -> fmt::Result {
         match self {
-            Side::Standard => f.write_str("standard input"),
-            Side::Connection(number) => write!(f, "connection {number}"),
+            Side::Standard => f.write_str("stdin"),
+            Side::Connection(number) => write!(f, "connection-{number}"),
         }
     }
 }
@@ -66,14 +66,15 @@ impl Exchange {
 
     /// Begins with a line of this side; it is read with its LF where it has one.
     pub(crate) fn begin(&mut self, side: Side, line: PendingLine, has_lf: bool)
-        requires { length line ≤ LONGEST_LINE + 1 }
         ensures side { self.new.side ≡ side }
         ensures line { self.new.line ≡ Some line }
-        ensures unread { self.new.unread.items ≡ line_bytes line has_lf }
+        ensures unread { self.new.unread.items ≡ line_bytes (kept_part line) has_lf }
         ensures text { self.new.text.items ≡ [] }
     {
+        let kept = line.as_slice();
+        let count = kept.len().min(HANDED - 1);
         self.unread.clear();
-        self.unread.try_extend_from_slice(line.as_slice()).unwrap();
+        self.unread.try_extend_from_slice(&kept[..count]).unwrap();
         if has_lf {
             self.unread.push(b'\n');
         }

@@ -1,8 +1,8 @@
 //! What one side sends, as lines.
-ghost use Rattle.std.specs.Prelude.{◌≡◌, ◌≤◌, ◌+◌, ◌==◌, [], ◌∷◌, ◌++◌, ℕ, List, length, IfSome, IfNone, MatchOption};
+ghost use Rattle.std.specs.Prelude.{◌≡◌, ◌≤◌, ◌==◌, [], ◌∷◌, ◌++◌, ℕ, List, length, IfNone, MatchOption};
 ghost use Rattle.nmvs_protocol.specs.Progress.{kept_part};
 ghost use Rattle.nmvs_stream.specs.InputLines.{input_lines, unfinished_line};
-ghost use Rattle.nmvs_protocol.specs.declared.limits.TheConstants.{LONGEST_LINE, READ_SIZE};
+ghost use Rattle.nmvs_protocol.specs.declared.limits.TheConstants.{READ_SIZE};
 ghost use Rattle.nmvs_admin.specs.Incoming.{Waits};
 
 use arrayvec::ArrayVec;
@@ -15,7 +15,6 @@ use std::mem;
 pub(crate) struct Incoming {
     begun: PendingLine,
     unread: ArrayVec<u8, READ_SIZE>,
-    ghost short: { length begun ≤ LONGEST_LINE + 1 },
 }
 
 impl Incoming {
@@ -53,7 +52,6 @@ impl Incoming {
             (λ line. (whole : List ℕ) × (line ≡ kept_part whole) × Waits sent (handed ++ whole ∷ []) self.new)
             ((handed ≡ input_lines sent) × Waits sent handed self.new) }
         ensures looked_through { IfNone result (self.new.unread.items ≡ []) }
-        ensures short { IfSome result (λ line. length line ≤ LONGEST_LINE + 1) }
     {
         match cut_line(self.unread.as_slice()) {
             Some((tail, _)) => {
@@ -75,7 +73,6 @@ impl Incoming {
     pub(crate) fn take_begun(&mut self) -> PendingLine
         ensures begun { (sent : List ℕ) (handed : List (List ℕ)) → Waits sent handed self.old → self.old.unread.items ≡ []
             → result ≡ kept_part (unfinished_line sent) }
-        ensures short { length result ≤ LONGEST_LINE + 1 }
         ensures none_left { self.new.begun ≡ [] }
         ensures unread { self.new.unread ≡ self.old.unread }
     {
