@@ -12,6 +12,8 @@ def told_of(errors):
     told = []
     for line in errors.splitlines():
         event = EVENT.fullmatch(line)
+        if line.startswith('{"time":'):
+            continue
         if event is None:
             told = [other for other in told if not other.startswith(line + ": ")]
             told.append(line)
