@@ -1,6 +1,8 @@
 -- How what a side sent goes on, and how its lines are handed over.
-use Rattle.std.proofs.Common.{◌≡◌, ◌∙◌, ℕ, List, [], ◌∷◌, ◌++◌, length, refl, sym, ap, append_assoc}
+use Rattle.std.proofs.Common.{◌≡◌, ◌∙◌, ℕ, List, [], ◌∷◌, ◌++◌, ◌+◌, length, drop, sym, ap, append_assoc, length-append, arith, Result, Ok, Err}
 use Rattle.std.proofs.lemmas.List.{append-nil}
+use Rattle.std.proofs.Math.Seq.{drop-append_seam}
+use Rattle.std.specs.Prelude.{OnOk}
 use Rattle.nmvs_stream.specs.InputLines.{HasNoLf, lines_after, rest_after, input_lines, unfinished_line}
 use Rattle.nmvs_stream.proofs.LinesOfPieces.{lines_after-append, rest_after-append, no_line, line_cut, left_cut}
 use Rattle.nmvs_protocol.specs.Progress.{kept_part}
@@ -54,3 +56,18 @@ all_begun begun s none = s.left ∙ ap (rest_after begun) none
 -- what is kept of a line that goes on
 pub kept_on : {kept kept' : List ℕ} (begun more : List ℕ) → kept ≡ kept_part begun → kept' ≡ kept_part (kept ++ more) → kept' ≡ kept_part (begun ++ more)
 kept_on begun more is goes = goes ∙ ap (λ (t : List ℕ). kept_part (t ++ more)) is ∙ kept_more begun more
+
+-- what holds of an outcome that is one
+pub on_ok : {T E : Type 0} (r : Result T E) (v : T) (P : Type 0) → r ≡ Ok v → OnOk r P → P
+on_ok (Ok w) v P e p = p
+on_ok (Err f) v P e p = absurd cc
+
+-- what is behind a line and its LF
+pub behind_line : {unread : List ℕ} (tail behind : List ℕ) → unread ≡ tail ++ 10 ∷ behind → drop (length tail + 1) unread ≡ behind
+behind_line tail behind cut =
+    let line = tail ++ 10 ∷ [] in
+    let n = length-append tail (10 ∷ []) in
+    let many : length tail + 1 ≡ length line = omega (arith, n) in
+    ap (λ (t : List ℕ). drop (length tail + 1) t) (cut ∙ sym (append_assoc tail (10 ∷ []) behind))
+    ∙ ap (λ (k : ℕ). drop k (line ++ behind)) many
+    ∙ drop-append_seam line behind

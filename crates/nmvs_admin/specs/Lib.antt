@@ -1,2 +1,1 @@
 pub mod Incoming
-pub mod Exchanges

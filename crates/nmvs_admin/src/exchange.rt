@@ -1,7 +1,6 @@
 //! A line that is handed over, and what is said to it.
-ghost use Rattle.std.specs.Prelude.{◌≡◌, ◌≤◌, ◌<◌, ◌+◌, ◌++◌, ◌∷◌, ◌==◌, [], None, Some, length, take, OnOk, OnErr, if◌then◌else◌};
+ghost use Rattle.std.specs.Prelude.{◌≡◌, ◌≤◌, ◌++◌, ◌==◌, [], None, Some, length, take, OnOk, OnErr};
 ghost use Rattle.nmvs_protocol.specs.Progress.{kept_part};
-ghost use Rattle.nmvs_admin.specs.Exchanges.{line_bytes};
 
 use arrayvec::ArrayVec;
 use nmvs_protocol::{LONGEST_LINE, PendingLine};
@@ -64,20 +63,19 @@ impl Exchange {
         }
     }
 
-    /// Begins with a line of this side; it is read with its LF where it has one.
-    pub(crate) fn begin(&mut self, side: Side, line: PendingLine, has_lf: bool)
+    /// Begins with a line of this side, which is read with this ending: LF, or nothing where it has none.
+    pub(crate) fn begin(&mut self, side: Side, line: PendingLine, ending: &[u8])
+        requires { length ending.now ≤ 1 }
         ensures side { self.new.side ≡ side }
         ensures line { self.new.line ≡ Some line }
-        ensures unread { self.new.unread.items ≡ line_bytes (kept_part line) has_lf }
+        ensures unread { self.new.unread.items ≡ kept_part line ++ ending.now }
         ensures text { self.new.text.items ≡ [] }
     {
         let kept = line.as_slice();
-        let count = kept.len().min(HANDED - 1);
+        let count = (HANDED - 1).min(kept.len());
         self.unread.clear();
         self.unread.try_extend_from_slice(&kept[..count]).unwrap();
-        if has_lf {
-            self.unread.push(b'\n');
-        }
+        self.unread.try_extend_from_slice(ending).unwrap();
         self.side = side;
         self.line = Some(line);
         self.text.clear();

@@ -1,5 +1,5 @@
 //! What one side sends, as lines.
-ghost use Rattle.std.specs.Prelude.{◌≡◌, ◌≤◌, ◌==◌, [], ◌∷◌, ◌++◌, ℕ, List, length, IfNone, MatchOption};
+ghost use Rattle.std.specs.Prelude.{◌≡◌, ◌≤◌, ◌==◌, [], ◌∷◌, ◌++◌, ℕ, List, length, drop, IfSome, IfNone};
 ghost use Rattle.nmvs_protocol.specs.Progress.{kept_part};
 ghost use Rattle.nmvs_stream.specs.InputLines.{input_lines, unfinished_line};
 ghost use Rattle.nmvs_protocol.specs.declared.limits.TheConstants.{READ_SIZE};
@@ -48,8 +48,9 @@ impl Incoming {
     /// Hands over the next line of the side, without its LF and as much of it as is kept; or nothing, where all that it sent
     /// is looked through.
     pub(crate) fn next_line(&mut self) -> Option<PendingLine>
-        ensures lines { (sent : List ℕ) (handed : List (List ℕ)) → Waits sent handed self.old → MatchOption result
-            (λ line. (whole : List ℕ) × (line ≡ kept_part whole) × Waits sent (handed ++ whole ∷ []) self.new)
+        ensures next { (sent : List ℕ) (handed : List (List ℕ)) → Waits sent handed self.old → IfSome result
+            (λ line. (whole : List ℕ) × (line ≡ kept_part whole) × Waits sent (handed ++ whole ∷ []) self.new) }
+        ensures all { (sent : List ℕ) (handed : List (List ℕ)) → Waits sent handed self.old → IfNone result
             ((handed ≡ input_lines sent) × Waits sent handed self.new) }
         ensures looked_through { IfNone result (self.new.unread.items ≡ []) }
     {
@@ -57,7 +58,7 @@ impl Incoming {
             Some((tail, _)) => {
                 let count = tail.len() + 1;
                 self.begun.extend(tail);
-                self.unread.drain(..count);
+                self.pass(count);
                 Some(mem::replace(&mut self.begun, PendingLine::new()))
             }
             None => {
@@ -66,6 +67,15 @@ impl Incoming {
                 None
             }
         }
+    }
+
+    /// Looks at no byte of so many at the front any more.
+    fn pass(&mut self, count: usize)
+        requires { count ≤ length self.old.unread.items }
+        ensures unread { self.new.unread.items ≡ drop count self.old.unread.items }
+        ensures begun { self.new.begun ≡ self.old.begun }
+    {
+        self.unread.drain(..count);
     }
 
     /// Hands over what the side began and did not end, as much of it as is kept: all that there is behind the lines, where

@@ -92,7 +92,7 @@ impl<I: Source, W: Sink> Switchboard<I, W> {
             let place = self.first.wrapping_add(step) % MOST_SIDES;
             let side = side_of(place);
             if let Some(line) = self.next_line(side) {
-                self.exchange.begin(side, line, true);
+                self.exchange.begin(side, line, b"\n");
                 self.first = place.wrapping_add(1);
                 return true;
             }
@@ -112,7 +112,7 @@ impl<I: Source, W: Sink> Switchboard<I, W> {
     fn begin_last(&mut self) {
         let begun = self.incoming.take_begun();
         if !begun.is_empty() {
-            self.exchange.begin(Side::Standard, begun, false);
+            self.exchange.begin(Side::Standard, begun, b"");
         }
     }
 

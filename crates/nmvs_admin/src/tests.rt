@@ -59,7 +59,7 @@ fn what_is_said_goes_to_the_side_of_the_line(rt: HostRuntime) -> Result<(), Fail
     );
     let mut line = PendingLine::new();
     line.extend(b"STOP");
-    exchange.begin(Side::Connection(3), line, true);
+    exchange.begin(Side::Connection(3), line, b"\n");
     let mut buffer = [0; 3];
     assert_eq!(rt; exchange.read(&mut buffer), 3);
     assert_eq!(rt; &buffer, b"STO");
