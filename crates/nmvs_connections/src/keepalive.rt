@@ -1,5 +1,5 @@
 //! The system's keepalive: a peer that is gone is found out, though it is silent.
-use libc as c;
+use libc::net as c;
 use mio::net::TcpStream;
 use std::os::fd::AsRawFd;
 
