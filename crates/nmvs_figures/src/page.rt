@@ -1,5 +1,5 @@
 //! The page of figures.
-ghost use Rattle.std.specs.Prelude.{◌≡◌, IfOk, codes, string_bytes};
+ghost use Rattle.std.specs.Prelude.{◌≡◌, IfOk, string_bytes};
 ghost use Rattle.std.specs.List.{flat_map};
 ghost use Rattle.nmvs_figures.specs.Page as specs;
 
@@ -31,6 +31,7 @@ pub fn figures_page(alloc: Global, figures: &Figures) -> Result<String, AllocErr
     format!(in alloc; "{process}{lines}{connections}{trail}{journal}")
 }
 
+#[tactic(auto, unfolding(crate::specs::Page::process_text))]
 fn process_text(alloc: Global, figures: &Figures) -> Result<String, AllocError>
     ensures { IfOk result (λ text. string_bytes text ≡ specs.process_text figures.now) }
 {
@@ -44,6 +45,7 @@ fn process_text(alloc: Global, figures: &Figures) -> Result<String, AllocError>
     format!(in alloc; "{ready}{resident}")
 }
 
+#[tactic(auto, unfolding(crate::specs::Page::resident_text))]
 fn resident_text(alloc: Global, bytes: Option<u64>) -> Result<String, AllocError>
     ensures { IfOk result (λ text. string_bytes text ≡ specs.resident_text bytes) }
 {
@@ -58,24 +60,10 @@ fn resident_text(alloc: Global, bytes: Option<u64>) -> Result<String, AllocError
     single(alloc, resident, bytes)
 }
 
+#[tactic(auto, unfolding(crate::specs::Page::lines_text))]
 fn lines_text(alloc: Global, figures: &Figures) -> Result<String, AllocError>
     ensures { IfOk result (λ text. string_bytes text ≡ specs.lines_text figures.now) }
 {
-    let questions = Family {
-        name: "nmvs_questions_total",
-        kind: "counter",
-        help: "Questions that the repository answered, by kind and reply.",
-    };
-    let refusals = Family {
-        name: "nmvs_refusals_total",
-        kind: "counter",
-        help: "Questions that the repository refused, by the word of the refusal.",
-    };
-    let alerts = Family {
-        name: "nmvs_alerts_flagged_total",
-        kind: "counter",
-        help: "Alerts that were flagged as potential falsifications, by their cause.",
-    };
     let reports = Family {
         name: "nmvs_reports_total",
         kind: "counter",
@@ -86,15 +74,33 @@ fn lines_text(alloc: Global, figures: &Figures) -> Result<String, AllocError>
         kind: "counter",
         help: "Lines and connections that were answered with a fault, by its word.",
     };
-    let questions_head = heading(alloc, questions)?;
-    let answered = answered_lines(alloc, &figures.answered)?;
-    let refusals = worded(alloc, refusals, "refusal", &figures.refusals)?;
-    let alerts = worded(alloc, alerts, "cause", &figures.alerts)?;
+    let questions = questions_text(alloc, &figures.answered)?;
+    let warnings = warnings_text(alloc, figures)?;
     let reports = single(alloc, reports, figures.reports)?;
     let faults = worded(alloc, faults, "fault", &figures.faults)?;
-    format!(in alloc; "{questions_head}{answered}{refusals}{alerts}{reports}{faults}")
+    format!(in alloc; "{questions}{warnings}{reports}{faults}")
 }
 
+#[tactic(auto, unfolding(crate::specs::Page::warnings_text))]
+fn warnings_text(alloc: Global, figures: &Figures) -> Result<String, AllocError>
+    ensures { IfOk result (λ text. string_bytes text ≡ specs.warnings_text figures.now) }
+{
+    let refusals = Family {
+        name: "nmvs_refusals_total",
+        kind: "counter",
+        help: "Questions that the repository refused, by the word of the refusal.",
+    };
+    let alerts = Family {
+        name: "nmvs_alerts_flagged_total",
+        kind: "counter",
+        help: "Alerts that were flagged as potential falsifications, by their cause.",
+    };
+    let refusals = worded(alloc, refusals, "refusal", &figures.refusals)?;
+    let alerts = worded(alloc, alerts, "cause", &figures.alerts)?;
+    format!(in alloc; "{refusals}{alerts}")
+}
+
+#[tactic(auto, unfolding(crate::specs::Page::connections_text))]
 fn connections_text(alloc: Global, figures: &Figures) -> Result<String, AllocError>
     ensures { IfOk result (λ text. string_bytes text ≡ specs.connections_text figures.now) }
 {
@@ -119,6 +125,7 @@ fn connections_text(alloc: Global, figures: &Figures) -> Result<String, AllocErr
     format!(in alloc; "{open}{accepted}{sessions}")
 }
 
+#[tactic(auto, unfolding(crate::specs::Page::trail_text))]
 fn trail_text(alloc: Global, figures: &Figures) -> Result<String, AllocError>
     ensures { IfOk result (λ text. string_bytes text ≡ specs.trail_text figures.now) }
 {
@@ -137,6 +144,7 @@ fn trail_text(alloc: Global, figures: &Figures) -> Result<String, AllocError>
     format!(in alloc; "{entries}{packs}")
 }
 
+#[tactic(auto, unfolding(crate::specs::Page::journal_text))]
 fn journal_text(alloc: Global, journal: &Option<JournalFigures>) -> Result<String, AllocError>
     ensures { IfOk result (λ text. string_bytes text ≡ specs.journal_text journal.now) }
 {
@@ -173,6 +181,7 @@ fn heading(alloc: Global, family: Family) -> Result<String, AllocError>
 }
 
 /// A sample of one name without a label.
+#[tactic(auto, unfolding(crate::specs::Page::single))]
 fn single(alloc: Global, family: Family, value: u64) -> Result<String, AllocError>
     ensures { IfOk result (λ text. string_bytes text ≡ specs.single family.name.now family.kind.now family.help.now value) }
 {
@@ -188,24 +197,38 @@ fn sample(alloc: Global, name: &str, value: u64) -> Result<String, AllocError>
 }
 
 /// Counters of one name, each labelled with a word.
+#[tactic(auto, unfolding(crate::specs::Page::worded))]
 fn worded(
     alloc: Global,
     family: Family,
     label: &str,
     counts: &[Counted],
 ) -> Result<String, AllocError>
-    requires { family.kind.now ≡ codes "counter" }
-    ensures { IfOk result (λ text. string_bytes text ≡ specs.worded family.name.now family.help.now label.now counts.now) }
+    ensures { IfOk result (λ text. string_bytes text ≡ specs.worded family.name.now family.kind.now family.help.now label.now counts.now) }
 {
-    let mut text = heading(alloc, family)?;
+    let head = heading(alloc, family)?;
+    let lines = worded_lines(alloc, family.name, label, counts)?;
+    format!(in alloc; "{head}{lines}")
+}
+
+fn worded_lines(
+    alloc: Global,
+    name: &str,
+    label: &str,
+    counts: &[Counted],
+) -> Result<String, AllocError>
+    ensures { IfOk result (λ text. string_bytes text ≡ flat_map (specs.worded_line name.now label.now) counts.now) }
+{
+    let mut text = String::new(alloc);
     for counted in counts {
-        let line = labelled(alloc, family.name, label, counted.word, counted.count)?;
+        let line = labelled(alloc, name, label, counted.word, counted.count)?;
         text.push_str(&line)?;
     }
     Ok(text)
 }
 
 /// Samples of one name, each labelled with a number.
+#[tactic(auto, unfolding(crate::specs::Page::numbered))]
 fn numbered(
     alloc: Global,
     family: Family,
@@ -214,19 +237,37 @@ fn numbered(
 ) -> Result<String, AllocError>
     ensures { IfOk result (λ text. string_bytes text ≡ specs.numbered family.name.now family.kind.now family.help.now label.now numbers.now) }
 {
-    let mut text = heading(alloc, family)?;
+    let head = heading(alloc, family)?;
+    let lines = numbered_lines(alloc, family.name, label, numbers)?;
+    format!(in alloc; "{head}{lines}")
+}
+
+fn numbered_lines(
+    alloc: Global,
+    name: &str,
+    label: &str,
+    numbers: &[Numbered],
+) -> Result<String, AllocError>
+    ensures { IfOk result (λ text. string_bytes text ≡ flat_map (specs.numbered_line name.now label.now) numbers.now) }
+{
+    let mut text = String::new(alloc);
     for one in numbers {
-        let mut digits = Buffer::new();
-        let line = labelled(
-            alloc,
-            family.name,
-            label,
-            digits.format(one.number),
-            one.value,
-        )?;
+        let line = numbered_line(alloc, name, label, one)?;
         text.push_str(&line)?;
     }
     Ok(text)
+}
+
+fn numbered_line(
+    alloc: Global,
+    name: &str,
+    label: &str,
+    one: &Numbered,
+) -> Result<String, AllocError>
+    ensures { IfOk result (λ line. string_bytes line ≡ specs.numbered_line name.now label.now one.now) }
+{
+    let mut digits = Buffer::new();
+    labelled(alloc, name, label, digits.format(one.number), one.value)
 }
 
 fn labelled(
@@ -239,6 +280,21 @@ fn labelled(
     ensures { IfOk result (λ line. string_bytes line ≡ specs.labelled name.now label.now text.now value) }
 {
     format!(in alloc; "{name}{{{label}=\"{text}\"}} {value}\n")
+}
+
+/// The questions that were answered, by kind and reply.
+#[tactic(auto, unfolding(crate::specs::Page::questions_text))]
+fn questions_text(alloc: Global, answered: &[Answered]) -> Result<String, AllocError>
+    ensures { IfOk result (λ text. string_bytes text ≡ specs.questions_text answered.now) }
+{
+    let family = Family {
+        name: "nmvs_questions_total",
+        kind: "counter",
+        help: "Questions that the repository answered, by kind and reply.",
+    };
+    let head = heading(alloc, family)?;
+    let lines = answered_lines(alloc, answered)?;
+    format!(in alloc; "{head}{lines}")
 }
 
 /// The lines of questions by kind and reply.
@@ -262,6 +318,7 @@ fn answered_line(alloc: Global, answered: &Answered) -> Result<String, AllocErro
 }
 
 /// The histogram of syncs, by how long they took.
+#[tactic(auto, unfolding(crate::specs::Page::syncs_text))]
 fn syncs_text(alloc: Global, syncs: &[Bucket], nanoseconds: u64) -> Result<String, AllocError>
     ensures { IfOk result (λ text. string_bytes text ≡ specs.syncs_text syncs.now nanoseconds) }
 {
@@ -286,15 +343,22 @@ fn bucket_lines(alloc: Global, syncs: &[Bucket]) -> Result<(String, u64), AllocE
     let mut rest = syncs;
     while let [bucket, later @ ..] = rest {
         count = count.saturating_add(bucket.count);
-        let line = labelled(
-            alloc,
-            "nmvs_journal_sync_seconds_bucket",
-            "le",
-            bucket.bound,
-            count,
-        )?;
+        let line = bucket_line(alloc, bucket.bound, count)?;
         text.push_str(&line)?;
         rest = later;
     }
     Ok((text, count))
+}
+
+#[tactic(auto, unfolding(crate::specs::Page::bucket_line))]
+fn bucket_line(alloc: Global, bound: &str, count: u64) -> Result<String, AllocError>
+    ensures { IfOk result (λ line. string_bytes line ≡ specs.bucket_line bound.now count) }
+{
+    labelled(
+        alloc,
+        "nmvs_journal_sync_seconds_bucket",
+        "le",
+        bound,
+        count,
+    )
 }

@@ -1,20 +1,17 @@
 //! What a running server counts.
 use crate::counters::Counters;
 use crate::kinds::{
-    CAUSES, FAULTS, Fault, QUESTIONS, REPLIES, kind_of_reply, place_of_cause, place_of_fault,
-    place_of_question, place_of_reply, word_of,
+    CAUSES, FAULTS, Fault, QUESTIONS, REFUSALS, REPLIES, kind_of_reply, place_of_cause,
+    place_of_fault, place_of_question, place_of_refusal, place_of_reply, word_of,
 };
 use crate::syncs::{BOUNDS, bucket_of, buckets};
 use crate::{Answered, Counted, Figures, JournalFigures, Numbered};
 use nmvs_protocol::{Answer, Ask, Basis, Released};
 use nmvs_rules::{Question, Reply};
-use nmvs_words::{QuestionKind, cause_word, refusal_numbered, refusal_word};
+use nmvs_words::{QuestionKind, cause_word, refusal_word};
 use std::alloc::{AllocError, Global};
 use std::sync::atomic::{AtomicBool, AtomicU64, Ordering};
 use std::time::Duration;
-
-/// How many refusals there are.
-const REFUSALS: usize = 15;
 
 /// What is counted in one row.
 #[derive(Clone, Copy)]
@@ -54,7 +51,7 @@ impl WorkerCounts {
     fn new(alloc: Global, shards: usize) -> Result<WorkerCounts, AllocError> {
         Ok(WorkerCounts {
             answered: Counters::new(alloc, QUESTIONS.len() * REPLIES.len())?,
-            refusals: Counters::new(alloc, REFUSALS)?,
+            refusals: Counters::new(alloc, REFUSALS.len())?,
             alerts: Counters::new(alloc, CAUSES.len())?,
             faults: Counters::new(alloc, FAULTS.len())?,
             confirmed: Counters::new(alloc, shards)?,
@@ -278,9 +275,7 @@ impl<'p> Tally<'p> {
                 flagged: true,
                 ..
             } => self.add(Row::Alerts, place_of_cause(*cause)),
-            Reply::Refused(refusal) => {
-                self.add(Row::Refusals, refusal.number() as usize - 1);
-            }
+            Reply::Refused(refusal) => self.add(Row::Refusals, place_of_refusal(*refusal)),
             _ => {}
         }
     }
@@ -340,13 +335,11 @@ impl Panel {
 
     fn refusals(&self, alloc: Global) -> Result<Vec<Counted>, AllocError> {
         let mut refusals = Vec::new(alloc);
-        for place in 0..REFUSALS {
-            if let Some(refusal) = refusal_numbered(place as u64 + 1) {
-                refusals.push(Counted {
-                    word: refusal_word(refusal),
-                    count: self.total(Row::Refusals, place),
-                })?;
-            }
+        for refusal in REFUSALS {
+            refusals.push(Counted {
+                word: refusal_word(refusal),
+                count: self.total(Row::Refusals, place_of_refusal(refusal)),
+            })?;
         }
         Ok(refusals)
     }
