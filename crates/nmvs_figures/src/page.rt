@@ -354,5 +354,11 @@ fn bucket_lines(alloc: Global, syncs: &[Bucket]) -> Result<(String, u64), AllocE
 fn bucket_line(alloc: Global, bound: &str, count: u64) -> Result<String, AllocError>
     ensures { IfOk result (λ line. string_bytes line ≡ specs.bucket_line bound.now count) }
 {
-    labelled(alloc, "nmvs_journal_sync_seconds_bucket", "le", bound, count)
+    labelled(
+        alloc,
+        "nmvs_journal_sync_seconds_bucket",
+        "le",
+        bound,
+        count,
+    )
 }

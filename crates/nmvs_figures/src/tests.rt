@@ -56,7 +56,8 @@ nmvs_entries{shard="0"} 5
 nmvs_packs{shard="0"} 3
 "#;
 
-const JOURNAL: &str = r#"# HELP nmvs_journal_confirmed_entries Entries that the journals have confirmed, by shard.
+const JOURNAL: &str =
+    r#"# HELP nmvs_journal_confirmed_entries Entries that the journals have confirmed, by shard.
 # TYPE nmvs_journal_confirmed_entries gauge
 nmvs_journal_confirmed_entries{shard="0"} 4
 # HELP nmvs_journal_waiting_entries Entries that the journals have not confirmed yet, by shard.
@@ -180,7 +181,10 @@ fn each_question_is_counted_in_its_place(rt: HostRuntime) {
         ("mah1 UPLOAD 09506000134352 SN1 B1 280200", Reply::Uploaded),
         ("ph1 VERIFY 09506000134352 SN1", flagged),
         ("ph1 STATUS 09506000134352 SN1", Reply::NoPack),
-        ("ph1 DESTROY 09506000134352 SN1", Reply::Refused(Refusal::NotHeld)),
+        (
+            "ph1 DESTROY 09506000134352 SN1",
+            Reply::Refused(Refusal::NotHeld),
+        ),
         ("mah1 RECALL 09506000134352 B1", Reply::LockedNow(3)),
     ] {
         note(rt.alloc(), &panel, line, reply);
@@ -209,7 +213,11 @@ fn each_fault_is_counted_by_its_word(rt: HostRuntime) {
     let mut desk = Stranger;
     let mut withheld = WithheldAnswers::new();
     let mut session = Session::new(9);
-    let _taking = session.take(b"ph1 STATUS 09506000134352 SN1\n\nph1 NONE\n", &mut withheld, &mut desk);
+    let _taking = session.take(
+        b"ph1 STATUS 09506000134352 SN1\n\nph1 NONE\n",
+        &mut withheld,
+        &mut desk,
+    );
     panel.tally(0).note_told(&withheld.release());
     panel.tally(1).note_fault(Fault::Idle);
     panel.tally(1).note_fault(Fault::Busy);
@@ -272,11 +280,26 @@ fn answer_to(rt: &HostRuntime, panel: &Panel, request: &str) -> io::Result<Vec<u
 fn visitors_are_told_by_path_and_method(rt: HostRuntime) {
     let panel = Panel::new(rt.alloc(), 1, 1, false).expect(&rt, "memory");
     for (request, begin) in [
-        ("GET /healthz HTTP/1.1\r\nHost: x\r\n\r\n", "HTTP/1.1 200 OK\r\n"),
-        ("GET /readyz HTTP/1.1\r\nHost: x\r\n\r\n", "HTTP/1.1 503 Service Unavailable\r\n"),
-        ("GET /metrics HTTP/1.1\r\nHost: x\r\n\r\n", "HTTP/1.1 200 OK\r\n"),
-        ("GET / HTTP/1.1\r\nHost: x\r\n\r\n", "HTTP/1.1 404 Not Found\r\n"),
-        ("DELETE /metrics HTTP/1.1\r\nHost: x\r\n\r\n", "HTTP/1.1 405 Method Not Allowed\r\n"),
+        (
+            "GET /healthz HTTP/1.1\r\nHost: x\r\n\r\n",
+            "HTTP/1.1 200 OK\r\n",
+        ),
+        (
+            "GET /readyz HTTP/1.1\r\nHost: x\r\n\r\n",
+            "HTTP/1.1 503 Service Unavailable\r\n",
+        ),
+        (
+            "GET /metrics HTTP/1.1\r\nHost: x\r\n\r\n",
+            "HTTP/1.1 200 OK\r\n",
+        ),
+        (
+            "GET / HTTP/1.1\r\nHost: x\r\n\r\n",
+            "HTTP/1.1 404 Not Found\r\n",
+        ),
+        (
+            "DELETE /metrics HTTP/1.1\r\nHost: x\r\n\r\n",
+            "HTTP/1.1 405 Method Not Allowed\r\n",
+        ),
         ("nonsense\r\n\r\n", "HTTP/1.1 400 Bad Request\r\n"),
     ] {
         let answer = answer_to(&rt, &panel, request).expect(&rt, "an answer");

@@ -90,11 +90,7 @@ impl<'p, R: Files> Guide<'p, R> {
     }
 }
 
-fn tell(
-    response: &mut Response,
-    status: StatusCode,
-    text: &'static str,
-) -> Result<(), AllocError> {
+fn tell(response: &mut Response, status: StatusCode, text: &'static str) -> Result<(), AllocError> {
     let kind = HeaderValue::from_static(TEXT_TYPE);
     response.status = status;
     response.add_header(header::CONTENT_TYPE, kind)?;
