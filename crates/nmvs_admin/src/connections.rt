@@ -33,6 +33,7 @@ const STANDARD_INPUT: RawFd = 0;
 
 /// The tokens of the listener and of standard input; those of connections are their numbers.
 const LISTENER: Token = Token(usize::MAX);
+
 const STANDARD: Token = Token(usize::MAX - 1);
 
 /// What the connection is told that is one too many.
@@ -59,12 +60,19 @@ impl Connections {
     /// # Errors
     ///
     /// Memory or a descriptor was refused.
-    pub(crate) fn open(rt: &impl Net, alloc: Global, listener: UnixListener) -> io::Result<Connections> {
+    pub(crate) fn open(
+        rt: &impl Net,
+        alloc: Global,
+        listener: UnixListener,
+    ) -> io::Result<Connections> {
         let poll = Poll::new(rt)?;
         let mut listener = listener;
-        poll.registry().register(&mut listener, LISTENER, Interest::READABLE)?;
+        poll.registry()
+            .register(&mut listener, LISTENER, Interest::READABLE)?;
         let standard = &mut SourceFd(&STANDARD_INPUT);
-        let reports = poll.registry().register(standard, STANDARD, Interest::READABLE);
+        let reports = poll
+            .registry()
+            .register(standard, STANDARD, Interest::READABLE);
         Ok(Connections {
             poll,
             events: Events::with_capacity(alloc, REPORTS)?,
@@ -87,7 +95,10 @@ impl Connections {
             return;
         }
         let standard = &mut SourceFd(&STANDARD_INPUT);
-        let watched = self.poll.registry().reregister(standard, STANDARD, Interest::READABLE);
+        let watched = self
+            .poll
+            .registry()
+            .reregister(standard, STANDARD, Interest::READABLE);
         self.is_standard_ready = watched.is_err();
     }
 
@@ -112,7 +123,12 @@ impl Connections {
 
     /// How long the system's reports may be waited for.
     fn patience(&self, has_work: bool) -> Option<Duration> {
-        if has_work || self.open.iter().any(|(_, connection)| connection.is_at_work()) {
+        if has_work
+            || self
+                .open
+                .iter()
+                .any(|(_, connection)| connection.is_at_work())
+        {
             Some(Duration::ZERO)
         } else if self.is_knocked_at {
             Some(Duration::from_millis(PAUSE))
@@ -161,7 +177,10 @@ impl Connections {
         let token = Token(self.open.vacant_key());
         let both = Interest::READABLE | Interest::WRITABLE;
         let registry = self.poll.registry();
-        if registry.register(&mut connection.stream, token, both).is_ok() {
+        if registry
+            .register(&mut connection.stream, token, both)
+            .is_ok()
+        {
             let _room = self.open.insert(connection);
         }
     }

@@ -1,8 +1,10 @@
 //! The sides of a console, joined.
+ghost use Rattle.std.specs.Io.{ReadsAtMost};
+
 use crate::connections::{Connections, MOST_CONNECTIONS};
+use crate::exchange::{Exchange, Said, Side};
 use crate::incoming::Incoming;
 use crate::logged::{Shown, last_line};
-use crate::exchange::{Said, Side, Exchange};
 use log::{Log, info};
 use nmvs_protocol::{PendingLine, READ_SIZE};
 use nmvs_stream::{Failed, Sink, Source, deliver};
@@ -36,7 +38,12 @@ pub(crate) struct Switchboard<I, W> {
 }
 
 impl<I: Source, W: Sink> Switchboard<I, W> {
-    pub(crate) fn new(alloc: Global, input: I, output: W, connections: Option<Connections>) -> Switchboard<I, W> {
+    pub(crate) fn new(
+        alloc: Global,
+        input: I,
+        output: W,
+        connections: Option<Connections>,
+    ) -> Switchboard<I, W> {
         Switchboard {
             exchange: Exchange::new(alloc),
             input,
@@ -58,7 +65,9 @@ impl<I: Source, W: Sink> Switchboard<I, W> {
         &mut self,
         rt: &R,
         buffer: &mut [u8],
-    ) -> io::Result<usize> {
+    ) -> io::Result<usize>
+        ensures { ReadsAtMost result buffer.new }
+    {
         if self.exchange.is_read() {
             self.wait_for_line(rt)?;
         }

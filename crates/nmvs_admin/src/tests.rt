@@ -8,7 +8,8 @@ use std::test::*;
 
 /// The line that this side has next, where it has one.
 fn next(side: &mut Incoming, wanted: &[u8]) -> bool {
-    side.next_line().is_some_and(|line| line.as_slice() == wanted)
+    side.next_line()
+        .is_some_and(|line| line.as_slice() == wanted)
 }
 
 /// Goes on with these bytes, where all before them is looked through.
@@ -52,7 +53,10 @@ fn what_is_said_goes_to_the_side_of_the_line(rt: HostRuntime) -> Result<(), Fail
     let mut exchange = Exchange::new(rt.alloc());
     exchange.say(b"LISTENING 7161\n")?;
     let said = exchange.end();
-    assert_eq!(rt; (said.side, said.text.as_slice()), (Side::Standard, b"LISTENING 7161\n".as_slice()));
+    assert_eq!(rt;
+        (said.side, said.text.as_slice()),
+        (Side::Standard, b"LISTENING 7161\n".as_slice())
+    );
     let mut line = PendingLine::new();
     line.extend(b"STOP");
     exchange.begin(Side::Connection(3), line, b"\n");
@@ -66,7 +70,10 @@ fn what_is_said_goes_to_the_side_of_the_line(rt: HostRuntime) -> Result<(), Fail
     exchange.say(b"DO")?;
     exchange.say(b"NE\n")?;
     let said = exchange.end();
-    assert_eq!(rt; (said.side, said.text.as_slice()), (Side::Connection(3), b"DONE\n".as_slice()));
+    assert_eq!(rt;
+        (said.side, said.text.as_slice()),
+        (Side::Connection(3), b"DONE\n".as_slice())
+    );
     assert!(rt; said.line.is_some_and(|line| line.as_slice() == b"STOP"));
     assert_eq!(rt; exchange.end().side, Side::Standard);
     Ok(())
