@@ -1,4 +1,4 @@
-use Rattle.std.proofs.Common.{◌≡◌, ◌∙◌, ◌++◌, ℕ, List, take, ap}
+use Rattle.std.proofs.Common.{◌∙◌, ◌++◌, ℕ, List, take, ap}
 use Rattle.std.proofs.lemmas.List.{take_min}
 use Rattle.nmvs_protocol.specs.Progress.{kept_part}
 use Rattle.nmvs_admin.proofs.IncomingLemmas.{on_ok}
