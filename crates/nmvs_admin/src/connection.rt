@@ -1,4 +1,7 @@
 //! An administrator's connection.
+ghost use Rattle.std.specs.Prelude.{length};
+ghost use Rattle.nmvs_admin.specs.Sent.{IsWithin};
+
 use crate::incoming::Incoming;
 use mio::net::UnixStream;
 use nmvs_protocol::READ_SIZE;
@@ -58,7 +61,9 @@ impl Connection {
     }
 
     /// Writes some of these bytes.
-    pub(crate) fn write(&mut self, bytes: &[u8]) -> Sent {
+    pub(crate) fn write(&mut self, bytes: &[u8]) -> Sent
+        ensures { IsWithin result (length bytes.now) }
+    {
         match self.stream.write(bytes) {
             Ok(count) if count > 0 => Sent::Bytes(count),
             Err(error) if error.kind() == ErrorKind::WouldBlock => Sent::Blocked,

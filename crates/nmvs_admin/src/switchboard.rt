@@ -1,4 +1,6 @@
 //! The sides of a console, joined.
+ghost use Rattle.std.specs.Io.{ReadsAtMost};
+
 use crate::connections::{Connections, MOST_CONNECTIONS};
 use crate::exchange::{Exchange, Said, Side};
 use crate::incoming::Incoming;
@@ -63,7 +65,9 @@ impl<I: Source, W: Sink> Switchboard<I, W> {
         &mut self,
         rt: &R,
         buffer: &mut [u8],
-    ) -> io::Result<usize> {
+    ) -> io::Result<usize>
+        ensures { ReadsAtMost result buffer.new }
+    {
         if self.exchange.is_read() {
             self.wait_for_line(rt)?;
         }
