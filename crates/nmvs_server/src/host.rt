@@ -21,7 +21,8 @@ use std::thread::Threads;
 /// What a run uses of the machine.
 pub trait Host: Files<File = File> + Clock + Threads + Wait + Net + RandomSource + Eprint + Log {}
 
-impl<R: Files<File = File> + Clock + Threads + Wait + Net + RandomSource + Eprint + Log> Host for R {}
+impl<R: Files<File = File> + Clock + Threads + Wait + Net + RandomSource + Eprint + Log> Host
+    for R {}
 
 /// What a run goes by.
 #[derive(Drop)]

@@ -62,7 +62,14 @@ fn work<'r, R: Wait + Clock + Eprint + Log, J: Naming, H: Histories>(
     }
     let clock = ProgramClock::new(run.rt, run.options.moment);
     let tally = run.panel.tally(number);
-    let desk = ClerkDesk::new(run.rt, clerk, shared.repository, shared.latest, clock, tally);
+    let desk = ClerkDesk::new(
+        run.rt,
+        clerk,
+        shared.repository,
+        shared.latest,
+        clock,
+        tally,
+    );
     match shared.offices {
         None => serve_by_desk(shared, number, station, desk).into_clerk(),
         Some(offices) => {
