@@ -10,7 +10,7 @@ use crate::helped::Helped;
 use log::info;
 use nmvs_admin::{AdminFault, open, remove_socket};
 use nmvs_config::{ConfigFault, config_path, read_config, with_config};
-use nmvs_log::logged;
+use nmvs_log::EventLog;
 use nmvs_operator::{Console, OptionFault, Options, read_options};
 use nmvs_server::{Fault, Host, Outcome, serve_rehearsal, start};
 use nmvs_stream::{Device, Sink, Source};
@@ -40,7 +40,7 @@ fn main(rt: HostRuntime) -> ExitCode {
     let mut console = Console::new(Device::new(rt.stdin()), output);
     match options(&rt, words) {
         Ok(options) => {
-            let rt = logged(rt, options.log_level, options.log_format);
+            let rt = EventLog::new(rt, options.log_level, options.log_format);
             let outcome = if options.stdin {
                 start(&rt, alloc, &options, &mut console)
             } else {
