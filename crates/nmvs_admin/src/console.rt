@@ -7,7 +7,7 @@ ghost use Rattle.nmvs_stream.specs.Device.{told_of, taken_of};
 use crate::connections::Connections;
 use crate::socket::listen_at;
 use crate::switchboard::Switchboard;
-use log::Log;
+use log::{Log, error};
 use nmvs_operator::Console;
 use nmvs_stream::{Device, Sink, Source};
 use std::alloc::{AllocError, Global};
@@ -56,8 +56,7 @@ pub struct Answers<R, I, W> {
 pub type AdminSides<R, I, W> = (Device<Lines<R, I, W>>, Device<Answers<R, I, W>>);
 
 /// One console of the given one, whose sides are standard input and output, and of the connections of a socket at the path,
-/// where one is named. [`remove_socket`](crate::remove_socket) removes that at the end. The socket is the host's, and all
-/// else the other handle's: in this toolchain one that logs passes no Unix sockets on.
+/// where one is named. [`remove_socket`](crate::remove_socket) removes that at the end.
 ///
 /// It gives whole lines, each of one side, up to 201 bytes of one; a longer one is handed over as its first 201. What is
 /// written up to the next flush goes to the side whose line was given last, and else to standard output. A connection that
@@ -66,10 +65,9 @@ pub type AdminSides<R, I, W> = (Device<Lines<R, I, W>>, Device<Answers<R, I, W>>
 ///
 /// # Errors
 ///
-/// No socket can be made at the path, or memory was refused.
-pub fn open<R: Log + Wait + Clock + Drop, H: Files + Net, I: Source + Drop, W: Sink + Drop>(
+/// No socket can be made at the path, which is logged with the system's reason; or memory was refused.
+pub fn open<R: Log + Wait + Clock + Files + Net + Drop, I: Source + Drop, W: Sink + Drop>(
     rt: R,
-    host: &H,
     alloc: Global,
     standard: Console<(I, W)>,
     path: Option<&str>,
@@ -78,7 +76,7 @@ pub fn open<R: Log + Wait + Clock + Drop, H: Files + Net, I: Source + Drop, W: S
     ensures sink { IfOk result (λ console. taken_of console.sink ≡ untouched_sink) }
 {
     let connections = match path {
-        Some(path) => Some(connections_at(host, alloc, path)?),
+        Some(path) => Some(connections_at(&rt, alloc, path)?),
         None => None,
     };
     let Console { source, sink } = standard;
@@ -93,15 +91,18 @@ pub fn open<R: Log + Wait + Clock + Drop, H: Files + Net, I: Source + Drop, W: S
 }
 
 /// The connections of a socket at the path.
-fn connections_at<H: Files + Net>(
-    host: &H,
+fn connections_at<R: Log + Files + Net>(
+    rt: &R,
     alloc: Global,
     path: &str,
 ) -> Result<Connections, AdminFault> {
-    match listen_at(host, path).and_then(|listener| Connections::open(host, alloc, listener)) {
+    match listen_at(rt, path).and_then(|listener| Connections::open(rt, alloc, listener)) {
         Ok(connections) => Ok(connections),
         Err(error) if error.kind() == ErrorKind::OutOfMemory => Err(AdminFault::Memory),
-        Err(_) => Err(AdminFault::Socket),
+        Err(error) => {
+            error!(rt; "cannot listen at {path}: {error}");
+            Err(AdminFault::Socket)
+        }
     }
 }
 

@@ -74,7 +74,10 @@ fn what_is_said_goes_to_the_side_of_the_line(rt: HostRuntime) -> Result<(), Fail
         (said.side, said.text.as_slice()),
         (Side::Connection(3), b"DONE\n".as_slice())
     );
-    assert!(rt; said.line.is_some_and(|line| line.as_slice() == b"STOP".as_slice()));
+    assert!(rt;
+        said.line
+            .is_some_and(|line| line.as_slice() == b"STOP".as_slice())
+    );
     assert_eq!(rt; exchange.end().side, Side::Standard);
     Ok(())
 }

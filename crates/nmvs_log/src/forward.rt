@@ -2,11 +2,12 @@
 use crate::EventLog;
 use std::alloc::Allocator;
 use std::fmt::Display;
-use std::fs::{Metadata, OpenOptions};
+use std::fs::{Metadata, OpenOptions, Permissions};
 use std::io;
 use std::net::{Net, SocketAddr};
 use std::os::fd::{BorrowedFd, OwnedFd};
 use std::os::unix::net;
+use std::path::PathBuf;
 use std::random::RandomSource;
 use std::rt::{Clock, Files};
 use std::sync::Wait;
@@ -47,7 +48,7 @@ impl<R: RandomSource> RandomSource for EventLog<R> {
     }
 }
 
-/// What a server makes of files, and no more.
+/// But for pipes and other owners of files.
 impl<R: Files> Files for EventLog<R> {
     type File = R::File;
 
@@ -91,6 +92,26 @@ impl<R: Files> Files for EventLog<R> {
 
     fn remove_dir_all<B: Allocator>(&self, alloc: B, path: &str) -> io::Result<()> {
         self.rt.remove_dir_all(alloc, path)
+    }
+
+    fn canonicalize<B: Allocator>(&self, alloc: B, path: &str) -> io::Result<PathBuf<B>> {
+        self.rt.canonicalize(alloc, path)
+    }
+
+    fn read_link<B: Allocator>(&self, alloc: B, path: &str) -> io::Result<PathBuf<B>> {
+        self.rt.read_link(alloc, path)
+    }
+
+    fn hard_link(&self, original: &str, link: &str) -> io::Result<()> {
+        self.rt.hard_link(original, link)
+    }
+
+    fn set_permissions(&self, path: &str, permissions: Permissions) -> io::Result<()> {
+        self.rt.set_permissions(path, permissions)
+    }
+
+    fn symlink(&self, original: &str, link: &str) -> io::Result<()> {
+        self.rt.symlink(original, link)
     }
 
     fn create_dir_with_mode(&self, path: &str, mode: u32) -> io::Result<()> {

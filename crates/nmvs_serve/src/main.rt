@@ -77,7 +77,7 @@ fn serve<'o, R: Host + Sync + Copy + Drop, I: Source + Drop, W: Sink + Drop>(
     requires options { AreInRange options.now }
 {
     let path = options.admin.as_deref();
-    match open(rt, &rt, alloc, console, path) {
+    match open(rt, alloc, console, path) {
         Ok(mut console) => {
             let outcome = start(&rt, alloc, options, &mut console);
             if let Some(path) = path {
