@@ -11,7 +11,8 @@ use crate::pieces::{Piece, first_piece};
 use memchr::memchr;
 use mio::{Registry, Token};
 use nmvs_protocol::{
-    Authorisations, Desk, End, NO_LIMITS, NameOf, OwnDesk, Peer, READ_SIZE, Released, WithheldAnswers,
+    Authorisations, Desk, End, NO_LIMITS, NameOf, OwnDesk, Peer, READ_SIZE, Released,
+    WithheldAnswers,
 };
 use std::alloc::{AllocError, Global};
 use std::io;
@@ -123,12 +124,7 @@ pub(crate) struct Seat {
 
 impl Seat {
     /// A connection, which begins with a gateway's header where that has this name.
-    pub(crate) fn new(
-        alloc: Global,
-        dealt: Dealt,
-        proxy: Option<NameOf>,
-        now: Instant,
-    ) -> Seat {
+    pub(crate) fn new(alloc: Global, dealt: Dealt, proxy: Option<NameOf>, now: Instant) -> Seat {
         let Dealt { number, connection } = dealt;
         Seat {
             number,

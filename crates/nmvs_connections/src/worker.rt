@@ -136,7 +136,13 @@ impl Floor {
     }
 
     /// Admits the connections that were dealt to the worker.
-    fn admit_all<R: Wait + Log>(&mut self, rt: &R, hall: &Hall<'_>, registry: &Registry, bench: &Bench) {
+    fn admit_all<R: Wait + Log>(
+        &mut self,
+        rt: &R,
+        hall: &Hall<'_>,
+        registry: &Registry,
+        bench: &Bench,
+    ) {
         for _ in 0..u64::MAX {
             let Some(dealt) = hall.next_dealt(rt, self.worker) else {
                 return;
