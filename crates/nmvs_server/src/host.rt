@@ -1,5 +1,5 @@
 //! What a run uses of the machine, and what it goes by.
-use crate::watched_file::JournalStore;
+use crate::timed_file::JournalStore;
 use log::Log;
 use nmvs_connections::{Hall, Listener};
 use nmvs_desk::Repository;
@@ -40,13 +40,13 @@ pub(crate) struct Run<'r, 'o, H> {
 
 /// What the workers of a run share.
 #[derive(Drop)]
-pub(crate) struct Shared<'s, 'f, 'r, 'o, R: Clock, J: Naming, H: Histories> {
+pub(crate) struct Shared<'s, 'f, 'r, 'o, R, J: Naming, H: Histories> {
     pub(crate) run: &'s Run<'r, 'o, R>,
     pub(crate) listener: &'s Listener,
     pub(crate) hall: &'s Hall<'r>,
     pub(crate) repository: &'s Repository<'r, H>,
     /// Where answers wait for the journals, where there are journals.
-    pub(crate) offices: &'s Option<Offices<'f, 'r, JournalStore<'r, R>, H>>,
+    pub(crate) offices: &'s Option<Offices<'f, 'r, JournalStore<'r>, H>>,
     pub(crate) latest: &'s Mutex<Notice<J>>,
     /// How much each user may still ask, where there is a rate.
     pub(crate) rates: &'s Option<SharedRates<Global>>,

@@ -29,8 +29,8 @@ mod rehearsal;
 mod rehearsal_packs;
 mod roster;
 mod service;
+mod timed_file;
 mod users_file;
-mod watched_file;
 mod workers;
 
 pub use clock::{Clock, ProgramClock};
