@@ -1,5 +1,5 @@
 -- Questions that are asked again.
-use Rattle.std.proofs.Common.{◌≡◌, ◌∙◌, ◌&&◌, Bool, true, false, refl, sym, ap, cond}
+use Rattle.std.proofs.Common.{◌≡◌, ◌&&◌, true, refl, ap}
 use Rattle.std.specs.Cmp.{first_so, second_so}
 use Rattle.nmvs_rules.specs.declared.actor.Actor.{Actor}
 use Rattle.nmvs_rules.specs.declared.role.Role.{Role}

@@ -1,5 +1,5 @@
 -- Without its tags a trail says what it says with them.
-use Rattle.std.proofs.Common.{◌≡◌, ◌∙◌, ◌↔◌, ℕ, ◌+◌, ◌-◌, Bool, true, false, not, ◌&&◌, ◌||◌, cond, List, [], ◌∷◌, ◌++◌, reverse, length, map, Option, Some, None, refl, sym, ap, subst, All, arith, suc}
+use Rattle.std.proofs.Common.{◌≡◌, ◌∙◌, ◌↔◌, ℕ, ◌+◌, ◌-◌, Bool, true, false, not, ◌&&◌, ◌||◌, cond, List, [], ◌∷◌, ◌++◌, reverse, map, Option, Some, None, refl, sym, ap, subst, All, arith, suc}
 use Rattle.std.proofs.lemmas.List.{map-append, length-map, reverse-append}
 use Rattle.std.specs.List.{find, list_any, count_by, prefix_len}
 use Rattle.std.specs.Option.{option_map, option_map_or, unwrap_or}
@@ -21,7 +21,7 @@ use Rattle.nmvs_rules.specs.declared.reply.Reply.TheVariants as reply
 use Rattle.nmvs_rules.specs.Questions.{may_ask, pack_of}
 use Rattle.nmvs_rules.specs.Trail.{is_accepted, is_upload, is_about, has_code, is_alert, born, is_mark, mark, mark_place, mark_after, own_of, own_given, lock_of, lock_by, locks_batch, holder_of, alerts_of, about_of, known_at, known_from, known, is_birth_in, is_known_batch, stands_at, is_own, count_of}
 use Rattle.nmvs_rules.specs.Rules.{on_pack, alert_unknown, upload_reply, verify_reply, status_reply, decommission_reply, handover_reply, revert_reply, lock_reply, lock_on, theft_reply, admitted_reply, reply_of, IsLawfulAfter, IsLawful}
-use Rattle.nmvs_rules.specs.Repeats.{untagged, without_tag, without_tags, repeat_by, repeat_of, AreNewAfter, AreNew}
+use Rattle.nmvs_rules.specs.Repeats.{untagged, without_tag, without_tags, repeat_by, AreNewAfter, AreNew}
 use Rattle.nmvs_rules.proofs.PushLemmas.{count_by-cons}
 
 -- what is found in, and counted of, a list each element of which was changed

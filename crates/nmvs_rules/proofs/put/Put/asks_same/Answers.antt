@@ -1,5 +1,5 @@
-use Rattle.std.proofs.Common.{◌≡◌, ◌∙◌, ◌&&◌, Bool, true, false, sym, ap}
-use Rattle.nmvs_rules.specs.Repeats.{asks_same, same_actor, same_question}
+use Rattle.std.proofs.Common.{◌≡◌, ◌∙◌, ◌&&◌, true, false, sym, ap}
+use Rattle.nmvs_rules.specs.Repeats.{same_actor, same_question}
 use Rattle.nmvs_rules.proofs.RepeatLemmas.{derived-actor, derived-question}
 use Rattle.nmvs_rules.proofs.put.Put.asks_same.Goals as goal
 
