@@ -59,6 +59,8 @@ class Program:
     def __init__(self, command, port, environment=None):
         self.port = port
         pipe = subprocess.PIPE
+        if "--users" in command:  # the server, whose alerts are not to be logged meanwhile
+            command = [*command, "--log-level", "warn"]
         self.process = subprocess.Popen(command, stdin=pipe, stdout=pipe, text=True, env=environment)
         assert self.process.stdout.readline() == f"LISTENING {port}\n"
 

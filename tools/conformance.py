@@ -13,40 +13,10 @@ import argparse
 import pathlib
 import subprocess
 import sys
-import tempfile
 
-from model import Product
 from terminal import Terminal
 
 PROGRAM = pathlib.Path(__file__).resolve().parent.parent / "crates/nmvs_serve/out/nmvs_serve"
-CODE, NOW = "09506000134352", 1_767_225_600  # 1 January 2026, 00:00:00 UTC
-DAY = 86_400
-USERS = {
-    "mah1": ("HOLDER", "MAH-1", "HQ"),
-    "mah2": ("HOLDER", "MAH-2", "HQ2"),
-    "ph1": ("PHARMACY", "PH-1", "P1"),
-    "ph1b": ("PHARMACY", "PH-1", "P1"),
-    "ph2": ("PHARMACY", "PH-1", "P2"),
-    "wh1": ("WHOLESALER", "WH-1", "W1"),
-    "mf1": ("MANUFACTURER", "MF-1", "F1"),
-    "au1": ("AUTHORITY", "AU-1", "A1"),
-}
-# The batch of each serial number, and what was done about it: so many days ago, by whom, what. All were uploaded 60 days ago.
-PACKS = {
-    "ACTIVE": ("B1", ()),
-    "EXPIRED": ("B2", ()),
-    "HELD": ("B1", ((3, "ph1", "HOLD"),)),
-    "HELD-LATE": ("B1", ((30, "ph1", "HOLD"),)),
-    "HELD-EXPIRED": ("B2", ((3, "ph1", "HOLD"),)),
-    "SUPPLIED": ("B1", ((3, "ph1", "SUPPLY"),)),
-    "EXPORTED": ("B1", ((3, "wh1", "EXPORT"),)),
-    "SAMPLED": ("B1", ((3, "ph1", "SAMPLE"),)),
-    "DESTROYED": ("B1", ((3, "ph1", "DESTROY"),)),
-    "STOLEN": ("B1", ((3, "mah1", "THEFT"),)),
-    "RECALLED": ("B3", ()),
-    "WITHDRAWN": ("B4", ()),
-}
-EXPIRY = {"B1": "280200", "B2": "251231", "B3": "280200", "B4": "280200"}
 # What a terminal wrote wrong; what its person typed wrong.
 FORM, TYPED = ("LONG", "BYTES", "FIELDS", "WORD", "USER"), ("CODE", "SERIAL", "BATCH", "EXPIRY")
 REPLIES = (
@@ -57,25 +27,9 @@ REPLIES = (
 )
 
 
-def import_text():
-    """The entry lines that make the packs, oldest first."""
-    product = Product(CODE, USERS, NOW - 60 * DAY, "251102")
-    for serial, (batch, _) in PACKS.items():
-        product.ask("mah1", "UPLOAD", [CODE, serial, batch, EXPIRY[batch]])
-    deeds = [(days, user, word, serial) for serial, (_, done) in PACKS.items() for days, user, word in done]
-    deeds += [(2, "mah1", "RECALL", "B3"), (2, "mah1", "WITHDRAW", "B4")]
-    for days, user, word, about in sorted(deeds, key=lambda deed: -deed[0]):
-        product.moment = NOW - days * DAY
-        product.ask(user, word, [CODE, about])
-    return "".join(line + "\n" for _, line in product.entries)
-
-
-def start(folder, port):
+def start(port):
     """The server, which listens on this port or on one that is free, and its port."""
-    users, packs = folder / "users.txt", folder / "packs.txt"
-    users.write_text("".join(f"ENROL {user} {' '.join(actor)}\n" for user, actor in USERS.items()))
-    packs.write_text(import_text())
-    options = ["--users", users, "--import", packs, "--moment", str(NOW), "--port", str(port)]
+    options = ["--rehearsal", "--port", str(port), "--log-level", "warn"]
     process = subprocess.Popen([PROGRAM, *options], stdin=subprocess.PIPE, stdout=subprocess.PIPE, text=True)
     told = process.stdout.readline()
     if not told.startswith("LISTENING "):
@@ -112,17 +66,16 @@ def main():
     reader.add_argument("--port", type=int, default=0)
     reader.add_argument("lines", nargs="*", type=pathlib.Path)
     given = reader.parse_args()
-    with tempfile.TemporaryDirectory() as folder:
-        process, port = start(pathlib.Path(folder), given.port)
-        try:
-            print(f"LISTENING {port}", flush=True)
-            if not given.lines:
-                sys.stdin.read()
-                return 0
-            lines = [line for path in given.lines for line in path.read_text("latin-1").split("\n")[:-1]]
-            return 0 if put(port, lines) else 1
-        finally:
-            process.communicate("STOP\n")
+    process, port = start(given.port)
+    try:
+        print(f"LISTENING {port}", flush=True)
+        if not given.lines:
+            sys.stdin.read()
+            return 0
+        lines = [line for path in given.lines for line in path.read_text("latin-1").split("\n")[:-1]]
+        return 0 if put(port, lines) else 1
+    finally:
+        process.communicate("STOP\n")
 
 
 if __name__ == "__main__":

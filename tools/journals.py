@@ -10,6 +10,7 @@ import threading
 
 import model
 from terminal import Terminal
+from told import QUIET, told_of
 
 TOP = pathlib.Path(__file__).resolve().parent.parent
 PROGRAM = TOP / "crates/nmvs_serve/out/nmvs_serve"
@@ -62,7 +63,7 @@ class Server:
         users = place / "users"
         users.write_text(model.USERS_TEXT)
         command = [*before, PROGRAM, "--users", users, "--journal", folder, "--port", "0", "--shards", str(SHARDS),
-                   "--moment", str(model.MOMENT), *options]
+                   "--moment", str(model.MOMENT), *QUIET, *options]
         pipe = subprocess.PIPE
         self.process = subprocess.Popen(command, stdin=pipe, stdout=pipe, stderr=pipe, text=True, env=environment)
         self.is_late = False
@@ -103,7 +104,7 @@ class Server:
 
     def ended(self):
         said, faults = self.process.communicate(timeout=BOUND)
-        return said, faults
+        return said, told_of(faults)
 
 
 class Asker(threading.Thread):

@@ -26,6 +26,9 @@ kind_of key =
     else if bytes_eq key (codes "bind") then Some Text
     else if bytes_eq key (codes "socket") then Some Text
     else if bytes_eq key (codes "proxy") then Some Text
+    else if bytes_eq key (codes "admin") then Some Text
+    else if bytes_eq key (codes "log-level") then Some Text
+    else if bytes_eq key (codes "log-format") then Some Text
     else if bytes_eq key (codes "shards") then Some Number
     else if bytes_eq key (codes "workers") then Some Number
     else if bytes_eq key (codes "sessions") then Some Number
@@ -34,8 +37,10 @@ kind_of key =
     else if bytes_eq key (codes "rate") then Some Number
     else if bytes_eq key (codes "burst") then Some Number
     else if bytes_eq key (codes "port") then Some Number
+    else if bytes_eq key (codes "metrics") then Some Number
     else if bytes_eq key (codes "moment") then Some Number
     else if bytes_eq key (codes "stdin") then Some Flag
+    else if bytes_eq key (codes "rehearsal") then Some Flag
     else None
 
 -- the fault of a value of an option of this kind

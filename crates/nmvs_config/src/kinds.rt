@@ -33,6 +33,7 @@ pub(crate) fn kind_of(key: &str) -> Option<Kind>
 {
     match key {
         "users" | "import" | "export" | "journal" | "bind" | "socket" | "proxy" => Some(Kind::Text),
+        "admin" | "log-level" | "log-format" => Some(Kind::Text),
         "shards"
         | "workers"
         | "sessions"
@@ -41,8 +42,9 @@ pub(crate) fn kind_of(key: &str) -> Option<Kind>
         | "rate"
         | "burst"
         | "port"
+        | "metrics"
         | "moment" => Some(Kind::Number),
-        "stdin" => Some(Kind::Flag),
+        "stdin" | "rehearsal" => Some(Kind::Flag),
         _ => None,
     }
 }

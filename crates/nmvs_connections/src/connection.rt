@@ -2,6 +2,7 @@
 ghost use Rattle.std.specs.Prelude.{◌≤◌, ℕ, length, IfOk};
 ghost use Rattle.nmvs_connections.specs.Moved.{IsWithin};
 
+use crate::keepalive::keep_alive;
 use mio::net::{TcpListener, TcpStream, UnixListener, UnixStream};
 use mio::{Interest, Registry, Token};
 use std::io;
@@ -119,6 +120,7 @@ impl Listener {
             Listener::Tcp(listener) => {
                 let (stream, _peer) = listener.accept()?;
                 let _slow = stream.set_nodelay(true);
+                keep_alive(&stream);
                 Ok(Connection::Tcp(stream))
             }
             Listener::Unix(listener) => {

@@ -1,6 +1,7 @@
 //! The thread that accepts connections.
 use crate::connection::{Connection, Listener, Moved};
-use crate::hall::{Hall, Station};
+use crate::hall::{Dealt, Hall, Station};
+use log::{Log, debug};
 use mio::unix::SourceFd;
 use mio::{Interest, Token};
 use std::io;
@@ -23,9 +24,9 @@ const BUSY: &[u8] = b"FAULT BUSY\n";
 /// # Errors
 ///
 /// The system refused to report the listener, or to wait.
-pub fn admit<R: Wait>(
+pub fn admit<R: Wait + Log>(
     rt: &R,
-    hall: &Hall,
+    hall: &Hall<'_>,
     listener: &Listener,
     station: Station,
 ) -> io::Result<()> {
@@ -36,32 +37,33 @@ pub fn admit<R: Wait>(
     let descriptor = listener.descriptor();
     poll.registry()
         .register(&mut SourceFd(&descriptor), LISTENER, Interest::READABLE)?;
-    let mut number = 0usize;
+    let mut next = 0usize;
     let mut pause = None;
     for _ in 0..u64::MAX {
         poll.poll(&mut events, pause)?;
         if hall.is_closing(rt) {
             return Ok(());
         }
-        pause = accept_all(rt, hall, listener, &mut number);
+        pause = accept_all(rt, hall, listener, &mut next);
     }
     Ok(())
 }
 
 /// Accepts the connections that wait, and tells for how long no more are to be accepted.
-fn accept_all<R: Wait>(
+fn accept_all<R: Wait + Log>(
     rt: &R,
-    hall: &Hall,
+    hall: &Hall<'_>,
     listener: &Listener,
-    number: &mut usize,
+    next: &mut usize,
 ) -> Option<Duration> {
     for _ in 0..u64::MAX {
         match listener.accept() {
             Ok(connection) => {
-                let worker = hall.worker_of(*number);
+                let (number, worker) = (*next, hall.worker_of(*next));
                 if hall.enter(rt, worker) {
-                    hall.deal(rt, worker, connection);
-                    *number = number.wrapping_add(1);
+                    debug!(rt; connection = number, worker; "connection begins");
+                    hall.deal(rt, worker, Dealt { number, connection });
+                    *next = number.wrapping_add(1);
                 } else {
                     turn_away(connection);
                 }

@@ -1,6 +1,7 @@
 //! What the threads of a server share.
 use crate::connection::Connection;
 use mio::{Events, Poll, Token, Waker};
+use nmvs_figures::{Fault, Panel, Tally};
 use nmvs_protocol::NameOf;
 use std::alloc::{AllocError, Global};
 use std::io;
@@ -72,17 +73,26 @@ pub struct Load {
     pub sessions: u64,
 }
 
+/// A connection that was dealt to a worker, and its number, in the order in which they were accepted.
+#[derive(Drop)]
+pub(crate) struct Dealt {
+    pub(crate) number: usize,
+    pub(crate) connection: Connection,
+}
+
 /// How a worker is reached: the connections that were dealt to it, and what ends its wait.
 #[derive(Drop)]
 struct Place {
-    inbox: Mutex<Vec<Connection>>,
+    inbox: Mutex<Vec<Dealt>>,
     waker: Waker,
 }
 
-/// What the threads of a server share: the counts of its connections, and how each thread is reached.
+/// What the threads of a server share: the counts of its connections, how each thread is reached, and where is counted what
+/// they do.
 #[derive(Drop)]
-pub struct Hall {
+pub struct Hall<'p> {
     bounds: Bounds,
+    panel: &'p Panel,
     counts: Mutex<Counts>,
     places: Vec<Place>,
     door: Waker,
@@ -108,8 +118,9 @@ impl Station {
     }
 }
 
-impl Hall {
-    /// A hall for so many workers, with a station for each, and one for the thread that accepts.
+impl<'p> Hall<'p> {
+    /// A hall for so many workers, with a station for each, and one for the thread that accepts. What is done in it is
+    /// counted on the panel.
     ///
     /// # Errors
     ///
@@ -119,10 +130,12 @@ impl Hall {
         alloc: Global,
         workers: usize,
         bounds: Bounds,
-    ) -> io::Result<(Hall, Vec<Station>, Station)> {
+        panel: &'p Panel,
+    ) -> io::Result<(Hall<'p>, Vec<Station>, Station)> {
         let door = Station::new(rt, alloc, DOOR_EVENTS)?;
         let mut hall = Hall {
             bounds,
+            panel,
             counts: Mutex::new(Counts {
                 open: 0,
                 workers: Vec::from_elem(alloc, 0, workers)?,
@@ -201,6 +214,9 @@ impl Hall {
         let enters = counts.open < self.bounds.connections;
         if enters {
             counts.enter(worker);
+            self.tally(worker).note_accepted();
+        } else {
+            self.tally(worker).note_fault(Fault::Busy);
         }
         enters
     }
@@ -208,6 +224,12 @@ impl Hall {
     /// Counts a connection of a worker no more.
     pub(crate) fn leave(&self, rt: &impl Wait, worker: usize) {
         self.counts.lock(rt).leave(worker);
+        self.tally(worker).note_ended();
+    }
+
+    /// Where the worker of this number counts.
+    pub(crate) fn tally(&self, worker: usize) -> Tally<'p> {
+        self.panel.tally(worker)
     }
 
     /// Counts a session in which a line is to be served, where one more may begin. With the last of them the other
@@ -223,6 +245,7 @@ impl Hall {
         counts.begun = counts.begun.saturating_add(1);
         let was_last = counts.sessions == 0;
         drop(counts);
+        self.panel.note_session();
         if was_last {
             self.wake_all();
         }
@@ -230,11 +253,11 @@ impl Hall {
     }
 
     /// Deals a connection to a worker.
-    pub(crate) fn deal(&self, rt: &impl Wait, worker: usize, connection: Connection) {
+    pub(crate) fn deal(&self, rt: &impl Wait, worker: usize, dealt: Dealt) {
         let Some(place) = self.places.get(worker) else {
             return;
         };
-        match place.inbox.lock(rt).push(connection) {
+        match place.inbox.lock(rt).push(dealt) {
             Ok(()) => {}
             Err(_) => self.leave(rt, worker),
         }
@@ -242,7 +265,7 @@ impl Hall {
     }
 
     /// A connection that was dealt to a worker.
-    pub(crate) fn next_dealt(&self, rt: &impl Wait, worker: usize) -> Option<Connection> {
+    pub(crate) fn next_dealt(&self, rt: &impl Wait, worker: usize) -> Option<Dealt> {
         self.places.get(worker)?.inbox.lock(rt).pop()
     }
 

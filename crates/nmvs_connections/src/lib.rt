@@ -12,6 +12,7 @@ mod door;
 mod gathered;
 mod greeting;
 mod hall;
+mod keepalive;
 mod pieces;
 mod seat;
 #[cfg(test)]

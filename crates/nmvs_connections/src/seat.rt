@@ -6,12 +6,13 @@ ghost use Rattle.nmvs_connections.specs.Turns.{IsAsking, Kept, SeatSteps, TellsO
 use crate::connection::{Connection, Moved};
 use crate::dialogue::Dialogue;
 use crate::greeting::{Greeting, read_greeting};
-use crate::hall::Hall;
+use crate::hall::{Dealt, Hall};
 use crate::pieces::{Piece, first_piece};
 use memchr::memchr;
 use mio::{Registry, Token};
 use nmvs_protocol::{
-    Authorisations, Desk, NO_LIMITS, NameOf, OwnDesk, Peer, READ_SIZE, Released, WithheldAnswers,
+    Authorisations, Desk, End, NO_LIMITS, NameOf, OwnDesk, Peer, READ_SIZE, Released,
+    WithheldAnswers,
 };
 use std::alloc::{AllocError, Global};
 use std::io;
@@ -97,6 +98,8 @@ pub(crate) enum After {
 /// One connection of a worker.
 #[derive(Drop)]
 pub(crate) struct Seat {
+    /// The number of the connection, in the order in which they were accepted.
+    pub(crate) number: usize,
     connection: Connection,
     dialogue: Dialogue,
     /// Whose lines it carries.
@@ -121,13 +124,10 @@ pub(crate) struct Seat {
 
 impl Seat {
     /// A connection, which begins with a gateway's header where that has this name.
-    pub(crate) fn new(
-        alloc: Global,
-        connection: Connection,
-        proxy: Option<NameOf>,
-        now: Instant,
-    ) -> Seat {
+    pub(crate) fn new(alloc: Global, dealt: Dealt, proxy: Option<NameOf>, now: Instant) -> Seat {
+        let Dealt { number, connection } = dealt;
         Seat {
+            number,
             connection,
             dialogue: Dialogue::new(alloc, NO_LIMITS.lines),
             peer: Peer::Anyone,
@@ -161,6 +161,23 @@ impl Seat {
         self.served
     }
 
+    /// Why the connection ends, where it does so now, as the log tells it.
+    pub(crate) fn reason(&self) -> &'static str {
+        if matches!(self.stage, Stage::Greeting(_)) {
+            return "header";
+        }
+        if self.was_idle {
+            return "idle";
+        }
+        match self.dialogue.end() {
+            Some(End::Quit) => "quit",
+            Some(_) => "memory",
+            None if self.stopped => "stopped",
+            None if self.dialogue.unsent().is_empty() || self.hung_up => "ended by the peer",
+            None => "does not read",
+        }
+    }
+
     /// Ends the session behind the lines that were read.
     pub(crate) fn stop(&mut self) {
         self.stopped = true;
@@ -170,7 +187,7 @@ impl Seat {
     pub(crate) fn take_turn<'a, R: Wait, D: Desk<'a> + Authorisations>(
         &mut self,
         rt: &R,
-        hall: &Hall,
+        hall: &Hall<'_>,
         bench: &mut Bench,
         withheld: &mut WithheldAnswers<'a>,
         desk: &mut OwnDesk<D>,
@@ -192,7 +209,7 @@ impl Seat {
     fn step<'a, R: Wait, D: Desk<'a> + Authorisations>(
         &mut self,
         rt: &R,
-        hall: &Hall,
+        hall: &Hall<'_>,
         bench: &mut Bench,
         withheld: &mut WithheldAnswers<'a>,
         desk: &mut OwnDesk<D>,
@@ -262,7 +279,7 @@ impl Seat {
     fn take_read<'a, R: Wait, D: Desk<'a> + Authorisations>(
         &mut self,
         rt: &R,
-        hall: &Hall,
+        hall: &Hall<'_>,
         bench: &mut Bench,
         withheld: &mut WithheldAnswers<'a>,
         desk: &mut OwnDesk<D>,

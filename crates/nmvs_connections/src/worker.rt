@@ -5,11 +5,12 @@ ghost use Rattle.slab.specs.Slab.{get};
 ghost use Rattle.nmvs_connections.specs.declared.seat.Seat.{Seat as TheSeat};
 ghost use Rattle.nmvs_connections.specs.Turns.{EachGoes, IsAsking, TellsAll, TellsOwn, TellsWhereAsked, TurnOfOne, WorkerTurn};
 
-use crate::connection::Connection;
-use crate::hall::{Hall, Station, WAKE};
+use crate::hall::{Dealt, Hall, Station, WAKE};
 use crate::seat::{After, Bench, Seat};
+use log::{Log, debug};
 use mio::event::Event;
 use mio::{Events, Registry};
+use nmvs_figures::Fault;
 use nmvs_protocol::{Authorisations, Desk, OwnDesk, Released, WithheldAnswers};
 use slab::Slab;
 use std::alloc::{AllocError, Global};
@@ -29,10 +30,10 @@ const TICK: u64 = 1;
 /// # Errors
 ///
 /// The system refused to wait, or the clock can't be read.
-pub fn serve<'a, R: Wait + Clock, D: Desk<'a> + Authorisations>(
+pub fn serve<'a, R: Wait + Clock + Log, D: Desk<'a> + Authorisations>(
     rt: &R,
     alloc: Global,
-    hall: &Hall,
+    hall: &Hall<'_>,
     worker: usize,
     station: Station,
     desk: &mut OwnDesk<D>,
@@ -135,12 +136,18 @@ impl Floor {
     }
 
     /// Admits the connections that were dealt to the worker.
-    fn admit_all<R: Wait>(&mut self, rt: &R, hall: &Hall, registry: &Registry, bench: &Bench) {
+    fn admit_all<R: Wait + Log>(
+        &mut self,
+        rt: &R,
+        hall: &Hall<'_>,
+        registry: &Registry,
+        bench: &Bench,
+    ) {
         for _ in 0..u64::MAX {
-            let Some(connection) = hall.next_dealt(rt, self.worker) else {
+            let Some(dealt) = hall.next_dealt(rt, self.worker) else {
                 return;
             };
-            if self.closing || self.admit(hall, registry, connection, bench).is_err() {
+            if self.closing || self.admit(hall, registry, dealt, bench).is_err() {
                 hall.leave(rt, self.worker);
             }
         }
@@ -148,16 +155,16 @@ impl Floor {
 
     fn admit(
         &mut self,
-        hall: &Hall,
+        hall: &Hall<'_>,
         registry: &Registry,
-        connection: Connection,
+        dealt: Dealt,
         bench: &Bench,
     ) -> io::Result<()> {
         let most = self.seats.len().saturating_add(1);
         self.turns.reserve(most)?;
         self.later.reserve(most)?;
         self.asking.reserve(most)?;
-        let mut seat = Seat::new(bench.alloc, connection, hall.proxy(), bench.now);
+        let mut seat = Seat::new(bench.alloc, dealt, hall.proxy(), bench.now);
         seat.register(registry, self.seats.vacant_key())?;
         match self.seats.insert(seat) {
             Ok(_key) => Ok(()),
@@ -166,7 +173,7 @@ impl Floor {
     }
 
     /// Learns whether the service ends.
-    fn heed<R: Wait>(&mut self, rt: &R, hall: &Hall) {
+    fn heed<R: Wait + Log>(&mut self, rt: &R, hall: &Hall<'_>) {
         if !hall.is_closing(rt) {
             return;
         }
@@ -192,10 +199,10 @@ impl Floor {
 
     /// Gives each connection whose turn it is its turn. The answers of all of them are released together, as far as the
     /// list of them has room and none shows a list.
-    fn take_turns<'a, R: Wait, D: Desk<'a> + Authorisations>(
+    fn take_turns<'a, R: Wait + Log, D: Desk<'a> + Authorisations>(
         &mut self,
         rt: &R,
-        hall: &Hall,
+        hall: &Hall<'_>,
         bench: &mut Bench,
         withheld: &mut WithheldAnswers<'a>,
         desk: &mut OwnDesk<D>,
@@ -219,10 +226,10 @@ impl Floor {
     }
 
     /// Gives a connection its turn, and tells whether what is withheld is released before another has its own.
-    fn take_turn<'a, R: Wait, D: Desk<'a> + Authorisations>(
+    fn take_turn<'a, R: Wait + Log, D: Desk<'a> + Authorisations>(
         &mut self,
         rt: &R,
-        hall: &Hall,
+        hall: &Hall<'_>,
         key: usize,
         bench: &mut Bench,
         withheld: &mut WithheldAnswers<'a>,
@@ -240,7 +247,7 @@ impl Floor {
     }
 
     /// Does with a connection what becomes of it behind its turn.
-    fn settle<R: Wait>(&mut self, rt: &R, hall: &Hall, key: usize, after: After)
+    fn settle<R: Wait + Log>(&mut self, rt: &R, hall: &Hall<'_>, key: usize, after: After)
         ensures asks { IsAsking after → (seat : TheSeat) → get self.new.seats key ≡ Some seat → Contains self.new.asking.items key }
         ensures still { (other : ℕ) → Contains self.old.asking.items other → Contains self.new.asking.items other }
         ensures seats { EachGoes (λ key talk talk'. talk' ≡ talk) self.old.seats self.new.seats }
@@ -253,10 +260,10 @@ impl Floor {
 
     /// Has the desk release what is withheld, once for all connections that wait for it, and each of them tell its own.
     /// Where nothing is withheld the desk is not asked.
-    fn tell_all<'a, R: Wait, D: Desk<'a> + Authorisations>(
+    fn tell_all<'a, R: Wait + Log, D: Desk<'a> + Authorisations>(
         &mut self,
         rt: &R,
-        hall: &Hall,
+        hall: &Hall<'_>,
         bench: &mut Bench,
         withheld: &mut WithheldAnswers<'a>,
         desk: &mut OwnDesk<D>,
@@ -270,15 +277,16 @@ impl Floor {
             return;
         }
         let (released, _evidence) = desk.release(withheld);
+        hall.tally(self.worker).note_told(&released);
         self.tell_each(rt, hall, bench, &released);
         withheld.clear();
     }
 
     /// Has each connection that waits for it tell its own of what was released.
-    fn tell_each<R: Wait>(
+    fn tell_each<R: Wait + Log>(
         &mut self,
         rt: &R,
-        hall: &Hall,
+        hall: &Hall<'_>,
         bench: &mut Bench,
         released: &Released<'_, '_>,
     )
@@ -291,10 +299,10 @@ impl Floor {
     }
 
     /// Has a connection tell its own of what was released.
-    fn tell<R: Wait>(
+    fn tell<R: Wait + Log>(
         &mut self,
         rt: &R,
-        hall: &Hall,
+        hall: &Hall<'_>,
         key: usize,
         bench: &mut Bench,
         released: &Released<'_, '_>,
@@ -310,7 +318,7 @@ impl Floor {
     }
 
     /// Does with a connection what becomes of it where it waits for no release.
-    fn go_on<R: Wait>(&mut self, rt: &R, hall: &Hall, key: usize, after: After)
+    fn go_on<R: Wait + Log>(&mut self, rt: &R, hall: &Hall<'_>, key: usize, after: After)
         ensures asking { self.new.asking ≡ self.old.asking }
         ensures seats { EachGoes (λ key talk talk'. talk' ≡ talk) self.old.seats self.new.seats }
     {
@@ -322,7 +330,7 @@ impl Floor {
     }
 
     /// Notes that a connection waits for the release. Where it can't be noted, it is closed.
-    fn note_asking<R: Wait>(&mut self, rt: &R, hall: &Hall, key: usize)
+    fn note_asking<R: Wait + Log>(&mut self, rt: &R, hall: &Hall<'_>, key: usize)
         ensures asks { (seat : TheSeat) → get self.new.seats key ≡ Some seat → self.new.asking.items ≡ self.old.asking.items ++ key ∷ [] }
         ensures still { (other : ℕ) → Contains self.old.asking.items other → Contains self.new.asking.items other }
         ensures seats { EachGoes (λ key talk talk'. talk' ≡ talk) self.old.seats self.new.seats }
@@ -343,18 +351,27 @@ impl Floor {
     }
 
     /// Closes a connection.
-    fn remove<R: Wait>(&mut self, rt: &R, hall: &Hall, key: usize)
+    fn remove<R: Wait + Log>(&mut self, rt: &R, hall: &Hall<'_>, key: usize)
         ensures asking { self.new.asking ≡ self.old.asking }
         ensures gone { get self.new.seats key ≡ None }
         ensures seats { EachGoes (λ key talk talk'. talk' ≡ talk) self.old.seats self.new.seats }
     {
+        self.tell_end(rt, key);
         if self.seats.try_remove(key).is_some() {
             hall.leave(rt, self.worker);
         }
     }
 
+    /// Tells in the log that a connection ends, and why.
+    fn tell_end<R: Log>(&self, rt: &R, key: usize) {
+        if let Some(seat) = self.seats.get(key) {
+            let reason = seat.reason();
+            debug!(rt; connection = seat.number, worker = self.worker, reason; "connection ends");
+        }
+    }
+
     /// Looks for connections that waited too long, where it is time to.
-    fn grow_old<R: Wait>(&mut self, rt: &R, hall: &Hall, now: Instant) {
+    fn grow_old<R: Wait + Log>(&mut self, rt: &R, hall: &Hall<'_>, now: Instant) {
         if now.duration_since(self.looked).as_secs() < TICK {
             return;
         }
@@ -365,7 +382,10 @@ impl Floor {
                 None => After::Waits,
             };
             match after {
-                After::Goes => self.queue(key),
+                After::Goes => {
+                    hall.tally(self.worker).note_fault(Fault::Idle);
+                    self.queue(key);
+                }
                 After::Leaves => self.remove(rt, hall, key),
                 After::Waits | After::Asks | After::AsksAtOnce => {}
             }

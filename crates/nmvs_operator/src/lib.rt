@@ -25,8 +25,8 @@ pub use faults::{LoadFault, ObeyFault};
 pub use figures::{Figure, Topic};
 pub use latest::Latest;
 pub use options::{
-    DEFAULT_PORT, MOST_CONNECTIONS, MOST_IDLE, MOST_RATE, MOST_SESSIONS, MOST_SHARDS, MOST_WORKERS,
-    OptionFault, Options, read_options,
+    DEFAULT_PORT, LogFormat, MOST_CONNECTIONS, MOST_IDLE, MOST_RATE, MOST_SESSIONS, MOST_SHARDS,
+    MOST_WORKERS, NEW_YEAR, OptionFault, Options, VERSION, read_options,
 };
 pub use order::{Order, read_order};
 pub use service::{Deed, Service, ServiceFault};

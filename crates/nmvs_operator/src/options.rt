@@ -5,6 +5,7 @@ ghost use Rattle.nmvs_operator.specs.Options.{AreInRange};
 
 use clap::error::ErrorKind;
 use clap::{Arg, ArgAction, ArgMatches, Command, Error, value_parser};
+use log::LevelFilter;
 use nmvs_identifier::{LAST_MOMENT, Moment};
 use nmvs_protocol::NameOf;
 use std::alloc::{AllocError, Global};
@@ -34,14 +35,32 @@ pub const MOST_RATE: u64 = 1_000_000;
 /// The port that is listened on where the command line names none (own).
 pub const DEFAULT_PORT: u16 = 7161;
 
+/// 1 January 2026, 00:00:00 UTC, in seconds: the one moment of a rehearsal that names no other (own).
+pub const NEW_YEAR: i64 = 1_767_225_600;
+
 /// The values of the option that says whose name a gateway's header has.
 const NAMES: &[&str] = &["user", "authorisation"];
+
+/// The values of the option that says what is logged.
+const LEVELS: &[&str] = &["off", "error", "warn", "info", "debug"];
+
+/// The values of the option that says how it is logged.
+const FORMATS: &[&str] = &["text", "json"];
+
+/// How the log is written (own).
+#[derive(Clone, Copy, Debug, PartialEq, Eq)]
+pub enum LogFormat {
+    /// Moment, level and words.
+    Text,
+    /// An object of JSON with the same.
+    Json,
+}
 
 /// A command line that was taken (own).
 #[derive(Debug, Drop)]
 pub struct Options {
-    /// Path of the users file.
-    pub users: String,
+    /// Path of the users file. Without one the users are those of the rehearsal, with its packs.
+    pub users: Option<String>,
     /// Path of an export that the repository is opened with.
     pub import: Option<String>,
     /// Path that the export is written to at the end.
@@ -74,6 +93,13 @@ pub struct Options {
     pub moment: Option<Moment>,
     /// One session over standard input and output, in place of connections.
     pub stdin: bool,
+    /// Path of a Unix socket that takes the operator's commands, beside standard input.
+    pub admin: Option<String>,
+    /// The port of this machine at which figures are told, where 0 is one that the system chooses.
+    pub metrics: Option<u16>,
+    /// What is logged: events of this level and above.
+    pub log_level: LevelFilter,
+    pub log_format: LogFormat,
 }
 
 /// Why a command line gives no options.
@@ -96,7 +122,8 @@ const ABOUT: &str =
     "The national medicines verification repository: answers lines of users over connections, and takes commands of its \
     operator on standard input.";
 
-const VERSION: &str = "1 (proved by rattle-kit-13f logic dac8208d650f15bf)";
+/// The version of the program, and the toolchain that it is proved by (own).
+pub const VERSION: &str = "1 (proved by rattle-kit-13f logic dac8208d650f15bf)";
 
 const REHEARSAL: &str =
     "Without any option the program is a rehearsal: one session over standard input and output, with an empty \
@@ -139,10 +166,13 @@ fn command<'a>(alloc: Global, default_port: &'a str) -> Result<Command<'a>, Allo
         .version(VERSION);
     let files = with_files(alloc, command)?;
     let limits = with_limits(alloc, with_counts(alloc, files)?)?;
-    with_places(alloc, with_rates(alloc, limits)?, default_port)?
-        .arg(proxy(alloc))?
-        .arg(moment)?
-        .arg(stdin)
+    with_sights(
+        alloc,
+        with_places(alloc, with_rates(alloc, limits)?, default_port)?,
+    )?
+    .arg(proxy(alloc))?
+    .arg(moment)?
+    .arg(stdin)
 }
 
 /// With the options that are paths of files.
@@ -152,8 +182,11 @@ fn with_files<'a>(alloc: Global, command: Command<'a>) -> Result<Command<'a>, Al
         "users",
         "FILE",
         "Users file: one command a line, ENROL user role authorisation premises or SUSPEND user",
-    )
-    .required(true);
+    );
+    let rehearsal = Arg::new(alloc, "rehearsal")
+        .long("rehearsal")
+        .help("The users of the rehearsal, with a pack for each status, in place of a users file")
+        .action(ArgAction::SetTrue);
     let import = option(
         alloc,
         "import",
@@ -180,6 +213,7 @@ fn with_files<'a>(alloc: Global, command: Command<'a>) -> Result<Command<'a>, Al
     );
     command
         .arg(users)?
+        .arg(rehearsal)?
         .arg(import)?
         .arg(export)?
         .arg(journal)?
@@ -286,6 +320,40 @@ fn with_places<'a>(
     command.arg(bind)?.arg(port)?.arg(socket)
 }
 
+/// With the options by which the operator sees into the server and reaches it.
+fn with_sights<'a>(alloc: Global, command: Command<'a>) -> Result<Command<'a>, AllocError> {
+    let admin = option(
+        alloc,
+        "admin",
+        "PATH",
+        "Unix socket that takes the operator's commands, beside standard input; its owner alone may open it",
+    );
+    let metrics = number(
+        alloc,
+        "metrics",
+        "Port of 127.0.0.1 at which /metrics, /healthz and /readyz are told, 0 to 65535; 0 is one that the system chooses",
+        0,
+        65_535,
+    );
+    let level = option(
+        alloc,
+        "log-level",
+        "LEVEL",
+        "Events of this level and above are logged",
+    )
+    .value_parser(LEVELS)
+    .default_value("info");
+    let format = option(
+        alloc,
+        "log-format",
+        "FORMAT",
+        "How the log on standard error is written",
+    )
+    .value_parser(FORMATS)
+    .default_value("text");
+    command.arg(admin)?.arg(metrics)?.arg(level)?.arg(format)
+}
+
 /// The option of a gateway's header.
 fn proxy<'a>(alloc: Global) -> Arg<'a> {
     option(
@@ -313,18 +381,12 @@ fn number<'a>(alloc: Global, name: &'a str, help: &'a str, least: i64, most: i64
 fn options_of(alloc: Global, matches: &ArgMatches<'_>) -> Result<Options, OptionFault>
     ensures { IfOk result AreInRange }
 {
-    let Some(users) = matches.get_str("users") else {
-        return Err(unreadable(alloc));
-    };
-    if matches.contains_id("journal") && matches.get_flag("stdin") {
-        return Err(refused(
-            alloc,
-            "error: '--journal <DIR>' is for connections, and can't be used with '--stdin'\n",
-        ));
+    if let Some(text) = clash_of(matches) {
+        return Err(refused(alloc, text));
     }
     let rate = within(alloc, matches, "rate", 0, MOST_RATE)?;
     Ok(Options {
-        users: String::from_str(alloc, users)?,
+        users: path_of(alloc, matches, "users")?,
         import: path_of(alloc, matches, "import")?,
         export: path_of(alloc, matches, "export")?,
         journal: path_of(alloc, matches, "journal")?,
@@ -341,7 +403,35 @@ fn options_of(alloc: Global, matches: &ArgMatches<'_>) -> Result<Options, Option
         proxy: proxy_of(alloc, matches)?,
         moment: moment_of(alloc, matches)?,
         stdin: matches.get_flag("stdin"),
+        admin: path_of(alloc, matches, "admin")?,
+        metrics: metrics_of(alloc, matches)?,
+        log_level: level_of(alloc, matches)?,
+        log_format: format_of(alloc, matches)?,
     })
+}
+
+/// What is told of options that cannot stand together, where there are such.
+fn clash_of(matches: &ArgMatches<'_>) -> Option<&'static str> {
+    let stdin = matches.get_flag("stdin");
+    if matches.contains_id("users") == matches.get_flag("rehearsal") {
+        return Some("error: one of '--users <FILE>' and '--rehearsal' is needed, and not both\n");
+    }
+    if stdin && matches.contains_id("journal") {
+        return Some(
+            "error: '--journal <DIR>' is for connections, and can't be used with '--stdin'\n",
+        );
+    }
+    if stdin && matches.contains_id("admin") {
+        return Some(
+            "error: '--admin <PATH>' is for connections, and can't be used with '--stdin'\n",
+        );
+    }
+    if stdin && matches.contains_id("metrics") {
+        return Some(
+            "error: '--metrics <N>' is for connections, and can't be used with '--stdin'\n",
+        );
+    }
+    None
 }
 
 /// The lines of a user at once, by the option or else those of a second.
@@ -375,6 +465,35 @@ fn address_of(alloc: Global, matches: &ArgMatches<'_>) -> Result<IpAddr, OptionF
     ))
 }
 
+/// The port at which figures are told, where the option is given.
+fn metrics_of(alloc: Global, matches: &ArgMatches<'_>) -> Result<Option<u16>, OptionFault> {
+    if !matches.contains_id("metrics") {
+        return Ok(None);
+    }
+    Ok(Some(within(alloc, matches, "metrics", 0, 65_535)? as u16))
+}
+
+/// What is logged.
+fn level_of(alloc: Global, matches: &ArgMatches<'_>) -> Result<LevelFilter, OptionFault> {
+    match matches.get_str("log-level") {
+        Some("off") => Ok(LevelFilter::Off),
+        Some("error") => Ok(LevelFilter::Error),
+        Some("warn") => Ok(LevelFilter::Warn),
+        Some("info") => Ok(LevelFilter::Info),
+        Some("debug") => Ok(LevelFilter::Debug),
+        _ => Err(unreadable(alloc)),
+    }
+}
+
+/// How it is logged.
+fn format_of(alloc: Global, matches: &ArgMatches<'_>) -> Result<LogFormat, OptionFault> {
+    match matches.get_str("log-format") {
+        Some("text") => Ok(LogFormat::Text),
+        Some("json") => Ok(LogFormat::Json),
+        _ => Err(unreadable(alloc)),
+    }
+}
+
 /// Whose name a gateway's header has, where the option is given.
 fn proxy_of(alloc: Global, matches: &ArgMatches<'_>) -> Result<Option<NameOf>, OptionFault> {
     match matches.get_str("proxy") {
@@ -385,12 +504,17 @@ fn proxy_of(alloc: Global, matches: &ArgMatches<'_>) -> Result<Option<NameOf>, O
     }
 }
 
-/// The moment of every line, where the option is given.
+/// The moment of every line, where the option is given, or a rehearsal has one of its own.
 fn moment_of(alloc: Global, matches: &ArgMatches<'_>) -> Result<Option<Moment>, OptionFault>
     ensures { IfOk result (λ m. IfSome m (λ m. m ≤ last_moment)) }
 {
     if !matches.contains_id("moment") {
-        return Ok(None);
+        let is_rehearsal = matches.get_flag("rehearsal");
+        return Ok(if is_rehearsal {
+            Moment::new(NEW_YEAR)
+        } else {
+            None
+        });
     }
     let seconds = within(alloc, matches, "moment", 0, LAST_MOMENT as u64)?;
     match Moment::new(seconds as i64) {

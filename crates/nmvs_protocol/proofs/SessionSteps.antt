@@ -1,9 +1,9 @@
--- How a session goes on by one line, by the answers that are released together, and by one read.
-use Rattle.std.proofs.Common.{◌≡◌, ◌≢◌, ◌==◌, not, ◌||◌, if◌then◌else◌, ◌+◌, ◌-◌, take, drop, ◌<◌, ◌≤◌, ℕ, Bool, true, false, List, [], ◌∷◌, ◌++◌, All, IsTrue, IfNone, Option, Some, None, length, map, refl, sym, ap, ◌∙◌, subst, inl, inr, arith}
-use Rattle.std.proofs.lemmas.List.{flat_map_more, append-nil, length-append, length_push, append_assoc, take_at, drop_at, take_all, take-append-drop, length-drop}
+-- How a session goes on by one line and by one read.
+use Rattle.std.proofs.Common.{◌≡◌, ◌≢◌, ◌==◌, ◌+◌, ◌-◌, take, drop, ◌<◌, ◌≤◌, ℕ, true, false, List, [], ◌∷◌, ◌++◌, All, IfNone, Option, Some, None, length, map, refl, sym, ap, ◌∙◌, subst, inl, inr, arith}
+use Rattle.std.proofs.lemmas.List.{append-nil, length-append, length_push, append_assoc, take_at, drop_at, take_all, take-append-drop, length-drop}
 use Rattle.std.proofs.lemmas.Bool.{ne_eqb}
 use Rattle.std.proofs.Math.Seq.{drop-length}
-use Rattle.std.proofs.lemmas.List.Elements.{All-append, All-cons, All-nil, All-tail}
+use Rattle.std.proofs.lemmas.List.Elements.{All-append, All-cons, All-nil}
 use Rattle.std.proofs.lemmas.Grind.{flat_map-append}
 use Rattle.nmvs_stream.specs.Source.{Told}
 use Rattle.nmvs_stream.specs.Sink.{Taken, Flushes, FailsToTake}
@@ -11,8 +11,6 @@ use Rattle.nmvs_stream.specs.Delivery.{DeliversPart}
 use Rattle.nmvs_protocol.specs.declared.ask.Ask.{Ask}
 use Rattle.nmvs_protocol.specs.declared.ask.Line.TheVariants as lines
 use Rattle.nmvs_protocol.specs.declared.answer.Answer.{Answer}
-use Rattle.nmvs_protocol.specs.declared.answer.Answer.TheVariants as answers
-use Rattle.nmvs_protocol.specs.declared.answer.Turn.TheVariants as turns
 use Rattle.nmvs_protocol.specs.declared.withheld.Withheld.{Withheld}
 use Rattle.nmvs_protocol.specs.declared.limits.Limits.{Limits}
 use Rattle.nmvs_protocol.specs.declared.limits.TheConstants.{READ_SIZE}
@@ -21,249 +19,13 @@ use Rattle.nmvs_protocol.specs.declared.session.Taking.{Taking}
 use Rattle.nmvs_protocol.specs.declared.end.End.{End}
 use Rattle.nmvs_protocol.specs.declared.end.End.TheVariants as ends
 use Rattle.nmvs_protocol.specs.Lines.{line_text}
-use Rattle.nmvs_protocol.specs.Texts.{text, takes_memory}
+use Rattle.nmvs_protocol.specs.Texts.{text}
 use Rattle.nmvs_stream.specs.InputLines.{HasNoLf, input_lines, unfinished_line, lines_after, rest_after}
 use Rattle.nmvs_stream.proofs.LinesOfPieces.{lines_after-append, rest_after-append, no_line, line_cut, left_cut}
 use Rattle.nmvs_protocol.proofs.KeptLines.{kept_more}
-use Rattle.nmvs_protocol.specs.Session.{TakesLine, TakesLines, answer_of, is_kept, is_of_repository, told_where, AnswersLines, AreReleased, StaysOrTurns, NoQuit, NoQuitBeforeLast, EndsWithQuit, DeliversAll, BreaksOff, Closes, Session, session_text, is_input_end, is_read_fault}
-use Rattle.nmvs_protocol.specs.Progress.{AreShortButLast, TellsWithheld, Halts, Took, Gathers, Delivered, Tells, TellsFirst, Stands, Fed, Served, has_write_fault, kept_part}
-
--- one line more that is not QUIT
-pub no_quit_more : (xs : List (List ℕ)) (x : List ℕ) → NoQuit xs → x ≢ line_text lines.Quit → NoQuit (xs ++ x ∷ [])
-no_quit_more xs x none other = All-append (λ (y : List ℕ). y ≢ line_text lines.Quit) xs (x ∷ []) none (All-cons (λ (y : List ℕ). y ≢ line_text lines.Quit) x [] other (All-nil (λ (y : List ℕ). y ≢ line_text lines.Quit)))
-
--- the text of what is withheld is short
-abbrev pub IsShort : Withheld → Type 0
-IsShort w = takes_memory w.answer ≡ false
-
--- what is short, and one more
-pub short_but_last : (withheld : List Withheld) (w : Withheld) → All IsShort withheld → AreShortButLast (map answer_of (withheld ++ w ∷ []))
-short_but_last [] w short = tt
-short_but_last (h ∷ []) w short = (short 0 h (omega arith), tt)
-short_but_last (h ∷ g ∷ withheld) w short = (short 0 h (omega arith), short_but_last (g ∷ withheld) w (All-tail IsShort h (g ∷ withheld) short))
-
-pub all_short : (withheld : List Withheld) → All IsShort withheld → AreShortButLast (map answer_of withheld)
-all_short [] short = tt
-all_short (h ∷ []) short = tt
-all_short (h ∷ g ∷ withheld) short = (short 0 h (omega arith), all_short (g ∷ withheld) (All-tail IsShort h (g ∷ withheld) short))
-
--- behind an answer whose text takes memory there is none
-pub none_behind : (before : List Answer) (a : Answer) (later : List Answer) → AreShortButLast (before ++ a ∷ later) → IsTrue (takes_memory a) → later ≡ []
-none_behind [] a [] short long = refl
-none_behind [] a (b ∷ later) short long = absurd (cc (short.0, long))
-none_behind (c ∷ []) a later short long = none_behind [] a later short.1 long
-none_behind (c ∷ d ∷ before) a later short long = none_behind (d ∷ before) a later short.1 long
-
-stays_short : (w : Withheld) (a : Answer) → StaysOrTurns w a → takes_memory w.answer ≡ false → takes_memory a ≡ false
-stays_short w a (inl e) short = ap takes_memory e ∙ short
-stays_short w a (inr turns) short = ap takes_memory turns.2
-
-pub released_short : (releases : Withheld → Answer → Type 0) (withheld : List Withheld) (said : List Answer) → AreReleased releases withheld said → AreShortButLast (map answer_of withheld)
-    → AreShortButLast said
-released_short releases [] [] r short = tt
-released_short releases (w ∷ []) (a ∷ []) r short = tt
-released_short releases (w ∷ v ∷ withheld) (a ∷ b ∷ said) r short = (stays_short w a r.1 short.0, released_short releases (v ∷ withheld) (b ∷ said) r.2 short.1)
-released_short releases (w ∷ v ∷ withheld) (a ∷ []) r short = absurd r.2
-released_short releases (w ∷ []) (a ∷ b ∷ said) r short = absurd r.2
-released_short releases [] (a ∷ said) r short = absurd r
-released_short releases (w ∷ withheld) [] r short = absurd r
-
-released_length : (releases : Withheld → Answer → Type 0) (withheld : List Withheld) (said : List Answer) → AreReleased releases withheld said → length said ≡ length withheld
-released_length releases [] [] r = refl
-released_length releases (w ∷ withheld) (a ∷ said) r = let n = released_length releases withheld said r.2 in omega arith
-released_length releases [] (a ∷ said) r = absurd r
-released_length releases (w ∷ withheld) [] r = absurd r
-
--- what is withheld is released by a function of each
-pub released_by : (f : Withheld → Answer) → ((w : Withheld) → StaysOrTurns w (f w)) → (withheld : List Withheld) → AreReleased (λ w a. a ≡ f w) withheld (map f withheld)
-released_by f stays [] = tt
-released_by f stays (w ∷ withheld) = (refl, stays w, released_by f stays withheld)
-
--- what is released so is released so, too
-pub released_as : (releases more : Withheld → Answer → Type 0) → ((w : Withheld) (a : Answer) → releases w a → more w a)
-    → (withheld : List Withheld) (said : List Answer) → AreReleased releases withheld said → AreReleased more withheld said
-released_as releases more step [] [] r = tt
-released_as releases more step (w ∷ withheld) (a ∷ said) r = (step w a r.0, r.1, released_as releases more step withheld said r.2)
-released_as releases more step [] (a ∷ said) r = absurd r
-released_as releases more step (w ∷ withheld) [] r = absurd r
-
--- what is kept decides whether a line is turned away that may be
-pub told_stays : (kept : List ℕ) (w : Withheld) → StaysOrTurns w (told_where kept w)
-told_stays kept w = choose (is_kept kept w.basis) (is_of_repository w.answer) refl
-  where
-    choose : (k r : Bool) → is_of_repository w.answer ≡ r → StaysOrTurns w (if k || not r then w.answer else answers.Turned turns.Journal)
-    choose true r e = inl refl
-    choose false false e = inl refl
-    choose false true e = inr (e, turns.Journal, refl)
-
-none_before : (xs ys : List ℕ) → xs ++ ys ≡ [] → xs ≡ []
-none_before [] ys e = refl
-none_before (x ∷ xs) ys e = absurd (cc e)
-
-none_after : (xs ys : List ℕ) → xs ++ ys ≡ [] → ys ≡ []
-none_after [] ys e = e
-none_after (x ∷ xs) ys e = absurd (cc e)
-
--- texts after texts
-pub gathers_more : (old mid new : Taken) (before more : List Answer) → Gathers old mid before → Gathers mid new more → Gathers old new (before ++ more)
-gathers_more old mid new before more a b =
-    let both = flat_map-append text before more in record {
-      bytes = b.bytes ∙ ap (λ (t : List ℕ). t ++ session_text more) a.bytes ∙ append_assoc old.bytes (session_text before) (session_text more) ∙ ap (λ (t : List ℕ). old.bytes ++ t) (sym both);
-      flushed = λ none. b.flushed (none_after (session_text before) (session_text more) (sym both ∙ none)) ∙ a.flushed (none_before (session_text before) (session_text more) (sym both ∙ none));
-      failed = b.failed ∙ a.failed;
-    }
-
--- a failed write after what was gathered
-breaks_after : (old mid new : Taken) (before more : List Answer) → Gathers old mid before → DeliversPart mid new (session_text more) → DeliversPart old new (session_text (before ++ more))
-breaks_after old mid new before more a b = record {
-  written = session_text before ++ b.written;
-  unwritten = b.unwritten;
-  cut = flat_map-append text before more ∙ ap (λ (t : List ℕ). session_text before ++ t) b.cut ∙ sym (append_assoc (session_text before) b.written b.unwritten);
-  bytes = b.bytes ∙ ap (λ (t : List ℕ). t ++ b.written) a.bytes ∙ append_assoc old.bytes (session_text before) b.written;
-  flushed = λ none. b.flushed (none_after (session_text before) b.written none) ∙ a.flushed (none_before (session_text before) b.written none);
-  failed = b.failed;
-}
-
--- writing breaks off at an answer, after those that were told, or there is no memory for its text
-pub tells_until : (end : End) (old mid new : Taken) (before : List Answer) (a : Answer) (later : List Answer) → Gathers old mid before
-    → Tells (Some end) mid new (a ∷ []) → TellsFirst (Some end) old new (before ++ a ∷ later)
-tells_until ends.WriteFault old mid new before a later g t = breaks_after old mid new before (a ∷ later) g (record {
-  written = t.written;
-  unwritten = t.unwritten ++ session_text later;
-  cut = ap (λ (u : List ℕ). u ++ session_text later) (sym (append-nil (text a)) ∙ t.cut) ∙ append_assoc t.written t.unwritten (session_text later);
-  bytes = t.bytes;
-  flushed = t.flushed;
-  failed = t.failed;
-})
-tells_until ends.Memory old mid new before a later g t =
-    let alone = one_left t.before t.last a (sym t.these) in record {
-      before = before;
-      last = a;
-      later = later;
-      these = refl;
-      memory = subst (λ (b : Answer). IsTrue (takes_memory b)) alone.1 t.memory;
-      told = subst (λ (r : List Answer). Gathers old new r) (ap (λ (r : List Answer). before ++ r) alone.0 ∙ append-nil before) (gathers_more old mid new before t.before g t.told);
-    }
-  where
-    one_left : (xs : List Answer) (x y : Answer) → xs ++ x ∷ [] ≡ y ∷ [] → (xs ≡ []) × (x ≡ y)
-    one_left [] x y e = (refl, cc e)
-    one_left (z ∷ []) x y e = absurd (cc e)
-    one_left (z ∷ w ∷ xs) x y e = absurd (cc e)
-tells_until ends.Quit old mid new before a later g t = absurd t
-tells_until ends.Limit old mid new before a later g t = absurd t
-tells_until ends.Ended old mid new before a later g t = absurd t
-tells_until ends.ReadFault old mid new before a later g t = absurd t
-
--- behind an answer that there is no memory for there is none, where none but the last takes memory
-pub tells_short : (end : Option End) (sink sink' : Taken) (said : List Answer) → AreShortButLast said → TellsFirst end sink sink' said → Tells end sink sink' said
-tells_short (Some ends.Memory) sink sink' said short t =
-    let last = none_behind t.before t.last t.later (subst AreShortButLast t.these short) t.memory in record {
-      before = t.before;
-      last = t.last;
-      these = t.these ∙ ap (λ (r : List Answer). t.before ++ t.last ∷ r) last;
-      memory = t.memory;
-      told = t.told;
-    }
-tells_short (None) sink sink' said short t = t
-tells_short (Some ends.WriteFault) sink sink' said short t = t
-tells_short (Some ends.Quit) sink sink' said short t = absurd t
-tells_short (Some ends.Limit) sink sink' said short t = absurd t
-tells_short (Some ends.Ended) sink sink' said short t = absurd t
-tells_short (Some ends.ReadFault) sink sink' said short t = absurd t
-
--- what is told of answers after others
-tells_more : (end : Option End) (old mid new : Taken) (before more : List Answer) → Gathers old mid before → Tells end mid new more → Tells end old new (before ++ more)
-tells_more (None) old mid new before more a b = gathers_more old mid new before more a b
-tells_more (Some ends.WriteFault) old mid new before more a b = breaks_after old mid new before more a b
-tells_more (Some ends.Memory) old mid new before more a b = record {
-  before = before ++ b.before;
-  last = b.last;
-  these = ap (λ (t : List Answer). before ++ t) b.these ∙ sym (append_assoc before b.before (b.last ∷ []));
-  memory = b.memory;
-  told = gathers_more old mid new before b.before a b.told;
-}
-tells_more (Some ends.Quit) old mid new before more a b = absurd b
-tells_more (Some ends.Limit) old mid new before more a b = absurd b
-tells_more (Some ends.Ended) old mid new before more a b = absurd b
-tells_more (Some ends.ReadFault) old mid new before more a b = absurd b
-
-tells_sound : (end : Option End) (old new : Taken) (said : List Answer) → Tells end old new said → old.failed ≡ false → new.failed ≡ has_write_fault end
-tells_sound (None) old new said t sound = t.failed ∙ sound
-tells_sound (Some ends.WriteFault) old new said t sound = t.failed
-tells_sound (Some ends.Memory) old new said t sound = t.told.failed ∙ sound
-tells_sound (Some ends.Quit) old new said t sound = absurd t
-tells_sound (Some ends.Limit) old new said t sound = absurd t
-tells_sound (Some ends.Ended) old new said t sound = absurd t
-tells_sound (Some ends.ReadFault) old new said t sound = absurd t
-
--- where writing broke off, or there was no memory
-broken : (end : End) (limit count : ℕ) (answered left : List (List ℕ)) (said : List Answer) (old new : Taken) → NoQuitBeforeLast answered → Tells (Some end) old new said
-    → Stands (Some end) (Gathers old new) limit count answered left said old new
-broken ends.WriteFault limit count answered left said old new quit t = (quit, t)
-broken ends.Memory limit count answered left said old new quit t = (quit, t)
-broken ends.Quit limit count answered left said old new quit t = absurd t
-broken ends.Limit limit count answered left said old new quit t = absurd t
-broken ends.Ended limit count answered left said old new quit t = absurd t
-broken ends.ReadFault limit count answered left said old new quit t = absurd t
-
--- a flush hands on what was gathered
-handed_on : (old mid new : Taken) (said : List Answer) → Gathers old mid said → Flushes mid new → Delivered old new said
-handed_on old mid new said g f = record { bytes = f.bytes ∙ g.bytes; flushed = f.flushed; failed = f.failed ∙ g.failed }
-
-flushes : (end : Option End) (limit count : ℕ) (answered left : List (List ℕ)) (said : List Answer) (old mid new : Taken)
-    → has_write_fault end ≡ false → Flushes mid new → Stands end (Gathers old mid) limit count answered left said old mid → Stands end (Delivered old new) limit count answered left said old new
-flushes (None) limit count answered left said old mid new none f s = (s.0, handed_on old mid new said s.1 f)
-flushes (Some ends.Quit) limit count answered left said old mid new none f s = (s.0, handed_on old mid new said s.1 f)
-flushes (Some ends.Limit) limit count answered left said old mid new none f s = (s.0, handed_on old mid new said s.1 f, s.2)
-flushes (Some ends.Memory) limit count answered left said old mid new none f s =
-    (s.0, record { before = s.1.before; last = s.1.last; these = s.1.these; memory = s.1.memory; told = handed_on old mid new s.1.before s.1.told f })
-flushes (Some ends.WriteFault) limit count answered left said old mid new none f s = absurd (cc none)
-flushes (Some ends.Ended) limit count answered left said old mid new none f s = absurd s
-flushes (Some ends.ReadFault) limit count answered left said old mid new none f s = absurd s
-
--- where a write failed there is nothing to hand on
-unflushed : (end : Option End) (limit count : ℕ) (answered left : List (List ℕ)) (said : List Answer) (old new : Taken)
-    → has_write_fault end ≡ true → Stands end (Gathers old new) limit count answered left said old new → Stands end (Delivered old new) limit count answered left said old new
-unflushed (Some ends.WriteFault) limit count answered left said old new fault s = s
-unflushed (None) limit count answered left said old new fault s = absurd (cc fault)
-unflushed (Some ends.Quit) limit count answered left said old new fault s = absurd (cc fault)
-unflushed (Some ends.Limit) limit count answered left said old new fault s = absurd (cc fault)
-unflushed (Some ends.Memory) limit count answered left said old new fault s = absurd (cc fault)
-unflushed (Some ends.Ended) limit count answered left said old new fault s = absurd s
-unflushed (Some ends.ReadFault) limit count answered left said old new fault s = absurd s
-
-abbrev all_gathered : (old mid new : Taken) (said : List Answer) → Gathers old mid said → FailsToTake mid new → DeliversPart old new (session_text said)
-all_gathered old mid new said g f = record {
-  written = session_text said;
-  unwritten = [];
-  cut = sym (append-nil (session_text said));
-  bytes = f.bytes ∙ g.bytes;
-  flushed = λ none. f.flushed ∙ g.flushed none;
-  failed = f.failed;
-}
-
--- a failed flush
-flush_fails : (end : Option End) (limit count : ℕ) (answered left : List (List ℕ)) (said : List Answer) (old mid new : Taken)
-    → has_write_fault end ≡ false → FailsToTake mid new → Stands end (Gathers old mid) limit count answered left said old mid
-    → NoQuitBeforeLast answered × DeliversPart old new (session_text said)
-flush_fails (None) limit count answered left said old mid new none f s = (inl s.0.no_quit, all_gathered old mid new said s.1 f)
-flush_fails (Some ends.Quit) limit count answered left said old mid new none f s = (inr s.0, all_gathered old mid new said s.1 f)
-flush_fails (Some ends.Limit) limit count answered left said old mid new none f s = (inl s.0, all_gathered old mid new said s.1 f)
-flush_fails (Some ends.Memory) limit count answered left said old mid new none f s =
-    let part = all_gathered old mid new s.1.before s.1.told f in (
-      s.0,
-      record {
-        written = session_text s.1.before;
-        unwritten = text s.1.last;
-        cut = ap session_text s.1.these ∙ sym (flat_map_more text [] s.1.before s.1.last);
-        bytes = part.bytes;
-        flushed = part.flushed;
-        failed = f.failed;
-      },
-    )
-flush_fails (Some ends.WriteFault) limit count answered left said old mid new none f s = absurd (cc none)
-flush_fails (Some ends.Ended) limit count answered left said old mid new none f s = absurd s
-flush_fails (Some ends.ReadFault) limit count answered left said old mid new none f s = absurd s
+use Rattle.nmvs_protocol.specs.Session.{TakesLine, TakesLines, answer_of, AnswersLines, AreReleased, NoQuit, NoQuitBeforeLast, EndsWithQuit, DeliversAll, BreaksOff, Closes, Session, session_text, is_input_end, is_read_fault}
+use Rattle.nmvs_protocol.specs.Progress.{AreShortButLast, TellsWithheld, Halts, Took, Gathers, Delivered, Tells, Stands, Fed, Served, has_write_fault, kept_part}
+use Rattle.nmvs_protocol.proofs.SessionTelling.{no_quit_more, IsShort, short_but_last, all_short, released_short, released_length, tells_more, tells_sound, broken, flushes, unflushed, flush_fails}
 
 -- bytes that are cut once more
 pub whole_cut : (n : ℕ) (bytes rest : List ℕ) {all : List ℕ} → bytes ++ rest ≡ all → (bytes ++ take n rest) ++ drop n rest ≡ all

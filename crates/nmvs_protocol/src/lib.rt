@@ -33,7 +33,7 @@ pub use limits::{
 pub use lines::{line_text, read_line};
 pub use peer::{Authorisations, NameOf, OwnDesk, Peer};
 pub use pending_line::PendingLine;
-pub use replies::reply_text;
+pub use replies::{reply_text, word_of_fault, word_of_turn};
 pub use serving::serve;
 pub use session::{Session, Taking, write_texts};
 pub use withheld::{Basis, Released, Withheld, WithheldAnswers};

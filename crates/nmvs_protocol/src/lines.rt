@@ -9,7 +9,7 @@ use crate::{Ask, Line, LineFault};
 use nmvs_identifier::{Batch, Expiry, Name, Pack, ProductCode, Serial};
 use nmvs_rules::Question;
 use nmvs_words::{BatchQuestion, QuestionKind};
-use std::alloc::{AllocError, Global};
+use std::alloc::{AllocError, Allocator};
 
 #[cfg(test)]
 mod tests;
@@ -133,7 +133,7 @@ fn read_pack(code: &str, serial: &str) -> Result<Pack, LineFault>
 }
 
 /// The text of a line, without LF. It fails only out of memory.
-pub fn line_text(alloc: Global, line: &Line) -> Result<String, AllocError>
+pub fn line_text<A: Allocator>(alloc: A, line: &Line) -> Result<String<A>, AllocError>
     ensures line { IfOk result (λ text. string_bytes text ≡ text_of_line line.now) }
     ensures grammar { IsTrue (is_line line.now) }
 {
@@ -146,7 +146,11 @@ pub fn line_text(alloc: Global, line: &Line) -> Result<String, AllocError>
     }
 }
 
-fn question_text(alloc: Global, user: &Name, question: &Question) -> Result<String, AllocError>
+fn question_text<A: Allocator>(
+    alloc: A,
+    user: &Name,
+    question: &Question,
+) -> Result<String<A>, AllocError>
     ensures line { IfOk result (λ text.
         string_bytes text ≡ text_of_line (Line.Ask (Ask.Question user.now question.now))) }
     ensures grammar { IsTrue (is_ask (Ask.Question user.now question.now)) }

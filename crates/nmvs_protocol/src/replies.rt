@@ -182,7 +182,8 @@ fn in_words(first: &str, others: &[&str]) -> ArrayString<LONGEST_REPLY>
     text
 }
 
-fn word_of_turn(turn: Turn) -> &'static str
+/// The word behind FAULT of a line that the desk turned away.
+pub fn word_of_turn(turn: Turn) -> &'static str
     ensures { result.now ≡ turn_word turn }
 {
     match turn {
@@ -197,7 +198,8 @@ fn word_of_turn(turn: Turn) -> &'static str
     }
 }
 
-fn word_of_fault(fault: LineFault) -> &'static str
+/// The word behind FAULT of a line that cannot be read.
+pub fn word_of_fault(fault: LineFault) -> &'static str
     ensures { result.now ≡ fault_word fault }
 {
     match fault {

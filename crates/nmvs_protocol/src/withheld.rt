@@ -1,5 +1,5 @@
 //! Answers that are withheld until the desk releases them.
-ghost use Rattle.std.specs.Prelude.{◌≡◌, ◌==◌, ◌<◌, ◌≤◌, ◌+◌, ◌++◌, ◌∷◌, ◌↔◌, [], false, length, map, take, drop, None, IsSome, IfSome};
+ghost use Rattle.std.specs.Prelude.{◌≡◌, ◌==◌, ◌<◌, ◌≤◌, ◌+◌, ◌++◌, ◌∷◌, ◌↔◌, [], false, length, map, take, drop, option_copied, slice_get, None, IsSome, IfSome};
 ghost use Rattle.nmvs_protocol.specs.Session.{AreReleased, answer_of, is_kept, is_of_repository as of_repository, told_where};
 ghost use Rattle.nmvs_protocol.specs.Texts.{takes_memory as text_takes_memory};
 
@@ -209,6 +209,23 @@ impl<'h, 'a> Released<'h, 'a> {
     {
         let list = self.list.get(first..)?.get(..count)?;
         Some(Released { list })
+    }
+
+    /// How many there are.
+    pub fn len(&self) -> usize
+        ensures { result ≡ length self.now }
+    {
+        self.list.len()
+    }
+
+    /// The answer at this place, where there is one.
+    pub fn answer(&self, place: usize) -> Option<&Answer<'a>>
+        ensures { option_copied result ≡ slice_get self.now place }
+    {
+        match self.list.get(place) {
+            Some(withheld) => Some(withheld.answer()),
+            None => None,
+        }
     }
 
     /// Those that were withheld, whose answers may now be put in words.

@@ -4,10 +4,17 @@
 ghost use Rattle.std.specs.Prelude.{IfOk};
 ghost use Rattle.nmvs_operator.specs.Options.{AreInRange};
 
+mod helped;
+
+use crate::helped::Helped;
+use log::info;
+use nmvs_admin::{AdminFault, open, remove_socket};
 use nmvs_config::{ConfigFault, config_path, read_config, with_config};
+use nmvs_log::EventLog;
 use nmvs_operator::{Console, OptionFault, Options, read_options};
-use nmvs_server::{Fault, serve_rehearsal, start};
-use nmvs_stream::Device;
+use nmvs_server::{Fault, Host, Outcome, serve_rehearsal, start};
+use nmvs_stream::{Device, Sink, Source};
+use std::alloc::Global;
 use std::io::{BufWriter, Eprint, IsTerminal, Print};
 use std::process::ExitCode;
 use std::rt::{Env, Files};
@@ -16,7 +23,7 @@ use std::{env, fs, io};
 /// What the rehearsal is, told where somebody sits at a terminal.
 const GREETING: &str =
     "A rehearsal: nothing is kept. Users: mah1 mah2 ph1 ph1b ph2 wh1 mf1 au1. QUIT or Ctrl-D ends it.\n\
-    A line is a user and a question, as ph1 STATUS 09506000134352 SN1; docs/TERMINALS.md tells them all.";
+    A line is a user and a question, as ph1 STATUS 09506000134352 SN1; HELP tells them all.";
 
 fn main(rt: HostRuntime) -> ExitCode {
     let alloc = rt.alloc();
@@ -26,20 +33,70 @@ fn main(rt: HostRuntime) -> ExitCode {
     let Ok(output) = BufWriter::new(alloc, rt.stdout()) else {
         return ended(&rt, &[Some(Fault::Memory)]);
     };
-    let mut console = Console::new(Device::new(rt.stdin()), Device::new(output));
+    let mut output = Device::new(output);
     if words.is_empty() {
-        if rt.stdin().is_terminal() && rt.stdout().is_terminal() {
-            let _ = println!(rt; "{GREETING}");
-        }
-        let rehearsed = serve_rehearsal(alloc, &mut console.source, &mut console.sink);
-        return ended(&rt, &[rehearsed.err()]);
+        return ended(&rt, &[rehearse(&rt, alloc, &mut output).err()]);
     }
+    let mut console = Console::new(Device::new(rt.stdin()), output);
     match options(&rt, words) {
         Ok(options) => {
-            let outcome = start(&rt, alloc, &options, &mut console);
-            ended(&rt, &[outcome.session, outcome.program])
+            let rt = EventLog::new(rt, options.log_level, options.log_format);
+            let outcome = if options.stdin {
+                start(&rt, alloc, &options, &mut console)
+            } else {
+                serve(rt, alloc, &options, console)
+            };
+            let status = ended(&rt, &[outcome.session, outcome.program]);
+            info!(rt; "end");
+            status
         }
         Err(status) => status,
+    }
+}
+
+/// The rehearsal over standard input. On a terminal it greets, and tells at `HELP` what may be asked.
+fn rehearse<W: Sink>(
+    rt: &HostRuntime,
+    alloc: Global,
+    output: &mut W,
+) -> Result<(), Fault<'static>> {
+    if !(rt.stdin().is_terminal() && rt.stdout().is_terminal()) {
+        return serve_rehearsal(alloc, &mut Device::new(rt.stdin()), output);
+    }
+    let _ = println!(rt; "{GREETING}");
+    serve_rehearsal(alloc, &mut Device::new(Helped::new(rt, rt.stdin())), output)
+}
+
+/// Serves connections, while commands come by the console and by the socket of the options, where they name one.
+fn serve<'o, R: Host + Sync + Copy + Drop, I: Source + Drop, W: Sink + Drop>(
+    rt: R,
+    alloc: Global,
+    options: &'o Options,
+    console: Console<(I, W)>,
+) -> Outcome<'o>
+    requires options { AreInRange options.now }
+{
+    let path = options.admin.as_deref();
+    match open(rt, alloc, console, path) {
+        Ok(mut console) => {
+            let outcome = start(&rt, alloc, options, &mut console);
+            if let Some(path) = path {
+                let _gone = remove_socket(&rt, path);
+            }
+            outcome
+        }
+        Err(fault) => Outcome {
+            session: None,
+            program: Some(fault_of(fault, path)),
+        },
+    }
+}
+
+/// Why commands are not taken at this path.
+fn fault_of(fault: AdminFault, path: Option<&str>) -> Fault<'_> {
+    match (fault, path) {
+        (AdminFault::Socket, Some(path)) => Fault::CannotListenAt(path),
+        _ => Fault::Memory,
     }
 }
 

@@ -5,19 +5,22 @@ ghost use Rattle.nmvs_desk.specs.Settlement.{row};
 ghost use Rattle.nmvs_server.specs.Desk.{turn_of_fault, RestsOnAll};
 
 use crate::Clock;
+use log::{Log, info};
 use nmvs_desk::{AskFault, Clerk, Reader, Repository, Served};
 use nmvs_directory::{Naming, Notice};
+use nmvs_figures::Tally;
 use nmvs_history::Histories;
 use nmvs_identifier::{Moment, Name, ProductCode};
-use nmvs_journal::Store;
+use nmvs_journal::{Kept, Store};
 use nmvs_offices::{Alarm, Evidence, Offices, Reach};
 use nmvs_protocol::{
     Answer, Ask, Authorisations, Basis, Desk, Entries, Released, Text, Turn, Withheld,
     WithheldAnswers,
 };
 use nmvs_record::report;
-use nmvs_rules::{Question, may_report};
+use nmvs_rules::{Question, Reply, may_report};
 use nmvs_shard::Shard;
+use nmvs_words::cause_word;
 use std::alloc::{AllocError, Global};
 use std::marker::Model;
 use std::sync::{Mutex, Wait};
@@ -34,6 +37,7 @@ pub struct ClerkDesk<'r, 'a, R: Wait, J: Naming, H: Histories, K: Clock> {
     repository: &'r Repository<'a, H>,
     latest: &'r Mutex<Notice<J>>,
     clock: K,
+    tally: Tally<'r>,
 }
 
 impl<'r, 'a, R: Wait, J: Naming, H: Histories, K: Clock> Model for ClerkDesk<'r, 'a, R, J, H, K> {
@@ -44,14 +48,14 @@ impl<'r, 'a, R: Wait, J: Naming, H: Histories, K: Clock> Model for ClerkDesk<'r,
     ghost view = { λ d. record { seen = d.clerk.seen; sights = d.clerk.sights; receipts = d.clerk.receipts; shards = d.repository.now.shards; asked = K.asked d.clock; gave = K.gave d.clock } };
 }
 
-impl<'r, 'a, R: Wait, J: Naming, H: Histories, K: Clock> ClerkDesk<'r, 'a, R, J, H, K> {
+impl<'r, 'a, R: Wait + Log, J: Naming, H: Histories, K: Clock> ClerkDesk<'r, 'a, R, J, H, K> {
     ghost use Rattle.std.specs.Prelude.{◌≡◌, pos, IfOk, IfSome, IfNone, string_bytes};
     ghost use Rattle.nmvs_protocol.specs.declared.ask.Ask.TheVariants as asks;
     ghost use Rattle.nmvs_desk.specs.Placing.{shard_of};
     ghost use mathlib.Core.List.{IsPrefix};
     ghost use Rattle.nmvs_server.specs.Desk.{AnswersTold, IsTold, KeepsClock, NamesAuthorisation, Reports, RestsOnAll, SeesShard, Serves, StopsAtClock};
 
-    /// A desk over a clerk of this repository, and the lock of the latest notice.
+    /// A desk over a clerk of this repository, and the lock of the latest notice. Its answers are counted on the tally.
     ///
     /// Condition: the clerk is one that `open` gave with the repository, which the names of their histories say.
     pub fn new(
@@ -60,6 +64,7 @@ impl<'r, 'a, R: Wait, J: Naming, H: Histories, K: Clock> ClerkDesk<'r, 'a, R, J,
         repository: &'r Repository<'a, H>,
         latest: &'r Mutex<Notice<J>>,
         clock: K,
+        tally: Tally<'r>,
     ) -> ClerkDesk<'r, 'a, R, J, H, K>
         ensures seen { result.seen ≡ clerk.entry.seen }
         ensures sights { result.sights ≡ clerk.entry.sights }
@@ -74,6 +79,7 @@ impl<'r, 'a, R: Wait, J: Naming, H: Histories, K: Clock> ClerkDesk<'r, 'a, R, J,
             repository,
             latest,
             clock,
+            tally,
         }
     }
 
@@ -126,10 +132,13 @@ impl<'r, 'a, R: Wait, J: Naming, H: Histories, K: Clock> ClerkDesk<'r, 'a, R, J,
         let Some(moment) = self.next_moment() else {
             return (Answer::Turned(Turn::Clock), None);
         };
-        match ask {
+        let (answer, basis) = match ask {
             Ask::Question(user, question) => self.ask(moment, user, question),
             Ask::Report(user, code) => self.report(user, code),
-        }
+        };
+        self.tally.note_answer(ask, &answer, basis);
+        tell_alert(self.rt, ask, &answer);
+        (answer, basis)
     }
 
     /// Puts a question by the clerk, at the moment that the clock gave.
@@ -197,7 +206,7 @@ impl<'r, 'a, R: Wait, J: Naming, H: Histories, K: Clock> ClerkDesk<'r, 'a, R, J,
     }
 }
 
-impl<'r, 'a, R: Wait, J: Naming, H: Histories, K: Clock> ClerkDesk<'r, 'a, R, J, H, K> {
+impl<'r, 'a, R: Wait + Log, J: Naming, H: Histories, K: Clock> ClerkDesk<'r, 'a, R, J, H, K> {
     ghost use Rattle.nmvs_protocol.specs.Session.{AreReleased};
     ghost use Rattle.nmvs_offices.specs.Told.{AreKept, IsTold, IsWithin};
     ghost use Rattle.nmvs_server.specs.Desk.{LetsGo};
@@ -216,7 +225,34 @@ impl<'r, 'a, R: Wait, J: Naming, H: Histories, K: Clock> ClerkDesk<'r, 'a, R, J,
         ensures kept { AreKept result.1.items self.old.sights }
         ensures moves { LetsGo self.old self.new }
     {
-        offices.release(self.rt, &mut self.clerk, reach, withheld, alarm)
+        let (released, kept) = offices.release(self.rt, &mut self.clerk, reach, withheld, alarm);
+        note_confirmed(&self.tally, &kept);
+        (released, kept)
+    }
+}
+
+/// Logs an alert that is flagged as a potential falsification (Article 36).
+fn tell_alert<R: Log>(rt: &R, ask: &Ask, answer: &Answer<'_>) {
+    let (Ask::Question(_, question), Answer::Replied(reply, _)) = (ask, answer) else {
+        return;
+    };
+    if let Reply::Alert {
+        cause,
+        flagged: true,
+        number,
+    } = reply
+    {
+        let (code, cause) = (question.code(), cause_word(*cause));
+        info!(rt; code = code.text(), cause, number = *number; "alert");
+    }
+}
+
+/// Counts what is confirmed of each shard that was waited for.
+fn note_confirmed(tally: &Tally<'_>, kept: &[Kept]) {
+    for (shard, kept) in kept.iter().enumerate() {
+        if kept.count() > 0 {
+            tally.note_confirmed(shard, kept.count() as u64);
+        }
     }
 }
 
@@ -266,7 +302,7 @@ impl<'a, 'c> Reader<Shard<&'a Global>> for ReportOf<'c> {
     }
 }
 
-impl<'r, 'a, R: Wait, J: Naming, H: Histories, K: Clock> Desk<'a>
+impl<'r, 'a, R: Wait + Log, J: Naming, H: Histories, K: Clock> Desk<'a>
     for ClerkDesk<'r, 'a, R, J, H, K> {
     ghost use Rattle.nmvs_protocol.specs.Session.{AtOnce, Stays};
     ghost use Rattle.nmvs_server.specs.Desk.{Takes};
@@ -289,7 +325,7 @@ impl<'r, 'a, R: Wait, J: Naming, H: Histories, K: Clock> Desk<'a>
     }
 }
 
-impl<'r, 'a, R: Wait, J: Naming, H: Histories, K: Clock> Authorisations
+impl<'r, 'a, R: Wait + Log, J: Naming, H: Histories, K: Clock> Authorisations
     for ClerkDesk<'r, 'a, R, J, H, K> {
     ghost use Rattle.nmvs_server.specs.Desk.{Tells};
 

@@ -3,7 +3,7 @@ ghost use Rattle.std.specs.Prelude.{◌≡◌, None, Some};
 ghost use Rattle.nmvs_server.specs.Faults.{fault_text, fault_status, import_text, digest_text, outcome};
 
 use nmvs_digest::DigestFault;
-use nmvs_operator::users_trouble;
+use nmvs_operator::{Options, users_trouble};
 use nmvs_protocol::{CommandFault, End};
 use nmvs_record::{Finding, Objection};
 use std::fmt;
@@ -144,6 +144,14 @@ impl<'a> Fault<'a> {
             DigestFault::Memory => Fault::Memory,
             DigestFault::Unread => Fault::CannotReadDigest(path),
             DigestFault::Malformed => Fault::NoDigest(path),
+        }
+    }
+
+    /// That it can't be listened where the options say: on their socket, or else on their port.
+    pub(crate) fn of_listening(options: &'a Options) -> Fault<'a> {
+        match &options.socket {
+            Some(path) => Fault::CannotListenAt(path),
+            None => Fault::CannotListen(options.port),
         }
     }
 }

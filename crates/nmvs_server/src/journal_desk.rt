@@ -2,6 +2,7 @@
 ghost use Rattle.std.specs.Prelude.{◌≡◌};
 
 use crate::{ClerkDesk, Clock};
+use log::Log;
 use nmvs_desk::Clerk;
 use nmvs_directory::Naming;
 use nmvs_history::Histories;
@@ -48,18 +49,18 @@ impl<'r, 'v, 'f, 'a, R: Wait, J: Naming, H: Histories, K: Clock, D: Store, L: Al
     ghost invariant = { λ d. IsWithin d.reach d.desk.sights };
 }
 
-impl<'r, 'v, 'f, 'a, R: Wait, J: Naming, H: Histories, K: Clock, D: Store, L: Alarm> JournalDesk<
+impl<
     'r,
     'v,
     'f,
     'a,
-    R,
-    J,
-    H,
-    K,
-    D,
-    L,
-> {
+    R: Wait + Log,
+    J: Naming,
+    H: Histories,
+    K: Clock,
+    D: Store,
+    L: Alarm,
+> JournalDesk<'r, 'v, 'f, 'a, R, J, H, K, D, L> {
     /// A desk over a clerk's, the offices of its repository's shards, and an alarm.
     pub fn new(
         desk: ClerkDesk<'r, 'a, R, J, H, K>,
@@ -89,8 +90,18 @@ impl<'r, 'v, 'f, 'a, R: Wait, J: Naming, H: Histories, K: Clock, D: Store, L: Al
     }
 }
 
-impl<'r, 'v, 'f, 'a, R: Wait, J: Naming, H: Histories, K: Clock, D: Store + Drop, L: Alarm> Desk<'a>
-    for JournalDesk<'r, 'v, 'f, 'a, R, J, H, K, D, L> {
+impl<
+    'r,
+    'v,
+    'f,
+    'a,
+    R: Wait + Log,
+    J: Naming,
+    H: Histories,
+    K: Clock,
+    D: Store + Drop,
+    L: Alarm,
+> Desk<'a> for JournalDesk<'r, 'v, 'f, 'a, R, J, H, K, D, L> {
     ghost use Rattle.nmvs_offices.specs.Told.{AreKept, IsTold};
     ghost use Rattle.nmvs_server.specs.Desk.{LetsGo, Takes};
 
@@ -117,8 +128,18 @@ impl<'r, 'v, 'f, 'a, R: Wait, J: Naming, H: Histories, K: Clock, D: Store + Drop
     }
 }
 
-impl<'r, 'v, 'f, 'a, R: Wait, J: Naming, H: Histories, K: Clock, D: Store, L: Alarm> Authorisations
-    for JournalDesk<'r, 'v, 'f, 'a, R, J, H, K, D, L> {
+impl<
+    'r,
+    'v,
+    'f,
+    'a,
+    R: Wait + Log,
+    J: Naming,
+    H: Histories,
+    K: Clock,
+    D: Store,
+    L: Alarm,
+> Authorisations for JournalDesk<'r, 'v, 'f, 'a, R, J, H, K, D, L> {
     ghost use Rattle.nmvs_server.specs.Desk.{Tells};
 
     ghost tells = { Tells };

@@ -10,6 +10,7 @@ use crate::Fault;
 use crate::fault::outcome_of;
 use crate::roster::actor_of;
 use nmvs_identifier::{Moment, Name, ProductCode};
+use nmvs_operator::NEW_YEAR;
 use nmvs_protocol::{
     Answer, Ask, Desk, End, Entries, Released, SESSION_LIMITS, Text, Turn, Withheld,
     WithheldAnswers, serve,
@@ -23,9 +24,6 @@ use std::marker::Model;
 
 #[cfg(test)]
 mod tests;
-
-/// 1 January 2026, 00:00:00 UTC, in seconds: the one moment of the program's rehearsal (own).
-const NEW_YEAR: i64 = 1_767_225_600;
 
 /// The seed of a rehearsal's hashes: who makes some collide delays nobody else.
 const NO_SECRET: u64 = 0;

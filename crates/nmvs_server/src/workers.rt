@@ -3,11 +3,12 @@ ghost use Rattle.std.specs.Prelude.{◌≡◌};
 ghost use Rattle.nmvs_server.specs.Bounds.{sessions_of};
 
 use crate::announcements::{listening_at, listening_on};
-use crate::host::Shared;
+use crate::host::{Run, Shared};
 use crate::journal_files::JournalAlarm;
 use crate::kept_users::KeptUsers;
 use crate::service::Running;
 use crate::{ClerkDesk, JournalDesk, ProgramClock};
+use log::{Log, info};
 use nmvs_connections::{Bounds, Hall, Listener, Station, admit, serve};
 use nmvs_desk::Clerk;
 use nmvs_directory::{Naming, Registrar};
@@ -49,7 +50,7 @@ pub(crate) fn bounds_of(options: &Options, workers: usize) -> Bounds
 
 /// Serves the connections that are dealt to the worker of this number, and gives the clerk back. Where it can't go on it
 /// ends the service.
-fn work<'r, R: Wait + Clock + Eprint, J: Naming, H: Histories>(
+fn work<'r, R: Wait + Clock + Log, J: Naming, H: Histories>(
     shared: &Shared<'_, '_, 'r, '_, R, J, H>,
     clerk: Clerk<'r, J, H>,
     number: usize,
@@ -60,13 +61,22 @@ fn work<'r, R: Wait + Clock + Eprint, J: Naming, H: Histories>(
         return clerk;
     }
     let clock = ProgramClock::new(run.rt, run.options.moment);
-    let desk = ClerkDesk::new(run.rt, clerk, shared.repository, shared.latest, clock);
+    let tally = run.panel.tally(number);
+    let desk = ClerkDesk::new(
+        run.rt,
+        clerk,
+        shared.repository,
+        shared.latest,
+        clock,
+        tally,
+    );
     match shared.offices {
         None => serve_by_desk(shared, number, station, desk).into_clerk(),
         Some(offices) => {
             let alarm = JournalAlarm {
                 rt: run.rt,
                 options: run.options,
+                panel: run.panel,
             };
             let desk = JournalDesk::new(desk, offices, alarm);
             serve_by_desk(shared, number, station, desk).into_clerk()
@@ -76,7 +86,7 @@ fn work<'r, R: Wait + Clock + Eprint, J: Naming, H: Histories>(
 
 /// Serves connections by a desk, each user within the rate, and gives the desk back. Where it can't go on it ends the
 /// service.
-fn serve_by_desk<'r, R: Wait + Clock, J: Naming, H: Histories, D: Desk<'r> + Authorisations>(
+fn serve_by_desk<'r, R: Wait + Clock + Log, J: Naming, H: Histories, D: Desk<'r> + Authorisations>(
     shared: &Shared<'_, '_, 'r, '_, R, J, H>,
     number: usize,
     station: Station,
@@ -91,7 +101,7 @@ fn serve_by_desk<'r, R: Wait + Clock, J: Naming, H: Histories, D: Desk<'r> + Aut
 }
 
 /// Accepts connections for the workers. Where it can't go on it ends the service.
-fn keep_door<R: Wait>(rt: &R, hall: &Hall, listener: &Listener, door: Station) {
+fn keep_door<R: Wait + Log>(rt: &R, hall: &Hall<'_>, listener: &Listener, door: Station) {
     if admit(rt, hall, listener, door).is_err() {
         hall.stop(rt);
     }
@@ -106,7 +116,7 @@ fn keep_door<R: Wait>(rt: &R, hall: &Hall, listener: &Listener, door: Station) {
 pub(crate) fn serve_connections<
     'r,
     // Not `Host`: what a thread runs may rest on traits of the library alone.
-    R: Threads + Wait + Clock + Files + Eprint + Sync,
+    R: Threads + Wait + Clock + Files<File = File> + Eprint + Log + Sync,
     J: Naming + Send + Sync,
     H: Histories + Send + Sync,
     T: Sides,
@@ -140,7 +150,8 @@ pub(crate) fn serve_connections<
         };
         *ready = true;
         drop(ready);
-        tell_port(*run.alloc, run.options, shared.listener, &mut console.sink);
+        run.panel.note_ready();
+        tell_port(run, shared.listener, &mut console.sink);
         let mut latest = Latest::new(run.rt, shared.latest);
         let mut service = Running { shared, users };
         obey_all(*run.alloc, console, registrar, &mut latest, &mut service);
@@ -153,10 +164,17 @@ pub(crate) fn serve_connections<
 }
 
 /// Tells on which port the program listens, or where its socket is. A failed write changes nothing.
-fn tell_port<W: Sink>(alloc: Global, options: &Options, listener: &Listener, out: &mut W) {
-    let text = match (listener.port(), &options.socket) {
-        (Some(port), _) => listening_on(alloc, port),
-        (None, Some(path)) => listening_at(alloc, path),
+fn tell_port<R: Log, W: Sink>(run: &Run<'_, '_, R>, listener: &Listener, out: &mut W) {
+    let alloc = *run.alloc;
+    let text = match (listener.port(), &run.options.socket) {
+        (Some(port), _) => {
+            info!(run.rt; port; "listening");
+            listening_on(alloc, port)
+        }
+        (None, Some(path)) => {
+            info!(run.rt; socket = path.as_str(); "listening");
+            listening_at(alloc, path)
+        }
         (None, None) => return,
     };
     if let Ok(text) = text {

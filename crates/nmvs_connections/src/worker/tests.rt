@@ -1,9 +1,10 @@
 //! A turn over connections of this machine.
 use super::Floor;
 use crate::connection::Connection;
-use crate::hall::{Bounds, Hall};
+use crate::hall::{Bounds, Dealt, Hall};
 use crate::seat::Bench;
 use mio::net::UnixStream;
+use nmvs_figures::Panel;
 use nmvs_identifier::Name;
 use nmvs_protocol::{
     Answer, Ask, Authorisations, Desk, OwnDesk, Released, Turn, Withheld, WithheldAnswers,
@@ -67,21 +68,28 @@ fn connections_of_a_turn_share_one_release(rt: HostRuntime) -> Result<(), Fail> 
         proxy: None,
         sessions: u64::MAX,
     };
-    let (hall, _stations, station) = Hall::open(&rt, alloc, 1, bounds)?;
+    let panel = Panel::new(alloc, 1, 1, false)?;
+    let (hall, _stations, station) = Hall::open(&rt, alloc, 1, bounds, &panel)?;
     let mut bench = Bench::new(alloc, Instant::now(&rt)?);
     let mut floor = Floor::new(alloc, 0, bench.now);
     let (near, mut one) = UnixStream::pair(&rt)?;
     floor.admit(
         &hall,
         station.poll.registry(),
-        Connection::Unix(near),
+        Dealt {
+            number: 0,
+            connection: Connection::Unix(near),
+        },
         &bench,
     )?;
     let (near, mut other) = UnixStream::pair(&rt)?;
     floor.admit(
         &hall,
         station.poll.registry(),
-        Connection::Unix(near),
+        Dealt {
+            number: 0,
+            connection: Connection::Unix(near),
+        },
         &bench,
     )?;
     one.write_all(b"ph1 STATUS 09506000134352 SN1\nph1\n")?;

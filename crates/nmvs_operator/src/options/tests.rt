@@ -1,4 +1,6 @@
-use crate::{OptionFault, Options, read_options};
+use crate::{LogFormat, OptionFault, Options, read_options};
+use log::LevelFilter;
+use nmvs_identifier::Moment;
 use nmvs_protocol::NameOf;
 use std::alloc::Global;
 use std::net::{IpAddr, Ipv4Addr, Ipv6Addr};
@@ -20,7 +22,7 @@ fn options_have_defaults(rt: HostRuntime) {
         panic!(rt; "refused");
     };
     assert!(rt;
-        options.users.as_str() == "F" && options.import.is_none() && options.export.is_none()
+        is_path(&options.users, "F") && options.import.is_none() && options.export.is_none()
     );
     assert_eq!(rt;
         (options.shards, options.workers, options.sessions),
@@ -34,6 +36,11 @@ fn options_have_defaults(rt: HostRuntime) {
     assert_eq!(rt; (options.rate, options.burst), (0, 0));
     assert_eq!(rt; options.bind, IpAddr::V4(Ipv4Addr::new(127, 0, 0, 1)));
     assert!(rt; options.socket.is_none() && options.proxy.is_none() && options.journal.is_none());
+    assert!(rt; options.admin.is_none() && options.metrics.is_none());
+    assert_eq!(rt;
+        (options.log_level, options.log_format),
+        (LevelFilter::Info, LogFormat::Text)
+    );
 }
 
 /// Whether a path is this one.
@@ -82,14 +89,26 @@ fn all_options_are_taken_together(rt: HostRuntime) {
         options.bind,
         IpAddr::V6(Ipv6Addr::new(0, 0, 0, 0, 0, 0, 0, 1))
     );
-    let Ok(options) = read(
-        &rt,
-        rt.alloc(),
-        &["--users=F", "--journal=D", "--config", "C"],
-    ) else {
+    let words = [
+        "--rehearsal",
+        "--journal=D",
+        "--config",
+        "C",
+        "--admin=A",
+        "--metrics=9161",
+        "--log-level=debug",
+        "--log-format=json",
+    ];
+    let Ok(options) = read(&rt, rt.alloc(), &words) else {
         panic!(rt; "refused");
     };
-    assert!(rt; is_path(&options.journal, "D"));
+    assert!(rt; is_path(&options.journal, "D") && is_path(&options.admin, "A"));
+    assert!(rt; options.users.is_none() && options.metrics == Some(9161));
+    assert_eq!(rt; options.moment, Moment::new(1_767_225_600));
+    assert_eq!(rt;
+        (options.log_level, options.log_format),
+        (LevelFilter::Debug, LogFormat::Json)
+    );
 }
 
 #[test]
@@ -111,6 +130,10 @@ fn other_lines_are_refused(rt: HostRuntime) {
         "--moment=-1",
         "--proxy",
         "--proxy=users",
+        "--metrics=65536",
+        "--log-level=trace",
+        "--log-format=xml",
+        "--rehearsal",
         "--none",
         "stray",
         "--users=G",
@@ -121,6 +144,8 @@ fn other_lines_are_refused(rt: HostRuntime) {
     for words in [
         &["--stdin"][..],
         &["--users=F", "--journal=D", "--stdin"],
+        &["--users=F", "--admin=A", "--stdin"],
+        &["--users=F", "--metrics=0", "--stdin"],
         &["--users=F", "--config"],
         &["--users=F", "--config=C", "--config=D"],
     ] {

@@ -1,7 +1,9 @@
 use crate::{Ask, Line, LineFault, line_text, read_line};
+use linked_list_allocator::LocalHeap;
 use nmvs_identifier::{Batch, Expiry, Name, Pack, ProductCode, Serial};
 use nmvs_rules::Question;
 use std::alloc::Global;
+use std::process::Abort;
 use std::rt::HostRuntime;
 
 #[test]
@@ -42,6 +44,33 @@ fn is_written_again(alloc: Global, line: &str) -> bool {
         },
         Err(_) => false,
     }
+}
+
+/// Whether a line's text is written on a heap of so many bytes.
+fn is_written_on(rt: &impl Abort, alloc: Global, bytes: usize) -> bool {
+    let line = "mah1 WITHDRAW 09506000134352 ABC/DEF%GHI/JKL%MN12";
+    let read = read_line(line.as_bytes()).expect(rt, "a line");
+    let heap = LocalHeap::new(alloc, bytes).expect(rt, "memory");
+    match line_text(&heap, &read) {
+        Ok(written) => {
+            assert!(rt; written.as_str() == line);
+            true
+        }
+        Err(_) => false,
+    }
+}
+
+#[test]
+fn each_growth_of_a_text_is_refused_in_turn(rt: HostRuntime) {
+    let mut refused = 0usize;
+    for sixteens in 2..200usize {
+        if is_written_on(&rt, rt.alloc(), sixteens * 16) {
+            assert!(rt; refused > 3);
+            return;
+        }
+        refused = refused.saturating_add(1);
+    }
+    panic!(rt; "no heap is large enough");
 }
 
 #[test]

@@ -10,8 +10,10 @@ use crate::examples::{Example, NEW_YEAR};
 use crate::opening::Opening;
 use crate::{ClerkDesk, Clock, examples};
 use boxcar::tag::Tag;
+use log::Log;
 use nmvs_desk::{Keepers, MOST_CLERKS};
 use nmvs_directory::{Directory, Naming, Notice, Registrar};
+use nmvs_figures::Panel;
 use nmvs_history::Histories;
 use nmvs_operator::{
     Console, Deed, Figure, Latest, Service, ServiceFault, Topic, load_users, obey_all,
@@ -158,7 +160,7 @@ impl Write for Awaited {
 }
 
 /// Suspends ph1 by an order, which is answered.
-fn suspend<'r, J: Naming, R: Wait + Abort>(
+fn suspend<'r, J: Naming, R: Wait + Log + Abort>(
     rt: &'r R,
     alloc: Global,
     registrar: &mut Registrar<J, &'r R, &Global>,
@@ -188,7 +190,7 @@ fn is_put(answer: &str) -> bool {
         || answer == "DONE")
 }
 
-fn at_desk<'r, 'a, J: Naming, H: Histories, R: Wait + Abort>(
+fn at_desk<'r, 'a, J: Naming, H: Histories, R: Wait + Log + Abort>(
     rt: &'r R,
     latest: &Mutex<Notice<J>>,
     opening: Opening<'a, J>,
@@ -207,7 +209,9 @@ fn at_desk<'r, 'a, J: Naming, H: Histories, R: Wait + Abort>(
     };
     let clerk = opened.clerks.pop().ok_or("a clerk")?;
     let clock = Seconds::new(example.moments);
-    let mut desk = ClerkDesk::new(rt, clerk, &opened.repository, latest, clock);
+    let panel = Panel::new(*alloc, 1, 1, false)?;
+    let tally = panel.tally(0);
+    let mut desk = ClerkDesk::new(rt, clerk, &opened.repository, latest, clock, tally);
     for (line, answer) in example.lines {
         let wanted = format!(in *alloc; "{answer}\n")?;
         if *line == "SUSPEND ph1" {
@@ -224,7 +228,7 @@ fn at_desk<'r, 'a, J: Naming, H: Histories, R: Wait + Abort>(
     Ok(())
 }
 
-fn at_directory<J: Naming, R: Wait + Abort + Sync>(
+fn at_directory<J: Naming, R: Wait + Log + Abort + Sync>(
     rt: &R,
     alloc: &Global,
     example: &Example,
@@ -247,7 +251,7 @@ fn at_directory<J: Naming, R: Wait + Abort + Sync>(
 }
 
 /// Runs each example at a desk of its own, over one shard.
-fn get_their_answers<R: Wait + Abort + Sync>(
+fn get_their_answers<R: Wait + Log + Abort + Sync>(
     rt: &R,
     alloc: Global,
     examples: &[Example],

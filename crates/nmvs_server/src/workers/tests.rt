@@ -1,9 +1,10 @@
 //! A run over connections.
 use crate::examples::NEW_YEAR;
 use crate::{Outcome, run};
+use log::LevelFilter;
 use nmvs_connections::Listener;
 use nmvs_identifier::Moment;
-use nmvs_operator::{Console, Options};
+use nmvs_operator::{Console, LogFormat, Options};
 use nmvs_stream::Device;
 use std::io;
 use std::io::{ErrorKind, Read, Write};
@@ -102,7 +103,7 @@ impl Read for Script {
 fn two_connections_are_served_at_once(rt: HostRuntime) -> Result<(), Fail> {
     let alloc = rt.alloc();
     let options = Options {
-        users: String::from_str(alloc, "/dev/null")?,
+        users: Some(String::from_str(alloc, "/dev/null")?),
         import: None,
         export: None,
         journal: None,
@@ -119,6 +120,10 @@ fn two_connections_are_served_at_once(rt: HostRuntime) -> Result<(), Fail> {
         proxy: None,
         moment: Moment::new(NEW_YEAR),
         stdin: false,
+        admin: None,
+        metrics: None,
+        log_level: LevelFilter::Off,
+        log_format: LogFormat::Text,
     };
     let any = SocketAddr::new(options.bind, 0);
     let listener = Listener::on_port(&rt, any)?;

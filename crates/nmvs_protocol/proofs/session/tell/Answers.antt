@@ -1,5 +1,6 @@
 use Rattle.std.proofs.Common.{◌∙◌, sym}
-use Rattle.nmvs_protocol.proofs.SessionSteps.{tells_short, told_withheld}
+use Rattle.nmvs_protocol.proofs.SessionTelling.{tells_short}
+use Rattle.nmvs_protocol.proofs.SessionSteps.{told_withheld}
 use Rattle.nmvs_protocol.proofs.session.tell.Goals as goal
 
 pub returns-clause-tells : goal.returns-clause-tells

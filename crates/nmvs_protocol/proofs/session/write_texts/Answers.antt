@@ -3,7 +3,7 @@ use Rattle.std.proofs.lemmas.List.{map_more, map-append, take-append-drop, appen
 use Rattle.nmvs_protocol.specs.declared.answer.Answer.{Answer}
 use Rattle.nmvs_protocol.specs.Progress.{Gathers, TellsFirst}
 use Rattle.nmvs_protocol.specs.Session.{answer_of}
-use Rattle.nmvs_protocol.proofs.SessionSteps.{gathers_more, tells_until}
+use Rattle.nmvs_protocol.proofs.SessionTelling.{gathers_more, tells_until}
 use Rattle.nmvs_protocol.proofs.session.write_texts.Goals as goal
 
 pub returns-in-Some : goal.returns-in-Some

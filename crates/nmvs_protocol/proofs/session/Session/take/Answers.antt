@@ -2,7 +2,8 @@ use Rattle.std.proofs.Common.{◌∙◌, ◌+◌, ◌++◌, ◌∷◌, [], List,
 use Rattle.nmvs_protocol.specs.declared.end.End.TheVariants as ends
 use Rattle.nmvs_stream.specs.InputLines.{lines_after, rest_after}
 use Rattle.nmvs_stream.proofs.LinesOfPieces.{line_cut}
-use Rattle.nmvs_protocol.proofs.SessionSteps.{takes_none, took_line, takes_line, took_all, took_until, took_whole, took_rest, behind_line, some_bytes, no_quit_more}
+use Rattle.nmvs_protocol.proofs.SessionTelling.{no_quit_more}
+use Rattle.nmvs_protocol.proofs.SessionSteps.{takes_none, took_line, takes_line, took_all, took_until, took_whole, took_rest, behind_line, some_bytes}
 use Rattle.nmvs_protocol.proofs.session.Session.take.Goals as goal
 
 pub loop-tail-init : goal.loop-tail-init

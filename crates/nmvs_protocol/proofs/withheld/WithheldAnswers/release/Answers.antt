@@ -1,7 +1,7 @@
 use Rattle.std.proofs.Common.{◌≡◌, ◌∙◌, List, map, inl, refl, sym, subst}
 use Rattle.nmvs_protocol.specs.declared.withheld.Withheld.{Withheld}
 use Rattle.nmvs_protocol.specs.Session.{AreReleased, answer_of}
-use Rattle.nmvs_protocol.proofs.SessionSteps.{released_by}
+use Rattle.nmvs_protocol.proofs.SessionTelling.{released_by}
 use Rattle.nmvs_protocol.proofs.withheld.WithheldAnswers.release.Goals as goal
 
 pub returns : goal.returns

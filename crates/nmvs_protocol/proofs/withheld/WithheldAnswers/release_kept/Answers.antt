@@ -2,7 +2,7 @@ use Rattle.std.proofs.Common.{◌≡◌, ◌∙◌, List, length, map, drop, ap,
 use Rattle.std.proofs.lemmas.List.{take_at}
 use Rattle.nmvs_protocol.specs.declared.answer.Answer.{Answer}
 use Rattle.nmvs_protocol.specs.Session.{AreReleased, answer_of, told_where}
-use Rattle.nmvs_protocol.proofs.SessionSteps.{released_by, told_stays}
+use Rattle.nmvs_protocol.proofs.SessionTelling.{released_by, told_stays}
 use Rattle.nmvs_protocol.proofs.withheld.WithheldAnswers.release_kept.Goals as goal
 
 pub returns : goal.returns

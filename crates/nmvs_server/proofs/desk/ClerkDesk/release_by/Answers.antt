@@ -4,9 +4,9 @@ use Rattle.nmvs_server.proofs.DeskTurns.{lets_go}
 use Rattle.nmvs_server.proofs.desk.ClerkDesk.release_by.Goals as goal
 
 pub returns-clause-kept : goal.returns-clause-kept
-returns-clause-kept g c = rw (← c.self.view_is) c.release.ensures.kept
+returns-clause-kept g c = rw (← c.self.view_is) c.release-released.ensures.kept
 
 pub returns-clause-moves : goal.returns-clause-moves
 returns-clause-moves g c =
-    let same = c.release.ensures.same in
-    rw (← c.self.view_is) (lets_go _ _ c.release.ensures.begins (ap (λ (v : ClerkView). v.seen) same) (ap (λ (v : ClerkView). v.receipts) same) refl refl refl)
+    let same = c.release-released.ensures.same in
+    rw (← c.self.view_is) (lets_go _ _ c.release-released.ensures.begins (ap (λ (v : ClerkView). v.seen) same) (ap (λ (v : ClerkView). v.receipts) same) refl refl refl)

@@ -1,0 +1,252 @@
+//! The connections of the socket.
+use crate::connection::{Connection, Sent};
+use mio::event::Event;
+use mio::net::{UnixListener, UnixStream};
+use mio::unix::SourceFd;
+use mio::{Events, Interest, Poll, Token};
+use nmvs_protocol::PendingLine;
+use slab::Slab;
+use std::alloc::Global;
+use std::io;
+use std::io::{ErrorKind, Write};
+use std::net::Net;
+use std::os::fd::RawFd;
+use std::rt::Clock;
+use std::sync::Wait;
+use std::time::{Duration, Instant};
+
+/// The most connections that are open at once (own).
+pub(crate) const MOST_CONNECTIONS: usize = 16;
+
+/// For how many seconds an answer waits for a connection to take all of it (own).
+const PATIENCE: u64 = 5;
+
+/// For how many milliseconds no connection is accepted behind one that could not be: as a rule for want of a descriptor
+/// (own).
+const PAUSE: u64 = 100;
+
+/// How many of the system's reports are taken at once: of each connection, the listener and standard input.
+const REPORTS: usize = MOST_CONNECTIONS + 2;
+
+/// The descriptor of standard input.
+const STANDARD_INPUT: RawFd = 0;
+
+/// The tokens of the listener and of standard input; those of connections are their numbers.
+const LISTENER: Token = Token(usize::MAX);
+
+const STANDARD: Token = Token(usize::MAX - 1);
+
+/// What the connection is told that is one too many.
+const BUSY: &[u8] = b"FAULT BUSY\n";
+
+/// The connections of a socket, and what the system reports of them, of the socket and of standard input.
+#[derive(Drop)]
+pub(crate) struct Connections {
+    poll: Poll,
+    events: Events,
+    listener: UnixListener,
+    open: Slab<Connection>,
+    /// Whether connections may wait to be accepted.
+    is_knocked_at: bool,
+    /// Whether the system tells when standard input may be read. It does not of a file, which may be always.
+    reports_standard: bool,
+    /// Whether standard input may be read.
+    is_standard_ready: bool,
+}
+
+impl Connections {
+    /// Those of a socket that is listened on: none yet.
+    ///
+    /// # Errors
+    ///
+    /// Memory or a descriptor was refused.
+    pub(crate) fn open(
+        rt: &impl Net,
+        alloc: Global,
+        listener: UnixListener,
+    ) -> io::Result<Connections> {
+        let poll = Poll::new(rt)?;
+        let mut listener = listener;
+        poll.registry()
+            .register(&mut listener, LISTENER, Interest::READABLE)?;
+        let standard = &mut SourceFd(&STANDARD_INPUT);
+        let reports = poll
+            .registry()
+            .register(standard, STANDARD, Interest::READABLE);
+        Ok(Connections {
+            poll,
+            events: Events::with_capacity(alloc, REPORTS)?,
+            listener,
+            open: Slab::with_capacity(alloc, MOST_CONNECTIONS)?,
+            is_knocked_at: false,
+            reports_standard: reports.is_ok(),
+            is_standard_ready: reports.is_err(),
+        })
+    }
+
+    /// Whether standard input may be read.
+    pub(crate) fn is_standard_ready(&self) -> bool {
+        self.is_standard_ready
+    }
+
+    /// Has the system tell anew when standard input may be read, behind a read of it.
+    pub(crate) fn watch_standard(&mut self) {
+        if !self.reports_standard {
+            return;
+        }
+        let standard = &mut SourceFd(&STANDARD_INPUT);
+        let watched = self
+            .poll
+            .registry()
+            .reregister(standard, STANDARD, Interest::READABLE);
+        self.is_standard_ready = watched.is_err();
+    }
+
+    /// Waits until the system reports something, or does not wait where there is work; then accepts connections, and reads
+    /// from each once.
+    ///
+    /// # Errors
+    ///
+    /// The system refuses to report.
+    pub(crate) fn wait(&mut self, has_work: bool) -> io::Result<()> {
+        let patience = self.patience(has_work);
+        self.poll.poll(&mut self.events, patience)?;
+        self.note_all();
+        self.accept_all();
+        for number in 0..self.open.capacity() {
+            if let Some(connection) = self.open.get_mut(number) {
+                connection.read();
+            }
+        }
+        Ok(())
+    }
+
+    /// How long the system's reports may be waited for.
+    fn patience(&self, has_work: bool) -> Option<Duration> {
+        if has_work
+            || self
+                .open
+                .iter()
+                .any(|(_, connection)| connection.is_at_work())
+        {
+            Some(Duration::ZERO)
+        } else if self.is_knocked_at {
+            Some(Duration::from_millis(PAUSE))
+        } else {
+            None
+        }
+    }
+
+    /// Notes what the system reported.
+    fn note_all(&mut self) {
+        for event in &self.events {
+            match event.token() {
+                LISTENER => self.is_knocked_at = true,
+                STANDARD => self.is_standard_ready = true,
+                Token(number) => {
+                    if let Some(connection) = self.open.get_mut(number) {
+                        connection.is_ready = true;
+                    }
+                }
+            }
+        }
+    }
+
+    /// Accepts the connections that wait. One too many is told so, and closed.
+    fn accept_all(&mut self) {
+        if !self.is_knocked_at {
+            return;
+        }
+        for _ in 0..u64::MAX {
+            match self.listener.accept() {
+                Ok((stream, _peer)) => self.admit(stream),
+                Err(error) => {
+                    self.is_knocked_at = error.kind() != ErrorKind::WouldBlock;
+                    return;
+                }
+            }
+        }
+    }
+
+    fn admit(&mut self, stream: UnixStream) {
+        let mut connection = Connection::new(stream);
+        if self.open.len() >= MOST_CONNECTIONS {
+            let _untold = connection.write(BUSY);
+            return;
+        }
+        let token = Token(self.open.vacant_key());
+        let both = Interest::READABLE | Interest::WRITABLE;
+        let registry = self.poll.registry();
+        if registry
+            .register(&mut connection.stream, token, both)
+            .is_ok()
+        {
+            let _room = self.open.insert(connection);
+        }
+    }
+
+    /// The next line of the connection of this number, where it has one.
+    pub(crate) fn next_line(&mut self, number: usize) -> Option<PendingLine> {
+        self.open.get_mut(number)?.incoming.next_line()
+    }
+
+    /// Takes a connection that is over, and all of which is looked through: its number, and what it began and did not end.
+    pub(crate) fn next_over(&mut self) -> Option<(usize, PendingLine)> {
+        for number in 0..self.open.capacity() {
+            if let Some(connection) = self.open.get_mut(number) {
+                if connection.is_over {
+                    return Some((number, connection.incoming.take_begun()));
+                }
+            }
+        }
+        None
+    }
+
+    /// Closes the connection of this number.
+    pub(crate) fn close(&mut self, number: usize) {
+        let _closed = self.open.try_remove(number);
+    }
+
+    /// Sends all of a text to the connection of this number, and tells whether it took it. One that does not take it in
+    /// time, or is broken, is closed.
+    pub(crate) fn send<R: Wait + Clock>(&mut self, rt: &R, number: usize, text: &[u8]) -> bool {
+        let is_taken = self.try_send(rt, number, text).unwrap_or(false);
+        if !is_taken {
+            self.close(number);
+        }
+        is_taken
+    }
+
+    /// Sends all of a text to the connection of this number, where it takes all of it in time.
+    fn try_send<R: Wait + Clock>(
+        &mut self,
+        rt: &R,
+        number: usize,
+        text: &[u8],
+    ) -> io::Result<bool> {
+        let patience = Duration::from_secs(PATIENCE);
+        let begun = Instant::now(rt)?;
+        let mut rest = text;
+        for _ in rt.forever() {
+            let Some(connection) = self.open.get_mut(number) else {
+                return Ok(false);
+            };
+            match connection.write(rest) {
+                Sent::Bytes(count) => rest = &rest[count..],
+                Sent::Blocked => {
+                    let waited = begun.elapsed(rt)?;
+                    if waited >= patience {
+                        return Ok(false);
+                    }
+                    self.poll.poll(&mut self.events, Some(patience - waited))?;
+                    self.note_all();
+                }
+                Sent::Broken => return Ok(false),
+            }
+            if rest.is_empty() {
+                return Ok(true);
+            }
+        }
+        unreachable!()
+    }
+}

@@ -1,0 +1,127 @@
+//! One console of all sides.
+ghost use Rattle.std.specs.Prelude.{◌≡◌, ◌≤◌, length, IfOk};
+ghost use Rattle.nmvs_stream.specs.Source.{untouched_source};
+ghost use Rattle.nmvs_stream.specs.Sink.{untouched_sink};
+ghost use Rattle.nmvs_stream.specs.Device.{told_of, taken_of};
+
+use crate::connections::Connections;
+use crate::socket::listen_at;
+use crate::switchboard::Switchboard;
+use log::{Log, error};
+use nmvs_operator::Console;
+use nmvs_stream::{Device, Sink, Source};
+use std::alloc::{AllocError, Global};
+use std::io;
+use std::io::{ErrorKind, Read, Write};
+use std::net::Net;
+use std::rt::{Clock, Files};
+use std::sync::{Arc, Mutex, Wait};
+use thiserror::Error;
+
+/// Why there is no console of an administrator.
+#[derive(Clone, Copy, Debug, PartialEq, Eq, Error)]
+pub enum AdminFault {
+    #[error("no socket can be made at the path")]
+    Socket,
+    #[error("there is no memory for it")]
+    Memory,
+}
+
+impl From<AllocError> for AdminFault {
+    fn from(_: AllocError) -> AdminFault {
+        AdminFault::Memory
+    }
+}
+
+/// What the two ends of the console share. (In this toolchain a console may hold no references.)
+#[derive(Drop)]
+struct Shared<R, I, W> {
+    rt: R,
+    switchboard: Mutex<Switchboard<I, W>>,
+}
+
+/// Where the lines of all sides come from.
+#[derive(Drop)]
+pub struct Lines<R, I, W> {
+    shared: Arc<Shared<R, I, W>>,
+}
+
+/// Where the answers to them go.
+#[derive(Drop)]
+pub struct Answers<R, I, W> {
+    shared: Arc<Shared<R, I, W>>,
+}
+
+/// The sides of the console that [`open`] makes.
+pub type AdminSides<R, I, W> = (Device<Lines<R, I, W>>, Device<Answers<R, I, W>>);
+
+/// One console of the given one, whose sides are standard input and output, and of the connections of a socket at the path,
+/// where one is named. [`remove_socket`](crate::remove_socket) removes that at the end.
+///
+/// It gives whole lines, each of one side, up to 201 bytes of one; a longer one is handed over as its first 201. What is
+/// written up to the next flush goes to the side whose line was given last, and else to standard output. A connection that
+/// takes its answer in 5 seconds not at all, or not to its end, is closed. With a socket the lines never end; else they
+/// end with standard input.
+///
+/// # Errors
+///
+/// No socket can be made at the path, which is logged with the system's reason; or memory was refused.
+pub fn open<R: Log + Wait + Clock + Files + Net + Drop, I: Source + Drop, W: Sink + Drop>(
+    rt: R,
+    alloc: Global,
+    standard: Console<(I, W)>,
+    path: Option<&str>,
+) -> Result<Console<AdminSides<R, I, W>>, AdminFault>
+    ensures source { IfOk result (λ console. told_of console.source ≡ untouched_source) }
+    ensures sink { IfOk result (λ console. taken_of console.sink ≡ untouched_sink) }
+{
+    let connections = match path {
+        Some(path) => Some(connections_at(&rt, alloc, path)?),
+        None => None,
+    };
+    let Console { source, sink } = standard;
+    let switchboard = Mutex::new(Switchboard::new(alloc, source, sink, connections));
+    let Ok(shared) = Arc::new(alloc, Shared { rt, switchboard }) else {
+        return Err(AdminFault::Memory);
+    };
+    let lines = Lines {
+        shared: Arc::try_clone(&shared)?,
+    };
+    Ok(Console::new(Device::new(lines), Device::new(Answers { shared })))
+}
+
+/// The connections of a socket at the path.
+fn connections_at<R: Log + Files + Net>(
+    rt: &R,
+    alloc: Global,
+    path: &str,
+) -> Result<Connections, AdminFault> {
+    match listen_at(rt, path).and_then(|listener| Connections::open(rt, alloc, listener)) {
+        Ok(connections) => Ok(connections),
+        Err(error) if error.kind() == ErrorKind::OutOfMemory => Err(AdminFault::Memory),
+        Err(error) => {
+            error!(rt; "cannot listen at {path}: {error}");
+            Err(AdminFault::Socket)
+        }
+    }
+}
+
+impl<R: Log + Wait + Clock, I: Source, W: Sink> Read for Lines<R, I, W> {
+    fn read(&mut self, buffer: &mut [u8]) -> io::Result<usize> {
+        let Shared { rt, switchboard } = &*self.shared;
+        switchboard.lock(rt).read(rt, buffer)
+    }
+}
+
+impl<R: Log + Wait + Clock, I: Source, W: Sink> Write for Answers<R, I, W> {
+    fn write(&mut self, buffer: &[u8]) -> io::Result<usize> {
+        let Shared { rt, switchboard } = &*self.shared;
+        switchboard.lock(rt).say(rt, buffer)?;
+        Ok(buffer.len())
+    }
+
+    fn flush(&mut self) -> io::Result<()> {
+        let Shared { rt, switchboard } = &*self.shared;
+        switchboard.lock(rt).end_exchange(rt)
+    }
+}

@@ -1,0 +1,26 @@
+//! What is logged of commands and their answers.
+ghost use Rattle.nmvs_stream.specs.InputLines.{HasNoLf};
+
+use memchr::memrchr;
+use std::fmt;
+
+/// Bytes of a line as the log shows them: in quotes, and what is no printable ASCII character by its number.
+#[derive(Clone, Copy)]
+pub(crate) struct Shown<'l>(pub(crate) &'l [u8]);
+
+impl<'l> fmt::Display for Shown<'l> {
+    fn fmt<W: fmt::Write>(&self, f: &mut fmt::Formatter<W>) -> fmt::Result {
+        write!(f, "\"{}\"", self.0.escape_ascii())
+    }
+}
+
+/// The last line of a text, without its LF.
+pub(crate) fn last_line(text: &[u8]) -> &[u8]
+    ensures { HasNoLf result.now }
+{
+    let lines = text.strip_suffix(b"\n").unwrap_or(text);
+    match memrchr(b'\n', lines) {
+        Some(lf) => &lines[lf + 1..],
+        None => lines,
+    }
+}

@@ -1,0 +1,234 @@
+//! The sides of a console, joined.
+ghost use Rattle.std.specs.Io.{ReadsAtMost};
+
+use crate::connections::{Connections, MOST_CONNECTIONS};
+use crate::exchange::{Exchange, Said, Side};
+use crate::incoming::Incoming;
+use crate::logged::{Shown, last_line};
+use log::{Log, info};
+use nmvs_protocol::{PendingLine, READ_SIZE};
+use nmvs_stream::{Failed, Sink, Source, deliver};
+use std::alloc::Global;
+use std::io;
+use std::io::ErrorKind;
+use std::rt::Clock;
+use std::sync::Wait;
+
+/// How many sides there may be: standard input, and each connection.
+const MOST_SIDES: usize = MOST_CONNECTIONS + 1;
+
+/// The answer to what a side began and did not end.
+const UNENDED: &[u8] = b"FAULT UNENDED\n";
+
+/// The answer for whose lines there is no memory.
+const NO_MEMORY: &[u8] = b"FAULT MEMORY\n";
+
+/// Standard input and output, and the connections of a socket, where there is one.
+#[derive(Drop)]
+pub(crate) struct Switchboard<I, W> {
+    exchange: Exchange,
+    input: I,
+    output: W,
+    incoming: Incoming,
+    /// Whether standard input ended.
+    is_over: bool,
+    connections: Option<Connections>,
+    /// The side that is looked at first for the next line.
+    first: usize,
+}
+
+impl<I: Source, W: Sink> Switchboard<I, W> {
+    pub(crate) fn new(
+        alloc: Global,
+        input: I,
+        output: W,
+        connections: Option<Connections>,
+    ) -> Switchboard<I, W> {
+        Switchboard {
+            exchange: Exchange::new(alloc),
+            input,
+            output,
+            incoming: Incoming::new(),
+            is_over: false,
+            connections,
+            first: 0,
+        }
+    }
+
+    /// Reads on in the line that is handed over, or waits for the next one. It reads nothing at the end: where no more lines
+    /// can come.
+    ///
+    /// # Errors
+    ///
+    /// The system refuses to report.
+    pub(crate) fn read<R: Wait + Clock + Log>(
+        &mut self,
+        rt: &R,
+        buffer: &mut [u8],
+    ) -> io::Result<usize>
+        ensures { ReadsAtMost result buffer.new }
+    {
+        if self.exchange.is_read() {
+            self.wait_for_line(rt)?;
+        }
+        Ok(self.exchange.read(buffer))
+    }
+
+    /// Waits until a line of a side is handed over, or none can come any more.
+    fn wait_for_line<R: Wait + Clock + Log>(&mut self, rt: &R) -> io::Result<()> {
+        for _ in rt.forever() {
+            if self.begin_next() {
+                return Ok(());
+            }
+            if self.is_over && self.connections.is_none() {
+                self.begin_last();
+                return Ok(());
+            }
+            self.end_sides(rt);
+            self.look()?;
+        }
+        unreachable!()
+    }
+
+    /// Hands over a line of the next side that has one, and tells whether there is one. The sides have their turns in a row.
+    fn begin_next(&mut self) -> bool {
+        for step in 0..MOST_SIDES {
+            let place = self.first.wrapping_add(step) % MOST_SIDES;
+            let side = side_of(place);
+            if let Some(line) = self.next_line(side) {
+                self.exchange.begin(side, line, b"\n");
+                self.first = place.wrapping_add(1);
+                return true;
+            }
+        }
+        false
+    }
+
+    /// The next line of a side, where it has one.
+    fn next_line(&mut self, side: Side) -> Option<PendingLine> {
+        match side {
+            Side::Standard => self.incoming.next_line(),
+            Side::Connection(number) => self.connections.as_mut()?.next_line(number),
+        }
+    }
+
+    /// Hands over what standard input began and did not end, without an end.
+    fn begin_last(&mut self) {
+        let begun = self.incoming.take_begun();
+        if !begun.is_empty() {
+            self.exchange.begin(Side::Standard, begun, b"");
+        }
+    }
+
+    /// Answers what the sides began that are over, and closes those that are connections.
+    fn end_sides<R: Wait + Clock + Log>(&mut self, rt: &R) {
+        if self.is_over {
+            let begun = self.incoming.take_begun();
+            self.end_side(rt, Side::Standard, begun);
+        }
+        for _ in 0..MOST_CONNECTIONS {
+            let over = match &mut self.connections {
+                Some(connections) => connections.next_over(),
+                None => None,
+            };
+            let Some((number, begun)) = over else {
+                return;
+            };
+            self.end_side(rt, Side::Connection(number), begun);
+            if let Some(connections) = &mut self.connections {
+                connections.close(number);
+            }
+        }
+    }
+
+    /// Answers what a side began and did not end.
+    fn end_side<R: Wait + Clock + Log>(&mut self, rt: &R, side: Side, begun: PendingLine) {
+        if !begun.is_empty() {
+            self.answer(rt, side, Some(begun), UNENDED);
+        }
+    }
+
+    /// Looks what the sides send. It waits where none has sent anything.
+    fn look(&mut self) -> io::Result<()> {
+        if let Some(connections) = &mut self.connections {
+            let has_work = !self.is_over && connections.is_standard_ready();
+            connections.wait(has_work)?;
+        }
+        self.read_standard();
+        Ok(())
+    }
+
+    /// Reads standard input once, where it may be read.
+    fn read_standard(&mut self) {
+        let is_ready = match &self.connections {
+            Some(connections) => connections.is_standard_ready(),
+            None => true,
+        };
+        if self.is_over || !is_ready || !self.incoming.is_looked_through() {
+            return;
+        }
+        let mut buffer = [0; READ_SIZE];
+        match self.input.read(&mut buffer) {
+            Ok(count) if count > 0 => self.incoming.extend(&buffer[..count]),
+            Ok(_) | Err(Failed) => self.is_over = true,
+        }
+        if let Some(connections) = &mut self.connections {
+            connections.watch_standard();
+        }
+    }
+
+    /// Says this to the side whose line was handed over last.
+    ///
+    /// # Errors
+    ///
+    /// There is no memory for it. The side is told so in place of its answer.
+    pub(crate) fn say<R: Wait + Clock + Log>(&mut self, rt: &R, bytes: &[u8]) -> io::Result<()> {
+        if self.exchange.say(bytes).is_ok() {
+            return Ok(());
+        }
+        let Said { side, line, .. } = self.exchange.end();
+        self.answer(rt, side, line, NO_MEMORY);
+        Err(io::Error::from(ErrorKind::OutOfMemory))
+    }
+
+    /// Sends what was said since the last line was handed over to its side.
+    ///
+    /// # Errors
+    ///
+    /// The side does not take it.
+    pub(crate) fn end_exchange<R: Wait + Clock + Log>(&mut self, rt: &R) -> io::Result<()> {
+        let Said { side, line, text } = self.exchange.end();
+        if self.answer(rt, side, line, text.as_slice()) {
+            Ok(())
+        } else {
+            Err(io::Error::from(ErrorKind::BrokenPipe))
+        }
+    }
+
+    /// Sends an answer to a side, logs it with the line that it answers, and tells whether the side took it.
+    fn answer<R: Wait + Clock + Log>(
+        &mut self,
+        rt: &R,
+        side: Side,
+        line: Option<PendingLine>,
+        text: &[u8],
+    ) -> bool {
+        let is_taken = match (side, &mut self.connections) {
+            (Side::Connection(number), Some(connections)) => connections.send(rt, number, text),
+            _ => deliver(&mut self.output, text).is_ok(),
+        };
+        if let Some(line) = &line {
+            let (command, answer) = (Shown(line.as_slice()), Shown(last_line(text)));
+            info!(rt; side:% = side, command:% = command, answer:% = answer; "command");
+        }
+        is_taken
+    }
+}
+
+/// The side that stands at this place of their row.
+fn side_of(place: usize) -> Side {
+    match place.checked_sub(1) {
+        None => Side::Standard,
+        Some(number) => Side::Connection(number),
+    }
+}

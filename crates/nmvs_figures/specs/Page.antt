@@ -1,0 +1,137 @@
+-- The page of figures, in the text format of Prometheus, version 0.0.4 (own).
+use Rattle.std.specs.Prelude.{ℕ, List, [], ◌∷◌, ◌+◌, ◌-◌, ◌^◌, ◌++◌, Option, Some, None, if◌then◌else◌, codes, decimal, min}
+use Rattle.std.specs.List.{flat_map}
+use Rattle.nmvs_words.specs.Kinds.{kind_word}
+use Rattle.nmvs_words.specs.ReplyKinds.{reply_word}
+use Rattle.nmvs_figures.specs.declared.figures.Answered.{Answered}
+use Rattle.nmvs_figures.specs.declared.figures.Counted.{Counted}
+use Rattle.nmvs_figures.specs.declared.figures.Numbered.{Numbered}
+use Rattle.nmvs_figures.specs.declared.figures.Bucket.{Bucket}
+use Rattle.nmvs_figures.specs.declared.figures.JournalFigures.{JournalFigures}
+use Rattle.nmvs_figures.specs.declared.figures.Figures.{Figures}
+
+-- what the samples of one name begin with: what they say, and of which type they are
+abbrev pub heading : List ℕ → List ℕ → List ℕ → List ℕ
+heading name type help =
+    codes "# HELP " ++ (name ++ (codes " " ++ (help ++ (codes "\n# TYPE " ++ (name ++ (codes " " ++ (type ++ codes "\n")))))))
+
+-- the line of a sample without a label
+abbrev pub sample : List ℕ → ℕ → List ℕ
+sample name value = name ++ (codes " " ++ (decimal value ++ codes "\n"))
+
+-- the line of a sample with one label
+abbrev pub labelled : List ℕ → List ℕ → List ℕ → ℕ → List ℕ
+labelled name label text value =
+    name ++ (codes "{" ++ (label ++ (codes "=\"" ++ (text ++ (codes "\"} " ++ (decimal value ++ codes "\n"))))))
+
+-- the line of how many questions of a kind had a reply of a kind
+abbrev pub answered_line : Answered → List ℕ
+answered_line a =
+    codes "nmvs_questions_total{question=\"" ++ (kind_word a.question
+    ++ (codes "\",reply=\"" ++ (reply_word a.reply ++ (codes "\"} " ++ (decimal a.count ++ codes "\n")))))
+
+-- samples of one name without a label
+unfoldable pub single : List ℕ → List ℕ → List ℕ → ℕ → List ℕ
+single name type help value = heading name type help ++ sample name value
+
+-- the line of what has a word
+abbrev pub worded_line : List ℕ → List ℕ → Counted → List ℕ
+worded_line name label c = labelled name label c.word.now c.count
+
+-- samples of one name, each labelled with a word
+unfoldable pub worded : List ℕ → List ℕ → List ℕ → List ℕ → List Counted → List ℕ
+worded name type help label counts = heading name type help ++ flat_map (worded_line name label) counts
+
+-- the line of what has a number
+abbrev pub numbered_line : List ℕ → List ℕ → Numbered → List ℕ
+numbered_line name label n = labelled name label (decimal n.number) n.value
+
+-- samples of one name, each labelled with a number
+unfoldable pub numbered : List ℕ → List ℕ → List ℕ → List ℕ → List Numbered → List ℕ
+numbered name type help label numbers = heading name type help ++ flat_map (numbered_line name label) numbers
+
+-- two counts together, as far as 64 bits hold them
+abbrev pub together : ℕ → ℕ → ℕ
+together one other = min (one + other) (2 ^ 64 - 1)
+
+-- the line of a bucket of syncs that take no longer than this
+unfoldable pub bucket_line : List ℕ → ℕ → List ℕ
+bucket_line bound count = labelled (codes "nmvs_journal_sync_seconds_bucket") (codes "le") bound count
+
+-- the lines of the buckets of syncs, where so many are below the first: each counts what those before it count, too
+abbrev pub bucket_lines : ℕ → List Bucket → List ℕ
+bucket_lines below [] = []
+bucket_lines below (b ∷ bs) =
+    bucket_line b.bound.now (together below b.count) ++ bucket_lines (together below b.count) bs
+
+-- how many syncs there are, where so many are below the first of these buckets
+abbrev pub sync_count : ℕ → List Bucket → ℕ
+sync_count below [] = below
+sync_count below (b ∷ bs) = sync_count (together below b.count) bs
+
+-- the histogram of syncs: their buckets, the seconds of all of them, and how many there were
+unfoldable pub syncs_text : List Bucket → ℕ → List ℕ
+syncs_text buckets nanoseconds =
+    heading (codes "nmvs_journal_sync_seconds") (codes "histogram") (codes "Seconds that a sync of a journal's file took.")
+    ++ (bucket_lines 0 buckets
+    ++ (codes "nmvs_journal_sync_seconds_sum " ++ (decimal nanoseconds ++ (codes "e-9\n"
+    ++ sample (codes "nmvs_journal_sync_seconds_count") (sync_count 0 buckets)))))
+
+-- the questions that were answered, by kind and reply
+unfoldable pub questions_text : List Answered → List ℕ
+questions_text answered =
+    heading (codes "nmvs_questions_total") (codes "counter") (codes "Questions that the repository answered, by kind and reply.")
+    ++ flat_map answered_line answered
+
+-- what questions came to that were refused, or alerted
+unfoldable pub warnings_text : Figures → List ℕ
+warnings_text f =
+    worded (codes "nmvs_refusals_total") (codes "counter") (codes "Questions that the repository refused, by the word of the refusal.") (codes "refusal") f.refusals.items
+    ++ worded (codes "nmvs_alerts_flagged_total") (codes "counter") (codes "Alerts that were flagged as potential falsifications, by their cause.") (codes "cause") f.alerts.items
+
+-- what is told of lines
+unfoldable pub lines_text : Figures → List ℕ
+lines_text f =
+    questions_text f.answered.items
+    ++ (warnings_text f
+    ++ (single (codes "nmvs_reports_total") (codes "counter") (codes "Reports on product codes that were told.") f.reports
+    ++ worded (codes "nmvs_faults_total") (codes "counter") (codes "Lines and connections that were answered with a fault, by its word.") (codes "fault") f.faults.items))
+
+-- what is told of connections
+unfoldable pub connections_text : Figures → List ℕ
+connections_text f =
+    numbered (codes "nmvs_connections_open") (codes "gauge") (codes "Connections that are open, by worker.") (codes "worker") f.open.items
+    ++ (numbered (codes "nmvs_connections_total") (codes "counter") (codes "Connections that were accepted, by worker.") (codes "worker") f.accepted.items
+    ++ single (codes "nmvs_sessions_total") (codes "counter") (codes "Sessions that have begun in which a line is served.") f.sessions)
+
+-- what is told of the audit trail
+unfoldable pub trail_text : Figures → List ℕ
+trail_text f =
+    numbered (codes "nmvs_entries") (codes "gauge") (codes "Entries of the audit trail, by shard.") (codes "shard") f.entries.items
+    ++ numbered (codes "nmvs_packs") (codes "gauge") (codes "Packs that the repository knows, by shard.") (codes "shard") f.packs.items
+
+-- what is told of journals, where there are journals
+unfoldable pub journal_text : Option JournalFigures → List ℕ
+journal_text None = []
+journal_text (Some j) =
+    numbered (codes "nmvs_journal_confirmed_entries") (codes "gauge") (codes "Entries that the journals have confirmed, by shard.") (codes "shard") j.confirmed.items
+    ++ (numbered (codes "nmvs_journal_waiting_entries") (codes "gauge") (codes "Entries that the journals have not confirmed yet, by shard.") (codes "shard") j.waiting.items
+    ++ (syncs_text j.syncs.items j.nanoseconds
+    ++ single (codes "nmvs_journal_failures_total") (codes "counter") (codes "Journals whose file failed.") j.failures))
+
+-- what is told of the memory of the process, where the system tells it
+unfoldable pub resident_text : Option ℕ → List ℕ
+resident_text None = []
+resident_text (Some bytes) =
+    single (codes "process_resident_memory_bytes") (codes "gauge") (codes "Bytes of memory that the process has.") bytes
+
+-- what is told of the process: whether it listens, and its memory
+unfoldable pub process_text : Figures → List ℕ
+process_text f =
+    single (codes "nmvs_ready") (codes "gauge") (codes "Whether the server listens, 1 or 0.") (if f.ready then 1 else 0)
+    ++ resident_text f.resident
+
+-- all figures
+abbrev pub page : Figures → List ℕ
+page f =
+    process_text f ++ (lines_text f ++ (connections_text f ++ (trail_text f ++ journal_text f.journal)))

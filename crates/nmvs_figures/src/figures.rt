@@ -1,0 +1,78 @@
+//! What a server has counted, at one moment.
+use nmvs_words::{QuestionKind, ReplyKind};
+
+/// How many questions of a kind had a reply of a kind.
+#[derive(Clone, Copy, Debug, PartialEq, Eq)]
+pub struct Answered {
+    pub question: QuestionKind,
+    pub reply: ReplyKind,
+    pub count: u64,
+}
+
+/// How often was counted what has this word.
+#[derive(Clone, Copy, Debug, PartialEq, Eq)]
+pub struct Counted {
+    pub word: &'static str,
+    pub count: u64,
+}
+
+/// What the worker or the shard of this number has.
+#[derive(Clone, Copy, Debug, PartialEq, Eq)]
+pub struct Numbered {
+    pub number: u64,
+    pub value: u64,
+}
+
+/// How many syncs took no longer than this, and longer than the bucket before it says.
+#[derive(Clone, Copy, Debug, PartialEq, Eq)]
+pub struct Bucket {
+    /// In seconds, as it is told.
+    pub bound: &'static str,
+    pub count: u64,
+}
+
+/// What a server has counted of its journals.
+#[derive(Debug, Drop)]
+pub struct JournalFigures {
+    /// How many entries of each shard are confirmed.
+    pub confirmed: Vec<Numbered>,
+    /// How many entries of each shard are not confirmed yet.
+    pub waiting: Vec<Numbered>,
+    /// The syncs that succeeded, by how long they took, the shortest first; the last bucket has no bound.
+    pub syncs: Vec<Bucket>,
+    /// How many nanoseconds all of them took.
+    pub nanoseconds: u64,
+    /// How many journals failed.
+    pub failures: u64,
+}
+
+/// What a server has counted, at one moment.
+#[derive(Debug, Drop)]
+pub struct Figures {
+    /// Whether it listens.
+    pub ready: bool,
+    /// Of the kinds of questions and replies those that have come.
+    pub answered: Vec<Answered>,
+    /// The refusals, by their words.
+    pub refusals: Vec<Counted>,
+    /// The alerts that were flagged, by the words of their causes.
+    pub alerts: Vec<Counted>,
+    /// How many reports were told.
+    pub reports: u64,
+    /// The lines that were answered with a fault, by its word.
+    pub faults: Vec<Counted>,
+    /// How many connections of each worker are open.
+    pub open: Vec<Numbered>,
+    /// How many connections each worker has been dealt.
+    pub accepted: Vec<Numbered>,
+    /// How many sessions have begun in which a line is served.
+    pub sessions: u64,
+    /// How many entries the trail of each shard has.
+    pub entries: Vec<Numbered>,
+    /// How many packs each shard has.
+    pub packs: Vec<Numbered>,
+    /// Of the journals, where there are journals.
+    pub journal: Option<JournalFigures>,
+    /// How many bytes of memory the process has, where the system tells it.
+    pub resident: Option<u64>,
+}

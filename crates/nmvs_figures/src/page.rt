@@ -1,0 +1,364 @@
+//! The page of figures.
+ghost use Rattle.std.specs.Prelude.{◌≡◌, IfOk, string_bytes};
+ghost use Rattle.std.specs.List.{flat_map};
+ghost use Rattle.nmvs_figures.specs.Page as specs;
+
+use crate::{Answered, Bucket, Counted, Figures, JournalFigures, Numbered};
+use itoa::Buffer;
+use std::alloc::{AllocError, Global};
+
+/// What the samples of one name are called, of which type they are, and what they say.
+#[derive(Clone, Copy)]
+struct Family {
+    name: &'static str,
+    kind: &'static str,
+    help: &'static str,
+}
+
+/// The figures as a page in the text format of Prometheus, version 0.0.4.
+///
+/// # Errors
+///
+/// There is no memory for the text.
+pub fn figures_page(alloc: Global, figures: &Figures) -> Result<String, AllocError>
+    ensures { IfOk result (λ text. string_bytes text ≡ specs.page figures.now) }
+{
+    let process = process_text(alloc, figures)?;
+    let lines = lines_text(alloc, figures)?;
+    let connections = connections_text(alloc, figures)?;
+    let trail = trail_text(alloc, figures)?;
+    let journal = journal_text(alloc, &figures.journal)?;
+    format!(in alloc; "{process}{lines}{connections}{trail}{journal}")
+}
+
+#[tactic(auto, unfolding(crate::specs::Page::process_text))]
+fn process_text(alloc: Global, figures: &Figures) -> Result<String, AllocError>
+    ensures { IfOk result (λ text. string_bytes text ≡ specs.process_text figures.now) }
+{
+    let ready = Family {
+        name: "nmvs_ready",
+        kind: "gauge",
+        help: "Whether the server listens, 1 or 0.",
+    };
+    let ready = single(alloc, ready, if figures.ready { 1 } else { 0 })?;
+    let resident = resident_text(alloc, figures.resident)?;
+    format!(in alloc; "{ready}{resident}")
+}
+
+#[tactic(auto, unfolding(crate::specs::Page::resident_text))]
+fn resident_text(alloc: Global, bytes: Option<u64>) -> Result<String, AllocError>
+    ensures { IfOk result (λ text. string_bytes text ≡ specs.resident_text bytes) }
+{
+    let Some(bytes) = bytes else {
+        return Ok(String::new(alloc));
+    };
+    let resident = Family {
+        name: "process_resident_memory_bytes",
+        kind: "gauge",
+        help: "Bytes of memory that the process has.",
+    };
+    single(alloc, resident, bytes)
+}
+
+#[tactic(auto, unfolding(crate::specs::Page::lines_text))]
+fn lines_text(alloc: Global, figures: &Figures) -> Result<String, AllocError>
+    ensures { IfOk result (λ text. string_bytes text ≡ specs.lines_text figures.now) }
+{
+    let reports = Family {
+        name: "nmvs_reports_total",
+        kind: "counter",
+        help: "Reports on product codes that were told.",
+    };
+    let faults = Family {
+        name: "nmvs_faults_total",
+        kind: "counter",
+        help: "Lines and connections that were answered with a fault, by its word.",
+    };
+    let questions = questions_text(alloc, &figures.answered)?;
+    let warnings = warnings_text(alloc, figures)?;
+    let reports = single(alloc, reports, figures.reports)?;
+    let faults = worded(alloc, faults, "fault", &figures.faults)?;
+    format!(in alloc; "{questions}{warnings}{reports}{faults}")
+}
+
+#[tactic(auto, unfolding(crate::specs::Page::warnings_text))]
+fn warnings_text(alloc: Global, figures: &Figures) -> Result<String, AllocError>
+    ensures { IfOk result (λ text. string_bytes text ≡ specs.warnings_text figures.now) }
+{
+    let refusals = Family {
+        name: "nmvs_refusals_total",
+        kind: "counter",
+        help: "Questions that the repository refused, by the word of the refusal.",
+    };
+    let alerts = Family {
+        name: "nmvs_alerts_flagged_total",
+        kind: "counter",
+        help: "Alerts that were flagged as potential falsifications, by their cause.",
+    };
+    let refusals = worded(alloc, refusals, "refusal", &figures.refusals)?;
+    let alerts = worded(alloc, alerts, "cause", &figures.alerts)?;
+    format!(in alloc; "{refusals}{alerts}")
+}
+
+#[tactic(auto, unfolding(crate::specs::Page::connections_text))]
+fn connections_text(alloc: Global, figures: &Figures) -> Result<String, AllocError>
+    ensures { IfOk result (λ text. string_bytes text ≡ specs.connections_text figures.now) }
+{
+    let open = Family {
+        name: "nmvs_connections_open",
+        kind: "gauge",
+        help: "Connections that are open, by worker.",
+    };
+    let accepted = Family {
+        name: "nmvs_connections_total",
+        kind: "counter",
+        help: "Connections that were accepted, by worker.",
+    };
+    let sessions = Family {
+        name: "nmvs_sessions_total",
+        kind: "counter",
+        help: "Sessions that have begun in which a line is served.",
+    };
+    let open = numbered(alloc, open, "worker", &figures.open)?;
+    let accepted = numbered(alloc, accepted, "worker", &figures.accepted)?;
+    let sessions = single(alloc, sessions, figures.sessions)?;
+    format!(in alloc; "{open}{accepted}{sessions}")
+}
+
+#[tactic(auto, unfolding(crate::specs::Page::trail_text))]
+fn trail_text(alloc: Global, figures: &Figures) -> Result<String, AllocError>
+    ensures { IfOk result (λ text. string_bytes text ≡ specs.trail_text figures.now) }
+{
+    let entries = Family {
+        name: "nmvs_entries",
+        kind: "gauge",
+        help: "Entries of the audit trail, by shard.",
+    };
+    let packs = Family {
+        name: "nmvs_packs",
+        kind: "gauge",
+        help: "Packs that the repository knows, by shard.",
+    };
+    let entries = numbered(alloc, entries, "shard", &figures.entries)?;
+    let packs = numbered(alloc, packs, "shard", &figures.packs)?;
+    format!(in alloc; "{entries}{packs}")
+}
+
+#[tactic(auto, unfolding(crate::specs::Page::journal_text))]
+fn journal_text(alloc: Global, journal: &Option<JournalFigures>) -> Result<String, AllocError>
+    ensures { IfOk result (λ text. string_bytes text ≡ specs.journal_text journal.now) }
+{
+    let Some(journal) = journal else {
+        return Ok(String::new(alloc));
+    };
+    let confirmed = Family {
+        name: "nmvs_journal_confirmed_entries",
+        kind: "gauge",
+        help: "Entries that the journals have confirmed, by shard.",
+    };
+    let waiting = Family {
+        name: "nmvs_journal_waiting_entries",
+        kind: "gauge",
+        help: "Entries that the journals have not confirmed yet, by shard.",
+    };
+    let failures = Family {
+        name: "nmvs_journal_failures_total",
+        kind: "counter",
+        help: "Journals whose file failed.",
+    };
+    let confirmed = numbered(alloc, confirmed, "shard", &journal.confirmed)?;
+    let waiting = numbered(alloc, waiting, "shard", &journal.waiting)?;
+    let syncs = syncs_text(alloc, &journal.syncs, journal.nanoseconds)?;
+    let failures = single(alloc, failures, journal.failures)?;
+    format!(in alloc; "{confirmed}{waiting}{syncs}{failures}")
+}
+
+fn heading(alloc: Global, family: Family) -> Result<String, AllocError>
+    ensures { IfOk result (λ text. string_bytes text ≡ specs.heading family.name.now family.kind.now family.help.now) }
+{
+    let Family { name, kind, help } = family;
+    format!(in alloc; "# HELP {name} {help}\n# TYPE {name} {kind}\n")
+}
+
+/// A sample of one name without a label.
+#[tactic(auto, unfolding(crate::specs::Page::single))]
+fn single(alloc: Global, family: Family, value: u64) -> Result<String, AllocError>
+    ensures { IfOk result (λ text. string_bytes text ≡ specs.single family.name.now family.kind.now family.help.now value) }
+{
+    let head = heading(alloc, family)?;
+    let line = sample(alloc, family.name, value)?;
+    format!(in alloc; "{head}{line}")
+}
+
+fn sample(alloc: Global, name: &str, value: u64) -> Result<String, AllocError>
+    ensures { IfOk result (λ text. string_bytes text ≡ specs.sample name.now value) }
+{
+    format!(in alloc; "{name} {value}\n")
+}
+
+/// Counters of one name, each labelled with a word.
+#[tactic(auto, unfolding(crate::specs::Page::worded))]
+fn worded(
+    alloc: Global,
+    family: Family,
+    label: &str,
+    counts: &[Counted],
+) -> Result<String, AllocError>
+    ensures { IfOk result (λ text. string_bytes text ≡ specs.worded family.name.now family.kind.now family.help.now label.now counts.now) }
+{
+    let head = heading(alloc, family)?;
+    let lines = worded_lines(alloc, family.name, label, counts)?;
+    format!(in alloc; "{head}{lines}")
+}
+
+fn worded_lines(
+    alloc: Global,
+    name: &str,
+    label: &str,
+    counts: &[Counted],
+) -> Result<String, AllocError>
+    ensures { IfOk result (λ text. string_bytes text ≡ flat_map (specs.worded_line name.now label.now) counts.now) }
+{
+    let mut text = String::new(alloc);
+    for counted in counts {
+        let line = labelled(alloc, name, label, counted.word, counted.count)?;
+        text.push_str(&line)?;
+    }
+    Ok(text)
+}
+
+/// Samples of one name, each labelled with a number.
+#[tactic(auto, unfolding(crate::specs::Page::numbered))]
+fn numbered(
+    alloc: Global,
+    family: Family,
+    label: &str,
+    numbers: &[Numbered],
+) -> Result<String, AllocError>
+    ensures { IfOk result (λ text. string_bytes text ≡ specs.numbered family.name.now family.kind.now family.help.now label.now numbers.now) }
+{
+    let head = heading(alloc, family)?;
+    let lines = numbered_lines(alloc, family.name, label, numbers)?;
+    format!(in alloc; "{head}{lines}")
+}
+
+fn numbered_lines(
+    alloc: Global,
+    name: &str,
+    label: &str,
+    numbers: &[Numbered],
+) -> Result<String, AllocError>
+    ensures { IfOk result (λ text. string_bytes text ≡ flat_map (specs.numbered_line name.now label.now) numbers.now) }
+{
+    let mut text = String::new(alloc);
+    for one in numbers {
+        let line = numbered_line(alloc, name, label, one)?;
+        text.push_str(&line)?;
+    }
+    Ok(text)
+}
+
+fn numbered_line(
+    alloc: Global,
+    name: &str,
+    label: &str,
+    one: &Numbered,
+) -> Result<String, AllocError>
+    ensures { IfOk result (λ line. string_bytes line ≡ specs.numbered_line name.now label.now one.now) }
+{
+    let mut digits = Buffer::new();
+    labelled(alloc, name, label, digits.format(one.number), one.value)
+}
+
+fn labelled(
+    alloc: Global,
+    name: &str,
+    label: &str,
+    text: &str,
+    value: u64,
+) -> Result<String, AllocError>
+    ensures { IfOk result (λ line. string_bytes line ≡ specs.labelled name.now label.now text.now value) }
+{
+    format!(in alloc; "{name}{{{label}=\"{text}\"}} {value}\n")
+}
+
+/// The questions that were answered, by kind and reply.
+#[tactic(auto, unfolding(crate::specs::Page::questions_text))]
+fn questions_text(alloc: Global, answered: &[Answered]) -> Result<String, AllocError>
+    ensures { IfOk result (λ text. string_bytes text ≡ specs.questions_text answered.now) }
+{
+    let family = Family {
+        name: "nmvs_questions_total",
+        kind: "counter",
+        help: "Questions that the repository answered, by kind and reply.",
+    };
+    let head = heading(alloc, family)?;
+    let lines = answered_lines(alloc, answered)?;
+    format!(in alloc; "{head}{lines}")
+}
+
+/// The lines of questions by kind and reply.
+fn answered_lines(alloc: Global, answered: &[Answered]) -> Result<String, AllocError>
+    ensures { IfOk result (λ text. string_bytes text ≡ flat_map specs.answered_line answered.now) }
+{
+    let mut text = String::new(alloc);
+    for one in answered {
+        let line = answered_line(alloc, one)?;
+        text.push_str(&line)?;
+    }
+    Ok(text)
+}
+
+fn answered_line(alloc: Global, answered: &Answered) -> Result<String, AllocError>
+    ensures { IfOk result (λ text. string_bytes text ≡ specs.answered_line answered.now) }
+{
+    let (question, reply) = (answered.question.word(), answered.reply.word());
+    let count = answered.count;
+    format!(in alloc; "nmvs_questions_total{{question=\"{question}\",reply=\"{reply}\"}} {count}\n")
+}
+
+/// The histogram of syncs, by how long they took.
+#[tactic(auto, unfolding(crate::specs::Page::syncs_text))]
+fn syncs_text(alloc: Global, syncs: &[Bucket], nanoseconds: u64) -> Result<String, AllocError>
+    ensures { IfOk result (λ text. string_bytes text ≡ specs.syncs_text syncs.now nanoseconds) }
+{
+    let family = Family {
+        name: "nmvs_journal_sync_seconds",
+        kind: "histogram",
+        help: "Seconds that a sync of a journal's file took.",
+    };
+    let head = heading(alloc, family)?;
+    let (buckets, count) = bucket_lines(alloc, syncs)?;
+    let count = sample(alloc, "nmvs_journal_sync_seconds_count", count)?;
+    format!(in alloc; "{head}{buckets}nmvs_journal_sync_seconds_sum {nanoseconds}e-9\n{count}")
+}
+
+/// The lines of the buckets, each with what those before it count, and what all of them count.
+fn bucket_lines(alloc: Global, syncs: &[Bucket]) -> Result<(String, u64), AllocError>
+    ensures lines { IfOk result (λ made. string_bytes made.0 ≡ specs.bucket_lines 0 syncs.now) }
+    ensures count { IfOk result (λ made. made.1 ≡ specs.sync_count 0 syncs.now) }
+{
+    let mut text = String::new(alloc);
+    let mut count = 0u64;
+    let mut rest = syncs;
+    while let [bucket, later @ ..] = rest {
+        count = count.saturating_add(bucket.count);
+        let line = bucket_line(alloc, bucket.bound, count)?;
+        text.push_str(&line)?;
+        rest = later;
+    }
+    Ok((text, count))
+}
+
+#[tactic(auto, unfolding(crate::specs::Page::bucket_line))]
+fn bucket_line(alloc: Global, bound: &str, count: u64) -> Result<String, AllocError>
+    ensures { IfOk result (λ line. string_bytes line ≡ specs.bucket_line bound.now count) }
+{
+    labelled(
+        alloc,
+        "nmvs_journal_sync_seconds_bucket",
+        "le",
+        bound,
+        count,
+    )
+}

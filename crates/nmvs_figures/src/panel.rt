@@ -1,0 +1,441 @@
+//! What a running server counts.
+use crate::counters::Counters;
+use crate::kinds::{
+    CAUSES, FAULTS, Fault, QUESTIONS, REFUSALS, REPLIES, kind_of_reply, place_of_cause,
+    place_of_fault, place_of_question, place_of_refusal, place_of_reply, word_of,
+};
+use crate::syncs::{BOUNDS, bucket_of, buckets};
+use crate::{Answered, Counted, Figures, JournalFigures, Numbered};
+use nmvs_protocol::{Answer, Ask, Basis, Released};
+use nmvs_rules::{Question, Reply};
+use nmvs_words::{QuestionKind, cause_word, refusal_word};
+use std::alloc::{AllocError, Global};
+use std::sync::atomic::{AtomicBool, AtomicU64, Ordering};
+use std::time::Duration;
+
+/// What is counted in one row.
+#[derive(Clone, Copy)]
+enum Row {
+    /// Questions by their kind and the kind of their reply.
+    Answered,
+    /// Refusals, in the order of their numbers.
+    Refusals,
+    /// Alerts that were flagged, by cause.
+    Alerts,
+    Faults,
+    /// How many entries of each shard were confirmed when answers were released last that waited for them.
+    Confirmed,
+    /// What has one counter alone.
+    Single,
+}
+
+/// The places of the row `Single`.
+const REPORTS: usize = 0;
+
+const ACCEPTED: usize = 1;
+
+const ENDED: usize = 2;
+
+/// What is counted of one worker, by itself alone: no two workers write to one row.
+#[derive(Drop)]
+struct WorkerCounts {
+    answered: Counters,
+    refusals: Counters,
+    alerts: Counters,
+    faults: Counters,
+    confirmed: Counters,
+    single: Counters,
+}
+
+impl WorkerCounts {
+    fn new(alloc: Global, shards: usize) -> Result<WorkerCounts, AllocError> {
+        Ok(WorkerCounts {
+            answered: Counters::new(alloc, QUESTIONS.len() * REPLIES.len())?,
+            refusals: Counters::new(alloc, REFUSALS.len())?,
+            alerts: Counters::new(alloc, CAUSES.len())?,
+            faults: Counters::new(alloc, FAULTS.len())?,
+            confirmed: Counters::new(alloc, shards)?,
+            single: Counters::new(alloc, ENDED + 1)?,
+        })
+    }
+
+    fn row(&self, row: Row) -> &Counters {
+        match row {
+            Row::Answered => &self.answered,
+            Row::Refusals => &self.refusals,
+            Row::Alerts => &self.alerts,
+            Row::Faults => &self.faults,
+            Row::Confirmed => &self.confirmed,
+            Row::Single => &self.single,
+        }
+    }
+}
+
+/// What is counted of the journals.
+#[derive(Drop)]
+struct JournalCounts {
+    syncs: Counters,
+    nanoseconds: AtomicU64,
+    failures: AtomicU64,
+}
+
+/// What a running server counts, from its start on. All its threads share it, and none waits for another; a count beyond
+/// 64 bits begins again at 0.
+#[derive(Drop)]
+pub struct Panel {
+    is_ready: AtomicBool,
+    has_ended: AtomicBool,
+    workers: Vec<WorkerCounts>,
+    entries: Counters,
+    packs: Counters,
+    shards: usize,
+    sessions: AtomicU64,
+    journal: Option<JournalCounts>,
+}
+
+impl Panel {
+    /// A panel on which nothing is counted yet, of a server with so many workers and shards, with journals or without.
+    ///
+    /// # Errors
+    ///
+    /// There is no memory for it.
+    pub fn new(
+        alloc: Global,
+        workers: usize,
+        shards: usize,
+        has_journal: bool,
+    ) -> Result<Panel, AllocError> {
+        let mut counts = Vec::with_capacity(alloc, workers)?;
+        for _ in 0..workers {
+            counts.push(WorkerCounts::new(alloc, shards)?)?;
+        }
+        let journal = if has_journal {
+            Some(JournalCounts {
+                syncs: Counters::new(alloc, BOUNDS.len() + 1)?,
+                nanoseconds: AtomicU64::new(0),
+                failures: AtomicU64::new(0),
+            })
+        } else {
+            None
+        };
+        Ok(Panel {
+            is_ready: AtomicBool::new(false),
+            has_ended: AtomicBool::new(false),
+            workers: counts,
+            entries: Counters::new(alloc, shards)?,
+            packs: Counters::new(alloc, shards)?,
+            shards,
+            sessions: AtomicU64::new(0),
+            journal,
+        })
+    }
+
+    /// Where the worker of this number counts. One that the panel does not have counts nothing.
+    pub fn tally(&self, worker: usize) -> Tally<'_> {
+        Tally {
+            panel: self,
+            counts: self.workers.get(worker),
+        }
+    }
+
+    /// Notes that the server listens.
+    pub fn note_ready(&self) {
+        self.is_ready.store(true, Ordering::SeqCst);
+    }
+
+    /// Whether the server listens.
+    pub(crate) fn is_ready(&self) -> bool {
+        self.is_ready.load(Ordering::SeqCst)
+    }
+
+    /// Notes that the server ends.
+    pub fn note_end(&self) {
+        self.has_ended.store(true, Ordering::SeqCst);
+    }
+
+    /// Whether the server ends.
+    pub(crate) fn has_ended(&self) -> bool {
+        self.has_ended.load(Ordering::SeqCst)
+    }
+
+    /// Notes how many entries and packs the shard of this number is opened with.
+    pub fn note_opening(&self, shard: usize, entries: u64, packs: u64) {
+        self.entries.set(shard, entries);
+        self.packs.set(shard, packs);
+    }
+
+    /// Notes that all entries of each shard are confirmed by its journal.
+    pub fn note_all_confirmed(&self) {
+        let tally = self.tally(0);
+        for shard in 0..self.shards {
+            tally.note_confirmed(shard, self.entries.at(shard));
+        }
+    }
+
+    /// Counts a session in which a line is to be served.
+    pub fn note_session(&self) {
+        self.sessions.fetch_add(1, Ordering::SeqCst);
+    }
+
+    /// Notes that a sync of a journal succeeded and took so long.
+    pub fn note_sync(&self, time: Duration) {
+        if let Some(journal) = &self.journal {
+            let nanoseconds = nanoseconds_of(time);
+            journal.syncs.add(bucket_of(nanoseconds), 1);
+            journal.nanoseconds.fetch_add(nanoseconds, Ordering::SeqCst);
+        }
+    }
+
+    /// Notes that a journal failed.
+    pub fn note_failure(&self) {
+        if let Some(journal) = &self.journal {
+            journal.failures.fetch_add(1, Ordering::SeqCst);
+        }
+    }
+}
+
+/// So many nanoseconds, as far as 64 bits hold them.
+fn nanoseconds_of(time: Duration) -> u64 {
+    u64::try_from(time.as_nanos()).unwrap_or(u64::MAX)
+}
+
+/// Where one worker counts.
+#[derive(Clone, Copy)]
+pub struct Tally<'p> {
+    panel: &'p Panel,
+    counts: Option<&'p WorkerCounts>,
+}
+
+impl<'p> Tally<'p> {
+    /// Counts an answer of the desk, and its entry where it left one: that is what a question's answer rests on.
+    pub fn note_answer(&self, ask: &Ask, answer: &Answer<'_>, basis: Option<Basis>) {
+        match (ask, answer) {
+            (Ask::Question(_, question), Answer::Replied(reply, _)) => {
+                self.note_reply(question, reply);
+                if let Some(Basis { shard, .. }) = basis {
+                    self.panel.entries.add(shard, 1);
+                    if matches!(reply, Reply::Uploaded) {
+                        self.panel.packs.add(shard, 1);
+                    }
+                }
+            }
+            (Ask::Report(..), Answer::Reported(_)) => self.add(Row::Single, REPORTS),
+            _ => {}
+        }
+    }
+
+    /// Counts the faults among answers that are told.
+    pub fn note_told(&self, released: &Released<'_, '_>) {
+        for place in 0..released.len() {
+            match released.answer(place) {
+                Some(Answer::Turned(turn)) => self.note_fault(Fault::Turned(*turn)),
+                Some(Answer::Unread(fault)) => self.note_fault(Fault::Unread(*fault)),
+                _ => {}
+            }
+        }
+    }
+
+    /// Counts a fault.
+    pub fn note_fault(&self, fault: Fault) {
+        self.add(Row::Faults, place_of_fault(fault));
+    }
+
+    /// Notes that so many entries of a shard are confirmed by its journal, as the worker learns: no fewer than before.
+    pub fn note_confirmed(&self, shard: usize, count: u64) {
+        if let Some(counts) = self.counts {
+            counts.confirmed.set(shard, count);
+        }
+    }
+
+    /// Counts a connection that was accepted for the worker.
+    pub fn note_accepted(&self) {
+        self.add(Row::Single, ACCEPTED);
+    }
+
+    /// Counts a connection of the worker that ended.
+    pub fn note_ended(&self) {
+        self.add(Row::Single, ENDED);
+    }
+
+    /// Counts one more.
+    fn add(&self, row: Row, place: usize) {
+        if let Some(counts) = self.counts {
+            counts.row(row).add(place, 1);
+        }
+    }
+
+    /// Counts a question that had this reply.
+    fn note_reply(&self, question: &Question, reply: &Reply) {
+        let asked = place_of_question(QuestionKind::of(question));
+        let told = place_of_reply(kind_of_reply(reply));
+        self.add(Row::Answered, asked * REPLIES.len() + told);
+        match reply {
+            Reply::Alert {
+                cause,
+                flagged: true,
+                ..
+            } => self.add(Row::Alerts, place_of_cause(*cause)),
+            Reply::Refused(refusal) => self.add(Row::Refusals, place_of_refusal(*refusal)),
+            _ => {}
+        }
+    }
+}
+
+impl Panel {
+    /// What is counted now, and how many bytes of memory the process has, where the system tells it.
+    ///
+    /// # Errors
+    ///
+    /// There is no memory for the lists.
+    pub fn figures(&self, alloc: Global, resident: Option<u64>) -> Result<Figures, AllocError> {
+        Ok(Figures {
+            ready: self.is_ready(),
+            answered: self.answered(alloc)?,
+            refusals: self.refusals(alloc)?,
+            alerts: self.alerts(alloc)?,
+            reports: self.total(Row::Single, REPORTS),
+            faults: self.faults(alloc)?,
+            open: self.open(alloc)?,
+            accepted: self.accepted(alloc)?,
+            sessions: self.sessions.load(Ordering::SeqCst),
+            entries: self.of_shards(alloc, &self.entries)?,
+            packs: self.of_shards(alloc, &self.packs)?,
+            journal: self.journal_figures(alloc)?,
+            resident,
+        })
+    }
+
+    /// What all workers have counted at this place of a row.
+    fn total(&self, row: Row, place: usize) -> u64 {
+        let mut total = 0u64;
+        for counts in &self.workers {
+            total = total.wrapping_add(counts.row(row).at(place));
+        }
+        total
+    }
+
+    /// The questions by their kind and the kind of their reply, of which there has been one.
+    fn answered(&self, alloc: Global) -> Result<Vec<Answered>, AllocError> {
+        let mut answered = Vec::new(alloc);
+        for question in QUESTIONS {
+            for reply in REPLIES {
+                let place = place_of_question(question) * REPLIES.len() + place_of_reply(reply);
+                let count = self.total(Row::Answered, place);
+                if count > 0 {
+                    answered.push(Answered {
+                        question,
+                        reply,
+                        count,
+                    })?;
+                }
+            }
+        }
+        Ok(answered)
+    }
+
+    fn refusals(&self, alloc: Global) -> Result<Vec<Counted>, AllocError> {
+        let mut refusals = Vec::new(alloc);
+        for refusal in REFUSALS {
+            refusals.push(Counted {
+                word: refusal_word(refusal),
+                count: self.total(Row::Refusals, place_of_refusal(refusal)),
+            })?;
+        }
+        Ok(refusals)
+    }
+
+    fn alerts(&self, alloc: Global) -> Result<Vec<Counted>, AllocError> {
+        let mut alerts = Vec::new(alloc);
+        for cause in CAUSES {
+            alerts.push(Counted {
+                word: cause_word(cause),
+                count: self.total(Row::Alerts, place_of_cause(cause)),
+            })?;
+        }
+        Ok(alerts)
+    }
+
+    fn faults(&self, alloc: Global) -> Result<Vec<Counted>, AllocError> {
+        let mut faults = Vec::new(alloc);
+        for fault in FAULTS {
+            faults.push(Counted {
+                word: word_of(fault),
+                count: self.total(Row::Faults, place_of_fault(fault)),
+            })?;
+        }
+        Ok(faults)
+    }
+
+    /// How many connections of each worker are open. Where one ends meanwhile, it is as if it had ended before.
+    fn open(&self, alloc: Global) -> Result<Vec<Numbered>, AllocError> {
+        let mut open = Vec::new(alloc);
+        let mut number = 0u64;
+        for counts in &self.workers {
+            let accepted = counts.single.at(ACCEPTED);
+            open.push(Numbered {
+                number,
+                value: accepted.saturating_sub(counts.single.at(ENDED)),
+            })?;
+            number = number.saturating_add(1);
+        }
+        Ok(open)
+    }
+
+    fn accepted(&self, alloc: Global) -> Result<Vec<Numbered>, AllocError> {
+        let mut accepted = Vec::new(alloc);
+        let mut number = 0u64;
+        for counts in &self.workers {
+            accepted.push(Numbered {
+                number,
+                value: counts.single.at(ACCEPTED),
+            })?;
+            number = number.saturating_add(1);
+        }
+        Ok(accepted)
+    }
+
+    /// What is counted of each shard.
+    fn of_shards(&self, alloc: Global, counters: &Counters) -> Result<Vec<Numbered>, AllocError> {
+        let mut numbers = Vec::new(alloc);
+        for shard in 0..self.shards {
+            numbers.push(Numbered {
+                number: shard as u64,
+                value: counters.at(shard),
+            })?;
+        }
+        Ok(numbers)
+    }
+
+    /// How many entries of a shard are confirmed: as many as the worker knows that learned of it last.
+    fn confirmed(&self, shard: usize) -> u64 {
+        let mut confirmed = 0u64;
+        for counts in &self.workers {
+            confirmed = confirmed.max(counts.confirmed.at(shard));
+        }
+        confirmed
+    }
+
+    fn journal_figures(&self, alloc: Global) -> Result<Option<JournalFigures>, AllocError> {
+        let Some(journal) = &self.journal else {
+            return Ok(None);
+        };
+        let mut confirmed = Vec::new(alloc);
+        let mut waiting = Vec::new(alloc);
+        for shard in 0..self.shards {
+            let (number, kept) = (shard as u64, self.confirmed(shard));
+            let value = self.entries.at(shard).saturating_sub(kept);
+            confirmed.push(Numbered {
+                number,
+                value: kept,
+            })?;
+            waiting.push(Numbered { number, value })?;
+        }
+        Ok(Some(JournalFigures {
+            confirmed,
+            waiting,
+            syncs: buckets(alloc, &journal.syncs)?,
+            nanoseconds: journal.nanoseconds.load(Ordering::SeqCst),
+            failures: journal.failures.load(Ordering::SeqCst),
+        }))
+    }
+}

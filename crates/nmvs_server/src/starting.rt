@@ -1,0 +1,185 @@
+//! The program from its options on: where it listens, where figures are told, and what is logged of its start.
+ghost use Rattle.nmvs_operator.specs.Options.{AreInRange};
+ghost use Rattle.nmvs_server.specs.Console.{IsFresh};
+
+use crate::launch::serve_run;
+use crate::{Fault, Host, Outcome};
+use libc::types::rlimit;
+use log::{Log, error, info, warn};
+use nmvs_connections::Listener;
+use nmvs_figures::{Booth, Panel, tell_figures};
+use nmvs_operator::{Console, Options, Sides, VERSION};
+use nmvs_stream::{Sink, Source};
+use std::alloc::{AllocError, Global};
+use std::net::{Net, SocketAddr};
+use std::random::RandomSource;
+use std::rt::{Clock, Files};
+use std::sync::Wait;
+use std::thread::Threads;
+use std::{io, thread};
+
+/// Serves as the options say: one session over the console, or connections on the port or the socket of the options, while
+/// the console gives commands of the registrar and takes their answers. Where the options say so, figures are told at a port
+/// of their own from the start on.
+pub fn start<'o, H: Host + Sync, T: Sides>(
+    rt: &H,
+    alloc: Global,
+    options: &'o Options,
+    console: &mut Console<T>,
+) -> Outcome<'o>
+    requires options { AreInRange options.now }
+    requires fresh { IsFresh (T.Source.told console.old.source) (T.Sink.taken console.old.sink) }
+{
+    tell_start(rt, options);
+    let Ok(panel) = panel_of(alloc, options) else {
+        return Outcome::of(Fault::Memory);
+    };
+    let Some(port) = options.metrics else {
+        return serve_counted(rt, alloc, options, &panel, console);
+    };
+    let booth = match Booth::open(rt, port) {
+        Ok(booth) => booth,
+        Err(error) => {
+            error!(rt; "cannot listen on port {port}: {error}");
+            return Outcome::of(Fault::CannotListen(port));
+        }
+    };
+    tell_booth(rt, &booth);
+    let served = tell_beside(
+        rt,
+        alloc,
+        booth,
+        &panel,
+        ||
+            requires options { AreInRange options.now }
+            requires fresh { IsFresh (T.Source.told console.now.source) (T.Sink.taken console.now.sink) }
+        { serve_counted(rt, alloc, options, &panel, console) },
+    );
+    match served {
+        Ok(outcome) => outcome,
+        Err(AllocError) => Outcome::of(Fault::Memory),
+    }
+}
+
+/// Does this work, while figures are told at the booth in a thread beside it, and ends once both have ended.
+///
+/// # Errors
+///
+/// The thread or memory for it was refused. The work is not begun then.
+fn tell_beside<
+    // Not `Host`: what a thread runs may rest on traits of the library alone.
+    R: Threads + Wait + Clock + Files + RandomSource + Sync,
+    O,
+    F: FnOnce() -> O,
+>(rt: &R, alloc: Global, booth: Booth, panel: &Panel, work: F) -> Result<O, AllocError>
+    requires work { F.pre work tt }
+{
+    thread::scope(
+        thread::scope_env(),
+        rt,
+        |scope|
+            requires work { F.pre work tt }
+        {
+            let Ok(teller) = scope.spawn(move || tell_figures(rt, alloc, booth, panel)) else {
+                return Err(AllocError);
+            };
+            let outcome = work();
+            panel.note_end();
+            let _told_no_more = teller.join(rt);
+            Ok(outcome)
+        },
+    )
+}
+
+/// The panel of a run.
+fn panel_of(alloc: Global, options: &Options) -> Result<Panel, AllocError> {
+    let workers = if options.stdin { 1 } else { options.workers };
+    Panel::new(alloc, workers, options.shards, options.journal.is_some())
+}
+
+/// Tells in the log at which port figures are told.
+fn tell_booth<R: Log>(rt: &R, booth: &Booth) {
+    if let Some(port) = booth.port() {
+        info!(rt; port; "figures");
+    }
+}
+
+/// Serves one session over the console, or connections on the port or the socket of the options, and counts on the panel.
+fn serve_counted<'o, H: Host + Sync, T: Sides>(
+    rt: &H,
+    alloc: Global,
+    options: &'o Options,
+    panel: &Panel,
+    console: &mut Console<T>,
+) -> Outcome<'o>
+    requires options { AreInRange options.now }
+    requires fresh { IsFresh (T.Source.told console.old.source) (T.Sink.taken console.old.sink) }
+{
+    if options.stdin {
+        return serve_run(rt, alloc, options, None, panel, console);
+    }
+    tell_descriptors(rt, options);
+    match listen(rt, options) {
+        Ok(listener) => serve_run(rt, alloc, options, Some(&listener), panel, console),
+        Err(error) => {
+            let fault = Fault::of_listening(options);
+            error!(rt; "{fault}: {error}");
+            Outcome::of(fault)
+        }
+    }
+}
+
+/// Logs the version and the options that say how much is served, and what is gone on from.
+fn tell_start<H: Log>(rt: &H, options: &Options) {
+    let (shards, workers, connections) = (options.shards, options.workers, options.connections);
+    let (idle, rate) = (options.idle, options.rate);
+    let import = options.import.as_deref().unwrap_or("-");
+    let journal = options.journal.as_deref().unwrap_or("-");
+    info!(rt; version = VERSION, shards, workers, connections, idle, rate, import, journal; "start");
+}
+
+/// How many descriptors a server takes beside those of its connections, at most (own).
+const FURTHER_DESCRIPTORS: u64 = 48;
+
+/// Logs how many descriptors the process may have, and that they are too few, where they are.
+fn tell_descriptors<H: Log>(rt: &H, options: &Options) {
+    let mut limit = rlimit {
+        rlim_cur: 0,
+        rlim_max: 0,
+    };
+    if libc::getrlimit(libc::RLIMIT_NOFILE, &mut limit) != 0 {
+        return;
+    }
+    let most = limit.rlim_cur;
+    let connections = options.connections;
+    if most < (connections as u64).saturating_add(FURTHER_DESCRIPTORS) {
+        warn!(rt; most, connections; "fewer descriptors than connections may be open: raise ulimit -n");
+    } else {
+        info!(rt; most; "descriptors");
+    }
+}
+
+/// Listens on the socket of the options, or else on their port.
+fn listen<H: Files + Net>(rt: &H, options: &Options) -> io::Result<Listener> {
+    match &options.socket {
+        Some(path) => Listener::on_path(rt, path),
+        None => Listener::on_port(rt, SocketAddr::new(options.bind, options.port)),
+    }
+}
+
+/// Serves connections on an open listener.
+pub fn run<'o, H: Host + Sync, I: Source, W: Sink>(
+    rt: &H,
+    alloc: Global,
+    options: &'o Options,
+    listener: &Listener,
+    console: &mut Console<(I, W)>,
+) -> Outcome<'o>
+    requires options { AreInRange options.now }
+    requires fresh { IsFresh (I.told console.old.source) (W.taken console.old.sink) }
+{
+    match panel_of(alloc, options) {
+        Ok(panel) => serve_run(rt, alloc, options, Some(listener), &panel, console),
+        Err(AllocError) => Outcome::of(Fault::Memory),
+    }
+}
