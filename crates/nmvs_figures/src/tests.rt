@@ -269,7 +269,11 @@ fn answer_to(rt: &HostRuntime, panel: &Panel, request: &str) -> io::Result<Vec<u
     let alloc = rt.alloc();
     let keys = RandomState::new(rt)?;
     let mut connection = Connection::new(alloc, keys, Config::default());
-    let mut guide = Guide { rt, alloc, panel };
+    let mut guide = Guide {
+        alloc,
+        panel,
+        memory: None,
+    };
     let mut input = request.as_bytes();
     let mut output = Vec::new(alloc);
     serve(&mut connection, &mut guide, &mut input, &mut output)?;

@@ -67,18 +67,18 @@ pub fn start<'o, H: Host + Sync, T: Sides>(
 ///
 /// The thread or memory for it was refused. The work is not begun then.
 fn tell_beside<
-    // Not `Host`: what a thread runs may rest on traits of the library alone.
-    R: Threads + Wait + Clock + Files + RandomSource + Sync,
+    // Neither `Host` nor `Files`: what a thread runs may not rest on them.
+    R: Threads + Wait + Clock + RandomSource + Sync,
     O,
     F: FnOnce() -> O,
 >(rt: &R, alloc: Global, booth: Booth, panel: &Panel, work: F) -> Result<O, AllocError>
-    requires work { F.pre work tt }
+    requires work { F.pre work }
 {
     thread::scope(
         thread::scope_env(),
         rt,
         |scope|
-            requires work { F.pre work tt }
+            requires work { F.pre work }
         {
             let Ok(teller) = scope.spawn(move || tell_figures(rt, alloc, booth, panel)) else {
                 return Err(AllocError);
