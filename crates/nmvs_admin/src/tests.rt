@@ -53,10 +53,8 @@ fn what_is_said_goes_to_the_side_of_the_line(rt: HostRuntime) -> Result<(), Fail
     let mut exchange = Exchange::new(rt.alloc());
     exchange.say(b"LISTENING 7161\n")?;
     let said = exchange.end();
-    assert_eq!(rt;
-        (said.side, said.text.as_slice()),
-        (Side::Standard, b"LISTENING 7161\n".as_slice())
-    );
+    assert_eq!(rt; said.side, Side::Standard);
+    assert_eq!(rt; said.text.as_slice(), b"LISTENING 7161\n".as_slice());
     let mut line = PendingLine::new();
     line.extend(b"STOP");
     exchange.begin(Side::Connection(3), line, b"\n");
@@ -70,10 +68,8 @@ fn what_is_said_goes_to_the_side_of_the_line(rt: HostRuntime) -> Result<(), Fail
     exchange.say(b"DO")?;
     exchange.say(b"NE\n")?;
     let said = exchange.end();
-    assert_eq!(rt;
-        (said.side, said.text.as_slice()),
-        (Side::Connection(3), b"DONE\n".as_slice())
-    );
+    assert_eq!(rt; said.side, Side::Connection(3));
+    assert_eq!(rt; said.text.as_slice(), b"DONE\n".as_slice());
     assert!(rt;
         said.line
             .is_some_and(|line| line.as_slice() == b"STOP".as_slice())

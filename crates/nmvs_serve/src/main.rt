@@ -1,7 +1,7 @@
 //! The program of the repository.
 #![tactic(auto)]
 
-ghost use Rattle.std.specs.Prelude.{IfOk};
+ghost use Rattle.std.specs.Prelude.{IfOk, ◌≡◌, false};
 ghost use Rattle.nmvs_operator.specs.Options.{AreInRange};
 
 mod helped;
@@ -55,11 +55,9 @@ fn main(rt: HostRuntime) -> ExitCode {
 }
 
 /// The rehearsal over standard input. On a terminal it greets, and tells at `HELP` what may be asked.
-fn rehearse<W: Sink>(
-    rt: &HostRuntime,
-    alloc: Global,
-    output: &mut W,
-) -> Result<(), Fault<'static>> {
+fn rehearse<W: Sink>(rt: &HostRuntime, alloc: Global, output: &mut W) -> Result<(), Fault<'static>>
+    requires sound { (W.taken output.old).failed ≡ false }
+{
     if !(rt.stdin().is_terminal() && rt.stdout().is_terminal()) {
         return serve_rehearsal(alloc, &mut Device::new(rt.stdin()), output);
     }
