@@ -1,7 +1,8 @@
 """What a server tells on standard error, without what only says how it goes: for tools that compare it."""
 import re
 
-EVENT = re.compile(r"\d{4}-\d\d-\d\dT\d\d:\d\d:\d\d\.\d{3}Z (ERROR|WARN |INFO |DEBUG) (.*)")
+# A clock that gives no moment is told as a dash.
+EVENT = re.compile(r"(?:\d{4}-\d\d-\d\dT\d\d:\d\d:\d\d\.\d{3}Z|-) (ERROR|WARN |INFO |DEBUG) (.*)")
 # For tools that read standard error at the end alone: a load of alerts would fill the pipe.
 QUIET = ("--log-level", "warn")
 
