@@ -43,7 +43,7 @@ pub record TakesMoment (old : Rehearsal) (moment : ℕ) (new : Rehearsal) : Type
 
 -- a question of a user in some capacity, put at a moment
 abbrev pub put_at : ℕ → Name → Actor → Question → Put
-put_at moment user actor question = record { moment = moment; user = user; actor = actor; question = question }
+put_at moment user actor question = record { moment = moment; user = user; actor = actor; question = question; tag = None }
 
 -- the question is answered by the rules on the trail, with the entries that they show, in the capacity that the roster gives
 -- its user, and the trail grows by that entry

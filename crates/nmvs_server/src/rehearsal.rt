@@ -120,6 +120,7 @@ impl<'a> RehearsalDesk<'a> {
             user: *user,
             actor,
             question: *question,
+            tag: None,
         };
         let Ok(Answered { reply, shown }) = self.shard.step(&put) else {
             return Answer::Turned(Turn::Memory);
