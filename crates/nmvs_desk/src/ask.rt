@@ -1,13 +1,13 @@
 //! Those who ask, and what they are answered.
-ghost use Rattle.std.specs.Prelude.{◌≡◌, ◌≢◌, ◌<◌, ◌⊎◌, ℕ, [], ◌∷◌, ◌++◌, Some, IfOk, IfErr, OnErr, slice_get};
+ghost use Rattle.std.specs.Prelude.{◌≡◌, ◌≢◌, ◌<◌, ◌⊎◌, ℕ, [], ◌∷◌, ◌++◌, Some, None, IfOk, IfErr, OnErr, slice_get};
 ghost use mathlib.Core.List.{IsPrefix};
 ghost use Rattle.nmvs_directory.specs.Window.{Reads};
 ghost use Rattle.nmvs_directory.specs.declared.look.Look.TheVariants.{Known};
+ghost use Rattle.nmvs_rules.specs.declared.put.Put.{Put as APut};
 ghost use Rattle.nmvs_rules.specs.Entries.{AreEntries};
 ghost use Rattle.nmvs_rules.specs.Questions.{code_of};
 ghost use Rattle.nmvs_rules.specs.Rules.{IsLawful};
 ghost use Rattle.nmvs_desk.specs.declared.ask.Receipt.{Receipt};
-ghost use Rattle.nmvs_rules.specs.declared.put.Put.{Put as APut};
 ghost use Rattle.nmvs_desk.specs.Answers.{Answers, IsAnswered, IsShown, OwnsOneMore, TurnedAway};
 ghost use Rattle.nmvs_desk.specs.Clerks.{IsClerk};
 ghost use Rattle.nmvs_desk.specs.Opening.{AreNew};
@@ -187,6 +187,7 @@ impl<'a, J: Naming, H: Histories, B: Allocator> Clerk<'a, J, H, B> {
             let put = s.receipt.entry.put in
             (put.moment ≡ moment) × (put.user ≡ user.now) × (put.question ≡ question.now)
             × Reads self.old.seen self.new.seen user.now (Known put.actor)) }
+        ensures untagged { IfOk result (λ s. s.receipt.entry.put.tag ≡ None) }
         ensures answered { IfOk result (λ s.
             let shard = s.receipt.shard in
             IsAnswered repository.now.shards (row self.old.sights shard) (row self.new.sights shard) s.receipt s.shown.items) }
@@ -245,6 +246,7 @@ impl<'a, J: Naming, H: Histories, B: Allocator> Clerk<'a, J, H, B> {
         put: &Put,
     ) -> Result<Outcome<'a, B>, AllocError>
         ensures answers { IfOk result (Answers repository.now.shards put.now self.old self.new) }
+        ensures seen { self.new.seen ≡ self.old.seen }
         ensures unchanged { OnErr result (self.new ≡ self.old) }
     {
         self.receipts.reserve(1)?;
