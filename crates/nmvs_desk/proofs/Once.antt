@@ -10,6 +10,7 @@ use Rattle.nmvs_rules.specs.declared.reply.Reply.{Reply}
 use Rattle.nmvs_rules.specs.declared.repeat.Repeat.TheVariants as repeat
 use Rattle.nmvs_rules.specs.Questions.{code_of}
 use Rattle.nmvs_rules.specs.Repeats.{repeat_of}
+use Rattle.nmvs_rules.specs.Rules.{shown_of}
 use Rattle.nmvs_rules.proofs.RepeatLaws.{repeated}
 use Rattle.nmvs_desk.specs.declared.ask.Receipt.{Receipt}
 use Rattle.nmvs_desk.specs.Answers.{IsServed, Looks, IsRepeated, Sees, Receives}
@@ -37,6 +38,18 @@ stands_for t put place reply is =
       at = λ d. get_or_from_slice_get t place again.entry d again.stands;
       stands = again.stands;
       same = again.same;
+    }
+
+-- it is what answers the question again
+pub repeated_by : (t : List Entry) (put : Put) (place : ℕ) (reply : Reply) (index : ℕ) (e : Entry) (shown : List Entry) → repeat_of t put ≡ repeat.Same place reply
+    → e ≡ get_or t place e → shown ≡ shown_of (take place t) put → IsRepeated put t (record { shard = index; place = place; entry = e }) shown
+repeated_by t put place reply index e shown is at shows =
+    let there = stands_for t put place reply is in
+    let same : there.entry ≡ e = sym (at ∙ there.at e) in
+    record {
+      repeat = is ∙ ap (repeat.Same place) (there.same ∙ ap (λ (x : Entry). x.reply) same);
+      stands = there.stands ∙ ap Some same;
+      shows = shows;
     }
 
 -- what a clause sees of a clerk

@@ -246,6 +246,7 @@ impl<'a, J: Naming, H: Histories, B: Allocator> Clerk<'a, J, H, B> {
         put: &Put,
     ) -> Result<Outcome<'a, B>, AllocError>
         ensures answers { IfOk result (Answers repository.now.shards put.now self.old self.new) }
+        ensures seen { self.new.seen ≡ self.old.seen }
         ensures unchanged { OnErr result (self.new ≡ self.old) }
     {
         self.receipts.reserve(1)?;
