@@ -1,5 +1,8 @@
-"""A terminal in 40 lines: it puts lines to the repository and reads their replies."""
+"""Terminals: one session, and sessions one after another in which a line is sent again until its reply has come."""
+import random
+import secrets
 import socket
+import time
 
 
 class Terminal:
@@ -25,10 +28,11 @@ class Terminal:
 
     def reply(self):
         reply = [self.read()]
-        word, _, number = reply[0].partition(" ")
+        tag = reply[0].partition(" ")[0] + " " if reply[0].startswith("#") else ""
+        word, _, number = reply[0].removeprefix(tag).partition(" ")
         if word == "SHOWN":
             reply += [self.read() for _ in range(int(number))]
-        while word == "PRODUCT" and reply[-1] != "END":
+        while word == "PRODUCT" and reply[-1] != tag + "END":
             reply.append(self.read())
         return reply
 
@@ -41,3 +45,38 @@ class Terminal:
     def close(self):
         self.replies.close()
         self.connection.close()
+
+
+class TaggedTerminal:
+    """Sessions one after another, each of which the function connects. Each line gets a tag of its own."""
+
+    def __init__(self, connect):
+        self.connect, self.session = connect, None
+
+    def ask(self, line, patience=60):
+        """The lines of the reply to this one, without its tag. Where none comes, the line is sent again with the same tag, over
+        a new connection, after a pause that grows. ConnectionError: none came for so many seconds."""
+        tag, until, pause = f"#{secrets.token_hex(8)} ", time.monotonic() + patience, 1
+        while True:
+            try:
+                reply = self.ask_once(tag + line)
+                if reply[0].startswith(tag):
+                    return [text.removeprefix(tag) for text in reply]
+                fault = reply[0]
+            except OSError as failed:
+                fault = failed
+            self.close()
+            if time.monotonic() + pause > until:
+                raise ConnectionError(f"no reply: {fault}")
+            time.sleep(pause * random.uniform(0.8, 1.2))
+            pause = min(2 * pause, 60)
+
+    def ask_once(self, line):
+        if self.session is None:
+            self.session = self.connect()
+        return self.session.ask(line)
+
+    def close(self):
+        if self.session is not None:
+            self.session.close()
+        self.session = None

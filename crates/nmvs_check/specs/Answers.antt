@@ -1,6 +1,7 @@
 -- What is told of an export (own).
-use Rattle.std.specs.Prelude.{ℕ, List, [], ◌∷◌, ◌++◌, length, filter, codes, decimal, fold, if◌then◌else◌}
-use Rattle.std.specs.List.{flat_map, list_any}
+use Rattle.std.specs.Prelude.{ℕ, List, [], ◌∷◌, ◌++◌, ◌-◌, ◌==◌, length, filter, codes, decimal, fold, if◌then◌else◌}
+use Rattle.std.specs.List.{count_by, flat_map, list_any}
+use Rattle.std.specs.Option.{is_some}
 use Rattle.nmvs_identifier.specs.Texts.{same_text}
 use Rattle.nmvs_identifier.specs.ProductCode.{ProductCode}
 use Rattle.nmvs_identifier.specs.declared.pack.Pack.{Pack}
@@ -29,10 +30,19 @@ with_code seen c = if list_any (same_text c) seen then seen else seen ++ c ∷ [
 abbrev pub codes_named : List Entry → List ProductCode
 codes_named t = fold (λ seen e. with_code seen (code_of e.put.question)) [] t
 
+-- how many entries have a tag: their lines are of version 3
+abbrev pub tagged_of : List Entry → ℕ
+tagged_of t = count_by (λ e. is_some e.put.tag) t
+
+-- the line that tells of version 3, where there are such lines
+abbrev pub third_text : ℕ → List ℕ
+third_text n = if n == 0 then [] else codes "VERSION 3 " ++ (decimal n ++ codes "\n")
+
 -- how many lines there are, and how many of them in each version
 abbrev pub counts_text : Imported → List ℕ
 counts_text it =
-    codes "LAWFUL " ++ (decimal (length it.trail) ++ (codes "\nVERSION 1 " ++ (decimal it.older ++ (codes "\nVERSION 2 " ++ (decimal (newer it) ++ codes "\n")))))
+    let tagged = tagged_of it.trail in
+    codes "LAWFUL " ++ (decimal (length it.trail) ++ (codes "\nVERSION 1 " ++ (decimal it.older ++ (codes "\nVERSION 2 " ++ (decimal (newer it - tagged) ++ (codes "\n" ++ third_text tagged))))))
 
 -- these counts, and a line for each product code
 abbrev pub summary_text : Imported → List ℕ

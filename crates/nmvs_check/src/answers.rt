@@ -13,7 +13,7 @@ use nmvs_inspect::{
 };
 use nmvs_protocol::reply_text;
 use nmvs_record::{Importer, product_line, report};
-use nmvs_rules::Reply;
+use nmvs_rules::{Entry, Reply};
 use nmvs_shard::{HashKey, Shard};
 use nmvs_stream::{Sink, deliver};
 use std::alloc::{AllocError, Global};
@@ -66,9 +66,35 @@ fn summary(alloc: Global, importer: &Importer<Shard<Global>>) -> Result<String, 
 fn counts_text(alloc: Global, importer: &Importer<Shard<Global>>) -> Result<String, AllocError>
     ensures { IfOk result (λ text. string_bytes text ≡ answers.counts_text importer.now) }
 {
-    let lines = importer.shard().trail().len();
-    let (older, newer) = (importer.older(), importer.newer());
-    format!(in alloc; "LAWFUL {lines}\nVERSION 1 {older}\nVERSION 2 {newer}\n")
+    let trail = importer.shard().trail();
+    let (lines, older) = (trail.len(), importer.older());
+    let tagged = tagged_of(trail);
+    let newer = importer.newer().saturating_sub(tagged);
+    let third = third_text(alloc, tagged)?;
+    format!(in alloc; "LAWFUL {lines}\nVERSION 1 {older}\nVERSION 2 {newer}\n{third}")
+}
+
+/// The line that tells of version 3, where there are such lines.
+fn third_text(alloc: Global, tagged: usize) -> Result<String, AllocError>
+    ensures { IfOk result (λ text. string_bytes text ≡ answers.third_text tagged) }
+{
+    if tagged == 0 {
+        return Ok(String::new(alloc));
+    }
+    format!(in alloc; "VERSION 3 {tagged}\n")
+}
+
+/// How many entries have a tag.
+fn tagged_of(trail: &[Entry]) -> usize
+    ensures { result ≡ answers.tagged_of trail.now }
+{
+    let mut count = 0;
+    for entry in trail {
+        if entry.put.tag.is_some() {
+            count += 1;
+        }
+    }
+    count
 }
 
 /// The product codes that the entries name, in order of first appearance.

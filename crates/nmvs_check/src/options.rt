@@ -55,7 +55,7 @@ const STATUS: &str =
     error, and 2 where the command line is refused. Nothing is told of an export that is not lawful. Of a compressed \
     export: gunzip -c export.gz | nmvs-check list -";
 
-const VERSION: &str = "1 (reads entry lines of versions 1 and 2)";
+const VERSION: &str = "1 (reads entry lines of versions 1 to 3)";
 
 const REPORT: &str = "Tells the reports of product codes, in order of first appearance";
 

@@ -64,14 +64,15 @@ fn a_lawful_export_is_summed_up(rt: HostRuntime) -> Result<(), Fail> {
 
 #[test]
 fn product_codes_come_in_order_of_first_appearance(rt: HostRuntime) -> Result<(), Fail> {
-    let alert = r#"["VERIFY","04012345678901","SN1"],["ALERT","UNKNOWN","FLAGGED",1]]"#;
-    let line = format!(in rt.alloc();
-        "[1767225600,\"ph1\",\"PHARMACY\",\"PH-1\",\"P1\",{alert}\n{EXPORT}"
-    )?;
-    let text = told(rt.alloc(), &line, &Request::Summary)?;
+    let first =
+        r#"[1767225600,"ph1","PHARMACY","PH-1","P1",["VERIFY","04012345678901","SN1"],["ALERT","UNKNOWN","FLAGGED",1]]"#;
+    let third =
+        r#"[3,1767225600,"ph1","PHARMACY","PH-1","P1",["VERIFY","04012345678901","SN1"],["ALERT","UNKNOWN","FLAGGED",2],"a17"]"#;
+    let lines = format!(in rt.alloc(); "{first}\n{third}\n{EXPORT}")?;
+    let text = told(rt.alloc(), &lines, &Request::Summary)?;
     assert_eq!(rt;
         text.as_str(),
-        "LAWFUL 7\nVERSION 1 1\nVERSION 2 6\nPRODUCT 04012345678901 HOLDER - ALERTS 1 FLAGGED 1\n\
+        "LAWFUL 8\nVERSION 1 1\nVERSION 2 6\nVERSION 3 1\nPRODUCT 04012345678901 HOLDER - ALERTS 2 FLAGGED 2\n\
         PRODUCT 09506000134352 HOLDER MAH-1 ALERTS 1 FLAGGED 0\n"
     );
     Ok(())
@@ -122,7 +123,7 @@ fn what_is_wrong_with_a_line_is_told(rt: HostRuntime) -> Result<(), Fail> {
         ),
         (
             "[2,1767225600,\"au1\"",
-            "[3,1767225600,\"au1\"",
+            "[4,1767225600,\"au1\"",
             "line 6 is no entry line: an unknown version",
         ),
         (

@@ -5,7 +5,7 @@ use Rattle.nmvs_identifier.specs.Name.{Name}
 use Rattle.nmvs_protocol.specs.declared.ask.Ask.{Ask}
 use Rattle.nmvs_protocol.specs.declared.ask.Line.{Line}
 use Rattle.nmvs_protocol.specs.declared.ask.Line.TheVariants as asked
-use Rattle.nmvs_protocol.specs.declared.ask.LineFault.{LineFault}
+use Rattle.nmvs_protocol.specs.declared.ask.Unread.{Unread}
 use Rattle.nmvs_protocol.specs.declared.answer.Answer.{Answer}
 use Rattle.nmvs_protocol.specs.declared.answer.Turn.{Turn}
 use Rattle.nmvs_protocol.specs.declared.end.End.{End}
@@ -75,12 +75,12 @@ seat_later takes tells peer old new withheld withheld' after a b c k s = record 
 }
 
 -- a line that a desk for one peer takes is one that the desk beneath it takes of that peer
-answers_beneath : {D : Type 0} (takes : D → Ask → Withheld → D → Type 0) (tells : D → Name → Result Name Turn → D → Type 0) (old new : OwnDesk D) (reading : Result Line LineFault) (w : Withheld)
+answers_beneath : {D : Type 0} (takes : D → Ask → Withheld → D → Type 0) (tells : D → Name → Result Name Turn → D → Type 0) (old new : OwnDesk D) (reading : Result Line Unread) (w : Withheld)
     → Answers (λ (o : OwnDesk D) (ask : Ask) (w : Withheld) (n : OwnDesk D). (n.peer ≡ o.peer) × TakesOf takes tells o.peer o.desk ask w n.desk) old reading w new
     → (new.peer ≡ old.peer) × Answers (TakesOf takes tells old.peer) old.desk reading w new.desk
-answers_beneath takes tells old new (Ok (asked.Ask ask)) w a = (a.0, a.1)
+answers_beneath takes tells old new (Ok (asked.Ask ask)) w a = (a.1.0, (a.0, a.1.1, a.2))
 answers_beneath {D} takes tells old new (Ok asked.Quit) w a = (ap (λ (o : OwnDesk D). o.peer) a.1, (a.0, ap (λ (o : OwnDesk D). o.desk) a.1))
-answers_beneath {D} takes tells old new (Err fault) w a = (ap (λ (o : OwnDesk D). o.peer) a.1, (a.0, ap (λ (o : OwnDesk D). o.desk) a.1))
+answers_beneath {D} takes tells old new (Err unread) w a = (ap (λ (o : OwnDesk D). o.peer) a.1, (a.0, ap (λ (o : OwnDesk D). o.desk) a.1))
 
 pub lines_beneath : {D : Type 0} (takes : D → Ask → Withheld → D → Type 0) (tells : D → Name → Result Name Turn → D → Type 0) (peer : Peer) (old new : OwnDesk D) (xs : List (List ℕ)) (held : List Withheld) → old.peer ≡ peer
     → TakesLines (λ (o : OwnDesk D) (ask : Ask) (w : Withheld) (n : OwnDesk D). (n.peer ≡ o.peer) × TakesOf takes tells o.peer o.desk ask w n.desk) old xs held new

@@ -2,7 +2,7 @@ use crate::Dialogue;
 use crate::greeting::{Greeting, read_greeting};
 use nmvs_identifier::Name;
 use nmvs_protocol::{
-    Answer, Ask, Desk, End, NameOf, Peer, Released, Turn, Withheld, WithheldAnswers,
+    Ask, Content, Desk, End, NameOf, Peer, Released, Turn, Withheld, WithheldAnswers,
 };
 use std::alloc::Global;
 use std::test::*;
@@ -23,7 +23,7 @@ impl<'a> Desk<'a> for Stranger {
     ghost moves = { Stays };
 
     fn take(&mut self, _ask: &Ask) -> Withheld<'a> {
-        Withheld::new(Answer::Turned(Turn::Nobody))
+        Withheld::new(Content::Turned(Turn::Nobody))
     }
 
     fn release<'h>(&mut self, withheld: &'h mut WithheldAnswers<'a>) -> (Released<'h, 'a>, ()) {

@@ -1,5 +1,5 @@
 -- What an answer tells.
-use Rattle.std.specs.Prelude.{ℕ, ◌≡◌, ◌≢◌, List, [], ◌∷◌, ◌++◌, length}
+use Rattle.std.specs.Prelude.{ℕ, ◌≡◌, ◌≢◌, List, [], ◌∷◌, ◌++◌, Some, length, take, slice_get}
 use mathlib.Core.List.{IsPrefix}
 use Rattle.nmvs_history.specs.Views.{TokenView}
 use Rattle.nmvs_identifier.specs.Name.{Name}
@@ -10,13 +10,18 @@ use Rattle.nmvs_rules.specs.declared.actor.Actor.{Actor}
 use Rattle.nmvs_rules.specs.declared.entry.Entry.{Entry}
 use Rattle.nmvs_rules.specs.declared.put.Put.{Put}
 use Rattle.nmvs_rules.specs.Entries.{AreEntries}
+use Rattle.nmvs_rules.specs.declared.repeat.Repeat.TheVariants as repeat
+use Rattle.nmvs_rules.specs.Repeats.{repeat_of}
 use Rattle.nmvs_rules.specs.Rules.{reply_of, shown_of, answered, IsLawful}
 use Rattle.nmvs_desk.specs.declared.faults.AskFault.{AskFault}
 use Rattle.nmvs_desk.specs.declared.faults.AskFault.TheVariants as fault
 use Rattle.nmvs_desk.specs.declared.ask.Receipt.{Receipt}
-use Rattle.nmvs_desk.specs.Placing.{IsPlaced}
+use Rattle.nmvs_desk.specs.declared.ask.Outcome.{Outcome}
+use Rattle.nmvs_desk.specs.declared.ask.Outcome.TheVariants as outcome
+use Rattle.nmvs_rules.specs.Questions.{code_of}
+use Rattle.nmvs_desk.specs.Placing.{shard_of, IsPlaced}
 use Rattle.nmvs_desk.specs.Settlement.{row}
-use Rattle.nmvs_desk.specs.Views.{LockedView}
+use Rattle.nmvs_desk.specs.Views.{LockedView, ClerkView}
 
 -- what a question that is put does to a locked shard and to the token by which it is put: its entry is the next one, with
 -- the reply of the rules, and the entries are shown that the rules show; what the token had seen begins the trail, whose
@@ -71,6 +76,56 @@ pub record IsShown (count index : ℕ) (before after : List Entry) : Type 0 wher
   pub lawful : IsLawful after
   pub in_range : AreEntries after
   pub placed : IsPlaced count index after
+
+-- the token has seen more of the shard of this number, and nothing else of it changes
+pub record Looks (count index : ℕ) (was now : TokenView) : Type 0 where
+  pub shown : IsShown count index was.seen now.seen
+  pub token : now ≡ record was { seen = now.seen }
+
+-- a question that is asked again is answered by an earlier entry: it stands at the receipt's place in what was seen of the
+-- shard, and these entries are shown that were shown with it
+pub record IsRepeated (put : Put) (seen : List Entry) (r : Receipt) (shown : List Entry) : Type 0 where
+  pub repeat : repeat_of seen put ≡ repeat.Same r.place r.entry.reply
+  pub stands : slice_get seen r.place ≡ Some r.entry
+  pub shows : shown ≡ shown_of (take r.place seen) put
+
+-- what becomes of a question with a tag in the shard of this number, and of the token by which it is asked: it is put only
+-- where it is new on the trail before its entry; else the token sees the trail, on which it repeats an entry or not
+abbrev pub Becomes : {B : Type 0} → ℕ → ℕ → Put → TokenView → TokenView → Outcome B → Type 0
+Becomes count index put was now (outcome.New s) =
+    IsServed count index put was now s.receipt s.shown.items × (repeat_of (take s.receipt.place now.seen) put ≡ repeat.New)
+Becomes count index put was now (outcome.Again s) =
+    Looks count index was now × (s.receipt.shard ≡ index) × IsRepeated put now.seen s.receipt s.shown.items
+Becomes count index put was now outcome.Other = Looks count index was now × (repeat_of now.seen put ≡ repeat.Other)
+
+-- the clerk has seen more of the shard of this number, and nothing else of it changes
+pub record Sees (count index : ℕ) (old new : ClerkView) : Type 0 where
+  pub shown : IsShown count index (row old.sights index) (row new.sights index)
+  pub others : (i : ℕ) → i ≢ index → row new.sights i ≡ row old.sights i
+  pub same : new ≡ record old { sights = new.sights }
+
+-- the clerk has a receipt more, of a question that was put
+pub record Receives (count : ℕ) (put : Put) (old new : ClerkView) (r : Receipt) (shown : List Entry) : Type 0 where
+  pub kept : new.receipts ≡ old.receipts ++ r ∷ []
+  pub seen : new.seen ≡ old.seen
+  pub shard : r.shard ≡ shard_of count (code_of put.question)
+  pub asked : r.entry.put ≡ put
+  pub answered : IsAnswered count (row old.sights r.shard) (row new.sights r.shard) r shown
+  pub owned : OwnsOneMore old.places new.places r
+  pub others : (i : ℕ) → i ≢ r.shard → row new.sights i ≡ row old.sights i
+
+-- what a clerk is answered to a question with a tag: it is put only where it is new on the trail before its entry; else there is
+-- no receipt more, and it repeats an entry of what the clerk has then seen of the shard, or not
+abbrev pub Answers : {B : Type 0} → ℕ → Put → ClerkView → ClerkView → Outcome B → Type 0
+Answers count put old new (outcome.New s) =
+    Receives count put old new s.receipt s.shown.items
+    × (repeat_of (take s.receipt.place (row new.sights s.receipt.shard)) put ≡ repeat.New)
+Answers count put old new (outcome.Again s) =
+    (s.receipt.shard ≡ shard_of count (code_of put.question)) × Sees count s.receipt.shard old new
+    × IsRepeated put (row new.sights s.receipt.shard) s.receipt s.shown.items
+Answers count put old new outcome.Other =
+    let index = shard_of count (code_of put.question) in
+    Sees count index old new × (repeat_of (row new.sights index) put ≡ repeat.Other)
 
 -- by the answer of the directory a question by this user was not put; or it is for want of memory, and the directory
 -- knows the user

@@ -1,13 +1,14 @@
 //! Those who ask, and what they are answered.
-ghost use Rattle.std.specs.Prelude.{◌≡◌, ◌≢◌, ◌<◌, ◌⊎◌, ℕ, [], ◌∷◌, ◌++◌, Some, IfOk, IfErr, OnErr, slice_get};
+ghost use Rattle.std.specs.Prelude.{◌≡◌, ◌≢◌, ◌<◌, ◌⊎◌, ℕ, [], ◌∷◌, ◌++◌, Some, None, IfOk, IfErr, OnErr, slice_get};
 ghost use mathlib.Core.List.{IsPrefix};
 ghost use Rattle.nmvs_directory.specs.Window.{Reads};
 ghost use Rattle.nmvs_directory.specs.declared.look.Look.TheVariants.{Known};
+ghost use Rattle.nmvs_rules.specs.declared.put.Put.{Put as APut};
 ghost use Rattle.nmvs_rules.specs.Entries.{AreEntries};
 ghost use Rattle.nmvs_rules.specs.Questions.{code_of};
 ghost use Rattle.nmvs_rules.specs.Rules.{IsLawful};
 ghost use Rattle.nmvs_desk.specs.declared.ask.Receipt.{Receipt};
-ghost use Rattle.nmvs_desk.specs.Answers.{IsAnswered, IsShown, OwnsOneMore, TurnedAway};
+ghost use Rattle.nmvs_desk.specs.Answers.{Answers, IsAnswered, IsShown, OwnsOneMore, TurnedAway};
 ghost use Rattle.nmvs_desk.specs.Clerks.{IsClerk};
 ghost use Rattle.nmvs_desk.specs.Opening.{AreNew};
 ghost use Rattle.nmvs_desk.specs.Placing.{shard_of, IsPlaced};
@@ -17,7 +18,7 @@ ghost use Rattle.nmvs_desk.specs.Views.{places_of, sights_of};
 use crate::{AskFault, Holder, Reader, Repository};
 use nmvs_directory::{Look, Naming, Notice, Window};
 use nmvs_history::{Histories, Token};
-use nmvs_identifier::{Moment, Name};
+use nmvs_identifier::{Moment, Name, Tag};
 use nmvs_rules::{Actor, Entry, Put, Question};
 use nmvs_shard::Shard;
 use std::alloc::{AllocError, Allocator, Global};
@@ -39,6 +40,18 @@ pub struct Receipt {
 pub struct Served<'a, B: Allocator = Global> {
     pub receipt: Receipt,
     pub shown: Vec<Entry, &'a B>,
+}
+
+/// What became of a question with a tag.
+#[derive(Drop)]
+pub enum Outcome<'a, B: Allocator = Global> {
+    /// It was put, and the receipt is kept.
+    New(Served<'a, B>),
+    /// It was asked before: the receipt is of the entry that it repeats and is not kept, and the entries that were shown then
+    /// are shown again.
+    Again(Served<'a, B>),
+    /// Its user asked something else with the tag.
+    Other,
 }
 
 /// One who asks a repository, by a window on the directory and a token of each shard, and keeps a receipt for each answer
@@ -174,6 +187,7 @@ impl<'a, J: Naming, H: Histories, B: Allocator> Clerk<'a, J, H, B> {
             let put = s.receipt.entry.put in
             (put.moment ≡ moment) × (put.user ≡ user.now) × (put.question ≡ question.now)
             × Reads self.old.seen self.new.seen user.now (Known put.actor)) }
+        ensures untagged { IfOk result (λ s. s.receipt.entry.put.tag ≡ None) }
         ensures answered { IfOk result (λ s.
             let shard = s.receipt.shard in
             IsAnswered repository.now.shards (row self.old.sights shard) (row self.new.sights shard) s.receipt s.shown.items) }
@@ -188,9 +202,63 @@ impl<'a, J: Naming, H: Histories, B: Allocator> Clerk<'a, J, H, B> {
             user: *user,
             actor,
             question: *question,
+            tag: None,
         };
         let served = self.put(rt, repository, &put)?;
         Ok(served)
+    }
+
+    /// As `ask`, for a question with a tag, by which it may have been asked before. Whether it was is looked for in the same
+    /// hold of its shard: so of those who ask it one puts it.
+    pub fn ask_once<R: Wait>(
+        &mut self,
+        rt: &R,
+        repository: &Repository<'a, H, B>,
+        moment: Moment,
+        user: &Name,
+        question: &Question,
+        tag: Tag,
+    ) -> Result<Outcome<'a, B>, AskFault>
+        ensures answers { IfOk result (λ outcome. (put : APut)
+            × (put.moment ≡ moment) × (put.user ≡ user.now) × (put.question ≡ question.now) × (put.tag ≡ Some tag)
+            × Reads self.old.seen self.new.seen user.now (Known put.actor)
+            × Answers repository.now.shards put (record self.old { seen = self.new.seen }) self.new outcome) }
+        ensures unchanged { OnErr result (self.new ≡ record self.old { seen = self.new.seen }) }
+        ensures turned_away { IfErr result (TurnedAway self.old.seen self.new.seen user.now) }
+    {
+        let actor = self.actor_of(user)?;
+        let put = Put {
+            moment,
+            user: *user,
+            actor,
+            question: *question,
+            tag: Some(tag),
+        };
+        let outcome = self.put_once(rt, repository, &put)?;
+        Ok(outcome)
+    }
+
+    /// Puts a question with a tag in the capacity that it names, where it was not asked before.
+    fn put_once<R: Wait>(
+        &mut self,
+        rt: &R,
+        repository: &Repository<'a, H, B>,
+        put: &Put,
+    ) -> Result<Outcome<'a, B>, AllocError>
+        ensures answers { IfOk result (Answers repository.now.shards put.now self.old self.new) }
+        ensures seen { self.new.seen ≡ self.old.seen }
+        ensures unchanged { OnErr result (self.new ≡ self.old) }
+    {
+        self.receipts.reserve(1)?;
+        let shard = repository.shard_of(&put.question.code());
+        match repository.ask_once(rt, shard, &mut self.tokens[shard], put)? {
+            Outcome::New(served) => {
+                self.receipts.push_reserved(served.receipt);
+                Ok(Outcome::New(served))
+            }
+            Outcome::Again(served) => Ok(Outcome::Again(served)),
+            Outcome::Other => Ok(Outcome::Other),
+        }
     }
 
     /// Puts a question in the capacity that it names.

@@ -26,7 +26,7 @@ mod settling;
 #[cfg(test)]
 mod tests;
 
-pub use ask::{Clerk, Receipt, Served};
+pub use ask::{Clerk, Outcome, Receipt, Served};
 pub use faults::{AskFault, OpenFault};
 pub use holder::Holder;
 pub use lock::Reader;

@@ -4,6 +4,7 @@ mod asking;
 mod crew;
 mod market;
 mod memory;
+mod once;
 mod opening;
 mod settling;
 mod threads;

@@ -6,7 +6,7 @@ use crate::kinds::{
 };
 use crate::syncs::{BOUNDS, bucket_of, buckets};
 use crate::{Answered, Counted, Figures, JournalFigures, Numbered};
-use nmvs_protocol::{Answer, Ask, Basis, Released};
+use nmvs_protocol::{Content, Released};
 use nmvs_rules::{Question, Reply};
 use nmvs_words::{QuestionKind, cause_word, refusal_word};
 use std::alloc::{AllocError, Global};
@@ -207,29 +207,29 @@ pub struct Tally<'p> {
 }
 
 impl<'p> Tally<'p> {
-    /// Counts an answer of the desk, and its entry where it left one: that is what a question's answer rests on.
-    pub fn note_answer(&self, ask: &Ask, answer: &Answer<'_>, basis: Option<Basis>) {
-        match (ask, answer) {
-            (Ask::Question(_, question), Answer::Replied(reply, _)) => {
-                self.note_reply(question, reply);
-                if let Some(Basis { shard, .. }) = basis {
-                    self.panel.entries.add(shard, 1);
-                    if matches!(reply, Reply::Uploaded) {
-                        self.panel.packs.add(shard, 1);
-                    }
-                }
-            }
-            (Ask::Report(..), Answer::Reported(_)) => self.add(Row::Single, REPORTS),
-            _ => {}
+    /// Counts a question that was put, its reply, and its entry in this shard.
+    pub fn note_put(&self, shard: usize, question: &Question, reply: &Reply) {
+        self.note_reply(question, reply);
+        self.panel.entries.add(shard, 1);
+        if matches!(reply, Reply::Uploaded) {
+            self.panel.packs.add(shard, 1);
         }
+    }
+
+    /// Counts a report.
+    pub fn note_report(&self) {
+        self.add(Row::Single, REPORTS);
     }
 
     /// Counts the faults among answers that are told.
     pub fn note_told(&self, released: &Released<'_, '_>) {
         for place in 0..released.len() {
-            match released.answer(place) {
-                Some(Answer::Turned(turn)) => self.note_fault(Fault::Turned(*turn)),
-                Some(Answer::Unread(fault)) => self.note_fault(Fault::Unread(*fault)),
+            let Some(answer) = released.answer(place) else {
+                return;
+            };
+            match &answer.content {
+                Content::Turned(turn) => self.note_fault(Fault::Turned(*turn)),
+                Content::Unread(fault) => self.note_fault(Fault::Unread(*fault)),
                 _ => {}
             }
         }

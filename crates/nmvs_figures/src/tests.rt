@@ -4,10 +4,9 @@ use crate::{
 };
 use http_server::{Config, Connection, serve};
 use nmvs_protocol::{
-    Answer, Ask, Basis, Desk, Entries, Line, Released, Session, Turn, Withheld, WithheldAnswers,
-    read_line,
+    Ask, Asked, Content, Desk, Line, Released, Session, Turn, Withheld, WithheldAnswers, read_line,
 };
-use nmvs_rules::{Cause, Refusal, Reply};
+use nmvs_rules::{Cause, Question, Refusal, Reply};
 use nmvs_words::{PackQuestion, QuestionKind, ReplyKind};
 use std::alloc::{AllocError, Global};
 use std::hash::RandomState;
@@ -151,20 +150,25 @@ fn has_line(alloc: Global, panel: &Panel, line: &str) -> bool {
     }
 }
 
-/// What a line asks.
-fn ask(line: &str) -> Option<Ask> {
+/// The question that a line puts.
+fn question(line: &str) -> Option<Question> {
     match read_line(line.as_bytes()) {
-        Ok(Line::Ask(ask)) => Some(ask),
+        Ok(
+            Line::Ask(
+                Ask {
+                    asked: Asked::Question(_, question),
+                    ..
+                },
+            ),
+        ) => Some(question),
         _ => None,
     }
 }
 
 /// Counts that this line, whose entry is in shard 1, had this reply.
-fn note(alloc: Global, panel: &Panel, line: &str, reply: Reply) {
-    if let Some(ask) = ask(line) {
-        let answer = Answer::Replied(reply, Entries::new(Vec::new(&alloc)));
-        let basis = Some(Basis { shard: 1, place: 0 });
-        panel.tally(1).note_answer(&ask, &answer, basis);
+fn note(panel: &Panel, line: &str, reply: Reply) {
+    if let Some(question) = question(line) {
+        panel.tally(1).note_put(1, &question, &reply);
     }
 }
 
@@ -187,8 +191,9 @@ fn each_question_is_counted_in_its_place(rt: HostRuntime) {
         ),
         ("mah1 RECALL 09506000134352 B1", Reply::LockedNow(3)),
     ] {
-        note(rt.alloc(), &panel, line, reply);
+        note(&panel, line, reply);
     }
+    panel.tally(0).note_report();
     for line in [
         "nmvs_questions_total{question=\"UPLOAD\",reply=\"UPLOADED\"} 1",
         "nmvs_questions_total{question=\"VERIFY\",reply=\"ALERT\"} 1",
@@ -198,6 +203,7 @@ fn each_question_is_counted_in_its_place(rt: HostRuntime) {
         "nmvs_alerts_flagged_total{cause=\"STOLEN\"} 1",
         "nmvs_alerts_flagged_total{cause=\"DESTROYED\"} 0",
         "nmvs_refusals_total{refusal=\"NOT_HELD\"} 1",
+        "nmvs_reports_total 1",
         "nmvs_entries{shard=\"1\"} 12",
         "nmvs_entries{shard=\"0\"} 0",
         "nmvs_packs{shard=\"1\"} 3",
@@ -229,6 +235,7 @@ fn each_fault_is_counted_by_its_word(rt: HostRuntime) {
         "nmvs_faults_total{fault=\"IDLE\"} 1",
         "nmvs_faults_total{fault=\"BUSY\"} 1",
         "nmvs_faults_total{fault=\"JOURNAL\"} 0",
+        "nmvs_faults_total{fault=\"TAG\"} 0",
     ] {
         assert!(rt; has_line(rt.alloc(), &panel, line), "{line}");
     }
@@ -337,7 +344,7 @@ impl<'a> Desk<'a> for Stranger {
     ghost moves = { Stays };
 
     fn take(&mut self, _ask: &Ask) -> Withheld<'a> {
-        Withheld::new(Answer::Turned(Turn::Nobody))
+        Withheld::new(Content::Turned(Turn::Nobody))
     }
 
     fn release<'h>(&mut self, withheld: &'h mut WithheldAnswers<'a>) -> (Released<'h, 'a>, ()) {

@@ -5,5 +5,6 @@ pub mod Batch
 pub mod ProductCode
 pub mod Expiry
 pub mod Name
+pub mod Tag
 pub mod Moment
 pub mod Pack

@@ -1,38 +1,45 @@
 -- What is kept of a line is enough to judge it.
-use Rattle.std.proofs.Common.{◌≡◌, ◌<◌, ◌+◌, ◌++◌, ◌∷◌, ◌==◌, [], true, List, ℕ, length, take, min, Some, Result, Ok, Err, refl, sym, ap, ◌∙◌, subst, inl, inr, arith}
+use Rattle.std.proofs.Common.{◌≡◌, ◌<◌, ◌+◌, ◌++◌, ◌∷◌, ◌==◌, [], true, List, ℕ, length, take, min, Option, Some, None, Result, Ok, Err, refl, sym, ap, ◌∙◌, subst, inl, inr, arith}
 use Rattle.std.proofs.lemmas.List.{take_at, take_all, take_min, take-append-le, length-take, length-take-le}
 use Rattle.std.proofs.Math.Seq.{take-append-add}
 use Rattle.std.proofs.lemmas.Bool.{lt-ltb, cases_lt, ne_eqb}
 use Rattle.nmvs_protocol.specs.declared.ask.Line.{Line}
-use Rattle.nmvs_protocol.specs.declared.ask.LineFault.{LineFault}
+use Rattle.nmvs_protocol.specs.declared.ask.Unread.{Unread}
 use Rattle.nmvs_protocol.specs.declared.ask.LineFault.TheVariants as faults
 use Rattle.nmvs_protocol.specs.declared.command.Command.{Command}
 use Rattle.nmvs_protocol.specs.declared.command.CommandFault.{CommandFault}
 use Rattle.nmvs_protocol.specs.declared.command.CommandFault.TheVariants as commands
 use Rattle.nmvs_protocol.specs.Commands.{first_command_fault, ReadsCommand}
-use Rattle.nmvs_protocol.specs.Lines.{first_fault, ReadsLine}
+use Rattle.nmvs_protocol.specs.Lines.{fault_behind, first_fault, ReadsLine}
+use Rattle.nmvs_protocol.specs.Tags.{tag_of}
+use Rattle.nmvs_protocol.proofs.TagLemmas.{tag_kept}
+use Rattle.nmvs_identifier.specs.Tag.{Tag}
 use Rattle.nmvs_protocol.specs.Progress.{kept_part}
+
+long_behind : (g : Option Tag) (x : List ℕ) → 200 < length x → fault_behind g x ≡ Some faults.Long
+long_behind None x long = rw (lt-ltb 200 (length x) long) refl
+long_behind (Some g) x long = rw (lt-ltb 200 (length x) long) refl
 
 long_fault : (x : List ℕ) → 200 < length x → first_fault x ≡ Some faults.Long
 unfolding first_fault
-long_fault x long = rw (lt-ltb 200 (length x) long) refl
+long_fault x long = long_behind (tag_of x) x long
 
-long_reads : (x y : List ℕ) (r : Result Line LineFault) → 200 < length x → 200 < length y → ReadsLine x r → ReadsLine y r
-long_reads x y (Ok l) lx ly h = let e = long_fault x lx in let no = h.1 in absurd (cc (e, no))
-long_reads x y (Err fault) lx ly h = long_fault y ly ∙ sym (long_fault x lx) ∙ h
+long_reads : (x y : List ℕ) (r : Result Line Unread) → 200 < length x → 200 < length y → tag_of x ≡ tag_of y → ReadsLine x r → ReadsLine y r
+long_reads x y (Ok l) lx ly same h = let e = long_fault x lx in let no = h.1 in absurd (cc (e, no))
+long_reads x y (Err unread) lx ly same h = (long_fault y ly ∙ sym (long_fault x lx) ∙ h.0, h.1 ∙ same)
 
 -- what is kept of a line is read as the line is
-pub kept_reads : (x : List ℕ) (r : Result Line LineFault) → ReadsLine (kept_part x) r → ReadsLine x r
+pub kept_reads : (x : List ℕ) (r : Result Line Unread) → ReadsLine (kept_part x) r → ReadsLine x r
 kept_reads x r h = elim (cases_lt 201 (length x)) [
   | inr short ↦ subst (λ (t : List ℕ). ReadsLine t r) (take_all 201 x short) h
-  | inl long ↦ let n = length-take-le 201 x (omega arith) in long_reads (kept_part x) x r (omega arith) (omega arith) h
+  | inl long ↦ let n = length-take-le 201 x (omega arith) in long_reads (kept_part x) x r (omega arith) (omega arith) (tag_kept x) h
 ]
 
 -- and the other way round
-pub reads_kept : (x : List ℕ) (r : Result Line LineFault) → ReadsLine x r → ReadsLine (kept_part x) r
+pub reads_kept : (x : List ℕ) (r : Result Line Unread) → ReadsLine x r → ReadsLine (kept_part x) r
 reads_kept x r h = elim (cases_lt 201 (length x)) [
   | inr short ↦ subst (λ (t : List ℕ). ReadsLine t r) (sym (take_all 201 x short)) h
-  | inl long ↦ let n = length-take-le 201 x (omega arith) in long_reads x (kept_part x) r (omega arith) (omega arith) h
+  | inl long ↦ let n = length-take-le 201 x (omega arith) in long_reads x (kept_part x) r (omega arith) (omega arith) (sym (tag_kept x)) h
 ]
 
 long_command_fault : (x : List ℕ) → 200 < length x → first_command_fault x ≡ Some commands.Long

@@ -4,6 +4,7 @@ pub mod QuitLines
 pub mod SessionTelling
 pub mod SessionSteps
 pub mod PlainLemmas
+pub mod TagLemmas
 pub mod SpellingLemmas
 pub mod QuestionLemmas
 pub mod CommandLemmas

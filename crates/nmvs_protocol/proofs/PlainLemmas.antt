@@ -13,13 +13,13 @@ use Rattle.nmvs_protocol.specs.Fields.{is_printable, is_space, is_empty, fields_
 not_space : (b : ℕ) → is_plain b ≡ true → is_space b ≡ false
 not_space b e = grind (arith, nat_tests)
 
-plain_printable : (b : ℕ) → is_plain b ≡ true → is_printable b ≡ true
+pub plain_printable : (b : ℕ) → is_plain b ≡ true → is_printable b ≡ true
 plain_printable b e = grind (arith, nat_tests)
 
 not_empty : (n : ℕ) → 1 ≤ n → (n == 0) ≡ false
 not_empty n some = grind (arith, nat_tests)
 
-no_space : (t : List ℕ) → list_all is_plain t ≡ true → AllByRecursion (λ b. is_space b ≡ false) t
+pub no_space : (t : List ℕ) → list_all is_plain t ≡ true → AllByRecursion (λ b. is_space b ≡ false) t
 no_space [] e = tt
 no_space (b ∷ bs) e = let parts = and_parts (is_plain b) (list_all is_plain bs) e in (not_space b parts.0, no_space bs parts.1)
 
@@ -54,12 +54,13 @@ length-line_of_fields (f ∷ g ∷ fs) plain =
     let whole = length-append f (32 ∷ line_of_fields (g ∷ fs)) in
     omega (arith, short, rest, whole)
 
-not_long : (n : ℕ) → n ≤ LONGEST_LINE → nat_lt LONGEST_LINE n ≡ false
+pub not_long : (n : ℕ) → n ≤ LONGEST_LINE → nat_lt LONGEST_LINE n ≡ false
 not_long n short = grind (arith, nat_tests)
 
 -- a line of one to nine plain fields is short, printable, and has these fields, none of them empty
 pub record IsPlainLine (fs : List (List ℕ)) : Type 0 where
   pub short : length (line_of_fields fs) ≤ LONGEST_LINE
+  pub bound : length (line_of_fields fs) ≤ 21 * length fs
   pub printable : list_all is_printable (line_of_fields fs) ≡ true
   pub fields : fields_in (line_of_fields fs) ≡ fs
   pub filled : list_any is_empty (fields_in (line_of_fields fs)) ≡ false
@@ -71,6 +72,7 @@ plain_line fs some few plain =
     let bound = length-line_of_fields fs plain in
     record {
       short = omega (arith, few, bound);
+      bound = bound;
       printable = printable-line_of_fields fs plain;
       fields = own;
       filled = ap (list_any is_empty) own ∙ none_empty fs plain;

@@ -1,20 +1,26 @@
 -- How answers that were withheld are released together and told: gathered, broken off, and handed on.
-use Rattle.std.proofs.Common.{◌≡◌, ◌≢◌, not, ◌||◌, if◌then◌else◌, ◌+◌, ◌-◌, ℕ, Bool, true, false, List, [], ◌∷◌, ◌++◌, All, IsTrue, Option, Some, None, length, map, refl, sym, ap, ◌∙◌, subst, inl, inr, arith}
-use Rattle.std.proofs.lemmas.List.{flat_map_more, append-nil, append_assoc}
+use Rattle.std.proofs.Common.{◌≡◌, ◌≢◌, not, ◌||◌, if◌then◌else◌, ◌+◌, ℕ, Bool, true, false, List, [], ◌∷◌, ◌++◌, All, IsTrue, Option, Some, None, Result, Ok, Err, length, take, map, refl, sym, ap, ◌∙◌, subst, inl, inr, arith}
+use Rattle.std.proofs.lemmas.List.{flat_map_more, append-nil, append_assoc, length-append, take_at}
 use Rattle.std.proofs.lemmas.List.Elements.{All-append, All-cons, All-nil, All-tail}
 use Rattle.std.proofs.lemmas.Grind.{flat_map-append}
 use Rattle.nmvs_stream.specs.Sink.{Taken, Flushes, FailsToTake}
-use Rattle.nmvs_stream.specs.Delivery.{DeliversPart}
+use Rattle.std.specs.Prelude.{OnOk, OnErr}
+use Rattle.std.specs.List.{flat_map}
+use Rattle.nmvs_stream.specs.Delivery.{Writes, DeliversPart}
+use Rattle.nmvs_stream.specs.InputLines.{HasNoLf, lines_after, rest_after}
+use Rattle.nmvs_stream.proofs.LinesOfPieces.{lines_after-append, rest_after-append, no_line, line_cut, left_cut}
 use Rattle.nmvs_protocol.specs.declared.ask.Line.TheVariants as lines
+use Rattle.nmvs_identifier.specs.Tag.{Tag}
 use Rattle.nmvs_protocol.specs.declared.answer.Answer.{Answer}
-use Rattle.nmvs_protocol.specs.declared.answer.Answer.TheVariants as answers
+use Rattle.nmvs_protocol.specs.declared.answer.Content.TheVariants as contents
 use Rattle.nmvs_protocol.specs.declared.answer.Turn.TheVariants as turns
 use Rattle.nmvs_protocol.specs.declared.withheld.Withheld.{Withheld}
 use Rattle.nmvs_protocol.specs.declared.end.End.{End}
 use Rattle.nmvs_protocol.specs.declared.end.End.TheVariants as ends
 use Rattle.nmvs_protocol.specs.Lines.{line_text}
-use Rattle.nmvs_protocol.specs.Texts.{text, takes_memory}
-use Rattle.nmvs_protocol.specs.Session.{answer_of, is_kept, is_of_repository, told_where, AreReleased, StaysOrTurns, NoQuit, NoQuitBeforeLast, session_text}
+use Rattle.nmvs_protocol.specs.Texts.{content_text, lines_behind, tagged_text, text, takes_memory}
+use Rattle.nmvs_protocol.specs.Tags.{tag_text}
+use Rattle.nmvs_protocol.specs.Session.{answer_of, is_kept, is_of_repository, told_where, turned, AreReleased, StaysOrTurns, NoQuit, NoQuitBeforeLast, session_text}
 use Rattle.nmvs_protocol.specs.Progress.{AreShortButLast, Gathers, Delivered, Tells, TellsFirst, Stands, has_write_fault}
 
 -- one line more that is not QUIT
@@ -80,7 +86,7 @@ released_as releases more step (w ∷ withheld) [] r = absurd r
 pub told_stays : (kept : List ℕ) (w : Withheld) → StaysOrTurns w (told_where kept w)
 told_stays kept w = choose (is_kept kept w.basis) (is_of_repository w.answer) refl
   where
-    choose : (k r : Bool) → is_of_repository w.answer ≡ r → StaysOrTurns w (if k || not r then w.answer else answers.Turned turns.Journal)
+    choose : (k r : Bool) → is_of_repository w.answer ≡ r → StaysOrTurns w (if k || not r then w.answer else turned turns.Journal w.answer)
     choose true r e = inl refl
     choose false false e = inl refl
     choose false true e = inr (e, turns.Journal, refl)
@@ -93,37 +99,143 @@ none_after : (xs ys : List ℕ) → xs ++ ys ≡ [] → ys ≡ []
 none_after [] ys e = e
 none_after (x ∷ xs) ys e = absurd (cc e)
 
+-- a text after a text
+pub writes_more : (old mid new : Taken) (p q : List ℕ) → Writes old mid p → Writes mid new q → Writes old new (p ++ q)
+writes_more old mid new p q a b = record {
+  bytes = b.bytes ∙ ap (λ (t : List ℕ). t ++ q) a.bytes ∙ append_assoc old.bytes p q;
+  flushed = λ none. b.flushed (none_after p q none) ∙ a.flushed (none_before p q none);
+  failed = b.failed ∙ a.failed;
+}
+
+-- a failed write after a text
+pub part_more : (old mid new : Taken) (p q : List ℕ) → Writes old mid p → DeliversPart mid new q → DeliversPart old new (p ++ q)
+part_more old mid new p q a b = record {
+  written = p ++ b.written;
+  unwritten = b.unwritten;
+  cut = ap (λ (t : List ℕ). p ++ t) b.cut ∙ sym (append_assoc p b.written b.unwritten);
+  bytes = b.bytes ∙ ap (λ (t : List ℕ). t ++ b.written) a.bytes ∙ append_assoc old.bytes p b.written;
+  flushed = λ none. b.flushed (none_after p b.written none) ∙ a.flushed (none_before p b.written none);
+  failed = b.failed;
+}
+
+-- and of a text that goes on
+pub part_of : (old new : Taken) (p q : List ℕ) → DeliversPart old new p → DeliversPart old new (p ++ q)
+part_of old new p q t = record {
+  written = t.written;
+  unwritten = t.unwritten ++ q;
+  cut = ap (λ (u : List ℕ). u ++ q) t.cut ∙ append_assoc t.written t.unwritten q;
+  bytes = t.bytes;
+  flushed = t.flushed;
+  failed = t.failed;
+}
+
+-- what a call comes to that fails
+pub on_err : {T E P : Type 0} (r : Result T E) → P → OnErr r P
+on_err (Ok t) p = tt
+on_err (Err e) p = p
+
+-- what the second of two writes comes to
+pub both_ok : {T E : Type 0} (r : Result T E) (old mid new : Taken) (p q : List ℕ) → Writes old mid p → OnOk r (Writes mid new q) → OnOk r (Writes old new (p ++ q))
+both_ok (Ok t) old mid new p q a b = writes_more old mid new p q a b
+both_ok (Err e) old mid new p q a b = tt
+
+pub both_err : {T E : Type 0} (r : Result T E) (old mid new : Taken) (p q : List ℕ) → Writes old mid p → OnErr r (DeliversPart mid new q) → OnErr r (DeliversPart old new (p ++ q))
+both_err (Ok t) old mid new p q a b = tt
+both_err (Err e) old mid new p q a b = part_more old mid new p q a b
+
+-- the lines of a text that are written, each behind the same bytes: those of its first bytes, which end a line
+pub record LinesWritten (old now : Taken) (front text rest : List ℕ) : Type 0 where
+  pub before : List ℕ
+  pub whole : before ++ rest ≡ text
+  pub ended : rest_after [] before ≡ []
+  pub written : Writes old now (lines_behind front before)
+
+pub no_lines : (old : Taken) (front text : List ℕ) → LinesWritten old old front text text
+unfolding lines_after rest_after
+no_lines old front text = record {
+  before = [];
+  whole = refl;
+  ended = refl;
+  written = record { bytes = sym (append-nil old.bytes); flushed = λ none. refl; failed = refl };
+}
+
+-- the lines up to the end of one more
+more_lines : (front before line : List ℕ) → rest_after [] before ≡ [] → HasNoLf line
+    → (lines_behind front (before ++ (line ++ 10 ∷ [])) ≡ lines_behind front before ++ (front ++ (line ++ 10 ∷ []))) × (rest_after [] (before ++ (line ++ 10 ∷ [])) ≡ [])
+unfolding lines_after rest_after
+more_lines front before line ended none =
+    let tell : List ℕ → List ℕ = λ x. front ++ (x ++ 10 ∷ []) in
+    let cut : lines_after [] (before ++ (line ++ 10 ∷ [])) ≡ lines_after [] before ++ line ∷ [] =
+    lines_after-append [] before (line ++ 10 ∷ []) ∙ (λ i. lines_after [] before ++ lines_after (ended i) (line ++ 10 ∷ []))
+    ∙ ap (λ (t : List (List ℕ)). lines_after [] before ++ t) (line_cut [] line [] refl none) in (
+      ap (flat_map tell) cut ∙ flat_map-append tell (lines_after [] before) (line ∷ []) ∙ ap (λ (t : List ℕ). lines_behind front before ++ t) (append-nil (tell line)),
+      rest_after-append [] before (line ++ 10 ∷ []) ∙ (λ i. rest_after (ended i) (line ++ 10 ∷ [])) ∙ left_cut [] line [] refl none,
+    )
+
+behind_one : (before line behind rest text : List ℕ) → before ++ rest ≡ text → rest ≡ line ++ 10 ∷ behind → (before ++ (line ++ 10 ∷ [])) ++ behind ≡ text
+behind_one before line behind rest text whole cut =
+    append_assoc before (line ++ 10 ∷ []) behind ∙ ap (λ (t : List ℕ). before ++ t) (append_assoc line (10 ∷ []) behind ∙ sym cut) ∙ whole
+
+-- the bytes up to the end of a line
+pub first_line : (rest line behind : List ℕ) → rest ≡ line ++ 10 ∷ behind → take (length line + 1) rest ≡ line ++ 10 ∷ []
+first_line rest line behind cut =
+    ap (take (length line + 1)) (cut ∙ sym (append_assoc line (10 ∷ []) behind)) ∙ take_at (line ++ 10 ∷ []) behind (length line + 1) (omega (arith, length-append line (10 ∷ [])))
+
+pub line_written : (old now new : Taken) (front text rest line behind : List ℕ) → LinesWritten old now front text rest → rest ≡ line ++ 10 ∷ behind → HasNoLf line
+    → Writes now new (front ++ (line ++ 10 ∷ [])) → LinesWritten old new front text behind
+line_written old now new front text rest line behind l cut none w =
+    let more = more_lines front l.before line l.ended none in record {
+      before = l.before ++ (line ++ 10 ∷ []);
+      whole = behind_one l.before line behind rest text l.whole cut;
+      ended = more.1;
+      written = subst (λ (t : List ℕ). Writes old new t) (sym more.0) (writes_more old now new (lines_behind front l.before) (front ++ (line ++ 10 ∷ [])) l.written w);
+    }
+
+-- a write fails within one more
+pub line_broken : (old now new : Taken) (front text rest line behind : List ℕ) → LinesWritten old now front text rest → rest ≡ line ++ 10 ∷ behind → HasNoLf line
+    → DeliversPart now new (front ++ (line ++ 10 ∷ [])) → DeliversPart old new (lines_behind front text)
+line_broken old now new front text rest line behind l cut none w =
+    let tell : List ℕ → List ℕ = λ x. front ++ (x ++ 10 ∷ []) in
+    let more = more_lines front l.before line l.ended none in
+    let some = l.before ++ (line ++ 10 ∷ []) in
+    let all : lines_behind front some ++ flat_map tell (lines_after (rest_after [] some) behind) ≡ lines_behind front text =
+    sym (flat_map-append tell (lines_after [] some) (lines_after (rest_after [] some) behind))
+    ∙ ap (flat_map tell) (sym (lines_after-append [] some behind) ∙ ap (lines_after []) (behind_one l.before line behind rest text l.whole cut)) in
+    let part : DeliversPart old new (lines_behind front some) =
+    subst (λ (t : List ℕ). DeliversPart old new t) (sym more.0) (part_more old now new (lines_behind front l.before) (front ++ (line ++ 10 ∷ [])) l.written w) in
+    subst (λ (t : List ℕ). DeliversPart old new t) all (part_of old new (lines_behind front some) (flat_map tell (lines_after (rest_after [] some) behind)) part)
+
+-- what is left ends no line
+pub lines_written : (old now : Taken) (front text rest : List ℕ) → LinesWritten old now front text rest → HasNoLf rest → Writes old now (lines_behind front text)
+lines_written old now front text rest l none =
+    let tell : List ℕ → List ℕ = λ x. front ++ (x ++ 10 ∷ []) in
+    let all : lines_after [] text ≡ lines_after [] l.before =
+    ap (lines_after []) (sym l.whole) ∙ lines_after-append [] l.before rest
+    ∙ ap (λ (t : List (List ℕ)). lines_after [] l.before ++ t) (no_line (rest_after [] l.before) rest none).0 ∙ append-nil (lines_after [] l.before) in
+    subst (λ (t : List ℕ). Writes old now t) (sym (ap (flat_map tell) all)) l.written
+
+-- the lines of a report, each behind the tag
+pub reported_text : (a : Answer) (g : Tag) (t front content : List ℕ) → a.tag ≡ Some g → a.content ≡ contents.Reported t → front ≡ tag_text a.tag → content ≡ content_text a.content
+    → lines_behind front content ≡ text a
+unfolding text content_text
+reported_text a g t front content tag is f c = (λ i. lines_behind ((f ∙ ap tag_text tag) i) ((c ∙ ap content_text is) i)) ∙ sym (λ i. tagged_text (tag i) (is i))
+
 -- texts after texts
 pub gathers_more : (old mid new : Taken) (before more : List Answer) → Gathers old mid before → Gathers mid new more → Gathers old new (before ++ more)
 gathers_more old mid new before more a b =
-    let both = flat_map-append text before more in record {
-      bytes = b.bytes ∙ ap (λ (t : List ℕ). t ++ session_text more) a.bytes ∙ append_assoc old.bytes (session_text before) (session_text more) ∙ ap (λ (t : List ℕ). old.bytes ++ t) (sym both);
-      flushed = λ none. b.flushed (none_after (session_text before) (session_text more) (sym both ∙ none)) ∙ a.flushed (none_before (session_text before) (session_text more) (sym both ∙ none));
-      failed = b.failed ∙ a.failed;
-    }
+    subst (λ (t : List ℕ). Writes old new t) (sym (flat_map-append text before more)) (writes_more old mid new (session_text before) (session_text more) a b)
 
 -- a failed write after what was gathered
 breaks_after : (old mid new : Taken) (before more : List Answer) → Gathers old mid before → DeliversPart mid new (session_text more) → DeliversPart old new (session_text (before ++ more))
-breaks_after old mid new before more a b = record {
-  written = session_text before ++ b.written;
-  unwritten = b.unwritten;
-  cut = flat_map-append text before more ∙ ap (λ (t : List ℕ). session_text before ++ t) b.cut ∙ sym (append_assoc (session_text before) b.written b.unwritten);
-  bytes = b.bytes ∙ ap (λ (t : List ℕ). t ++ b.written) a.bytes ∙ append_assoc old.bytes (session_text before) b.written;
-  flushed = λ none. b.flushed (none_after (session_text before) b.written none) ∙ a.flushed (none_before (session_text before) b.written none);
-  failed = b.failed;
-}
+breaks_after old mid new before more a b =
+    subst (λ (t : List ℕ). DeliversPart old new t) (sym (flat_map-append text before more)) (part_more old mid new (session_text before) (session_text more) a b)
 
 -- writing breaks off at an answer, after those that were told, or there is no memory for its text
 pub tells_until : (end : End) (old mid new : Taken) (before : List Answer) (a : Answer) (later : List Answer) → Gathers old mid before
     → Tells (Some end) mid new (a ∷ []) → TellsFirst (Some end) old new (before ++ a ∷ later)
-tells_until ends.WriteFault old mid new before a later g t = breaks_after old mid new before (a ∷ later) g (record {
-  written = t.written;
-  unwritten = t.unwritten ++ session_text later;
-  cut = ap (λ (u : List ℕ). u ++ session_text later) (sym (append-nil (text a)) ∙ t.cut) ∙ append_assoc t.written t.unwritten (session_text later);
-  bytes = t.bytes;
-  flushed = t.flushed;
-  failed = t.failed;
-})
+tells_until ends.WriteFault old mid new before a later g t =
+    breaks_after old mid new before (a ∷ later) g
+    (part_of mid new (text a) (session_text later) (subst (λ (u : List ℕ). DeliversPart mid new u) (append-nil (text a)) t))
 tells_until ends.Memory old mid new before a later g t =
     let alone = one_left t.before t.last a (sym t.these) in record {
       before = before;

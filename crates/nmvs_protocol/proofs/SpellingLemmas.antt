@@ -1,12 +1,12 @@
 -- The text of a line is read, and is the text of no other.
-use Rattle.std.proofs.Common.{◌≡◌, ◌≢◌, ◌≤◌, ◌<◌, ◌==◌, ◌&&◌, not, ℕ, true, false, List, [], ◌∷◌, length, map, take, drop, get_or, codes, Bor, Option, Some, None, inl, inr, refl, sym, ap, ◌∙◌, lit≤, cond, arith, Result, Ok, Err}
+use Rattle.std.proofs.Common.{◌≡◌, ◌≢◌, ◌≤◌, ◌<◌, ◌==◌, ◌&&◌, not, ℕ, true, false, List, [], ◌∷◌, ◌++◌, length, map, take, drop, get_or, codes, Bor, Option, Some, None, inl, inr, refl, sym, ap, ◌∙◌, lit≤, cond, arith, Result, Ok, Err}
 use Rattle.std.specs.Prelude.{IfOk, IsTrue}
 use Rattle.std.specs.Result.{result_err}
 use Rattle.std.specs.List.{AllByRecursion}
 use Rattle.std.proofs.lemmas.Bool.{and_parts, ne_eqb, cases_lt, false_from_ne_true}
 use Rattle.std.proofs.lemmas.Slice.Eq.{bytes_eq-Decides}
 use Rattle.std.specs.Str.{bytes_eq}
-use Rattle.std.proofs.lemmas.List.{take_all, length-take}
+use Rattle.std.proofs.lemmas.List.{take_all, length-take, length-append, drop_at}
 use Rattle.std.proofs.lemmas.Bool.Decides.{nat_tests}
 use Rattle.nmvs_identifier.specs.Name.{Name, is_name}
 use Rattle.nmvs_identifier.specs.ProductCode.{ProductCode, is_product_code}
@@ -15,18 +15,23 @@ use Rattle.nmvs_words.specs.declared.question_kind.QuestionKind.{QuestionKind}
 use Rattle.nmvs_words.specs.declared.question_kind.QuestionKind.TheVariants.{Upload, OfPack, OfBatch}
 use Rattle.nmvs_words.specs.Kinds.{kind_of, kind_word, kind_named, texts_of}
 use Rattle.nmvs_words.proofs.WordLemmas.{kind_named-of_word, kind_word-one}
-use Rattle.nmvs_protocol.specs.declared.ask.Ask.{Ask}
-use Rattle.nmvs_protocol.specs.declared.ask.Ask.TheVariants as asks
+use Rattle.nmvs_protocol.specs.declared.ask.Asked.{Asked}
+use Rattle.nmvs_protocol.specs.declared.ask.Asked.TheVariants as asked
 use Rattle.nmvs_protocol.specs.declared.ask.Line.{Line}
 use Rattle.nmvs_protocol.specs.declared.ask.Line.TheVariants as lines
 use Rattle.nmvs_protocol.specs.declared.ask.LineFault.TheVariants as fault
 use Rattle.nmvs_protocol.specs.declared.ask.LineFault.{LineFault}
-use Rattle.nmvs_protocol.specs.Fields.{fields_in}
-use Rattle.nmvs_protocol.specs.Lines.{ask_fields, fields, line_text, report_word, Grammar, grammars, report_grammars, all_read, first_misread, texts_fault, question_fault, ask_fault, fields_fault, first_fault, is_ask, is_line, ReadsLine, OneReading, EachIsRead, OneSpelling, ShortLines}
+use Rattle.nmvs_protocol.specs.Fields.{fields_in, line_of_fields, line_fault}
+use Rattle.nmvs_protocol.specs.Tags.{tag_text, tag_of, behind_tag}
+use Rattle.nmvs_protocol.specs.declared.limits.TheConstants.{LONGEST_LINE}
+use Rattle.nmvs_identifier.specs.Tag.{Tag}
+use Rattle.nmvs_rules.specs.Entries.{is_tag_or_none}
+use Rattle.nmvs_protocol.specs.Lines.{asked_fields, line_tag, fields, line_text, report_word, Grammar, grammars, report_grammars, all_read, first_misread, texts_fault, question_fault, ask_fault, asked_fault, fields_fault, asked_line_fault, fault_behind, first_fault, is_asked, is_line, ReadsLine, ReadsUntagged, OneReading, EachIsRead, OneSpelling, ShortLines}
 use Rattle.nmvs_identifier.proofs.PlainTexts.{IsPlain, plain_name, plain_code, plain_serial, plain_batch, plain_expiry}
 use Rattle.nmvs_words.proofs.PlainWords.{word_plain}
 use Rattle.nmvs_protocol.proofs.QuestionLemmas.{written, same_question}
-use Rattle.nmvs_protocol.proofs.PlainLemmas.{IsPlainLine, plain_line, line_fault-plain}
+use Rattle.nmvs_protocol.proofs.PlainLemmas.{IsPlainLine, plain_line, not_long, line_fault-plain}
+use Rattle.nmvs_protocol.proofs.TagLemmas.{alphanumeric_name, no_tag, tag_back, tag_shown, behind_text}
 use Rattle.nmvs_protocol.proofs.FieldLemmas.{line_of_kept, one}
 
 -- each text that a grammar accepts is plain
@@ -67,62 +72,121 @@ plain_asked user word gs ts plain accepts few e =
     let count = all_read-length gs ts parts.1 in
     plain_line (user ∷ word ∷ ts) (omega arith) (omega (arith, count, few)) (plain_name user parts.0, (plain, all_read-plain gs ts accepts parts.1))
 
-plain_ask : (a : Ask) → is_ask a ≡ true → IsPlainLine (ask_fields a)
-plain_ask (asks.Question user q) e =
+plain_ask : (a : Asked) → is_asked a ≡ true → IsPlainLine (asked_fields a)
+plain_ask (asked.Question user q) e =
     let kind = kind_of q in
     plain_asked user.bytes (kind_word kind) (grammars kind) (texts_of q) (word_plain kind) (grammars_plain kind) (few_grammars kind) e
-plain_ask (asks.Report user c) e =
+plain_ask (asked.Report user c) e =
     plain_asked user.bytes report_word report_grammars (c.bytes ∷ []) (lit≤ tt, lit≤ tt, refl) (plain_code, tt) (lit≤ tt) e
 
 -- the text of a line is made of plain fields
 plain_text : (l : Line) → is_line l ≡ true → IsPlainLine (fields l)
-plain_text (lines.Ask a) e = plain_ask a e
+plain_text (lines.Ask a) e = plain_ask a.asked (and_parts (is_tag_or_none a.tag) (is_asked a.asked) e).1
 plain_text lines.Quit e = plain_line (fields lines.Quit) (lit≤ tt) (lit≤ tt) ((lit≤ tt, lit≤ tt, refl), tt)
+
+-- the fields of an ask are fewer than could be kept
+few_asked : (user : List ℕ) (gs : List Grammar) (ts : List (List ℕ)) → length gs ≤ 4 → (is_name user && all_read gs ts) ≡ true → length ts ≤ 4
+few_asked user gs ts few e =
+    let count = all_read-length gs ts (and_parts (is_name user) (all_read gs ts) e).1 in
+    omega (arith, count, few)
+
+few_asked_fields : (a : Asked) → is_asked a ≡ true → length (asked_fields a) < 7
+few_asked_fields (asked.Question user q) e =
+    let few = few_asked user.bytes (grammars (kind_of q)) (texts_of q) (few_grammars (kind_of q)) e in omega (arith, few)
+few_asked_fields (asked.Report user c) e = lit≤ tt
+
+few_fields : (l : Line) → is_line l ≡ true → length (fields l) < 7
+few_fields (lines.Ask a) e = few_asked_fields a.asked (and_parts (is_tag_or_none a.tag) (is_asked a.asked) e).1
+few_fields lines.Quit e = lit≤ tt
 
 -- the word of a report is that of no kind of question
 not_report : (kind : QuestionKind) → kind_word kind ≢ report_word
 not_report kind e = let own = kind_named-of_word kind in let same = ap kind_named e in absurd (cc (own, same))
 
-question_or_report : (user user' : Name) (q : Question) (c : ProductCode) → ask_fields (asks.Question user q) ≡ ask_fields (asks.Report user' c) → ⊥
+question_or_report : (user user' : Name) (q : Question) (c : ProductCode) → asked_fields (asked.Question user q) ≡ asked_fields (asked.Report user' c) → ⊥
 question_or_report user user' q c e = not_report (kind_of q) (ap (λ fs. get_or fs 1 []) e)
 
-ask_or_quit : (a : Ask) → ask_fields a ≡ fields lines.Quit → ⊥
-ask_or_quit (asks.Question user q) e = let empty = ap (λ fs. drop 1 fs) e in cc
-ask_or_quit (asks.Report user c) e = let empty = ap (λ fs. drop 1 fs) e in cc
+ask_or_quit : (a : Asked) → asked_fields a ≡ fields lines.Quit → ⊥
+ask_or_quit (asked.Question user q) e = let empty = ap (λ fs. drop 1 fs) e in cc
+ask_or_quit (asked.Report user c) e = let empty = ap (λ fs. drop 1 fs) e in cc
 
 -- different asks have different fields
-same_ask : (a b : Ask) → ask_fields a ≡ ask_fields b → a ≡ b
-same_ask (asks.Question user q) (asks.Question user' q') e =
+same_ask : (a b : Asked) → asked_fields a ≡ asked_fields b → a ≡ b
+same_ask (asked.Question user q) (asked.Question user' q') e =
     let name : user ≡ user' = ap (λ fs. written (get_or fs 0 [])) e in
-    let asked = same_question q q' (kind_word-one (kind_of q) (kind_of q') (ap (λ fs. get_or fs 1 []) e)) (ap (λ fs. drop 2 fs) e) in
-    λ i. asks.Question (name i) (asked i)
-same_ask (asks.Report user c) (asks.Report user' c') e =
+    let same = same_question q q' (kind_word-one (kind_of q) (kind_of q') (ap (λ fs. get_or fs 1 []) e)) (ap (λ fs. drop 2 fs) e) in
+    λ i. asked.Question (name i) (same i)
+same_ask (asked.Report user c) (asked.Report user' c') e =
     let name : user ≡ user' = ap (λ fs. written (get_or fs 0 [])) e in
     let code : c ≡ c' = ap (λ fs. written (get_or fs 2 [])) e in
-    λ i. asks.Report (name i) (code i)
-same_ask (asks.Question user q) (asks.Report user' c) e = absurd (question_or_report user user' q c e)
-same_ask (asks.Report user c) (asks.Question user' q) e = absurd (question_or_report user' user q c (sym e))
+    λ i. asked.Report (name i) (code i)
+same_ask (asked.Question user q) (asked.Report user' c) e = absurd (question_or_report user user' q c e)
+same_ask (asked.Report user c) (asked.Question user' q) e = absurd (question_or_report user' user q c (sym e))
 
-same_line : (l m : Line) → fields l ≡ fields m → l ≡ m
-same_line (lines.Ask a) (lines.Ask b) e = ap (λ (ask : Ask). lines.Ask ask) (same_ask a b e)
-same_line (lines.Ask a) lines.Quit e = absurd (ask_or_quit a e)
-same_line lines.Quit (lines.Ask a) e = absurd (ask_or_quit a (sym e))
-same_line lines.Quit lines.Quit e = refl
+same_line : (l m : Line) → line_tag l ≡ line_tag m → fields l ≡ fields m → l ≡ m
+same_line (lines.Ask a) (lines.Ask b) g e = let same = same_ask a.asked b.asked e in λ i. lines.Ask (record { tag = g i; asked = same i })
+same_line (lines.Ask a) lines.Quit g e = absurd (ask_or_quit a.asked e)
+same_line lines.Quit (lines.Ask a) g e = absurd (ask_or_quit a.asked (sym e))
+same_line lines.Quit lines.Quit g e = refl
+
+-- what begins with a name begins with no tag
+named_untagged : (user rest : List ℕ) → is_name user ≡ true → tag_of (user ++ rest) ≡ None
+named_untagged [] rest e = absurd (cc e)
+named_untagged (c ∷ cs) rest e = no_tag c (cs ++ rest) (alphanumeric_name c cs e)
+
+asked_untagged : (a : Asked) → is_asked a ≡ true → tag_of (line_of_fields (asked_fields a)) ≡ None
+asked_untagged (asked.Question user q) e =
+    named_untagged user.bytes (32 ∷ line_of_fields (kind_word (kind_of q) ∷ texts_of q)) (and_parts (is_name user.bytes) _ e).0
+asked_untagged (asked.Report user c) e = named_untagged user.bytes (32 ∷ line_of_fields (report_word ∷ c.bytes ∷ [])) (and_parts (is_name user.bytes) _ e).0
+
+ask_tag : (g : Option Tag) (a : Asked) → is_tag_or_none g ≡ true → is_asked a ≡ true → tag_of (tag_text g ++ line_of_fields (asked_fields a)) ≡ g
+ask_tag None a tag e = asked_untagged a e
+ask_tag (Some g) a tag e = tag_back g (line_of_fields (asked_fields a)) tag
+
+quit_untagged : tag_of (line_text lines.Quit) ≡ None
+unfolding tag_of
+quit_untagged = refl
+
+-- the text of a line begins with its tag
+pub text_tag : (l : Line) → is_line l ≡ true → tag_of (line_text l) ≡ line_tag l
+text_tag (lines.Ask a) e = let parts = and_parts (is_tag_or_none a.tag) (is_asked a.asked) e in ask_tag a.tag a.asked parts.0 parts.1
+text_tag lines.Quit e = quit_untagged
+
+behind : (l : Line) → drop (length (tag_text (line_tag l))) (line_text l) ≡ line_of_fields (fields l)
+behind l = drop_at (tag_text (line_tag l)) (line_of_fields (fields l)) (length (tag_text (line_tag l))) refl
 
 -- different lines have different texts
 pub one_spelling : OneSpelling
-one_spelling l m is_l is_m e = same_line l m (sym (plain_text l is_l).fields ∙ ap fields_in e ∙ (plain_text m is_m).fields)
+one_spelling l m is_l is_m e =
+    let tag : line_tag l ≡ line_tag m = sym (text_tag l is_l) ∙ ap tag_of e ∙ text_tag m is_m in
+    let rest : line_of_fields (fields l) ≡ line_of_fields (fields m) = sym (behind l) ∙ (λ i. drop (length (tag_text (tag i))) (e i)) ∙ behind m in
+    same_line l m tag (sym (plain_text l is_l).fields ∙ ap fields_in rest ∙ (plain_text m is_m).fields)
+
+short_tag : (g : Option Tag) → is_tag_or_none g ≡ true → length (tag_text g) ≤ 22
+short_tag None e = lit≤ tt
+short_tag (Some g) e = omega (arith, (plain_name g.bytes e).1, length-append g.bytes (32 ∷ []))
+
+line_has_tag : (l : Line) → is_line l ≡ true → is_tag_or_none (line_tag l) ≡ true
+line_has_tag (lines.Ask a) e = (and_parts (is_tag_or_none a.tag) (is_asked a.asked) e).0
+line_has_tag lines.Quit e = refl
 
 -- no line is too long
 pub short_lines : ShortLines
-short_lines l e = (plain_text l e).short
+short_lines l e =
+    let bound = (plain_text l e).bound in
+    let few = few_fields l e in
+    omega (arith, bound, few, short_tag (line_tag l) (line_has_tag l e), length-append (tag_text (line_tag l)) (line_of_fields (fields l)))
 
 -- a line is read in one way only
 pub one_reading : OneReading
 one_reading x (Ok l) (Ok m) r s = ap (λ (line : Line). Ok line) (one_spelling l m r.2 s.2 (sym r.0 ∙ s.0))
-one_reading x (Ok l) (Err f) r s = let no = r.1 in absurd (cc (no, s))
-one_reading x (Err f) (Ok l) r s = let no = s.1 in absurd (cc (no, r))
-one_reading x (Err f) (Err g) r s = let same : Some f ≡ Some g = sym r ∙ s in cc
+one_reading x (Ok l) (Err u) r s = let no = r.1 in absurd (cc (no, s.0))
+one_reading x (Err u) (Ok l) r s = let no = s.1 in absurd (cc (no, r.0))
+one_reading x (Err u) (Err v) r s =
+    let same : Some u.fault ≡ Some v.fault = sym r.0 ∙ s.0 in
+    let fault : u.fault ≡ v.fault = cc same in
+    let tag : u.tag ≡ v.tag = r.1 ∙ sym s.1 in
+    λ i. Err (record { tag = tag i; fault = fault i })
 
 -- fields in their grammars are not misread
 all_read-none : (gs : List Grammar) (ts : List (List ℕ)) → all_read gs ts ≡ true → first_misread gs ts ≡ None
@@ -158,44 +222,71 @@ ask_fault-question user word ts other =
     let no = no_report word other in λ i. cond (no i) (texts_fault report_grammars user ts) (question_fault user (kind_named word) ts)
 
 -- the fields of an ask have no fault
-ask_fault-none : (a : Ask) → is_ask a ≡ true → fields_fault (ask_fields a) ≡ None
-ask_fault-none (asks.Question user q) e =
+ask_fault-none : (a : Asked) → is_asked a ≡ true → asked_fault (asked_fields a) ≡ None
+ask_fault-none (asked.Question user q) e =
     let kind = kind_of q in
     ask_fault-question user.bytes (kind_word kind) (texts_of q) (not_report kind)
     ∙ ap (λ k. question_fault user.bytes k (texts_of q)) (kind_named-of_word kind)
     ∙ texts_fault-none (grammars kind) user.bytes (texts_of q) e
-ask_fault-none (asks.Report user c) e = texts_fault-none report_grammars user.bytes (c.bytes ∷ []) e
+ask_fault-none (asked.Report user c) e = texts_fault-none report_grammars user.bytes (c.bytes ∷ []) e
 
-fields_fault-none : (l : Line) → is_line l ≡ true → fields_fault (fields l) ≡ None
-fields_fault-none (lines.Ask a) e = ask_fault-none a e
-fields_fault-none lines.Quit e = refl
+-- nor have they as the fields of a line
+same_fault : (a : Asked) → fields_fault (asked_fields a) ≡ asked_fault (asked_fields a)
+same_fault (asked.Question user q) = refl
+same_fault (asked.Report user c) = refl
+
+-- what is asked has no fault behind its tag
+fault_behind-none : (g : Option Tag) (a : Asked) → is_tag_or_none g ≡ true → is_asked a ≡ true
+    → length (tag_text g ++ line_of_fields (asked_fields a)) ≤ LONGEST_LINE → fault_behind g (tag_text g ++ line_of_fields (asked_fields a)) ≡ None
+fault_behind-none None a tag e short =
+    line_fault-plain fault.Long fault.Bytes fault.Fields fields_fault (asked_fields a) (plain_ask a e) ∙ same_fault a ∙ ask_fault-none a e
+fault_behind-none (Some g) a tag e short =
+    let whole = tag_text (Some g) ++ line_of_fields (asked_fields a) in
+    let fits = not_long (length whole) short in
+    (λ i. cond (fits i) (Some fault.Long) (line_fault fault.Long fault.Bytes fault.Fields asked_fault (behind_text g (line_of_fields (asked_fields a)) i)))
+    ∙ line_fault-plain fault.Long fault.Bytes fault.Fields asked_fault (asked_fields a) (plain_ask a e) ∙ ask_fault-none a e
+
+line_fault-none : (l : Line) → is_line l ≡ true → fault_behind (line_tag l) (line_text l) ≡ None
+line_fault-none (lines.Ask a) e =
+    let parts = and_parts (is_tag_or_none a.tag) (is_asked a.asked) e in
+    fault_behind-none a.tag a.asked parts.0 parts.1 (short_lines (lines.Ask a) e)
+line_fault-none lines.Quit e = refl
 
 -- the text of a line has no fault
-first_fault-text : (l : Line) → is_line l ≡ true → first_fault (line_text l) ≡ None
+pub first_fault-text : (l : Line) → is_line l ≡ true → first_fault (line_text l) ≡ None
 unfolding first_fault
-first_fault-text l e = line_fault-plain fault.Long fault.Bytes fault.Fields fields_fault (fields l) (plain_text l e) ∙ fields_fault-none l e
+first_fault-text l e = ap (λ (g : Option Tag). fault_behind g (line_text l)) (text_tag l e) ∙ line_fault-none l e
 
 -- the text of a line is read as that line
 pub each_is_read : EachIsRead
 each_is_read l e = (refl, first_fault-text l e, e)
 
--- the fields of an ask are fewer than could be kept
-few_asked : (user : List ℕ) (gs : List Grammar) (ts : List (List ℕ)) → length gs ≤ 4 → (is_name user && all_read gs ts) ≡ true → length ts ≤ 4
-few_asked user gs ts few e =
-    let count = all_read-length gs ts (and_parts (is_name user) (all_read gs ts) e).1 in
-    omega (arith, count, few)
+-- a text without a tag whose fields are read as a line, or have this fault, is read so
+pub reads_fields : (x : List ℕ) (fs : List (List ℕ)) (r : Result Line LineFault) → fs ≡ take 7 (fields_in x) → IfOk r (λ l. line_tag l ≡ None)
+    → IfOk r (λ l. fields l ≡ fs) → IfOk r (λ l. IsTrue (is_line l)) → result_err r ≡ fault_behind None x → ReadsUntagged x r
+reads_fields x fs (Ok l) kept untagged same valid none = (
+  line_of_kept x (fields l) (sym (same ∙ kept)) (few_fields l valid) ∙ ap (λ (g : Option Tag). tag_text g ++ line_of_fields (fields l)) (sym untagged),
+  sym none,
+  valid,
+)
+reads_fields x fs (Err f) kept untagged same valid told = sym told
 
-few_fields : (l : Line) → is_line l ≡ true → length (fields l) < 7
-few_fields (lines.Ask (asks.Question user q)) e =
-    let few = few_asked user.bytes (grammars (kind_of q)) (texts_of q) (few_grammars (kind_of q)) e in omega (arith, few)
-few_fields (lines.Ask (asks.Report user c)) e = lit≤ tt
-few_fields lines.Quit e = lit≤ tt
+-- what is behind a tag is the text of what its fields are read as
+pub reads_asked : (x : List ℕ) (fs : List (List ℕ)) (r : Result Asked LineFault) → fs ≡ take 7 (fields_in x) → IfOk r (λ a. asked_fields a ≡ fs)
+    → IfOk r (λ a. IsTrue (is_asked a)) → IfOk r (λ a. x ≡ line_of_fields (asked_fields a))
+reads_asked x fs (Ok a) kept same valid = line_of_kept x (asked_fields a) (sym (same ∙ kept)) (few_asked_fields a valid)
+reads_asked x fs (Err f) kept same valid = tt
 
--- a text whose fields are read as a line, or have this fault, is read so
-pub reads_fields : (x : List ℕ) (fs : List (List ℕ)) (r : Result Line LineFault) → fs ≡ take 7 (fields_in x)
-    → IfOk r (λ l. fields l ≡ fs) → IfOk r (λ l. IsTrue (is_line l)) → result_err r ≡ first_fault x → ReadsLine x r
-reads_fields x fs (Ok l) kept same valid none = (line_of_kept x (fields l) (sym (same ∙ kept)) (few_fields l valid), sym none, valid)
-reads_fields x fs (Err f) kept same valid told = sym told
+-- a line is its tag and what is read behind it
+pub reads_tagged : (x : List ℕ) (g : Tag) (y : List ℕ) (a : Asked) → tag_of x ≡ Some g → y ≡ behind_tag g x → y ≡ line_of_fields (asked_fields a) → IsTrue (is_asked a)
+    → None ≡ asked_line_fault (length x) y → ReadsLine x (Ok (lines.Ask (record { tag = Some g; asked = a })))
+unfolding first_fault
+reads_tagged x g y a tag behind text valid fault =
+    let shown = tag_shown x g tag in (
+      shown.0 ∙ ap (λ (t : List ℕ). tag_text (Some g) ++ t) (sym behind ∙ text),
+      ap (λ (h : Option Tag). fault_behind h x) tag ∙ ap (asked_line_fault (length x)) (sym behind) ∙ sym fault,
+      λ i. shown.1 i && valid i,
+    )
 
 -- too many texts are too many, however many are kept
 wrong_count : (gs : List Grammar) (user : List ℕ) (ts : List (List ℕ)) → length ts ≢ length gs → texts_fault gs user ts ≡ Some fault.Fields
@@ -214,11 +305,16 @@ question_fault-take user None ts = refl
 question_fault-take user (Some kind) ts = texts_fault-take (grammars kind) user ts (few_grammars kind)
 
 -- what is kept of a line's fields tells their fault
+pub asked_fault-take : (fs : List (List ℕ)) → asked_fault (take 7 fs) ≡ asked_fault fs
+asked_fault-take [] = refl
+asked_fault-take (word ∷ []) = refl
+asked_fault-take (user ∷ word ∷ ts) =
+    λ i. cond (bytes_eq word report_word) (texts_fault-take report_grammars user ts (lit≤ tt) i) (question_fault-take user (kind_named word) ts i)
+
 pub fields_fault-take : (fs : List (List ℕ)) → fields_fault (take 7 fs) ≡ fields_fault fs
 fields_fault-take [] = refl
 fields_fault-take (word ∷ []) = refl
-fields_fault-take (user ∷ word ∷ ts) =
-    λ i. cond (bytes_eq word report_word) (texts_fault-take report_grammars user ts (lit≤ tt) i) (question_fault-take user (kind_named word) ts i)
+fields_fault-take (user ∷ word ∷ ts) = asked_fault-take (user ∷ word ∷ ts)
 
 -- no fault of a question whose texts are read
 pub no_question_fault : (user word : List ℕ) (kind : QuestionKind) (texts read : List (List ℕ)) → kind_named word ≡ Some kind → is_name user ≡ true → texts ≡ read
@@ -233,6 +329,12 @@ no_report_fault user ts a least most name code =
     let text = (get_or ts 0 a).now in
     sym (ap (texts_fault report_grammars user) (one ts a least most) ∙ texts_fault-whole report_grammars user (text ∷ []) refl name
     ∙ (λ i. cond (code i) None (Some fault.Code)))
+
+-- fewer than two fields ask nothing
+pub asked_fault-few : (fs : List (List ℕ)) → length fs < 2 → asked_fault fs ≡ Some fault.Fields
+asked_fault-few [] few = refl
+asked_fault-few (f ∷ []) few = refl
+asked_fault-few (f ∷ g ∷ fs) few = absurd (omega (arith, few))
 
 -- one field alone that is not QUIT
 pub not_quit_fault : (ts : List (Bor (List ℕ))) (a : Bor (List ℕ)) → 1 ≤ length ts → length ts < 2 → (get_or ts 0 a).now ≢ codes "QUIT"

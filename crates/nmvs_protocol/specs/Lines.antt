@@ -1,6 +1,7 @@
 -- The one text of each line, and the first fault of a line (own).
-use Rattle.std.specs.Prelude.{ℕ, Bool, true, false, List, [], ◌∷◌, length, ◌==◌, ◌&&◌, not, codes, Option, Some, None, Result, Ok, Err, if◌then◌else◌, ◌≡◌, ◌≤◌, IsTrue}
+use Rattle.std.specs.Prelude.{ℕ, Bool, true, false, List, [], ◌∷◌, ◌++◌, length, ◌==◌, ◌&&◌, not, nat_lt, codes, Option, Some, None, Result, Ok, Err, if◌then◌else◌, ◌≡◌, ◌≤◌, IsTrue}
 use Rattle.std.specs.Str.{bytes_eq}
+use Rattle.nmvs_identifier.specs.Tag.{Tag}
 use Rattle.nmvs_identifier.specs.Name.{is_name}
 use Rattle.nmvs_identifier.specs.ProductCode.{is_product_code}
 use Rattle.nmvs_identifier.specs.Serial.{is_serial}
@@ -9,32 +10,40 @@ use Rattle.nmvs_identifier.specs.Expiry.{is_expiry}
 use Rattle.nmvs_words.specs.declared.question_kind.QuestionKind.{QuestionKind}
 use Rattle.nmvs_words.specs.declared.question_kind.QuestionKind.TheVariants.{Upload, OfPack, OfBatch}
 use Rattle.nmvs_words.specs.Kinds.{kind_of, kind_word, kind_named, texts_of}
-use Rattle.nmvs_protocol.specs.declared.ask.Ask.{Ask}
-use Rattle.nmvs_protocol.specs.declared.ask.Ask.TheVariants as asks
+use Rattle.nmvs_rules.specs.Entries.{is_tag_or_none}
+use Rattle.nmvs_protocol.specs.declared.ask.Asked.{Asked}
+use Rattle.nmvs_protocol.specs.declared.ask.Asked.TheVariants as asked
 use Rattle.nmvs_protocol.specs.declared.ask.Line.{Line}
 use Rattle.nmvs_protocol.specs.declared.ask.Line.TheVariants as lines
 use Rattle.nmvs_protocol.specs.declared.ask.LineFault.{LineFault}
 use Rattle.nmvs_protocol.specs.declared.ask.LineFault.TheVariants as fault
+use Rattle.nmvs_protocol.specs.declared.ask.Unread.{Unread}
 use Rattle.nmvs_protocol.specs.declared.limits.TheConstants.{LONGEST_LINE}
 use Rattle.nmvs_protocol.specs.Fields.{line_of_fields, line_fault}
+use Rattle.nmvs_protocol.specs.Tags.{tag_text, tag_of, behind_tag}
 
 -- the word that asks for a report
 abbrev pub report_word : List ℕ
 report_word = codes "REPORT"
 
--- the fields of an ask: the user, the word of what is asked, and the texts of what it names
-abbrev pub ask_fields : Ask → List (List ℕ)
-ask_fields (asks.Question user q) = user.bytes ∷ kind_word (kind_of q) ∷ texts_of q
-ask_fields (asks.Report user c) = user.bytes ∷ report_word ∷ c.bytes ∷ []
+-- the fields of what is asked: the user, the word of it, and the texts of what it names
+abbrev pub asked_fields : Asked → List (List ℕ)
+asked_fields (asked.Question user q) = user.bytes ∷ kind_word (kind_of q) ∷ texts_of q
+asked_fields (asked.Report user c) = user.bytes ∷ report_word ∷ c.bytes ∷ []
 
--- the fields of a line
+-- the tag of a line, if it has one
+abbrev pub line_tag : Line → Option Tag
+line_tag (lines.Ask a) = a.tag
+line_tag lines.Quit = None
+
+-- the fields behind it
 abbrev pub fields : Line → List (List ℕ)
-fields (lines.Ask a) = ask_fields a
+fields (lines.Ask a) = asked_fields a.asked
 fields lines.Quit = codes "QUIT" ∷ []
 
 -- the text of a line, without LF
 abbrev pub line_text : Line → List ℕ
-line_text l = line_of_fields (fields l)
+line_text l = tag_text (line_tag l) ++ line_of_fields (fields l)
 
 -- a field's grammar, and the fault where a text is not in it
 abbrev pub Grammar : Type 0
@@ -78,15 +87,30 @@ ask_fault user word texts =
     if bytes_eq word report_word then texts_fault report_grammars user texts
     else question_fault user (kind_named word) texts
 
+-- the first fault of these fields, which ask something
+abbrev pub asked_fault : List (List ℕ) → Option LineFault
+asked_fault (user ∷ word ∷ texts) = ask_fault user word texts
+asked_fault _ = Some fault.Fields
+
 -- the first fault of these fields
 abbrev pub fields_fault : List (List ℕ) → Option LineFault
-fields_fault [] = Some fault.Fields
 fields_fault (word ∷ []) = if bytes_eq word (codes "QUIT") then None else Some fault.Fields
-fields_fault (user ∷ word ∷ texts) = ask_fault user word texts
+fields_fault fs = asked_fault fs
+
+-- the first fault of a line of so many bytes, of which these are behind its tag
+abbrev pub asked_line_fault : ℕ → List ℕ → Option LineFault
+asked_line_fault count behind =
+    if nat_lt LONGEST_LINE count then Some fault.Long
+    else line_fault fault.Long fault.Bytes fault.Fields asked_fault behind
+
+-- the first fault of a line with this tag, or with none
+abbrev pub fault_behind : Option Tag → List ℕ → Option LineFault
+fault_behind None x = line_fault fault.Long fault.Bytes fault.Fields fields_fault x
+fault_behind (Some g) x = asked_line_fault (length x) (behind_tag g x)
 
 -- the first fault of a line
 unfoldable pub first_fault : List ℕ → Option LineFault
-first_fault x = line_fault fault.Long fault.Bytes fault.Fields fields_fault x
+first_fault x = fault_behind (tag_of x) x
 
 -- whether each text is in the grammar that stands at its place
 abbrev pub all_read : List Grammar → List (List ℕ) → Bool
@@ -94,24 +118,29 @@ all_read [] [] = true
 all_read (g ∷ gs) (t ∷ ts) = g.0 t && all_read gs ts
 all_read _ _ = false
 
--- whether the texts of an ask are in their grammars
-abbrev pub is_ask : Ask → Bool
-is_ask (asks.Question user q) = is_name user.bytes && all_read (grammars (kind_of q)) (texts_of q)
-is_ask (asks.Report user c) = is_name user.bytes && all_read report_grammars (c.bytes ∷ [])
+-- whether the texts of what is asked are in their grammars
+abbrev pub is_asked : Asked → Bool
+is_asked (asked.Question user q) = is_name user.bytes && all_read (grammars (kind_of q)) (texts_of q)
+is_asked (asked.Report user c) = is_name user.bytes && all_read report_grammars (c.bytes ∷ [])
 
 -- whether the texts of a line are in their grammars
 abbrev pub is_line : Line → Bool
-is_line (lines.Ask a) = is_ask a
+is_line (lines.Ask a) = is_tag_or_none a.tag && is_asked a.asked
 is_line lines.Quit = true
 
--- a line is read as what it says where it is the text of that, else with its first fault
-abbrev pub ReadsLine : List ℕ → Result Line LineFault → Type 0
+-- a line that begins with no tag is read as what it says where it is the text of that, else with its first fault
+abbrev pub ReadsUntagged : List ℕ → Result Line LineFault → Type 0
+ReadsUntagged x (Ok l) = (x ≡ line_text l) × (fault_behind None x ≡ None) × IsTrue (is_line l)
+ReadsUntagged x (Err f) = fault_behind None x ≡ Some f
+
+-- a line is read as what it says where it is the text of that, else with its first fault and the tag that it begins with
+abbrev pub ReadsLine : List ℕ → Result Line Unread → Type 0
 ReadsLine x (Ok l) = (x ≡ line_text l) × (first_fault x ≡ None) × IsTrue (is_line l)
-ReadsLine x (Err f) = first_fault x ≡ Some f
+ReadsLine x (Err u) = (first_fault x ≡ Some u.fault) × (u.tag ≡ tag_of x)
 
 -- a line is read in one way only
 abbrev pub OneReading : Type 0
-OneReading = (x : List ℕ) (r s : Result Line LineFault) → ReadsLine x r → ReadsLine x s → r ≡ s
+OneReading = (x : List ℕ) (r s : Result Line Unread) → ReadsLine x r → ReadsLine x s → r ≡ s
 
 -- the text of each line is read as that line
 abbrev pub EachIsRead : Type 0

@@ -2,10 +2,11 @@
 use Rattle.std.specs.Prelude.{◌≡◌, ◌≢◌, ◌⊎◌, Result, Ok, Err}
 use Rattle.nmvs_identifier.specs.Name.{Name}
 use Rattle.nmvs_protocol.specs.declared.ask.Ask.{Ask}
-use Rattle.nmvs_protocol.specs.declared.ask.Ask.TheVariants as asks
+use Rattle.nmvs_protocol.specs.declared.ask.Asked.{Asked}
+use Rattle.nmvs_protocol.specs.declared.ask.Asked.TheVariants as asked
 use Rattle.nmvs_protocol.specs.declared.answer.Turn.{Turn}
 use Rattle.nmvs_protocol.specs.declared.answer.Turn.TheVariants as turns
-use Rattle.nmvs_protocol.specs.declared.answer.Answer.TheVariants as answers
+use Rattle.nmvs_protocol.specs.declared.answer.Content.TheVariants as contents
 use Rattle.nmvs_protocol.specs.declared.withheld.Withheld.{Withheld}
 use Rattle.nmvs_protocol.specs.declared.peer.Peer.{Peer}
 use Rattle.nmvs_protocol.specs.declared.peer.Peer.TheVariants as peers
@@ -18,14 +19,18 @@ abbrev pub peer_named : NameOf → Name → Peer
 peer_named names.User name = peers.User name
 peer_named names.Authorisation name = peers.Authorisation name
 
+-- the user that asks this
+abbrev pub asked_by : Asked → Name
+asked_by (asked.Question user question) = user
+asked_by (asked.Report user code) = user
+
 -- the user that asks
 abbrev pub user_of : Ask → Name
-user_of (asks.Question user question) = user
-user_of (asks.Report user code) = user
+user_of ask = asked_by ask.asked
 
 -- the line is turned away, and the desk is not asked
 abbrev pub TurnsAway : {D : Type 0} → D → Turn → Withheld → D → Type 0
-TurnsAway old turn withheld new = (withheld ≡ plain (answers.Turned turn)) × (new ≡ old)
+TurnsAway old turn withheld new = (withheld ≡ plain (contents.Turned turn)) × (new ≡ old)
 
 -- the name is the peer's own, and the desk answers; or it is another, and the line's user is nobody
 abbrev pub OwnOrNobody : {D : Type 0} → (D → Ask → Withheld → D → Type 0) → Name → Name → D → Ask → Withheld → D → Type 0

@@ -3,12 +3,14 @@ use Rattle.std.specs.Prelude.{◌≡◌, ◌≢◌, ◌<◌, ◌≤◌, ◌+◌,
 use Rattle.std.specs.List.{flat_map}
 use Rattle.nmvs_stream.specs.Source.{Told}
 use Rattle.nmvs_stream.specs.Sink.{Taken}
+use Rattle.nmvs_identifier.specs.Tag.{Tag}
 use Rattle.nmvs_protocol.specs.declared.ask.Ask.{Ask}
 use Rattle.nmvs_protocol.specs.declared.ask.Line.{Line}
 use Rattle.nmvs_protocol.specs.declared.ask.Line.TheVariants as lines
-use Rattle.nmvs_protocol.specs.declared.ask.LineFault.{LineFault}
+use Rattle.nmvs_protocol.specs.declared.ask.Unread.{Unread}
 use Rattle.nmvs_protocol.specs.declared.answer.Answer.{Answer}
-use Rattle.nmvs_protocol.specs.declared.answer.Answer.TheVariants as answers
+use Rattle.nmvs_protocol.specs.declared.answer.Content.{Content}
+use Rattle.nmvs_protocol.specs.declared.answer.Content.TheVariants as contents
 use Rattle.nmvs_protocol.specs.declared.answer.Turn.{Turn}
 use Rattle.nmvs_protocol.specs.declared.answer.Turn.TheVariants as turns
 use Rattle.nmvs_protocol.specs.declared.withheld.Basis.{Basis}
@@ -25,19 +27,28 @@ use Rattle.nmvs_stream.specs.InputLines.{input_lines}
 abbrev pub answer_of : Withheld → Answer
 answer_of withheld = withheld.answer
 
--- an answer that rests on no entry
-abbrev pub plain : Answer → Withheld
-plain a = record { answer = a; basis = None }
+-- an answer that rests on these entries, if on any, to a line without a tag
+abbrev pub withheld_on : Option Basis → Content → Withheld
+withheld_on basis content = record { answer = record { tag = None; content = content }; basis = basis }
 
--- what is withheld where a line is read so, the desk going from old to new: it is asked all but QUIT
-abbrev pub Answers : {D : Type 0} → (D → Ask → Withheld → D → Type 0) → D → Result Line LineFault → Withheld → D → Type 0
-Answers takes old (Ok (lines.Ask ask)) withheld new = takes old ask withheld new
-Answers takes old (Ok lines.Quit) withheld new = (withheld ≡ plain answers.Bye) × (new ≡ old)
-Answers takes old (Err fault) withheld new = (withheld ≡ plain (answers.Unread fault)) × (new ≡ old)
+-- an answer that rests on no entry
+abbrev pub plain : Content → Withheld
+plain content = withheld_on None content
+
+-- the same answer to a line with this tag, if it has one
+abbrev pub tagged : Option Tag → Withheld → Withheld
+tagged g w = record w { answer = record w.answer { tag = g } }
+
+-- what is withheld where a line is read so, the desk going from old to new: it is asked all but QUIT, and what it answers gets the
+-- line's tag
+abbrev pub Answers : {D : Type 0} → (D → Ask → Withheld → D → Type 0) → D → Result Line Unread → Withheld → D → Type 0
+Answers takes old (Ok (lines.Ask ask)) withheld new = (w : Withheld) × takes old ask w new × (withheld ≡ tagged ask.tag w)
+Answers takes old (Ok lines.Quit) withheld new = (withheld ≡ plain contents.Bye) × (new ≡ old)
+Answers takes old (Err unread) withheld new = (withheld ≡ tagged unread.tag (plain (contents.Unread unread.fault))) × (new ≡ old)
 
 -- a line is taken with an answer that is withheld, the desk going from old to new
 pub record TakesLine {D : Type 0} (takes : D → Ask → Withheld → D → Type 0) (old : D) (x : List ℕ) (withheld : Withheld) (new : D) : Type 0 where
-  pub reading : Result Line LineFault
+  pub reading : Result Line Unread
   pub reads : ReadsLine x reading
   pub answers : Answers takes old reading withheld new
 
@@ -48,15 +59,23 @@ TakesLines {D} takes old (x ∷ xs) (w ∷ withheld) new = (mid : D) × TakesLin
 TakesLines takes old [] (w ∷ withheld) new = ⊥
 TakesLines takes old (x ∷ xs) [] new = ⊥
 
+-- whether this is a reply or a report of the repository
+abbrev pub is_from_repository : Content → Bool
+is_from_repository (contents.Replied r shown) = true
+is_from_repository (contents.Reported t) = true
+is_from_repository _ = false
+
 -- whether the answer is a reply or a report of the repository
 abbrev pub is_of_repository : Answer → Bool
-is_of_repository (answers.Replied r shown) = true
-is_of_repository (answers.Reported t) = true
-is_of_repository _ = false
+is_of_repository a = is_from_repository a.content
+
+-- the answer where a line is turned away
+abbrev pub turned : Turn → Answer → Answer
+turned turn a = record a { content = contents.Turned turn }
 
 -- what any release may make of what is withheld: its answer, or the line of a reply or a report is turned away
 abbrev pub StaysOrTurns : Withheld → Answer → Type 0
-StaysOrTurns withheld said = (said ≡ withheld.answer) ⊎ (IsTrue (is_of_repository withheld.answer) × (turn : Turn) × (said ≡ answers.Turned turn))
+StaysOrTurns withheld said = (said ≡ withheld.answer) ⊎ (IsTrue (is_of_repository withheld.answer) × (turn : Turn) × (said ≡ turned turn withheld.answer))
 
 -- what was withheld is released so, each as one answer
 abbrev pub AreReleased : (Withheld → Answer → Type 0) → List Withheld → List Answer → Type 0
@@ -81,7 +100,7 @@ is_kept kept (Some basis) = nat_lt basis.place (slice_index_or kept basis.shard 
 -- what is told where so many entries of each shard are kept: the line of a reply or a report that rests on more is turned away
 abbrev pub told_where : List ℕ → Withheld → Answer
 told_where kept withheld =
-    if is_kept kept withheld.basis || not (is_of_repository withheld.answer) then withheld.answer else answers.Turned turns.Journal
+    if is_kept kept withheld.basis || not (is_of_repository withheld.answer) then withheld.answer else turned turns.Journal withheld.answer
 
 -- a line is answered so: it is taken; and once the desk has taken these lines more, what is withheld is released so, on some
 -- evidence

@@ -1,6 +1,9 @@
 -- The text of each answer: words and values joined by single spaces, then LF; entry lines and reports as they are (own).
-use Rattle.std.specs.Prelude.{ℕ, Bool, true, false, List, [], ◌∷◌, ◌++◌, codes}
+use Rattle.std.specs.Prelude.{ℕ, Bool, true, false, List, [], ◌∷◌, ◌++◌, codes, Option, Some}
 use Rattle.std.specs.Fmt.{decimal}
+use Rattle.std.specs.List.{flat_map}
+use Rattle.nmvs_identifier.specs.Tag.{Tag}
+use Rattle.nmvs_stream.specs.InputLines.{input_lines}
 use Rattle.nmvs_rules.specs.declared.entry.Entry.{Entry}
 use Rattle.nmvs_rules.specs.declared.reply.Reply.{Reply}
 use Rattle.nmvs_rules.specs.declared.reply.Reply.TheVariants as replies
@@ -14,7 +17,9 @@ use Rattle.nmvs_protocol.specs.declared.ask.LineFault.TheVariants as faults
 use Rattle.nmvs_protocol.specs.declared.answer.Turn.{Turn}
 use Rattle.nmvs_protocol.specs.declared.answer.Turn.TheVariants as turns
 use Rattle.nmvs_protocol.specs.declared.answer.Answer.{Answer}
-use Rattle.nmvs_protocol.specs.declared.answer.Answer.TheVariants as answers
+use Rattle.nmvs_protocol.specs.declared.answer.Content.{Content}
+use Rattle.nmvs_protocol.specs.declared.answer.Content.TheVariants as contents
+use Rattle.nmvs_protocol.specs.Tags.{tag_text}
 
 -- why the desk turned a line away
 abbrev pub turn_word : Turn → List ℕ
@@ -26,6 +31,7 @@ turn_word turns.Role = codes "ROLE"
 turn_word turns.Memory = codes "MEMORY"
 turn_word turns.Rate = codes "RATE"
 turn_word turns.Journal = codes "JOURNAL"
+turn_word turns.Tag = codes "TAG"
 
 -- why a line cannot be read
 abbrev pub fault_word : LineFault → List ℕ
@@ -59,15 +65,32 @@ reply_words (replies.Refused r) = reply_word kinds.Refused ∷ decimal (refusal_
 abbrev pub reply_text : Reply → List Entry → List ℕ
 reply_text r shown = spaced (reply_words r) ++ export_text shown
 
+-- the text of what is answered to a line without a tag
+unfoldable pub content_text : Content → List ℕ
+content_text (contents.Replied r shown) = reply_text r shown
+content_text (contents.Reported t) = t
+content_text (contents.Turned t) = spaced (codes "FAULT" ∷ turn_word t ∷ [])
+content_text (contents.Unread f) = spaced (codes "FAULT" ∷ fault_word f ∷ [])
+content_text contents.Bye = spaced (codes "BYE" ∷ [])
+
+-- the lines of a text, each behind the same bytes
+abbrev pub lines_behind : List ℕ → List ℕ → List ℕ
+lines_behind front t = flat_map (λ line. front ++ (line ++ 10 ∷ [])) (input_lines t)
+
+-- the text of what is answered to a line with this tag, if it has one: the tag begins each line of it that is no entry line
+abbrev pub tagged_text : Option Tag → Content → List ℕ
+tagged_text (Some g) (contents.Reported t) = lines_behind (tag_text (Some g)) t
+tagged_text g content = tag_text g ++ content_text content
+
 -- the text of an answer
 unfoldable pub text : Answer → List ℕ
-text (answers.Replied r shown) = reply_text r shown
-text (answers.Reported t) = t
-text (answers.Turned t) = spaced (codes "FAULT" ∷ turn_word t ∷ [])
-text (answers.Unread f) = spaced (codes "FAULT" ∷ fault_word f ∷ [])
-text answers.Bye = spaced (codes "BYE" ∷ [])
+text a = tagged_text a.tag a.content
 
--- whether the text of an answer takes memory: where entries are shown; a report is a text, and all others are short
+-- whether this takes memory for its text: where entries are shown; a report is a text, and all others are short
+abbrev pub content_takes_memory : Content → Bool
+content_takes_memory (contents.Replied r (e ∷ es)) = true
+content_takes_memory _ = false
+
+-- whether the text of an answer takes memory
 abbrev pub takes_memory : Answer → Bool
-takes_memory (answers.Replied r (e ∷ es)) = true
-takes_memory _ = false
+takes_memory a = content_takes_memory a.content

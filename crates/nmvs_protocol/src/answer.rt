@@ -2,17 +2,25 @@
 ghost use Rattle.std.specs.Prelude.{◌≡◌, string_bytes};
 
 use crate::LineFault;
+use nmvs_identifier::Tag;
 use nmvs_rules::{Entry, Reply};
 use std::alloc::Global;
 use std::marker::Model;
 
-/// The answer to a line.
+/// The answer to a line, and the tag of the line, if it has one.
 #[derive(Drop)]
-pub enum Answer<'a> {
+pub struct Answer<'a> {
+    pub tag: Option<Tag>,
+    pub content: Content<'a>,
+}
+
+/// What is answered to a line.
+#[derive(Drop)]
+pub enum Content<'a> {
     /// The repository's reply to a question, and the entries that it shows: none for all but a shown
     /// audit.
     Replied(Reply, Entries<'a>),
-    /// The report of a product code.
+    /// The report of a product code, lines that each end with LF.
     Reported(Text),
     /// The desk turned the line away.
     Turned(Turn),
@@ -39,6 +47,8 @@ pub enum Turn {
     Memory,
     /// The user has asked more lines than its rate lets through.
     Rate,
+    /// The user has asked something else about the pack with the tag.
+    Tag,
     /// What the answer rests on is not kept: the journal failed. The operation may stand in the record or not.
     Journal,
 }

@@ -2,7 +2,7 @@
 ghost use Rattle.std.specs.Prelude.{◌≡◌};
 ghost use Rattle.nmvs_protocol.specs.Peers.{user_of};
 
-use nmvs_identifier::{Name, ProductCode};
+use nmvs_identifier::{Name, ProductCode, Tag};
 use nmvs_rules::Question;
 use thiserror::Error;
 
@@ -15,9 +15,16 @@ pub enum Line {
     Quit,
 }
 
+/// What is asked, and the tag by which it can be asked again.
+#[derive(Clone, Copy, Debug, PartialEq, Eq)]
+pub struct Ask {
+    pub tag: Option<Tag>,
+    pub asked: Asked,
+}
+
 /// What a user asks.
 #[derive(Clone, Copy, Debug, PartialEq, Eq)]
-pub enum Ask {
+pub enum Asked {
     /// The question of a user, by name.
     Question(Name, Question),
     /// The report of a product code, for a user.
@@ -29,10 +36,17 @@ impl Ask {
     pub fn user(&self) -> &Name
         ensures { result.now ≡ user_of self.now }
     {
-        match self {
-            Ask::Question(user, _) | Ask::Report(user, _) => user,
+        match &self.asked {
+            Asked::Question(user, _) | Asked::Report(user, _) => user,
         }
     }
+}
+
+/// A line that cannot be read: why, and the tag that it begins with, if with one.
+#[derive(Clone, Copy, Debug, PartialEq, Eq)]
+pub struct Unread {
+    pub tag: Option<Tag>,
+    pub fault: LineFault,
 }
 
 /// Why a line cannot be read.

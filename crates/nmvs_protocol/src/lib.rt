@@ -16,11 +16,12 @@ mod pending_line;
 mod replies;
 mod serving;
 mod session;
+mod tags;
 mod withheld;
 mod wording;
 
-pub use answer::{Answer, Entries, Text, Turn};
-pub use ask::{Ask, Line, LineFault};
+pub use answer::{Answer, Content, Entries, Text, Turn};
+pub use ask::{Ask, Asked, Line, LineFault, Unread};
 pub use command::{Command, CommandFault};
 pub use commands::{command_of, read_command};
 pub use desk::Desk;

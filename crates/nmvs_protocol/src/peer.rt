@@ -4,7 +4,7 @@ ghost use Rattle.nmvs_identifier.specs.Name.{Name as TheName};
 ghost use Rattle.nmvs_protocol.specs.declared.answer.Turn.{Turn as TheTurn};
 ghost use Rattle.nmvs_protocol.specs.Peers.{OwnOrNobody, peer_named};
 
-use crate::{Answer, Ask, Desk, Released, Turn, Withheld, WithheldAnswers};
+use crate::{Ask, Content, Desk, Released, Turn, Withheld, WithheldAnswers};
 use nmvs_identifier::Name;
 
 #[cfg(test)]
@@ -91,7 +91,7 @@ fn take_own<'a, D: Desk<'a>>(desk: &mut D, name: &Name, own: &Name, ask: &Ask) -
     if name == own {
         desk.take(ask)
     } else {
-        Withheld::new(Answer::Turned(Turn::Nobody))
+        Withheld::new(Content::Turned(Turn::Nobody))
     }
 }
 
@@ -114,7 +114,7 @@ impl<'a, D: Desk<'a> + Authorisations> Desk<'a> for OwnDesk<D> {
             Peer::User(own) => take_own(desk, ask.user(), own, ask),
             Peer::Authorisation(own) => match desk.authorisation_of(ask.user()) {
                 Ok(name) => take_own(desk, &name, own, ask),
-                Err(turn) => Withheld::new(Answer::Turned(turn)),
+                Err(turn) => Withheld::new(Content::Turned(turn)),
             },
         }
     }

@@ -2,11 +2,11 @@
 ghost use Rattle.std.specs.Prelude.{◌≡◌, ◌≤◌, ◌<◌, [], ◌∷◌, length, map, IfOk, OnErr, IsTrue, string_bytes};
 ghost use Rattle.std.specs.Fmt.{decimal};
 ghost use Rattle.nmvs_words.specs.Words.{spaced};
-ghost use Rattle.nmvs_protocol.specs.Texts.{text, reply_words, reply_text as text_of_reply, takes_memory, turn_word, fault_word};
+ghost use Rattle.nmvs_protocol.specs.Texts.{content_text, reply_words, reply_text as text_of_reply, content_takes_memory, turn_word, fault_word};
 ghost use Rattle.nmvs_protocol.specs.Wordings.{wording_text};
 
 use crate::wording::Wording;
-use crate::{Answer, LineFault, Turn};
+use crate::{Content, LineFault, Turn};
 use arrayvec::ArrayString;
 use itoa::Buffer;
 use nmvs_identifier::{Batch, Expiry};
@@ -41,18 +41,21 @@ pub fn reply_text(alloc: Global, reply: &Reply, shown: &[Entry]) -> Result<Strin
     Ok(text)
 }
 
-/// The text of an answer, with the LF that ends it. That of a shown audit alone takes memory.
-#[tactic(auto, unfolding(crate::specs::Texts::text))]
-pub(crate) fn wording<'w>(alloc: Global, answer: &'w Answer<'_>) -> Result<Wording<'w>, AllocError>
-    ensures text { IfOk result (λ wording. wording_text wording ≡ text answer.now) }
-    ensures memory { OnErr result (IsTrue (takes_memory answer.now)) }
+/// The text of what is answered, without a tag, with the LF that ends it. That of a shown audit alone takes memory.
+#[tactic(auto, unfolding(crate::specs::Texts::content_text))]
+pub(crate) fn wording<'w>(
+    alloc: Global,
+    content: &'w Content<'_>,
+) -> Result<Wording<'w>, AllocError>
+    ensures text { IfOk result (λ wording. wording_text wording ≡ content_text content.now) }
+    ensures memory { OnErr result (IsTrue (content_takes_memory content.now)) }
 {
-    Ok(match answer {
-        Answer::Replied(reply, shown) => reply_wording(alloc, reply, shown.entries())?,
-        Answer::Reported(report) => Wording::Lent(report.text()),
-        Answer::Turned(turn) => Wording::Composed(in_words("FAULT", &[word_of_turn(*turn)])),
-        Answer::Unread(fault) => Wording::Composed(in_words("FAULT", &[word_of_fault(*fault)])),
-        Answer::Bye => Wording::Composed(in_words("BYE", &[])),
+    Ok(match content {
+        Content::Replied(reply, shown) => reply_wording(alloc, reply, shown.entries())?,
+        Content::Reported(report) => Wording::Lent(report.text()),
+        Content::Turned(turn) => Wording::Composed(in_words("FAULT", &[word_of_turn(*turn)])),
+        Content::Unread(fault) => Wording::Composed(in_words("FAULT", &[word_of_fault(*fault)])),
+        Content::Bye => Wording::Composed(in_words("BYE", &[])),
     })
 }
 
@@ -195,6 +198,7 @@ pub fn word_of_turn(turn: Turn) -> &'static str
         Turn::Memory => "MEMORY",
         Turn::Rate => "RATE",
         Turn::Journal => "JOURNAL",
+        Turn::Tag => "TAG",
     }
 }
 

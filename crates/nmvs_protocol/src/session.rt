@@ -1,14 +1,17 @@
 //! A session that is fed bytes.
-ghost use Rattle.std.specs.Prelude.{◌≡◌, ◌≤◌, ◌<◌, ◌-◌, ◌++◌, ◌∷◌, ◌↔◌, [], List, ℕ, Ok, IsTrue, IfNone, length, take, drop};
+ghost use Rattle.std.specs.Prelude.{◌≡◌, ◌≤◌, ◌<◌, ◌-◌, ◌++◌, ◌∷◌, ◌↔◌, [], List, ℕ, Ok, IsTrue, IfNone, OnOk, OnErr, length, take, drop};
+ghost use Rattle.nmvs_stream.specs.Delivery.{Writes, DeliversPart};
 ghost use Rattle.nmvs_stream.specs.InputLines.{lines_after, unfinished_line};
 ghost use Rattle.nmvs_protocol.specs.Lines.{line_text};
 ghost use Rattle.nmvs_protocol.specs.Session.{Answers, TakesLine};
+ghost use Rattle.nmvs_protocol.specs.Texts.{content_text, lines_behind, text};
 ghost use Rattle.nmvs_protocol.specs.Progress.{Fed, Took, Tells, TellsFirst, TellsWithheld, kept_part};
 
 use crate::pending_line::PendingLine;
 use crate::replies::wording;
+use crate::tags::tag_text;
 use crate::withheld::WithheldAnswers;
-use crate::{Answer, Desk, End, Line, LineFault, Released, Withheld, read_line};
+use crate::{Answer, Content, Desk, End, Line, Released, Unread, Withheld, read_line};
 use nmvs_stream::{Failed, Sink, cut_line, write_all};
 use std::alloc::Global;
 
@@ -166,17 +169,17 @@ fn take_line<'a, D: Desk<'a>>(line: &[u8], desk: &mut D) -> (Withheld<'a>, bool)
 }
 
 /// The answer to what was read. The desk is asked all but QUIT.
-fn answer<'a, D: Desk<'a>>(reading: &Result<Line, LineFault>, desk: &mut D) -> Withheld<'a>
+fn answer<'a, D: Desk<'a>>(reading: &Result<Line, Unread>, desk: &mut D) -> Withheld<'a>
     ensures { Answers D.takes desk.old reading.now result desk.new }
 {
     match reading {
-        Ok(Line::Ask(ask)) => desk.take(ask),
-        Ok(Line::Quit) => Withheld::new(Answer::Bye),
-        Err(fault) => Withheld::new(Answer::Unread(*fault)),
+        Ok(Line::Ask(ask)) => desk.take(ask).tagged(ask.tag),
+        Ok(Line::Quit) => Withheld::new(Content::Bye),
+        Err(Unread { tag, fault }) => Withheld::new(Content::Unread(*fault)).tagged(*tag),
     }
 }
 
-fn is_quit(reading: &Result<Line, LineFault>) -> bool
+fn is_quit(reading: &Result<Line, Unread>) -> bool
     ensures { IsTrue result ↔ (reading.now ≡ Ok Line.Quit) }
 {
     matches!(reading, Ok(Line::Quit))
@@ -221,11 +224,48 @@ pub fn write_texts<W: Sink>(alloc: Global, released: Released<'_, '_>, sink: &mu
 fn write_text<W: Sink>(alloc: Global, answer: &Answer<'_>, sink: &mut W) -> Option<End>
     ensures { Tells result (W.taken sink.old) (W.taken sink.new) (answer.now ∷ []) }
 {
-    let Ok(text) = wording(alloc, answer) else {
+    let Ok(text) = wording(alloc, &answer.content) else {
         return Some(End::Memory);
     };
-    match write_all(sink, text.as_str().as_bytes()) {
+    match write_tagged(answer, text.as_str().as_bytes(), sink) {
         Ok(()) => None,
         Err(Failed) => Some(End::WriteFault),
     }
+}
+
+/// Writes the text of an answer, given without its tag.
+#[tactic(auto, unfolding(crate::specs::Texts::text))]
+fn write_tagged<W: Sink>(answer: &Answer<'_>, content: &[u8], sink: &mut W) -> Result<(), Failed>
+    requires { content.now ≡ content_text answer.now.content }
+    ensures ok { OnOk result (Writes (W.taken sink.old) (W.taken sink.new) (text answer.now)) }
+    ensures err { OnErr result (DeliversPart (W.taken sink.old) (W.taken sink.new) (text answer.now)) }
+{
+    let tag = tag_text(&answer.tag);
+    let tag = tag.as_str().as_bytes();
+    match (&answer.tag, &answer.content) {
+        (Some(_), Content::Reported(_)) => write_lines(tag, content, sink),
+        _ => write_both(tag, content, sink),
+    }
+}
+
+/// Writes one text, and another one behind it.
+fn write_both<W: Sink>(first: &[u8], second: &[u8], sink: &mut W) -> Result<(), Failed>
+    ensures ok { OnOk result (Writes (W.taken sink.old) (W.taken sink.new) (first.now ++ second.now)) }
+    ensures err { OnErr result (DeliversPart (W.taken sink.old) (W.taken sink.new) (first.now ++ second.now)) }
+{
+    write_all(sink, first)?;
+    write_all(sink, second)
+}
+
+/// Writes the lines of a text, each behind a tag.
+fn write_lines<W: Sink>(tag: &[u8], text: &[u8], sink: &mut W) -> Result<(), Failed>
+    ensures ok { OnOk result (Writes (W.taken sink.old) (W.taken sink.new) (lines_behind tag.now text.now)) }
+    ensures err { OnErr result (DeliversPart (W.taken sink.old) (W.taken sink.new) (lines_behind tag.now text.now)) }
+{
+    let mut rest = text;
+    while let Some((line, behind)) = cut_line(rest) {
+        write_both(tag, &rest[..line.len() + 1], sink)?;
+        rest = behind;
+    }
+    Ok(())
 }

@@ -1,10 +1,11 @@
 //! Answers that are withheld until the desk releases them.
 ghost use Rattle.std.specs.Prelude.{◌≡◌, ◌==◌, ◌<◌, ◌≤◌, ◌+◌, ◌++◌, ◌∷◌, ◌↔◌, [], false, length, map, take, drop, option_copied, slice_get, None, IsSome, IfSome};
-ghost use Rattle.nmvs_protocol.specs.Session.{AreReleased, answer_of, is_kept, is_of_repository as of_repository, told_where};
+ghost use Rattle.nmvs_protocol.specs.Session.{AreReleased, answer_of, is_kept, is_of_repository as of_repository, plain, tagged, told_where, withheld_on};
 ghost use Rattle.nmvs_protocol.specs.Texts.{takes_memory as text_takes_memory};
 
-use crate::{Answer, Turn};
+use crate::{Answer, Content, Turn};
 use arrayvec::ArrayVec;
+use nmvs_identifier::Tag;
 use std::marker::Model;
 
 /// How many answers are withheld at most: one for each question that a read of 4,096 bytes can have, since
@@ -29,34 +30,43 @@ pub struct Withheld<'a> {
 /// An unused place of a list has it.
 impl<'a> Default for Withheld<'a> {
     fn default() -> Withheld<'a> {
-        Withheld::new(Answer::Bye)
+        Withheld::new(Content::Bye)
     }
 }
 
 impl<'a> Withheld<'a> {
-    /// Holds an answer that rests on no entry.
-    pub fn new(answer: Answer<'a>) -> Withheld<'a>
-        ensures { result ≡ record { answer = answer.entry; basis = None } }
+    /// Holds an answer that rests on no entry, to a line without a tag.
+    pub fn new(content: Content<'a>) -> Withheld<'a>
+        ensures { result ≡ plain content.entry }
     {
-        Withheld {
-            answer,
-            basis: None,
-        }
+        Withheld::resting_on(None, content)
     }
 
-    /// Holds an answer that rests on these entries, if on any.
-    pub fn resting_on(basis: Option<Basis>, answer: Answer<'a>) -> Withheld<'a>
-        ensures { result ≡ record { answer = answer.entry; basis = basis } }
+    /// Holds an answer that rests on these entries, if on any, to a line without a tag.
+    pub fn resting_on(basis: Option<Basis>, content: Content<'a>) -> Withheld<'a>
+        ensures { result ≡ withheld_on basis content.entry }
     {
+        let answer = Answer { tag: None, content };
         Withheld { answer, basis }
+    }
+
+    /// The same to a line with this tag, if it has one.
+    pub(crate) fn tagged(self, tag: Option<Tag>) -> Withheld<'a>
+        ensures { result ≡ tagged tag self.entry }
+    {
+        let content = self.answer.content;
+        Withheld {
+            answer: Answer { tag, content },
+            basis: self.basis,
+        }
     }
 
     /// Whether its text will take memory: that of an audit which shows entries.
     pub(crate) fn takes_memory(&self) -> bool
         ensures { result ≡ text_takes_memory self.now.answer }
     {
-        match &self.answer {
-            Answer::Replied(_, shown) => !shown.entries().is_empty(),
+        match &self.answer.content {
+            Content::Replied(_, shown) => !shown.entries().is_empty(),
             _ => false,
         }
     }
@@ -73,7 +83,7 @@ impl<'a> Withheld<'a> {
         ensures { self.new.answer ≡ told_where kept.now self.old }
     {
         if !is_basis_kept(self.basis, kept) && is_of_repository(&self.answer) {
-            self.answer = Answer::Turned(Turn::Journal);
+            self.answer.content = Content::Turned(Turn::Journal);
         }
     }
 }
@@ -91,7 +101,7 @@ fn is_basis_kept(basis: Option<Basis>, kept: &[usize]) -> bool
 fn is_of_repository(answer: &Answer<'_>) -> bool
     ensures { result ≡ of_repository answer.now }
 {
-    matches!(answer, Answer::Replied(..) | Answer::Reported(_))
+    matches!(answer.content, Content::Replied(..) | Content::Reported(_))
 }
 
 /// Answers that are withheld, in the order of their lines. A desk releases them together.

@@ -7,7 +7,9 @@ ghost use Rattle.nmvs_rate.specs.Rated.{TakesPassed};
 
 use crate::Passage;
 use nmvs_identifier::Name;
-use nmvs_protocol::{Answer, Ask, Authorisations, Desk, Released, Turn, Withheld, WithheldAnswers};
+use nmvs_protocol::{
+    Ask, Authorisations, Content, Desk, Released, Turn, Withheld, WithheldAnswers,
+};
 use std::alloc::AllocError;
 
 /// What lets lines of users through or not.
@@ -61,7 +63,7 @@ fn take_passed<'a, D: Desk<'a>>(desk: &mut D, passage: Passage, ask: &Ask) -> Wi
 {
     match passage {
         Passage::Open => desk.take(ask),
-        Passage::Shut | Passage::Stranger => Withheld::new(Answer::Turned(Turn::Rate)),
+        Passage::Shut | Passage::Stranger => Withheld::new(Content::Turned(Turn::Rate)),
     }
 }
 
@@ -83,9 +85,9 @@ impl<'a, D: Desk<'a> + Authorisations, T: Turnstile> Desk<'a> for RatedDesk<D, T
             Passage::Stranger => match self.desk.authorisation_of(user) {
                 Ok(_) => match self.turnstile.admit(user) {
                     Ok(passage) => take_passed(&mut self.desk, passage, ask),
-                    Err(AllocError) => Withheld::new(Answer::Turned(Turn::Memory)),
+                    Err(AllocError) => Withheld::new(Content::Turned(Turn::Memory)),
                 },
-                Err(turn) => Withheld::new(Answer::Turned(turn)),
+                Err(turn) => Withheld::new(Content::Turned(turn)),
             },
             passage => take_passed(&mut self.desk, passage, ask),
         }

@@ -2,7 +2,7 @@ use crate::{Bucket, Gate, Passage, Rate, RatedDesk, Rates, SharedRates, Turnstil
 use linked_list_allocator::LocalHeap;
 use nmvs_identifier::Name;
 use nmvs_protocol::{
-    Answer, Ask, Authorisations, Desk, End, Entries, Released, SESSION_LIMITS, Turn, Withheld,
+    Ask, Authorisations, Content, Desk, End, Entries, Released, SESSION_LIMITS, Turn, Withheld,
     WithheldAnswers, serve,
 };
 use nmvs_rules::Reply;
@@ -133,7 +133,7 @@ impl<'a> Desk<'a> for Empty<'a> {
 
     fn take(&mut self, _ask: &Ask) -> Withheld<'a> {
         let none = Entries::new(Vec::new(self.alloc));
-        Withheld::new(Answer::Replied(Reply::NoPack, none))
+        Withheld::new(Content::Replied(Reply::NoPack, none))
     }
 
     fn release<'h>(&mut self, withheld: &'h mut WithheldAnswers<'a>) -> (Released<'h, 'a>, ()) {

@@ -1,5 +1,5 @@
 -- An upload, a handover, a recall or withdrawal and a theft report are accepted exactly where the laws let them be.
-use Rattle.std.proofs.Common.{◌≡◌, ◌↔◌, ℕ, Bool, true, false, not, ◌&&◌, ◌||◌, cond, List, reverse, Option, Some, None, IsTrue, IsFalse, IsSomeAnd, ◌⊎◌, inl, inr, refl, sym, ap, subst, ◌∙◌}
+use Rattle.std.proofs.Common.{◌≡◌, ◌↔◌, ℕ, Bool, true, false, not, ◌&&◌, ◌||◌, cond, List, reverse, Option, Some, None, IsFalse, IsSomeAnd, ◌⊎◌, inl, inr, refl, sym, ap, subst, ◌∙◌}
 use Rattle.std.proofs.Math.Bool.{and-true, and-false}
 use Rattle.std.proofs.lemmas.Bool.{not-false}
 use Rattle.std.specs.Cmp.{first_so, second_so}
@@ -21,7 +21,7 @@ use Rattle.nmvs_rules.specs.declared.own_status.OwnStatus.{OwnStatus}
 use Rattle.nmvs_rules.specs.declared.own_status.OwnStatus.TheVariants as own
 use Rattle.nmvs_rules.specs.declared.put.Put.{Put}
 use Rattle.nmvs_rules.specs.declared.question.Question.{Question}
-use Rattle.nmvs_rules.specs.declared.question.Question.TheVariants.{Upload, Decommission, Handover, Revert, Recall, Withdraw, Theft}
+use Rattle.nmvs_rules.specs.declared.question.Question.TheVariants.{Upload, Decommission, Handover, Recall, Withdraw, Theft}
 use Rattle.nmvs_rules.specs.declared.reason.Reason.TheVariants as reason
 use Rattle.nmvs_rules.specs.declared.refusal.Refusal.TheVariants as refusal
 use Rattle.nmvs_rules.specs.declared.reply.Reply.{Reply}
@@ -29,9 +29,9 @@ use Rattle.nmvs_rules.specs.declared.reply.Reply.TheVariants as reply
 use Rattle.nmvs_rules.specs.declared.role.Role.{Role}
 use Rattle.nmvs_rules.specs.declared.role.Role.TheVariants as role
 use Rattle.nmvs_rules.specs.Questions.{may_ask, is_holder, is_supplier, pack_of, names}
-use Rattle.nmvs_rules.specs.Trail.{accepts, born, mark, mark_place, mark_after, known, holder_of, lock_of, count_of, is_mark, is_upload, is_birth_in, is_known_batch, uploads_batch, own_given, own_of, same_own, is_own, stands_at}
-use Rattle.nmvs_rules.specs.Rules.{is_active, is_free, is_held, is_stolen, is_held_by, has_other_holder, is_same_house, lock_on, on_pack, handover_reply, lock_reply, theft_reply, upload_reply, reply_of, admitted_reply}
-use Rattle.nmvs_rules.specs.Operations.{batch_upload_done, hold_done, theft_done, upload_done, reversion_done, uploads, uploads_code, uploads_in, holds, reverts, steals, last_operation}
+use Rattle.nmvs_rules.specs.Trail.{accepts, mark, mark_place, mark_after, known, holder_of, lock_of, count_of, is_mark, is_known_batch, uploads_batch, own_given, own_of, same_own, is_own, stands_at}
+use Rattle.nmvs_rules.specs.Rules.{is_active, is_free, is_held, is_stolen, is_held_by, has_other_holder, is_same_house, lock_on, on_pack, handover_reply, lock_reply, theft_reply, reply_of}
+use Rattle.nmvs_rules.specs.Operations.{batch_upload_done, hold_done, theft_done, uploads, uploads_code, uploads_in, reverts, steals, last_operation}
 use Rattle.nmvs_rules.specs.Laws.{IsHeldBy, IsUploadable, IsSuppliable, IsLockable, IsReportable, AsksLock, uploads_circulating, circulates, circulating}
 use Rattle.nmvs_rules.proofs.Accepted.{first-upload, last-operation, stolen-by}
 use Rattle.nmvs_rules.proofs.FindLemmas.{find-passes, is_some-find, is-none, from-some}

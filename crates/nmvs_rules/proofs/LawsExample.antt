@@ -35,7 +35,7 @@ abbrev pharmacy : Actor
 pharmacy = record { role = role.Pharmacy; authorisation = text (codes "PH-1"); premises = text (codes "P1") }
 
 abbrev entry : Question → Reply → Entry
-entry q r = record { put = record { moment = 0; user = text (codes "user"); actor = pharmacy; question = q }; reply = r }
+entry q r = record { put = record { moment = 0; user = text (codes "user"); actor = pharmacy; question = q; tag = None }; reply = r }
 
 abbrev batch : Text
 batch = text (codes "B1")

@@ -20,5 +20,8 @@ pub mod AlertingLemmas
 pub mod HolderLemmas
 pub mod AcceptanceLemmas
 pub mod OldTrails
+pub mod RepeatLemmas
+pub mod RepeatLaws
+pub mod UntaggedLemmas
 mod WorkedExample
 mod LawsExample

@@ -1,6 +1,6 @@
 -- A worked example, computed from the definitions: a pharmacy holds a pack for supply, and its batch is recalled. Then
 -- the same pack on other days.
-use Rattle.std.proofs.Common.{◌≡◌, ℕ, ◌+◌, ◌*◌, true, false, List, [], ◌∷◌, ◌++◌, Option, Some, refl, ap}
+use Rattle.std.proofs.Common.{◌≡◌, ℕ, ◌+◌, ◌*◌, true, false, List, [], ◌∷◌, ◌++◌, Option, Some, None, refl, ap}
 use Rattle.std.specs.Prelude.{codes, pos, int_lt, if◌then◌else◌}
 use Rattle.nmvs_identifier.specs.Texts.{Text}
 use Rattle.nmvs_identifier.proofs.ExpiryDays.{day-280200}
@@ -57,7 +57,7 @@ abbrev new_year : ℕ
 new_year = 1_767_225_600
 
 abbrev put : List ℕ → Actor → Question → Put
-put user a q = record { moment = new_year; user = text user; actor = a; question = q }
+put user a q = record { moment = new_year; user = text user; actor = a; question = q; tag = None }
 
 -- a trail after one more question and its reply
 abbrev after : List Entry → Put → List Entry
@@ -210,7 +210,7 @@ was-lawful = (refl, (refl, (refl, (refl, (refl, (refl, tt))))))
 
 -- the same question at another moment
 abbrev at : ℕ → Put → Put
-at moment q = record { moment = moment; user = q.user; actor = q.actor; question = q.question }
+at moment q = record { moment = moment; user = q.user; actor = q.actor; question = q.question; tag = q.tag }
 
 -- the first second of a day so many days later
 abbrev days_later : ℕ → ℕ

@@ -1,6 +1,6 @@
 -- What every entry of a trail is: its texts are in their grammars, and its numbers in their ranges (Article 4; the
 -- grammars of names and the ranges are own).
-use Rattle.std.specs.Prelude.{ℕ, ◌^◌, Bool, true, ◌&&◌, nat_lt, List, IsTrue}
+use Rattle.std.specs.Prelude.{ℕ, ◌^◌, Bool, true, ◌&&◌, nat_lt, List, Option, Some, None, IsTrue}
 use Rattle.std.specs.List.{All}
 use Rattle.nmvs_identifier.specs.Batch.{Batch, is_batch}
 use Rattle.nmvs_identifier.specs.Expiry.{Expiry, is_expiry}
@@ -8,6 +8,7 @@ use Rattle.nmvs_identifier.specs.Moment.{is_moment}
 use Rattle.nmvs_identifier.specs.Name.{is_name}
 use Rattle.nmvs_identifier.specs.Pack.{is_pack}
 use Rattle.nmvs_identifier.specs.ProductCode.{is_product_code}
+use Rattle.nmvs_identifier.specs.Tag.{Tag, is_tag}
 use Rattle.nmvs_rules.specs.declared.actor.Actor.{Actor}
 use Rattle.nmvs_rules.specs.declared.put.Put.{Put}
 use Rattle.nmvs_rules.specs.declared.question.Question.{Question}
@@ -50,9 +51,14 @@ is_reply (reply.LockedNow active) = is_count active
 is_reply (reply.Shown about) = is_count about
 is_reply _ = true
 
+-- whether the tag, if there is one, is in its grammar
+abbrev pub is_tag_or_none : Option Tag → Bool
+is_tag_or_none None = true
+is_tag_or_none (Some g) = is_tag g.bytes
+
 -- whether the texts of a question as it is put are in their grammars, and its moment in its range
 abbrev pub is_put : Put → Bool
-is_put q = is_moment q.moment && (is_name q.user.bytes && (is_actor q.actor && is_question q.question))
+is_put q = is_moment q.moment && (is_name q.user.bytes && (is_actor q.actor && (is_question q.question && is_tag_or_none q.tag)))
 
 -- whether the texts and the numbers of an entry are in their grammars and ranges
 abbrev pub is_entry : Entry → Bool

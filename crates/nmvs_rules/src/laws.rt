@@ -5,9 +5,11 @@
 mod acceptance;
 mod answers;
 mod packs;
+mod repeats;
 mod trails;
 
 pub use acceptance::{decommissioning, handover, locking, reversion, theft, uploading};
 pub use answers::{alerting, alerts, auditing, holders, verification};
 pub use packs::{course, decommissioned_once, one_birth, recall_binds, supplied_once};
+pub use repeats::{once, repetition, untagged};
 pub use trails::{locality, merging, old_trails, parts, placing, recording};

@@ -1,8 +1,8 @@
 use crate::{
-    Actor, BatchLock, BatchRecord, Cause, Counts, Facts, Known, Mark, Onward, OwnStatus, Put,
-    Question, Reason, Refusal, Reply, Role, decide, may, may_report, onward_of,
+    Actor, BatchLock, BatchRecord, Cause, Counts, Entry, Facts, Known, Mark, Onward, OwnStatus,
+    Put, Question, Reason, Refusal, Repeat, Reply, Role, decide, may, may_report, onward_of,
 };
-use nmvs_identifier::{Batch, Expiry, Moment, Name, Pack, ProductCode, Serial};
+use nmvs_identifier::{Batch, Expiry, Moment, Name, Pack, ProductCode, Serial, Tag};
 use std::process::Abort;
 use std::rt::HostRuntime;
 
@@ -129,6 +129,7 @@ fn decide_at(
         user: Name::read("user-1").expect(rt, "a user"),
         actor: *by,
         question: *question,
+        tag: None,
     };
     decide(facts, &put)
 }
@@ -384,4 +385,71 @@ fn statuses_and_audits(rt: HostRuntime) {
         (&by, &recalled, NEW_YEAR, refused(Refusal::Role)),
     ];
     are_answered(&rt, &Question::Audit(pack(&rt)), &audits);
+}
+
+fn tag(rt: &impl Abort, text: &str) -> Tag {
+    Tag::read(text).expect(rt, "a tag")
+}
+
+/// A verification as a pharmacy's user puts it at the new year, with a tag.
+fn tagged(rt: &impl Abort) -> Put {
+    Put {
+        moment: at(rt, NEW_YEAR),
+        user: Name::read("user-1").expect(rt, "a user"),
+        actor: pharmacy(rt),
+        question: Question::Verify(pack(rt)),
+        tag: Some(tag(rt, "a17")),
+    }
+}
+
+/// Whether a question asks the same is told by its words and its capacity alone.
+#[test]
+fn the_same_is_asked_at_any_moment_and_with_any_tag(rt: HostRuntime) {
+    let put = tagged(&rt);
+    let later = Put {
+        moment: at(&rt, NEW_YEAR + DAY),
+        tag: None,
+        ..put
+    };
+    assert!(rt; later.asks_same(&put));
+    let other = Put {
+        question: Question::Status(pack(&rt)),
+        ..put
+    };
+    assert!(rt; !other.asks_same(&put));
+    let elsewhere = Put {
+        actor: actor(&rt, Role::Pharmacy, "PH-1", "P2"),
+        ..put
+    };
+    assert!(rt; !elsewhere.asks_same(&put));
+}
+
+#[test]
+fn a_tag_is_its_users_own(rt: HostRuntime) {
+    let put = tagged(&rt);
+    let other = Name::read("user-2").expect(&rt, "another user");
+    assert!(rt; put.is_by(&put.user, &tag(&rt, "a17")));
+    assert!(rt; !put.is_by(&put.user, &tag(&rt, "a18")));
+    assert!(rt; !put.is_by(&other, &tag(&rt, "a17")));
+    let untagged = Put { tag: None, ..put };
+    assert!(rt; !untagged.is_by(&put.user, &tag(&rt, "a17")));
+}
+
+#[test]
+fn an_earlier_entry_answers_what_it_asked(rt: HostRuntime) {
+    let put = tagged(&rt);
+    let entry = Entry {
+        put,
+        reply: Reply::NoPack,
+    };
+    let again = Repeat::Same {
+        place: 3,
+        reply: Reply::NoPack,
+    };
+    assert!(rt; put.beside(3, &entry) == again);
+    let other = Put {
+        question: Question::Status(pack(&rt)),
+        ..put
+    };
+    assert!(rt; other.beside(3, &entry) == Repeat::Other);
 }

@@ -1,18 +1,23 @@
 -- The program's desk: what it may answer, and which receipt it then has (own).
-use Rattle.std.specs.Prelude.{◌≡◌, ◌≢◌, ◌+◌, ◌⊎◌, ℕ, ℤ, pos, ◌≤ℤ◌, Bool, true, false, List, [], ◌∷◌, ◌++◌, Option, Some, None, length, Result, Ok, Err}
+use Rattle.std.specs.Prelude.{◌≡◌, ◌≢◌, ◌+◌, ◌⊎◌, ℕ, ℤ, pos, ◌≤ℤ◌, Bool, true, false, List, [], ◌∷◌, ◌++◌, Option, Some, None, length, take, slice_get, Result, Ok, Err}
 use mathlib.Core.List.{IsPrefix}
 use Rattle.nmvs_identifier.specs.Moment.{last_moment}
 use Rattle.nmvs_identifier.specs.Name.{Name}
 use Rattle.nmvs_identifier.specs.ProductCode.{ProductCode}
+use Rattle.nmvs_identifier.specs.Tag.{Tag}
 use Rattle.nmvs_directory.specs.Window.{Reads}
 use Rattle.nmvs_directory.specs.declared.change.Change.{Change}
 use Rattle.nmvs_directory.specs.declared.look.Look.TheVariants as looks
 use Rattle.nmvs_rules.specs.declared.actor.Actor.{Actor}
 use Rattle.nmvs_rules.specs.declared.entry.Entry.{Entry}
+use Rattle.nmvs_rules.specs.declared.put.Put.{Put}
 use Rattle.nmvs_rules.specs.declared.question.Question.{Question}
+use Rattle.nmvs_rules.specs.declared.repeat.Repeat.TheVariants as repeat
 use Rattle.nmvs_rules.specs.declared.reply.Reply.{Reply}
 use Rattle.nmvs_rules.specs.declared.role.Role.{Role}
 use Rattle.nmvs_rules.specs.Questions.{code_of, may_report}
+use Rattle.nmvs_rules.specs.Repeats.{repeat_of}
+use Rattle.nmvs_rules.specs.Rules.{shown_of}
 use Rattle.nmvs_desk.specs.Answers.{IsAnswered, IsShown}
 use Rattle.nmvs_desk.specs.Placing.{shard_of}
 use Rattle.nmvs_desk.specs.Settlement.{row}
@@ -20,9 +25,10 @@ use Rattle.nmvs_desk.specs.declared.faults.AskFault.{AskFault}
 use Rattle.nmvs_desk.specs.declared.faults.AskFault.TheVariants as faults
 use Rattle.nmvs_desk.specs.declared.ask.Receipt.{Receipt}
 use Rattle.nmvs_protocol.specs.declared.ask.Ask.{Ask}
-use Rattle.nmvs_protocol.specs.declared.ask.Ask.TheVariants as asks
-use Rattle.nmvs_protocol.specs.declared.answer.Answer.{Answer}
-use Rattle.nmvs_protocol.specs.declared.answer.Answer.TheVariants as answers
+use Rattle.nmvs_protocol.specs.declared.ask.Asked.{Asked}
+use Rattle.nmvs_protocol.specs.declared.ask.Asked.TheVariants as asked
+use Rattle.nmvs_protocol.specs.declared.answer.Content.{Content}
+use Rattle.nmvs_protocol.specs.declared.answer.Content.TheVariants as contents
 use Rattle.nmvs_protocol.specs.declared.answer.Turn.{Turn}
 use Rattle.nmvs_protocol.specs.declared.answer.Turn.TheVariants as turns
 use Rattle.nmvs_protocol.specs.declared.withheld.Basis.{Basis}
@@ -73,22 +79,49 @@ pub record SeesShard (old : DeskView) (shard : ℕ) (new : DeskView) : Type 0 wh
   pub shown : IsShown old.shards shard (row old.sights shard) (row new.sights shard)
   pub others : (i : ℕ) → i ≢ shard → row new.sights i ≡ row old.sights i
 
--- the question was put: there is one receipt more, with the moment that the clock gave, the user, in the capacity that the
--- directory gives, the question, and, on a trail of its shard that begins with all that the clerk had seen of it, the reply of
--- the rules and the entries that they show; now the clerk has seen the entry, too, and no more of another shard; and the answer
--- rests on the entries up to this one
-pub record Receives (old new : DeskView) (user : Name) (question : Question) (said : Reply) (shown : List Entry) (basis : Option Basis) : Type 0 where
+-- a question as it is put: at the moment that the clock gave, by the user, in the capacity that the directory gives, with the
+-- tag that its line has
+pub record IsPut (old new : DeskView) (user : Name) (question : Question) (tag : Option Tag) (put : Put) : Type 0 where
+  pub moment : pos put.moment ≡ old.gave
+  pub by : put.user ≡ user
+  pub asked : put.question ≡ question
+  pub tagged : put.tag ≡ tag
+  pub actor : Reads old.seen new.seen user (looks.Known put.actor)
+
+-- the question was put: there is one receipt more, with the question as it is put and, on a trail of its shard that begins with
+-- all that the clerk had seen of it and on which the question is new, the reply of the rules and the entries that they show;
+-- now the clerk has seen the entry, too, and no more of another shard; and the answer rests on the entries up to this one
+pub record Receives (old new : DeskView) (user : Name) (question : Question) (tag : Option Tag) (said : Reply) (shown : List Entry) (basis : Option Basis) : Type 0 where
   pub receipt : Receipt
   pub kept : new.receipts ≡ old.receipts ++ receipt ∷ []
-  pub moment : pos receipt.entry.put.moment ≡ old.gave
-  pub by : receipt.entry.put.user ≡ user
-  pub asked : receipt.entry.put.question ≡ question
-  pub actor : Reads old.seen new.seen user (looks.Known receipt.entry.put.actor)
+  pub put : IsPut old new user question tag receipt.entry.put
+  pub first : repeat_of (take receipt.place (row new.sights receipt.shard)) receipt.entry.put ≡ repeat.New
   pub replied : receipt.entry.reply ≡ said
   pub shard : receipt.shard ≡ shard_of old.shards (code_of question)
   pub answered : IsAnswered old.shards (row old.sights receipt.shard) (row new.sights receipt.shard) receipt shown
   pub others : (i : ℕ) → i ≢ receipt.shard → row new.sights i ≡ row old.sights i
   pub rests : basis ≡ Some (record { shard = receipt.shard; place = receipt.place })
+
+-- the question was asked before: the clerk has seen more of its shard alone, there is no receipt, and an entry that was seen
+-- answers it again, with the entries that were shown with it; and the answer rests on the entries up to that one
+pub record Repeats (old new : DeskView) (user : Name) (question : Question) (tag : Option Tag) (said : Reply) (shown : List Entry) (basis : Option Basis) : Type 0 where
+  pub put : Put
+  pub is : IsPut old new user question tag put
+  pub receipts : new.receipts ≡ old.receipts
+  pub sees : SeesShard old (shard_of old.shards (code_of question)) new
+  pub place : ℕ
+  pub entry : Entry
+  pub stands : slice_get (row new.sights (shard_of old.shards (code_of question))) place ≡ Some entry
+  pub repeats : repeat_of (row new.sights (shard_of old.shards (code_of question))) put ≡ repeat.Same place said
+  pub shows : shown ≡ shown_of (take place (row new.sights (shard_of old.shards (code_of question)))) put
+  pub rests : basis ≡ Some (record { shard = shard_of old.shards (code_of question); place = place })
+
+-- the tag is that of something else which the user asked about the pack
+pub record AsksOther (old new : DeskView) (user : Name) (question : Question) (tag : Option Tag) : Type 0 where
+  pub put : Put
+  pub is : IsPut old new user question tag put
+  pub sees : SeesShard old (shard_of old.shards (code_of question)) new
+  pub other : repeat_of (row new.sights (shard_of old.shards (code_of question))) put ≡ repeat.Other
 
 -- the directory knows the user, in a role that may ask or may not
 abbrev pub IsInRole : DeskView → DeskView → Name → (Role → Bool) → Bool → Type 0
@@ -107,17 +140,18 @@ RestsOnAll shard t (Some basis) = (basis.shard ≡ shard) × (basis.place + 1 �
 abbrev pub may_put : Role → Bool
 may_put _ = true
 
--- why a line was turned away that the clock let pass: by the directory, by the user's role, or for want of memory, where the
--- directory knows the user and the role may ask
-abbrev pub IsTurned : DeskView → DeskView → Name → (Role → Bool) → Turn → Type 0
-IsTurned old new user may turns.Clock = ⊥
-IsTurned old new user may turns.Nobody = Reads old.seen new.seen user looks.Nobody
-IsTurned old new user may turns.Suspended = Reads old.seen new.seen user looks.Suspended
-IsTurned old new user may turns.Closed = Reads old.seen new.seen user looks.Closed
-IsTurned old new user may turns.Role = IsInRole old new user may false
-IsTurned old new user may turns.Memory = IsInRole old new user may true
-IsTurned old new user may turns.Rate = ⊥
-IsTurned old new user may turns.Journal = ⊥
+-- why a line was turned away that the clock let pass: by the directory, by the user's role, for want of memory, where the
+-- directory knows the user and the role may ask, or since its tag is that of something other
+abbrev pub IsTurned : DeskView → DeskView → Name → (Role → Bool) → Type 0 → Turn → Type 0
+IsTurned old new user may other turns.Clock = ⊥
+IsTurned old new user may other turns.Nobody = Reads old.seen new.seen user looks.Nobody
+IsTurned old new user may other turns.Suspended = Reads old.seen new.seen user looks.Suspended
+IsTurned old new user may other turns.Closed = Reads old.seen new.seen user looks.Closed
+IsTurned old new user may other turns.Role = IsInRole old new user may false
+IsTurned old new user may other turns.Memory = IsInRole old new user may true
+IsTurned old new user may other turns.Rate = ⊥
+IsTurned old new user may other turns.Journal = ⊥
+IsTurned old new user may other turns.Tag = other
 
 -- the turn of a line whose question was not put
 abbrev pub turn_of_fault : AskFault → Turn
@@ -131,27 +165,37 @@ pub record LeavesNone (old new : DeskView) : Type 0 where
   pub receipts : new.receipts ≡ old.receipts
   pub sights : (i : ℕ) → IsPrefix (row old.sights i) (row new.sights i)
 
--- what the desk may answer at the moment that its clock gave, once the clerk was told, and on what the answer rests: a reply on
--- the entries up to its own, a report on all that was seen of the shard
-abbrev pub AnswersTold : DeskView → Ask → Answer → Option Basis → DeskView → Type 0
-AnswersTold old (asks.Question user q) (answers.Replied r shown) basis new = Receives old new user q r shown basis
-AnswersTold old (asks.Question user q) (answers.Turned turn) basis new = (basis ≡ None) × LeavesNone old new × IsTurned old new user may_put turn
-AnswersTold old (asks.Report user c) (answers.Reported text) basis new =
+-- what the desk may answer to a question, and on what the answer rests: a reply on the entries up to its own, or up to the one
+-- that it repeats
+abbrev pub AnswersQuestion : DeskView → Name → Question → Option Tag → Content → Option Basis → DeskView → Type 0
+AnswersQuestion old user q tag (contents.Replied r shown) basis new = Receives old new user q tag r shown basis ⊎ Repeats old new user q tag r shown basis
+AnswersQuestion old user q tag (contents.Turned turn) basis new =
+    (basis ≡ None) × LeavesNone old new × IsTurned old new user may_put (AsksOther old new user q tag) turn
+AnswersQuestion _ _ _ _ _ _ _ = ⊥
+
+-- what it may answer to who asks for a report: a report rests on all that was seen of the shard
+abbrev pub AnswersReport : DeskView → Name → ProductCode → Content → Option Basis → DeskView → Type 0
+AnswersReport old user c (contents.Reported text) basis new =
     RestsOnAll (shard_of new.shards c) (row new.sights (shard_of new.shards c)) basis
     × LeavesNone old new × IsInRole old new user may_report true × SeesShard old (shard_of old.shards c) new × Reports new c text
-AnswersTold old (asks.Report user c) (answers.Turned turn) basis new = (basis ≡ None) × LeavesNone old new × IsTurned old new user may_report turn
-AnswersTold _ _ _ _ _ = ⊥
+AnswersReport old user c (contents.Turned turn) basis new = (basis ≡ None) × LeavesNone old new × IsTurned old new user may_report ⊥ turn
+AnswersReport _ _ _ _ _ _ = ⊥
+
+-- what the desk may answer at the moment that its clock gave, once the clerk was told
+abbrev pub AnswersTold : DeskView → Option Tag → Asked → Content → Option Basis → DeskView → Type 0
+AnswersTold old tag (asked.Question user q) said basis new = AnswersQuestion old user q tag said basis new
+AnswersTold old tag (asked.Report user c) said basis new = AnswersReport old user c said basis new
 
 -- what the desk may answer, whatever is asked, and on what the answer rests: the clock turns the line away; or the clerk is
 -- told, and then the line is answered
-abbrev pub Serves : DeskView → Ask → Answer → Option Basis → DeskView → Type 0
+abbrev pub Serves : DeskView → Ask → Content → Option Basis → DeskView → Type 0
 Serves old ask said basis new =
-    (StopsAtClock old new × (said ≡ answers.Turned turns.Clock) × (basis ≡ None))
-    ⊎ ((told : DeskView) × IsTold old told × KeepsClock told new × AnswersTold told ask said basis new)
+    (StopsAtClock old new × (said ≡ contents.Turned turns.Clock) × (basis ≡ None))
+    ⊎ ((told : DeskView) × IsTold old told × KeepsClock told new × AnswersTold told ask.tag ask.asked said basis new)
 
 -- the desk takes a line with such an answer
 abbrev pub Takes : DeskView → Ask → Withheld → DeskView → Type 0
-Takes old ask withheld new = Serves old ask withheld.answer withheld.basis new
+Takes old ask withheld new = Serves old ask withheld.answer.content withheld.basis new
 
 -- a release of answers that waited: the receipts are let go, and the clerk may have seen more of each shard
 pub record LetsGo (old new : DeskView) : Type 0 where

@@ -1,24 +1,25 @@
 //! The program's desk.
-ghost use Rattle.std.specs.Prelude.{◌≡◌, List, length};
-ghost use Rattle.nmvs_rules.specs.declared.entry.Entry.{Entry};
+ghost use Rattle.std.specs.Prelude.{◌≡◌, List, Some, length};
+ghost use Rattle.nmvs_protocol.specs.declared.answer.Content.TheVariants.{Replied};
+ghost use Rattle.nmvs_rules.specs.declared.entry.Entry.{Entry as TheEntry};
 ghost use Rattle.nmvs_desk.specs.Settlement.{row};
 ghost use Rattle.nmvs_server.specs.Desk.{turn_of_fault, RestsOnAll};
 
 use crate::Clock;
 use log::{Log, info};
-use nmvs_desk::{AskFault, Clerk, Reader, Repository, Served};
+use nmvs_desk::{AskFault, Clerk, Outcome, Reader, Receipt, Repository, Served};
 use nmvs_directory::{Naming, Notice};
 use nmvs_figures::Tally;
 use nmvs_history::Histories;
-use nmvs_identifier::{Moment, Name, ProductCode};
+use nmvs_identifier::{Moment, Name, ProductCode, Tag};
 use nmvs_journal::{Kept, Store};
 use nmvs_offices::{Alarm, Evidence, Offices, Reach};
 use nmvs_protocol::{
-    Answer, Ask, Authorisations, Basis, Desk, Entries, Released, Text, Turn, Withheld,
+    Ask, Asked, Authorisations, Basis, Content, Desk, Entries, Released, Text, Turn, Withheld,
     WithheldAnswers,
 };
 use nmvs_record::report;
-use nmvs_rules::{Question, Reply, may_report};
+use nmvs_rules::{Entry, Question, Reply, may_report};
 use nmvs_shard::Shard;
 use nmvs_words::cause_word;
 use std::alloc::{AllocError, Global};
@@ -50,10 +51,10 @@ impl<'r, 'a, R: Wait, J: Naming, H: Histories, K: Clock> Model for ClerkDesk<'r,
 
 impl<'r, 'a, R: Wait + Log, J: Naming, H: Histories, K: Clock> ClerkDesk<'r, 'a, R, J, H, K> {
     ghost use Rattle.std.specs.Prelude.{◌≡◌, pos, IfOk, IfSome, IfNone, string_bytes};
-    ghost use Rattle.nmvs_protocol.specs.declared.ask.Ask.TheVariants as asks;
+    ghost use Rattle.std.specs.Prelude.{None, Some};
     ghost use Rattle.nmvs_desk.specs.Placing.{shard_of};
     ghost use mathlib.Core.List.{IsPrefix};
-    ghost use Rattle.nmvs_server.specs.Desk.{AnswersTold, IsTold, KeepsClock, NamesAuthorisation, Reports, RestsOnAll, SeesShard, Serves, StopsAtClock};
+    ghost use Rattle.nmvs_server.specs.Desk.{AnswersQuestion, AnswersReport, IsTold, KeepsClock, NamesAuthorisation, Reports, RestsOnAll, SeesShard, Serves, StopsAtClock};
 
     /// A desk over a clerk of this repository, and the lock of the latest notice. Its answers are counted on the tally.
     ///
@@ -126,63 +127,87 @@ impl<'r, 'a, R: Wait + Log, J: Naming, H: Histories, K: Clock> ClerkDesk<'r, 'a,
     }
 
     /// The answer to a line, and on what it rests.
-    pub(crate) fn answer(&mut self, ask: &Ask) -> (Answer<'a>, Option<Basis>)
+    pub(crate) fn answer(&mut self, ask: &Ask) -> (Content<'a>, Option<Basis>)
         ensures { Serves self.old ask.now result.0 result.1 self.new }
     {
         let Some(moment) = self.next_moment() else {
-            return (Answer::Turned(Turn::Clock), None);
+            return (Content::Turned(Turn::Clock), None);
         };
-        let (answer, basis) = match ask {
-            Ask::Question(user, question) => self.ask(moment, user, question),
-            Ask::Report(user, code) => self.report(user, code),
-        };
-        self.tally.note_answer(ask, &answer, basis);
-        tell_alert(self.rt, ask, &answer);
-        (answer, basis)
+        match &ask.asked {
+            Asked::Question(user, question) => match ask.tag {
+                None => self.ask(moment, user, question),
+                Some(tag) => self.ask_once(moment, user, question, tag),
+            },
+            Asked::Report(user, code) => self.report(user, code),
+        }
     }
 
-    /// Puts a question by the clerk, at the moment that the clock gave.
+    /// Puts a question without a tag by the clerk, at the moment that the clock gave.
     fn ask(
         &mut self,
         moment: Moment,
         user: &Name,
         question: &Question,
-    ) -> (Answer<'a>, Option<Basis>)
+    ) -> (Content<'a>, Option<Basis>)
         requires { pos moment ≡ self.old.gave }
         ensures clock { KeepsClock self.old self.new }
-        ensures answers { AnswersTold self.old (asks.Question user.now question.now) result.0 result.1 self.new }
+        ensures answers { AnswersQuestion self.old user.now question.now None result.0 result.1 self.new }
     {
         let (rt, repository) = (self.rt, self.repository);
         match self.clerk.ask(rt, repository, moment, user, question) {
-            Ok(Served { receipt, shown }) => {
-                let basis = Basis {
-                    shard: receipt.shard,
-                    place: receipt.place,
-                };
-                (
-                    Answer::Replied(receipt.entry.reply, Entries::new(shown)),
-                    Some(basis),
-                )
+            Ok(served) => {
+                note_put(rt, &self.tally, &served.receipt);
+                replied(served)
             }
-            Err(fault) => (Answer::Turned(turn_by(fault)), None),
+            Err(fault) => (Content::Turned(turn_by(fault)), None),
+        }
+    }
+
+    /// Asks a question with a tag by the clerk, at the moment that the clock gave: it is put where it was not asked before.
+    fn ask_once(
+        &mut self,
+        moment: Moment,
+        user: &Name,
+        question: &Question,
+        tag: Tag,
+    ) -> (Content<'a>, Option<Basis>)
+        requires { pos moment ≡ self.old.gave }
+        ensures clock { KeepsClock self.old self.new }
+        ensures answers { AnswersQuestion self.old user.now question.now (Some tag) result.0 result.1 self.new }
+    {
+        let (rt, repository) = (self.rt, self.repository);
+        match self
+            .clerk
+            .ask_once(rt, repository, moment, user, question, tag)
+        {
+            Ok(Outcome::New(served)) => {
+                note_put(rt, &self.tally, &served.receipt);
+                replied(served)
+            }
+            Ok(Outcome::Again(served)) => replied(served),
+            Ok(Outcome::Other) => (Content::Turned(Turn::Tag), None),
+            Err(fault) => (Content::Turned(turn_by(fault)), None),
         }
     }
 
     /// Reports on a product code to those who may have it. It waits for the code's shard, and leaves no receipt.
     #[tactic(auto, using(crate::proofs::DeskTurns::looked_away, crate::proofs::DeskTurns::stays))]
-    fn report(&mut self, user: &Name, code: &ProductCode) -> (Answer<'a>, Option<Basis>)
+    fn report(&mut self, user: &Name, code: &ProductCode) -> (Content<'a>, Option<Basis>)
         ensures clock { KeepsClock self.old self.new }
-        ensures answers { AnswersTold self.old (asks.Report user.now code.now) result.0 result.1 self.new }
+        ensures answers { AnswersReport self.old user.now code.now result.0 result.1 self.new }
     {
         match self.clerk.actor_of(user) {
-            Err(fault) => (Answer::Turned(turn_by(fault)), None),
+            Err(fault) => (Content::Turned(turn_by(fault)), None),
             Ok(actor) => if may_report(actor.role) {
                 match self.report_on(code) {
-                    Ok((text, basis)) => (Answer::Reported(Text::new(text)), basis),
-                    Err(_) => (Answer::Turned(Turn::Memory), None),
+                    Ok((text, basis)) => {
+                        self.tally.note_report();
+                        (Content::Reported(Text::new(text)), basis)
+                    }
+                    Err(_) => (Content::Turned(Turn::Memory), None),
                 }
             } else {
-                (Answer::Turned(Turn::Role), None)
+                (Content::Turned(Turn::Role), None)
             },
         }
     }
@@ -220,7 +245,7 @@ impl<'r, 'a, R: Wait + Log, J: Naming, H: Histories, K: Clock> ClerkDesk<'r, 'a,
         alarm: &L,
     ) -> (Released<'h, 'a>, Evidence)
         requires seen { IsWithin reach.old self.old.sights }
-        ensures reach { (sights : List (List Entry)) → IsWithin reach.new sights }
+        ensures reach { (sights : List (List TheEntry)) → IsWithin reach.new sights }
         ensures released { AreReleased (IsTold result.1.items) withheld.old result.0 }
         ensures kept { AreKept result.1.items self.old.sights }
         ensures moves { LetsGo self.old self.new }
@@ -231,18 +256,32 @@ impl<'r, 'a, R: Wait + Log, J: Naming, H: Histories, K: Clock> ClerkDesk<'r, 'a,
     }
 }
 
-/// Logs an alert that is flagged as a potential falsification (Article 36).
-fn tell_alert<R: Log>(rt: &R, ask: &Ask, answer: &Answer<'_>) {
-    let (Ask::Question(_, question), Answer::Replied(reply, _)) = (ask, answer) else {
-        return;
+/// The reply of an entry, with what it shows, and the entry as that on which it rests.
+fn replied<'a>(served: Served<'a>) -> (Content<'a>, Option<Basis>)
+    ensures { result ≡ (Replied served.entry.receipt.entry.reply served.entry.shown.items, Some (record { shard = served.entry.receipt.shard; place = served.entry.receipt.place })) }
+{
+    let Served { receipt, shown } = served;
+    let basis = Basis {
+        shard: receipt.shard,
+        place: receipt.place,
     };
+    (
+        Content::Replied(receipt.entry.reply, Entries::new(shown)),
+        Some(basis),
+    )
+}
+
+/// Counts a question that was put, and logs an alert that is flagged as a potential falsification (Article 36).
+fn note_put<R: Log>(rt: &R, tally: &Tally<'_>, receipt: &Receipt) {
+    let Entry { put, reply } = &receipt.entry;
+    tally.note_put(receipt.shard, &put.question, reply);
     if let Reply::Alert {
         cause,
         flagged: true,
         number,
     } = reply
     {
-        let (code, cause) = (question.code(), cause_word(*cause));
+        let (code, cause) = (put.question.code(), cause_word(*cause));
         info!(rt; code = code.text(), cause, number = *number; "alert");
     }
 }
@@ -258,7 +297,7 @@ fn note_confirmed(tally: &Tally<'_>, kept: &[Kept]) {
 
 /// What rests on all of a trail of so many entries.
 fn basis_of(shard: usize, count: usize) -> Option<Basis>
-    ensures { (t : List Entry) → length t ≡ count → RestsOnAll shard t result }
+    ensures { (t : List TheEntry) → length t ≡ count → RestsOnAll shard t result }
 {
     if count == 0 {
         return None;
@@ -316,8 +355,8 @@ impl<'r, 'a, R: Wait + Log, J: Naming, H: Histories, K: Clock> Desk<'a>
     ghost moves = { Stays };
 
     fn take(&mut self, ask: &Ask) -> Withheld<'a> {
-        let (answer, basis) = self.answer(ask);
-        Withheld::resting_on(basis, answer)
+        let (content, basis) = self.answer(ask);
+        Withheld::resting_on(basis, content)
     }
 
     fn release<'h>(&mut self, withheld: &'h mut WithheldAnswers<'a>) -> (Released<'h, 'a>, ()) {

@@ -601,6 +601,45 @@ pub const REPORTS: &[Example] = &[
     },
 ];
 
+pub const REPEATS: &[Example] = &[
+    Example {
+        shows: "a line with a tag is carried out once, and a tag is its user's own",
+        moments: &[NEW_YEAR],
+        lines: &[
+            (
+                "#u1 mah1 UPLOAD 09506000134352 SN1 B1 280200",
+                "#u1 UPLOADED",
+            ),
+            ("#a17 ph1 SUPPLY 09506000134352 SN1", "#a17 DECOMMISSIONED"),
+            ("#a17 ph1 SUPPLY 09506000134352 SN1", "#a17 DECOMMISSIONED"),
+            ("#a17 ph1 STATUS 09506000134352 SN1", "#a17 FAULT TAG"),
+            (
+                "#a17 ph2 SUPPLY 09506000134352 SN1",
+                "#a17 ALERT SUPPLIED FLAGGED 1",
+            ),
+            (
+                "#a17 ph2 SUPPLY 09506000134352 SN1",
+                "#a17 ALERT SUPPLIED FLAGGED 1",
+            ),
+            (
+                "#u1 mah1 UPLOAD 09506000134352 SN1 B1 280200",
+                "#u1 UPLOADED",
+            ),
+            ("ph1 SUPPLY 09506000134352 SN1", "ALERT SUPPLIED FLAGGED 2"),
+            ("#a17 ph1 STATUS 09506000134352 SN2", "#a17 NOPACK"),
+        ],
+    },
+    Example {
+        shows: "a recall is not looked for by its tag",
+        moments: &[NEW_YEAR],
+        lines: &[
+            ("mah1 UPLOAD 09506000134352 SN1 B1 280200", "UPLOADED"),
+            ("#r mah1 RECALL 09506000134352 B1", "#r LOCKED 1"),
+            ("#s mah1 RECALL 09506000134352 B1", "#s REFUSED 6 ALREADY"),
+        ],
+    },
+];
+
 pub const SPELLINGS: &[Example] = &[
     Example {
         shows: "serials have at most 20 characters and lines 200",

@@ -1,4 +1,5 @@
 //! The rehearsal: a session to learn the repository by, whose every answer is proved.
+ghost use Rattle.nmvs_protocol.specs.declared.answer.Content.TheVariants.{Replied};
 ghost use Rattle.std.specs.Prelude.{◌≡◌, ◌<◌, [], ◌∷◌, length};
 ghost use Rattle.nmvs_protocol.specs.declared.end.End.{End as TheEnd};
 ghost use Rattle.nmvs_protocol.specs.Session.{AtOnce, Session, Stays};
@@ -9,17 +10,17 @@ ghost use Rattle.nmvs_server.specs.Rehearsal.{Rehearsal, Takes};
 use crate::Fault;
 use crate::fault::outcome_of;
 use crate::roster::actor_of;
-use nmvs_identifier::{Moment, Name, ProductCode};
+use nmvs_identifier::{Moment, Name, ProductCode, Tag};
 use nmvs_operator::NEW_YEAR;
 use nmvs_protocol::{
-    Answer, Ask, Desk, End, Entries, Released, SESSION_LIMITS, Text, Turn, Withheld,
+    Ask, Asked, Content, Desk, End, Entries, Released, SESSION_LIMITS, Text, Turn, Withheld,
     WithheldAnswers, serve,
 };
 use nmvs_record::report;
 use nmvs_rules::{Put, Question, may_report};
-use nmvs_shard::{Answered, HashKey, Shard};
+use nmvs_shard::{Answered, Asked as Outcome, HashKey, Shard};
 use nmvs_stream::{Sink, Source};
-use std::alloc::Global;
+use std::alloc::{AllocError, Global};
 use std::marker::Model;
 
 #[cfg(test)]
@@ -109,39 +110,55 @@ impl<'a> RehearsalDesk<'a> {
     }
 
     /// Judges a question that is put at the moment.
-    fn judge(&mut self, moment: Moment, user: &Name, question: &Question) -> Answer<'a>
-        ensures { JudgesQuestion moment self.old user.now question.now result self.new }
+    fn judge(
+        &mut self,
+        moment: Moment,
+        user: &Name,
+        tag: Option<Tag>,
+        question: &Question,
+    ) -> Content<'a>
+        ensures { JudgesQuestion moment self.old user.now tag question.now result self.new }
     {
         let Some(actor) = actor_of(user) else {
-            return Answer::Turned(Turn::Nobody);
+            return Content::Turned(Turn::Nobody);
         };
         let put = Put {
             moment,
             user: *user,
             actor,
             question: *question,
+            tag,
         };
-        let Ok(Answered { reply, shown }) = self.shard.step(&put) else {
-            return Answer::Turned(Turn::Memory);
-        };
-        Answer::Replied(reply, Entries::new(shown))
+        match self.shard.ask(&put) {
+            Ok(Outcome::New(answered)) => told(answered),
+            Ok(Outcome::Again { place: _, answered }) => told(answered),
+            Ok(Outcome::Other) => Content::Turned(Turn::Tag),
+            Err(AllocError) => Content::Turned(Turn::Memory),
+        }
     }
 
     /// Reports on a product code to those who may have it. It leaves no entry.
-    fn report(&self, user: &Name, code: &ProductCode) -> Answer<'a>
+    fn report(&self, user: &Name, code: &ProductCode) -> Content<'a>
         ensures { JudgesReport self.now.trail user.now code.now result }
     {
         let Some(actor) = actor_of(user) else {
-            return Answer::Turned(Turn::Nobody);
+            return Content::Turned(Turn::Nobody);
         };
         if !may_report(actor.role) {
-            return Answer::Turned(Turn::Role);
+            return Content::Turned(Turn::Role);
         }
         match report(*self.alloc, &self.shard, code) {
-            Ok(text) => Answer::Reported(Text::new(text)),
-            Err(_) => Answer::Turned(Turn::Memory),
+            Ok(text) => Content::Reported(Text::new(text)),
+            Err(_) => Content::Turned(Turn::Memory),
         }
     }
+}
+
+/// The reply to a question, and the entries that are shown with it.
+fn told<'a>(answered: Answered<&'a Global>) -> Content<'a>
+    ensures { result ≡ Replied answered.entry.reply answered.entry.shown.items }
+{
+    Content::Replied(answered.reply, Entries::new(answered.shown))
 }
 
 impl<'a> Desk<'a> for RehearsalDesk<'a> {
@@ -158,9 +175,9 @@ impl<'a> Desk<'a> for RehearsalDesk<'a> {
 
     fn take(&mut self, ask: &Ask) -> Withheld<'a> {
         let moment = self.next_moment();
-        Withheld::new(match ask {
-            Ask::Question(user, question) => self.judge(moment, user, question),
-            Ask::Report(user, code) => self.report(user, code),
+        Withheld::new(match &ask.asked {
+            Asked::Question(user, question) => self.judge(moment, user, ask.tag, question),
+            Asked::Report(user, code) => self.report(user, code),
         })
     }
 

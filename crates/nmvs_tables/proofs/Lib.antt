@@ -11,3 +11,4 @@ pub mod BatchRecordLemmas
 pub mod TablesLemmas
 pub mod EntryLemmas
 pub mod ListingLemmas
+pub mod TagLemmas

@@ -7,7 +7,7 @@ use mio::net::UnixStream;
 use nmvs_figures::Panel;
 use nmvs_identifier::Name;
 use nmvs_protocol::{
-    Answer, Ask, Authorisations, Desk, OwnDesk, Released, Turn, Withheld, WithheldAnswers,
+    Ask, Authorisations, Content, Desk, OwnDesk, Released, Turn, Withheld, WithheldAnswers,
 };
 use std::io;
 use std::io::{Read, Write};
@@ -34,7 +34,7 @@ impl<'a> Desk<'a> for Counting {
     ghost moves = { λ _ _. Unit {0} };
 
     fn take(&mut self, _ask: &Ask) -> Withheld<'a> {
-        Withheld::new(Answer::Turned(Turn::Nobody))
+        Withheld::new(Content::Turned(Turn::Nobody))
     }
 
     fn release<'h>(&mut self, withheld: &'h mut WithheldAnswers<'a>) -> (Released<'h, 'a>, ()) {

@@ -7,13 +7,15 @@ ghost use Rattle.nmvs_desk.specs.Settlement.{row};
 
 use super::asking::{Copied, Line};
 use super::crew::{enrol_all, shards_with};
-use super::market::{P, Q, audit, authentic, new_year, upload, verify};
+use super::market::{P, Q, audit, authentic, name, new_year, upload, verify};
 use crate::{
-    AskFault, Clerk, Keepers, MOST_CLERKS, OpenFault, Repository, Settled, Unsettled, settle,
+    AskFault, Clerk, Keepers, MOST_CLERKS, OpenFault, Outcome, Repository, Settled, Unsettled,
+    settle,
 };
 use linked_list_allocator::LocalHeap;
 use nmvs_directory::{Directory, Naming, Window};
 use nmvs_history::Histories;
+use nmvs_identifier::Tag;
 use nmvs_rules::{Entry, Reply};
 use nmvs_shard::Shard;
 use std::alloc::{AllocError, Global};
@@ -107,6 +109,51 @@ fn is_answered_at_last<'a, J: Naming, H: Histories, R: Wait + Abort>(
     full.refused
 }
 
+/// Where the entry of the audit with a tag stands in its shard.
+const SHOWN_AT: usize = 3;
+
+/// Asks an audit of P with a tag, by which it was asked before or not. Tells whether it was answered, by the entry at its place.
+fn is_shown<'a, J: Naming, H: Histories, R: Wait + Abort>(
+    rt: &R,
+    repository: &Repository<'a, H, LocalHeap>,
+    clerk: &mut Clerk<'a, J, H, LocalHeap>,
+) -> bool {
+    let tag = Tag::read("a17").expect(rt, "a tag");
+    let (user, question) = (name(rt, "au1"), audit(rt, P));
+    match clerk.ask_once(rt, repository, new_year(rt), &user, &question, tag) {
+        Ok(Outcome::New(served) | Outcome::Again(served)) => {
+            assert_eq!(rt;
+                (served.receipt.place, served.shown.len()),
+                (SHOWN_AT, SHOWN_AT)
+            );
+            true
+        }
+        Ok(Outcome::Other) => panic!(rt; "another question"),
+        Err(fault) => {
+            assert_eq!(rt; fault, AskFault::Memory);
+            false
+        }
+    }
+}
+
+/// Asks it on a full heap until it is answered. The list that is shown takes memory each time, and one receipt is kept.
+fn is_shown_at_last<'a, J: Naming, H: Histories, R: Wait + Abort>(
+    rt: &R,
+    full: &mut FullHeap,
+    repository: &Repository<'a, H, LocalHeap>,
+    clerk: &mut Clerk<'a, J, H, LocalHeap>,
+) {
+    full.fill(rt);
+    for _turn in 0..10_000 {
+        if is_shown(rt, repository, clerk) {
+            break;
+        }
+        full.give_back(rt);
+    }
+    assert!(rt; full.refused >= 1);
+    assert_eq!(rt; clerk.receipts().len(), SHOWN_AT + 1);
+}
+
 /// Puts all questions, each on a full heap.
 fn are_answered_at_last<'a, J: Naming, H: Histories, R: Wait + Abort>(
     rt: &R,
@@ -125,6 +172,8 @@ fn are_answered_at_last<'a, J: Naming, H: Histories, R: Wait + Abort>(
         let refused = is_answered_at_last(rt, alloc, full, repository, clerk, &line);
         assert!(rt; refused >= least);
     }
+    is_shown_at_last(rt, full, repository, clerk);
+    is_shown_at_last(rt, full, repository, clerk);
 }
 
 /// Settles on a full heap.
@@ -163,7 +212,7 @@ fn is_settled<'a, J: Naming, H: Histories>(
     let settled = settled_at_last(rt, full, unsettled);
     // the shards, twice, what is handed out, and a list of owners a shard
     assert!(rt; full.refused >= 7);
-    have_lengths(rt, &settled, [3, 1]);
+    have_lengths(rt, &settled, [4, 1]);
 }
 
 /// Opens the repository once, and tells whether it was opened. Then all questions were put to it, and it was settled.

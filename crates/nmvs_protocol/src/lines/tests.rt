@@ -1,6 +1,6 @@
-use crate::{Ask, Line, LineFault, line_text, read_line};
+use crate::{Ask, Asked, Line, LineFault, Unread, line_text, read_line};
 use linked_list_allocator::LocalHeap;
-use nmvs_identifier::{Batch, Expiry, Name, Pack, ProductCode, Serial};
+use nmvs_identifier::{Batch, Expiry, Name, Pack, ProductCode, Serial, Tag};
 use nmvs_rules::Question;
 use std::alloc::Global;
 use std::process::Abort;
@@ -11,8 +11,10 @@ fn lines_are_read_and_written(rt: HostRuntime) {
     let user = Name::read("ph1").expect(&rt, "a name");
     let code = ProductCode::read("09506000134352").expect(&rt, "a code");
     let serial = Serial::read("SN1").expect(&rt, "a serial number");
-    let verify = Line::Ask(Ask::Question(user, Question::Verify(Pack { code, serial })));
-    let line = "ph1 VERIFY 09506000134352 SN1";
+    let tag = Some(Tag::read("a17").expect(&rt, "a tag"));
+    let asked = Asked::Question(user, Question::Verify(Pack { code, serial }));
+    let verify = Line::Ask(Ask { tag, asked });
+    let line = "#a17 ph1 VERIFY 09506000134352 SN1";
     assert!(rt; read_line(line.as_bytes()) == Ok(verify));
     let written = line_text(rt.alloc(), &verify).expect(&rt, "ample memory");
     assert!(rt; written.as_str() == line);
@@ -23,14 +25,15 @@ fn lines_are_read_and_written(rt: HostRuntime) {
     let batch = Batch::read("B1").expect(&rt, "a batch number");
     let expiry = Expiry::read("280200").expect(&rt, "an expiry date");
     let pack = Pack { code, serial };
-    let upload = Line::Ask(Ask::Question(
+    let asked = Asked::Question(
         holder,
         Question::Upload {
             pack,
             batch,
             expiry,
         },
-    ));
+    );
+    let upload = Line::Ask(Ask { tag: None, asked });
     let line = "mah1 UPLOAD 09506000134352 ABC/DEF%GHI/JKL%MN12 B1 280200";
     assert!(rt; read_line(line.as_bytes()) == Ok(upload));
 }
@@ -48,7 +51,7 @@ fn is_written_again(alloc: Global, line: &str) -> bool {
 
 /// Whether a line's text is written on a heap of so many bytes.
 fn is_written_on(rt: &impl Abort, alloc: Global, bytes: usize) -> bool {
-    let line = "mah1 WITHDRAW 09506000134352 ABC/DEF%GHI/JKL%MN12";
+    let line = "#a17 mah1 WITHDRAW 09506000134352 ABC/DEF%GHI/JKL%MN12";
     let read = read_line(line.as_bytes()).expect(rt, "a line");
     let heap = LocalHeap::new(alloc, bytes).expect(rt, "memory");
     match line_text(&heap, &read) {
@@ -91,6 +94,8 @@ fn each_kind_of_line_has_its_text(rt: HostRuntime) {
         "mah1 THEFT 09506000134352 SN1",
         "au1 AUDIT 09506000134352 SN1",
         "au1 REPORT 09506000134352",
+        "#1 au1 REPORT 09506000134352",
+        "#a.b_c-d.e_f-g.h_i-j mah1 UPLOAD 09506000134352 ABC/DEF%GHI/JKL%MN12 B1 280200",
         "QUIT",
     ] {
         assert!(rt; is_written_again(rt.alloc(), line), "{line}");
@@ -130,10 +135,68 @@ fn faults_of_lines(rt: HostRuntime) {
             LineFault::Expiry,
         ),
     ] {
-        assert!(rt; read_line(line.as_bytes()) == Err(fault), "{line}");
+        let unread = Unread { tag: None, fault };
+        assert!(rt; read_line(line.as_bytes()) == Err(unread), "{line}");
     }
-    assert!(rt; read_line(&[b'A'; 200]) == Err(LineFault::Fields));
-    assert!(rt; read_line(&[b'A'; 201]) == Err(LineFault::Long));
+}
+
+/// What is told of a line that is unread, and begins with a tag or not.
+fn unread(tag: Option<Tag>, fault: LineFault) -> Result<Line, Unread> {
+    Err(Unread { tag, fault })
+}
+
+/// Whether a line of so many `A`, with a tag before them or without one, is unread for this reason, and told so with its tag.
+fn is_unread(length: usize, tag: Option<&str>, fault: LineFault) -> bool {
+    let mut line = [b'A'; 201];
+    let mut told = None;
+    if let Some(text) = tag {
+        line[0] = b'#';
+        line[1] = b'a';
+        line[2] = b' ';
+        told = Tag::read(text).ok();
+    }
+    read_line(&line[..length.min(201)]) == unread(told, fault)
+}
+
+#[test]
+fn a_line_has_200_bytes_at_most(rt: HostRuntime) {
+    assert!(rt; is_unread(201, None, LineFault::Long));
+    assert!(rt; is_unread(201, Some("a"), LineFault::Long));
+    assert!(rt; is_unread(200, Some("a"), LineFault::Fields));
+}
+
+#[test]
+fn a_fault_has_the_tag_of_its_line(rt: HostRuntime) {
+    for (line, fault) in [
+        ("#a17 ", LineFault::Fields),
+        ("#a17  ph1 VERIFY 09506000134352 SN1", LineFault::Fields),
+        ("#a17 QUIT", LineFault::Fields),
+        ("#a17 ph1 VERIFY 09506000134352 SN1\r", LineFault::Bytes),
+        ("#a17 #b ph1 VERIFY 09506000134352 SN1", LineFault::Word),
+        ("#a17 -x VERIFY 09506000134352 SN1", LineFault::User),
+        ("#a17 ph1 VERIFY 09506000134353 SN1", LineFault::Code),
+    ] {
+        let tag = Some(Tag::read("a17").expect(&rt, "a tag"));
+        assert!(rt;
+            read_line(line.as_bytes()) == Err(Unread { tag, fault }),
+            "{line}"
+        );
+    }
+}
+
+#[test]
+fn what_is_no_tag_is_a_field(rt: HostRuntime) {
+    for (line, fault) in [
+        ("#a17", LineFault::Fields),
+        ("# ph1 VERIFY 09506000134352 SN1", LineFault::Word),
+        ("#-x ph1 VERIFY 09506000134352 SN1", LineFault::Word),
+        ("#a17\t ph1 VERIFY 09506000134352 SN1", LineFault::Bytes),
+        ("#a.b_c-d.e_f-g.h_i-j.k QUIT", LineFault::Word),
+        ("a17 ph1 VERIFY 09506000134352 SN1", LineFault::Word),
+    ] {
+        let unread = Unread { tag: None, fault };
+        assert!(rt; read_line(line.as_bytes()) == Err(unread), "{line}");
+    }
 }
 
 #[test]

@@ -1,5 +1,5 @@
 use crate::{
-    Answer, Ask, Authorisations, Desk, Entries, Line, NameOf, OwnDesk, Peer, Released, Turn,
+    Ask, Authorisations, Content, Desk, Entries, Line, NameOf, OwnDesk, Peer, Released, Turn,
     Withheld, WithheldAnswers, read_line,
 };
 use nmvs_identifier::Name;
@@ -29,7 +29,7 @@ impl<'a> Desk<'a> for Empty<'a> {
     fn take(&mut self, _ask: &Ask) -> Withheld<'a> {
         self.asked = self.asked.saturating_add(1);
         let none = Entries::new(Vec::new(self.alloc));
-        Withheld::new(Answer::Replied(Reply::NoPack, none))
+        Withheld::new(Content::Replied(Reply::NoPack, none))
     }
 
     fn release<'h>(&mut self, withheld: &'h mut WithheldAnswers<'a>) -> (Released<'h, 'a>, ()) {
@@ -57,10 +57,10 @@ fn told(alloc: &Global, peer: Peer, line: &[u8]) -> &'static str {
     let mut desk = OwnDesk::new(Empty { alloc, asked: 0 });
     desk.turn_to(peer);
     let withheld = desk.take(&ask);
-    match (withheld.answer(), desk.into_desk().asked) {
-        (Answer::Turned(Turn::Nobody), 0) => "nobody",
-        (Answer::Turned(Turn::Suspended), 0) => "suspended",
-        (Answer::Replied(..), 1) => "asked",
+    match (&withheld.answer().content, desk.into_desk().asked) {
+        (Content::Turned(Turn::Nobody), 0) => "nobody",
+        (Content::Turned(Turn::Suspended), 0) => "suspended",
+        (Content::Replied(..), 1) => "asked",
         _ => "wrong",
     }
 }

@@ -1,5 +1,5 @@
 use crate::replies::wording;
-use crate::{Answer, Entries, LineFault, Text, Turn, reply_text};
+use crate::{Content, Entries, LineFault, Text, Turn, reply_text};
 use nmvs_identifier::{Batch, Expiry};
 use nmvs_rules::{BatchLock, Cause, Onward, OwnStatus, Refusal, Reply};
 use std::alloc::Global;
@@ -8,7 +8,7 @@ use std::rt::HostRuntime;
 use std::test::Fail;
 
 /// Whether the answer has this text.
-fn is_told(rt: &impl Abort, alloc: Global, answer: &Answer<'_>, text: &str) -> bool {
+fn is_told(rt: &impl Abort, alloc: Global, answer: &Content<'_>, text: &str) -> bool {
     let told = wording(alloc, answer).expect(rt, "a text");
     told.as_str() == text
 }
@@ -16,7 +16,7 @@ fn is_told(rt: &impl Abort, alloc: Global, answer: &Answer<'_>, text: &str) -> b
 /// Whether the reply has this text, on the heap and as an answer.
 fn is_replied(rt: &impl Abort, alloc: Global, reply: Reply, text: &str) -> bool {
     let line = reply_text(alloc, &reply, &[]).expect(rt, "ample memory");
-    let answer = Answer::Replied(reply, Entries::new(Vec::new(&alloc)));
+    let answer = Content::Replied(reply, Entries::new(Vec::new(&alloc)));
     line.as_str() == text && is_told(rt, alloc, &answer, text)
 }
 
@@ -83,24 +83,25 @@ fn replies_of_a_word_a_number_or_a_refusal_have_their_texts(rt: HostRuntime) {
 #[test]
 fn each_other_answer_has_its_text(rt: HostRuntime) {
     for (answer, text) in [
-        (Answer::Turned(Turn::Clock), "FAULT CLOCK\n"),
-        (Answer::Turned(Turn::Nobody), "FAULT NOBODY\n"),
-        (Answer::Turned(Turn::Suspended), "FAULT SUSPENDED\n"),
-        (Answer::Turned(Turn::Closed), "FAULT CLOSED\n"),
-        (Answer::Turned(Turn::Role), "FAULT ROLE\n"),
-        (Answer::Turned(Turn::Memory), "FAULT MEMORY\n"),
-        (Answer::Turned(Turn::Rate), "FAULT RATE\n"),
-        (Answer::Turned(Turn::Journal), "FAULT JOURNAL\n"),
-        (Answer::Unread(LineFault::Long), "FAULT LONG\n"),
-        (Answer::Unread(LineFault::Bytes), "FAULT BYTES\n"),
-        (Answer::Unread(LineFault::Fields), "FAULT FIELDS\n"),
-        (Answer::Unread(LineFault::Word), "FAULT WORD\n"),
-        (Answer::Unread(LineFault::Code), "FAULT CODE\n"),
-        (Answer::Unread(LineFault::Serial), "FAULT SERIAL\n"),
-        (Answer::Unread(LineFault::Batch), "FAULT BATCH\n"),
-        (Answer::Unread(LineFault::Expiry), "FAULT EXPIRY\n"),
-        (Answer::Unread(LineFault::User), "FAULT USER\n"),
-        (Answer::Bye, "BYE\n"),
+        (Content::Turned(Turn::Clock), "FAULT CLOCK\n"),
+        (Content::Turned(Turn::Nobody), "FAULT NOBODY\n"),
+        (Content::Turned(Turn::Suspended), "FAULT SUSPENDED\n"),
+        (Content::Turned(Turn::Closed), "FAULT CLOSED\n"),
+        (Content::Turned(Turn::Role), "FAULT ROLE\n"),
+        (Content::Turned(Turn::Memory), "FAULT MEMORY\n"),
+        (Content::Turned(Turn::Rate), "FAULT RATE\n"),
+        (Content::Turned(Turn::Journal), "FAULT JOURNAL\n"),
+        (Content::Turned(Turn::Tag), "FAULT TAG\n"),
+        (Content::Unread(LineFault::Long), "FAULT LONG\n"),
+        (Content::Unread(LineFault::Bytes), "FAULT BYTES\n"),
+        (Content::Unread(LineFault::Fields), "FAULT FIELDS\n"),
+        (Content::Unread(LineFault::Word), "FAULT WORD\n"),
+        (Content::Unread(LineFault::Code), "FAULT CODE\n"),
+        (Content::Unread(LineFault::Serial), "FAULT SERIAL\n"),
+        (Content::Unread(LineFault::Batch), "FAULT BATCH\n"),
+        (Content::Unread(LineFault::Expiry), "FAULT EXPIRY\n"),
+        (Content::Unread(LineFault::User), "FAULT USER\n"),
+        (Content::Bye, "BYE\n"),
     ] {
         assert!(rt; is_told(&rt, rt.alloc(), &answer, text), "{text}");
     }
@@ -111,6 +112,6 @@ fn a_report_is_told_as_it_is(rt: HostRuntime) -> Result<(), Fail> {
     let report = "PRODUCT 04012345678901 HOLDER - ALERTS 0 FLAGGED 0\nEND\n";
     let text = Text::new(String::from_str(rt.alloc(), report)?);
     assert!(rt; text.text() == report);
-    assert!(rt; is_told(&rt, rt.alloc(), &Answer::Reported(text), report));
+    assert!(rt; is_told(&rt, rt.alloc(), &Content::Reported(text), report));
     Ok(())
 }

@@ -1,6 +1,6 @@
 use crate::{
-    Answer, Ask, Basis, Desk, End, Entries, Limits, Released, Session, Withheld, WithheldAnswers,
-    serve,
+    Ask, Asked, Basis, Content, Desk, End, Entries, Limits, Released, Session, Text, Turn,
+    Withheld, WithheldAnswers, serve,
 };
 use nmvs_identifier::{Batch, Expiry};
 use nmvs_rules::{Question, Reply};
@@ -35,11 +35,17 @@ struct Shelf<'a> {
 }
 
 impl<'a> Shelf<'a> {
-    fn answer(&mut self, ask: &Ask) -> Answer<'a> {
+    fn answer(&mut self, ask: &Ask) -> Content<'a> {
+        if let Asked::Report(..) = ask.asked {
+            return match String::from_str(*self.alloc, "HOLDER -\nEND\n") {
+                Ok(report) => Content::Reported(Text::new(report)),
+                Err(_) => Content::Turned(Turn::Memory),
+            };
+        }
         let none = Entries::new(Vec::new(self.alloc));
-        if let Ask::Question(_, Question::Upload { batch, expiry, .. }) = ask {
+        if let Asked::Question(_, Question::Upload { batch, expiry, .. }) = &ask.asked {
             self.uploaded = Some((*batch, *expiry));
-            return Answer::Replied(Reply::Uploaded, none);
+            return Content::Replied(Reply::Uploaded, none);
         }
         let reply = match self.uploaded {
             Some((batch, expiry)) => Reply::Authentic {
@@ -49,7 +55,7 @@ impl<'a> Shelf<'a> {
             },
             None => Reply::NoPack,
         };
-        Answer::Replied(reply, none)
+        Content::Replied(reply, none)
     }
 }
 
@@ -192,7 +198,7 @@ fn lines_are_answered_in_order(rt: HostRuntime) {
     long[402] = b'\n';
     let two_lines = Limits { lines: 2, ..AMPLE };
     let no_line = Limits { lines: 0, ..AMPLE };
-    let cases: [(&[u8], Limits, &[u8], End); 8] = [
+    let cases: [(&[u8], Limits, &[u8], End); 9] = [
         (INPUT, AMPLE, OUTPUT, End::Quit),
         (
             b"ph1 verify P SN1\n\nQUIT\nQUIT\n",
@@ -205,6 +211,12 @@ fn lines_are_answered_in_order(rt: HostRuntime) {
             b"\xc8\n\t\nmah1 UPLOAD 09506000134352 SN1 B1 280200\n",
             AMPLE,
             b"FAULT BYTES\nFAULT BYTES\nUPLOADED\n",
+            End::Ended,
+        ),
+        (
+            b"#a17 mah1 UPLOAD 09506000134352 SN1 B1 280200\n#b ph1 verify P SN1\n#c au1 REPORT 09506000134352\n",
+            AMPLE,
+            b"#a17 UPLOADED\n#b FAULT WORD\n#c HOLDER -\n#c END\n",
             End::Ended,
         ),
         (b"\nQUIT", AMPLE, b"FAULT FIELDS\n", End::Ended),
@@ -345,10 +357,10 @@ fn two_sessions_take_into_one_list(rt: HostRuntime) {
     assert!(rt;
         matches!(
         released.list(),
-        [fields, empty, reply, bye] if matches!(fields.answer(), Answer::Unread(_))
-            && matches!(empty.answer(), Answer::Unread(_))
-            && matches!(reply.answer(), Answer::Replied(..))
-            && matches!(bye.answer(), Answer::Bye)
+        [fields, empty, reply, bye] if matches!(fields.answer().content, Content::Unread(_))
+            && matches!(empty.answer().content, Content::Unread(_))
+            && matches!(reply.answer().content, Content::Replied(..))
+            && matches!(bye.answer().content, Content::Bye)
     )
     );
 }

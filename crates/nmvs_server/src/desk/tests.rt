@@ -182,12 +182,18 @@ fn suspend<'r, J: Naming, R: Wait + Log + Abort>(
     assert_eq!(rt; deliver(&mut console.sink, b"."), Ok(()));
 }
 
-/// Whether the answer is to a question that was put.
-fn is_put(answer: &str) -> bool {
-    !(answer.starts_with("FAULT")
+/// Whether the line at this place is a question that was put, and no one that is asked again by its tag.
+fn is_put(lines: &[(&str, &str)], place: usize) -> bool {
+    let Some((line, answer)) = lines.get(place) else {
+        return false;
+    };
+    let (earlier, _) = lines.split_at(place);
+    let is_repeated = line.starts_with('#') && earlier.iter().any(|(other, _)| other == line);
+    !(is_repeated
+        || answer.contains("FAULT")
         || answer.starts_with("PRODUCT")
-        || answer == "BYE"
-        || answer == "DONE")
+        || *answer == "BYE"
+        || *answer == "DONE")
 }
 
 fn at_desk<'r, 'a, J: Naming, H: Histories, R: Wait + Log + Abort>(
@@ -221,8 +227,8 @@ fn at_desk<'r, 'a, J: Naming, H: Histories, R: Wait + Log + Abort>(
         let said = asked(*alloc, &mut desk, line)?;
         assert_eq!(rt; said.as_slice(), wanted.as_bytes(), "{}", example.shows);
     }
-    let answers = example.lines.iter().map(|(_, answer)| *answer);
-    let put = answers.filter(|answer| is_put(*answer)).count();
+    let places = 0..example.lines.len();
+    let put = places.filter(|place| is_put(example.lines, *place)).count();
     let clerk = desk.into_clerk();
     assert_eq!(rt; clerk.receipts().len(), put, "{}", example.shows);
     Ok(())
@@ -278,4 +284,9 @@ fn questions_leave_a_receipt_each(rt: HostRuntime) -> Result<(), Fail> {
 fn audits_show_entries_and_reports_leave_no_receipt(rt: HostRuntime) -> Result<(), Fail> {
     get_their_answers(&rt, rt.alloc(), examples::AUDITS)?;
     get_their_answers(&rt, rt.alloc(), examples::REPORTS)
+}
+
+#[test]
+fn lines_that_are_asked_again_leave_no_receipt(rt: HostRuntime) -> Result<(), Fail> {
+    get_their_answers(&rt, rt.alloc(), examples::REPEATS)
 }

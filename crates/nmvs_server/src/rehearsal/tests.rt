@@ -72,6 +72,11 @@ fn reports_get_their_replies(rt: HostRuntime) -> Result<(), Fail> {
 }
 
 #[test]
+fn repeats_get_their_replies(rt: HostRuntime) -> Result<(), Fail> {
+    get_their_replies(&rt, rt.alloc(), examples::REPEATS)
+}
+
+#[test]
 fn spellings_get_their_replies(rt: HostRuntime) -> Result<(), Fail> {
     get_their_replies(&rt, rt.alloc(), examples::SPELLINGS)
 }

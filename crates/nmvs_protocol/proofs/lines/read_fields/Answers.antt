@@ -2,6 +2,6 @@ use Rattle.std.proofs.Common.{sym}
 use Rattle.nmvs_protocol.proofs.SpellingLemmas.{not_quit_fault}
 use Rattle.nmvs_protocol.proofs.lines.read_fields.Goals as goal
 
-pub returns-in_default-clause-fault : goal.returns-in_default-clause-fault
-returns-in_default-clause-fault c =
-    sym (not_quit_fault c.args.fields.now _ c.in-len1.len_at_least c.in-len1.len_below c.in_default.not-QUIT)
+pub returns-in_default-word-clause-fault : goal.returns-in_default-word-clause-fault
+returns-in_default-word-clause-fault c =
+    sym (not_quit_fault c.args.fields.now _ c.in-len1.len_at_least c.in-len1.len_below c.in_default-word.not-QUIT)

@@ -1,17 +1,17 @@
-use Rattle.std.proofs.Common.{◌∙◌, ap, sym, map, rules}
-use Rattle.nmvs_protocol.specs.Fields.{fields_in}
-use Rattle.nmvs_protocol.specs.Lines.{fields_fault, first_fault}
-use Rattle.nmvs_protocol.proofs.SpellingLemmas.{reads_fields, fields_fault-take}
+use Rattle.std.proofs.Common.{◌∙◌, Option, ap}
+use Rattle.nmvs_identifier.specs.Tag.{Tag}
+use Rattle.nmvs_protocol.specs.Lines.{fault_behind, first_fault}
+use Rattle.nmvs_protocol.proofs.SpellingLemmas.{reads_tagged}
 use Rattle.nmvs_protocol.proofs.lines.read_line.Goals as goal
 
-pub returns-in_err-fields : goal.returns-in_err-fields
+pub returns-in-Ok : goal.returns-in-Ok
 unfolding first_fault
-returns-in_err-fields c = let fault = c.in_err-fields.ensures.fault fields_fault in search (rules, fault)
+returns-in-Ok c =
+    let read = c.in-Ok.ensures in
+    (read.0, ap (λ (g : Option Tag). fault_behind g c.args.bytes.now) c.in_default.ensures.none ∙ read.1, read.2)
 
-pub returns : goal.returns
-unfolding first_fault
-returns c =
-    let kept = ap (map (λ f. f.now)) c.deref.ensures.0 ∙ c.in_ok-fields.ensures.fields in
-    let read = c.read_fields.ensures in
-    reads_fields c.args.bytes.now _ c.read_fields.result kept read.fields read.valid
-    (read.fault ∙ ap fields_fault kept ∙ fields_fault-take (fields_in c.args.bytes.now) ∙ sym (c.in_ok-fields.ensures.fault fields_fault))
+pub returns-in-Ok-read_tagged : goal.returns-in-Ok-read_tagged
+returns-in-Ok-read_tagged c =
+    let cut = c.in-Some.ensures in
+    let read = c.in-Ok-read_tagged.ensures in
+    reads_tagged c.args.bytes.now _ _ c.in-Ok-read_tagged.asked cut.tag cut.behind read.text read.valid read.fault

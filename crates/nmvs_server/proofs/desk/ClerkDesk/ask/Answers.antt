@@ -1,4 +1,4 @@
-use Rattle.std.proofs.Common.{◌∙◌, sym, ap, refl}
+use Rattle.std.proofs.Common.{◌∙◌, sym, ap, refl, inl}
 use Rattle.nmvs_desk.specs.Views.{ClerkView}
 use Rattle.nmvs_server.specs.Desk.{DeskView}
 use Rattle.nmvs_server.proofs.DeskTurns.{received, stays, turned_away}
@@ -11,9 +11,10 @@ returns-clause-answers g c =
     elim c.match-ask.branch [
       | in-Ok w ↦
           let e = w.in-Ok.ensures in
-          rw (← c.self.view_is, w.result-is, w.new.ensures) (received _ _ _ _ _ _ _ _ gave e.kept e.put e.shard e.answered e.others refl)
+          rw (← c.self.view_is, w.result-is, w.replied.ensures)
+          (inl (received _ _ _ _ _ _ _ _ gave e.kept e.put e.untagged e.shard e.answered e.others refl))
       | in-Err w ↦
           let e = w.in-Err.ensures in
           rw (← c.self.view_is, w.result-is, w.turn_by.ensures)
-          (turned_away _ _ _ _ _ refl (stays _ _ (ap (λ (v : ClerkView). v.receipts) e.unchanged) (ap (λ (v : ClerkView). v.sights) e.unchanged)) e.turned_away)
+          (turned_away _ _ _ _ _ _ refl (stays _ _ (ap (λ (v : ClerkView). v.receipts) e.unchanged) (ap (λ (v : ClerkView). v.sights) e.unchanged)) e.turned_away)
     ]

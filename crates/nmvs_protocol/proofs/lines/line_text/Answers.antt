@@ -1,0 +1,6 @@
+use Rattle.std.proofs.Common.{ap, rules}
+use Rattle.nmvs_protocol.specs.Lines.{line_text}
+use Rattle.nmvs_protocol.proofs.lines.line_text.Goals as goal
+
+pub returns-in-Quit-clause-line : goal.returns-in-Quit-clause-line
+returns-in-Quit-clause-line g c = let is = ap line_text c.in-Quit.is in search (rules, is)

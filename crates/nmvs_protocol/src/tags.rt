@@ -1,0 +1,59 @@
+//! Tags before lines, and before their replies.
+ghost use Rattle.std.specs.Prelude.{◌≡◌, ◌<◌, ◌∷◌, [], Some, None, IsTrue, IfSome, IfNone, length};
+ghost use Rattle.nmvs_rules.specs.Entries.{is_tag_or_none};
+ghost use Rattle.nmvs_protocol.specs.Fields.{fields_in};
+ghost use Rattle.nmvs_protocol.specs.Tags.{behind_tag, tag_named as tag_of_field, tag_of, tag_text as text_of_tag};
+
+use crate::fields::printable_text;
+use arrayvec::ArrayString;
+use memchr::memchr;
+use nmvs_identifier::Tag;
+
+/// The most bytes that stand before a line with a tag: `#`, the tag and a space (own).
+pub(crate) const LONGEST_TAG_TEXT: usize = 22;
+
+/// The tag that a line begins with, if with one, and what is behind it: it stands behind `#` and before a space (own).
+pub(crate) fn cut_tag(line: &[u8]) -> Option<(Tag, &[u8])>
+    ensures tag { IfSome result (λ cut. tag_of line.now ≡ Some cut.0) }
+    ensures behind { IfSome result (λ cut. cut.1.now ≡ behind_tag cut.0 line.now) }
+    ensures none { IfNone result (tag_of line.now ≡ None) }
+{
+    let front = &line[..LONGEST_TAG_TEXT.min(line.len())];
+    let (field, _behind) = cut_field(front)?;
+    let tag = tag_named(field)?;
+    Some((tag, &line[field.len() + 1..]))
+}
+
+/// The first field of a text that has another one, and what is behind it and its space.
+fn cut_field(text: &[u8]) -> Option<(&[u8], &[u8])>
+    ensures cut { IfSome result (λ cut. fields_in text.now ≡ cut.0.now ∷ fields_in cut.1.now) }
+    ensures within { IfSome result (λ cut. length cut.0.now < length text.now) }
+    ensures none { IfNone result (fields_in text.now ≡ text.now ∷ []) }
+{
+    let space = memchr(b' ', text)?;
+    Some((&text[..space], &text[space + 1..]))
+}
+
+/// The tag that a field is.
+fn tag_named(field: &[u8]) -> Option<Tag>
+    ensures { result ≡ tag_of_field field.now }
+{
+    let [b'#', name @ ..] = field else {
+        return None;
+    };
+    Tag::read(printable_text(name)?).ok()
+}
+
+/// What stands before a line with this tag, and before its reply: nothing where there is none.
+pub(crate) fn tag_text(tag: &Option<Tag>) -> ArrayString<LONGEST_TAG_TEXT>
+    ensures text { result.bytes ≡ text_of_tag tag.now }
+    ensures grammar { IsTrue (is_tag_or_none tag.now) }
+{
+    let mut text = ArrayString::new();
+    if let Some(tag) = tag {
+        text.push_str("#");
+        text.push_str(tag.text());
+        text.push_str(" ");
+    }
+    text
+}

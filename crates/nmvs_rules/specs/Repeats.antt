@@ -1,0 +1,140 @@
+-- A question that is asked again with the tag that it had (own).
+use Rattle.std.specs.Prelude.{ℕ, zero, suc, ◌≡◌, ◌-◌, nat_lt, Bool, true, false, not, ◌&&◌, List, [], ◌∷◌, ◌++◌, length, map, drop, slice_get, Option, Some, None, if◌then◌else◌}
+use Rattle.std.specs.List.{suffix_len}
+use Rattle.std.specs.Option.{option_map_or}
+use Rattle.nmvs_identifier.specs.Name.{Name}
+use Rattle.nmvs_identifier.specs.Tag.{Tag}
+use Rattle.nmvs_identifier.specs.Texts.{same_text}
+use Rattle.nmvs_identifier.specs.declared.pack.Pack.{Pack}
+use Rattle.nmvs_identifier.specs.Pack.{same_pack}
+use Rattle.nmvs_rules.specs.declared.actor.Actor.{Actor}
+use Rattle.nmvs_rules.specs.declared.role.Role.{Role}
+use Rattle.nmvs_rules.specs.declared.role.Role.TheVariants as role
+use Rattle.nmvs_rules.specs.declared.reason.Reason.{Reason}
+use Rattle.nmvs_rules.specs.declared.reason.Reason.TheVariants as reason
+use Rattle.nmvs_rules.specs.declared.question.Question.{Question}
+use Rattle.nmvs_rules.specs.declared.question.Question.TheVariants.{Upload, Verify, Status, Decommission, Handover, Revert, Recall, Withdraw, Theft, Audit}
+use Rattle.nmvs_rules.specs.declared.put.Put.{Put}
+use Rattle.nmvs_rules.specs.declared.entry.Entry.{Entry}
+use Rattle.nmvs_rules.specs.declared.reply.Reply.{Reply}
+use Rattle.nmvs_rules.specs.declared.repeat.Repeat.{Repeat}
+use Rattle.nmvs_rules.specs.declared.repeat.Repeat.TheVariants as repeat
+use Rattle.nmvs_rules.specs.Limits.{entries_looked_over}
+use Rattle.nmvs_rules.specs.Questions.{pack_of}
+use Rattle.nmvs_rules.specs.Trail.{is_about, about_of}
+
+-- whether two roles are the same
+abbrev pub same_role : Role → Role → Bool
+same_role role.Holder role.Holder = true
+same_role role.Manufacturer role.Manufacturer = true
+same_role role.Wholesaler role.Wholesaler = true
+same_role role.Pharmacy role.Pharmacy = true
+same_role role.Authority role.Authority = true
+same_role _ _ = false
+
+-- whether two reasons are the same
+abbrev pub same_reason : Reason → Reason → Bool
+same_reason reason.Supply reason.Supply = true
+same_reason reason.Hold reason.Hold = true
+same_reason reason.Export reason.Export = true
+same_reason reason.Sample reason.Sample = true
+same_reason reason.Destroy reason.Destroy = true
+same_reason _ _ = false
+
+-- whether two actors are the same: in one role, covered by one authorisation, in the same premises
+abbrev pub same_actor : Actor → Actor → Bool
+same_actor a b = same_role a.role b.role && (same_text a.authorisation b.authorisation && same_text a.premises b.premises)
+
+-- whether two questions are the same
+abbrev pub same_question : Question → Question → Bool
+same_question (Upload p b x) (Upload q c y) = same_pack p q && (same_text b c && same_text x y)
+same_question (Verify p) (Verify q) = same_pack p q
+same_question (Status p) (Status q) = same_pack p q
+same_question (Decommission p r) (Decommission q s) = same_pack p q && same_reason r s
+same_question (Handover p) (Handover q) = same_pack p q
+same_question (Revert p) (Revert q) = same_pack p q
+same_question (Recall c b) (Recall d e) = same_text c d && same_text b e
+same_question (Withdraw c b) (Withdraw d e) = same_text c d && same_text b e
+same_question (Theft p) (Theft q) = same_pack p q
+same_question (Audit p) (Audit q) = same_pack p q
+same_question _ _ = false
+
+-- whether both ask the same in the same capacity, at whatever moments
+abbrev pub asks_same : Put → Put → Bool
+asks_same q r = same_actor q.actor r.actor && same_question q.question r.question
+
+-- whether the tag, if there is one, is g
+abbrev pub has_tag : Tag → Option Tag → Bool
+has_tag g None = false
+has_tag g (Some h) = same_text g h
+
+-- whether the question was put by this user, with this tag
+abbrev pub is_by : Name → Tag → Put → Bool
+is_by user g q = same_text user q.user && has_tag g q.tag
+
+-- whether the entry is about the pack, of this user, with this tag
+abbrev pub is_tagged : Pack → Name → Tag → Entry → Bool
+is_tagged p user g e = is_about p e && is_by user g e.put
+
+-- how many entries the trail has up to the last one about the pack, of this user, with this tag, that one counted; 0 where
+-- there is none
+abbrev pub last_tagged : List Entry → Pack → Name → Tag → ℕ
+last_tagged t p user g = length t - suffix_len (λ e. not (is_tagged p user g e)) t
+
+-- the place of the last of the first n entries, where it is among the last 16 about the pack
+abbrev pub place_up_to : List Entry → Pack → ℕ → Option ℕ
+place_up_to t p zero = None
+place_up_to t p (suc n) = if nat_lt (about_of (drop (suc n) t) p) entries_looked_over then Some n else None
+
+-- where the last entry of this user with this tag stands among the last 16 about the pack
+abbrev pub place_tagged : List Entry → Pack → Name → Tag → Option ℕ
+place_tagged t p user g = place_up_to t p (last_tagged t p user g)
+
+-- what a question is beside the entry at a place, which has its user and its tag
+abbrev pub beside : Put → ℕ → Entry → Repeat
+beside q place e = if asks_same q e.put then repeat.Same place e.reply else repeat.Other
+
+-- what a question is, by the place of such an entry
+abbrev pub repeat_at : List Entry → Put → Option ℕ → Repeat
+repeat_at t q None = repeat.New
+repeat_at t q (Some place) = option_map_or (beside q place) (slice_get t place) repeat.New
+
+-- what a question is, by the pack that it names and its tag
+abbrev pub repeat_by : List Entry → Put → Option Pack → Option Tag → Repeat
+repeat_by t q (Some p) (Some g) = repeat_at t q (place_tagged t p q.user g)
+repeat_by t q _ _ = repeat.New
+
+-- what a question is beside the entries of a trail
+abbrev pub repeat_of : List Entry → Put → Repeat
+repeat_of t q = repeat_by t q (pack_of q.question) q.tag
+
+-- each of the entries es, which follow the entries u, asked what was new on all entries before it
+abbrev pub AreNewAfter : List Entry → List Entry → Type 0
+AreNewAfter u [] = Unit {0}
+AreNewAfter u (e ∷ es) = (repeat_of u e.put ≡ repeat.New) × AreNewAfter (u ++ e ∷ []) es
+
+-- a trail in which each question was looked for before it was put to the rules
+abbrev pub AreNew : List Entry → Type 0
+AreNew t = AreNewAfter [] t
+
+-- the entry at a place asked what the question asks, by the same user, with the same tag and in the same capacity
+pub record IsRepeated (t : List Entry) (q : Put) (place : ℕ) (reply : Reply) : Type 0 where
+  pub entry : Entry
+  pub stands : slice_get t place ≡ Some entry
+  pub user : entry.put.user ≡ q.user
+  pub tag : entry.put.tag ≡ q.tag
+  pub actor : entry.put.actor ≡ q.actor
+  pub question : entry.put.question ≡ q.question
+  pub same : reply ≡ entry.reply
+
+-- a question as it was put, without its tag
+abbrev pub without_tag : Put → Put
+without_tag q = record q { tag = None }
+
+-- an entry without its tag
+abbrev pub untagged : Entry → Entry
+untagged e = record e { put = without_tag e.put }
+
+-- a trail without its tags
+abbrev pub without_tags : List Entry → List Entry
+without_tags t = map untagged t
