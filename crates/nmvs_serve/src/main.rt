@@ -5,6 +5,8 @@ ghost use Rattle.std.specs.Prelude.{IfOk, ◌≡◌, false};
 ghost use Rattle.nmvs_operator.specs.Options.{AreInRange};
 
 mod helped;
+#[cfg(test)]
+mod tests;
 
 use crate::helped::Helped;
 use log::info;

@@ -1,6 +1,3 @@
 mod ShardExports
-mod DeskTurns
 mod Journals
 mod Lengths
-mod KeptLines
-mod Releasing

@@ -1,6 +1,6 @@
 //! The program from its options on: where it listens, where figures are told, and what is logged of its start.
 ghost use Rattle.nmvs_operator.specs.Options.{AreInRange};
-ghost use Rattle.nmvs_server.specs.Console.{IsFresh};
+ghost use Rattle.nmvs_reception.specs.Console.{IsFresh};
 
 use crate::launch::serve_run;
 use crate::{Fault, Host, Outcome};

@@ -5,17 +5,17 @@ ghost use Rattle.nmvs_server.specs.Bounds.{sessions_of};
 use crate::announcements::{listening_at, listening_on};
 use crate::host::{Run, Shared};
 use crate::journal_files::JournalAlarm;
-use crate::kept_users::KeptUsers;
 use crate::service::Running;
-use crate::{ClerkDesk, JournalDesk, ProgramClock};
 use log::{Log, info};
 use nmvs_connections::{Bounds, Hall, Listener, Station, admit, serve};
 use nmvs_desk::Clerk;
 use nmvs_directory::{Naming, Registrar};
 use nmvs_history::Histories;
+use nmvs_kept_users::KeptUsers;
 use nmvs_operator::{Console, Latest, Options, Sides, obey_all};
 use nmvs_protocol::{Authorisations, Desk, OwnDesk};
 use nmvs_rate::{Gate, RatedDesk};
+use nmvs_reception::{ClerkDesk, JournalDesk, ProgramClock};
 use nmvs_stream::{Sink, deliver};
 use std::alloc::{AllocError, Global};
 use std::fs::File;
@@ -24,9 +24,6 @@ use std::sync::Wait;
 use std::thread;
 use std::thread::Threads;
 use std::time::Duration;
-
-#[cfg(test)]
-mod tests;
 
 /// How far the connections of so many workers may go.
 pub(crate) fn bounds_of(options: &Options, workers: usize) -> Bounds

@@ -1,0 +1,2 @@
+pub mod KeptUsers
+pub mod WholeLines

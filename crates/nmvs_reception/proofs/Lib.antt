@@ -1,0 +1,2 @@
+mod DeskTurns
+mod Releasing

@@ -1,0 +1,4 @@
+pub mod Console
+pub mod Roster
+pub mod Rehearsal
+pub mod Desk

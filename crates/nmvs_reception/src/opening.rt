@@ -1,0 +1,49 @@
+//! A repository as it is opened.
+ghost use Rattle.std.specs.Prelude.{◌≡◌, ◌≤◌, ℕ, length, vec_len, IfOk};
+ghost use Rattle.nmvs_desk.specs.Opening.{table_of};
+ghost use Rattle.nmvs_desk.specs.Placing.{IsPlaced};
+ghost use Rattle.nmvs_desk.specs.Settlement.{row};
+
+use nmvs_desk::{Clerk, Keepers, MOST_CLERKS, Repository};
+use nmvs_directory::{Naming, Window};
+use nmvs_history::Histories;
+use nmvs_shard::Shard;
+use std::alloc::{AllocError, Global};
+
+/// What a repository is opened with.
+#[derive(Drop)]
+pub struct Opening<'a, J: Naming> {
+    /// One for each clerk.
+    pub windows: Vec<Window<J, &'a Global>, &'a Global>,
+    /// One for each shard, as it was found.
+    pub shards: Vec<Shard<&'a Global>, &'a Global>,
+    /// One for each shard.
+    pub keepers: Keepers<'a>,
+}
+
+/// An open repository, and its clerks.
+#[derive(Drop)]
+pub struct Opened<'a, J: Naming, H: Histories> {
+    pub repository: Repository<'a, H>,
+    pub clerks: Vec<Clerk<'a, J, H>, &'a Global>,
+}
+
+impl<'a, J: Naming> Opening<'a, J> {
+    /// Opens the repository.
+    pub fn open<H: Histories>(self, alloc: &'a Global) -> Result<Opened<'a, J, H>, AllocError>
+        requires tables { (i : ℕ) → table_of self.keepers i ≡ H.tables i }
+        requires named { (H.shards ≡ length self.keepers) × (H.clerks ≡ vec_len self.windows) × ((i : ℕ) → H.opening i ≡ row self.shards.items i) }
+        requires many { vec_len self.shards ≡ length self.keepers }
+        requires placed { (i : ℕ) → IsPlaced (length self.keepers) i (row self.shards.items i) }
+        requires few { vec_len self.windows ≤ MOST_CLERKS }
+        ensures { IfOk result (λ opened. vec_len opened.clerks ≡ vec_len self.entry.windows) }
+    {
+        let Opening {
+            mut windows,
+            shards,
+            keepers,
+        } = self;
+        let (repository, clerks) = Repository::open(alloc, keepers, shards, &mut windows)?;
+        Ok(Opened { repository, clerks })
+    }
+}
