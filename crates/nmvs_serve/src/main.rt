@@ -1,7 +1,7 @@
 //! The program of the repository.
 #![tactic(auto)]
 
-ghost use Rattle.std.specs.Prelude.{IfOk, ◌≡◌, false};
+ghost use Rattle.std.specs.Prelude.{IfOk};
 ghost use Rattle.nmvs_operator.specs.Options.{AreInRange};
 
 mod helped;
@@ -17,7 +17,7 @@ use nmvs_operator::{Console, OptionFault, Options, read_options};
 use nmvs_server::{Fault, Host, Outcome, serve_rehearsal, start};
 use nmvs_stream::{Device, Sink, Source};
 use std::alloc::Global;
-use std::io::{BufWriter, Eprint, IsTerminal, Print};
+use std::io::{BufWriter, Eprint, IsTerminal, Print, Write};
 use std::process::ExitCode;
 use std::rt::{Env, Files};
 use std::{env, fs, io};
@@ -35,11 +35,10 @@ fn main(rt: HostRuntime) -> ExitCode {
     let Ok(output) = BufWriter::new(alloc, rt.stdout()) else {
         return ended(&rt, &[Some(Fault::Memory)]);
     };
-    let mut output = Device::new(output);
     if words.is_empty() {
-        return ended(&rt, &[rehearse(&rt, alloc, &mut output).err()]);
+        return ended(&rt, &[rehearse(&rt, alloc, output).err()]);
     }
-    let mut console = Console::new(Device::new(rt.stdin()), output);
+    let mut console = Console::new(Device::new(rt.stdin()), Device::new(output));
     match options(&rt, words) {
         Ok(options) => {
             let rt = EventLog::new(rt, options.log_level, options.log_format);
@@ -57,14 +56,21 @@ fn main(rt: HostRuntime) -> ExitCode {
 }
 
 /// The rehearsal over standard input. On a terminal it greets, and tells at `HELP` what may be asked.
-fn rehearse<W: Sink>(rt: &HostRuntime, alloc: Global, output: &mut W) -> Result<(), Fault<'static>>
-    requires sound { (W.taken output.old).failed ≡ false }
-{
+fn rehearse<W: Write + Drop>(
+    rt: &HostRuntime,
+    alloc: Global,
+    output: W,
+) -> Result<(), Fault<'static>> {
+    let mut output = Device::new(output);
     if !(rt.stdin().is_terminal() && rt.stdout().is_terminal()) {
-        return serve_rehearsal(alloc, &mut Device::new(rt.stdin()), output);
+        return serve_rehearsal(alloc, &mut Device::new(rt.stdin()), &mut output);
     }
     let _ = println!(rt; "{GREETING}");
-    serve_rehearsal(alloc, &mut Device::new(Helped::new(rt, rt.stdin())), output)
+    serve_rehearsal(
+        alloc,
+        &mut Device::new(Helped::new(rt, rt.stdin())),
+        &mut output,
+    )
 }
 
 /// Serves connections, while commands come by the console and by the socket of the options, where they name one.
