@@ -1,6 +1,6 @@
 //! A repository as it is opened.
-ghost use Rattle.std.specs.Prelude.{◌≡◌, ◌≤◌, ℕ, length, vec_len, IfOk};
-ghost use Rattle.nmvs_desk.specs.Opening.{table_of};
+ghost use Rattle.std.specs.Prelude.{◌≡◌, ◌≤◌, ℕ, length, map, vec_len, All, IfOk};
+ghost use Rattle.nmvs_desk.specs.Opening.{table_of, IsNew};
 ghost use Rattle.nmvs_desk.specs.Placing.{IsPlaced};
 ghost use Rattle.nmvs_desk.specs.Settlement.{row};
 
@@ -29,14 +29,21 @@ pub struct Opened<'a, J: Naming, H: Histories> {
 }
 
 impl<'a, J: Naming> Opening<'a, J> {
-    /// Opens the repository.
+    /// Opens the repository over the shards, as they are, with a clerk for each window, in order.
+    ///
+    /// # Errors
+    ///
+    /// There is no memory.
     pub fn open<H: Histories>(self, alloc: &'a Global) -> Result<Opened<'a, J, H>, AllocError>
         requires tables { (i : ℕ) → table_of self.keepers i ≡ H.tables i }
         requires named { (H.shards ≡ length self.keepers) × (H.clerks ≡ vec_len self.windows) × ((i : ℕ) → H.opening i ≡ row self.shards.items i) }
         requires many { vec_len self.shards ≡ length self.keepers }
         requires placed { (i : ℕ) → IsPlaced (length self.keepers) i (row self.shards.items i) }
         requires few { vec_len self.windows ≤ MOST_CLERKS }
-        ensures { IfOk result (λ opened. vec_len opened.clerks ≡ vec_len self.entry.windows) }
+        ensures many { IfOk result (λ opened. vec_len opened.clerks ≡ vec_len self.entry.windows) }
+        ensures shards { IfOk result (λ opened. opened.repository.shards ≡ length self.entry.keepers) }
+        ensures clerks { IfOk result (λ opened. (opened.repository.clerks ≡ vec_len self.entry.windows) × (map (λ c. c.seen) opened.clerks.items ≡ self.entry.windows.items)) }
+        ensures new { IfOk result (λ opened. All (IsNew (length self.entry.keepers) (row self.entry.shards.items)) opened.clerks.items) }
     {
         let Opening {
             mut windows,
