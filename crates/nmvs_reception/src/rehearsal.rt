@@ -1,6 +1,6 @@
 //! The rehearsal: a session to learn the repository by, whose every answer is proved.
 ghost use Rattle.nmvs_protocol.specs.declared.answer.Content.TheVariants.{Replied};
-ghost use Rattle.std.specs.Prelude.{◌≡◌, ◌<◌, length};
+ghost use Rattle.std.specs.Prelude.{◌≡◌, ◌<◌, [], length};
 ghost use Rattle.nmvs_protocol.specs.Session.{AtOnce, Session, Stays};
 ghost use Rattle.nmvs_reception.specs.Console.{IsFresh};
 ghost use Rattle.nmvs_reception.specs.Rehearsal.{Rehearsal, Takes};
