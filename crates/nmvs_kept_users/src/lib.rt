@@ -5,7 +5,7 @@
 #![tactic(auto)]
 
 mod kept_users;
-mod whole_lines;
+mod lines;
 
 pub use kept_users::{KeptUsers, kept_text};
-pub use whole_lines::whole_lines;
+pub use lines::whole_lines;
