@@ -62,12 +62,12 @@ class TaggedTerminal:
                 reply = self.ask_once(tag + line)
                 if reply[0].startswith(tag):
                     return [text.removeprefix(tag) for text in reply]
-                fault = reply[0]
+                fault, cause = reply[0], None
             except OSError as failed:
-                fault = failed
+                fault = cause = failed
             self.close()
             if time.monotonic() + pause > until:
-                raise ConnectionError(f"no reply: {fault}")
+                raise ConnectionError(f"no reply: {fault}") from cause
             time.sleep(pause * random.uniform(0.8, 1.2))
             pause = min(2 * pause, 60)
 
