@@ -9,7 +9,6 @@ use Rattle.std.proofs.lemmas.List.{reverse-append, length-reverse, drop-drop}
 use Rattle.std.proofs.lemmas.List.Sums.{sum_by-take-drop}
 use Rattle.nmvs_identifier.specs.Name.{Name}
 use Rattle.nmvs_identifier.specs.Tag.{Tag}
-use Rattle.nmvs_identifier.specs.Texts.{same_text}
 use Rattle.nmvs_identifier.specs.declared.pack.Pack.{Pack}
 use Rattle.nmvs_rules.specs.declared.entry.Entry.{Entry}
 use Rattle.nmvs_rules.specs.declared.put.Put.{Put}
@@ -208,8 +207,8 @@ at-most-once u v w e f p user g new first second =
     let asked = AreNewAfter-rest [] (u ++ e ∷ v) (f ∷ w) new in
     let by = second_so (is_about p f) _ second in
     let named = names-equal p (pack_of f.put.question) (first_so _ _ second) in
-    let tag = has_tag-equal g f.put.tag (second_so (same_text user f.put.user) _ by) in
-    let who : user ≡ f.put.user = same_text-equal user f.put.user (first_so _ _ by) in
+    let tag = has_tag-equal g f.put.tag (first_so _ _ by) in
+    let who : user ≡ f.put.user = same_text-equal user f.put.user (second_so (has_tag g f.put.tag) _ by) in
     let t : List Entry = u ++ e ∷ v in
     let is : repeat_of t f.put ≡ repeat_at t f.put (place_tagged t p user g) =
     (λ i. repeat_by t f.put (named i) (tag i)) ∙ ap (λ n. repeat_at t f.put (place_tagged t p n g)) (sym who) in
@@ -232,8 +231,8 @@ module _ (t : List Entry) (q : Put) (place : ℕ) (reply : Reply) where
       record {
         entry = e;
         stands = subst P told.0 found.stands;
-        user = sym (same_text-equal q.user e.put.user (first_so _ _ by));
-        tag = has_tag-equal g e.put.tag (second_so (same_text q.user e.put.user) _ by) ∙ sym tag;
+        user = sym (same_text-equal q.user e.put.user (second_so (has_tag g e.put.tag) _ by));
+        tag = has_tag-equal g e.put.tag (first_so _ _ by) ∙ sym tag;
         actor = sym (same_actor-equal q.actor e.put.actor (first_so _ _ told.1));
         question = sym (same_question-equal q.question e.put.question (second_so (same_actor q.actor e.put.actor) _ told.1));
         same = told.2;

@@ -70,7 +70,7 @@ has_tag g (Some h) = same_text g h
 
 -- whether the question was put by this user, with this tag
 abbrev pub is_by : Name → Tag → Put → Bool
-is_by user g q = same_text user q.user && has_tag g q.tag
+is_by user g q = has_tag g q.tag && same_text user q.user
 
 -- whether the entry is about the pack, of this user, with this tag
 abbrev pub is_tagged : Pack → Name → Tag → Entry → Bool
