@@ -8,6 +8,7 @@ use Rattle.std.proofs.lemmas.List.Splits.{join_with_byte-slice_split, slice_spli
 use Rattle.std.proofs.Math.Seq.{take-append-add}
 use Rattle.nmvs_identifier.specs.Tag.{Tag, is_tag}
 use Rattle.std.specs.List.{list_all}
+use Rattle.std.specs.Str.{IsUtf8}
 use Rattle.std.specs.Char.{is_ascii_alphanumeric}
 use Rattle.nmvs_identifier.specs.Characters.{is_name_character}
 use Rattle.nmvs_identifier.specs.Name.{is_name, has_name_characters}
@@ -17,6 +18,7 @@ use Rattle.nmvs_protocol.specs.Fields.{fields_in, is_printable, is_space, line_o
 use Rattle.nmvs_protocol.specs.Tags.{tag_text, tag_named, first_tag, tag_of, behind_tag}
 use Rattle.nmvs_protocol.specs.Progress.{kept_part}
 use Rattle.nmvs_protocol.proofs.PlainLemmas.{no_space, plain_printable}
+use Rattle.nmvs_protocol.proofs.FieldLemmas.{printable-utf8}
 
 -- what is kept of a line begins with its tag
 pub tag_kept : (x : List ℕ) → tag_of (kept_part x) ≡ tag_of x
@@ -94,6 +96,17 @@ no_tag b bs other = by (tag_of (b ∷ bs)) refl
     by None e = refl
     by (Some g) e = let is = (tag_shown (b ∷ bs) g e).0 in absurd (other (cc is))
 
+-- a line without # in front begins with no tag
+pub unmarked : (x : List ℕ) → get_or x 0 0 ≢ 35 → tag_of x ≡ None
+unfolding tag_of
+unmarked [] other = refl
+unmarked (b ∷ bs) other = no_tag b bs other
+
+-- an empty line begins with no tag
+pub empty_untagged : (x : List ℕ) → length x ≡ 0 → tag_of x ≡ None
+empty_untagged [] none = unmarked [] (λ e. absurd (omega (arith, e)))
+empty_untagged (b ∷ bs) none = absurd (omega (arith, none))
+
 -- a line begins with the tag that its first field is
 pub cut_first : (line field behind : List ℕ) (n : ℕ) → n ≡ min 22 (length line) → fields_in (take n line) ≡ field ∷ fields_in behind → tag_of line ≡ tag_named field
 unfolding tag_of
@@ -134,12 +147,12 @@ fields_cut t n within none at =
     (ap is_space (get_or_default t k 0 d (omega (arith, before, long, within)) ∙ sym (get_or-take n t k d (omega (arith, before, long)))) ∙ e))) refl
     ∙ ap (λ (r : List ℕ). take n t ∷ fields_in r) (sym (take_all (length t - (n + 1)) (drop (n + 1) t) (omega (arith, length-drop (n + 1) t))))
 
--- what has other characters than those that are printable is no tag
-pub unprintable : (f : List ℕ) → (list_all is_printable (drop 1 f) ≡ true → ⊥) → tag_named f ≡ None
-unprintable [] other = refl
-unprintable (b ∷ bs) other = by (b == 35) (is_tag bs) refl
+-- what is no text is no tag
+pub no_text : (f : List ℕ) → (IsUtf8 (drop 1 f) → ⊥) → tag_named f ≡ None
+no_text [] other = refl
+no_text (b ∷ bs) other = by (b == 35) (is_tag bs) refl
   where
     by : (c d : Bool) → is_tag bs ≡ d → cond {A = Option Tag} (c && d) (Some (record { bytes = bs })) None ≡ None
-    by c true e = absurd (other (all_weaker is_plain is_printable plain_printable bs (plain_name bs e).2))
+    by c true e = absurd (other (printable-utf8 bs (all_weaker is_plain is_printable plain_printable bs (plain_name bs e).2)))
     by false false e = refl
     by true false e = refl

@@ -30,7 +30,7 @@ pub fn fields_of<F: Copy>(line: &[u8], long: F, bytes: F, empty: F) -> Result<Fi
 }
 
 /// The line as a text, where each byte is a printable ASCII character.
-pub(crate) fn printable_text(bytes: &[u8]) -> Option<&str>
+fn printable_text(bytes: &[u8]) -> Option<&str>
     ensures printable { IsSome result ↔ IsTrue (list_all is_printable bytes.now) }
     ensures same { IfSome result (λ text. text.now ≡ bytes.now) }
 {

@@ -173,9 +173,17 @@ fn answer<'a, D: Desk<'a>>(reading: &Result<Line, Unread>, desk: &mut D) -> With
     ensures { Answers D.takes desk.old reading.now result desk.new }
 {
     match reading {
-        Ok(Line::Ask(ask)) => desk.take(ask).tagged(ask.tag),
+        Ok(Line::Ask(ask)) => {
+            let mut withheld = desk.take(ask);
+            withheld.set_tag(ask.tag);
+            withheld
+        }
         Ok(Line::Quit) => Withheld::new(Content::Bye),
-        Err(Unread { tag, fault }) => Withheld::new(Content::Unread(*fault)).tagged(*tag),
+        Err(Unread { tag, fault }) => {
+            let mut withheld = Withheld::new(Content::Unread(*fault));
+            withheld.set_tag(*tag);
+            withheld
+        }
     }
 }
 
@@ -240,11 +248,14 @@ fn write_tagged<W: Sink>(answer: &Answer<'_>, content: &[u8], sink: &mut W) -> R
     ensures ok { OnOk result (Writes (W.taken sink.old) (W.taken sink.new) (text answer.now)) }
     ensures err { OnErr result (DeliversPart (W.taken sink.old) (W.taken sink.new) (text answer.now)) }
 {
-    let tag = tag_text(&answer.tag);
-    let tag = tag.as_str().as_bytes();
-    match (&answer.tag, &answer.content) {
-        (Some(_), Content::Reported(_)) => write_lines(tag, content, sink),
-        _ => write_both(tag, content, sink),
+    let Some(_) = &answer.tag else {
+        return write_all(sink, content);
+    };
+    let front = tag_text(&answer.tag);
+    let front = front.as_str().as_bytes();
+    match &answer.content {
+        Content::Reported(_) => write_lines(front, content, sink),
+        _ => write_both(front, content, sink),
     }
 }
 

@@ -4,7 +4,6 @@ ghost use Rattle.nmvs_rules.specs.Entries.{is_tag_or_none};
 ghost use Rattle.nmvs_protocol.specs.Fields.{fields_in};
 ghost use Rattle.nmvs_protocol.specs.Tags.{behind_tag, tag_named as tag_of_field, tag_of, tag_text as text_of_tag};
 
-use crate::fields::printable_text;
 use arrayvec::ArrayString;
 use memchr::memchr;
 use nmvs_identifier::Tag;
@@ -18,6 +17,10 @@ pub(crate) fn cut_tag(line: &[u8]) -> Option<(Tag, &[u8])>
     ensures behind { IfSome result (λ cut. cut.1.now ≡ behind_tag cut.0 line.now) }
     ensures none { IfNone result (tag_of line.now ≡ None) }
 {
+    // Most lines have none.
+    if line.is_empty() || line[0] != b'#' {
+        return None;
+    }
     let front = &line[..LONGEST_TAG_TEXT.min(line.len())];
     let (field, _behind) = cut_field(front)?;
     let tag = tag_named(field)?;
@@ -41,7 +44,10 @@ fn tag_named(field: &[u8]) -> Option<Tag>
     let [b'#', name @ ..] = field else {
         return None;
     };
-    Tag::read(printable_text(name)?).ok()
+    match str::from_utf8(name) {
+        Ok(name) => Tag::read(name).ok(),
+        Err(_) => None,
+    }
 }
 
 /// What stands before a line with this tag, and before its reply: nothing where there is none.

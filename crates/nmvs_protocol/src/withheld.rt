@@ -50,15 +50,11 @@ impl<'a> Withheld<'a> {
         Withheld { answer, basis }
     }
 
-    /// The same to a line with this tag, if it has one.
-    pub(crate) fn tagged(self, tag: Option<Tag>) -> Withheld<'a>
-        ensures { result ≡ tagged tag self.entry }
+    /// Has it be to a line with this tag, if it has one.
+    pub(crate) fn set_tag(&mut self, tag: Option<Tag>)
+        ensures { self.new ≡ tagged tag self.old }
     {
-        let content = self.answer.content;
-        Withheld {
-            answer: Answer { tag, content },
-            basis: self.basis,
-        }
+        self.answer.tag = tag;
     }
 
     /// Whether its text will take memory: that of an audit which shows entries.

@@ -4,14 +4,14 @@ use Rattle.nmvs_stream.specs.Delivery.{Writes, DeliversPart}
 use Rattle.nmvs_protocol.proofs.SessionTelling.{reported_text}
 use Rattle.nmvs_protocol.proofs.session.write_tagged.Goals as goal
 
-pub returns-in-Some-Reported-clause-ok : goal.returns-in-Some-Reported-clause-ok
-returns-in-Some-Reported-clause-ok g c =
+pub returns-in-Reported-clause-ok : goal.returns-in-Reported-clause-ok
+returns-in-Reported-clause-ok g c =
     let taken = g.W.Sink.taken in
-    let is = reported_text c.args.answer.now _ _ _ c.args.content.now c.in-Some-Reported.is-0 c.in-Some-Reported.is-1 (c.as_bytes-tag.ensures.value ∙ c.as_str.ensures.value ∙ c.tag_text-tag.ensures.text) c.requires in
+    let is = reported_text c.args.answer.now _ _ _ c.args.content.now c.in-Some.is c.in-Reported.is (c.as_bytes-front.ensures.value ∙ c.as_str.ensures.value ∙ c.tag_text-front.ensures.text) c.requires in
     subst (λ (t : List ℕ). OnOk c.write_lines.result (Writes (taken c.args.sink.now) (taken c.write_lines.new.sink) t)) is c.write_lines.ensures.ok
 
-pub returns-in-Some-Reported-clause-err : goal.returns-in-Some-Reported-clause-err
-returns-in-Some-Reported-clause-err g c =
+pub returns-in-Reported-clause-err : goal.returns-in-Reported-clause-err
+returns-in-Reported-clause-err g c =
     let taken = g.W.Sink.taken in
-    let is = reported_text c.args.answer.now _ _ _ c.args.content.now c.in-Some-Reported.is-0 c.in-Some-Reported.is-1 (c.as_bytes-tag.ensures.value ∙ c.as_str.ensures.value ∙ c.tag_text-tag.ensures.text) c.requires in
+    let is = reported_text c.args.answer.now _ _ _ c.args.content.now c.in-Some.is c.in-Reported.is (c.as_bytes-front.ensures.value ∙ c.as_str.ensures.value ∙ c.tag_text-front.ensures.text) c.requires in
     subst (λ (t : List ℕ). OnErr c.write_lines.result (DeliversPart (taken c.args.sink.now) (taken c.write_lines.new.sink) t)) is c.write_lines.ensures.err

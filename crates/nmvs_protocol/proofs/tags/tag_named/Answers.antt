@@ -1,13 +1,11 @@
-use Rattle.std.proofs.Common.{◌∙◌, ◌-◌, length, drop, true≢false, ap, sym, arith}
+use Rattle.std.proofs.Common.{◌-◌, length, drop, sym, subst, arith}
 use Rattle.std.proofs.lemmas.List.{take_all, length-drop}
-use Rattle.std.specs.List.{list_all}
-use Rattle.nmvs_protocol.specs.Fields.{is_printable}
-use Rattle.nmvs_protocol.proofs.TagLemmas.{unprintable}
+use Rattle.std.specs.Str.{IsUtf8}
+use Rattle.nmvs_protocol.proofs.TagLemmas.{no_text}
 use Rattle.nmvs_protocol.proofs.tags.tag_named.Goals as goal
 
-pub returns-in_err-printable_text : goal.returns-in_err-printable_text
-returns-in_err-printable_text c =
+pub returns-in-Err : goal.returns-in-Err
+returns-in-Err c =
     let field = c.args.field.now in
     let name = take_all (length field - 1) (drop 1 field) (omega (arith, length-drop 1 field)) in
-    c.from_residual.ensures
-    ∙ sym (unprintable field (λ e. true≢false (sym (c.in_err-printable_text.ensures.printable.1 (ap (list_all is_printable) name ∙ e)))))
+    sym (no_text field (λ text. c.in-Err.ensures.cases.0 (subst IsUtf8 (sym name) text)))
