@@ -1,2 +1,1 @@
-mod file;
 mod waiting;
