@@ -17,4 +17,4 @@ mod writes;
 
 pub use hash_key::HashKey;
 pub use packs::PackRecord;
-pub use tables::Tables;
+pub use tables::{Found, Tables};
