@@ -5,8 +5,8 @@ use Rattle.std.proofs.Math.Seq.{drop-append_seam}
 use Rattle.std.specs.Prelude.{OnOk}
 use Rattle.nmvs_stream.specs.InputLines.{HasNoLf, lines_after, rest_after, input_lines, unfinished_line}
 use Rattle.nmvs_stream.proofs.LinesOfPieces.{lines_after-append, rest_after-append, no_line, line_cut, left_cut}
-use Rattle.nmvs_protocol.specs.Progress.{kept_part}
-use Rattle.nmvs_protocol.proofs.KeptLines.{kept_more}
+use Rattle.nmvs_messages.specs.PendingLines.{kept_part}
+use Rattle.nmvs_messages.proofs.KeptLines.{kept_more}
 
 -- what is known of what a side sent, by what was looked at of its next line and what was not looked at
 pub record Stands (sent : List ℕ) (handed : List (List ℕ)) (begun unread : List ℕ) : Type 0 where

@@ -1,7 +1,7 @@
 -- How what one side sends becomes lines (own).
 use Rattle.std.specs.Prelude.{◌≡◌, ℕ, List, ◌++◌}
 use Rattle.nmvs_stream.specs.InputLines.{lines_after, rest_after, input_lines, unfinished_line}
-use Rattle.nmvs_protocol.specs.Progress.{kept_part}
+use Rattle.nmvs_messages.specs.PendingLines.{kept_part}
 use Rattle.nmvs_admin.specs.declared.incoming.Incoming.{Incoming}
 
 -- of what a side sent these lines were handed over, in order; its other lines, and what it began behind them, are still here

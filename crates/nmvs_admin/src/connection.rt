@@ -4,7 +4,7 @@ ghost use Rattle.nmvs_admin.specs.Sent.{IsWithin};
 
 use crate::incoming::Incoming;
 use mio::net::UnixStream;
-use nmvs_protocol::READ_SIZE;
+use nmvs_messages::READ_SIZE;
 use std::io::{ErrorKind, Read, Write};
 
 /// What came of a write.

@@ -4,7 +4,7 @@ use mio::event::Event;
 use mio::net::{UnixListener, UnixStream};
 use mio::unix::SourceFd;
 use mio::{Events, Interest, Poll, Token};
-use nmvs_protocol::PendingLine;
+use nmvs_messages::PendingLine;
 use slab::Slab;
 use std::alloc::Global;
 use std::io;
@@ -65,22 +65,19 @@ impl Connections {
         alloc: Global,
         listener: UnixListener,
     ) -> io::Result<Connections> {
-        let poll = Poll::new(rt)?;
         let mut listener = listener;
-        poll.registry()
-            .register(&mut listener, LISTENER, Interest::READABLE)?;
-        let standard = &mut SourceFd(&STANDARD_INPUT);
-        let reports = poll
-            .registry()
-            .register(standard, STANDARD, Interest::READABLE);
+        let poll = poll_of(rt, &mut listener)?;
+        let events = Events::with_capacity(alloc, REPORTS)?;
+        let open = Slab::with_capacity(alloc, MOST_CONNECTIONS)?;
+        let reports_standard = is_reported(&poll);
         Ok(Connections {
             poll,
-            events: Events::with_capacity(alloc, REPORTS)?,
+            events,
             listener,
-            open: Slab::with_capacity(alloc, MOST_CONNECTIONS)?,
+            open,
             is_knocked_at: false,
-            reports_standard: reports.is_ok(),
-            is_standard_ready: reports.is_err(),
+            reports_standard,
+            is_standard_ready: !reports_standard,
         })
     }
 
@@ -169,19 +166,16 @@ impl Connections {
     }
 
     fn admit(&mut self, stream: UnixStream) {
-        let mut connection = Connection::new(stream);
         if self.open.len() >= MOST_CONNECTIONS {
-            let _untold = connection.write(BUSY);
+            let _untold = Connection::new(stream).write(BUSY);
             return;
         }
+        let mut stream = stream;
         let token = Token(self.open.vacant_key());
         let both = Interest::READABLE | Interest::WRITABLE;
         let registry = self.poll.registry();
-        if registry
-            .register(&mut connection.stream, token, both)
-            .is_ok()
-        {
-            let _room = self.open.insert(connection);
+        if registry.register(&mut stream, token, both).is_ok() {
+            let _room = self.open.insert(Connection::new(stream));
         }
     }
 
@@ -224,7 +218,6 @@ impl Connections {
         number: usize,
         text: &[u8],
     ) -> io::Result<bool> {
-        let patience = Duration::from_secs(PATIENCE);
         let begun = Instant::now(rt)?;
         let mut rest = text;
         for _ in rt.forever() {
@@ -234,12 +227,9 @@ impl Connections {
             match connection.write(rest) {
                 Sent::Bytes(count) => rest = &rest[count..],
                 Sent::Blocked => {
-                    let waited = begun.elapsed(rt)?;
-                    if waited >= patience {
+                    if !self.wait_since(rt, begun)? {
                         return Ok(false);
                     }
-                    self.poll.poll(&mut self.events, Some(patience - waited))?;
-                    self.note_all();
                 }
                 Sent::Broken => return Ok(false),
             }
@@ -249,4 +239,32 @@ impl Connections {
         }
         unreachable!()
     }
+
+    /// Waits until the system reports something, where an answer that was begun then may wait still, and tells whether it may.
+    fn wait_since<R: Wait + Clock>(&mut self, rt: &R, begun: Instant) -> io::Result<bool> {
+        let patience = Duration::from_secs(PATIENCE);
+        let waited = begun.elapsed(rt)?;
+        if waited >= patience {
+            return Ok(false);
+        }
+        self.poll.poll(&mut self.events, Some(patience - waited))?;
+        self.note_all();
+        Ok(true)
+    }
+}
+
+/// What reports when connections wait to be accepted.
+fn poll_of(rt: &impl Net, listener: &mut UnixListener) -> io::Result<Poll> {
+    let poll = Poll::new(rt)?;
+    poll.registry()
+        .register(listener, LISTENER, Interest::READABLE)?;
+    Ok(poll)
+}
+
+/// Has the system report when standard input may be read, and tells whether it will.
+fn is_reported(poll: &Poll) -> bool {
+    let standard = &mut SourceFd(&STANDARD_INPUT);
+    poll.registry()
+        .register(standard, STANDARD, Interest::READABLE)
+        .is_ok()
 }

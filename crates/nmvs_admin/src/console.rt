@@ -8,8 +8,7 @@ use crate::connections::Connections;
 use crate::socket::listen_at;
 use crate::switchboard::Switchboard;
 use log::{Log, error};
-use nmvs_operator::Console;
-use nmvs_stream::{Device, Sink, Source};
+use nmvs_stream::{Console, Device, Sink, Source};
 use std::alloc::{AllocError, Global};
 use std::io;
 use std::io::{ErrorKind, Read, Write};
@@ -81,9 +80,19 @@ pub fn open<R: Log + Wait + Clock + Files + Net + Drop, I: Source + Drop, W: Sin
     };
     let Console { source, sink } = standard;
     let switchboard = Mutex::new(Switchboard::new(alloc, source, sink, connections));
-    let Ok(shared) = Arc::new(alloc, Shared { rt, switchboard }) else {
-        return Err(AdminFault::Memory);
-    };
+    match Arc::new(alloc, Shared { rt, switchboard }) {
+        Ok(shared) => console_of(shared),
+        Err(_) => Err(AdminFault::Memory),
+    }
+}
+
+/// The console whose two ends share this.
+fn console_of<R: Log + Wait + Clock + Drop, I: Source + Drop, W: Sink + Drop>(
+    shared: Arc<Shared<R, I, W>>,
+) -> Result<Console<AdminSides<R, I, W>>, AdminFault>
+    ensures source { IfOk result (λ console. told_of console.source ≡ untouched_source) }
+    ensures sink { IfOk result (λ console. taken_of console.sink ≡ untouched_sink) }
+{
     let lines = Lines {
         shared: Arc::try_clone(&shared)?,
     };
@@ -98,12 +107,17 @@ fn connections_at<R: Log + Files + Net>(
 ) -> Result<Connections, AdminFault> {
     match listen_at(rt, path).and_then(|listener| Connections::open(rt, alloc, listener)) {
         Ok(connections) => Ok(connections),
-        Err(error) if error.kind() == ErrorKind::OutOfMemory => Err(AdminFault::Memory),
-        Err(error) => {
-            error!(rt; "cannot listen at {path}: {error}");
-            Err(AdminFault::Socket)
-        }
+        Err(error) => Err(fault_of(rt, path, &error)),
     }
+}
+
+/// The fault of a socket that cannot be had, which is logged where it is no want of memory.
+fn fault_of<R: Log>(rt: &R, path: &str, error: &io::Error) -> AdminFault {
+    if error.kind() == ErrorKind::OutOfMemory {
+        return AdminFault::Memory;
+    }
+    error!(rt; "cannot listen at {path}: {error}");
+    AdminFault::Socket
 }
 
 impl<R: Log + Wait + Clock, I: Source, W: Sink> Read for Lines<R, I, W> {

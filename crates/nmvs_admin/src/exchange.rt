@@ -1,9 +1,9 @@
 //! A line that is handed over, and what is said to it.
 ghost use Rattle.std.specs.Prelude.{◌≡◌, ◌≤◌, ◌++◌, ◌==◌, [], None, Some, length, take, OnOk, OnErr};
-ghost use Rattle.nmvs_protocol.specs.Progress.{kept_part};
+ghost use Rattle.nmvs_messages.specs.PendingLines.{kept_part};
 
 use arrayvec::ArrayVec;
-use nmvs_protocol::{LONGEST_LINE, PendingLine};
+use nmvs_messages::{LONGEST_LINE, PendingLine};
 use std::alloc::{AllocError, Global};
 use std::{fmt, mem};
 

@@ -1,12 +1,12 @@
 //! What one side sends, as lines.
 ghost use Rattle.std.specs.Prelude.{◌≡◌, ◌≤◌, ◌==◌, [], ◌∷◌, ◌++◌, ℕ, List, length, drop, IfSome, IfNone};
-ghost use Rattle.nmvs_protocol.specs.Progress.{kept_part};
+ghost use Rattle.nmvs_messages.specs.PendingLines.{kept_part};
 ghost use Rattle.nmvs_stream.specs.InputLines.{input_lines, unfinished_line};
-ghost use Rattle.nmvs_protocol.specs.declared.limits.TheConstants.{READ_SIZE};
+ghost use Rattle.nmvs_messages.specs.declared.limits.TheConstants.{READ_SIZE};
 ghost use Rattle.nmvs_admin.specs.Incoming.{Waits};
 
 use arrayvec::ArrayVec;
-use nmvs_protocol::{PendingLine, READ_SIZE};
+use nmvs_messages::{PendingLine, READ_SIZE};
 use nmvs_stream::cut_line;
 use std::mem;
 

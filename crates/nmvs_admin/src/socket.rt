@@ -4,7 +4,7 @@ use mio::net::{UnixListener, UnixStream};
 use std::fs::Permissions;
 use std::io::ErrorKind;
 use std::net::Net;
-use std::os::fd::{AsFd, AsRawFd};
+use std::os::fd::{AsFd, AsRawFd, BorrowedFd};
 use std::os::unix::fs::{FileTypeExt, PermissionsExt};
 use std::os::unix::net;
 use std::os::unix::net::SocketAddr;
@@ -47,14 +47,19 @@ pub fn remove_socket(rt: &impl Files, path: &str) -> io::Result<()> {
 /// comes in between.
 fn make_socket<R: Files + Net>(rt: &R, path: &str) -> io::Result<UnixListener> {
     let socket = rt.unix_socket()?;
-    rt.bind_unix(socket.as_fd(), &SocketAddr::from_pathname(path)?)?;
-    fs::set_permissions(rt, path, Permissions::from_mode(OWNER_ALONE))?;
+    bind(rt, socket.as_fd(), path)?;
     if c::listen(socket.as_raw_fd(), BACKLOG) != 0 {
         return Err(io::Error::from(ErrorKind::Other));
     }
     let listener = net::UnixListener::from(socket);
     listener.set_nonblocking(true)?;
     Ok(UnixListener::from_std(listener))
+}
+
+/// Binds a socket to the path, and gives it to its owner.
+fn bind<R: Files>(rt: &R, socket: BorrowedFd<'_>, path: &str) -> io::Result<()> {
+    rt.bind_unix(socket, &SocketAddr::from_pathname(path)?)?;
+    fs::set_permissions(rt, path, Permissions::from_mode(OWNER_ALONE))
 }
 
 /// Whether at the path is a socket on which nobody listens.

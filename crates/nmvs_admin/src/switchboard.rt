@@ -2,11 +2,11 @@
 ghost use Rattle.std.specs.Io.{ReadsAtMost};
 
 use crate::connections::{Connections, MOST_CONNECTIONS};
-use crate::exchange::{Exchange, Said, Side};
+use crate::exchange::{Exchange, Side};
 use crate::incoming::Incoming;
 use crate::logged::{Shown, last_line};
 use log::{Log, info};
-use nmvs_protocol::{PendingLine, READ_SIZE};
+use nmvs_messages::{PendingLine, READ_SIZE};
 use nmvs_stream::{Failed, Sink, Source, deliver};
 use std::alloc::Global;
 use std::io;
@@ -144,7 +144,7 @@ impl<I: Source, W: Sink> Switchboard<I, W> {
     /// Answers what a side began and did not end.
     fn end_side<R: Wait + Clock + Log>(&mut self, rt: &R, side: Side, begun: PendingLine) {
         if !begun.is_empty() {
-            self.answer(rt, side, Some(begun), UNENDED);
+            self.answer(rt, side, Some(&begun), UNENDED);
         }
     }
 
@@ -186,8 +186,8 @@ impl<I: Source, W: Sink> Switchboard<I, W> {
         if self.exchange.say(bytes).is_ok() {
             return Ok(());
         }
-        let Said { side, line, .. } = self.exchange.end();
-        self.answer(rt, side, line, NO_MEMORY);
+        let said = self.exchange.end();
+        self.answer(rt, said.side, said.line.as_ref(), NO_MEMORY);
         Err(io::Error::from(ErrorKind::OutOfMemory))
     }
 
@@ -197,8 +197,8 @@ impl<I: Source, W: Sink> Switchboard<I, W> {
     ///
     /// The side does not take it.
     pub(crate) fn end_exchange<R: Wait + Clock + Log>(&mut self, rt: &R) -> io::Result<()> {
-        let Said { side, line, text } = self.exchange.end();
-        if self.answer(rt, side, line, text.as_slice()) {
+        let said = self.exchange.end();
+        if self.answer(rt, said.side, said.line.as_ref(), said.text.as_slice()) {
             Ok(())
         } else {
             Err(io::Error::from(ErrorKind::BrokenPipe))
@@ -210,19 +210,24 @@ impl<I: Source, W: Sink> Switchboard<I, W> {
         &mut self,
         rt: &R,
         side: Side,
-        line: Option<PendingLine>,
+        line: Option<&PendingLine>,
         text: &[u8],
     ) -> bool {
         let is_taken = match (side, &mut self.connections) {
             (Side::Connection(number), Some(connections)) => connections.send(rt, number, text),
             _ => deliver(&mut self.output, text).is_ok(),
         };
-        if let Some(line) = &line {
-            let (command, answer) = (Shown(line.as_slice()), Shown(last_line(text)));
-            info!(rt; side:% = side, command:% = command, answer:% = answer; "command");
+        if let Some(line) = line {
+            log_answer(rt, side, line.as_slice(), text);
         }
         is_taken
     }
+}
+
+/// Logs the answer to the line of a side.
+fn log_answer<R: Log>(rt: &R, side: Side, line: &[u8], text: &[u8]) {
+    let (command, answer) = (Shown(line), Shown(last_line(text)));
+    info!(rt; side:% = side, command:% = command, answer:% = answer; "command");
 }
 
 /// The side that stands at this place of their row.

@@ -2,7 +2,7 @@ use crate::exchange::{Exchange, Side};
 use crate::incoming::Incoming;
 use crate::logged::{Shown, last_line};
 use crate::switchboard::Switchboard;
-use nmvs_protocol::PendingLine;
+use nmvs_messages::PendingLine;
 use nmvs_stream::Device;
 use std::test::*;
 

@@ -4,7 +4,7 @@ use Rattle.nmvs_stream.specs.Delivery.{Delivers}
 use Rattle.nmvs_stream.specs.Sink.{Taken}
 use Rattle.nmvs_rules.specs.declared.entry.Entry.{Entry}
 use Rattle.nmvs_rules.specs.Questions.{code_of}
-use Rattle.nmvs_record.specs.Line.{entry_line}
+use Rattle.nmvs_line.specs.Line.{entry_line}
 use Rattle.nmvs_inspect.specs.Comparison.{GoesOn, Departs}
 use Rattle.nmvs_inspect.specs.declared.comparison.Departure.{Departure}
 use Rattle.nmvs_check.specs.Answers.{codes_named}

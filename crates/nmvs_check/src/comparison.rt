@@ -6,14 +6,16 @@ ghost use Rattle.nmvs_record.specs.Import.{Imports, FailsToImport};
 ghost use Rattle.nmvs_check.specs.Comparison as spec;
 
 use crate::answers::{codes_named, write};
+use crate::inspect_fault::InspectFault;
 use nmvs_inspect::{AnswerFault, Departure, first_departure};
-use nmvs_record::{Finding, entry_line, examine};
+use nmvs_line::entry_line;
+use nmvs_record::{Finding, examine};
 use nmvs_shard::{HashKey, Shard};
 use nmvs_stream::{Sink, Source};
 use std::alloc::{AllocError, Global};
 
 /// Why nothing is told of two exports.
-#[derive(Clone, Copy, Debug, PartialEq, Eq)]
+#[derive(Clone, Copy)]
 pub(crate) enum CompareFault {
     /// The old one is no export of a lawful trail, or was not read to its end.
     Old(Finding),
@@ -47,17 +49,39 @@ pub(crate) fn compare<R: Source, W: Sink>(
     ensures new_found { IfErr result (λ fault. (finding : AFinding) → fault ≡ CompareFault.New finding
         → FailsToImport (R.told new.old) (R.told new.new) reads finding × (W.taken sink.new ≡ W.taken sink.old)) }
 {
-    let before = match examine(alloc, alloc, key, old, reads) {
-        Ok(before) => before,
-        Err(finding) => return Err(CompareFault::Old(finding)),
-    };
-    let after = match examine(alloc, alloc, key, new, reads) {
-        Ok(after) => after,
-        Err(finding) => return Err(CompareFault::New(finding)),
-    };
-    match tell(alloc, before.shard(), after.shard(), sink) {
-        Ok(goes_on) => Ok(goes_on),
-        Err(fault) => Err(CompareFault::Answer(fault)),
+    let before = examine(alloc, alloc, key, old, reads);
+    match &before {
+        Err(finding) => Err(CompareFault::Old(*finding)),
+        Ok(before) => match compare_with(alloc, key, before.shard(), new, sink, reads) {
+            Ok(goes_on) => Ok(goes_on),
+            Err(InspectFault::Found(finding)) => Err(CompareFault::New(finding)),
+            Err(InspectFault::Answer(fault)) => Err(CompareFault::Answer(fault)),
+        },
+    }
+}
+
+/// Reads the new export to its end, tells whether it goes on from the old trail, and gives the same.
+fn compare_with<R: Source, W: Sink>(
+    alloc: Global,
+    key: HashKey,
+    old: &Shard<Global>,
+    new: &mut R,
+    sink: &mut W,
+    reads: u64,
+) -> Result<bool, InspectFault>
+    requires { (R.told new.old).ended ≡ false }
+    ensures told { IfOk result (λ goes_on. (after : Imported) × Imports (R.told new.old) (R.told new.new) after
+        × spec.Tells old.now after.trail goes_on (W.taken sink.old) (W.taken sink.new)) }
+    ensures found { IfErr result (λ fault. (finding : AFinding) → fault ≡ InspectFault.Found finding
+        → FailsToImport (R.told new.old) (R.told new.new) reads finding × (W.taken sink.new ≡ W.taken sink.old)) }
+{
+    let after = examine(alloc, alloc, key, new, reads);
+    match &after {
+        Err(finding) => Err(InspectFault::Found(*finding)),
+        Ok(after) => match tell(alloc, old, after.shard(), sink) {
+            Ok(goes_on) => Ok(goes_on),
+            Err(fault) => Err(InspectFault::Answer(fault)),
+        },
     }
 }
 

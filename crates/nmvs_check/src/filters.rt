@@ -39,26 +39,26 @@ const VALUES: [(&str, &str, &str); 11] = [
     ),
 ];
 
-/// A command with the options of a filter and of a form.
+/// A command with the options of a filter.
 pub(crate) fn with_filter<'a>(
     alloc: Global,
     command: Command<'a>,
 ) -> Result<Command<'a>, AllocError> {
-    let mut command = command;
-    for (name, value, help) in VALUES {
-        let option = Arg::new(alloc, name)
-            .long(name)
-            .value_name(value)
-            .help(help);
-        command = command.arg(option)?;
-    }
-    let flagged = flag(
+    let command = with_values(alloc, command)?;
+    let command = command.arg(flag(
         alloc,
         "flagged",
         "Alerts flagged as potential falsifications alone",
-    );
-    let refused = flag(alloc, "refused", "Refused questions alone");
-    command.arg(flagged)?.arg(refused)
+    ))?;
+    command.arg(flag(alloc, "refused", "Refused questions alone"))
+}
+
+fn with_values<'a>(alloc: Global, command: Command<'a>) -> Result<Command<'a>, AllocError> {
+    let mut command = command;
+    for &(name, value, help) in &VALUES {
+        command = command.arg(option(alloc, name, value, help))?;
+    }
+    Ok(command)
 }
 
 /// A command with the options of a form.
@@ -66,8 +66,15 @@ pub(crate) fn with_form<'a>(
     alloc: Global,
     command: Command<'a>,
 ) -> Result<Command<'a>, AllocError> {
-    let csv = flag(alloc, "csv", "As CSV, with a header");
-    command.arg(csv)
+    command.arg(flag(alloc, "csv", "As CSV, with a header"))
+}
+
+/// An option that takes a value.
+pub(crate) fn option<'a>(alloc: Global, name: &'a str, value: &'a str, help: &'a str) -> Arg<'a> {
+    Arg::new(alloc, name)
+        .long(name)
+        .value_name(value)
+        .help(help)
 }
 
 /// An option that takes no value.

@@ -10,8 +10,6 @@ mod inspection;
 mod options;
 mod page_file;
 mod request;
-#[cfg(test)]
-mod tests;
 
 use crate::comparison::{CompareFault, compare};
 use crate::inputs::{InputFault, Inputs};

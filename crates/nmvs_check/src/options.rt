@@ -1,5 +1,7 @@
 //! The command line.
-use crate::filters::{batch, by_of, code, filter_of, flag, form_of, with_filter, with_form};
+use crate::filters::{
+    batch, by_of, code, filter_of, flag, form_of, option, with_filter, with_form,
+};
 use crate::request::Request;
 use clap::error::ErrorKind;
 use clap::{Arg, ArgMatches, Command, Error};
@@ -30,7 +32,7 @@ pub(crate) struct Options {
 }
 
 /// Why a command line gives no options.
-#[derive(Debug, Drop)]
+#[derive(Drop)]
 pub(crate) enum OptionFault {
     Memory,
     /// The line is refused, with the text that says why.
@@ -91,29 +93,46 @@ pub(crate) fn read_options(alloc: Global, words: &[String]) -> Result<Asked, Opt
 }
 
 fn command<'a>(alloc: Global) -> Result<Command<'a>, AllocError> {
-    let report = Arg::new(alloc, "report")
-        .long("report")
-        .value_name("CODE")
-        .help("Tell the report of this product code instead");
-    let audit = Arg::new(alloc, "audit")
+    let command = Command::new(alloc, "nmvs-check")
+        .about(ABOUT)
+        .after_help(STATUS)
+        .version(VERSION)
+        .arg(files(alloc))?;
+    let command = with_lookups(alloc, command)?;
+    let command = with_subcommand(command, list(alloc))?;
+    let command = with_subcommand(command, count(alloc))?;
+    let command = with_subcommand(command, packs(alloc))?;
+    let command = with_subcommand(command, reports(alloc))?;
+    let command = with_subcommand(command, compare(alloc))?;
+    with_subcommand(command, page(alloc))
+}
+
+/// A command with a subcommand, where there was memory for it.
+fn with_subcommand<'a>(
+    command: Command<'a>,
+    subcommand: Result<Command<'a>, AllocError>,
+) -> Result<Command<'a>, AllocError> {
+    command.subcommand(subcommand?)
+}
+
+/// A command with the options that ask for one product code or one pack.
+fn with_lookups<'a>(alloc: Global, command: Command<'a>) -> Result<Command<'a>, AllocError> {
+    let command = command.arg(option(
+        alloc,
+        "report",
+        "CODE",
+        "Tell the report of this product code instead",
+    ))?;
+    command.arg(audit(alloc)?)
+}
+
+fn audit<'a>(alloc: Global) -> Result<Arg<'a>, AllocError> {
+    Arg::new(alloc, "audit")
         .long("audit")
         .value_names(&["CODE", "SERIAL"])
         .num_args(2)
         .help("Tell the lines about the pack with this product code and serial number instead")
-        .conflicts_with("report")?;
-    Command::new(alloc, "nmvs-check")
-        .about(ABOUT)
-        .after_help(STATUS)
-        .version(VERSION)
-        .arg(files(alloc))?
-        .arg(report)?
-        .arg(audit)?
-        .subcommand(list(alloc)?)?
-        .subcommand(count(alloc)?)?
-        .subcommand(packs(alloc)?)?
-        .subcommand(reports(alloc)?)?
-        .subcommand(compare(alloc)?)?
-        .subcommand(page(alloc)?)
+        .conflicts_with("report")
 }
 
 fn files<'a>(alloc: Global) -> Arg<'a> {
@@ -126,53 +145,49 @@ fn files<'a>(alloc: Global) -> Arg<'a> {
 }
 
 fn list<'a>(alloc: Global) -> Result<Command<'a>, AllocError> {
-    let json = flag(alloc, "json", "As entry lines, which an export has too").conflicts_with(
-        "csv",
-    )?;
     let command = Command::new(alloc, "list").about(LIST).arg(files(alloc))?;
-    with_form(alloc, with_filter(alloc, command)?)?.arg(json)
+    let command = with_filter(alloc, command)?;
+    let command = with_form(alloc, command)?;
+    command.arg(json(alloc)?)
+}
+
+fn json<'a>(alloc: Global) -> Result<Arg<'a>, AllocError> {
+    flag(alloc, "json", "As entry lines, which an export has too").conflicts_with("csv")
 }
 
 fn count<'a>(alloc: Global) -> Result<Command<'a>, AllocError> {
-    let by = Arg::new(alloc, "by")
-        .long("by")
-        .value_name("PARTS")
-        .required(true)
-        .help(
-            "One or several of day, week, month, cause, premises, authorisation, code, user, role, word and reply, with \
-            commas between",
-        );
+    let by = option(
+        alloc,
+        "by",
+        "PARTS",
+        "One or several of day, week, month, cause, premises, authorisation, code, user, role, word and reply, with \
+        commas between",
+    );
     let command = Command::new(alloc, "count")
         .about(COUNT)
-        .arg(by)?
+        .arg(by.required(true))?
         .arg(files(alloc))?;
-    with_form(alloc, with_filter(alloc, command)?)
+    let command = with_filter(alloc, command)?;
+    with_form(alloc, command)
 }
 
 fn packs<'a>(alloc: Global) -> Result<Command<'a>, AllocError> {
-    let code = Arg::new(alloc, "code")
-        .long("code")
-        .value_name("CODE")
-        .required(true)
-        .help("The product code");
-    let batch = Arg::new(alloc, "batch")
-        .long("batch")
-        .value_name("BATCH")
-        .required(true)
-        .help("The batch");
+    let code = option(alloc, "code", "CODE", "The product code");
     let command = Command::new(alloc, "packs")
         .about(PACKS)
-        .arg(code)?
-        .arg(batch)?
-        .arg(files(alloc))?;
+        .arg(code.required(true))?;
+    let batch = option(alloc, "batch", "BATCH", "The batch");
+    let command = command.arg(batch.required(true))?.arg(files(alloc))?;
     with_form(alloc, command)
 }
 
 fn page<'a>(alloc: Global) -> Result<Command<'a>, AllocError> {
-    let page = Arg::new(alloc, "page")
-        .value_name("PAGE")
-        .required(true)
-        .help("The file that the page is written to, as page.html");
+    let page = operand(
+        alloc,
+        "page",
+        "PAGE",
+        "The file that the page is written to, as page.html",
+    );
     Command::new(alloc, "page")
         .about(PAGE)
         .arg(page)?
@@ -180,27 +195,36 @@ fn page<'a>(alloc: Global) -> Result<Command<'a>, AllocError> {
 }
 
 fn reports<'a>(alloc: Global) -> Result<Command<'a>, AllocError> {
-    let all = flag(alloc, "all", "Of every product code that some line names").required(true);
+    let all = flag(alloc, "all", "Of every product code that some line names");
     let command = Command::new(alloc, "report")
         .about(REPORT)
-        .arg(all)?
+        .arg(all.required(true))?
         .arg(files(alloc))?;
     with_form(alloc, command)
 }
 
 fn compare<'a>(alloc: Global) -> Result<Command<'a>, AllocError> {
-    let old = Arg::new(alloc, "old")
-        .value_name("OLD")
+    let old = operand(
+        alloc,
+        "old",
+        "OLD",
+        "The file of the old export; standard input where it is -",
+    );
+    let command = Command::new(alloc, "compare").about(COMPARE).arg(old)?;
+    command.arg(operand(
+        alloc,
+        "new",
+        "NEW",
+        "The file of the new export; standard input where it is -",
+    ))
+}
+
+/// A word that the command line must have, by its place.
+fn operand<'a>(alloc: Global, name: &'a str, value: &'a str, help: &'a str) -> Arg<'a> {
+    Arg::new(alloc, name)
+        .value_name(value)
         .required(true)
-        .help("The file of the old export; standard input where it is -");
-    let new = Arg::new(alloc, "new")
-        .value_name("NEW")
-        .required(true)
-        .help("The file of the new export; standard input where it is -");
-    Command::new(alloc, "compare")
-        .about(COMPARE)
-        .arg(old)?
-        .arg(new)
+        .help(help)
 }
 
 fn asked_of(alloc: Global, matches: &ArgMatches<'_>) -> Result<Asked, OptionFault> {
@@ -222,18 +246,20 @@ fn asked_of(alloc: Global, matches: &ArgMatches<'_>) -> Result<Asked, OptionFaul
 }
 
 fn options_of(alloc: Global, matches: &ArgMatches<'_>) -> Result<Options, OptionFault> {
-    let (asked, request) = match matches.subcommand() {
-        Some(("list", asked)) => (asked, list_of(alloc, asked)?),
-        Some(("count", asked)) => (asked, count_of(alloc, asked)?),
-        Some(("packs", asked)) => (asked, packs_of(alloc, asked)?),
-        Some(("page", asked)) => (asked, Request::Page(path_of(alloc, asked)?)),
-        Some(("report", asked)) => (asked, reports_of(asked)),
-        _ => (matches, request_of(alloc, matches)?),
-    };
-    Ok(Options {
-        files: files_of(alloc, asked)?,
-        request,
-    })
+    let request = request_of(alloc, matches)?;
+    let files = files_of(alloc, matches)?;
+    Ok(Options { files, request })
+}
+
+fn request_of(alloc: Global, matches: &ArgMatches<'_>) -> Result<Request, OptionFault> {
+    match matches.subcommand() {
+        Some(("list", asked)) => list_of(alloc, asked),
+        Some(("count", asked)) => count_of(alloc, asked),
+        Some(("packs", asked)) => packs_of(alloc, asked),
+        Some(("page", asked)) => page_of(alloc, asked),
+        Some(("report", asked)) => Ok(reports_of(asked)),
+        _ => lookup_of(alloc, matches),
+    }
 }
 
 fn list_of(alloc: Global, matches: &ArgMatches<'_>) -> Result<Request, OptionFault> {
@@ -258,19 +284,25 @@ fn reports_of(matches: &ArgMatches<'_>) -> Request {
 }
 
 fn files_of(alloc: Global, matches: &ArgMatches<'_>) -> Result<Vec<String>, AllocError> {
-    let mut files = Vec::new(alloc);
-    if let Some(paths) = matches.get_strs("files") {
-        for path in paths {
-            files.push(String::from_str(alloc, path)?)?;
-        }
+    match matches.subcommand() {
+        Some((_, asked)) => paths_of(alloc, asked),
+        None => paths_of(alloc, matches),
     }
-    Ok(files)
 }
 
-/// The path that the page is written to.
-fn path_of(alloc: Global, matches: &ArgMatches<'_>) -> Result<String, OptionFault> {
+fn paths_of(alloc: Global, matches: &ArgMatches<'_>) -> Result<Vec<String>, AllocError> {
+    let mut paths = Vec::new(alloc);
+    if let Some(files) = matches.get_strs("files") {
+        for path in files {
+            paths.push(String::from_str(alloc, path)?)?;
+        }
+    }
+    Ok(paths)
+}
+
+fn page_of(alloc: Global, matches: &ArgMatches<'_>) -> Result<Request, OptionFault> {
     match matches.get_str("page") {
-        Some(path) => Ok(String::from_str(alloc, path)?),
+        Some(path) => Ok(Request::Page(String::from_str(alloc, path)?)),
         None => Err(OptionFault::Refused(String::from_str(
             alloc,
             "error: a file for the page is wanted\n",
@@ -278,7 +310,7 @@ fn path_of(alloc: Global, matches: &ArgMatches<'_>) -> Result<String, OptionFaul
     }
 }
 
-fn request_of(alloc: Global, matches: &ArgMatches<'_>) -> Result<Request, OptionFault> {
+fn lookup_of(alloc: Global, matches: &ArgMatches<'_>) -> Result<Request, OptionFault> {
     if let Some(code) = matches.get_str("report") {
         return Ok(Request::Report(code_of(alloc, code)?));
     }

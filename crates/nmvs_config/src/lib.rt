@@ -9,8 +9,6 @@ mod entries;
 mod faults;
 mod kinds;
 mod names;
-#[cfg(test)]
-mod tests;
 mod text;
 
 pub use config::with_config;

@@ -4,14 +4,15 @@ use Rattle.std.proofs.lemmas.Grind.{flat_map-append}
 use Rattle.std.proofs.lemmas.List.{append-nil, append_assoc, length-append, drop-append-le, drop-drop, take-append-drop}
 use Rattle.std.specs.Option.{option_or}
 use Rattle.nmvs_stream.specs.Sink.{Taken}
-use Rattle.nmvs_protocol.specs.declared.ask.Ask.{Ask}
-use Rattle.nmvs_protocol.specs.declared.answer.Answer.{Answer}
-use Rattle.nmvs_protocol.specs.declared.end.End.{End}
-use Rattle.nmvs_protocol.specs.declared.withheld.Withheld.{Withheld}
-use Rattle.nmvs_protocol.specs.declared.end.End.TheVariants as ends
+use Rattle.nmvs_messages.specs.declared.ask.Ask.{Ask}
+use Rattle.nmvs_messages.specs.declared.answer.Answer.{Answer}
+use Rattle.nmvs_messages.specs.declared.end.End.{End}
+use Rattle.nmvs_messages.specs.declared.withheld.Withheld.{Withheld}
+use Rattle.nmvs_messages.specs.declared.end.End.TheVariants as ends
 use Rattle.nmvs_protocol.specs.declared.session.Session.{Session}
 use Rattle.nmvs_stream.specs.InputLines.{input_lines, lines_after, rest_after, unfinished_line}
-use Rattle.nmvs_protocol.specs.Progress.{Halts, TellsFirst, kept_part}
+use Rattle.nmvs_messages.specs.PendingLines.{kept_part}
+use Rattle.nmvs_protocol.specs.Progress.{Halts, TellsFirst}
 use Rattle.nmvs_protocol.specs.Session.{TakesLines, session_text}
 use Rattle.nmvs_protocol.specs.Texts.{text as text_of}
 use Rattle.nmvs_stream.proofs.LinesOfPieces.{lines_after-append}

@@ -2,16 +2,16 @@
 use Rattle.std.proofs.Common.{◌≡◌, ◌⊎◌, inl, inr, ℕ, List, [], ◌∷◌, ◌++◌, Option, Some, None, Result, Ok, Err, length, take, drop, refl, sym, ap, subst, ◌∙◌}
 use Rattle.std.proofs.lemmas.List.{append-nil, append_assoc, take-append-drop}
 use Rattle.nmvs_identifier.specs.Name.{Name}
-use Rattle.nmvs_protocol.specs.declared.ask.Ask.{Ask}
-use Rattle.nmvs_protocol.specs.declared.ask.Line.{Line}
-use Rattle.nmvs_protocol.specs.declared.ask.Line.TheVariants as asked
-use Rattle.nmvs_protocol.specs.declared.ask.Unread.{Unread}
-use Rattle.nmvs_protocol.specs.declared.answer.Answer.{Answer}
-use Rattle.nmvs_protocol.specs.declared.answer.Turn.{Turn}
-use Rattle.nmvs_protocol.specs.declared.end.End.{End}
-use Rattle.nmvs_protocol.specs.declared.peer.Peer.{Peer}
+use Rattle.nmvs_messages.specs.declared.ask.Ask.{Ask}
+use Rattle.nmvs_messages.specs.declared.ask.Line.{Line}
+use Rattle.nmvs_messages.specs.declared.ask.Line.TheVariants as asked
+use Rattle.nmvs_messages.specs.declared.ask.Unread.{Unread}
+use Rattle.nmvs_messages.specs.declared.answer.Answer.{Answer}
+use Rattle.nmvs_messages.specs.declared.answer.Turn.{Turn}
+use Rattle.nmvs_messages.specs.declared.end.End.{End}
+use Rattle.nmvs_messages.specs.declared.peer.Peer.{Peer}
 use Rattle.nmvs_protocol.specs.declared.peer.OwnDesk.{OwnDesk}
-use Rattle.nmvs_protocol.specs.declared.withheld.Withheld.{Withheld}
+use Rattle.nmvs_messages.specs.declared.withheld.Withheld.{Withheld}
 use Rattle.nmvs_protocol.specs.Peers.{TakesOf}
 use Rattle.nmvs_protocol.specs.Session.{Answers, TakesLine, TakesLines}
 use Rattle.nmvs_stream.specs.InputLines.{input_lines, lines_after, unfinished_line}

@@ -3,8 +3,8 @@ use Rattle.std.specs.Prelude.{◌≡◌, ◌≢◌, ◌⊎◌, ℕ, List, length
 use Rattle.nmvs_identifier.specs.Name.{Name}
 use Rattle.nmvs_gateway.specs.Header.{ReadsHeader}
 use Rattle.nmvs_gateway.specs.declared.header.Header.TheVariants as headers
-use Rattle.nmvs_protocol.specs.declared.peer.NameOf.{NameOf}
-use Rattle.nmvs_protocol.specs.Peers.{peer_named}
+use Rattle.nmvs_messages.specs.declared.peer.NameOf.{NameOf}
+use Rattle.nmvs_messages.specs.Peers.{peer_named}
 use Rattle.nmvs_connections.specs.declared.greeting.Greeting.{Greeting}
 use Rattle.nmvs_connections.specs.declared.greeting.Greeting.TheVariants as greetings
 

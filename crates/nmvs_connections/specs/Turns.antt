@@ -3,13 +3,14 @@ use Rattle.std.specs.Prelude.{◌≡◌, ◌≢◌, ◌⊎◌, ◌==◌, if◌th
 use Rattle.std.specs.List.{Contains}
 use Rattle.slab.specs.Slab.{Slab, get}
 use Rattle.nmvs_identifier.specs.Name.{Name}
-use Rattle.nmvs_protocol.specs.declared.ask.Ask.{Ask}
-use Rattle.nmvs_protocol.specs.declared.answer.Answer.{Answer}
-use Rattle.nmvs_protocol.specs.declared.answer.Turn.{Turn}
-use Rattle.nmvs_protocol.specs.declared.peer.Peer.{Peer}
-use Rattle.nmvs_protocol.specs.declared.withheld.Withheld.{Withheld}
+use Rattle.nmvs_messages.specs.declared.ask.Ask.{Ask}
+use Rattle.nmvs_messages.specs.declared.answer.Answer.{Answer}
+use Rattle.nmvs_messages.specs.declared.answer.Turn.{Turn}
+use Rattle.nmvs_messages.specs.declared.peer.Peer.{Peer}
+use Rattle.nmvs_messages.specs.declared.withheld.Withheld.{Withheld}
 use Rattle.nmvs_protocol.specs.Peers.{TakesOf}
-use Rattle.nmvs_protocol.specs.Session.{AreReleased, TakesLines, session_text}
+use Rattle.nmvs_messages.specs.Withheld.{AreReleased}
+use Rattle.nmvs_protocol.specs.Session.{TakesLines, session_text}
 use Rattle.nmvs_stream.specs.InputLines.{input_lines}
 use Rattle.nmvs_connections.specs.declared.seat.Seat.{Seat}
 use Rattle.nmvs_connections.specs.declared.seat.After.{After}

@@ -4,7 +4,8 @@ ghost use Rattle.nmvs_connections.specs.Replies.{Asked, LacksMemory, Replies, Te
 
 use crate::gathered::Gathered;
 use boxcar::tag::{Names, Tag};
-use nmvs_protocol::{Desk, End, Released, Session, WithheldAnswers, write_texts};
+use nmvs_messages::{Desk, End, Released, WithheldAnswers};
+use nmvs_protocol::{Session, write_texts};
 use std::alloc::Global;
 use std::marker::Model;
 use std::mem;

@@ -2,7 +2,10 @@
 ghost use Rattle.nmvs_connections.specs.Greeting.{Greets};
 
 use nmvs_gateway::{Header, read_header};
-use nmvs_protocol::{NameOf, Peer};
+use nmvs_messages::{NameOf, Peer};
+
+#[cfg(test)]
+mod tests;
 
 /// What the first bytes of a connection tell.
 #[derive(Clone, Copy)]

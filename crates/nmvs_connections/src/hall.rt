@@ -2,7 +2,7 @@
 use crate::connection::Connection;
 use mio::{Events, Poll, Token, Waker};
 use nmvs_figures::{Fault, Panel, Tally};
-use nmvs_protocol::NameOf;
+use nmvs_messages::NameOf;
 use std::alloc::{AllocError, Global};
 use std::io;
 use std::net::Net;
@@ -19,7 +19,7 @@ const WORKER_EVENTS: usize = 1_024;
 const DOOR_EVENTS: usize = 2;
 
 /// How far connections may go.
-#[derive(Clone, Copy, Debug, PartialEq, Eq)]
+#[derive(Clone, Copy)]
 pub struct Bounds {
     /// The most connections that are open at once.
     pub connections: usize,
@@ -45,6 +45,17 @@ struct Counts {
 }
 
 impl Counts {
+    /// No open connection, and how many sessions may begin.
+    fn none(alloc: Global, workers: usize, sessions: u64) -> Result<Counts, AllocError> {
+        Ok(Counts {
+            open: 0,
+            workers: Vec::from_elem(alloc, 0, workers)?,
+            begun: 0,
+            sessions,
+            stopped: false,
+        })
+    }
+
     /// Counts a connection more of the worker of this number.
     fn enter(&mut self, worker: usize) {
         self.open = self.open.saturating_add(1);
@@ -63,7 +74,7 @@ impl Counts {
 }
 
 /// What a hall counts, at one moment.
-#[derive(Debug, Drop)]
+#[derive(Drop)]
 pub struct Load {
     /// How many connections are open.
     pub open: usize,
@@ -85,6 +96,17 @@ pub(crate) struct Dealt {
 struct Place {
     inbox: Mutex<Vec<Dealt>>,
     waker: Waker,
+}
+
+impl Place {
+    /// The place of the worker that waits at this station.
+    fn of(alloc: Global, station: &Station) -> io::Result<Place> {
+        let waker = station.waker()?;
+        Ok(Place {
+            inbox: Mutex::new(Vec::new(alloc)),
+            waker,
+        })
+    }
 }
 
 /// What the threads of a server share: the counts of its connections, how each thread is reached, and where is counted what
@@ -133,29 +155,46 @@ impl<'p> Hall<'p> {
         panel: &'p Panel,
     ) -> io::Result<(Hall<'p>, Vec<Station>, Station)> {
         let door = Station::new(rt, alloc, DOOR_EVENTS)?;
-        let mut hall = Hall {
+        let mut hall = Hall::with_door(alloc, &door, workers, bounds, panel)?;
+        let stations = hall.place_all(rt, alloc, workers)?;
+        Ok((hall, stations, door))
+    }
+
+    /// A hall that has no place for a worker yet. The thread that accepts waits at this station.
+    fn with_door(
+        alloc: Global,
+        door: &Station,
+        workers: usize,
+        bounds: Bounds,
+        panel: &'p Panel,
+    ) -> io::Result<Hall<'p>> {
+        let counts = Counts::none(alloc, workers, bounds.sessions)?;
+        let places = Vec::with_capacity(alloc, workers)?;
+        let waker = door.waker()?;
+        Ok(Hall {
             bounds,
             panel,
-            counts: Mutex::new(Counts {
-                open: 0,
-                workers: Vec::from_elem(alloc, 0, workers)?,
-                begun: 0,
-                sessions: bounds.sessions,
-                stopped: false,
-            }),
-            places: Vec::with_capacity(alloc, workers)?,
-            door: door.waker()?,
-        };
+            counts: Mutex::new(counts),
+            places,
+            door: waker,
+        })
+    }
+
+    /// Makes a place for each worker, and gives their stations.
+    fn place_all(
+        &mut self,
+        rt: &impl Net,
+        alloc: Global,
+        workers: usize,
+    ) -> io::Result<Vec<Station>> {
         let mut stations = Vec::with_capacity(alloc, workers)?;
         for _ in 0..workers {
             let station = Station::new(rt, alloc, WORKER_EVENTS)?;
-            hall.places.push(Place {
-                inbox: Mutex::new(Vec::new(alloc)),
-                waker: station.waker()?,
-            })?;
+            let place = Place::of(alloc, &station)?;
+            self.places.push(place)?;
             stations.push(station)?;
         }
-        Ok((hall, stations, door))
+        Ok(stations)
     }
 
     /// Ends the service: no connection is accepted any more, and each session ends behind the lines that were read.

@@ -15,8 +15,6 @@ mod hall;
 mod keepalive;
 mod pieces;
 mod seat;
-#[cfg(test)]
-mod tests;
 mod worker;
 
 pub use connection::Listener;

@@ -10,10 +10,10 @@ use crate::hall::{Dealt, Hall};
 use crate::pieces::{Piece, first_piece};
 use memchr::memchr;
 use mio::{Registry, Token};
-use nmvs_protocol::{
-    Authorisations, Desk, End, NO_LIMITS, NameOf, OwnDesk, Peer, READ_SIZE, Released,
-    WithheldAnswers,
+use nmvs_messages::{
+    Authorisations, Desk, End, NO_LIMITS, NameOf, Peer, READ_SIZE, Released, WithheldAnswers,
 };
+use nmvs_protocol::OwnDesk;
 use std::alloc::{AllocError, Global};
 use std::io;
 use std::sync::Wait;

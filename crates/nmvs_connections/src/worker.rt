@@ -11,7 +11,8 @@ use log::{Log, debug};
 use mio::event::Event;
 use mio::{Events, Registry};
 use nmvs_figures::Fault;
-use nmvs_protocol::{Authorisations, Desk, OwnDesk, Released, WithheldAnswers};
+use nmvs_messages::{Authorisations, Desk, Released, WithheldAnswers};
+use nmvs_protocol::OwnDesk;
 use slab::Slab;
 use std::alloc::{AllocError, Global};
 use std::rt::Clock;
@@ -38,27 +39,10 @@ pub fn serve<'a, R: Wait + Clock + Log, D: Desk<'a> + Authorisations>(
     station: Station,
     desk: &mut OwnDesk<D>,
 ) -> io::Result<()> {
-    let Station {
-        mut poll,
-        mut events,
-    } = station;
+    let mut station = station;
     let mut bench = Bench::new(alloc, Instant::now(rt)?);
-    let mut withheld = WithheldAnswers::new();
     let mut floor = Floor::new(alloc, worker, bench.now);
-    for _ in 0..u64::MAX {
-        poll.poll(&mut events, floor.patience())?;
-        bench.now = Instant::now(rt)?;
-        if floor.note_all(&events) {
-            floor.heed(rt, hall);
-            floor.admit_all(rt, hall, poll.registry(), &bench);
-        }
-        floor.take_turns(rt, hall, &mut bench, &mut withheld, desk);
-        floor.grow_old(rt, hall, bench.now);
-        if floor.closing && floor.seats.is_empty() {
-            return Ok(());
-        }
-    }
-    Ok(())
+    floor.serve_all(rt, hall, &mut station, &mut bench, desk)
 }
 
 /// The connections of a worker, and whose turns come.
@@ -88,6 +72,32 @@ impl Floor {
             looked: now,
             closing: false,
         }
+    }
+
+    /// Serves the connections until the hall is closed and each session has ended.
+    fn serve_all<'a, R: Wait + Clock + Log, D: Desk<'a> + Authorisations>(
+        &mut self,
+        rt: &R,
+        hall: &Hall<'_>,
+        station: &mut Station,
+        bench: &mut Bench,
+        desk: &mut OwnDesk<D>,
+    ) -> io::Result<()> {
+        let mut withheld = WithheldAnswers::new();
+        for _ in 0..u64::MAX {
+            station.poll.poll(&mut station.events, self.patience())?;
+            bench.now = Instant::now(rt)?;
+            if self.note_all(&station.events) {
+                self.heed(rt, hall);
+                self.admit_all(rt, hall, station.poll.registry(), bench);
+            }
+            self.take_turns(rt, hall, bench, &mut withheld, desk);
+            self.grow_old(rt, hall, bench.now);
+            if self.closing && self.seats.is_empty() {
+                return Ok(());
+            }
+        }
+        Ok(())
     }
 
     /// How long the worker may wait for the system's reports.

@@ -1,25 +1,63 @@
--- What a clerk is answered to a question with a tag, by what became of it in its shard.
-use Rattle.std.proofs.Common.{◌≡◌, ◌<◌, ℕ, List, [], ◌∷◌, ◌++◌, set, take, length, get_or, refl, sym, ap, ◌∙◌, subst}
-use Rattle.std.specs.Prelude.{Some, slice_get}
+-- What a clerk is answered, by what became of its question in its shard.
+use Rattle.std.proofs.Common.{◌≡◌, ◌<◌, ◌⊎◌, inl, inr, ℕ, List, [], ◌∷◌, ◌++◌, Option, Some, None, set, take, length, get_or, refl, sym, ap, ◌∙◌, subst}
+use Rattle.std.specs.Prelude.{slice_get}
 use Rattle.std.proofs.lemmas.Option.{slice_get_within, get_or_from_slice_get}
 use Rattle.nmvs_history.specs.Views.{HistoryId, TokenView}
+use Rattle.nmvs_identifier.specs.Tag.{Tag}
+use Rattle.nmvs_identifier.specs.declared.pack.Pack.{Pack}
 use Rattle.nmvs_directory.specs.declared.change.Change.{Change}
 use Rattle.nmvs_rules.specs.declared.entry.Entry.{Entry}
 use Rattle.nmvs_rules.specs.declared.put.Put.{Put}
 use Rattle.nmvs_rules.specs.declared.reply.Reply.{Reply}
 use Rattle.nmvs_rules.specs.declared.repeat.Repeat.TheVariants as repeat
-use Rattle.nmvs_rules.specs.Questions.{code_of}
-use Rattle.nmvs_rules.specs.Repeats.{repeat_of}
+use Rattle.nmvs_rules.specs.Questions.{code_of, pack_of}
+use Rattle.nmvs_rules.specs.Repeats.{repeat_by, repeat_of}
 use Rattle.nmvs_rules.specs.Rules.{shown_of}
 use Rattle.nmvs_rules.proofs.RepeatLaws.{repeated}
+use Rattle.nmvs_desk.specs.declared.ask.Outcome.{Outcome}
+use Rattle.nmvs_desk.specs.declared.ask.Outcome.TheVariants as outcome
 use Rattle.nmvs_desk.specs.declared.ask.Receipt.{Receipt}
-use Rattle.nmvs_desk.specs.Answers.{IsServed, Looks, IsRepeated, Sees, Receives}
+use Rattle.nmvs_desk.specs.declared.ask.Served.{Served}
+use Rattle.nmvs_desk.specs.Answers.{Answers, IsServed, Looks, IsRepeated, Sees, Receives}
 use Rattle.nmvs_desk.specs.Clerks.{IsClerk}
 use Rattle.nmvs_desk.specs.Placing.{shard_of}
 use Rattle.nmvs_desk.specs.Settlement.{row}
 use Rattle.nmvs_desk.specs.Views.{ClerkView, sights_of, places_of}
 use Rattle.nmvs_desk.proofs.Asked.{answered_then, owns_then, same_places, shown_then, sight_else, sight_of}
 use Rattle.nmvs_desk.proofs.Lists.{set_same}
+
+-- a question without a tag is new on every trail
+untagged_new : (t : List Entry) (q : Put) → q.tag ≡ None → repeat_of t q ≡ repeat.New
+untagged_new t q none = ap (λ (g : Option Tag). repeat_by t q (pack_of q.question) g) none ∙ by (pack_of q.question)
+  where
+    by : (p : Option Pack) → repeat_by t q p None ≡ repeat.New
+    by None = refl
+    by (Some p) = refl
+
+-- so it repeats no entry
+untagged_same : (t : List Entry) (q : Put) (place : ℕ) (reply : Reply) → q.tag ≡ None → repeat_of t q ≡ repeat.Same place reply → ⊥
+untagged_same t q place reply none is = apart (sym (untagged_new t q none) ∙ is)
+  where
+    apart : repeat.New ≡ repeat.Same place reply → ⊥
+    apart h = cc
+
+-- and has no tag of another question
+untagged_other : (t : List Entry) (q : Put) → q.tag ≡ None → repeat_of t q ≡ repeat.Other → ⊥
+untagged_other t q none is = apart (sym (untagged_new t q none) ∙ is)
+  where
+    apart : repeat.New ≡ repeat.Other → ⊥
+    apart h = cc
+
+-- so it is put, and nothing else becomes of it
+pub untagged_put : {B : Type 0} (count : ℕ) (put : Put) (old new : ClerkView) (o : Outcome B) → put.tag ≡ None → Answers count put old new o
+    → ((s : Served B) × (o ≡ outcome.Again s)) ⊎ (o ≡ outcome.Other) → ⊥
+untagged_put count put old new o none answers (inl again) =
+    let told = subst (λ o. Answers count put old new o) again.1 answers in
+    let r = again.0.receipt in
+    untagged_same (row new.sights r.shard) put r.place r.entry.reply none told.2.repeat
+untagged_put count put old new o none answers (inr other) =
+    let told = subst (λ o. Answers count put old new o) other answers in
+    untagged_other (row new.sights (shard_of count (code_of put.question))) put none told.1
 
 -- the entry that a question repeats stands at its place, with the reply
 pub record Stands (t : List Entry) (place : ℕ) (reply : Reply) : Type 0 where

@@ -27,7 +27,7 @@ use std::sync::Wait;
 
 /// What was answered, and where its entry stands: the shard, and the entry's place in the shard's trail, counted from
 /// 0.
-#[derive(Clone, Copy, Debug, PartialEq, Eq)]
+#[derive(Clone, Copy)]
 pub struct Receipt {
     pub shard: usize,
     pub place: usize,
@@ -204,8 +204,11 @@ impl<'a, J: Naming, H: Histories, B: Allocator> Clerk<'a, J, H, B> {
             question: *question,
             tag: None,
         };
-        let served = self.put(rt, repository, &put)?;
-        Ok(served)
+        match self.put(rt, repository, &put)? {
+            Outcome::New(served) => Ok(served),
+            // A question without a tag repeats no other.
+            Outcome::Again(_) | Outcome::Other => unreachable!(),
+        }
     }
 
     /// As `ask`, for a question with a tag, by which it may have been asked before. Whether it was is looked for in the same
@@ -234,12 +237,12 @@ impl<'a, J: Naming, H: Histories, B: Allocator> Clerk<'a, J, H, B> {
             question: *question,
             tag: Some(tag),
         };
-        let outcome = self.put_once(rt, repository, &put)?;
+        let outcome = self.put(rt, repository, &put)?;
         Ok(outcome)
     }
 
-    /// Puts a question with a tag in the capacity that it names, where it was not asked before.
-    fn put_once<R: Wait>(
+    /// Puts a question in the capacity that it names, where it was not asked before by its tag.
+    fn put<R: Wait>(
         &mut self,
         rt: &R,
         repository: &Repository<'a, H, B>,
@@ -251,7 +254,8 @@ impl<'a, J: Naming, H: Histories, B: Allocator> Clerk<'a, J, H, B> {
     {
         self.receipts.reserve(1)?;
         let shard = repository.shard_of(&put.question.code());
-        match repository.ask_once(rt, shard, &mut self.tokens[shard], put)? {
+        let slot = repository.slot(shard);
+        match slot.ask(rt, &mut self.tokens[shard], put)? {
             Outcome::New(served) => {
                 self.receipts.push_reserved(served.receipt);
                 Ok(Outcome::New(served))
@@ -259,32 +263,6 @@ impl<'a, J: Naming, H: Histories, B: Allocator> Clerk<'a, J, H, B> {
             Outcome::Again(served) => Ok(Outcome::Again(served)),
             Outcome::Other => Ok(Outcome::Other),
         }
-    }
-
-    /// Puts a question in the capacity that it names.
-    fn put<R: Wait>(
-        &mut self,
-        rt: &R,
-        repository: &Repository<'a, H, B>,
-        put: &Put,
-    ) -> Result<Served<'a, B>, AllocError>
-        ensures kept { IfOk result (λ s. self.new.receipts ≡ self.old.receipts ++ s.receipt ∷ []) }
-        ensures seen { self.new.seen ≡ self.old.seen }
-        ensures shard { IfOk result (λ s.
-            s.receipt.shard ≡ shard_of repository.now.shards (code_of put.now.question)) }
-        ensures put { IfOk result (λ s. s.receipt.entry.put ≡ put.now) }
-        ensures answered { IfOk result (λ s.
-            let shard = s.receipt.shard in
-            IsAnswered repository.now.shards (row self.old.sights shard) (row self.new.sights shard) s.receipt s.shown.items) }
-        ensures owned { IfOk result (λ s. OwnsOneMore self.old.places self.new.places s.receipt) }
-        ensures others { IfOk result (λ s. (i : ℕ) → i ≢ s.receipt.shard → row self.new.sights i ≡ row self.old.sights i) }
-        ensures unchanged { OnErr result (self.new ≡ self.old) }
-    {
-        self.receipts.reserve(1)?;
-        let shard = repository.shard_of(&put.question.code());
-        let served = repository.ask(rt, shard, &mut self.tokens[shard], put)?;
-        self.receipts.push_reserved(served.receipt);
-        Ok(served)
     }
 
     /// What the reader makes of the shard of this number, whose trail begins with all that the clerk has seen of it; then
@@ -302,7 +280,9 @@ impl<'a, J: Naming, H: Histories, B: Allocator> Clerk<'a, J, H, B> {
         ensures others { (i : ℕ) → i ≢ index → row self.new.sights i ≡ row self.old.sights i }
         ensures same { self.new ≡ record self.old { sights = self.new.sights } }
     {
-        repository.look(rt, index, &mut self.tokens[index], reader)
+        repository
+            .slot(index)
+            .look(rt, &mut self.tokens[index], reader)
     }
 
     /// Calls the holder with the clerk's token of the shard of this number. Then the clerk has seen what the token has.

@@ -23,8 +23,6 @@ mod opening;
 mod repository;
 mod settled;
 mod settling;
-#[cfg(test)]
-mod tests;
 
 pub use ask::{Clerk, Outcome, Receipt, Served};
 pub use faults::{AskFault, OpenFault};

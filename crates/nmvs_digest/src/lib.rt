@@ -5,8 +5,6 @@ mod digest_fault;
 mod digested;
 mod lines;
 mod stored;
-#[cfg(test)]
-mod tests;
 
 pub use digest_fault::DigestFault;
 pub use digested::Digested;

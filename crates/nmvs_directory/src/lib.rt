@@ -28,8 +28,6 @@ mod naming;
 mod notice;
 mod registrar;
 mod standing;
-#[cfg(test)]
-mod tests;
 mod users;
 mod window;
 

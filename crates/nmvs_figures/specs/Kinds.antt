@@ -1,7 +1,7 @@
 -- The kinds of replies, as they are counted (own).
 use Rattle.std.specs.Prelude.{◌≡◌, Some, slice_get}
 use Rattle.nmvs_rules.specs.declared.reply.Reply.{Reply}
-use Rattle.nmvs_protocol.specs.Texts.{reply_words}
+use Rattle.nmvs_messages.specs.Words.{reply_words}
 use Rattle.nmvs_words.specs.ReplyKinds.{reply_word}
 use Rattle.nmvs_words.specs.declared.reply_kind.ReplyKind.{ReplyKind}
 

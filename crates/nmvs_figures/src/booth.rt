@@ -1,4 +1,6 @@
 //! Where figures are told, over HTTP.
+ghost use Rattle.std.specs.Prelude.{◌<◌, vec_len};
+
 use crate::Panel;
 use crate::visit::Guide;
 use http_server::{Config, Connection, Service};
@@ -81,28 +83,10 @@ pub fn tell_figures<R: Clock + RandomSource>(
     booth: Booth,
     panel: &Panel,
 ) -> io::Result<()> {
-    let Booth {
-        listener,
-        mut poll,
-        memory,
-    } = booth;
+    let mut booth = booth;
     let mut events = Events::with_capacity(alloc, MOST_VISITS)?;
-    let mut guide = Guide {
-        alloc,
-        panel,
-        memory,
-    };
     let mut visits = Vec::with_capacity(alloc, MOST_VISITS)?;
-    for _ in 0..u64::MAX {
-        poll.poll(&mut events, Some(Duration::from_millis(TICK)))?;
-        if panel.has_ended() {
-            return Ok(());
-        }
-        let now = Instant::now(rt)?;
-        admit_all(rt, alloc, &listener, &poll, now, &mut visits);
-        step_all(&mut guide, now, &mut visits);
-    }
-    Ok(())
+    booth.receive(rt, alloc, panel, &mut events, &mut visits)
 }
 
 /// A visitor: a connection, its requests and answers, and when it came.
@@ -113,31 +97,83 @@ struct Visit {
     came: Instant,
 }
 
-/// Lets in the visitors that wait, as far as there is room. One that can't be let in is sent away.
-fn admit_all<R: RandomSource>(
-    rt: &R,
-    alloc: Global,
-    listener: &TcpListener,
-    poll: &Poll,
-    now: Instant,
-    visits: &mut Vec<Visit>,
-) {
-    for _ in visits.len()..MOST_VISITS {
-        let Ok((mut stream, _peer)) = listener.accept() else {
-            return;
-        };
-        let both = Interest::READABLE | Interest::WRITABLE;
-        let Ok(keys) = RandomState::new(rt) else {
-            return;
-        };
-        if poll.registry().register(&mut stream, ANY, both).is_ok() {
-            let _room_was_made = visits.push(Visit {
-                stream,
-                connection: Connection::new(alloc, keys, config()),
-                came: now,
-            });
+impl Booth {
+    /// Lets visitors in, and goes on with them, until the panel has it that the server ends.
+    fn receive<R: Clock + RandomSource>(
+        &mut self,
+        rt: &R,
+        alloc: Global,
+        panel: &Panel,
+        events: &mut Events,
+        visits: &mut Vec<Visit>,
+    ) -> io::Result<()> {
+        for _ in 0..u64::MAX {
+            self.poll.poll(events, Some(Duration::from_millis(TICK)))?;
+            if panel.has_ended() {
+                return Ok(());
+            }
+            let now = Instant::now(rt)?;
+            self.admit_all(rt, alloc, now, visits);
+            let memory = self.memory.as_ref();
+            let mut guide = Guide::new(alloc, panel, memory);
+            step_all(&mut guide, now, visits);
+        }
+        Ok(())
+    }
+
+    /// Lets in the visitors that wait, as far as there is room. One that can't be let in is sent away.
+    fn admit_all<R: RandomSource>(
+        &self,
+        rt: &R,
+        alloc: Global,
+        now: Instant,
+        visits: &mut Vec<Visit>,
+    ) {
+        for _ in visits.len()..MOST_VISITS {
+            let is_admitted = match self.listener.accept() {
+                Ok((stream, _peer)) => self.admit(rt, alloc, now, stream, visits).is_ok(),
+                Err(_) => false,
+            };
+            if !is_admitted {
+                return;
+            }
         }
     }
+
+    /// Lets in a visitor whose stream can be watched.
+    fn admit<R: RandomSource>(
+        &self,
+        rt: &R,
+        alloc: Global,
+        now: Instant,
+        stream: TcpStream,
+        visits: &mut Vec<Visit>,
+    ) -> io::Result<()> {
+        let keys = RandomState::new(rt)?;
+        if let Some(stream) = self.watched(stream) {
+            let connection = Connection::new(alloc, keys, config());
+            push_visit(visits, stream, connection, now);
+        }
+        Ok(())
+    }
+
+    /// The stream, where the system reports when it can be read or written.
+    fn watched(&self, stream: TcpStream) -> Option<TcpStream> {
+        let mut stream = stream;
+        let both = Interest::READABLE | Interest::WRITABLE;
+        match self.poll.registry().register(&mut stream, ANY, both) {
+            Ok(()) => Some(stream),
+            Err(_) => None,
+        }
+    }
+}
+
+fn push_visit(visits: &mut Vec<Visit>, stream: TcpStream, connection: Connection, came: Instant) {
+    let _room_was_made = visits.push(Visit {
+        stream,
+        connection,
+        came,
+    });
 }
 
 /// No request here has a body.
@@ -155,9 +191,16 @@ fn step_all<S: Service>(service: &mut S, now: Instant, visits: &mut Vec<Visit>) 
             None => continue,
         };
         if !stays {
-            visits.swap_remove(place);
+            send_away(visits, place);
         }
     }
+}
+
+/// Lets the visitor at this place go.
+fn send_away(visits: &mut Vec<Visit>, place: usize)
+    requires { place < vec_len visits.old }
+{
+    visits.swap_remove(place);
 }
 
 impl Visit {

@@ -2,7 +2,7 @@
 use nmvs_words::{QuestionKind, ReplyKind};
 
 /// How many questions of a kind had a reply of a kind.
-#[derive(Clone, Copy, Debug, PartialEq, Eq)]
+#[derive(Clone, Copy)]
 pub struct Answered {
     pub question: QuestionKind,
     pub reply: ReplyKind,
@@ -10,21 +10,21 @@ pub struct Answered {
 }
 
 /// How often was counted what has this word.
-#[derive(Clone, Copy, Debug, PartialEq, Eq)]
+#[derive(Clone, Copy)]
 pub struct Counted {
     pub word: &'static str,
     pub count: u64,
 }
 
 /// What the worker or the shard of this number has.
-#[derive(Clone, Copy, Debug, PartialEq, Eq)]
+#[derive(Clone, Copy)]
 pub struct Numbered {
     pub number: u64,
     pub value: u64,
 }
 
 /// How many syncs took no longer than this, and longer than the bucket before it says.
-#[derive(Clone, Copy, Debug, PartialEq, Eq)]
+#[derive(Clone, Copy)]
 pub struct Bucket {
     /// In seconds, as it is told.
     pub bound: &'static str,
@@ -32,7 +32,7 @@ pub struct Bucket {
 }
 
 /// What a server has counted of its journals.
-#[derive(Debug, Drop)]
+#[derive(Drop)]
 pub struct JournalFigures {
     /// How many entries of each shard are confirmed.
     pub confirmed: Vec<Numbered>,
@@ -47,7 +47,7 @@ pub struct JournalFigures {
 }
 
 /// What a server has counted, at one moment.
-#[derive(Debug, Drop)]
+#[derive(Drop)]
 pub struct Figures {
     /// Whether it listens.
     pub ready: bool,

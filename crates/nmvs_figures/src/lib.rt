@@ -12,8 +12,6 @@ mod kinds;
 mod page;
 mod panel;
 mod syncs;
-#[cfg(test)]
-mod tests;
 mod visit;
 
 pub use booth::{Booth, tell_figures};
@@ -21,3 +19,4 @@ pub use figures::{Answered, Bucket, Counted, Figures, JournalFigures, Numbered};
 pub use kinds::Fault;
 pub use page::figures_page;
 pub use panel::{Panel, Tally};
+pub use visit::{Guide, resident_in};

@@ -4,9 +4,9 @@ use crate::kinds::{
     CAUSES, FAULTS, Fault, QUESTIONS, REFUSALS, REPLIES, kind_of_reply, place_of_cause,
     place_of_fault, place_of_question, place_of_refusal, place_of_reply, word_of,
 };
-use crate::syncs::{BOUNDS, bucket_of, buckets};
+use crate::syncs::{BOUNDS, bucket_of, push_buckets};
 use crate::{Answered, Counted, Figures, JournalFigures, Numbered};
-use nmvs_protocol::{Content, Released};
+use nmvs_messages::{Content, Released};
 use nmvs_rules::{Question, Reply};
 use nmvs_words::{QuestionKind, cause_word, refusal_word};
 use std::alloc::{AllocError, Global};
@@ -288,21 +288,35 @@ impl Panel {
     ///
     /// There is no memory for the lists.
     pub fn figures(&self, alloc: Global, resident: Option<u64>) -> Result<Figures, AllocError> {
-        Ok(Figures {
+        let mut figures = Figures {
             ready: self.is_ready(),
-            answered: self.answered(alloc)?,
-            refusals: self.refusals(alloc)?,
-            alerts: self.alerts(alloc)?,
+            answered: Vec::new(alloc),
+            refusals: Vec::new(alloc),
+            alerts: Vec::new(alloc),
             reports: self.total(Row::Single, REPORTS),
-            faults: self.faults(alloc)?,
-            open: self.open(alloc)?,
-            accepted: self.accepted(alloc)?,
+            faults: Vec::new(alloc),
+            open: Vec::new(alloc),
+            accepted: Vec::new(alloc),
             sessions: self.sessions.load(Ordering::SeqCst),
-            entries: self.of_shards(alloc, &self.entries)?,
-            packs: self.of_shards(alloc, &self.packs)?,
+            entries: Vec::new(alloc),
+            packs: Vec::new(alloc),
             journal: self.journal_figures(alloc)?,
             resident,
-        })
+        };
+        self.push_all(&mut figures)?;
+        Ok(figures)
+    }
+
+    /// Adds what is counted beside the journals.
+    fn push_all(&self, figures: &mut Figures) -> Result<(), AllocError> {
+        self.push_answered(&mut figures.answered)?;
+        self.push_refusals(&mut figures.refusals)?;
+        self.push_alerts(&mut figures.alerts)?;
+        self.push_faults(&mut figures.faults)?;
+        self.push_open(&mut figures.open)?;
+        self.push_accepted(&mut figures.accepted)?;
+        self.push_shards(&mut figures.entries, &self.entries)?;
+        self.push_shards(&mut figures.packs, &self.packs)
     }
 
     /// What all workers have counted at this place of a row.
@@ -314,9 +328,8 @@ impl Panel {
         total
     }
 
-    /// The questions by their kind and the kind of their reply, of which there has been one.
-    fn answered(&self, alloc: Global) -> Result<Vec<Answered>, AllocError> {
-        let mut answered = Vec::new(alloc);
+    /// Adds the questions by their kind and the kind of their reply, of which there has been one.
+    fn push_answered(&self, answered: &mut Vec<Answered>) -> Result<(), AllocError> {
         for question in QUESTIONS {
             for reply in REPLIES {
                 let place = place_of_question(question) * REPLIES.len() + place_of_reply(reply);
@@ -330,45 +343,41 @@ impl Panel {
                 }
             }
         }
-        Ok(answered)
+        Ok(())
     }
 
-    fn refusals(&self, alloc: Global) -> Result<Vec<Counted>, AllocError> {
-        let mut refusals = Vec::new(alloc);
+    fn push_refusals(&self, refusals: &mut Vec<Counted>) -> Result<(), AllocError> {
         for refusal in REFUSALS {
             refusals.push(Counted {
                 word: refusal_word(refusal),
                 count: self.total(Row::Refusals, place_of_refusal(refusal)),
             })?;
         }
-        Ok(refusals)
+        Ok(())
     }
 
-    fn alerts(&self, alloc: Global) -> Result<Vec<Counted>, AllocError> {
-        let mut alerts = Vec::new(alloc);
+    fn push_alerts(&self, alerts: &mut Vec<Counted>) -> Result<(), AllocError> {
         for cause in CAUSES {
             alerts.push(Counted {
                 word: cause_word(cause),
                 count: self.total(Row::Alerts, place_of_cause(cause)),
             })?;
         }
-        Ok(alerts)
+        Ok(())
     }
 
-    fn faults(&self, alloc: Global) -> Result<Vec<Counted>, AllocError> {
-        let mut faults = Vec::new(alloc);
+    fn push_faults(&self, faults: &mut Vec<Counted>) -> Result<(), AllocError> {
         for fault in FAULTS {
             faults.push(Counted {
                 word: word_of(fault),
                 count: self.total(Row::Faults, place_of_fault(fault)),
             })?;
         }
-        Ok(faults)
+        Ok(())
     }
 
-    /// How many connections of each worker are open. Where one ends meanwhile, it is as if it had ended before.
-    fn open(&self, alloc: Global) -> Result<Vec<Numbered>, AllocError> {
-        let mut open = Vec::new(alloc);
+    /// Adds how many connections of each worker are open. Where one ends meanwhile, it is as if it had ended before.
+    fn push_open(&self, open: &mut Vec<Numbered>) -> Result<(), AllocError> {
         let mut number = 0u64;
         for counts in &self.workers {
             let accepted = counts.single.at(ACCEPTED);
@@ -378,11 +387,10 @@ impl Panel {
             })?;
             number = number.saturating_add(1);
         }
-        Ok(open)
+        Ok(())
     }
 
-    fn accepted(&self, alloc: Global) -> Result<Vec<Numbered>, AllocError> {
-        let mut accepted = Vec::new(alloc);
+    fn push_accepted(&self, accepted: &mut Vec<Numbered>) -> Result<(), AllocError> {
         let mut number = 0u64;
         for counts in &self.workers {
             accepted.push(Numbered {
@@ -391,19 +399,22 @@ impl Panel {
             })?;
             number = number.saturating_add(1);
         }
-        Ok(accepted)
+        Ok(())
     }
 
-    /// What is counted of each shard.
-    fn of_shards(&self, alloc: Global, counters: &Counters) -> Result<Vec<Numbered>, AllocError> {
-        let mut numbers = Vec::new(alloc);
+    /// Adds what is counted of each shard.
+    fn push_shards(
+        &self,
+        numbers: &mut Vec<Numbered>,
+        counters: &Counters,
+    ) -> Result<(), AllocError> {
         for shard in 0..self.shards {
             numbers.push(Numbered {
                 number: shard as u64,
                 value: counters.at(shard),
             })?;
         }
-        Ok(numbers)
+        Ok(())
     }
 
     /// How many entries of a shard are confirmed: as many as the worker knows that learned of it last.
@@ -419,23 +430,32 @@ impl Panel {
         let Some(journal) = &self.journal else {
             return Ok(None);
         };
-        let mut confirmed = Vec::new(alloc);
-        let mut waiting = Vec::new(alloc);
+        let mut figures = JournalFigures {
+            confirmed: Vec::new(alloc),
+            waiting: Vec::new(alloc),
+            syncs: Vec::new(alloc),
+            nanoseconds: journal.nanoseconds.load(Ordering::SeqCst),
+            failures: journal.failures.load(Ordering::SeqCst),
+        };
+        self.push_journal(&mut figures, journal)?;
+        Ok(Some(figures))
+    }
+
+    /// Adds what is counted of the journals of the shards, and of syncs.
+    fn push_journal(
+        &self,
+        figures: &mut JournalFigures,
+        journal: &JournalCounts,
+    ) -> Result<(), AllocError> {
         for shard in 0..self.shards {
             let (number, kept) = (shard as u64, self.confirmed(shard));
             let value = self.entries.at(shard).saturating_sub(kept);
-            confirmed.push(Numbered {
+            figures.confirmed.push(Numbered {
                 number,
                 value: kept,
             })?;
-            waiting.push(Numbered { number, value })?;
+            figures.waiting.push(Numbered { number, value })?;
         }
-        Ok(Some(JournalFigures {
-            confirmed,
-            waiting,
-            syncs: buckets(alloc, &journal.syncs)?,
-            nanoseconds: journal.nanoseconds.load(Ordering::SeqCst),
-            failures: journal.failures.load(Ordering::SeqCst),
-        }))
+        push_buckets(&mut figures.syncs, &journal.syncs)
     }
 }

@@ -3,7 +3,7 @@ ghost use Rattle.std.specs.Prelude.{◌≡◌, ◌<◌, ◌≤◌, ℕ, Some, sl
 
 use crate::Bucket;
 use crate::counters::Counters;
-use std::alloc::{AllocError, Global};
+use std::alloc::AllocError;
 
 /// How long the syncs of each bucket take at most, in nanoseconds; those of the last take longer (own).
 pub(crate) const BOUNDS: [u64; 11] = [
@@ -38,14 +38,16 @@ pub(crate) fn bucket_of(nanoseconds: u64) -> usize
     BOUNDS.len()
 }
 
-/// What is counted in each bucket.
-pub(crate) fn buckets(alloc: Global, counters: &Counters) -> Result<Vec<Bucket>, AllocError> {
-    let mut buckets = Vec::with_capacity(alloc, SECONDS.len())?;
+/// Adds what is counted in each bucket.
+pub(crate) fn push_buckets(
+    buckets: &mut Vec<Bucket>,
+    counters: &Counters,
+) -> Result<(), AllocError> {
     for place in 0..SECONDS.len() {
         buckets.push(Bucket {
             bound: SECONDS[place],
             count: counters.at(place),
         })?;
     }
-    Ok(buckets)
+    Ok(())
 }

@@ -20,7 +20,7 @@ const TEXT_TYPE: &str = "text/plain; charset=utf-8";
 const PAGE_SIZE: u64 = 4_096;
 
 /// What is told of a request.
-#[derive(Clone, Copy, Debug, PartialEq, Eq)]
+#[derive(Clone, Copy)]
 pub(crate) enum Content {
     Figures,
     Alive,
@@ -49,14 +49,13 @@ pub(crate) fn told(method: &str, path: &str, listens: bool) -> Content
 
 /// Answers the requests of all visitors.
 #[derive(Drop)]
-pub(crate) struct Guide<'p> {
-    pub(crate) alloc: Global,
-    pub(crate) panel: &'p Panel,
-    /// What the system tells of the memory of the process, where it does.
-    pub(crate) memory: Option<File>,
+pub struct Guide<'p, 'm> {
+    alloc: Global,
+    panel: &'p Panel,
+    memory: Option<&'m File>,
 }
 
-impl<'p> Service for Guide<'p> {
+impl<'p, 'm> Service for Guide<'p, 'm> {
     // What is counted meanwhile, no contract can say.
     ghost answers = { λ _ _ _ _. Unit {0} };
 
@@ -69,7 +68,10 @@ impl<'p> Service for Guide<'p> {
         response.add_header(header::CONNECTION, HeaderValue::from_static("close"))?;
         let (method, path) = (request.method().as_str(), request.uri().path());
         match told(method, path, self.panel.is_ready()) {
-            Content::Figures => self.tell_page(response),
+            Content::Figures => {
+                let page = self.page()?;
+                put(response, HeaderValue::from_static(FIGURES_TYPE), &page)
+            }
             Content::Alive | Content::Listens => tell(response, StatusCode::OK, "ok\n"),
             Content::Starts => tell(response, StatusCode::SERVICE_UNAVAILABLE, "starting\n"),
             Content::NoPage => tell(response, StatusCode::NOT_FOUND, "not found\n"),
@@ -81,20 +83,31 @@ impl<'p> Service for Guide<'p> {
     }
 }
 
-impl<'p> Guide<'p> {
-    fn tell_page(&self, response: &mut Response) -> Result<(), AllocError> {
-        let resident = self.memory.as_ref().and_then(|file| resident(file));
+impl<'p, 'm> Guide<'p, 'm> {
+    /// Tells what the panel counts; and the memory of the process, where the system tells it in this file.
+    pub fn new(alloc: Global, panel: &'p Panel, memory: Option<&'m File>) -> Guide<'p, 'm> {
+        Guide {
+            alloc,
+            panel,
+            memory,
+        }
+    }
+
+    /// The page of figures as they are now.
+    fn page(&self) -> Result<String, AllocError> {
+        let resident = self.memory.and_then(|file| resident(file));
         let figures = self.panel.figures(self.alloc, resident)?;
-        let page = figures_page(self.alloc, &figures)?;
-        let kind = HeaderValue::from_static(FIGURES_TYPE);
-        response.add_header(header::CONTENT_TYPE, kind)?;
-        response.body.put_slice(page.as_bytes())
+        figures_page(self.alloc, &figures)
     }
 }
 
-fn tell(response: &mut Response, status: StatusCode, text: &'static str) -> Result<(), AllocError> {
-    let kind = HeaderValue::from_static(TEXT_TYPE);
+fn tell(response: &mut Response, status: StatusCode, text: &str) -> Result<(), AllocError> {
     response.status = status;
+    put(response, HeaderValue::from_static(TEXT_TYPE), text)
+}
+
+/// Puts a text of this type into a response.
+fn put(response: &mut Response, kind: HeaderValue, text: &str) -> Result<(), AllocError> {
     response.add_header(header::CONTENT_TYPE, kind)?;
     response.body.put_slice(text.as_bytes())
 }
@@ -106,8 +119,9 @@ fn resident(memory: &File) -> Option<u64> {
     resident_in(str::from_utf8(buffer.get(..count)?).ok()?)
 }
 
-/// The second of the numbers of `/proc/self/statm`, in bytes.
-pub(crate) fn resident_in(text: &str) -> Option<u64> {
+/// How many bytes of memory a process has, by the text of its `/proc/PID/statm` (Linux, proc(5)): its second number counts
+/// pages.
+pub fn resident_in(text: &str) -> Option<u64> {
     let pages: u64 = text.split_whitespace().nth(1)?.parse().ok()?;
     pages.checked_mul(PAGE_SIZE)
 }

@@ -3,8 +3,6 @@
 
 mod header;
 mod laws;
-#[cfg(test)]
-mod tests;
 
 pub use header::{Header, read_header};
 pub use laws::headers_are_read;

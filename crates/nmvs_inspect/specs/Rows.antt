@@ -12,7 +12,7 @@ use Rattle.nmvs_rules.specs.declared.reply.Reply.{Reply}
 use Rattle.nmvs_rules.specs.Questions.{code_of, pack_of}
 use Rattle.nmvs_words.specs.Kinds.{kind_of, kind_word}
 use Rattle.nmvs_words.specs.Words.{role_word}
-use Rattle.nmvs_record.specs.Export.{ended_line}
+use Rattle.nmvs_line.specs.Export.{ended_line}
 use Rattle.nmvs_protocol.specs.Texts.{reply_text}
 use Rattle.nmvs_inspect.specs.declared.filter.Filter.{Filter}
 use Rattle.nmvs_inspect.specs.declared.form.Form.{Form}

@@ -5,7 +5,8 @@ ghost use Rattle.nmvs_inspect.specs.Comparison as spec;
 
 use indexmap::IndexMap;
 use nmvs_identifier::ProductCode;
-use nmvs_record::{entry_line, entry_line_laws};
+use nmvs_line::entry_line;
+use nmvs_record::entry_line_laws;
 use nmvs_rules::Entry;
 use nmvs_shard::HashKey;
 use std::alloc::{AllocError, Global};

@@ -8,7 +8,7 @@ mod escaped;
 mod event;
 mod event_log;
 mod forward;
-#[cfg(test)]
-mod tests;
+mod log_format;
 
 pub use event_log::EventLog;
+pub use log_format::LogFormat;

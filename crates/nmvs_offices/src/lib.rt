@@ -13,8 +13,6 @@ mod reach;
 mod releasing;
 mod shard_trail;
 mod start;
-#[cfg(test)]
-mod tests;
 
 pub use alarm::Alarm;
 pub use offices::Offices;

@@ -5,13 +5,13 @@ use Rattle.std.specs.Str.{bytes_eq}
 use Rattle.std.specs.Result.{result_err}
 use Rattle.std.proofs.lemmas.Bool.{lt-ltb, cases_lt}
 use Rattle.std.proofs.lemmas.List.{take_all, length-take-le}
-use Rattle.nmvs_protocol.specs.declared.command.Command.TheVariants.{Enrol, Suspend}
-use Rattle.nmvs_protocol.specs.declared.command.CommandFault.{CommandFault}
-use Rattle.nmvs_protocol.specs.declared.command.CommandFault.TheVariants as fault
-use Rattle.nmvs_protocol.specs.Fields.{fields_in}
-use Rattle.nmvs_protocol.specs.Progress.{kept_part}
-use Rattle.nmvs_protocol.proofs.CommandLemmas.{fields_fault-take}
-use Rattle.nmvs_protocol.proofs.FieldLemmas.{line_of_kept}
+use Rattle.nmvs_messages.specs.declared.command.Command.TheVariants.{Enrol, Suspend}
+use Rattle.nmvs_messages.specs.declared.command.CommandFault.{CommandFault}
+use Rattle.nmvs_messages.specs.declared.command.CommandFault.TheVariants as fault
+use Rattle.nmvs_messages.specs.Fields.{fields_in}
+use Rattle.nmvs_messages.specs.PendingLines.{kept_part}
+use Rattle.nmvs_messages.proofs.CommandLemmas.{fields_fault-take}
+use Rattle.nmvs_messages.proofs.FieldLemmas.{line_of_kept}
 use Rattle.nmvs_operator.specs.declared.order.Order.{Order}
 use Rattle.nmvs_operator.specs.declared.order.Order.TheVariants as orders
 use Rattle.nmvs_operator.specs.Orders.{ReadsOrder, order_fields, is_order, order_fault, listing_fault, export_fault, alone_fault, first_order_fault}

@@ -4,10 +4,10 @@ use Rattle.std.specs.Prelude.{IsTrue, filter}
 use Rattle.std.proofs.lemmas.List.{append-nil, append_assoc, length-append, map-append}
 use Rattle.std.proofs.lemmas.List.Elements.{All-append, All-cons, All-nil, filter-append}
 use Rattle.nmvs_directory.specs.declared.change.Change.{Change}
-use Rattle.nmvs_protocol.specs.Commands.{command_line, first_command_fault, is_command, ReadsCommand}
+use Rattle.nmvs_messages.specs.Commands.{command_line, first_command_fault, is_command, ReadsCommand}
 use Rattle.nmvs_stream.specs.InputLines.{input_lines, unfinished_line}
-use Rattle.nmvs_protocol.specs.declared.command.Command.{Command}
-use Rattle.nmvs_protocol.specs.declared.command.CommandFault.{CommandFault}
+use Rattle.nmvs_messages.specs.declared.command.Command.{Command}
+use Rattle.nmvs_messages.specs.declared.command.CommandFault.{CommandFault}
 use Rattle.nmvs_stream.specs.Source.{Told}
 use Rattle.nmvs_operator.specs.Users.{change_of, says, AreCommands, AreLinesOf, Adds, AddsAll, AddsFirst, StopsAt, StopsShort, Tells, ReadFails, LoadFails}
 use Rattle.nmvs_operator.specs.declared.faults.LoadFault.{LoadFault}

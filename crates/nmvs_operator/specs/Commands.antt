@@ -4,9 +4,9 @@ use Rattle.nmvs_directory.specs.Registrar.{Register}
 use Rattle.nmvs_directory.specs.Users.{users_of}
 use Rattle.nmvs_directory.specs.declared.change.Change.{Change}
 use Rattle.nmvs_stream.specs.InputLines.{input_lines, unfinished_line}
-use Rattle.nmvs_protocol.specs.declared.command.Command.{Command}
-use Rattle.nmvs_protocol.specs.declared.command.CommandFault.{CommandFault}
-use Rattle.nmvs_protocol.specs.declared.command.CommandFault.TheVariants as commands
+use Rattle.nmvs_messages.specs.declared.command.Command.{Command}
+use Rattle.nmvs_messages.specs.declared.command.CommandFault.{CommandFault}
+use Rattle.nmvs_messages.specs.declared.command.CommandFault.TheVariants as commands
 use Rattle.nmvs_stream.specs.Source.{Told}
 use Rattle.nmvs_stream.specs.Sink.{Taken}
 use Rattle.nmvs_stream.specs.Delivery.{Delivers, DeliversPart}

@@ -1,10 +1,10 @@
 -- The one line of each order of the operator, and the first fault of a line (own).
 use Rattle.std.specs.Prelude.{◌≡◌, ◌||◌, ℕ, Bool, true, List, [], ◌∷◌, codes, Option, Some, None, Result, Ok, Err, if◌then◌else◌, IsTrue}
 use Rattle.std.specs.Str.{bytes_eq}
-use Rattle.nmvs_protocol.specs.Commands.{command_fields, is_command, fields_fault}
-use Rattle.nmvs_protocol.specs.Fields.{line_of_fields, line_fault}
-use Rattle.nmvs_protocol.specs.declared.command.CommandFault.{CommandFault}
-use Rattle.nmvs_protocol.specs.declared.command.CommandFault.TheVariants as fault
+use Rattle.nmvs_messages.specs.Commands.{command_fields, is_command, fields_fault}
+use Rattle.nmvs_messages.specs.Fields.{line_of_fields, line_fault}
+use Rattle.nmvs_messages.specs.declared.command.CommandFault.{CommandFault}
+use Rattle.nmvs_messages.specs.declared.command.CommandFault.TheVariants as fault
 use Rattle.nmvs_operator.specs.declared.figures.Topic.{Topic}
 use Rattle.nmvs_operator.specs.declared.figures.Topic.TheVariants.{Stats, Connections}
 use Rattle.nmvs_operator.specs.declared.order.Order.{Order}

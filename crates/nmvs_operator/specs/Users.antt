@@ -1,12 +1,12 @@
 -- Users files (own).
 use Rattle.std.specs.Prelude.{◌≡◌, ◌+◌, ◌<◌, ◌==◌, ◌⊎◌, ℕ, Bool, List, [], ◌∷◌, ◌++◌, length, map, filter, not, codes, All, IsTrue, Some, None, true, false}
 use Rattle.nmvs_directory.specs.declared.change.Change.{Change}
-use Rattle.nmvs_protocol.specs.Commands.{command_line, first_command_fault, is_command}
+use Rattle.nmvs_messages.specs.Commands.{command_line, first_command_fault, is_command}
 use Rattle.nmvs_stream.specs.InputLines.{input_lines, unfinished_line}
-use Rattle.nmvs_protocol.specs.declared.command.Command.{Command}
-use Rattle.nmvs_protocol.specs.declared.command.Command.TheVariants.{Enrol, Suspend}
-use Rattle.nmvs_protocol.specs.declared.command.CommandFault.{CommandFault}
-use Rattle.nmvs_protocol.specs.declared.command.CommandFault.TheVariants as commands
+use Rattle.nmvs_messages.specs.declared.command.Command.{Command}
+use Rattle.nmvs_messages.specs.declared.command.Command.TheVariants.{Enrol, Suspend}
+use Rattle.nmvs_messages.specs.declared.command.CommandFault.{CommandFault}
+use Rattle.nmvs_messages.specs.declared.command.CommandFault.TheVariants as commands
 use Rattle.nmvs_stream.specs.Source.{Told}
 use Rattle.nmvs_operator.specs.declared.faults.LoadFault.{LoadFault}
 use Rattle.nmvs_operator.specs.declared.faults.LoadFault.TheVariants as load

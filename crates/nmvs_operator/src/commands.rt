@@ -4,7 +4,7 @@ ghost use Rattle.std.specs.Result.{result_err};
 ghost use Rattle.nmvs_directory.specs.Changes.{pending_changes, KeepsEntered, IsFull};
 ghost use Rattle.nmvs_directory.specs.Registrar.{register_of, published, pending};
 ghost use Rattle.nmvs_stream.specs.InputLines.{input_lines, unfinished_line};
-ghost use Rattle.nmvs_protocol.specs.Progress.{kept_part};
+ghost use Rattle.nmvs_messages.specs.PendingLines.{kept_part};
 ghost use Rattle.nmvs_stream.specs.Sink.{Taken};
 ghost use Rattle.nmvs_directory.specs.Users.{users_of};
 ghost use Rattle.nmvs_operator.specs.declared.figures.Figure.{Figure as AFigure};
@@ -17,17 +17,12 @@ ghost use Rattle.nmvs_operator.specs.Progress.{AnsweredOrders, StoppedIn, Carrie
 
 use crate::figures::figures_text;
 use crate::roll::users_text;
-use crate::{
-    Console, Deed, Latest, ObeyFault, Order, Service, ServiceFault, Sides, Topic, read_order,
-};
+use crate::{Deed, Latest, ObeyFault, Order, Service, ServiceFault, Topic, read_order};
 use nmvs_directory::{Changes, Naming, Notice, Registrar};
-use nmvs_protocol::{Command, CommandFault, PendingLine};
-use nmvs_stream::{Failed, Sink, Source, cut_line, deliver};
+use nmvs_messages::{Command, CommandFault, PendingLine};
+use nmvs_stream::{Console, Failed, Sides, Sink, Source, cut_line, deliver};
 use std::alloc::{AllocError, Allocator, Global};
 use std::sync::Wait;
-
-#[cfg(test)]
-mod tests;
 
 /// The most reads that are made of orders: more than any input has.
 const MOST_ORDER_READS: u64 = u64::MAX;

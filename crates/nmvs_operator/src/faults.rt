@@ -1,10 +1,7 @@
 use crate::ServiceFault;
-use nmvs_protocol::CommandFault;
+use nmvs_messages::CommandFault;
 use std::alloc::AllocError;
 use thiserror::Error;
-
-#[cfg(test)]
-mod tests;
 
 /// Why the users of a file are not published.
 #[derive(Clone, Copy, Debug, PartialEq, Eq, Error)]

@@ -6,7 +6,7 @@ ghost use Rattle.nmvs_operator.specs.Figures.{figure_line as line_of_figure, fig
 use std::alloc::{AllocError, Global};
 
 /// What the operator asks numbers about (own).
-#[derive(Clone, Copy, Debug, PartialEq, Eq)]
+#[derive(Clone, Copy)]
 pub enum Topic {
     /// What is served, and what is recorded.
     Stats,
@@ -15,7 +15,7 @@ pub enum Topic {
 }
 
 /// One number that a server counts (own).
-#[derive(Clone, Copy, Debug, PartialEq, Eq)]
+#[derive(Clone, Copy)]
 pub enum Figure {
     /// How many connections are open.
     Connections(u64),

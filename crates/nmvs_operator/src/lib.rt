@@ -8,8 +8,8 @@
 //! It serves nobody: what is served, and when commands are read, is `nmvs_server`'s.
 #![tactic(auto)]
 
+mod command_line;
 mod commands;
-mod console;
 mod faults;
 mod figures;
 mod latest;
@@ -19,14 +19,14 @@ mod roll;
 mod service;
 mod users;
 
+pub use command_line::VERSION;
 pub use commands::obey_all;
-pub use console::{Console, Sides};
 pub use faults::{LoadFault, ObeyFault};
 pub use figures::{Figure, Topic};
 pub use latest::Latest;
 pub use options::{
-    DEFAULT_PORT, LogFormat, MOST_CONNECTIONS, MOST_IDLE, MOST_RATE, MOST_SESSIONS, MOST_SHARDS,
-    MOST_WORKERS, NEW_YEAR, OptionFault, Options, VERSION, read_options,
+    MOST_CONNECTIONS, MOST_IDLE, MOST_RATE, MOST_SESSIONS, MOST_SHARDS, MOST_WORKERS, NEW_YEAR,
+    OptionFault, Options, read_options,
 };
 pub use order::{Order, read_order};
 pub use service::{Deed, Service, ServiceFault};

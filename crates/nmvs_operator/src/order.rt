@@ -1,17 +1,14 @@
 //! The operator's lines.
 ghost use Rattle.std.specs.Prelude.{◌≡◌, [], ◌∷◌, map, IfOk, OnOk, IsTrue, codes};
 ghost use Rattle.std.specs.Result.{result_err};
-ghost use Rattle.nmvs_protocol.specs.Commands.{fields_fault};
+ghost use Rattle.nmvs_messages.specs.Commands.{fields_fault};
 ghost use Rattle.nmvs_operator.specs.Orders.{ReadsOrder, order_fields, is_order, order_fault, listing_fault, alone_fault, export_fault};
 
 use crate::Topic;
-use nmvs_protocol::{Command, CommandFault, command_of, fields_of};
-
-#[cfg(test)]
-mod tests;
+use nmvs_messages::{Command, CommandFault, command_of, fields_of};
 
 /// What a line of the operator asks for (own).
-#[derive(Clone, Copy, Debug, PartialEq, Eq)]
+#[derive(Clone, Copy)]
 pub enum Order<'l> {
     /// A change of the users.
     Change(Command),

@@ -7,12 +7,12 @@ ghost use Rattle.nmvs_operator.specs.declared.service.Deed.{Deed as TheDeed};
 ghost use Rattle.nmvs_operator.specs.declared.service.ServiceFault.{ServiceFault as TheFault};
 
 use crate::{Figure, Topic};
-use nmvs_protocol::Command;
+use nmvs_messages::Command;
 use std::alloc::{AllocError, Global};
 use thiserror::Error;
 
 /// What an order asks of the server (own).
-#[derive(Clone, Copy, Debug, PartialEq, Eq)]
+#[derive(Clone, Copy)]
 pub enum Deed<'l> {
     /// To keep a change of the users beyond its own end.
     Keep(Command),

@@ -1,10 +1,7 @@
-pub mod FieldLemmas
 pub mod KeptLines
 pub mod QuitLines
 pub mod SessionTelling
 pub mod SessionSteps
-pub mod PlainLemmas
 pub mod TagLemmas
 pub mod SpellingLemmas
 pub mod QuestionLemmas
-pub mod CommandLemmas

@@ -4,12 +4,12 @@ use Rattle.std.proofs.Math.Bool.{or-true}
 use Rattle.std.specs.List.{list_any}
 use Rattle.std.proofs.lemmas.List.Folds.{list_any-append}
 use Rattle.nmvs_words.specs.Kinds.{kind_of, kind_word, texts_of}
-use Rattle.nmvs_protocol.specs.declared.ask.Asked.{Asked}
-use Rattle.nmvs_protocol.specs.declared.ask.Asked.TheVariants as asked
-use Rattle.nmvs_protocol.specs.declared.ask.Line.{Line}
-use Rattle.nmvs_protocol.specs.declared.ask.Line.TheVariants as lines
-use Rattle.nmvs_protocol.specs.declared.ask.Unread.{Unread}
-use Rattle.nmvs_protocol.specs.Fields.{is_space, line_of_fields}
+use Rattle.nmvs_messages.specs.declared.ask.Asked.{Asked}
+use Rattle.nmvs_messages.specs.declared.ask.Asked.TheVariants as asked
+use Rattle.nmvs_messages.specs.declared.ask.Line.{Line}
+use Rattle.nmvs_messages.specs.declared.ask.Line.TheVariants as lines
+use Rattle.nmvs_messages.specs.declared.ask.Unread.{Unread}
+use Rattle.nmvs_messages.specs.Fields.{is_space, line_of_fields}
 use Rattle.nmvs_protocol.specs.Lines.{asked_fields, line_text, report_word, first_fault, ReadsLine}
 use Rattle.nmvs_protocol.specs.Tags.{tag_text}
 use Rattle.nmvs_protocol.proofs.SpellingLemmas.{first_fault-text}

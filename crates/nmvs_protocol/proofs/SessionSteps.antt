@@ -8,23 +8,25 @@ use Rattle.std.proofs.lemmas.Grind.{flat_map-append}
 use Rattle.nmvs_stream.specs.Source.{Told}
 use Rattle.nmvs_stream.specs.Sink.{Taken, Flushes, FailsToTake}
 use Rattle.nmvs_stream.specs.Delivery.{DeliversPart}
-use Rattle.nmvs_protocol.specs.declared.ask.Ask.{Ask}
-use Rattle.nmvs_protocol.specs.declared.ask.Line.TheVariants as lines
-use Rattle.nmvs_protocol.specs.declared.answer.Answer.{Answer}
-use Rattle.nmvs_protocol.specs.declared.withheld.Withheld.{Withheld}
-use Rattle.nmvs_protocol.specs.declared.limits.Limits.{Limits}
-use Rattle.nmvs_protocol.specs.declared.limits.TheConstants.{READ_SIZE}
+use Rattle.nmvs_messages.specs.declared.ask.Ask.{Ask}
+use Rattle.nmvs_messages.specs.declared.ask.Line.TheVariants as lines
+use Rattle.nmvs_messages.specs.declared.answer.Answer.{Answer}
+use Rattle.nmvs_messages.specs.declared.withheld.Withheld.{Withheld}
+use Rattle.nmvs_messages.specs.declared.limits.Limits.{Limits}
+use Rattle.nmvs_messages.specs.declared.limits.TheConstants.{READ_SIZE}
 use Rattle.nmvs_protocol.specs.declared.session.Session.{Session as TheSession}
 use Rattle.nmvs_protocol.specs.declared.session.Taking.{Taking}
-use Rattle.nmvs_protocol.specs.declared.end.End.{End}
-use Rattle.nmvs_protocol.specs.declared.end.End.TheVariants as ends
+use Rattle.nmvs_messages.specs.declared.end.End.{End}
+use Rattle.nmvs_messages.specs.declared.end.End.TheVariants as ends
 use Rattle.nmvs_protocol.specs.Lines.{line_text}
 use Rattle.nmvs_protocol.specs.Texts.{text}
 use Rattle.nmvs_stream.specs.InputLines.{HasNoLf, input_lines, unfinished_line, lines_after, rest_after}
 use Rattle.nmvs_stream.proofs.LinesOfPieces.{lines_after-append, rest_after-append, no_line, line_cut, left_cut}
-use Rattle.nmvs_protocol.proofs.KeptLines.{kept_more}
-use Rattle.nmvs_protocol.specs.Session.{TakesLine, TakesLines, answer_of, AnswersLines, AreReleased, NoQuit, NoQuitBeforeLast, EndsWithQuit, DeliversAll, BreaksOff, Closes, Session, session_text, is_input_end, is_read_fault}
-use Rattle.nmvs_protocol.specs.Progress.{AreShortButLast, TellsWithheld, Halts, Took, Gathers, Delivered, Tells, Stands, Fed, Served, has_write_fault, kept_part}
+use Rattle.nmvs_messages.proofs.KeptLines.{kept_more}
+use Rattle.nmvs_messages.specs.Withheld.{answer_of, AreReleased}
+use Rattle.nmvs_protocol.specs.Session.{TakesLine, TakesLines, AnswersLines, NoQuit, NoQuitBeforeLast, EndsWithQuit, DeliversAll, BreaksOff, Closes, Session, session_text, is_input_end, is_read_fault}
+use Rattle.nmvs_messages.specs.PendingLines.{kept_part}
+use Rattle.nmvs_protocol.specs.Progress.{AreShortButLast, TellsWithheld, Halts, Took, Gathers, Delivered, Tells, Stands, Fed, Served, has_write_fault}
 use Rattle.nmvs_protocol.proofs.SessionTelling.{no_quit_more, IsShort, short_but_last, all_short, released_short, released_length, tells_more, tells_sound, broken, flushes, unflushed, flush_fails}
 
 -- bytes that are cut once more

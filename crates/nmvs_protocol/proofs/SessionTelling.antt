@@ -1,5 +1,5 @@
 -- How answers that were withheld are released together and told: gathered, broken off, and handed on.
-use Rattle.std.proofs.Common.{◌≡◌, ◌≢◌, not, ◌||◌, if◌then◌else◌, ◌+◌, ℕ, Bool, true, false, List, [], ◌∷◌, ◌++◌, All, IsTrue, Option, Some, None, Result, Ok, Err, length, take, map, refl, sym, ap, ◌∙◌, subst, inl, inr, arith}
+use Rattle.std.proofs.Common.{◌≡◌, ◌≢◌, ◌+◌, ℕ, true, false, List, [], ◌∷◌, ◌++◌, All, IsTrue, Option, Some, None, Result, Ok, Err, length, take, map, refl, sym, ap, ◌∙◌, subst, inl, inr, arith}
 use Rattle.std.proofs.lemmas.List.{flat_map_more, append-nil, append_assoc, length-append, take_at}
 use Rattle.std.proofs.lemmas.List.Elements.{All-append, All-cons, All-nil, All-tail}
 use Rattle.std.proofs.lemmas.Grind.{flat_map-append}
@@ -9,18 +9,18 @@ use Rattle.std.specs.List.{flat_map}
 use Rattle.nmvs_stream.specs.Delivery.{Writes, DeliversPart}
 use Rattle.nmvs_stream.specs.InputLines.{HasNoLf, lines_after, rest_after}
 use Rattle.nmvs_stream.proofs.LinesOfPieces.{lines_after-append, rest_after-append, no_line, line_cut, left_cut}
-use Rattle.nmvs_protocol.specs.declared.ask.Line.TheVariants as lines
+use Rattle.nmvs_messages.specs.declared.ask.Line.TheVariants as lines
 use Rattle.nmvs_identifier.specs.Tag.{Tag}
-use Rattle.nmvs_protocol.specs.declared.answer.Answer.{Answer}
-use Rattle.nmvs_protocol.specs.declared.answer.Content.TheVariants as contents
-use Rattle.nmvs_protocol.specs.declared.answer.Turn.TheVariants as turns
-use Rattle.nmvs_protocol.specs.declared.withheld.Withheld.{Withheld}
-use Rattle.nmvs_protocol.specs.declared.end.End.{End}
-use Rattle.nmvs_protocol.specs.declared.end.End.TheVariants as ends
+use Rattle.nmvs_messages.specs.declared.answer.Answer.{Answer}
+use Rattle.nmvs_messages.specs.declared.answer.Content.TheVariants as contents
+use Rattle.nmvs_messages.specs.declared.withheld.Withheld.{Withheld}
+use Rattle.nmvs_messages.specs.declared.end.End.{End}
+use Rattle.nmvs_messages.specs.declared.end.End.TheVariants as ends
 use Rattle.nmvs_protocol.specs.Lines.{line_text}
-use Rattle.nmvs_protocol.specs.Texts.{content_text, lines_behind, tagged_text, text, takes_memory}
+use Rattle.nmvs_protocol.specs.Texts.{content_text, lines_behind, tagged_text, text}
 use Rattle.nmvs_protocol.specs.Tags.{tag_text}
-use Rattle.nmvs_protocol.specs.Session.{answer_of, is_kept, is_of_repository, told_where, turned, AreReleased, StaysOrTurns, NoQuit, NoQuitBeforeLast, session_text}
+use Rattle.nmvs_messages.specs.Withheld.{answer_of, takes_memory, AreReleased, StaysOrTurns}
+use Rattle.nmvs_protocol.specs.Session.{NoQuit, NoQuitBeforeLast, session_text}
 use Rattle.nmvs_protocol.specs.Progress.{AreShortButLast, Gathers, Delivered, Tells, TellsFirst, Stands, has_write_fault}
 
 -- one line more that is not QUIT
@@ -69,11 +69,6 @@ released_length releases (w ∷ withheld) (a ∷ said) r = let n = released_leng
 released_length releases [] (a ∷ said) r = absurd r
 released_length releases (w ∷ withheld) [] r = absurd r
 
--- what is withheld is released by a function of each
-pub released_by : (f : Withheld → Answer) → ((w : Withheld) → StaysOrTurns w (f w)) → (withheld : List Withheld) → AreReleased (λ w a. a ≡ f w) withheld (map f withheld)
-released_by f stays [] = tt
-released_by f stays (w ∷ withheld) = (refl, stays w, released_by f stays withheld)
-
 -- what is released so is released so, too
 pub released_as : (releases more : Withheld → Answer → Type 0) → ((w : Withheld) (a : Answer) → releases w a → more w a)
     → (withheld : List Withheld) (said : List Answer) → AreReleased releases withheld said → AreReleased more withheld said
@@ -81,15 +76,6 @@ released_as releases more step [] [] r = tt
 released_as releases more step (w ∷ withheld) (a ∷ said) r = (step w a r.0, r.1, released_as releases more step withheld said r.2)
 released_as releases more step [] (a ∷ said) r = absurd r
 released_as releases more step (w ∷ withheld) [] r = absurd r
-
--- what is kept decides whether a line is turned away that may be
-pub told_stays : (kept : List ℕ) (w : Withheld) → StaysOrTurns w (told_where kept w)
-told_stays kept w = choose (is_kept kept w.basis) (is_of_repository w.answer) refl
-  where
-    choose : (k r : Bool) → is_of_repository w.answer ≡ r → StaysOrTurns w (if k || not r then w.answer else turned turns.Journal w.answer)
-    choose true r e = inl refl
-    choose false false e = inl refl
-    choose false true e = inr (e, turns.Journal, refl)
 
 none_before : (xs ys : List ℕ) → xs ++ ys ≡ [] → xs ≡ []
 none_before [] ys e = refl

@@ -15,24 +15,24 @@ use Rattle.nmvs_words.specs.declared.question_kind.QuestionKind.{QuestionKind}
 use Rattle.nmvs_words.specs.declared.question_kind.QuestionKind.TheVariants.{Upload, OfPack, OfBatch}
 use Rattle.nmvs_words.specs.Kinds.{kind_of, kind_word, kind_named, texts_of}
 use Rattle.nmvs_words.proofs.WordLemmas.{kind_named-of_word, kind_word-one}
-use Rattle.nmvs_protocol.specs.declared.ask.Asked.{Asked}
-use Rattle.nmvs_protocol.specs.declared.ask.Asked.TheVariants as asked
-use Rattle.nmvs_protocol.specs.declared.ask.Line.{Line}
-use Rattle.nmvs_protocol.specs.declared.ask.Line.TheVariants as lines
-use Rattle.nmvs_protocol.specs.declared.ask.LineFault.TheVariants as fault
-use Rattle.nmvs_protocol.specs.declared.ask.LineFault.{LineFault}
-use Rattle.nmvs_protocol.specs.Fields.{fields_in, line_of_fields, line_fault}
+use Rattle.nmvs_messages.specs.declared.ask.Asked.{Asked}
+use Rattle.nmvs_messages.specs.declared.ask.Asked.TheVariants as asked
+use Rattle.nmvs_messages.specs.declared.ask.Line.{Line}
+use Rattle.nmvs_messages.specs.declared.ask.Line.TheVariants as lines
+use Rattle.nmvs_messages.specs.declared.ask.LineFault.TheVariants as fault
+use Rattle.nmvs_messages.specs.declared.ask.LineFault.{LineFault}
+use Rattle.nmvs_messages.specs.Fields.{fields_in, line_of_fields, line_fault}
 use Rattle.nmvs_protocol.specs.Tags.{tag_text, tag_of, behind_tag}
-use Rattle.nmvs_protocol.specs.declared.limits.TheConstants.{LONGEST_LINE}
+use Rattle.nmvs_messages.specs.declared.limits.TheConstants.{LONGEST_LINE}
 use Rattle.nmvs_identifier.specs.Tag.{Tag}
 use Rattle.nmvs_rules.specs.Entries.{is_tag_or_none}
 use Rattle.nmvs_protocol.specs.Lines.{asked_fields, line_tag, fields, line_text, report_word, Grammar, grammars, report_grammars, all_read, first_misread, texts_fault, question_fault, ask_fault, asked_fault, fields_fault, asked_line_fault, fault_behind, first_fault, is_asked, is_line, ReadsLine, ReadsUntagged, OneReading, EachIsRead, OneSpelling, ShortLines}
 use Rattle.nmvs_identifier.proofs.PlainTexts.{IsPlain, plain_name, plain_code, plain_serial, plain_batch, plain_expiry}
 use Rattle.nmvs_words.proofs.PlainWords.{word_plain}
 use Rattle.nmvs_protocol.proofs.QuestionLemmas.{written, same_question}
-use Rattle.nmvs_protocol.proofs.PlainLemmas.{IsPlainLine, plain_line, not_long, line_fault-plain}
+use Rattle.nmvs_messages.proofs.PlainLemmas.{IsPlainLine, plain_line, not_long, line_fault-plain}
 use Rattle.nmvs_protocol.proofs.TagLemmas.{alphanumeric_name, no_tag, tag_back, tag_shown, behind_text}
-use Rattle.nmvs_protocol.proofs.FieldLemmas.{line_of_kept, one}
+use Rattle.nmvs_messages.proofs.FieldLemmas.{line_of_kept, one}
 
 -- each text that a grammar accepts is plain
 abbrev AcceptsPlain : Grammar → Type 0
@@ -315,12 +315,6 @@ pub fields_fault-take : (fs : List (List ℕ)) → fields_fault (take 7 fs) ≡ 
 fields_fault-take [] = refl
 fields_fault-take (word ∷ []) = refl
 fields_fault-take (user ∷ word ∷ ts) = asked_fault-take (user ∷ word ∷ ts)
-
--- no fault of a question whose texts are read
-pub no_question_fault : (user word : List ℕ) (kind : QuestionKind) (texts read : List (List ℕ)) → kind_named word ≡ Some kind → is_name user ≡ true → texts ≡ read
-    → length read ≡ length (grammars kind) → None ≡ first_misread (grammars kind) read → None ≡ question_fault user (kind_named word) texts
-no_question_fault user word kind texts read word_is name same count none =
-    none ∙ sym (texts_fault-whole (grammars kind) user read count name) ∙ (λ i. question_fault user (sym word_is i) (sym same i))
 
 -- no fault of a report whose product code is read
 pub no_report_fault : (user : List ℕ) (ts : List (Bor (List ℕ))) (a : Bor (List ℕ)) → 1 ≤ length ts → length ts < 2 → is_name user ≡ true

@@ -14,11 +14,11 @@ use Rattle.nmvs_identifier.specs.Characters.{is_name_character}
 use Rattle.nmvs_identifier.specs.Name.{is_name, has_name_characters}
 use Rattle.nmvs_identifier.specs.Texts.{longest_text}
 use Rattle.nmvs_identifier.proofs.PlainTexts.{is_plain, plain_name, all_weaker}
-use Rattle.nmvs_protocol.specs.Fields.{fields_in, is_printable, is_space, line_of_fields}
+use Rattle.nmvs_messages.specs.Fields.{fields_in, is_printable, is_space, line_of_fields}
 use Rattle.nmvs_protocol.specs.Tags.{tag_text, tag_named, first_tag, tag_of, behind_tag}
-use Rattle.nmvs_protocol.specs.Progress.{kept_part}
-use Rattle.nmvs_protocol.proofs.PlainLemmas.{no_space, plain_printable}
-use Rattle.nmvs_protocol.proofs.FieldLemmas.{printable-utf8}
+use Rattle.nmvs_messages.specs.PendingLines.{kept_part}
+use Rattle.nmvs_messages.proofs.PlainLemmas.{no_space, plain_printable}
+use Rattle.nmvs_messages.proofs.FieldLemmas.{printable-utf8}
 
 -- what is kept of a line begins with its tag
 pub tag_kept : (x : List ℕ) → tag_of (kept_part x) ≡ tag_of x

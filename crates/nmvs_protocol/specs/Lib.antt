@@ -1,7 +1,5 @@
-pub mod Fields
 pub mod Tags
 pub mod Lines
-pub mod Commands
 pub mod Texts
 pub mod Wordings
 pub mod Session

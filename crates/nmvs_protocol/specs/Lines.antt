@@ -11,15 +11,15 @@ use Rattle.nmvs_words.specs.declared.question_kind.QuestionKind.{QuestionKind}
 use Rattle.nmvs_words.specs.declared.question_kind.QuestionKind.TheVariants.{Upload, OfPack, OfBatch}
 use Rattle.nmvs_words.specs.Kinds.{kind_of, kind_word, kind_named, texts_of}
 use Rattle.nmvs_rules.specs.Entries.{is_tag_or_none}
-use Rattle.nmvs_protocol.specs.declared.ask.Asked.{Asked}
-use Rattle.nmvs_protocol.specs.declared.ask.Asked.TheVariants as asked
-use Rattle.nmvs_protocol.specs.declared.ask.Line.{Line}
-use Rattle.nmvs_protocol.specs.declared.ask.Line.TheVariants as lines
-use Rattle.nmvs_protocol.specs.declared.ask.LineFault.{LineFault}
-use Rattle.nmvs_protocol.specs.declared.ask.LineFault.TheVariants as fault
-use Rattle.nmvs_protocol.specs.declared.ask.Unread.{Unread}
-use Rattle.nmvs_protocol.specs.declared.limits.TheConstants.{LONGEST_LINE}
-use Rattle.nmvs_protocol.specs.Fields.{line_of_fields, line_fault}
+use Rattle.nmvs_messages.specs.declared.ask.Asked.{Asked}
+use Rattle.nmvs_messages.specs.declared.ask.Asked.TheVariants as asked
+use Rattle.nmvs_messages.specs.declared.ask.Line.{Line}
+use Rattle.nmvs_messages.specs.declared.ask.Line.TheVariants as lines
+use Rattle.nmvs_messages.specs.declared.ask.LineFault.{LineFault}
+use Rattle.nmvs_messages.specs.declared.ask.LineFault.TheVariants as fault
+use Rattle.nmvs_messages.specs.declared.ask.Unread.{Unread}
+use Rattle.nmvs_messages.specs.declared.limits.TheConstants.{LONGEST_LINE}
+use Rattle.nmvs_messages.specs.Fields.{line_of_fields, line_fault}
 use Rattle.nmvs_protocol.specs.Tags.{tag_text, tag_of, behind_tag}
 
 -- the word that asks for a report

@@ -1,36 +1,14 @@
 -- Desks for the lines of one peer (own).
 use Rattle.std.specs.Prelude.{◌≡◌, ◌≢◌, ◌⊎◌, Result, Ok, Err}
 use Rattle.nmvs_identifier.specs.Name.{Name}
-use Rattle.nmvs_protocol.specs.declared.ask.Ask.{Ask}
-use Rattle.nmvs_protocol.specs.declared.ask.Asked.{Asked}
-use Rattle.nmvs_protocol.specs.declared.ask.Asked.TheVariants as asked
-use Rattle.nmvs_protocol.specs.declared.answer.Turn.{Turn}
-use Rattle.nmvs_protocol.specs.declared.answer.Turn.TheVariants as turns
-use Rattle.nmvs_protocol.specs.declared.answer.Content.TheVariants as contents
-use Rattle.nmvs_protocol.specs.declared.withheld.Withheld.{Withheld}
-use Rattle.nmvs_protocol.specs.declared.peer.Peer.{Peer}
-use Rattle.nmvs_protocol.specs.declared.peer.Peer.TheVariants as peers
-use Rattle.nmvs_protocol.specs.declared.peer.NameOf.{NameOf}
-use Rattle.nmvs_protocol.specs.declared.peer.NameOf.TheVariants as names
-use Rattle.nmvs_protocol.specs.Session.{plain}
-
--- who is at the other end of a connection whose certificate has this name
-abbrev pub peer_named : NameOf → Name → Peer
-peer_named names.User name = peers.User name
-peer_named names.Authorisation name = peers.Authorisation name
-
--- the user that asks this
-abbrev pub asked_by : Asked → Name
-asked_by (asked.Question user question) = user
-asked_by (asked.Report user code) = user
-
--- the user that asks
-abbrev pub user_of : Ask → Name
-user_of ask = asked_by ask.asked
-
--- the line is turned away, and the desk is not asked
-abbrev pub TurnsAway : {D : Type 0} → D → Turn → Withheld → D → Type 0
-TurnsAway old turn withheld new = (withheld ≡ plain (contents.Turned turn)) × (new ≡ old)
+use Rattle.nmvs_messages.specs.declared.ask.Ask.{Ask}
+use Rattle.nmvs_messages.specs.declared.answer.Turn.{Turn}
+use Rattle.nmvs_messages.specs.declared.answer.Turn.TheVariants as turns
+use Rattle.nmvs_messages.specs.declared.withheld.Withheld.{Withheld}
+use Rattle.nmvs_messages.specs.declared.peer.Peer.{Peer}
+use Rattle.nmvs_messages.specs.declared.peer.Peer.TheVariants as peers
+use Rattle.nmvs_messages.specs.Asks.{user_of}
+use Rattle.nmvs_messages.specs.Withheld.{TurnsAway}
 
 -- the name is the peer's own, and the desk answers; or it is another, and the line's user is nobody
 abbrev pub OwnOrNobody : {D : Type 0} → (D → Ask → Withheld → D → Type 0) → Name → Name → D → Ask → Withheld → D → Type 0

@@ -1,21 +1,17 @@
 -- How a session stands between its lines and between its reads (own).
-use Rattle.std.specs.Prelude.{◌≡◌, ◌≤◌, ◌<◌, ◌+◌, ℕ, Bool, false, List, [], ◌∷◌, ◌++◌, length, map, take, Option, Some, None, IsTrue}
+use Rattle.std.specs.Prelude.{◌≡◌, ◌≤◌, ◌<◌, ◌+◌, ℕ, Bool, false, List, [], ◌∷◌, ◌++◌, length, map, Option, Some, None, IsTrue}
 use Rattle.nmvs_stream.specs.Sink.{Taken}
 use Rattle.nmvs_stream.specs.Delivery.{Writes, Delivers, DeliversPart}
-use Rattle.nmvs_protocol.specs.declared.ask.Ask.{Ask}
-use Rattle.nmvs_protocol.specs.declared.answer.Answer.{Answer}
-use Rattle.nmvs_protocol.specs.declared.end.End.{End}
-use Rattle.nmvs_protocol.specs.declared.end.End.TheVariants as ends
-use Rattle.nmvs_protocol.specs.declared.pending_line.TheConstants.{KEPT}
+use Rattle.nmvs_messages.specs.declared.ask.Ask.{Ask}
+use Rattle.nmvs_messages.specs.declared.answer.Answer.{Answer}
+use Rattle.nmvs_messages.specs.declared.end.End.{End}
+use Rattle.nmvs_messages.specs.declared.end.End.TheVariants as ends
 use Rattle.nmvs_protocol.specs.declared.session.Session.{Session}
-use Rattle.nmvs_protocol.specs.declared.withheld.Withheld.{Withheld}
+use Rattle.nmvs_messages.specs.declared.withheld.Withheld.{Withheld}
 use Rattle.nmvs_stream.specs.InputLines.{lines_after, rest_after}
-use Rattle.nmvs_protocol.specs.Session.{TakesLines, AnswersLines, AreReleased, answer_of, AnswersAll, NoQuit, EndsWithQuit, NoQuitBeforeLast, LacksLast, session_text, is_write_fault}
-use Rattle.nmvs_protocol.specs.Texts.{takes_memory}
-
--- what is kept of a line: enough to judge it, since one byte more than a line may have tells that it is too long
-abbrev pub kept_part : List ℕ → List ℕ
-kept_part x = take KEPT x
+use Rattle.nmvs_messages.specs.PendingLines.{kept_part}
+use Rattle.nmvs_messages.specs.Withheld.{AreReleased, answer_of, takes_memory}
+use Rattle.nmvs_protocol.specs.Session.{TakesLines, AnswersLines, AnswersAll, NoQuit, EndsWithQuit, NoQuitBeforeLast, LacksLast, session_text, is_write_fault}
 
 -- of these answers none but perhaps the last has a text that takes memory
 abbrev pub AreShortButLast : List Answer → Type 0

@@ -1,43 +1,23 @@
 -- Sessions: which lines were answered and how, what was written, and what each end means (own).
-use Rattle.std.specs.Prelude.{◌≡◌, ◌≢◌, ◌<◌, ◌≤◌, ◌+◌, ◌⊎◌, ℕ, Bool, true, false, not, ◌||◌, if◌then◌else◌, nat_lt, List, [], ◌∷◌, ◌++◌, length, slice_index_or, All, Option, Some, None, Result, Ok, Err, IsTrue}
+use Rattle.std.specs.Prelude.{◌≡◌, ◌≢◌, ◌<◌, ◌≤◌, ◌+◌, ◌⊎◌, ℕ, Bool, true, false, List, [], ◌∷◌, ◌++◌, length, All, Result, Ok, Err, IsTrue}
 use Rattle.std.specs.List.{flat_map}
 use Rattle.nmvs_stream.specs.Source.{Told}
 use Rattle.nmvs_stream.specs.Sink.{Taken}
-use Rattle.nmvs_identifier.specs.Tag.{Tag}
-use Rattle.nmvs_protocol.specs.declared.ask.Ask.{Ask}
-use Rattle.nmvs_protocol.specs.declared.ask.Line.{Line}
-use Rattle.nmvs_protocol.specs.declared.ask.Line.TheVariants as lines
-use Rattle.nmvs_protocol.specs.declared.ask.Unread.{Unread}
-use Rattle.nmvs_protocol.specs.declared.answer.Answer.{Answer}
-use Rattle.nmvs_protocol.specs.declared.answer.Content.{Content}
-use Rattle.nmvs_protocol.specs.declared.answer.Content.TheVariants as contents
-use Rattle.nmvs_protocol.specs.declared.answer.Turn.{Turn}
-use Rattle.nmvs_protocol.specs.declared.answer.Turn.TheVariants as turns
-use Rattle.nmvs_protocol.specs.declared.withheld.Basis.{Basis}
-use Rattle.nmvs_protocol.specs.declared.withheld.Withheld.{Withheld}
-use Rattle.nmvs_protocol.specs.declared.limits.Limits.{Limits}
-use Rattle.nmvs_protocol.specs.declared.limits.TheConstants.{READ_SIZE}
-use Rattle.nmvs_protocol.specs.declared.end.End.{End}
-use Rattle.nmvs_protocol.specs.declared.end.End.TheVariants as ends
+use Rattle.nmvs_messages.specs.declared.ask.Ask.{Ask}
+use Rattle.nmvs_messages.specs.declared.ask.Line.{Line}
+use Rattle.nmvs_messages.specs.declared.ask.Line.TheVariants as lines
+use Rattle.nmvs_messages.specs.declared.ask.Unread.{Unread}
+use Rattle.nmvs_messages.specs.declared.answer.Answer.{Answer}
+use Rattle.nmvs_messages.specs.declared.answer.Content.TheVariants as contents
+use Rattle.nmvs_messages.specs.declared.withheld.Withheld.{Withheld}
+use Rattle.nmvs_messages.specs.declared.limits.Limits.{Limits}
+use Rattle.nmvs_messages.specs.declared.limits.TheConstants.{READ_SIZE}
+use Rattle.nmvs_messages.specs.declared.end.End.{End}
+use Rattle.nmvs_messages.specs.declared.end.End.TheVariants as ends
+use Rattle.nmvs_messages.specs.Withheld.{StaysOrTurns, plain, tagged, takes_memory}
 use Rattle.nmvs_protocol.specs.Lines.{line_text, ReadsLine}
-use Rattle.nmvs_protocol.specs.Texts.{text, takes_memory}
+use Rattle.nmvs_protocol.specs.Texts.{text}
 use Rattle.nmvs_stream.specs.InputLines.{input_lines}
-
--- the answer that is withheld
-abbrev pub answer_of : Withheld → Answer
-answer_of withheld = withheld.answer
-
--- an answer that rests on these entries, if on any, to a line without a tag
-abbrev pub withheld_on : Option Basis → Content → Withheld
-withheld_on basis content = record { answer = record { tag = None; content = content }; basis = basis }
-
--- an answer that rests on no entry
-abbrev pub plain : Content → Withheld
-plain content = withheld_on None content
-
--- the same answer to a line with this tag, if it has one
-abbrev pub tagged : Option Tag → Withheld → Withheld
-tagged g w = record w { answer = record w.answer { tag = g } }
 
 -- what is withheld where a line is read so, the desk going from old to new: it is asked all but QUIT, and what it answers gets the
 -- line's tag
@@ -58,49 +38,6 @@ TakesLines takes old [] [] new = new ≡ old
 TakesLines {D} takes old (x ∷ xs) (w ∷ withheld) new = (mid : D) × TakesLine takes old x w mid × TakesLines takes mid xs withheld new
 TakesLines takes old [] (w ∷ withheld) new = ⊥
 TakesLines takes old (x ∷ xs) [] new = ⊥
-
--- whether this is a reply or a report of the repository
-abbrev pub is_from_repository : Content → Bool
-is_from_repository (contents.Replied r shown) = true
-is_from_repository (contents.Reported t) = true
-is_from_repository _ = false
-
--- whether the answer is a reply or a report of the repository
-abbrev pub is_of_repository : Answer → Bool
-is_of_repository a = is_from_repository a.content
-
--- the answer where a line is turned away
-abbrev pub turned : Turn → Answer → Answer
-turned turn a = record a { content = contents.Turned turn }
-
--- what any release may make of what is withheld: its answer, or the line of a reply or a report is turned away
-abbrev pub StaysOrTurns : Withheld → Answer → Type 0
-StaysOrTurns withheld said = (said ≡ withheld.answer) ⊎ (IsTrue (is_of_repository withheld.answer) × (turn : Turn) × (said ≡ turned turn withheld.answer))
-
--- what was withheld is released so, each as one answer
-abbrev pub AreReleased : (Withheld → Answer → Type 0) → List Withheld → List Answer → Type 0
-AreReleased releases [] [] = Unit {0}
-AreReleased releases (w ∷ withheld) (a ∷ said) = releases w a × StaysOrTurns w a × AreReleased releases withheld said
-AreReleased releases [] (a ∷ said) = ⊥
-AreReleased releases (w ∷ withheld) [] = ⊥
-
--- an answer is released as it was withheld, which takes no evidence
-abbrev pub AtOnce : {D : Type 0} → D → Unit {0} → Withheld → Answer → Type 0
-AtOnce desk evidence withheld said = said ≡ withheld.answer
-
--- a release leaves a desk as it is
-abbrev pub Stays : {D : Type 0} → D → D → Type 0
-Stays old new = new ≡ old
-
--- whether so many entries of each shard have those on which an answer rests
-abbrev pub is_kept : List ℕ → Option Basis → Bool
-is_kept kept None = true
-is_kept kept (Some basis) = nat_lt basis.place (slice_index_or kept basis.shard 0)
-
--- what is told where so many entries of each shard are kept: the line of a reply or a report that rests on more is turned away
-abbrev pub told_where : List ℕ → Withheld → Answer
-told_where kept withheld =
-    if is_kept kept withheld.basis || not (is_of_repository withheld.answer) then withheld.answer else turned turns.Journal withheld.answer
 
 -- a line is answered so: it is taken; and once the desk has taken these lines more, what is withheld is released so, on some
 -- evidence

@@ -2,7 +2,7 @@
 use Rattle.std.specs.Prelude.{ℕ, List, [], ◌∷◌, ◌++◌, length, take, drop, ◌==◌, ◌+◌, ◌&&◌, Option, Some, None, if◌then◌else◌}
 use Rattle.nmvs_identifier.specs.Tag.{Tag, is_tag}
 use Rattle.nmvs_identifier.specs.Texts.{longest_text}
-use Rattle.nmvs_protocol.specs.Fields.{fields_in}
+use Rattle.nmvs_messages.specs.Fields.{fields_in}
 
 -- what stands before a line with a tag, and before its reply: the tag behind #, and a space
 abbrev pub tag_text : Option Tag → List ℕ

@@ -1,20 +1,21 @@
 //! The lines of users.
-ghost use Rattle.std.specs.Prelude.{◌≡◌, [], ◌∷◌, None, map, IsTrue, IfOk, string_bytes};
+ghost use Rattle.std.specs.Prelude.{◌≡◌, [], ◌∷◌, None, map, true, false, IsTrue, IfOk, IfErr, string_bytes};
 ghost use Rattle.std.specs.Result.{result_err};
-ghost use Rattle.nmvs_words.specs.Kinds.{kind_of, kind_named, texts_of};
-ghost use Rattle.nmvs_protocol.specs.Fields.{line_of_fields};
-ghost use Rattle.nmvs_protocol.specs.Lines.{ReadsLine, ReadsUntagged, fields as line_fields, line_tag, asked_fields, report_word, line_text as text_of_line, is_line, is_asked, asked_line_fault, fields_fault, asked_fault, ask_fault, question_fault, texts_fault, first_misread, grammars, pack_grammars, report_grammars};
+ghost use Rattle.nmvs_identifier.specs.Name.{is_name};
+ghost use Rattle.nmvs_identifier.specs.ProductCode.{is_product_code};
+ghost use Rattle.nmvs_identifier.specs.Serial.{is_serial};
+ghost use Rattle.nmvs_identifier.specs.Batch.{is_batch};
+ghost use Rattle.nmvs_identifier.specs.Expiry.{is_expiry};
+ghost use Rattle.nmvs_words.specs.Kinds.{kind_named, kind_word};
+ghost use Rattle.nmvs_messages.specs.Fields.{line_of_fields};
+ghost use Rattle.nmvs_protocol.specs.Lines.{ReadsLine, ReadsUntagged, fields as line_fields, line_tag, asked_fields, report_word, line_text as text_of_line, is_line, is_asked, asked_line_fault, fields_fault, asked_fault, ask_fault, question_fault, texts_fault, grammars, report_grammars};
 
-use crate::fields::fields_of;
 use crate::tags::{cut_tag, tag_text};
-use crate::{Ask, Asked, LONGEST_LINE, Line, LineFault, Unread};
 use nmvs_identifier::{Batch, Expiry, Name, Pack, ProductCode, Serial};
+use nmvs_messages::{Ask, Asked, LONGEST_LINE, Line, LineFault, Unread, fields_of};
 use nmvs_rules::Question;
-use nmvs_words::{BatchQuestion, QuestionKind};
+use nmvs_words::{BatchQuestion, PackQuestion, QuestionKind};
 use std::alloc::{AllocError, Allocator};
-
-#[cfg(test)]
-mod tests;
 
 /// Reads a line, given without its LF: it is read as what it says where it is the text of that, and
 /// else answered by the first fault that it has, and its tag.
@@ -109,18 +110,12 @@ fn read_question(user: &str, word: &str, texts: &[&str]) -> Result<Asked, LineFa
         ≡ question_fault user.now (kind_named word.now) (map (λ t. t.now) texts.now) }
 {
     let kind = QuestionKind::named(word).ok_or(LineFault::Word)?;
-    // Whether the user is no name is told only where the number of texts is right.
-    let user = Name::read(user).or(Err(LineFault::User));
     match (kind, texts) {
         (QuestionKind::Upload, [code, serial, batch, expiry]) => {
-            Ok(Asked::Question(user?, read_upload(code, serial, batch, expiry)?))
+            read_upload(user, code, serial, batch, expiry)
         }
-        (QuestionKind::OfPack(asked), [code, serial]) => {
-            Ok(Asked::Question(user?, asked.naming(read_pack(code, serial)?)))
-        }
-        (QuestionKind::OfBatch(asked), [code, batch]) => {
-            Ok(Asked::Question(user?, read_of_batch(asked, code, batch)?))
-        }
+        (QuestionKind::OfPack(asked), [code, serial]) => read_of_pack(asked, user, code, serial),
+        (QuestionKind::OfBatch(asked), [code, batch]) => read_of_batch(asked, user, code, batch),
         _ => Err(LineFault::Fields),
     }
 }
@@ -136,47 +131,109 @@ fn read_report(user: &str, texts: &[&str]) -> Result<Asked, LineFault>
     let [code] = texts else {
         return Err(LineFault::Fields);
     };
-    let user = Name::read(user).or(Err(LineFault::User))?;
-    let code = ProductCode::read(code).or(Err(LineFault::Code))?;
+    let user = read_user(user)?;
+    let code = read_code(code)?;
     Ok(Asked::Report(user, code))
 }
 
-fn read_upload(code: &str, serial: &str, batch: &str, expiry: &str) -> Result<Question, LineFault>
-    ensures kind { IfOk result (λ question. kind_of question ≡ QuestionKind.Upload) }
-    ensures texts { IfOk result (λ question.
-        texts_of question ≡ code.now ∷ serial.now ∷ batch.now ∷ expiry.now ∷ []) }
-    ensures fault { result_err result ≡ first_misread (grammars QuestionKind.Upload)
+fn read_upload(
+    user: &str,
+    code: &str,
+    serial: &str,
+    batch: &str,
+    expiry: &str,
+) -> Result<Asked, LineFault>
+    ensures fields { IfOk result (λ asked. asked_fields asked
+        ≡ user.now ∷ kind_word QuestionKind.Upload ∷ code.now ∷ serial.now ∷ batch.now ∷ expiry.now ∷ []) }
+    ensures valid { IfOk result (λ asked. IsTrue (is_asked asked)) }
+    ensures fault { result_err result ≡ texts_fault (grammars QuestionKind.Upload) user.now
         (code.now ∷ serial.now ∷ batch.now ∷ expiry.now ∷ []) }
 {
-    let pack = read_pack(code, serial)?;
-    let batch = Batch::read(batch).or(Err(LineFault::Batch))?;
-    let expiry = Expiry::read(expiry).or(Err(LineFault::Expiry))?;
-    Ok(Question::Upload {
-        pack,
-        batch,
-        expiry,
-    })
+    let user = read_user(user)?;
+    let code = read_code(code)?;
+    let serial = read_serial(serial)?;
+    let batch = read_batch(batch)?;
+    let expiry = read_expiry(expiry)?;
+    let pack = Pack { code, serial };
+    Ok(Asked::Question(
+        user,
+        Question::Upload {
+            pack,
+            batch,
+            expiry,
+        },
+    ))
 }
 
-fn read_of_batch(asked: BatchQuestion, code: &str, batch: &str) -> Result<Question, LineFault>
-    ensures kind { IfOk result (λ question. kind_of question ≡ QuestionKind.OfBatch asked) }
-    ensures texts { IfOk result (λ question. texts_of question ≡ code.now ∷ batch.now ∷ []) }
-    ensures fault { result_err result
-        ≡ first_misread (grammars (QuestionKind.OfBatch asked)) (code.now ∷ batch.now ∷ []) }
+fn read_of_pack(
+    asked: PackQuestion,
+    user: &str,
+    code: &str,
+    serial: &str,
+) -> Result<Asked, LineFault>
+    ensures fields { IfOk result (λ ask. asked_fields ask
+        ≡ user.now ∷ kind_word (QuestionKind.OfPack asked) ∷ code.now ∷ serial.now ∷ []) }
+    ensures valid { IfOk result (λ ask. IsTrue (is_asked ask)) }
+    ensures fault { result_err result ≡ texts_fault (grammars (QuestionKind.OfPack asked)) user.now
+        (code.now ∷ serial.now ∷ []) }
 {
-    let code = ProductCode::read(code).or(Err(LineFault::Code))?;
-    let batch = Batch::read(batch).or(Err(LineFault::Batch))?;
-    Ok(asked.naming(code, batch))
+    let user = read_user(user)?;
+    let code = read_code(code)?;
+    let serial = read_serial(serial)?;
+    Ok(Asked::Question(user, asked.naming(Pack { code, serial })))
 }
 
-fn read_pack(code: &str, serial: &str) -> Result<Pack, LineFault>
-    ensures texts { IfOk result (λ pack.
-        (pack.code.bytes ≡ code.now) × (pack.serial.bytes ≡ serial.now)) }
-    ensures fault { result_err result ≡ first_misread pack_grammars (code.now ∷ serial.now ∷ []) }
+fn read_of_batch(
+    asked: BatchQuestion,
+    user: &str,
+    code: &str,
+    batch: &str,
+) -> Result<Asked, LineFault>
+    ensures fields { IfOk result (λ ask. asked_fields ask
+        ≡ user.now ∷ kind_word (QuestionKind.OfBatch asked) ∷ code.now ∷ batch.now ∷ []) }
+    ensures valid { IfOk result (λ ask. IsTrue (is_asked ask)) }
+    ensures fault { result_err result ≡ texts_fault (grammars (QuestionKind.OfBatch asked)) user.now
+        (code.now ∷ batch.now ∷ []) }
 {
-    let code = ProductCode::read(code).or(Err(LineFault::Code))?;
-    let serial = Serial::read(serial).or(Err(LineFault::Serial))?;
-    Ok(Pack { code, serial })
+    let user = read_user(user)?;
+    let code = read_code(code)?;
+    let batch = read_batch(batch)?;
+    Ok(Asked::Question(user, asked.naming(code, batch)))
+}
+
+fn read_user(text: &str) -> Result<Name, LineFault>
+    ensures read { IfOk result (λ user. (user.bytes ≡ text.now) × (is_name text.now ≡ true)) }
+    ensures fault { IfErr result (λ fault. (fault ≡ LineFault.User) × (is_name text.now ≡ false)) }
+{
+    Name::read(text).or(Err(LineFault::User))
+}
+
+fn read_code(text: &str) -> Result<ProductCode, LineFault>
+    ensures read { IfOk result (λ code. (code.bytes ≡ text.now) × (is_product_code text.now ≡ true)) }
+    ensures fault { IfErr result (λ fault. (fault ≡ LineFault.Code) × (is_product_code text.now ≡ false)) }
+{
+    ProductCode::read(text).or(Err(LineFault::Code))
+}
+
+fn read_serial(text: &str) -> Result<Serial, LineFault>
+    ensures read { IfOk result (λ serial. (serial.bytes ≡ text.now) × (is_serial text.now ≡ true)) }
+    ensures fault { IfErr result (λ fault. (fault ≡ LineFault.Serial) × (is_serial text.now ≡ false)) }
+{
+    Serial::read(text).or(Err(LineFault::Serial))
+}
+
+fn read_batch(text: &str) -> Result<Batch, LineFault>
+    ensures read { IfOk result (λ batch. (batch.bytes ≡ text.now) × (is_batch text.now ≡ true)) }
+    ensures fault { IfErr result (λ fault. (fault ≡ LineFault.Batch) × (is_batch text.now ≡ false)) }
+{
+    Batch::read(text).or(Err(LineFault::Batch))
+}
+
+fn read_expiry(text: &str) -> Result<Expiry, LineFault>
+    ensures read { IfOk result (λ expiry. (expiry.bytes ≡ text.now) × (is_expiry text.now ≡ true)) }
+    ensures fault { IfErr result (λ fault. (fault ≡ LineFault.Expiry) × (is_expiry text.now ≡ false)) }
+{
+    Expiry::read(text).or(Err(LineFault::Expiry))
 }
 
 /// The text of a line, without LF. It fails only out of memory.

@@ -2,23 +2,22 @@
 ghost use Rattle.std.specs.Prelude.{◌≡◌, ◌≤◌, ◌<◌, [], ◌∷◌, length, map, IfOk, OnErr, IsTrue, string_bytes};
 ghost use Rattle.std.specs.Fmt.{decimal};
 ghost use Rattle.nmvs_words.specs.Words.{spaced};
-ghost use Rattle.nmvs_protocol.specs.Texts.{content_text, reply_words, reply_text as text_of_reply, content_takes_memory, turn_word, fault_word};
+ghost use Rattle.nmvs_messages.specs.Withheld.{content_takes_memory};
+ghost use Rattle.nmvs_messages.specs.Words.{reply_words};
+ghost use Rattle.nmvs_protocol.specs.Texts.{content_text, reply_text as text_of_reply};
 ghost use Rattle.nmvs_protocol.specs.Wordings.{wording_text};
 
 use crate::wording::Wording;
-use crate::{Content, LineFault, Turn};
 use arrayvec::ArrayString;
 use itoa::Buffer;
 use nmvs_identifier::{Batch, Expiry};
-use nmvs_record::entry_line;
+use nmvs_line::entry_line;
+use nmvs_messages::{Content, word_of_fault, word_of_turn};
 use nmvs_rules::{BatchLock, Cause, Entry, Onward, OwnStatus, Refusal, Reply};
 use nmvs_words::{
     cause_word, flag_word, lock_word, onward_word, own_word, refusal_word, validity_word,
 };
 use std::alloc::{AllocError, Global};
-
-#[cfg(test)]
-mod tests;
 
 /// The most bytes that the text of a short answer has: those of a status with the longest words and
 /// values, and LF.
@@ -183,38 +182,4 @@ fn in_words(first: &str, others: &[&str]) -> ArrayString<LONGEST_REPLY>
     }
     text.push_str("\n");
     text
-}
-
-/// The word behind FAULT of a line that the desk turned away.
-pub fn word_of_turn(turn: Turn) -> &'static str
-    ensures { result.now ≡ turn_word turn }
-{
-    match turn {
-        Turn::Clock => "CLOCK",
-        Turn::Nobody => "NOBODY",
-        Turn::Suspended => "SUSPENDED",
-        Turn::Closed => "CLOSED",
-        Turn::Role => "ROLE",
-        Turn::Memory => "MEMORY",
-        Turn::Rate => "RATE",
-        Turn::Journal => "JOURNAL",
-        Turn::Tag => "TAG",
-    }
-}
-
-/// The word behind FAULT of a line that cannot be read.
-pub fn word_of_fault(fault: LineFault) -> &'static str
-    ensures { result.now ≡ fault_word fault }
-{
-    match fault {
-        LineFault::Long => "LONG",
-        LineFault::Bytes => "BYTES",
-        LineFault::Fields => "FIELDS",
-        LineFault::Word => "WORD",
-        LineFault::Code => "CODE",
-        LineFault::Serial => "SERIAL",
-        LineFault::Batch => "BATCH",
-        LineFault::Expiry => "EXPIRY",
-        LineFault::User => "USER",
-    }
 }

@@ -3,16 +3,13 @@ ghost use Rattle.std.specs.Prelude.{◌≡◌, ◌≤◌, ◌++◌, List, ℕ, f
 ghost use Rattle.nmvs_stream.specs.Sink.{Taken};
 ghost use Rattle.nmvs_stream.specs.InputLines.{lines_after, unfinished_line};
 ghost use Rattle.nmvs_protocol.specs.Session.{Session as TheSession};
-ghost use Rattle.nmvs_protocol.specs.Progress.{Served, has_write_fault, kept_part};
+ghost use Rattle.nmvs_messages.specs.PendingLines.{kept_part};
+ghost use Rattle.nmvs_protocol.specs.Progress.{Served, has_write_fault};
 
-use crate::limits::READ_SIZE;
-use crate::withheld::WithheldAnswers;
-use crate::{Desk, End, Limits, Session};
+use crate::Session;
+use nmvs_messages::{Desk, End, Limits, READ_SIZE, WithheldAnswers};
 use nmvs_stream::{Failed, Sink, Source};
 use std::alloc::Global;
-
-#[cfg(test)]
-mod tests;
 
 /// Serves a session: answers the lines of the source in order. The answers to the whole lines that one read
 /// completes are written together, and flushed before more is read and before the session ends (own).

@@ -5,13 +5,15 @@ ghost use Rattle.nmvs_stream.specs.InputLines.{lines_after, unfinished_line};
 ghost use Rattle.nmvs_protocol.specs.Lines.{line_text};
 ghost use Rattle.nmvs_protocol.specs.Session.{Answers, TakesLine};
 ghost use Rattle.nmvs_protocol.specs.Texts.{content_text, lines_behind, text};
-ghost use Rattle.nmvs_protocol.specs.Progress.{Fed, Took, Tells, TellsFirst, TellsWithheld, kept_part};
+ghost use Rattle.nmvs_messages.specs.PendingLines.{kept_part};
+ghost use Rattle.nmvs_protocol.specs.Progress.{Fed, Took, Tells, TellsFirst, TellsWithheld};
 
-use crate::pending_line::PendingLine;
+use crate::read_line;
 use crate::replies::wording;
 use crate::tags::tag_text;
-use crate::withheld::WithheldAnswers;
-use crate::{Answer, Content, Desk, End, Line, Released, Unread, Withheld, read_line};
+use nmvs_messages::{
+    Answer, Content, Desk, End, Line, PendingLine, Released, Unread, Withheld, WithheldAnswers,
+};
 use nmvs_stream::{Failed, Sink, cut_line, write_all};
 use std::alloc::Global;
 
@@ -219,11 +221,13 @@ fn tell<'a, W: Sink, D: Desk<'a>>(
 pub fn write_texts<W: Sink>(alloc: Global, released: Released<'_, '_>, sink: &mut W) -> Option<End>
     ensures { TellsFirst result (W.taken sink.old) (W.taken sink.new) released.entry }
 {
-    for withheld in released.list() {
-        match write_text(alloc, withheld.answer(), sink) {
+    let mut rest = released;
+    while let Some((answer, later)) = rest.split_first() {
+        match write_text(alloc, answer, sink) {
             Some(end) => return Some(end),
             None => {}
         }
+        rest = later;
     }
     None
 }

@@ -1,7 +1,7 @@
 //! Tags before lines, and before their replies.
 ghost use Rattle.std.specs.Prelude.{◌≡◌, ◌<◌, ◌∷◌, [], Some, None, IsTrue, IfSome, IfNone, length};
 ghost use Rattle.nmvs_rules.specs.Entries.{is_tag_or_none};
-ghost use Rattle.nmvs_protocol.specs.Fields.{fields_in};
+ghost use Rattle.nmvs_messages.specs.Fields.{fields_in};
 ghost use Rattle.nmvs_protocol.specs.Tags.{behind_tag, tag_named as tag_of_field, tag_of, tag_text as text_of_tag};
 
 use arrayvec::ArrayString;

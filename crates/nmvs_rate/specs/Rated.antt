@@ -2,11 +2,12 @@
 use Rattle.std.specs.Prelude.{◌≡◌, Option, None, Some, Result, Ok, Err}
 use Rattle.std.specs.declared.alloc.AllocError.{AllocError}
 use Rattle.nmvs_identifier.specs.Name.{Name}
-use Rattle.nmvs_protocol.specs.declared.ask.Ask.{Ask}
-use Rattle.nmvs_protocol.specs.declared.answer.Turn.{Turn}
-use Rattle.nmvs_protocol.specs.declared.answer.Turn.TheVariants as turns
-use Rattle.nmvs_protocol.specs.declared.withheld.Withheld.{Withheld}
-use Rattle.nmvs_protocol.specs.Peers.{user_of, TurnsAway}
+use Rattle.nmvs_messages.specs.declared.ask.Ask.{Ask}
+use Rattle.nmvs_messages.specs.declared.answer.Turn.{Turn}
+use Rattle.nmvs_messages.specs.declared.answer.Turn.TheVariants as turns
+use Rattle.nmvs_messages.specs.declared.withheld.Withheld.{Withheld}
+use Rattle.nmvs_messages.specs.Asks.{user_of}
+use Rattle.nmvs_messages.specs.Withheld.{TurnsAway}
 use Rattle.nmvs_rate.specs.declared.passage.Passage.{Passage}
 use Rattle.nmvs_rate.specs.declared.passage.Passage.TheVariants as passages
 

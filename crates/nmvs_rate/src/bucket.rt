@@ -8,7 +8,7 @@ use crate::Rate;
 pub const LINE: u64 = 1_000;
 
 /// What is left of the lines that a user may ask. Moments are in milliseconds since some beginning (own).
-#[derive(Clone, Copy, Debug, PartialEq, Eq)]
+#[derive(Clone, Copy)]
 pub struct Bucket {
     /// The parts of lines that were left when a line was last taken out.
     parts: u64,

@@ -8,8 +8,6 @@ mod passage;
 mod rate;
 mod rated_desk;
 mod rates;
-#[cfg(test)]
-mod tests;
 
 pub use bucket::{Bucket, LINE};
 pub use gate::{Gate, SharedRates};

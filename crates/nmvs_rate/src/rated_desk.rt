@@ -7,7 +7,7 @@ ghost use Rattle.nmvs_rate.specs.Rated.{TakesPassed};
 
 use crate::Passage;
 use nmvs_identifier::Name;
-use nmvs_protocol::{
+use nmvs_messages::{
     Ask, Authorisations, Content, Desk, Released, Turn, Withheld, WithheldAnswers,
 };
 use std::alloc::AllocError;

@@ -25,12 +25,12 @@ use Rattle.nmvs_desk.specs.declared.ask.Receipt.{Receipt}
 use Rattle.nmvs_desk.specs.declared.faults.AskFault.{AskFault}
 use Rattle.nmvs_desk.specs.declared.faults.AskFault.TheVariants as faults
 use Rattle.nmvs_desk.specs.Views.{ClerkView}
-use Rattle.nmvs_protocol.specs.declared.ask.Ask.{Ask}
-use Rattle.nmvs_protocol.specs.declared.ask.Asked.{Asked}
-use Rattle.nmvs_protocol.specs.declared.ask.Asked.TheVariants as asked
-use Rattle.nmvs_protocol.specs.declared.answer.Content.{Content}
-use Rattle.nmvs_protocol.specs.declared.answer.Content.TheVariants as contents
-use Rattle.nmvs_protocol.specs.declared.withheld.Basis.{Basis}
+use Rattle.nmvs_messages.specs.declared.ask.Ask.{Ask}
+use Rattle.nmvs_messages.specs.declared.ask.Asked.{Asked}
+use Rattle.nmvs_messages.specs.declared.ask.Asked.TheVariants as asked
+use Rattle.nmvs_messages.specs.declared.answer.Content.{Content}
+use Rattle.nmvs_messages.specs.declared.answer.Content.TheVariants as contents
+use Rattle.nmvs_messages.specs.declared.withheld.Basis.{Basis}
 use Rattle.nmvs_offices.specs.Told.{IsWithin}
 use Rattle.nmvs_record.specs.Report.{report_text}
 use Rattle.nmvs_reception.specs.Desk.{DeskView, AnswersQuestion, AnswersReport, AnswersTold, AsksOther, IsPut, NamesAuthorisation, Receives, Repeats, Reports, RestsOnAll, SeesShard, Serves, LeavesNone, IsInRole, IsTurned, LetsGo, may_put, turn_of_fault}

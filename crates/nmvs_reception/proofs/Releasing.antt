@@ -1,8 +1,8 @@
 -- What a release may make of what is withheld.
 use Rattle.std.proofs.Common.{List, [], ◌∷◌}
-use Rattle.nmvs_protocol.specs.declared.answer.Answer.{Answer}
-use Rattle.nmvs_protocol.specs.declared.withheld.Withheld.{Withheld}
-use Rattle.nmvs_protocol.specs.Session.{AreReleased}
+use Rattle.nmvs_messages.specs.declared.answer.Answer.{Answer}
+use Rattle.nmvs_messages.specs.declared.withheld.Withheld.{Withheld}
+use Rattle.nmvs_messages.specs.Withheld.{AreReleased}
 
 -- what is released in one way is released in another that follows from it
 pub released_by : (P Q : Withheld → Answer → Type 0) → ((w : Withheld) (a : Answer) → P w a → Q w a) → (withheld : List Withheld) (said : List Answer)

@@ -24,15 +24,15 @@ use Rattle.nmvs_desk.specs.Settlement.{row}
 use Rattle.nmvs_desk.specs.declared.faults.AskFault.{AskFault}
 use Rattle.nmvs_desk.specs.declared.faults.AskFault.TheVariants as faults
 use Rattle.nmvs_desk.specs.declared.ask.Receipt.{Receipt}
-use Rattle.nmvs_protocol.specs.declared.ask.Ask.{Ask}
-use Rattle.nmvs_protocol.specs.declared.ask.Asked.{Asked}
-use Rattle.nmvs_protocol.specs.declared.ask.Asked.TheVariants as asked
-use Rattle.nmvs_protocol.specs.declared.answer.Content.{Content}
-use Rattle.nmvs_protocol.specs.declared.answer.Content.TheVariants as contents
-use Rattle.nmvs_protocol.specs.declared.answer.Turn.{Turn}
-use Rattle.nmvs_protocol.specs.declared.answer.Turn.TheVariants as turns
-use Rattle.nmvs_protocol.specs.declared.withheld.Basis.{Basis}
-use Rattle.nmvs_protocol.specs.declared.withheld.Withheld.{Withheld}
+use Rattle.nmvs_messages.specs.declared.ask.Ask.{Ask}
+use Rattle.nmvs_messages.specs.declared.ask.Asked.{Asked}
+use Rattle.nmvs_messages.specs.declared.ask.Asked.TheVariants as asked
+use Rattle.nmvs_messages.specs.declared.answer.Content.{Content}
+use Rattle.nmvs_messages.specs.declared.answer.Content.TheVariants as contents
+use Rattle.nmvs_messages.specs.declared.answer.Turn.{Turn}
+use Rattle.nmvs_messages.specs.declared.answer.Turn.TheVariants as turns
+use Rattle.nmvs_messages.specs.declared.withheld.Basis.{Basis}
+use Rattle.nmvs_messages.specs.declared.withheld.Withheld.{Withheld}
 use Rattle.nmvs_record.specs.Report.{report_text}
 
 -- a desk: the changes of the directory that its clerk saw or was told, what the clerk has seen of each shard's trail, the

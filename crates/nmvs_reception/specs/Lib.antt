@@ -1,4 +1,1 @@
-pub mod Console
-pub mod Roster
-pub mod Rehearsal
 pub mod Desk

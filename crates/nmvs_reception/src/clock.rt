@@ -5,9 +5,6 @@ use boxcar::tag::{Names, Tag};
 use nmvs_identifier::Moment;
 use std::time::SystemTime;
 
-#[cfg(test)]
-mod tests;
-
 /// A clock. It tells contracts how often it was asked, and what it gave last.
 pub trait Clock {
     ghost asked: { Self → ℕ };

@@ -1,6 +1,6 @@
 //! The program's desk.
 ghost use Rattle.std.specs.Prelude.{◌≡◌, List, Some, length};
-ghost use Rattle.nmvs_protocol.specs.declared.answer.Content.TheVariants.{Replied};
+ghost use Rattle.nmvs_messages.specs.declared.answer.Content.TheVariants.{Replied};
 ghost use Rattle.nmvs_rules.specs.declared.entry.Entry.{Entry as TheEntry};
 ghost use Rattle.nmvs_desk.specs.Settlement.{row};
 ghost use Rattle.nmvs_reception.specs.Desk.{turn_of_fault, RestsOnAll};
@@ -13,11 +13,11 @@ use nmvs_figures::Tally;
 use nmvs_history::Histories;
 use nmvs_identifier::{Moment, Name, ProductCode, Tag};
 use nmvs_journal::{Kept, Store};
-use nmvs_offices::{Alarm, Evidence, Offices, Reach};
-use nmvs_protocol::{
+use nmvs_messages::{
     Ask, Asked, Authorisations, Basis, Content, Desk, Entries, Released, Text, Turn, Withheld,
     WithheldAnswers,
 };
+use nmvs_offices::{Alarm, Evidence, Offices, Reach};
 use nmvs_record::report;
 use nmvs_rules::{Entry, Question, Reply, may_report};
 use nmvs_shard::Shard;
@@ -25,9 +25,6 @@ use nmvs_words::cause_word;
 use std::alloc::{AllocError, Global};
 use std::marker::Model;
 use std::sync::{Mutex, Wait};
-
-#[cfg(test)]
-mod tests;
 
 /// Answers lines by a clerk of a repository, at the moments of a clock, which it asks once a line. Before each line is
 /// answered the clerk learns the latest notice (own).
@@ -232,7 +229,7 @@ impl<'r, 'a, R: Wait + Log, J: Naming, H: Histories, K: Clock> ClerkDesk<'r, 'a,
 }
 
 impl<'r, 'a, R: Wait + Log, J: Naming, H: Histories, K: Clock> ClerkDesk<'r, 'a, R, J, H, K> {
-    ghost use Rattle.nmvs_protocol.specs.Session.{AreReleased};
+    ghost use Rattle.nmvs_messages.specs.Withheld.{AreReleased};
     ghost use Rattle.nmvs_offices.specs.Told.{AreKept, IsTold, IsWithin};
     ghost use Rattle.nmvs_reception.specs.Desk.{LetsGo};
 
@@ -343,7 +340,7 @@ impl<'a, 'c> Reader<Shard<&'a Global>> for ReportOf<'c> {
 
 impl<'r, 'a, R: Wait + Log, J: Naming, H: Histories, K: Clock> Desk<'a>
     for ClerkDesk<'r, 'a, R, J, H, K> {
-    ghost use Rattle.nmvs_protocol.specs.Session.{AtOnce, Stays};
+    ghost use Rattle.nmvs_messages.specs.Withheld.{AtOnce, Stays};
     ghost use Rattle.nmvs_reception.specs.Desk.{Takes};
 
     type Evidence = ();

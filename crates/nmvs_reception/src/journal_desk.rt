@@ -8,13 +8,10 @@ use nmvs_directory::Naming;
 use nmvs_history::Histories;
 use nmvs_identifier::Name;
 use nmvs_journal::Store;
+use nmvs_messages::{Ask, Authorisations, Desk, Released, Turn, Withheld, WithheldAnswers};
 use nmvs_offices::{Alarm, Evidence, Offices, Reach};
-use nmvs_protocol::{Ask, Authorisations, Desk, Released, Turn, Withheld, WithheldAnswers};
 use std::marker::Model;
 use std::sync::Wait;
-
-#[cfg(test)]
-mod tests;
 
 /// Answers lines as a clerk's desk does, and lets an answer be told only once the journals have confirmed the lines of the
 /// entries on which it rests. The clerk's receipts are let go then. An alarm is told of a journal that fails meanwhile (own).

@@ -1,19 +1,15 @@
 //! Where lines are answered.
 //!
 //! [`ClerkDesk`] answers lines by a clerk of a repository, at the moments of a [`Clock`]; over a [`JournalDesk`] each answer
-//! waits until the journals have confirmed what it rests on. [`rehearse`] is one session over an empty trail, with users of
-//! its own. [`Opening`] is what a repository and its clerks are opened with.
+//! waits until the journals have confirmed what it rests on. [`Opening`] is what a repository and its clerks are opened with.
 #![tactic(auto)]
 
 mod clock;
 mod desk;
 mod journal_desk;
 mod opening;
-mod rehearsal;
-mod roster;
 
 pub use clock::{Clock, ProgramClock};
 pub use desk::ClerkDesk;
 pub use journal_desk::JournalDesk;
 pub use opening::{Opened, Opening};
-pub use rehearsal::rehearse;

@@ -34,8 +34,6 @@ mod repeat;
 mod reply;
 mod reversion;
 mod role;
-#[cfg(test)]
-mod tests;
 
 pub use actor::Actor;
 pub use admission::{may, may_report};

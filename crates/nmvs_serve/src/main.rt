@@ -4,28 +4,19 @@
 ghost use Rattle.std.specs.Prelude.{IfOk};
 ghost use Rattle.nmvs_operator.specs.Options.{AreInRange};
 
-mod helped;
-#[cfg(test)]
-mod tests;
-
-use crate::helped::Helped;
 use log::info;
 use nmvs_admin::{AdminFault, open, remove_socket};
 use nmvs_config::{ConfigFault, config_path, read_config, with_config};
 use nmvs_log::EventLog;
-use nmvs_operator::{Console, OptionFault, Options, read_options};
-use nmvs_server::{Fault, Host, Outcome, serve_rehearsal, start};
-use nmvs_stream::{Device, Sink, Source};
+use nmvs_operator::{OptionFault, Options, read_options};
+use nmvs_rehearsal::rehearse_on_standard_input;
+use nmvs_server::{Fault, Host, Outcome, outcome_of, start};
+use nmvs_stream::{Console, Device, Sink, Source};
 use std::alloc::Global;
-use std::io::{BufWriter, Eprint, IsTerminal, Print, Write};
+use std::io::{BufWriter, Eprint, Print};
 use std::process::ExitCode;
 use std::rt::{Env, Files};
 use std::{env, fs, io};
-
-/// What the rehearsal is, told where somebody sits at a terminal.
-const GREETING: &str =
-    "A rehearsal: nothing is kept. Users: mah1 mah2 ph1 ph1b ph2 wh1 mf1 au1. QUIT or Ctrl-D ends it.\n\
-    A line is a user and a question, as ph1 STATUS 09506000134352 SN1; HELP tells them all.";
 
 fn main(rt: HostRuntime) -> ExitCode {
     let alloc = rt.alloc();
@@ -36,7 +27,8 @@ fn main(rt: HostRuntime) -> ExitCode {
         return ended(&rt, &[Some(Fault::Memory)]);
     };
     if words.is_empty() {
-        return ended(&rt, &[rehearse(&rt, alloc, output).err()]);
+        let end = rehearse_on_standard_input(&rt, alloc, output);
+        return ended(&rt, &[outcome_of(end).err()]);
     }
     let mut console = Console::new(Device::new(rt.stdin()), Device::new(output));
     match options(&rt, words) {
@@ -53,24 +45,6 @@ fn main(rt: HostRuntime) -> ExitCode {
         }
         Err(status) => status,
     }
-}
-
-/// The rehearsal over standard input. On a terminal it greets, and tells at `HELP` what may be asked.
-fn rehearse<W: Write + Drop>(
-    rt: &HostRuntime,
-    alloc: Global,
-    output: W,
-) -> Result<(), Fault<'static>> {
-    let mut output = Device::new(output);
-    if !(rt.stdin().is_terminal() && rt.stdout().is_terminal()) {
-        return serve_rehearsal(alloc, &mut Device::new(rt.stdin()), &mut output);
-    }
-    let _ = println!(rt; "{GREETING}");
-    serve_rehearsal(
-        alloc,
-        &mut Device::new(Helped::new(rt, rt.stdin())),
-        &mut output,
-    )
 }
 
 /// Serves connections, while commands come by the console and by the socket of the options, where they name one.

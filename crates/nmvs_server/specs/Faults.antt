@@ -1,8 +1,8 @@
 -- What makes the program fail, and the texts that it then tells (own).
 use Rattle.std.specs.Prelude.{ℕ, List, ◌++◌, codes, Result, Ok, Err}
 use Rattle.std.specs.Fmt.{decimal}
-use Rattle.nmvs_protocol.specs.declared.end.End.{End}
-use Rattle.nmvs_protocol.specs.declared.end.End.TheVariants as ends
+use Rattle.nmvs_messages.specs.declared.end.End.{End}
+use Rattle.nmvs_messages.specs.declared.end.End.TheVariants as ends
 use Rattle.nmvs_server.specs.declared.fault.Fault.{Fault}
 use Rattle.nmvs_server.specs.declared.fault.Fault.TheVariants as faults
 use Rattle.nmvs_digest.specs.declared.digest_fault.DigestFault.{DigestFault}

@@ -3,8 +3,8 @@ ghost use Rattle.std.specs.Prelude.{◌≡◌, None, Some};
 ghost use Rattle.nmvs_server.specs.Faults.{fault_text, fault_status, import_text, digest_text, outcome};
 
 use nmvs_digest::DigestFault;
+use nmvs_messages::{CommandFault, End};
 use nmvs_operator::{Options, users_trouble};
-use nmvs_protocol::{CommandFault, End};
 use nmvs_record::{Finding, Objection};
 use std::fmt;
 
@@ -157,7 +157,11 @@ impl<'a> Fault<'a> {
 }
 
 /// What the end of the program's session makes of the program.
-pub(crate) fn outcome_of(end: End) -> Result<(), Fault<'static>>
+///
+/// # Errors
+///
+/// The fault of a session that neither QUIT nor the end of the input ended.
+pub fn outcome_of(end: End) -> Result<(), Fault<'static>>
     ensures { result ≡ outcome end }
 {
     match end {

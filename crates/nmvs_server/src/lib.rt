@@ -1,7 +1,6 @@
 //! The server of the repository: sessions of users over the rules' shards.
 //!
-//! [`start`] does what the options say, and [`run`] serves connections on an open listener, by the desks of
-//! `nmvs_reception`. [`serve_rehearsal`] is the program without options.
+//! [`start`] does what the options say, by the desks of `nmvs_reception`.
 //!
 //! `main` is `nmvs_serve`'s; options, users files and commands are `nmvs_operator`'s.
 #![tactic(auto)]
@@ -14,7 +13,6 @@ mod host;
 mod journal_files;
 mod launch;
 mod progress;
-mod rehearsal;
 mod rehearsal_packs;
 mod service;
 mod starting;
@@ -22,7 +20,6 @@ mod timed_file;
 mod users_file;
 mod workers;
 
-pub use fault::{Fault, Outcome};
+pub use fault::{Fault, Outcome, outcome_of};
 pub use host::Host;
-pub use rehearsal::serve_rehearsal;
-pub use starting::{run, start};
+pub use starting::start;

@@ -1,7 +1,7 @@
 //! How far a long work has come, told to the operator.
 use log::{Level, Log, info, log_enabled};
 use memchr::memchr_iter;
-use nmvs_operator::LogFormat;
+use nmvs_log::LogFormat;
 use std::io;
 use std::io::{Read, Write};
 use std::rt::Clock;

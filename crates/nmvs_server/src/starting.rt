@@ -1,6 +1,6 @@
 //! The program from its options on: where it listens, where figures are told, and what is logged of its start.
 ghost use Rattle.nmvs_operator.specs.Options.{AreInRange};
-ghost use Rattle.nmvs_reception.specs.Console.{IsFresh};
+ghost use Rattle.nmvs_stream.specs.Console.{IsFresh};
 
 use crate::launch::serve_run;
 use crate::{Fault, Host, Outcome};
@@ -8,8 +8,8 @@ use libc::types::rlimit;
 use log::{Log, error, info, warn};
 use nmvs_connections::Listener;
 use nmvs_figures::{Booth, Panel, tell_figures};
-use nmvs_operator::{Console, Options, Sides, VERSION};
-use nmvs_stream::{Sink, Source};
+use nmvs_operator::{Options, VERSION};
+use nmvs_stream::{Console, Sides};
 use std::alloc::{AllocError, Global};
 use std::net::{Net, SocketAddr};
 use std::random::RandomSource;
@@ -164,22 +164,5 @@ fn listen<H: Files + Net>(rt: &H, options: &Options) -> io::Result<Listener> {
     match &options.socket {
         Some(path) => Listener::on_path(rt, path),
         None => Listener::on_port(rt, SocketAddr::new(options.bind, options.port)),
-    }
-}
-
-/// Serves connections on an open listener.
-pub fn run<'o, H: Host + Sync, I: Source, W: Sink>(
-    rt: &H,
-    alloc: Global,
-    options: &'o Options,
-    listener: &Listener,
-    console: &mut Console<(I, W)>,
-) -> Outcome<'o>
-    requires options { AreInRange options.now }
-    requires fresh { IsFresh (I.told console.old.source) (W.taken console.old.sink) }
-{
-    match panel_of(alloc, options) {
-        Ok(panel) => serve_run(rt, alloc, options, Some(listener), &panel, console),
-        Err(AllocError) => Outcome::of(Fault::Memory),
     }
 }

@@ -1,5 +1,6 @@
-pub mod Source
-pub mod Sink
-pub mod Device
+pub mod Console
 pub mod Delivery
+pub mod Device
 pub mod InputLines
+pub mod Sink
+pub mod Source

@@ -1,6 +1,7 @@
 //! Sources and sinks of bytes, which tell contracts what they gave and what they took; and lines of bytes.
 #![tactic(auto)]
 
+mod console;
 mod delivery;
 mod device;
 mod failed;
@@ -8,9 +9,8 @@ mod lines;
 mod sink;
 mod source;
 mod tape;
-#[cfg(test)]
-mod tests;
 
+pub use console::{Console, Sides};
 pub use delivery::{deliver, write_all};
 pub use device::Device;
 pub use failed::Failed;

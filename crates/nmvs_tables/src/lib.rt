@@ -11,8 +11,6 @@ mod hash_key;
 mod listing;
 mod packs;
 mod tables;
-#[cfg(test)]
-mod tests;
 mod writes;
 
 pub use hash_key::HashKey;

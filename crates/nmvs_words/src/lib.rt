@@ -11,8 +11,6 @@ mod batch_question;
 mod pack_question;
 mod question_kind;
 mod reply_kind;
-#[cfg(test)]
-mod tests;
 mod words;
 
 pub use batch_question::BatchQuestion;

@@ -6,9 +6,10 @@ use crate::seat::Bench;
 use mio::net::UnixStream;
 use nmvs_figures::Panel;
 use nmvs_identifier::Name;
-use nmvs_protocol::{
-    Ask, Authorisations, Content, Desk, OwnDesk, Released, Turn, Withheld, WithheldAnswers,
+use nmvs_messages::{
+    Ask, Authorisations, Content, Desk, Released, Turn, Withheld, WithheldAnswers,
 };
+use nmvs_protocol::OwnDesk;
 use std::io;
 use std::io::{Read, Write};
 use std::rt::Clock;
@@ -23,7 +24,7 @@ struct Counting {
 }
 
 impl<'a> Desk<'a> for Counting {
-    ghost use Rattle.nmvs_protocol.specs.Session.{AtOnce};
+    ghost use Rattle.nmvs_messages.specs.Withheld.{AtOnce};
 
     type Evidence = ();
 

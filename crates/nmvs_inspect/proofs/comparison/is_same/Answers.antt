@@ -4,7 +4,7 @@ use Rattle.std.specs.Str.{bytes_eq}
 use Rattle.nmvs_identifier.specs.Tag.{Tag}
 use Rattle.nmvs_rules.specs.declared.entry.Entry.{Entry}
 use Rattle.nmvs_rules.specs.declared.put.Put.{Put}
-use Rattle.nmvs_record.specs.Line.{entry_line, is_in, is_line, version_of}
+use Rattle.nmvs_line.specs.Line.{entry_line, is_in, is_line, version_of}
 use Rattle.nmvs_inspect.proofs.comparison.is_same.Goals as goal
 
 told : (tag : Option Tag) (q : Put) → q.tag ≡ tag → is_in (version_of tag) q ≡ true

@@ -2,7 +2,7 @@ use Rattle.std.proofs.Common.{◌≡◌, ◌∙◌, ◌++◌, ◌∷◌, [], ℕ
 use Rattle.std.proofs.lemmas.List.{append-nil}
 use Rattle.nmvs_directory.specs.Registrar.{register_of}
 use Rattle.nmvs_stream.specs.InputLines.{input_lines}
-use Rattle.nmvs_protocol.specs.Progress.{kept_part}
+use Rattle.nmvs_messages.specs.PendingLines.{kept_part}
 use Rattle.nmvs_operator.specs.Commands.{office, ways, AnswersOrder}
 use Rattle.nmvs_stream.proofs.LinesOfPieces.{no_line, line_cut, left_cut}
 use Rattle.nmvs_operator.proofs.CommandLemmas.{one_more, one_stop, same_lines, ahead_first, ahead_next, goes_on}

@@ -2,7 +2,7 @@ use Rattle.std.proofs.Common.{◌≡◌, ◌++◌, ℕ, List, length}
 use Rattle.nmvs_directory.specs.Registrar.{register_of}
 use Rattle.nmvs_stream.specs.Sink.{Taken}
 use Rattle.nmvs_stream.specs.InputLines.{input_lines, unfinished_line}
-use Rattle.nmvs_protocol.specs.Progress.{kept_part}
+use Rattle.nmvs_messages.specs.PendingLines.{kept_part}
 use Rattle.nmvs_operator.specs.Commands.{Office, office, ways}
 use Rattle.nmvs_operator.specs.Progress.{AnsweredOrders}
 use Rattle.nmvs_operator.proofs.CommandLemmas.{OrdersAhead}

@@ -1,7 +1,7 @@
 use Rattle.std.proofs.Common.{◌≡◌, ◌+◌, ◌≤◌, ◌++◌, ℕ, List}
 use Rattle.nmvs_directory.specs.Registrar.{register_of}
 use Rattle.nmvs_stream.specs.InputLines.{input_lines, unfinished_line}
-use Rattle.nmvs_protocol.specs.Progress.{kept_part}
+use Rattle.nmvs_messages.specs.PendingLines.{kept_part}
 use Rattle.nmvs_operator.specs.Commands.{office, ways}
 use Rattle.nmvs_operator.specs.Progress.{AnsweredOrders}
 use Rattle.nmvs_operator.specs.declared.commands.TheConstants.{MOST_ORDER_READS}

@@ -1,5 +1,5 @@
 use Rattle.std.proofs.Common.{◌∙◌, ap, sym, map, rules}
-use Rattle.nmvs_protocol.specs.Fields.{fields_in}
+use Rattle.nmvs_messages.specs.Fields.{fields_in}
 use Rattle.nmvs_operator.specs.Orders.{order_fault, first_order_fault}
 use Rattle.nmvs_operator.proofs.OrderLemmas.{reads_fields, order_fault-take}
 use Rattle.nmvs_operator.proofs.order.read_order.Goals as goal

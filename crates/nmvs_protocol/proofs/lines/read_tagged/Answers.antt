@@ -1,8 +1,8 @@
 use Rattle.std.proofs.Common.{◌∙◌, Some, ap, sym, map, cond, rules}
-use Rattle.nmvs_protocol.specs.declared.ask.LineFault.TheVariants as fault
-use Rattle.nmvs_protocol.specs.Fields.{fields_in, line_fault}
+use Rattle.nmvs_messages.specs.declared.ask.LineFault.TheVariants as fault
+use Rattle.nmvs_messages.specs.Fields.{fields_in, line_fault}
 use Rattle.nmvs_protocol.specs.Lines.{asked_fault}
-use Rattle.nmvs_protocol.proofs.PlainLemmas.{not_long}
+use Rattle.nmvs_messages.proofs.PlainLemmas.{not_long}
 use Rattle.nmvs_protocol.proofs.SpellingLemmas.{reads_asked, asked_fault-take}
 use Rattle.nmvs_protocol.proofs.lines.read_tagged.Goals as goal
 

@@ -1,5 +1,5 @@
 use Rattle.std.proofs.Common.{◌∙◌, ap, sym, map, rules}
-use Rattle.nmvs_protocol.specs.Fields.{fields_in}
+use Rattle.nmvs_messages.specs.Fields.{fields_in}
 use Rattle.nmvs_protocol.specs.Lines.{fields_fault}
 use Rattle.nmvs_protocol.proofs.SpellingLemmas.{reads_fields, fields_fault-take}
 use Rattle.nmvs_protocol.proofs.lines.read_untagged.Goals as goal

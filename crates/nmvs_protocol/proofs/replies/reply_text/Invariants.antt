@@ -1,7 +1,7 @@
 use Rattle.std.proofs.Common.{◌≡◌, ◌++◌, take, string_bytes}
-use Rattle.nmvs_record.specs.Export.{export_text}
+use Rattle.nmvs_line.specs.Export.{export_text}
 use Rattle.nmvs_words.specs.Words.{spaced}
-use Rattle.nmvs_protocol.specs.Texts.{reply_words}
+use Rattle.nmvs_messages.specs.Words.{reply_words}
 use Rattle.nmvs_protocol.proofs.replies.reply_text.Given as goal
 
 abbrev pub invariant-loop-entry : goal.invariant-loop-entry

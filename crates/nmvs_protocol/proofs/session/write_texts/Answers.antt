@@ -1,38 +1,38 @@
-use Rattle.std.proofs.Common.{◌≡◌, ◌∙◌, ◌++◌, ◌∷◌, [], ◌+◌, List, Some, map, take, drop, sym, ap, subst}
-use Rattle.std.proofs.lemmas.List.{map_more, map-append, take-append-drop, append_assoc}
-use Rattle.nmvs_protocol.specs.declared.answer.Answer.{Answer}
+use Rattle.std.proofs.Common.{◌∙◌, ◌++◌, ◌∷◌, [], List, Some, length, refl, sym, ap, subst, arith}
+use Rattle.std.proofs.lemmas.List.{append-nil, append_assoc}
+use Rattle.nmvs_messages.specs.declared.answer.Answer.{Answer}
 use Rattle.nmvs_protocol.specs.Progress.{Gathers, TellsFirst}
-use Rattle.nmvs_protocol.specs.Session.{answer_of}
 use Rattle.nmvs_protocol.proofs.SessionTelling.{gathers_more, tells_until}
 use Rattle.nmvs_protocol.proofs.session.write_texts.Goals as goal
 
-pub returns-in-Some : goal.returns-in-Some
-returns-in-Some g c =
-    let taken = g.W.Sink.taken in
-    let i = c.loop-withheld.withheld-index in
-    let all = c.list-withheld-items.result.now in
-    let a = c.answer.result.now in
-    let told = map answer_of (take i all) in
-    let later = map answer_of (drop (i + 1) all) in
-    let more : map answer_of (take (i + 1) all) ≡ told ++ a ∷ [] =
-    map_more answer_of all i c.withheld-item.result c.loop-withheld-test.true
-    ∙ ap (λ (b : Answer). told ++ b ∷ []) (ap answer_of (sym c.withheld-item.is) ∙ sym c.answer.ensures) in
-    let whole : told ++ a ∷ later ≡ map answer_of all =
-    sym (append_assoc told (a ∷ []) later) ∙ ap (λ (r : List Answer). r ++ later) (sym more)
-    ∙ sym (map-append answer_of (take (i + 1) all) (drop (i + 1) all)) ∙ ap (map answer_of) (take-append-drop (i + 1) all) in
-    subst (λ (r : List Answer). TellsFirst (Some c.in-Some.end) (taken c.args.sink.now) (taken c.write_text.new.sink) r)
-    (whole ∙ c.list-withheld-items.ensures)
-    (tells_until c.in-Some.end (taken c.args.sink.now) (taken c.loop-withheld.sink) (taken c.write_text.new.sink) told a later c.loop-withheld.invariant c.in-Some.ensures)
+pub loop-answer-init : goal.loop-answer-init
+loop-answer-init g c = ([], refl, record { bytes = sym (append-nil _); flushed = λ none. refl; failed = refl })
 
-pub loop-withheld-preserved : goal.loop-withheld-preserved
-loop-withheld-preserved g c =
+pub returns-in-Some-write_text : goal.returns-in-Some-write_text
+returns-in-Some-write_text g c =
     let taken = g.W.Sink.taken in
-    let i = c.loop-withheld.withheld-index in
-    let all = c.list-withheld-items.result.now in
-    let a = c.answer.result.now in
-    let told = map answer_of (take i all) in
-    let more : map answer_of (take (i + 1) all) ≡ told ++ a ∷ [] =
-    map_more answer_of all i c.withheld-item.result c.loop-withheld-test.true
-    ∙ ap (λ (b : Answer). told ++ b ∷ []) (ap answer_of (sym c.withheld-item.is) ∙ sym c.answer.ensures) in
-    subst (λ (r : List Answer). Gathers (taken c.args.sink.now) (taken c.write_text.new.sink) r) (sym more)
-    (gathers_more (taken c.args.sink.now) (taken c.loop-withheld.sink) (taken c.write_text.new.sink) told (a ∷ []) c.loop-withheld.invariant c.in-None.ensures)
+    let told = c.loop-answer.invariant.0 in
+    let whole = ap (λ (r : List Answer). told ++ r) (sym c.in-Some.ensures.first) ∙ c.loop-answer.invariant.1 in
+    subst (λ (r : List Answer). TellsFirst (Some c.in-Some-write_text.end) (taken c.args.sink.now) (taken c.write_text.new.sink) r) whole
+    (tells_until c.in-Some-write_text.end (taken c.args.sink.now) (taken c.loop-answer.sink) (taken c.write_text.new.sink) told _ _ c.loop-answer.invariant.2 c.in-Some-write_text.ensures)
+
+pub loop-answer-preserved : goal.loop-answer-preserved
+loop-answer-preserved g c =
+    let taken = g.W.Sink.taken in
+    let told = c.loop-answer.invariant.0 in
+    let a = c.in-Some.answer.now in
+    let later = c.in-Some.later in (
+      told ++ a ∷ [],
+      append_assoc told (a ∷ []) later ∙ ap (λ (r : List Answer). told ++ r) (sym c.in-Some.ensures.first) ∙ c.loop-answer.invariant.1,
+      gathers_more (taken c.args.sink.now) (taken c.loop-answer.sink) (taken c.write_text.new.sink) told (a ∷ []) c.loop-answer.invariant.2 c.in-None.ensures,
+    )
+
+pub loop-answer-smaller : goal.loop-answer-smaller
+loop-answer-smaller g c = let n = ap length c.in-Some.ensures.first in omega arith
+
+pub returns : goal.returns
+returns g c =
+    let taken = g.W.Sink.taken in
+    let told = c.loop-answer.invariant.0 in
+    let whole = sym (append-nil told) ∙ ap (λ (r : List Answer). told ++ r) (sym c.in_default.ensures.none) ∙ c.loop-answer.invariant.1 in
+    subst (λ (r : List Answer). Gathers (taken c.args.sink.now) (taken c.loop-answer.sink) r) whole c.loop-answer.invariant.2

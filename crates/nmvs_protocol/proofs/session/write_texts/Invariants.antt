@@ -1,7 +1,11 @@
-use Rattle.std.proofs.Common.{map, take}
+use Rattle.std.proofs.Common.{◌≡◌, ◌++◌, List, length}
+use Rattle.nmvs_messages.specs.declared.answer.Answer.{Answer}
 use Rattle.nmvs_protocol.specs.Progress.{Gathers}
-use Rattle.nmvs_protocol.specs.Session.{answer_of}
 use Rattle.nmvs_protocol.proofs.session.write_texts.Given as goal
 
-abbrev pub invariant-loop-withheld : goal.invariant-loop-withheld
-invariant-loop-withheld g l = Gathers (g.W.Sink.taken l.fn.sink) (g.W.Sink.taken l.sink) (map answer_of (take l.withheld-index l.withheld-items))
+abbrev pub invariant-loop-answer : goal.invariant-loop-answer
+invariant-loop-answer g l =
+    (before : List Answer) × (before ++ l.rest ≡ l.fn.released) × Gathers (g.W.Sink.taken l.fn.sink) (g.W.Sink.taken l.sink) before
+
+abbrev pub decreases-loop-answer : goal.decreases-loop-answer
+decreases-loop-answer g l = length l.rest

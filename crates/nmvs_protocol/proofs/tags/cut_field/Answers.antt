@@ -1,7 +1,7 @@
 use Rattle.nmvs_protocol.proofs.TagLemmas.{fields_whole, fields_cut}
 use Rattle.std.proofs.Common.{subst, sym}
 use Rattle.std.specs.Prelude.{IfNone, ◌≡◌, ◌∷◌, []}
-use Rattle.nmvs_protocol.specs.Fields.{fields_in}
+use Rattle.nmvs_messages.specs.Fields.{fields_in}
 use Rattle.nmvs_protocol.proofs.tags.cut_field.Goals as goal
 
 pub returns-in_err-space-clause-none : goal.returns-in_err-space-clause-none

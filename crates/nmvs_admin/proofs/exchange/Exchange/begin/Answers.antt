@@ -1,6 +1,6 @@
 use Rattle.std.proofs.Common.{◌∙◌, ◌++◌, ℕ, List, take, ap}
 use Rattle.std.proofs.lemmas.List.{take_min}
-use Rattle.nmvs_protocol.specs.Progress.{kept_part}
+use Rattle.nmvs_messages.specs.PendingLines.{kept_part}
 use Rattle.nmvs_admin.proofs.IncomingLemmas.{on_ok}
 use Rattle.nmvs_admin.proofs.exchange.Exchange.begin.Goals as goal
 

@@ -1,6 +1,6 @@
 use Rattle.std.proofs.Common.{◌≡◌, ◌∙◌, ◌++◌, ◌∷◌, [], ℕ, List, sym, ap, subst}
 use Rattle.nmvs_stream.specs.InputLines.{HasNoLf, lines_after, rest_after}
-use Rattle.nmvs_protocol.specs.Progress.{kept_part}
+use Rattle.nmvs_messages.specs.PendingLines.{kept_part}
 use Rattle.nmvs_admin.proofs.IncomingLemmas.{line_handed, no_more, kept_on, behind_line}
 use Rattle.nmvs_admin.proofs.incoming.Incoming.next_line.Goals as goal
 

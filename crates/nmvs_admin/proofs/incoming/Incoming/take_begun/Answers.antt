@@ -1,5 +1,5 @@
 use Rattle.std.proofs.Common.{◌∙◌, sym, ap}
-use Rattle.nmvs_protocol.specs.Progress.{kept_part}
+use Rattle.nmvs_messages.specs.PendingLines.{kept_part}
 use Rattle.nmvs_admin.proofs.IncomingLemmas.{all_begun}
 use Rattle.nmvs_admin.proofs.incoming.Incoming.take_begun.Goals as goal
 

@@ -1,10 +1,10 @@
 use Rattle.std.proofs.Common.{◌≡◌, ◌∙◌, ◌++◌, ◌-◌, ℕ, List, [], Option, None, length, take, drop, sym, ap, subst, arith}
 use Rattle.std.proofs.lemmas.List.{length-append}
-use Rattle.nmvs_protocol.specs.declared.withheld.Withheld.{Withheld}
-use Rattle.nmvs_protocol.specs.Progress.{kept_part}
+use Rattle.nmvs_messages.specs.declared.withheld.Withheld.{Withheld}
+use Rattle.nmvs_messages.specs.PendingLines.{kept_part}
 use Rattle.nmvs_stream.specs.InputLines.{lines_after, unfinished_line}
 use Rattle.nmvs_stream.proofs.LinesOfPieces.{rest_after-append}
-use Rattle.nmvs_protocol.specs.declared.end.End.{End}
+use Rattle.nmvs_messages.specs.declared.end.End.{End}
 use Rattle.nmvs_connections.specs.Replies.{Asked, Replies, GoesOn}
 use Rattle.nmvs_connections.proofs.RepliesSteps.{taken_length, replies_taken, goes_on, halts_sound}
 use Rattle.nmvs_connections.proofs.dialogue.Dialogue.take.Goals as goal

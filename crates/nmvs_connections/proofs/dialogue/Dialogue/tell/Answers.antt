@@ -1,7 +1,7 @@
 use Rattle.std.proofs.Common.{◌≡◌, ◌∙◌, ◌<◌, ◌≤◌, ◌++◌, ℕ, List, Option, length, drop, sym, ap, subst, arith}
 use Rattle.std.specs.Option.{option_or}
 use Rattle.std.proofs.lemmas.List.{append_assoc, length-append}
-use Rattle.nmvs_protocol.specs.declared.end.End.{End}
+use Rattle.nmvs_messages.specs.declared.end.End.{End}
 use Rattle.nmvs_connections.specs.Replies.{Replies, GoesOn}
 use Rattle.nmvs_connections.proofs.RepliesSteps.{replies_worded, stays_told, unsent_more, goes_on_told}
 use Rattle.nmvs_connections.proofs.dialogue.Dialogue.tell.Goals as goal

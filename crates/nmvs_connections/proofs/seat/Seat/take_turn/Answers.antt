@@ -1,5 +1,5 @@
 use Rattle.std.proofs.Common.{refl, subst}
-use Rattle.nmvs_protocol.specs.declared.peer.Peer.{Peer}
+use Rattle.nmvs_messages.specs.declared.peer.Peer.{Peer}
 use Rattle.nmvs_connections.specs.Turns.{SeatSteps}
 use Rattle.nmvs_connections.proofs.SeatLemmas.{kept_same, kept_twice, seat_kept, seat_later}
 use Rattle.nmvs_connections.proofs.seat.Seat.take_turn.Goals as goal

@@ -1,4 +1,4 @@
-use Rattle.nmvs_protocol.specs.declared.peer.Peer.TheVariants as peers
+use Rattle.nmvs_messages.specs.declared.peer.Peer.TheVariants as peers
 use Rattle.nmvs_connections.proofs.TurnSteps.{turn_of_none, turn_of_one}
 use Rattle.nmvs_connections.proofs.worker.Floor.take_turn.Goals as goal
 

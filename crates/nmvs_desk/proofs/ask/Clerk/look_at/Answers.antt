@@ -1,4 +1,4 @@
-use Rattle.std.proofs.Common.{◌∙◌, List, set, refl, sym, ap, subst, arith}
+use Rattle.std.proofs.Common.{◌∙◌, ℕ, List, set, refl, sym, ap, subst, arith}
 use Rattle.std.proofs.lemmas.Option.{slice_get_read}
 use Rattle.nmvs_history.specs.Views.{TokenView}
 use Rattle.nmvs_rules.specs.declared.entry.Entry.{Entry}
@@ -17,7 +17,7 @@ look-requires g c κs =
     let is = c.self.invariant in
     let was = c.index_mut.result.now in
     let has = slice_get_read c.self.inside.tokens.items g.H.Histories.shards c.args.index was (sym is.shards) c.requires c.index_mut.ensures.value in
-    ((refl, tt), (c.requires, (is.each c.args.index was has).table))
+    ((refl, tt), (is.each c.args.index was has).table ∙ ap g.H.Histories.tables (sym c.slot.ensures))
 
 pub invariant_of-self : goal.invariant_of-self
 invariant_of-self g c =
@@ -26,7 +26,7 @@ invariant_of-self g c =
     let was = c.index_mut.result.now in
     let tokens = c.self.inside.tokens.items in
     let has = slice_get_read tokens h.shards c.args.index was (sym is.shards) c.requires c.index_mut.ensures.value in
-    looked h.tables h.shards tokens c.self.inside.receipts.items is c.args.index was c.look.new.token has c.look.ensures.shown c.look.ensures.token
+    looked h.tables h.shards tokens c.self.inside.receipts.items is c.args.index was c.look.new.token has (subst (λ (i : ℕ). IsShown g.H.Histories.shards i was.seen c.look.new.token.seen) c.slot.ensures c.look.ensures.shown) c.look.ensures.token
 
 pub returns-clause-shown : goal.returns-clause-shown
 returns-clause-shown g c =
@@ -35,7 +35,7 @@ returns-clause-shown g c =
     let was = c.index_mut.result.now in
     let tokens = c.self.inside.tokens.items in
     let has = slice_get_read tokens h.shards c.args.index was (sym is.shards) c.requires c.index_mut.ensures.value in
-    let then = shown_then h.tables h.shards tokens c.self.inside.receipts.items is c.args.index was c.look.new.token has c.look.ensures.shown c.look.ensures.token in
+    let then = shown_then h.tables h.shards tokens c.self.inside.receipts.items is c.args.index was c.look.new.token has (subst (λ (i : ℕ). IsShown g.H.Histories.shards i was.seen c.look.new.token.seen) c.slot.ensures c.look.ensures.shown) c.look.ensures.token in
     subst (λ (s : List (List Entry)). IsShown h.shards c.args.index (row s c.args.index) (row (sights_of (set tokens c.args.index c.look.new.token)) c.args.index)) (ap (λ (v : ClerkView). v.sights) c.self.view_is) then
 
 pub returns-clause-tells : goal.returns-clause-tells

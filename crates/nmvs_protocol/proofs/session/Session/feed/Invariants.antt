@@ -1,6 +1,6 @@
 use Rattle.std.proofs.Common.{◌≡◌, ◌≤◌, ◌++◌, [], List, ℕ, length}
 use Rattle.nmvs_stream.specs.InputLines.{unfinished_line}
-use Rattle.nmvs_protocol.specs.Progress.{kept_part}
+use Rattle.nmvs_messages.specs.PendingLines.{kept_part}
 use Rattle.nmvs_protocol.proofs.SessionSteps.{Ahead}
 use Rattle.nmvs_protocol.proofs.session.Session.feed.Given as goal
 

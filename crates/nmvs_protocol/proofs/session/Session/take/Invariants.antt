@@ -1,5 +1,5 @@
 use Rattle.std.proofs.Common.{◌≡◌, ◌≤◌, ◌++◌, [], List, ℕ, length}
-use Rattle.nmvs_protocol.specs.Progress.{kept_part}
+use Rattle.nmvs_messages.specs.PendingLines.{kept_part}
 use Rattle.nmvs_protocol.proofs.SessionSteps.{TakesOn}
 use Rattle.nmvs_protocol.proofs.session.Session.take.Given as goal
 

@@ -1,6 +1,6 @@
 use Rattle.std.proofs.Common.{◌≡◌, ◌∙◌, ◌++◌, List, ℕ, ap, rules}
-use Rattle.nmvs_protocol.specs.Progress.{kept_part}
-use Rattle.nmvs_protocol.proofs.KeptLines.{kept_begun, kept_more, kept_twice}
+use Rattle.nmvs_messages.specs.PendingLines.{kept_part}
+use Rattle.nmvs_messages.proofs.KeptLines.{kept_begun, kept_more, kept_twice}
 use Rattle.nmvs_protocol.proofs.session.Session.take_tail.Goals as goal
 
 pub returns-then-is_empty-clause-takes : goal.returns-then-is_empty-clause-takes

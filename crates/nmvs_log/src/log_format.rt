@@ -1,0 +1,8 @@
+/// How the log is written (own).
+#[derive(Clone, Copy, Debug, PartialEq, Eq)]
+pub enum LogFormat {
+    /// Moment, level and words.
+    Text,
+    /// An object of JSON with the same.
+    Json,
+}

@@ -1,0 +1,5 @@
+pub mod FieldLemmas
+pub mod KeptLines
+pub mod PlainLemmas
+pub mod CommandLemmas
+pub mod Releases

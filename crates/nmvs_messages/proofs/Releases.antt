@@ -1,0 +1,20 @@
+-- What a release makes of what is withheld.
+use Rattle.std.proofs.Common.{◌≡◌, not, ◌||◌, if◌then◌else◌, ℕ, Bool, true, false, List, [], ◌∷◌, map, refl, inl, inr}
+use Rattle.nmvs_messages.specs.declared.answer.Answer.{Answer}
+use Rattle.nmvs_messages.specs.declared.answer.Turn.TheVariants as turns
+use Rattle.nmvs_messages.specs.declared.withheld.Withheld.{Withheld}
+use Rattle.nmvs_messages.specs.Withheld.{AreReleased, StaysOrTurns, is_kept, is_of_repository, told_where, turned}
+
+-- what is withheld is released by a function of each
+pub released_by : (f : Withheld → Answer) → ((w : Withheld) → StaysOrTurns w (f w)) → (withheld : List Withheld) → AreReleased (λ w a. a ≡ f w) withheld (map f withheld)
+released_by f stays [] = tt
+released_by f stays (w ∷ withheld) = (refl, stays w, released_by f stays withheld)
+
+-- what is kept decides whether a line is turned away that may be
+pub told_stays : (kept : List ℕ) (w : Withheld) → StaysOrTurns w (told_where kept w)
+told_stays kept w = choose (is_kept kept w.basis) (is_of_repository w.answer) refl
+  where
+    choose : (k r : Bool) → is_of_repository w.answer ≡ r → StaysOrTurns w (if k || not r then w.answer else turned turns.Journal w.answer)
+    choose true r e = inl refl
+    choose false false e = inl refl
+    choose false true e = inr (e, turns.Journal, refl)

@@ -1,0 +1,7 @@
+pub mod Fields
+pub mod Commands
+pub mod Words
+pub mod Asks
+pub mod Peers
+pub mod Withheld
+pub mod PendingLines

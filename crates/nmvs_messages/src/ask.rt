@@ -1,0 +1,73 @@
+//! What lines say.
+ghost use Rattle.std.specs.Prelude.{◌≡◌};
+ghost use Rattle.nmvs_messages.specs.Asks.{user_of};
+
+use nmvs_identifier::{Name, ProductCode, Tag};
+use nmvs_rules::Question;
+use thiserror::Error;
+
+/// What a line says.
+#[derive(Clone, Copy, Debug, PartialEq, Eq)]
+pub enum Line {
+    /// It asks something of the desk.
+    Ask(Ask),
+    /// QUIT: it ends the session.
+    Quit,
+}
+
+/// What is asked, and the tag by which it can be asked again.
+#[derive(Clone, Copy, Debug, PartialEq, Eq)]
+pub struct Ask {
+    pub tag: Option<Tag>,
+    pub asked: Asked,
+}
+
+/// What a user asks.
+#[derive(Clone, Copy, Debug, PartialEq, Eq)]
+pub enum Asked {
+    /// The question of a user, by name.
+    Question(Name, Question),
+    /// The report of a product code, for a user.
+    Report(Name, ProductCode),
+}
+
+impl Ask {
+    /// The user that asks.
+    pub fn user(&self) -> &Name
+        ensures { result.now ≡ user_of self.now }
+    {
+        match &self.asked {
+            Asked::Question(user, _) | Asked::Report(user, _) => user,
+        }
+    }
+}
+
+/// A line that cannot be read: why, and the tag that it begins with, if with one.
+#[derive(Clone, Copy, Debug, PartialEq, Eq)]
+pub struct Unread {
+    pub tag: Option<Tag>,
+    pub fault: LineFault,
+}
+
+/// Why a line cannot be read.
+#[derive(Clone, Copy, Debug, PartialEq, Eq, Error)]
+pub enum LineFault {
+    #[error("the line has more than 200 bytes")]
+    Long,
+    #[error("the line has a byte that is no printable ASCII character")]
+    Bytes,
+    #[error("the line has an empty field or the wrong number of fields")]
+    Fields,
+    #[error("the line's word is unknown")]
+    Word,
+    #[error("the line's code is no product code")]
+    Code,
+    #[error("the line's serial is no serial number")]
+    Serial,
+    #[error("the line's batch is no batch number")]
+    Batch,
+    #[error("the line's expiry is no expiry date")]
+    Expiry,
+    #[error("the line's user is no name")]
+    User,
+}

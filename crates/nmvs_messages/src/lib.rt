@@ -1,0 +1,35 @@
+//! What is said in a session: what lines ask, what a desk answers, and the commands of a registrar.
+//!
+//! A [`Desk`] answers an [`Ask`]; its answers are [`Withheld`] until it has them [`Released`]. [`read_command`] reads the
+//! [`Command`] of a line.
+#![tactic(auto)]
+
+mod answer;
+mod ask;
+mod command;
+mod commands;
+mod desk;
+mod end;
+mod fields;
+mod laws;
+mod limits;
+mod peer;
+mod pending_line;
+mod withheld;
+mod words;
+
+pub use answer::{Answer, Content, Entries, Text, Turn};
+pub use ask::{Ask, Asked, Line, LineFault, Unread};
+pub use command::{Command, CommandFault};
+pub use commands::{command_of, read_command};
+pub use desk::Desk;
+pub use end::End;
+pub use fields::{Fields, KEPT_FIELDS, fields_of};
+pub use laws::commands_are_read;
+pub use limits::{
+    LONGEST_LINE, Limits, MOST_LINES, MOST_READS, NO_LIMITS, READ_SIZE, SESSION_LIMITS,
+};
+pub use peer::{Authorisations, NameOf, Peer};
+pub use pending_line::PendingLine;
+pub use withheld::{Basis, Released, Withheld, WithheldAnswers};
+pub use words::{word_of_fault, word_of_turn};

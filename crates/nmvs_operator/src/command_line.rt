@@ -1,0 +1,218 @@
+//! The options that a command line may have, and what its help says of them.
+use crate::options::{
+    MOST_CONNECTIONS, MOST_IDLE, MOST_RATE, MOST_SESSIONS, MOST_SHARDS, MOST_WORKERS,
+};
+use clap::{Arg, ArgAction, Command, value_parser};
+use nmvs_identifier::LAST_MOMENT;
+use std::alloc::{AllocError, Global};
+
+const ABOUT: &str =
+    "The national medicines verification repository: answers lines of users over connections, and takes commands of its \
+    operator on standard input.";
+
+/// The version of the program, and the toolchain that it is proved by (own).
+pub const VERSION: &str = "1 (proved by rattle-kit-13f logic dac8208d650f15bf)";
+
+const REHEARSAL: &str =
+    "Without any option the program is a rehearsal: one session over standard input and output, with an empty \
+    repository and users of its own.";
+
+/// An option.
+#[derive(Clone, Copy)]
+struct Described {
+    name: &'static str,
+    value: Value,
+    default: Option<&'static str>,
+    help: &'static str,
+}
+
+/// What an option takes.
+#[derive(Clone, Copy)]
+enum Value {
+    /// Nothing: the option is a flag.
+    Nothing,
+    /// A text, by its name in the help.
+    Text(&'static str),
+    /// One of these words, by its name in the help.
+    Word(&'static str, &'static [&'static str]),
+    /// A whole number, no less than the first of these and no more than the second.
+    Number(i64, i64),
+}
+
+/// The options, in the order in which the help shows them.
+static OPTIONS: [Described; 23] = [
+    Described {
+        name: "users",
+        value: Value::Text("FILE"),
+        default: None,
+        help: "Users file: one command a line, ENROL user role authorisation premises or SUSPEND user",
+    },
+    Described {
+        name: "rehearsal",
+        value: Value::Nothing,
+        default: None,
+        help: "The users of the rehearsal, with a pack for each status, in place of a users file",
+    },
+    Described {
+        name: "import",
+        value: Value::Text("FILE"),
+        default: None,
+        help: "An export to go on from: each of its replies is judged again by the rules first",
+    },
+    Described {
+        name: "export",
+        value: Value::Text("FILE"),
+        default: None,
+        help: "Where the audit trail is written at the end, one line an entry; what the file had before is lost",
+    },
+    Described {
+        name: "journal",
+        value: Value::Text("DIR"),
+        default: None,
+        help: "Folder of the journals: no answer is told before its entry is on the disk there, and each start goes on from them",
+    },
+    Described {
+        name: "config",
+        value: Value::Text("FILE"),
+        default: None,
+        help: "File of options, TOML with a key an option, as shards = 2: what the command line says goes before it",
+    },
+    Described {
+        name: "shards",
+        value: Value::Number(1, MOST_SHARDS as i64),
+        default: Some("8"),
+        help: "Parts of the repository that are worked on at once, 1 to 8",
+    },
+    Described {
+        name: "workers",
+        value: Value::Number(1, MOST_WORKERS as i64),
+        default: Some("4"),
+        help: "Threads that serve connections, 1 to 8",
+    },
+    Described {
+        name: "connections",
+        value: Value::Number(1, MOST_CONNECTIONS as i64),
+        default: Some("10000"),
+        help: "Connections that are open at once, 1 to 100000",
+    },
+    Described {
+        name: "sessions",
+        value: Value::Number(0, MOST_SESSIONS as i64),
+        default: Some("0"),
+        help: "Sessions in which a line is served, for each worker, before the server ends, 0 to 1000000; 0 is without end",
+    },
+    Described {
+        name: "idle",
+        value: Value::Number(0, MOST_IDLE as i64),
+        default: Some("300"),
+        help: "Seconds after which a connection that asks nothing is closed, 0 to 86400; 0 is never",
+    },
+    Described {
+        name: "rate",
+        value: Value::Number(0, MOST_RATE as i64),
+        default: Some("0"),
+        help: "Lines a second that are taken from each user over connections, 0 to 1000000; 0 is all",
+    },
+    Described {
+        name: "burst",
+        value: Value::Number(1, MOST_RATE as i64),
+        default: None,
+        help: "Lines that are taken from a user at once, 1 to 1000000, where there is a rate; without it those of a second",
+    },
+    Described {
+        name: "bind",
+        value: Value::Text("ADDRESS"),
+        default: Some("127.0.0.1"),
+        help: "Address that is listened on, of version 4 or 6",
+    },
+    Described {
+        name: "port",
+        value: Value::Number(0, 65_535),
+        default: Some("7161"),
+        help: "Port that is listened on, 0 to 65535; 0 is one that the system chooses",
+    },
+    Described {
+        name: "socket",
+        value: Value::Text("PATH"),
+        default: None,
+        help: "Unix socket that is listened on in place of address and port",
+    },
+    Described {
+        name: "admin",
+        value: Value::Text("PATH"),
+        default: None,
+        help: "Unix socket that takes the operator's commands, beside standard input; its owner alone may open it",
+    },
+    Described {
+        name: "metrics",
+        value: Value::Number(0, 65_535),
+        default: None,
+        help: "Port of 127.0.0.1 at which /metrics, /healthz and /readyz are told, 0 to 65535; 0 is one that the system chooses",
+    },
+    Described {
+        name: "log-level",
+        value: Value::Word("LEVEL", &["off", "error", "warn", "info", "debug"]),
+        default: Some("info"),
+        help: "Events of this level and above are logged",
+    },
+    Described {
+        name: "log-format",
+        value: Value::Word("FORMAT", &["text", "json"]),
+        default: Some("text"),
+        help: "How the log on standard error is written",
+    },
+    Described {
+        name: "proxy",
+        value: Value::Word("WHOSE", &["user", "authorisation"]),
+        default: None,
+        help: "Whose name the certificate has by which a gateway's header, PROXY version 2, begins each connection: a line of \
+        any other user is turned away",
+    },
+    Described {
+        name: "moment",
+        value: Value::Number(0, LAST_MOMENT),
+        default: None,
+        help: "Moment of every line in place of the clock, in seconds since 1970-01-01 UTC, 0 to 4102444799",
+    },
+    Described {
+        name: "stdin",
+        value: Value::Nothing,
+        default: None,
+        help: "Serve one session over standard input and output in place of connections",
+    },
+];
+
+/// The command line, of the words after the program's own name.
+pub(crate) fn command<'a>(alloc: Global) -> Result<Command<'a>, AllocError> {
+    let mut command = Command::new(alloc, "nmvs-serve")
+        .about(ABOUT)
+        .after_help(REHEARSAL)
+        .version(VERSION)
+        .no_binary_name(true);
+    for option in &OPTIONS {
+        command = command.arg(argument(alloc, option))?;
+    }
+    Ok(command)
+}
+
+fn argument<'a>(alloc: Global, option: &Described) -> Arg<'a> {
+    let argument = Arg::new(alloc, option.name)
+        .long(option.name)
+        .help(option.help);
+    let argument = with_value(argument, option.value);
+    match option.default {
+        Some(text) => argument.default_value(text),
+        None => argument,
+    }
+}
+
+fn with_value<'a>(argument: Arg<'a>, value: Value) -> Arg<'a> {
+    match value {
+        Value::Nothing => argument.action(ArgAction::SetTrue),
+        Value::Text(name) => argument.value_name(name),
+        Value::Word(name, words) => argument.value_name(name).value_parser(words),
+        Value::Number(least, most) => argument
+            .value_name("N")
+            .value_parser(value_parser!(u64).range(least..=most)),
+    }
+}

@@ -1,8 +1,0 @@
-use Rattle.std.proofs.Common.{◌≡◌, map, take, drop}
-use Rattle.nmvs_protocol.specs.Session.{answer_of, told_where}
-use Rattle.nmvs_protocol.proofs.withheld.turn_all_unkept.Given as goal
-
-abbrev pub invariant-loop-withheld : goal.invariant-loop-withheld
-invariant-loop-withheld l =
-    let i = l.withheld-index in
-    (map answer_of (take i l.list) ≡ map (told_where l.kept) (take i l.fn.list)) × (drop i l.list ≡ drop i l.fn.list)

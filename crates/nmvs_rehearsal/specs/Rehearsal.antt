@@ -1,0 +1,115 @@
+-- The rehearsal: one session over an empty trail, with users of its own and moments that are handed in. (own)
+use Rattle.std.specs.Prelude.{◌≡◌, ℕ, Bool, true, false, List, [], ◌∷◌, ◌++◌, take, ◌⊎◌, Option, None, IsSome}
+use Rattle.nmvs_identifier.specs.Name.{Name}
+use Rattle.nmvs_identifier.specs.ProductCode.{ProductCode}
+use Rattle.nmvs_identifier.specs.Tag.{Tag}
+use Rattle.nmvs_rules.specs.declared.actor.Actor.{Actor}
+use Rattle.nmvs_rules.specs.declared.entry.Entry.{Entry}
+use Rattle.nmvs_rules.specs.declared.put.Put.{Put}
+use Rattle.nmvs_rules.specs.declared.question.Question.{Question}
+use Rattle.nmvs_rules.specs.declared.reply.Reply.{Reply}
+use Rattle.nmvs_rules.specs.declared.repeat.Repeat.TheVariants as repeat
+use Rattle.nmvs_rules.specs.Questions.{may_report}
+use Rattle.nmvs_rules.specs.Repeats.{repeat_of}
+use Rattle.nmvs_rules.specs.Rules.{reply_of, shown_of, answered}
+use Rattle.nmvs_record.specs.Report.{report_text}
+use Rattle.nmvs_messages.specs.declared.ask.Ask.{Ask}
+use Rattle.nmvs_messages.specs.declared.ask.Asked.{Asked}
+use Rattle.nmvs_messages.specs.declared.ask.Asked.TheVariants as asked
+use Rattle.nmvs_messages.specs.declared.answer.Content.{Content}
+use Rattle.nmvs_messages.specs.declared.answer.Content.TheVariants as contents
+use Rattle.nmvs_messages.specs.declared.answer.Turn.TheVariants as turns
+use Rattle.nmvs_messages.specs.declared.withheld.Withheld.{Withheld}
+use Rattle.nmvs_rehearsal.specs.Roster.{post_of, IsRostered}
+
+-- how far a rehearsal is: its trail, and the moments of the lines that reach the desk from now on; the last moment
+-- serves all later lines too
+pub record Rehearsal : Type 0 where
+  pub trail : List Entry
+  pub moments : List ℕ
+
+-- the moment of the next line
+abbrev pub now : List ℕ → ℕ
+now [] = 0
+now (moment ∷ moments) = moment
+
+-- the moments of the lines after it
+abbrev pub later : List ℕ → List ℕ
+later [] = []
+later (moment ∷ []) = moment ∷ []
+later (moment ∷ next ∷ moments) = next ∷ moments
+
+-- the next line takes its moment
+pub record TakesMoment (old : Rehearsal) (moment : ℕ) (new : Rehearsal) : Type 0 where
+  pub moment_is : moment ≡ now old.moments
+  pub moments : new.moments ≡ later old.moments
+  pub trail : new.trail ≡ old.trail
+
+-- a question of a user in some capacity, put at a moment, with the tag that its line has
+abbrev pub put_at : ℕ → Name → Actor → Option Tag → Question → Put
+put_at moment user actor tag question = record { moment = moment; user = user; actor = actor; question = question; tag = tag }
+
+-- a question is new on the trail, and is answered by the rules, with the entries that they show; the trail grows by that entry
+pub record Steps (old : List Entry) (put : Put) (said : Reply) (shown new : List Entry) : Type 0 where
+  pub first : repeat_of old put ≡ repeat.New
+  pub lawful : said ≡ reply_of old put
+  pub shows : shown ≡ shown_of old put
+  pub grows : new ≡ old ++ answered put said ∷ []
+
+-- a question was asked before, and is answered again by the entry that it repeats, with the entries that were shown then
+pub record Repeats (old : List Entry) (put : Put) (said : Reply) (shown new : List Entry) : Type 0 where
+  pub place : ℕ
+  pub repeats : repeat_of old put ≡ repeat.Same place said
+  pub shows : shown ≡ shown_of (take place old) put
+  pub same : new ≡ old
+
+-- the question is answered so, in the capacity that the roster gives its user
+pub record Replies (moment : ℕ) (old new : Rehearsal) (user : Name) (tag : Option Tag) (question : Question) (said : Reply) (shown : List Entry) : Type 0 where
+  pub actor : Actor
+  pub rostered : IsRostered user actor
+  pub answers : Steps old.trail (put_at moment user actor tag question) said shown new.trail ⊎ Repeats old.trail (put_at moment user actor tag question) said shown new.trail
+  pub moments : new.moments ≡ old.moments
+
+-- the tag is that of something else which the user asked about the pack
+pub record AsksOther (moment : ℕ) (old : Rehearsal) (user : Name) (tag : Option Tag) (question : Question) : Type 0 where
+  pub actor : Actor
+  pub rostered : IsRostered user actor
+  pub other : repeat_of old.trail (put_at moment user actor tag question) ≡ repeat.Other
+
+-- there is no new entry
+pub record Stays (old new : Rehearsal) : Type 0 where
+  pub trail : new.trail ≡ old.trail
+  pub moments : new.moments ≡ old.moments
+
+-- the roster gives the user a role that gets reports or does not
+abbrev pub GetsReports : Name → Bool → Type 0
+GetsReports user answer = (actor : Actor) × IsRostered user actor × (may_report actor.role ≡ answer)
+
+-- what the desk of the rehearsal may answer to a question at this moment: the rules' reply, or that of the entry that it repeats;
+-- or that nobody has the user's name, that memory was wanting, or that its tag is that of something else, and then there is no
+-- entry
+abbrev pub JudgesQuestion : ℕ → Rehearsal → Name → Option Tag → Question → Content → Rehearsal → Type 0
+JudgesQuestion moment old user g q (contents.Replied r shown) new = Replies moment old new user g q r shown
+JudgesQuestion moment old user g q (contents.Turned turns.Nobody) new = (post_of user.bytes ≡ None) × Stays old new
+JudgesQuestion moment old user g q (contents.Turned turns.Memory) new = IsSome (post_of user.bytes) × Stays old new
+JudgesQuestion moment old user g q (contents.Turned turns.Tag) new = AsksOther moment old user g q × Stays old new
+JudgesQuestion _ _ _ _ _ _ _ = ⊥
+
+-- what it may answer to who asks for a report: that of the trail; or that nobody has the user's name, that the role gets no
+-- report, or that memory was wanting
+abbrev pub JudgesReport : List Entry → Name → ProductCode → Content → Type 0
+JudgesReport trail user c (contents.Reported text) = GetsReports user true × (text ≡ report_text trail c)
+JudgesReport trail user c (contents.Turned turns.Nobody) = post_of user.bytes ≡ None
+JudgesReport trail user c (contents.Turned turns.Role) = GetsReports user false
+JudgesReport trail user c (contents.Turned turns.Memory) = GetsReports user true
+JudgesReport _ _ _ _ = ⊥
+
+-- what it may answer to the next line, which takes its moment first; a report leaves no entry
+abbrev pub Judges : Rehearsal → Option Tag → Asked → Content → Rehearsal → Type 0
+Judges old tag (asked.Question user q) said new =
+    (moment : ℕ) × (begun : Rehearsal) × TakesMoment old moment begun × JudgesQuestion moment begun user tag q said new
+Judges old tag (asked.Report user c) said new = (moment : ℕ) × TakesMoment old moment new × JudgesReport new.trail user c said
+
+-- its answers rest on nothing
+abbrev pub Takes : Rehearsal → Ask → Withheld → Rehearsal → Type 0
+Takes old ask withheld new = (withheld.basis ≡ None) × Judges old ask.tag ask.asked withheld.answer.content new

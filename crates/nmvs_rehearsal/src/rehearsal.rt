@@ -1,0 +1,176 @@
+//! The rehearsal: a session to learn the repository by, whose every answer is proved.
+ghost use Rattle.nmvs_messages.specs.declared.answer.Content.TheVariants.{Replied};
+ghost use Rattle.std.specs.Prelude.{◌≡◌, ◌<◌, ◌∷◌, [], length};
+ghost use Rattle.nmvs_messages.specs.Withheld.{AtOnce, Stays};
+ghost use Rattle.nmvs_protocol.specs.Session.{Session};
+ghost use Rattle.nmvs_stream.specs.Console.{IsFresh};
+ghost use Rattle.nmvs_rehearsal.specs.Rehearsal.{Rehearsal, Takes};
+
+use crate::roster::actor_of;
+use nmvs_identifier::{Moment, Name, ProductCode, Tag};
+use nmvs_messages::{
+    Ask, Asked, Content, Desk, End, Entries, Released, SESSION_LIMITS, Text, Turn, Withheld,
+    WithheldAnswers,
+};
+use nmvs_protocol::serve;
+use nmvs_record::report;
+use nmvs_rules::{Put, Question, may_report};
+use nmvs_shard::{Answered, Asked as Outcome, HashKey, Shard};
+use nmvs_stream::{Sink, Source};
+use std::alloc::{AllocError, Global};
+use std::marker::Model;
+
+/// The seed of a rehearsal's hashes: who makes some collide delays nobody else.
+const NO_SECRET: u64 = 0;
+
+/// 1 January 2026, 00:00:00 UTC (own).
+const NEW_YEAR: i64 = 1_767_225_600;
+
+/// One session over one empty shard, with eight users of its own (own).
+///
+/// The first line that reaches the desk is judged at the first moment, the next at the second and so on, and all later
+/// ones at the last. At most 10,000 lines are answered and 4,000,000 reads made.
+pub fn rehearse<R: Source, W: Sink>(
+    alloc: Global,
+    source: &mut R,
+    sink: &mut W,
+    moments: &[Moment],
+) -> End
+    requires moments { 0 < length moments.now }
+    requires fresh { IsFresh (R.told source.old) (W.taken sink.old) }
+    ensures { (last : Rehearsal) × Session Takes AtOnce Stays SESSION_LIMITS
+        (record { trail = []; moments = moments.now }) (R.told source.old) (W.taken sink.old)
+        last (R.told source.new) (W.taken sink.new) result }
+{
+    let mut desk = RehearsalDesk {
+        alloc: &alloc,
+        shard: Shard::new(&alloc, HashKey::of(NO_SECRET)),
+        moments,
+    };
+    serve(alloc, source, sink, &mut desk, SESSION_LIMITS)
+}
+
+/// The rehearsal of a program: each of its lines is judged at 1 January 2026, 00:00:00 UTC (own).
+pub fn rehearse_at_new_year<R: Source, W: Sink>(alloc: Global, source: &mut R, sink: &mut W) -> End
+    requires { IsFresh (R.told source.old) (W.taken sink.old) }
+    ensures { (last : Rehearsal) × Session Takes AtOnce Stays SESSION_LIMITS
+        (record { trail = []; moments = 1_767_225_600 ∷ [] }) (R.told source.old) (W.taken sink.old)
+        last (R.told source.new) (W.taken sink.new) result }
+{
+    let moment = Moment::new(NEW_YEAR).unwrap();
+    rehearse(alloc, source, sink, &[moment])
+}
+
+/// Answers by the rules on one shard.
+#[derive(Drop)]
+struct RehearsalDesk<'a> {
+    alloc: &'a Global,
+    shard: Shard<&'a Global>,
+    moments: &'a [Moment],
+}
+
+impl<'a> Model for RehearsalDesk<'a> {
+    ghost use Rattle.std.specs.Prelude.{◌<◌, length};
+    ghost use Rattle.nmvs_rehearsal.specs.Rehearsal.{Rehearsal};
+
+    ghost Value = { Rehearsal };
+
+    ghost view = { λ desk. record { trail = desk.shard; moments = desk.moments.now } };
+
+    ghost invariant = { λ desk. 0 < length desk.moments.now };
+}
+
+impl<'a> RehearsalDesk<'a> {
+    ghost use Rattle.std.specs.Prelude.{◌≡◌};
+    ghost use Rattle.nmvs_rehearsal.specs.Rehearsal.{TakesMoment, JudgesQuestion, JudgesReport};
+
+    /// The moment of the next line, which counts as having reached the desk.
+    fn next_moment(&mut self) -> Moment
+        ensures { TakesMoment self.old result self.new }
+    {
+        match self.moments {
+            [last] => *last,
+            [moment, later @ ..] => {
+                self.moments = later;
+                *moment
+            }
+            [] => unreachable!(),
+        }
+    }
+
+    /// Judges a question that is put at the moment.
+    fn judge(
+        &mut self,
+        moment: Moment,
+        user: &Name,
+        tag: Option<Tag>,
+        question: &Question,
+    ) -> Content<'a>
+        ensures { JudgesQuestion moment self.old user.now tag question.now result self.new }
+    {
+        let Some(actor) = actor_of(user) else {
+            return Content::Turned(Turn::Nobody);
+        };
+        let put = Put {
+            moment,
+            user: *user,
+            actor,
+            question: *question,
+            tag,
+        };
+        match self.shard.ask(&put) {
+            Ok(Outcome::New(answered)) => told(answered),
+            Ok(Outcome::Again { place: _, answered }) => told(answered),
+            Ok(Outcome::Other) => Content::Turned(Turn::Tag),
+            Err(AllocError) => Content::Turned(Turn::Memory),
+        }
+    }
+
+    /// Reports on a product code to those who may have it. It leaves no entry.
+    fn report(&self, user: &Name, code: &ProductCode) -> Content<'a>
+        ensures { JudgesReport self.now.trail user.now code.now result }
+    {
+        let Some(actor) = actor_of(user) else {
+            return Content::Turned(Turn::Nobody);
+        };
+        if !may_report(actor.role) {
+            return Content::Turned(Turn::Role);
+        }
+        match report(*self.alloc, &self.shard, code) {
+            Ok(text) => Content::Reported(Text::new(text)),
+            Err(_) => Content::Turned(Turn::Memory),
+        }
+    }
+}
+
+/// The reply to a question, and the entries that are shown with it.
+fn told<'a>(answered: Answered<&'a Global>) -> Content<'a>
+    ensures { result ≡ Replied answered.entry.reply answered.entry.shown.items }
+{
+    Content::Replied(answered.reply, Entries::new(answered.shown))
+}
+
+impl<'a> Desk<'a> for RehearsalDesk<'a> {
+    ghost use Rattle.nmvs_messages.specs.Withheld.{AtOnce, Stays};
+    ghost use Rattle.nmvs_rehearsal.specs.Rehearsal.{Takes};
+
+    type Evidence = ();
+
+    ghost takes = { Takes };
+
+    ghost releases = { AtOnce };
+
+    ghost moves = { Stays };
+
+    fn take(&mut self, ask: &Ask) -> Withheld<'a> {
+        let moment = self.next_moment();
+        Withheld::new(match &ask.asked {
+            Asked::Question(user, question) => self.judge(moment, user, ask.tag, question),
+            Asked::Report(user, code) => self.report(user, code),
+        })
+    }
+
+    fn release<'h>(&mut self, withheld: &'h mut WithheldAnswers<'a>) -> (Released<'h, 'a>, ()) {
+        (withheld.release(), ())
+    }
+}

@@ -1,0 +1,75 @@
+//! Questions with a tag, which several clerks ask.
+
+use crate::crew::{Crew, Place, Stage, play};
+use crate::market::{P, USERS, decommission, name, verify};
+use nmvs_desk::{Clerk, Outcome, Receipt};
+use nmvs_directory::Naming;
+use nmvs_history::Histories;
+use nmvs_identifier::{Name, Tag};
+use nmvs_rules::{Question, Reason, Reply};
+use std::process::Abort;
+use std::rt::HostRuntime;
+use std::sync::Wait;
+
+/// Each clerk asks to supply the pack twice, and then something else, always with the same tag.
+#[derive(Drop)]
+struct SameTag {
+    user: Name,
+    supply: Question,
+    other: Question,
+    tag: Tag,
+}
+
+impl SameTag {
+    /// The receipt of the entry that answers the question, or None where the tag is that of another.
+    fn ask<'a, J: Naming, H: Histories, R: Wait + Abort>(
+        &self,
+        place: &Place<'_, 'a, R, H>,
+        clerk: &mut Clerk<'a, J, H>,
+        question: &Question,
+    ) -> Option<Receipt> {
+        let (rt, repository, moment) = (place.rt, place.repository, place.moment);
+        let outcome = clerk.ask_once(rt, repository, moment, &self.user, question, self.tag);
+        match outcome.expect(rt, "an answer") {
+            Outcome::New(served) | Outcome::Again(served) => Some(served.receipt),
+            Outcome::Other => None,
+        }
+    }
+}
+
+impl Crew for SameTag {
+    fn work<'a, J: Naming, H: Histories, R: Wait + Abort>(
+        &self,
+        place: &Place<'_, 'a, R, H>,
+        clerk: &mut Clerk<'a, J, H>,
+        _number: usize,
+    ) {
+        let rt = place.rt;
+        for _ in 0..2u32 {
+            let receipt = self.ask(place, clerk, &self.supply).expect(rt, "an entry");
+            assert!(rt; receipt.place == 1);
+            assert!(rt; receipt.entry.reply == Reply::Decommissioned);
+        }
+        assert!(rt; self.ask(place, clerk, &self.other).is_none());
+    }
+}
+
+#[test]
+fn a_supply_with_a_tag_is_put_by_one_of_four(rt: HostRuntime) {
+    let alloc = rt.alloc();
+    let stage = Stage {
+        shards: 1,
+        clerks: 4,
+        users: &USERS,
+        opening: &[P],
+    };
+    let crew = SameTag {
+        user: name(&rt, "ph1"),
+        supply: decommission(&rt, P, Reason::Supply),
+        other: verify(&rt, P),
+        tag: Tag::read("a17").expect(&rt, "a tag"),
+    };
+    let settled = play(&rt, &alloc, &stage, &crew);
+    assert_eq!(&rt; settled.shards.len(), 1);
+    assert_eq!(&rt; settled.shards[0].trail().len(), 2);
+}

@@ -1,0 +1,46 @@
+//! How many shards a repository has, and what its faults are called.
+use nmvs_desk::{AskFault, Keepers, OpenFault};
+use std::alloc::Global;
+use std::fmt::Display;
+use std::process::Abort;
+use std::rt::HostRuntime;
+
+#[test]
+fn a_repository_has_one_to_eight_shards(rt: HostRuntime) {
+    let alloc = rt.alloc();
+    for (shards, fault) in [
+        (0, Some(OpenFault::Count)),
+        (1, None),
+        (8, None),
+        (9, Some(OpenFault::Count)),
+    ] {
+        assert!(&rt; Keepers::new(&alloc, shards).err() == fault, "{shards}");
+    }
+}
+
+/// Whether a fault is shown so.
+fn is_shown(rt: &impl Abort, alloc: Global, fault: &impl Display, text: &str) -> bool {
+    let shown = format!(in alloc; "{fault}").expect(rt, "memory");
+    shown.as_str() == text
+}
+
+#[test]
+fn faults_have_their_texts(rt: HostRuntime) {
+    for (fault, text) in [
+        (OpenFault::Memory, "there is no memory for the histories"),
+        (OpenFault::Count, "a repository has 1 to 8 shards"),
+    ] {
+        assert!(&rt; is_shown(&rt, rt.alloc(), &fault, text), "{text}");
+    }
+    for (fault, text) in [
+        (AskFault::Nobody, "the directory does not know the user"),
+        (AskFault::Suspended, "the user is suspended"),
+        (
+            AskFault::Memory,
+            "there is no memory for the entry or its receipt",
+        ),
+        (AskFault::Closed, "the directory could not be entered"),
+    ] {
+        assert!(&rt; is_shown(&rt, rt.alloc(), &fault, text), "{text}");
+    }
+}

@@ -1,0 +1,168 @@
+ghost use Rattle.std.specs.Prelude.{◌≡◌};
+ghost use Rattle.nmvs_directory.specs.Directory.{directory_book};
+
+use nmvs_directory::{Directory, Look, Naming, Notice, Registrar};
+use nmvs_identifier::Name;
+use nmvs_operator::{Deed, Figure, Latest, Service, ServiceFault, Topic, obey_all};
+use nmvs_stream::{Console, Device, deliver};
+use std::alloc::{AllocError, Global};
+use std::io;
+use std::io::{ErrorKind, Write};
+use std::marker::Brand;
+use std::process::Abort;
+use std::sync::{Mutex, Wait};
+use std::test::*;
+
+const ENROLMENT: &[u8] = b"ENROL ph9 PHARMACY PH-9 P9\n";
+
+/// A command of 201 bytes, a word in lower case, and at the end a command without its LF.
+const COMMANDS: &[u8] =
+    b"AAAAAAAAAAAAAAAAAAAAAAAAAAAAAAAAAAAAAAAAAAAAAAAAAAAAAAAAAAAAAAAAAAAAAAAAAAAAAAAAAAAAAAAAAAAAAAAAAAAA\
+    AAAAAAAAAAAAAAAAAAAAAAAAAAAAAAAAAAAAAAAAAAAAAAAAAAAAAAAAAAAAAAAAAAAAAAAAAAAAAAAAAAAAAAAAAAAAAAAAAAAAA\n\
+    suspend ph9\nSUSPEND ph9\nENROL ph9 PHARMACY PH-9 P9";
+
+/// What stops the server, and a command behind it.
+const STOP: &[u8] =
+    b"EXPORT full\nEXPORT trail.txt\nHELP\nUSERS\nSTATS\nCONNECTIONS\nSUSPEND ph9\nSTOP\nENROL ph9 PHARMACY PH-9 P9\n";
+
+const HELPED: &[u8] =
+    b"FAULT WRITE\nDONE\nENROL user role authorisation premises\nSUSPEND user\nEXPORT file\nUSERS\nSTATS\nCONNECTIONS\n\
+    STOP\nHELP\nDONE\nUSER ph9 PHARMACY PH-9 P9 SUSPENDED\nDONE\nCONNECTIONS 2\nSESSIONS 3\nENTRIES 0 5\nENTRIES 1 0\nDONE\n\
+    WORKER 0 2\nDONE\nFAULT JOURNAL\nDONE\n.";
+
+const STATS: &[Figure] = &[
+    Figure::Connections(2),
+    Figure::Sessions(3),
+    Figure::Entries(0, 5),
+    Figure::Entries(1, 0),
+];
+
+/// A server that keeps so many changes, and writes no file named `full`.
+#[derive(Drop)]
+struct Narrow {
+    keeps: u64,
+    stopped: bool,
+}
+
+impl Service for Narrow {
+    ghost does = { λ old deed fault new. Unit {0} };
+
+    ghost counts = { λ server topic figures. Unit {0} };
+
+    fn perform(&mut self, deed: &Deed<'_>) -> Result<(), ServiceFault> {
+        match deed {
+            Deed::Keep(_) => {
+                self.keeps = self.keeps.checked_sub(1).ok_or(ServiceFault::Journal)?;
+            }
+            Deed::Export("full") => return Err(ServiceFault::Write),
+            Deed::Export(_) => {}
+            Deed::Stop => self.stopped = true,
+        }
+        Ok(())
+    }
+
+    fn count(&self, alloc: Global, topic: Topic) -> Result<Vec<Figure>, AllocError> {
+        match topic {
+            Topic::Stats => Vec::from_slice(alloc, STATS),
+            Topic::Connections => Vec::from_slice(alloc, &[Figure::Worker(0, 2)]),
+        }
+    }
+}
+
+/// Takes these bytes and no others. (It owns what it needs: in this toolchain a console may hold no references.)
+#[derive(Drop)]
+struct Awaited {
+    left: &'static [u8],
+}
+
+impl Write for Awaited {
+    fn write(&mut self, buffer: &[u8]) -> io::Result<usize> {
+        match self.left.strip_prefix(buffer) {
+            Some(left) => {
+                self.left = left;
+                Ok(buffer.len())
+            }
+            None => Err(io::Error::from(ErrorKind::InvalidData)),
+        }
+    }
+
+    fn flush(&mut self) -> io::Result<()> {
+        Ok(())
+    }
+}
+
+/// Carries out orders, which have these answers, a full stop behind them.
+fn has_answers<'r, J: Naming, R: Wait + Abort + Sync>(
+    rt: &'r R,
+    alloc: Global,
+    registrar: &mut Registrar<J, &'r R, Global>,
+    latest: &Mutex<Notice<J>>,
+    service: &mut Narrow,
+    commands: &'static [u8],
+    answers: &'static [u8],
+) {
+    let answers = Awaited { left: answers };
+    let mut console = Console::new(Device::new(commands), Device::new(answers));
+    obey_all(
+        alloc,
+        &mut console,
+        registrar,
+        &mut Latest::new(rt, latest),
+        service,
+    );
+    // the sink takes it behind all answers alone
+    assert_eq!(rt; deliver(&mut console.sink, b"."), Ok(()));
+}
+
+fn commands_come<J: Naming, R: Wait + Abort + Sync>(rt: &R, alloc: Global, directory: Directory)
+    requires { directory_book directory ≡ J.book }
+{
+    let ph9 = Name::read("ph9").expect(rt, "a name");
+    let (mut registrar, mut windows) = directory.open::<J, _, _>(rt, alloc, 1).expect(rt, "memory");
+    let mut window = windows.pop().expect(rt, "a window");
+    let latest = Mutex::new(registrar.publish().expect(rt, "memory"));
+    let mut service = Narrow {
+        keeps: 2,
+        stopped: false,
+    };
+    has_answers(
+        rt,
+        alloc,
+        &mut registrar,
+        &latest,
+        &mut service,
+        ENROLMENT,
+        b"DONE\n.",
+    );
+    window.learn(&*latest.lock(rt));
+    assert!(rt; matches!(window.look(&ph9), Look::Known(_)));
+    let all = b"FAULT LONG\nFAULT WORD\nDONE\nFAULT UNENDED\n.";
+    has_answers(
+        rt,
+        alloc,
+        &mut registrar,
+        &latest,
+        &mut service,
+        COMMANDS,
+        all,
+    );
+    window.learn(&*latest.lock(rt));
+    assert_eq!(rt; window.look(&ph9), Look::Suspended);
+    assert!(rt; !service.stopped);
+    has_answers(
+        rt,
+        alloc,
+        &mut registrar,
+        &latest,
+        &mut service,
+        STOP,
+        HELPED,
+    );
+    assert!(rt; service.stopped);
+    registrar.close();
+}
+
+#[test]
+fn commands_are_carried_out_as_they_come(rt: HostRuntime) {
+    commands_come::<Brand, _>(&rt, rt.alloc(), Directory::new());
+}

@@ -1,0 +1,168 @@
+use log::LevelFilter;
+use nmvs_identifier::Moment;
+use nmvs_log::LogFormat;
+use nmvs_messages::NameOf;
+use nmvs_operator::{OptionFault, Options, read_options};
+use std::alloc::Global;
+use std::net::{IpAddr, Ipv4Addr, Ipv6Addr};
+use std::process::Abort;
+use std::test::*;
+
+fn read(rt: &impl Abort, alloc: Global, words: &[&str]) -> Result<Options, OptionFault> {
+    let mut texts = Vec::new(alloc);
+    for word in words {
+        let text = String::from_str(alloc, *word).expect(rt, "memory");
+        texts.push(text).expect(rt, "memory");
+    }
+    read_options(alloc, &texts)
+}
+
+#[test]
+fn options_have_defaults(rt: HostRuntime) {
+    let Ok(options) = read(&rt, rt.alloc(), &["--users", "F"]) else {
+        panic!(rt; "refused");
+    };
+    assert!(rt;
+        is_path(&options.users, "F") && options.import.is_none() && options.export.is_none()
+    );
+    assert_eq!(rt;
+        (options.shards, options.workers, options.sessions),
+        (8, 4, 0)
+    );
+    assert_eq!(rt;
+        (options.port, options.moment, options.stdin),
+        (7161, None, false)
+    );
+    assert_eq!(rt; (options.connections, options.idle), (10_000, 300));
+    assert_eq!(rt; (options.rate, options.burst), (0, 0));
+    assert_eq!(rt; options.bind, IpAddr::V4(Ipv4Addr::new(127, 0, 0, 1)));
+    assert!(rt; options.socket.is_none() && options.proxy.is_none() && options.journal.is_none());
+    assert!(rt; options.admin.is_none() && options.metrics.is_none());
+    assert_eq!(rt;
+        (options.log_level, options.log_format),
+        (LevelFilter::Info, LogFormat::Text)
+    );
+}
+
+/// Whether a path is this one.
+fn is_path(path: &Option<String>, text: &str) -> bool {
+    match path {
+        Some(path) => path.as_str() == text,
+        None => false,
+    }
+}
+
+#[test]
+fn all_options_are_taken_together(rt: HostRuntime) {
+    let words = [
+        "--users=F",
+        "--import=I",
+        "--export=E",
+        "--shards=1",
+        "--workers=8",
+        "--sessions=1000000",
+        "--connections=100000",
+        "--idle=86400",
+        "--rate=1000000",
+        "--burst=1",
+        "--bind=::1",
+        "--port=65535",
+        "--socket=S",
+        "--proxy=authorisation",
+        "--moment=4102444799",
+        "--stdin",
+    ];
+    let Ok(options) = read(&rt, rt.alloc(), &words) else {
+        panic!(rt; "refused");
+    };
+    assert!(rt; options.moment.is_some());
+    assert!(rt; is_path(&options.import, "I") && is_path(&options.export, "E"));
+    assert_eq!(rt;
+        (options.shards, options.workers, options.sessions),
+        (1, 8, 1_000_000)
+    );
+    assert_eq!(rt; (options.port, options.stdin), (65_535, true));
+    assert_eq!(rt; (options.connections, options.idle), (100_000, 86_400));
+    assert_eq!(rt; (options.rate, options.burst), (1_000_000, 1));
+    assert!(rt; is_path(&options.socket, "S"));
+    assert_eq!(rt; options.proxy, Some(NameOf::Authorisation));
+    assert_eq!(rt;
+        options.bind,
+        IpAddr::V6(Ipv6Addr::new(0, 0, 0, 0, 0, 0, 0, 1))
+    );
+    let words = [
+        "--rehearsal",
+        "--journal=D",
+        "--config",
+        "C",
+        "--admin=A",
+        "--metrics=9161",
+        "--log-level=debug",
+        "--log-format=json",
+    ];
+    let Ok(options) = read(&rt, rt.alloc(), &words) else {
+        panic!(rt; "refused");
+    };
+    assert!(rt; is_path(&options.journal, "D") && is_path(&options.admin, "A"));
+    assert!(rt; options.users.is_none() && options.metrics == Some(9161));
+    assert_eq!(rt; options.moment, Moment::new(1_767_225_600));
+    assert_eq!(rt;
+        (options.log_level, options.log_format),
+        (LevelFilter::Debug, LogFormat::Json)
+    );
+}
+
+#[test]
+fn other_lines_are_refused(rt: HostRuntime) {
+    for word in [
+        "--shards=9",
+        "--shards=0",
+        "--workers=0",
+        "--workers=9",
+        "--sessions=1000001",
+        "--connections=0",
+        "--connections=100001",
+        "--idle=86401",
+        "--rate=1000001",
+        "--burst=0",
+        "--bind=localhost",
+        "--port=65536",
+        "--moment=4102444800",
+        "--moment=-1",
+        "--proxy",
+        "--proxy=users",
+        "--metrics=65536",
+        "--log-level=trace",
+        "--log-format=xml",
+        "--rehearsal",
+        "--none",
+        "stray",
+        "--users=G",
+    ] {
+        let refused = read(&rt, rt.alloc(), &["--users", "F", word]);
+        assert!(rt; matches!(refused, Err(OptionFault::Refused(_))), "{word}");
+    }
+    for words in [
+        &["--stdin"][..],
+        &["--users=F", "--journal=D", "--stdin"],
+        &["--users=F", "--admin=A", "--stdin"],
+        &["--users=F", "--metrics=0", "--stdin"],
+        &["--users=F", "--config"],
+        &["--users=F", "--config=C", "--config=D"],
+    ] {
+        let refused = read(&rt, rt.alloc(), words);
+        assert!(rt; matches!(refused, Err(OptionFault::Refused(_))));
+    }
+}
+
+#[test]
+fn help_and_version_are_told(rt: HostRuntime) {
+    let Err(OptionFault::Help(text)) = read(&rt, rt.alloc(), &["--help"]) else {
+        panic!(rt; "no help");
+    };
+    assert!(rt; text.contains("--users <FILE>") && text.contains("[default: 7161]"));
+    for word in ["--version", "-V"] {
+        let version = read(&rt, rt.alloc(), &[word]);
+        assert!(rt; matches!(version, Err(OptionFault::Help(_))), "{word}");
+    }
+}

@@ -1,0 +1,128 @@
+//! A desk whose answers wait for the journal of a repository with one shard.
+
+use crate::journal_file::{LINE, USERS, assert_told};
+use crate::repository::{Visit, at_repository};
+use log::Log;
+use nmvs_desk::{Clerk, Repository};
+use nmvs_directory::{Naming, Notice, Registrar};
+use nmvs_figures::Panel;
+use nmvs_history::Histories;
+use nmvs_identifier::Moment;
+use nmvs_journal::Filed;
+use nmvs_messages::{Desk, SESSION_LIMITS};
+use nmvs_offices::{Alarm, Offices, Start};
+use nmvs_protocol::serve;
+use nmvs_reception::{ClerkDesk, JournalDesk, Opened, ProgramClock};
+use nmvs_stream::Device;
+use nmvs_trials::examples::NEW_YEAR;
+use nmvs_trials::{Calls, FakeFile};
+use std::alloc::Global;
+use std::io;
+use std::process::Abort;
+use std::rt::Clock;
+use std::sync::{Mutex, Wait};
+use std::test::*;
+
+const QUESTION: &[u8] = b"ph1 STATUS 09506000134352 S1\n";
+
+/// Tells nobody.
+#[derive(Drop)]
+struct Silent;
+
+impl Alarm for Silent {
+    fn tell(&self, _shard: usize, _fault: io::Error) {}
+}
+
+/// Asks the question in a session of its own, and tells whether its reply was told; else its line was turned away.
+fn is_told<'a, D: Desk<'a>>(rt: &impl Abort, alloc: Global, desk: &mut D) -> bool {
+    let mut output = Vec::new(alloc);
+    let _end = serve(
+        alloc,
+        &mut Device::new(QUESTION),
+        &mut Device::new(&mut output),
+        desk,
+        SESSION_LIMITS,
+    );
+    if output.as_slice() == b"NOPACK\n".as_slice() {
+        return true;
+    }
+    assert_eq!(rt; output.as_slice(), b"FAULT JOURNAL\n".as_slice());
+    false
+}
+
+/// Asks three times, and tells how many replies were told. When one is told the file has confirmed its line.
+fn ask_thrice<'a, 's, J: Naming, H: Histories, R: Wait + Clock + Log + Abort>(
+    rt: &'s R,
+    latest: &'s Mutex<Notice<J>>,
+    repository: &'s Repository<'a, H>,
+    clerk: Clerk<'a, J, H>,
+    panel: &'s Panel,
+    file: FakeFile<'_>,
+) -> usize {
+    let alloc = *clerk.allocator();
+    let calls = file.calls;
+    let mut starts = Vec::new(alloc);
+    let store = Filed::new(file, &[]);
+    starts.push(Start { store, count: 0 }).expect(rt, "memory");
+    let offices = Offices::open(rt, alloc, repository, starts).expect(rt, "memory");
+    let clock = ProgramClock::new(rt, Moment::new(NEW_YEAR));
+    let desk = ClerkDesk::new(rt, clerk, repository, latest, clock, panel.tally(0));
+    let mut desk = JournalDesk::new(desk, &offices, Silent);
+    let mut told = 0usize;
+    for asked in 1..4usize {
+        if is_told(rt, alloc, &mut desk) {
+            told = asked;
+            assert_eq!(rt; calls.lock(rt).synced, LINE.len().saturating_mul(asked));
+        }
+    }
+    told
+}
+
+/// Asks over this file, and answers how many replies were told.
+#[derive(Drop)]
+struct AskThrice<'f> {
+    file: FakeFile<'f>,
+}
+
+impl<'f> Visit for AskThrice<'f> {
+    type Output = usize;
+
+    fn visit<'r, 'a, J: Naming, H: Histories, R: Wait + Clock + Log + Abort + Sync>(
+        self,
+        rt: &'r R,
+        opened: Opened<'a, J, H>,
+        _registrar: &mut Registrar<J, &'r R, &'a Global>,
+        latest: &Mutex<Notice<J>>,
+    ) -> usize {
+        let Opened {
+            repository,
+            mut clerks,
+        } = opened;
+        let clerk = clerks.pop().expect(rt, "a clerk");
+        let panel = Panel::new(*clerk.allocator(), 1, 1, true).expect(rt, "memory");
+        ask_thrice(rt, latest, &repository, clerk, &panel, self.file)
+    }
+}
+
+/// How many replies were told over a file whose call of this number fails, and what was done with the file.
+fn told_until<R: Wait + Clock + Log + Abort + Sync>(
+    rt: &R,
+    alloc: Global,
+    fails_at: usize,
+) -> (usize, Calls) {
+    let calls = Mutex::new(Calls::none(alloc));
+    let file = FakeFile {
+        calls: &calls,
+        fails_at,
+    };
+    let told = at_repository(rt, &alloc, USERS, AskThrice { file });
+    (told, calls.into_inner())
+}
+
+#[test]
+fn a_reply_is_told_once_its_line_is_confirmed(rt: HostRuntime) {
+    for fails_at in 0..7usize {
+        let (told, file) = told_until(&rt, rt.alloc(), fails_at);
+        assert_told(&rt, told, &file, fails_at);
+    }
+}

@@ -1,0 +1,19 @@
+//! Tests of the values, words, rules and tables, and of the crates of bytes beside them.
+#![tactic(auto)]
+
+#[cfg(test)]
+mod config;
+#[cfg(test)]
+mod digest;
+#[cfg(test)]
+mod gateway;
+#[cfg(test)]
+mod identifier;
+#[cfg(test)]
+mod rules;
+#[cfg(test)]
+mod stream;
+#[cfg(test)]
+mod tables;
+#[cfg(test)]
+mod words;
