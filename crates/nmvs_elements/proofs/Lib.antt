@@ -1,0 +1,10 @@
+pub mod Runs
+pub mod ElementFacts
+pub mod Reading
+pub mod ValueFacts
+pub mod OneReading
+pub mod Packs
+pub mod Counts
+pub mod Printed
+pub mod Lost
+pub mod TextFacts

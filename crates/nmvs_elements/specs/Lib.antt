@@ -1,0 +1,5 @@
+pub mod Elements
+pub mod Scan
+pub mod Front
+pub mod Found
+pub mod Laws
