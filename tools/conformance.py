@@ -38,8 +38,10 @@ def start(port):
 
 
 def kind(reply):
-    """What of REPLIES a reply is: its first word, and the next where that says which."""
+    """What of REPLIES a reply is: its first word, behind the tag that it may have, and the next where that says which."""
     words = reply.split(" ")
+    if words[0].startswith("#"):
+        del words[0]
     return " ".join(words[:2]) if words[0] in ("ALERT", "REFUSED", "FAULT") else words[0]
 
 
@@ -72,7 +74,8 @@ def main():
         if not given.lines:
             sys.stdin.read()
             return 0
-        lines = [line for path in given.lines for line in path.read_text("latin-1").split("\n")[:-1]]
+        # As the terminal wrote them: a line ends with LF alone, so one that ends with CR LF has a byte that no line may have.
+        lines = [line for path in given.lines for line in path.read_bytes().decode("latin-1").split("\n")[:-1]]
         return 0 if put(port, lines) else 1
     finally:
         process.communicate("STOP\n")

@@ -4,6 +4,12 @@ import secrets
 import socket
 import time
 
+try:
+    from scans import line_of
+except ModuleNotFoundError:
+    # From the top of a checkout, as `from tools.terminal import Terminal`.
+    from tools.scans import line_of
+
 
 class Terminal:
     """One session. Each line gets one reply, in order; the replies to an audit and to a report have several lines."""
@@ -45,6 +51,13 @@ class Terminal:
     def close(self):
         self.replies.close()
         self.connection.close()
+
+
+def ask_scanned(terminal, user, word, scan, national=None):
+    """The lines of the reply to this question about the pack whose code was scanned. The scan is read here, as a terminal does
+    before it asks: the server takes lines alone. Any terminal of this file will do.
+    ValueError: the scan was refused, and nothing was asked. Its text is for the person who scanned."""
+    return terminal.ask(line_of(user, word, scan, national))
 
 
 class TaggedTerminal:
