@@ -11,7 +11,7 @@ const ABOUT: &str =
     operator on standard input.";
 
 /// The version of the program, and the toolchain that it is proved by (own).
-pub const VERSION: &str = "1 (proved by rattle-kit-13f logic dac8208d650f15bf)";
+pub const VERSION: &str = "0.9.0 (proved by rattle-kit-13f logic dac8208d650f15bf)";
 
 const REHEARSAL: &str =
     "Without any option the program is a rehearsal: one session over standard input and output, with an empty \
@@ -69,7 +69,7 @@ static OPTIONS: [Described; 23] = [
         name: "journal",
         value: Value::Text("DIR"),
         default: None,
-        help: "Folder of the journals: no answer is told before its entry is on the disk there, and each start goes on from them",
+        help: "Folder of the journals: an answer goes out once its entry is on the disk there, and each start goes on from them",
     },
     Described {
         name: "config",
@@ -147,7 +147,7 @@ static OPTIONS: [Described; 23] = [
         name: "metrics",
         value: Value::Number(0, 65_535),
         default: None,
-        help: "Port of 127.0.0.1 at which /metrics, /healthz and /readyz are told, 0 to 65535; 0 is one that the system chooses",
+        help: "Port of 127.0.0.1 for /metrics, /healthz and /readyz, 0 to 65535; 0 is one that the system chooses",
     },
     Described {
         name: "log-level",
