@@ -1,3 +1,2 @@
-mod ShardExports
 mod Journals
 mod Lengths
