@@ -1,2 +1,2 @@
-mod Journals
+mod Begun
 mod Lengths

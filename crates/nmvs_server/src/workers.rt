@@ -23,7 +23,7 @@ use std::fs::File;
 use std::rt::{Clock, Files};
 use std::sync::Wait;
 use std::thread;
-use std::thread::{JoinHandle, Threads};
+use std::thread::Threads;
 use std::time::Duration;
 
 /// How far the connections of so many workers may go.
@@ -70,7 +70,8 @@ fn work<'r, R: Wait + Clock + Log, J: Naming, H: Histories>(
 
 /// Whether all workers are there. It waits until that is known.
 fn may_begin<R: Wait, J: Naming, H: Histories>(shared: &Shared<'_, '_, '_, '_, R, J, H>) -> bool {
-    *shared.ready.lock(shared.server.config.run.rt)
+    let run = &shared.server.config.run;
+    *shared.ready.lock(run.rt)
 }
 
 /// The desk of the clerk of the worker of this number.
@@ -115,9 +116,9 @@ fn keep_door<R: Wait + Log, J: Naming, H: Histories>(
     door: Station,
 ) {
     let server = shared.server;
-    let rt = server.config.run.rt;
-    if admit(rt, shared.hall, server.listener, door).is_err() {
-        shared.hall.stop(rt);
+    let run = &server.config.run;
+    if admit(run.rt, shared.hall, server.listener, door).is_err() {
+        shared.hall.stop(run.rt);
     }
 }
 
@@ -135,21 +136,20 @@ pub(crate) fn serve_connections<
     H: Histories + Send + Sync,
     T: Sides,
 >(
+    shared: &Shared<'_, '_, 'r, '_, R, J, H>,
     clerks: Vec<Clerk<'r, J, H>, &'r Global>,
     stations: (Vec<Station>, Station),
     service: &mut Running<'_, '_, 'r, '_, R, J, H>,
     registrar: &mut Registrar<J, &'r R, &'r Global>,
     console: &mut Console<T>,
 ) -> Result<Vec<Clerk<'r, J, H>, &'r Global>, AllocError> {
-    let shared = service.shared;
     let run = &shared.server.config.run;
-    // Room for the clerks is made before anything is served, so that no trail is lost for want of it.
-    let back = Vec::with_capacity(run.alloc, clerks.len())?;
-    let room = Vec::with_capacity(*run.alloc, clerks.len())?;
     let (stations, door) = stations;
     thread::scope(thread::scope_env(), run.rt, |scope| {
         let mut ready = shared.ready.lock(run.rt);
-        let mut workers = room;
+        let mut workers = Vec::with_capacity(*run.alloc, clerks.len())?;
+        // room for the clerks is made before anything is served, so that no trail is lost for want of it
+        let mut back = Vec::with_capacity(run.alloc, clerks.len())?;
         let mut number = 0usize;
         for (clerk, station) in clerks.into_iter().zip(stations) {
             let place = number;
@@ -166,23 +166,12 @@ pub(crate) fn serve_connections<
         *ready = true;
         drop(ready);
         take_commands(service, registrar, console);
-        let back = join_all(run.rt, workers, back);
+        for worker in workers {
+            back.push(worker.join(run.rt))?;
+        }
         doorkeeper.join(run.rt);
-        back
+        Ok(back)
     })
-}
-
-/// Waits for the workers, and gives their clerks back.
-fn join_all<'r, R: Threads + Wait, J: Naming, H: Histories>(
-    rt: &R,
-    workers: Vec<JoinHandle<Clerk<'r, J, H>>>,
-    room: Vec<Clerk<'r, J, H>, &'r Global>,
-) -> Result<Vec<Clerk<'r, J, H>, &'r Global>, AllocError> {
-    let mut clerks = room;
-    for worker in workers {
-        clerks.push(worker.join(rt))?;
-    }
-    Ok(clerks)
 }
 
 /// Says that the workers serve, and carries out the operator's commands until these end.

@@ -1,4 +1,4 @@
-use Rattle.nmvs_server.proofs.Journals.{at_place}
+use Rattle.nmvs_server.proofs.Begun.{at_place}
 use Rattle.nmvs_server.proofs.launch.serve_journals.Goals as goal
 
 pub open-requires : goal.open-requires
