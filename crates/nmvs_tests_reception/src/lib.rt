@@ -7,13 +7,11 @@ mod clerk_desk;
 #[cfg(test)]
 mod clock;
 #[cfg(test)]
-mod dialogues;
+mod buffered_sessions;
 #[cfg(test)]
 mod journal_desk;
 #[cfg(test)]
 mod journal_file;
-#[cfg(test)]
-mod rates;
 #[cfg(test)]
 mod recovering;
 #[cfg(test)]
