@@ -1,4 +1,4 @@
-use Rattle.std.proofs.Common.{◌≡◌, ◌∙◌, ℕ, List, Option, None, inr, take, refl, sym, ap, subst, arith, rules}
+use Rattle.std.proofs.Common.{◌≡◌, ◌∙◌, ◌++◌, ℕ, List, Option, None, inr, take, refl, sym, ap, subst, arith, rules}
 use Rattle.nmvs_messages.specs.declared.peer.Peer.{Peer}
 use Rattle.nmvs_connections.specs.Turns.{TakesBy}
 use Rattle.nmvs_stream.specs.InputLines.{input_lines, lines_after, unfinished_line}

@@ -1,4 +1,4 @@
-use Rattle.std.proofs.Common.{◌≡◌, ◌∙◌, ◌++◌, ◌==◌, ℕ, List, [], true, take, drop, length, refl, sym, ap, subst, rules}
+use Rattle.std.proofs.Common.{◌≡◌, ◌∙◌, ◌++◌, ◌==◌, ℕ, Bool, true, cond, not, List, [], take, drop, length, refl, sym, ap, subst, rules}
 use Rattle.nmvs_connections.specs.Peers.{Holds}
 use Rattle.nmvs_connections.specs.Traffic.{Traffic}
 use Rattle.nmvs_connections.specs.declared.peer_session.Stage.TheVariants as stages
@@ -19,7 +19,7 @@ pub invariant_of-self-then-is_err : goal.invariant_of-self-then-is_err
 invariant_of-self-then-is_err g c =
     let is = c.self.inside in
     let serving : is.stage ≡ stages.Serving = ap (λ p. p.stage) c.self.view_is ∙ c.requires in
-    let some : c.is_empty.result ≡ true = first_of (c.if-not-is_empty.false, search rules) in
+    let some : c.is_empty.result ≡ true = first_of (search rules, cc (c.if-not-is_empty.false)) in
     let none : is.unread.items ≡ [] = empty is.unread.items (ap (λ (l : List ℕ). length l == 0) (sym c.as_slice.ensures.value) ∙ sym c.is_empty.ensures ∙ some) in
     let chunk = take c.in-Bytes.count c.read.new.buffer in
     let read = holds_read chunk c.self.invariant in
@@ -33,7 +33,7 @@ pub invariant_of-self-else-is_err : goal.invariant_of-self-else-is_err
 invariant_of-self-else-is_err g c =
     let is = c.self.inside in
     let serving : is.stage ≡ stages.Serving = ap (λ p. p.stage) c.self.view_is ∙ c.requires in
-    let some : c.is_empty.result ≡ true = first_of (c.if-not-is_empty.false, search rules) in
+    let some : c.is_empty.result ≡ true = first_of (search rules, cc (c.if-not-is_empty.false)) in
     let none : is.unread.items ≡ [] = empty is.unread.items (ap (λ (l : List ℕ). length l == 0) (sym c.as_slice.ensures.value) ∙ sym c.is_empty.ensures ∙ some) in
     let chunk = take c.in-Bytes.count c.read.new.buffer in
     let n = c.take_lines-taken.result in
@@ -42,5 +42,7 @@ invariant_of-self-else-is_err g c =
     subst (λ (u : List ℕ). Holds is.proxy is.peer is.stage (is.stream.received ++ chunk) is.stream.sent is.session.fed is.session.sent (u ++ chunk)) none read in
     let came = subst (λ (t : Traffic). Holds is.proxy is.peer is.stage t.received t.sent is.session.fed is.session.sent chunk) (sym c.in-Bytes.ensures.1) unread in
     let e = c.take_lines-taken.ensures in
-    let grown : c.extend_from_slice.new.self.items ≡ is.unread.items ++ drop n chunk = search rules in
+    let ok = c.is_err.ensures.negation ∙ ap (λ (b : Bool). not b) c.if-is_err.false in
+    let grown : c.extend_from_slice.new.self.items ≡ is.unread.items ++ drop n chunk =
+    c.extend_from_slice.ensures.items ∙ ap (λ (b : Bool). cond b (is.unread.items ++ drop n chunk) is.unread.items) ok in
     holds_taken is.proxy is.peer n e.known serving e.fed e.sent (grown ∙ ap (λ (u : List ℕ). u ++ drop n chunk) none) came
