@@ -1,5 +1,5 @@
 -- How the bytes of a connection stay those of its session, from one read or write to the next.
-use Rattle.std.proofs.Common.{◌≡◌, ◌≤◌, ◌-◌, ◌==◌, inl, inr, ℕ, true, List, [], ◌∷◌, ◌++◌, length, Option, Some, None, take, drop, codes, arith, refl, sym, ap, subst, ◌∙◌}
+use Rattle.std.proofs.Common.{◌≡◌, ◌≤◌, ◌-◌, ◌==◌, inl, inr, ℕ, Bool, true, false, cond, List, [], ◌∷◌, ◌++◌, length, Option, Some, None, take, drop, codes, arith, refl, sym, ap, subst, ◌∙◌}
 use Rattle.std.proofs.lemmas.Bool.Decides.{eqb_tells}
 use Rattle.std.proofs.lemmas.List.{append-nil, append_assoc, length-drop, take-append-drop, take_at}
 use Rattle.nmvs_messages.specs.declared.peer.NameOf.{NameOf}
@@ -28,6 +28,11 @@ pub cut_front : (n : ℕ) (xs : List ℕ) (count : ℕ) → n ≤ length xs → 
 cut_front n xs count within is =
     let left = length-drop n xs in
     take_at (drop n xs) (take n xs) (count - n) (omega (arith, left, within, is))
+
+-- what a list grew by, where it did
+pub grown_of : (ok : Bool) (items old more : List ℕ) → items ≡ cond ok (old ++ more) old → ok ≡ true → items ≡ old ++ more
+grown_of true items old more is yes = is
+grown_of false items old more is yes = absurd (cc yes)
 
 -- a connection from which nothing was read
 pub holds_new : Holds None (Some peers.Anyone) stages.Serving [] [] [] [] []

@@ -32,7 +32,7 @@ pub(crate) struct Connection {
     /// The number of the connection, in the order in which they were accepted.
     pub(crate) number: usize,
     session: PeerSession,
-    /// Whether the peer is told that it sent nothing for too long.
+    /// Whether the peer sent nothing for too long.
     was_idle: bool,
     /// When bytes were moved last.
     moved: Instant,

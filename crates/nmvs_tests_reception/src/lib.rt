@@ -3,11 +3,11 @@
 #![tactic(auto)]
 
 #[cfg(test)]
+mod buffered_sessions;
+#[cfg(test)]
 mod clerk_desk;
 #[cfg(test)]
 mod clock;
-#[cfg(test)]
-mod buffered_sessions;
 #[cfg(test)]
 mod journal_desk;
 #[cfg(test)]

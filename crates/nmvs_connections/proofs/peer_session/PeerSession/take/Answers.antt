@@ -1,9 +1,10 @@
-use Rattle.std.proofs.Common.{◌≡◌, ◌∙◌, ◌++◌, ◌==◌, ℕ, Bool, true, cond, not, List, [], take, drop, length, refl, sym, ap, subst, rules}
+use Rattle.std.proofs.Common.{◌≡◌, ◌∙◌, ◌++◌, ◌==◌, ℕ, Bool, true, not, List, [], take, drop, length, refl, sym, ap, subst, rules}
+use Rattle.std.specs.Result.{is_ok}
 use Rattle.nmvs_connections.specs.Peers.{Holds}
 use Rattle.nmvs_connections.specs.Traffic.{Traffic}
 use Rattle.nmvs_connections.specs.declared.peer_session.Stage.TheVariants as stages
 use Rattle.nmvs_connections.proofs.ConnectionLemmas.{kept_same, steps_kept}
-use Rattle.nmvs_connections.proofs.PeerSteps.{empty, holds_over, holds_read, holds_taken}
+use Rattle.nmvs_connections.proofs.PeerSteps.{empty, grown_of, holds_over, holds_read, holds_taken}
 use Rattle.nmvs_connections.proofs.peer_session.PeerSession.take.Goals as goal
 
 pub returns-in-Blocked : goal.returns-in-Blocked
@@ -42,7 +43,6 @@ invariant_of-self-else-is_err g c =
     subst (λ (u : List ℕ). Holds is.proxy is.peer is.stage (is.stream.received ++ chunk) is.stream.sent is.session.fed is.session.sent (u ++ chunk)) none read in
     let came = subst (λ (t : Traffic). Holds is.proxy is.peer is.stage t.received t.sent is.session.fed is.session.sent chunk) (sym c.in-Bytes.ensures.1) unread in
     let e = c.take_lines-taken.ensures in
-    let ok = c.is_err.ensures.negation ∙ ap (λ (b : Bool). not b) c.if-is_err.false in
-    let grown : c.extend_from_slice.new.self.items ≡ is.unread.items ++ drop n chunk =
-    c.extend_from_slice.ensures.items ∙ ap (λ (b : Bool). cond b (is.unread.items ++ drop n chunk) is.unread.items) ok in
+    let ok : is_ok c.extend_from_slice.result ≡ true = c.is_err.ensures.negation ∙ ap (λ (b : Bool). not b) c.if-is_err.false in
+    let grown = grown_of (is_ok c.extend_from_slice.result) c.extend_from_slice.new.self.items is.unread.items (drop n chunk) c.extend_from_slice.ensures.items ok in
     holds_taken is.proxy is.peer n e.known serving e.fed e.sent (grown ∙ ap (λ (u : List ℕ). u ++ drop n chunk) none) came
