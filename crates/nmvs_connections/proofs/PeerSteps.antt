@@ -31,8 +31,8 @@ cut_front n xs count within is =
 
 -- what a list grew by, where it did
 pub grown_of : (ok : Bool) (items old more : List ℕ) → items ≡ cond ok (old ++ more) old → ok ≡ true → items ≡ old ++ more
-grown_of true items old more is yes = is
-grown_of false items old more is yes = absurd (cc yes)
+grown_of true items old more is holds = is
+grown_of false items old more is holds = absurd (cc holds)
 
 -- a connection from which nothing was read
 pub holds_new : Holds None (Some peers.Anyone) stages.Serving [] [] [] [] []

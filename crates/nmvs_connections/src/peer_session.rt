@@ -1,5 +1,5 @@
 //! The session of the peer of a connection, over its bytes.
-ghost use Rattle.std.specs.Prelude.{◌≡◌, ◌≤◌, ◌++◌, List, ℕ, Some, None, IfSome, length, take};
+ghost use Rattle.std.specs.Prelude.{◌≡◌, ◌≤◌, ◌++◌, if◌then◌else◌, List, ℕ, Some, None, IfSome, length, take};
 ghost use Rattle.nmvs_messages.specs.Peers.{TakesFrom};
 ghost use Rattle.nmvs_connections.specs.declared.next.Next.{Next as TheNext};
 ghost use Rattle.nmvs_connections.specs.declared.peer_session.Stage.TheVariants as stages;
@@ -217,10 +217,10 @@ impl PeerSession {
         self.filled = count == READ_SIZE;
         let taken = take_lines(&mut self.session, &self.peer, chunk, withheld, desk);
         let next = next_of(taken == count, withheld);
-        if self.unread.extend_from_slice(&chunk[taken..]).is_err() {
-            self.stage = Stage::Ending;
+        if keep(&mut self.unread, &chunk[taken..]) {
             return next;
         }
+        self.stage = Stage::Ending;
         next
     }
 
@@ -324,6 +324,16 @@ fn begin_session<R: Wait>(
         Some(true)
     } else {
         None
+    }
+}
+
+/// Keeps these bytes too, where there is memory for them.
+fn keep(unread: &mut Vec<u8>, rest: &[u8]) -> bool
+    ensures { unread.new.items ≡ (if result then unread.old.items ++ rest.now else unread.old.items) }
+{
+    match unread.extend_from_slice(rest) {
+        Ok(()) => true,
+        Err(_) => false,
     }
 }
 
