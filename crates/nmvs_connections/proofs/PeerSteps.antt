@@ -1,7 +1,7 @@
 -- How the bytes of a connection stay those of its session, from one read or write to the next.
 use Rattle.std.proofs.Common.{◌≡◌, ◌≤◌, ◌-◌, ◌==◌, inl, inr, ℕ, Bool, true, false, cond, List, [], ◌∷◌, ◌++◌, length, Option, Some, None, take, drop, codes, arith, refl, sym, ap, subst, ◌∙◌}
 use Rattle.std.proofs.lemmas.Bool.Decides.{eqb_tells}
-use Rattle.std.proofs.lemmas.List.{append-nil, append_assoc, length-drop, take-append-drop, take_at}
+use Rattle.std.proofs.lemmas.List.{append-nil, append_assoc, length-drop, take-append-drop, take_all, take_at}
 use Rattle.nmvs_messages.specs.declared.peer.NameOf.{NameOf}
 use Rattle.nmvs_messages.specs.declared.peer.Peer.{Peer}
 use Rattle.nmvs_messages.specs.declared.peer.Peer.TheVariants as peers
@@ -29,10 +29,12 @@ cut_front n xs count within is =
     let left = length-drop n xs in
     take_at (drop n xs) (take n xs) (count - n) (omega (arith, left, within, is))
 
--- what a list grew by, where it did
-pub grown_of : (ok : Bool) (items old more : List ℕ) → items ≡ cond ok (old ++ more) old → ok ≡ true → items ≡ old ++ more
-grown_of true items old more is holds = is
-grown_of false items old more is holds = absurd (cc holds)
+-- what is left of bytes is kept behind nothing, where it was not lost
+pub kept_rest : (lost : Bool) (items old bytes : List ℕ) (n : ℕ) → items ≡ cond lost old (old ++ take (length bytes - n) (drop n bytes)) → lost ≡ false → old ≡ [] → items ≡ drop n bytes
+kept_rest true items old bytes n is holds none = absurd (cc holds)
+kept_rest false items old bytes n is holds none =
+    let left = length-drop n bytes in
+    is ∙ ap (λ (t : List ℕ). t ++ take (length bytes - n) (drop n bytes)) none ∙ take_all (length bytes - n) (drop n bytes) (omega (arith, left))
 
 -- a connection from which nothing was read
 pub holds_new : Holds None (Some peers.Anyone) stages.Serving [] [] [] [] []

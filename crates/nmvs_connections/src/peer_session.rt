@@ -217,10 +217,10 @@ impl PeerSession {
         self.filled = count == READ_SIZE;
         let taken = take_lines(&mut self.session, &self.peer, chunk, withheld, desk);
         let next = next_of(taken == count, withheld);
-        if keep(&mut self.unread, &chunk[taken..]) {
+        if is_lost(&mut self.unread, &chunk[taken..]) {
+            self.stage = Stage::Ending;
             return next;
         }
-        self.stage = Stage::Ending;
         next
     }
 
@@ -327,13 +327,13 @@ fn begin_session<R: Wait>(
     }
 }
 
-/// Keeps these bytes too, where there is memory for them.
-fn keep(unread: &mut Vec<u8>, rest: &[u8]) -> bool
-    ensures { unread.new.items ≡ (if result then unread.old.items ++ rest.now else unread.old.items) }
+/// Keeps these bytes too, or tells that there was no memory for them.
+fn is_lost(unread: &mut Vec<u8>, rest: &[u8]) -> bool
+    ensures { unread.new.items ≡ (if result then unread.old.items else unread.old.items ++ rest.now) }
 {
     match unread.extend_from_slice(rest) {
-        Ok(()) => true,
-        Err(_) => false,
+        Ok(()) => false,
+        Err(_) => true,
     }
 }
 

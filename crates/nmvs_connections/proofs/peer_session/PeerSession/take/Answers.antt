@@ -3,7 +3,7 @@ use Rattle.nmvs_connections.specs.Peers.{Holds}
 use Rattle.nmvs_connections.specs.Traffic.{Traffic}
 use Rattle.nmvs_connections.specs.declared.peer_session.Stage.TheVariants as stages
 use Rattle.nmvs_connections.proofs.ConnectionLemmas.{kept_same, steps_kept}
-use Rattle.nmvs_connections.proofs.PeerSteps.{empty, grown_of, holds_over, holds_read, holds_taken}
+use Rattle.nmvs_connections.proofs.PeerSteps.{empty, kept_rest, holds_over, holds_read, holds_taken}
 use Rattle.nmvs_connections.proofs.peer_session.PeerSession.take.Goals as goal
 
 pub returns-in-Blocked : goal.returns-in-Blocked
@@ -15,8 +15,8 @@ returns-in-Over g c = rw (← c.self.view_is) (steps_kept _ _ _ _ _ _ _ _ refl r
 pub returns-in_default : goal.returns-in_default
 returns-in_default g c = rw (← c.self.view_is) (steps_kept _ _ _ _ _ _ _ _ refl refl (kept_same _ _ refl) (λ peer known. known) (c.self.inside.unread.items, c.self.invariant))
 
-pub invariant_of-self-else-keep : goal.invariant_of-self-else-keep
-invariant_of-self-else-keep g c =
+pub invariant_of-self-then-is_lost : goal.invariant_of-self-then-is_lost
+invariant_of-self-then-is_lost g c =
     let is = c.self.inside in
     let serving : is.stage ≡ stages.Serving = ap (λ p. p.stage) c.self.view_is ∙ c.requires in
     let some : c.is_empty.result ≡ true = first_of (search rules, cc (c.if-not-is_empty.false)) in
@@ -27,10 +27,10 @@ invariant_of-self-else-keep g c =
     subst (λ (u : List ℕ). Holds is.proxy is.peer is.stage (is.stream.received ++ chunk) is.stream.sent is.session.fed is.session.sent (u ++ chunk)) none read in
     let came = subst (λ (t : Traffic). Holds is.proxy is.peer is.stage t.received t.sent is.session.fed is.session.sent chunk) (sym c.in-Bytes.ensures.1) unread in
     let e = c.take_lines-taken.ensures in
-    holds_over c.keep.new.unread.items serving (holds_taken is.proxy is.peer c.take_lines-taken.result e.known serving e.fed e.sent refl came)
+    holds_over c.is_lost.new.unread.items serving (holds_taken is.proxy is.peer c.take_lines-taken.result e.known serving e.fed e.sent refl came)
 
-pub invariant_of-self-then-keep : goal.invariant_of-self-then-keep
-invariant_of-self-then-keep g c =
+pub invariant_of-self-else-is_lost : goal.invariant_of-self-else-is_lost
+invariant_of-self-else-is_lost g c =
     let is = c.self.inside in
     let serving : is.stage ≡ stages.Serving = ap (λ p. p.stage) c.self.view_is ∙ c.requires in
     let some : c.is_empty.result ≡ true = first_of (search rules, cc (c.if-not-is_empty.false)) in
@@ -42,5 +42,5 @@ invariant_of-self-then-keep g c =
     subst (λ (u : List ℕ). Holds is.proxy is.peer is.stage (is.stream.received ++ chunk) is.stream.sent is.session.fed is.session.sent (u ++ chunk)) none read in
     let came = subst (λ (t : Traffic). Holds is.proxy is.peer is.stage t.received t.sent is.session.fed is.session.sent chunk) (sym c.in-Bytes.ensures.1) unread in
     let e = c.take_lines-taken.ensures in
-    let grown = grown_of c.keep.result c.keep.new.unread.items is.unread.items (drop n chunk) c.keep.ensures c.if-keep.true in
-    holds_taken is.proxy is.peer n e.known serving e.fed e.sent (grown ∙ ap (λ (u : List ℕ). u ++ drop n chunk) none) came
+    let left = kept_rest c.is_lost.result c.is_lost.new.unread.items is.unread.items chunk n c.is_lost.ensures c.if-is_lost.false none in
+    holds_taken is.proxy is.peer n e.known serving e.fed e.sent left came
