@@ -1,3 +1,3 @@
 mod RepliesSteps
-mod SeatLemmas
+mod ConnectionLemmas
 mod TurnSteps

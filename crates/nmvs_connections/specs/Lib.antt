@@ -1,4 +1,4 @@
 pub mod Replies
 pub mod Moved
-pub mod Greeting
+pub mod ProxyHeader
 pub mod Turns

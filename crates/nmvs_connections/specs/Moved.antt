@@ -1,7 +1,7 @@
 -- Reads and writes of a connection (own).
 use Rattle.std.specs.Prelude.{ℕ, ◌<◌, ◌≤◌}
-use Rattle.nmvs_connections.specs.declared.connection.Moved.{Moved}
-use Rattle.nmvs_connections.specs.declared.connection.Moved.TheVariants as moved
+use Rattle.nmvs_connections.specs.declared.stream.Moved.{Moved}
+use Rattle.nmvs_connections.specs.declared.stream.Moved.TheVariants as moved
 
 -- no more bytes were moved than there was room for
 abbrev pub IsWithin : Moved → ℕ → Type 0

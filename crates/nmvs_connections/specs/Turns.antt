@@ -12,10 +12,10 @@ use Rattle.nmvs_protocol.specs.Peers.{TakesOf}
 use Rattle.nmvs_messages.specs.Withheld.{AreReleased}
 use Rattle.nmvs_protocol.specs.Session.{TakesLines, session_text}
 use Rattle.nmvs_stream.specs.InputLines.{input_lines}
-use Rattle.nmvs_connections.specs.declared.seat.Seat.{Seat}
-use Rattle.nmvs_connections.specs.declared.seat.After.{After}
-use Rattle.nmvs_connections.specs.declared.seat.After.TheVariants as afters
-use Rattle.nmvs_connections.specs.Replies.{Talk, TellsPart, LacksMemory}
+use Rattle.nmvs_connections.specs.declared.connection.Connection.{Connection}
+use Rattle.nmvs_connections.specs.declared.connection.Next.{Next}
+use Rattle.nmvs_connections.specs.declared.connection.Next.TheVariants as nexts
+use Rattle.nmvs_connections.specs.Replies.{SessionState, TellsPart, LacksMemory}
 
 -- lines of the connection under this key that were taken together, each asked for the peer at its other end, and what was
 -- withheld of their answers
@@ -78,7 +78,7 @@ answers_in key (r ∷ more) = answers_to key r.takings r.said ++ answers_in key 
 
 -- a connection that bytes were fed to and replies were gathered for: the lines that were completed are its lines of these rounds,
 -- and the replies are the texts of the answers to them, in order, up to want of memory. It waits for no answer
-pub record Answered (key : ℕ) (rounds : List Round) (old new : Talk) : Type 0 where
+pub record Answered (key : ℕ) (rounds : List Round) (old new : SessionState) : Type 0 where
   pub lines : input_lines new.fed ≡ input_lines old.fed ++ lines_in key rounds
   pub text : List ℕ
   pub untold : List ℕ
@@ -88,18 +88,18 @@ pub record Answered (key : ℕ) (rounds : List Round) (old new : Talk) : Type 0 
   pub told : new.waiting ≡ 0
 
 -- each connection that is there was there, and has gone so
-abbrev pub EachGoes : (ℕ → Talk → Talk → Type 0) → Slab Seat → Slab Seat → Type 0
-EachGoes goes old new = (key : ℕ) (seat' : Seat) → get new key ≡ Some seat' → (seat : Seat) × (get old key ≡ Some seat) × goes key seat.dialogue seat'.dialogue
+abbrev pub EachGoes : (ℕ → SessionState → SessionState → Type 0) → Slab Connection → Slab Connection → Type 0
+EachGoes goes old new = (key : ℕ) (connection' : Connection) → get new key ≡ Some connection' → (connection : Connection) × (get old key ≡ Some connection) × goes key connection.session connection'.session
 
 -- a turn of a worker: rounds take the desk from old to new, and each connection that waited for no answer is answered in them,
 -- whatever others are served between its lines
-pub record WorkerTurn {D E : Type 0} (takes : D → Ask → Withheld → D → Type 0) (tells : D → Name → Result Name Turn → D → Type 0) (releases : D → E → Withheld → Answer → Type 0) (moves : D → D → Type 0) (old new : D) (seats seats' : Slab Seat) : Type 0 where
+pub record WorkerTurn {D E : Type 0} (takes : D → Ask → Withheld → D → Type 0) (tells : D → Name → Result Name Turn → D → Type 0) (releases : D → E → Withheld → Answer → Type 0) (moves : D → D → Type 0) (old new : D) (connections connections' : Slab Connection) : Type 0 where
   pub rounds : List Round
   pub desk : GoesRounds takes tells releases moves old rounds new
-  pub each : EachGoes (λ key talk talk'. talk.waiting ≡ 0 → Answered key rounds talk talk') seats seats'
+  pub each : EachGoes (λ key state state'. state.waiting ≡ 0 → Answered key rounds state state') connections connections'
 
 -- replies may have been sent, and nothing else
-pub record Kept (old new : Talk) : Type 0 where
+pub record Kept (old new : SessionState) : Type 0 where
   pub fed : new.fed ≡ old.fed
   pub text : new.sent ++ new.unsent ≡ old.sent ++ old.unsent
   pub ended : new.ended ≡ old.ended
@@ -107,7 +107,7 @@ pub record Kept (old new : Talk) : Type 0 where
   pub waiting : new.waiting ≡ old.waiting
 
 -- lines were taken, whose answers stand from this place on among those that are withheld
-pub record LinesTaken (lines : List (List ℕ)) (held : List Withheld) (first : ℕ) (old new : Talk) : Type 0 where
+pub record LinesTaken (lines : List (List ℕ)) (held : List Withheld) (first : ℕ) (old new : SessionState) : Type 0 where
   pub lines_are : input_lines new.fed ≡ input_lines old.fed ++ lines
   pub text : new.sent ++ new.unsent ≡ old.sent ++ old.unsent
   pub open_still : old.ended ≡ None
@@ -117,22 +117,22 @@ pub record LinesTaken (lines : List (List ℕ)) (held : List Withheld) (first : 
   pub sound : LacksMemory new.ended → ⊥
 
 -- the connection waits for a release
-abbrev pub IsAsking : After → Type 0
-IsAsking afters.Asks = Unit {0}
-IsAsking afters.AsksAtOnce = Unit {0}
-IsAsking _ = ⊥
+abbrev pub WaitsForRelease : Next → Type 0
+WaitsForRelease nexts.WaitRelease = Unit {0}
+WaitsForRelease nexts.ReleaseNow = Unit {0}
+WaitsForRelease _ = ⊥
 
 -- a connection's step behind what was withheld: it took these lines, and asks for their release; or none, and has done no more
 -- than to send
-pub record SeatSteps {D : Type 0} (takes : D → Ask → Withheld → D → Type 0) (tells : D → Name → Result Name Turn → D → Type 0) (peer : Peer) (old new : D) (withheld withheld' : List Withheld) (after : After) (talk talk' : Talk) : Type 0 where
+pub record ConnectionSteps {D : Type 0} (takes : D → Ask → Withheld → D → Type 0) (tells : D → Name → Result Name Turn → D → Type 0) (peer : Peer) (old new : D) (withheld withheld' : List Withheld) (next : Next) (state state' : SessionState) : Type 0 where
   pub lines : List (List ℕ)
   pub held : List Withheld
   pub behind : withheld' ≡ withheld ++ held
   pub desk : TakesLines (TakesOf takes tells peer) old lines held new
-  pub goes : (Kept talk talk' × (lines ≡ []) × (held ≡ [])) ⊎ (IsAsking after × LinesTaken lines held (length withheld) talk talk')
+  pub goes : (Kept state state' × (lines ≡ []) × (held ≡ [])) ⊎ (WaitsForRelease next × LinesTaken lines held (length withheld) state state')
 
 -- the connection told its part of what was released
-pub record TellsOwn (released : List Answer) (old new : Talk) : Type 0 where
+pub record TellsOwn (released : List Answer) (old new : SessionState) : Type 0 where
   pub fed : new.fed ≡ old.fed
   pub text : List ℕ
   pub replies : new.sent ++ new.unsent ≡ (old.sent ++ old.unsent) ++ text
@@ -140,26 +140,26 @@ pub record TellsOwn (released : List Answer) (old new : Talk) : Type 0 where
   pub told : new.waiting ≡ 0
 
 -- each connection that asked told its part of what was released, once; no other did anything
-abbrev pub TellsWhereAsked : List Answer → List ℕ → ℕ → Talk → Talk → Type 0
-TellsWhereAsked released asking key old new = TellsOwn released old new ⊎ ((new ≡ old) × (Contains asking key → ⊥))
+abbrev pub TellsWhereAsked : List Answer → List ℕ → ℕ → SessionState → SessionState → Type 0
+TellsWhereAsked released awaiting key old new = TellsOwn released old new ⊎ ((new ≡ old) × (Contains awaiting key → ⊥))
 
 -- what was withheld is released at once, and each connection that asked tells its part of that
-pub record TellsAll {D E : Type 0} (releases : D → E → Withheld → Answer → Type 0) (moves : D → D → Type 0) (old new : D) (withheld : List Withheld) (asking : List ℕ) (seats seats' : Slab Seat) : Type 0 where
+pub record TellsAll {D E : Type 0} (releases : D → E → Withheld → Answer → Type 0) (moves : D → D → Type 0) (old new : D) (withheld : List Withheld) (awaiting : List ℕ) (connections connections' : Slab Connection) : Type 0 where
   pub said : List Answer
   pub released : ReleasesAll releases moves old withheld said new
-  pub each : EachGoes (TellsWhereAsked said asking) seats seats'
+  pub each : EachGoes (TellsWhereAsked said awaiting) connections connections'
 
 -- lines of the connection were taken, and it asks for the release of their answers; or none, and it has done no more than to send
-abbrev pub StepsOrStays : List ℕ → ℕ → List (List ℕ) → List Withheld → ℕ → Talk → Talk → Type 0
-StepsOrStays asking key lines held first old new = (Kept old new × (lines ≡ []) × (held ≡ [])) ⊎ (Contains asking key × LinesTaken lines held first old new)
+abbrev pub StepsOrStays : List ℕ → ℕ → List (List ℕ) → List Withheld → ℕ → SessionState → SessionState → Type 0
+StepsOrStays awaiting key lines held first old new = (Kept old new × (lines ≡ []) × (held ≡ [])) ⊎ (Contains awaiting key × LinesTaken lines held first old new)
 
 -- the turn of the connection under this key: the desk goes through the takes of its lines, and their answers are put behind those
 -- that are withheld; if there are any, it asks for their release. No other connection has changed
-pub record TurnOfOne {D : Type 0} (takes : D → Ask → Withheld → D → Type 0) (tells : D → Name → Result Name Turn → D → Type 0) (key : ℕ) (old new : D) (withheld withheld' : List Withheld) (asking asking' : List ℕ) (seats seats' : Slab Seat) : Type 0 where
+pub record TurnOfOne {D : Type 0} (takes : D → Ask → Withheld → D → Type 0) (tells : D → Name → Result Name Turn → D → Type 0) (key : ℕ) (old new : D) (withheld withheld' : List Withheld) (awaiting awaiting' : List ℕ) (connections connections' : Slab Connection) : Type 0 where
   pub peer : Peer
   pub lines : List (List ℕ)
   pub held : List Withheld
   pub behind : withheld' ≡ withheld ++ held
   pub desk : TakesLines (TakesOf takes tells peer) old lines held new
-  pub still : (other : ℕ) → Contains asking other → Contains asking' other
-  pub each : EachGoes (λ other talk talk'. (other ≢ key → talk' ≡ talk) × (other ≡ key → StepsOrStays asking' key lines held (length withheld) talk talk')) seats seats'
+  pub still : (other : ℕ) → Contains awaiting other → Contains awaiting' other
+  pub each : EachGoes (λ other state state'. (other ≢ key → state' ≡ state) × (other ≡ key → StepsOrStays awaiting' key lines held (length withheld) state state')) connections connections'

@@ -1,7 +1,7 @@
 //! What a run uses of the machine, and what it goes by.
 use crate::timed_file::JournalStore;
 use log::Log;
-use nmvs_connections::{Hall, Listener};
+use nmvs_connections::{Listener, WorkerPool};
 use nmvs_desk::Repository;
 use nmvs_directory::{Naming, Notice};
 use nmvs_figures::Panel;
@@ -43,7 +43,7 @@ pub(crate) struct Run<'r, 'o, H> {
 pub(crate) struct Shared<'s, 'f, 'r, 'o, R, J: Naming, H: Histories> {
     pub(crate) run: &'s Run<'r, 'o, R>,
     pub(crate) listener: &'s Listener,
-    pub(crate) hall: &'s Hall<'r>,
+    pub(crate) pool: &'s WorkerPool<'r>,
     pub(crate) repository: &'s Repository<'r, H>,
     /// Where answers wait for the journals, where there are journals.
     pub(crate) offices: &'s Option<Offices<'f, 'r, JournalStore<'r>, H>>,

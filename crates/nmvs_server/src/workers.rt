@@ -7,7 +7,7 @@ use crate::host::{Run, Shared};
 use crate::journal_files::JournalAlarm;
 use crate::service::Running;
 use log::{Log, info};
-use nmvs_connections::{Bounds, Hall, Listener, Station, admit, serve};
+use nmvs_connections::{Bounds, Listener, Poller, WorkerPool, accept_loop, serve};
 use nmvs_desk::Clerk;
 use nmvs_directory::{Naming, Registrar};
 use nmvs_history::Histories;
@@ -52,7 +52,7 @@ fn work<'r, R: Wait + Clock + Log, J: Naming, H: Histories>(
     shared: &Shared<'_, '_, 'r, '_, R, J, H>,
     clerk: Clerk<'r, J, H>,
     number: usize,
-    station: Station,
+    poller: Poller,
 ) -> Clerk<'r, J, H> {
     let run = shared.run;
     if !*shared.ready.lock(run.rt) {
@@ -69,7 +69,7 @@ fn work<'r, R: Wait + Clock + Log, J: Naming, H: Histories>(
         tally,
     );
     match shared.offices {
-        None => serve_by_desk(shared, number, station, desk).into_clerk(),
+        None => serve_by_desk(shared, number, poller, desk).into_clerk(),
         Some(offices) => {
             let alarm = JournalAlarm {
                 rt: run.rt,
@@ -77,7 +77,7 @@ fn work<'r, R: Wait + Clock + Log, J: Naming, H: Histories>(
                 panel: run.panel,
             };
             let desk = JournalDesk::new(desk, offices, alarm);
-            serve_by_desk(shared, number, station, desk).into_clerk()
+            serve_by_desk(shared, number, poller, desk).into_clerk()
         }
     }
 }
@@ -87,26 +87,26 @@ fn work<'r, R: Wait + Clock + Log, J: Naming, H: Histories>(
 fn serve_by_desk<'r, R: Wait + Clock + Log, J: Naming, H: Histories, D: Desk<'r> + Authorisations>(
     shared: &Shared<'_, '_, 'r, '_, R, J, H>,
     number: usize,
-    station: Station,
+    poller: Poller,
     desk: D,
 ) -> D {
     let run = shared.run;
     let mut own = OwnDesk::new(RatedDesk::new(desk, Gate::new(run.rt, shared.rates.as_ref())));
-    if serve(run.rt, *run.alloc, shared.hall, number, station, &mut own).is_err() {
-        shared.hall.stop(run.rt);
+    if serve(run.rt, *run.alloc, shared.pool, number, poller, &mut own).is_err() {
+        shared.pool.stop(run.rt);
     }
     own.into_desk().into_desk()
 }
 
 /// Accepts connections for the workers. Where it can't go on it ends the service.
-fn keep_door<R: Wait + Log>(rt: &R, hall: &Hall<'_>, listener: &Listener, door: Station) {
-    if admit(rt, hall, listener, door).is_err() {
-        hall.stop(rt);
+fn accept<R: Wait + Log>(rt: &R, pool: &WorkerPool<'_>, listener: &Listener, acceptor: Poller) {
+    if accept_loop(rt, pool, listener, acceptor).is_err() {
+        pool.stop(rt);
     }
 }
 
 /// Serves connections in as many threads as there are clerks, accepts them in one more, and carries out the operator's
-/// commands in this one. It returns the clerks once the commands have ended and the hall has closed.
+/// commands in this one. It returns the clerks once the commands have ended and the pool has closed.
 ///
 /// # Errors
 ///
@@ -121,29 +121,29 @@ pub(crate) fn serve_connections<
 >(
     shared: &Shared<'_, '_, 'r, '_, R, J, H>,
     clerks: Vec<Clerk<'r, J, H>, &'r Global>,
-    stations: (Vec<Station>, Station),
+    pollers: (Vec<Poller>, Poller),
     users: Option<KeptUsers<File>>,
     registrar: &mut Registrar<J, &'r R, &'r Global>,
     console: &mut Console<T>,
 ) -> Result<Vec<Clerk<'r, J, H>, &'r Global>, AllocError> {
     let run = shared.run;
-    let (stations, door) = stations;
+    let (pollers, acceptor) = pollers;
     thread::scope(thread::scope_env(), run.rt, |scope| {
         let mut ready = shared.ready.lock(run.rt);
         let mut workers = Vec::with_capacity(*run.alloc, clerks.len())?;
         // room for the clerks is made before anything is served, so that no trail is lost for want of it
         let mut back = Vec::with_capacity(run.alloc, clerks.len())?;
         let mut number = 0usize;
-        for (clerk, station) in clerks.into_iter().zip(stations) {
+        for (clerk, poller) in clerks.into_iter().zip(pollers) {
             let place = number;
-            match scope.spawn(move || work(shared, clerk, place, station)) {
+            match scope.spawn(move || work(shared, clerk, place, poller)) {
                 Ok(worker) => workers.push(worker)?,
                 Err(_) => return Err(AllocError),
             }
             number = number.saturating_add(1);
         }
-        let (hall, listener) = (shared.hall, shared.listener);
-        let Ok(doorkeeper) = scope.spawn(move || keep_door(run.rt, hall, listener, door)) else {
+        let (pool, listener) = (shared.pool, shared.listener);
+        let Ok(accepting) = scope.spawn(move || accept(run.rt, pool, listener, acceptor)) else {
             return Err(AllocError);
         };
         *ready = true;
@@ -156,7 +156,7 @@ pub(crate) fn serve_connections<
         for worker in workers {
             back.push(worker.join(run.rt))?;
         }
-        doorkeeper.join(run.rt);
+        accepting.join(run.rt);
         Ok(back)
     })
 }
