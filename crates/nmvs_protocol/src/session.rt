@@ -13,7 +13,8 @@ use crate::read_line;
 use crate::replies::wording;
 use crate::tags::tag_text;
 use nmvs_messages::{
-    Answer, Content, Desk, End, Line, Peer, PendingLine, Released, Unread, Withheld, WithheldAnswers,
+    Answer, Content, Desk, End, Line, Peer, PendingLine, Released, Unread, Withheld,
+    WithheldAnswers,
 };
 use nmvs_stream::{Failed, Sink, cut_line, write_all};
 use std::alloc::Global;
