@@ -86,7 +86,7 @@ may_ask_this (asked.Report user c) r = may_report r
 -- a line is admitted, at the moment that the clock gave, in the capacity that the directory gives its user
 pub record Admits (notice : List Change) (old : DeskView) (from : Peer) (ask : Ask) (moment : ℕ) (actor : Actor) (new : DeskView) : Type 0 where
   pub knows : Knows notice old from ask true actor new
-  pub moment : pos moment ≡ new.gave
+  pub at : pos moment ≡ new.gave
   pub may : may_ask_this ask.asked actor.role ≡ true
 
 -- why a line is turned away. The first reason counts: the clock gives no moment; the directory does not know the user, or not
@@ -135,8 +135,8 @@ RestsOnAll shard t (Some basis) = (basis.shard ≡ shard) × (basis.place + 1 �
 -- the report of the product code on what the clerk has seen of its shard, and that it rests on all of that
 pub record Reports (new : DeskView) (shard : ℕ) (code : ProductCode) (said : Content) (basis : Option Basis) : Type 0 where
   pub text : List ℕ
-  pub said : said ≡ contents.Reported text
-  pub is : text ≡ report_text (row new.clerk.sights shard) code
+  pub is : said ≡ contents.Reported text
+  pub reports : text ≡ report_text (row new.clerk.sights shard) code
   pub rests : RestsOnAll shard (row new.clerk.sights shard) basis
 
 -- what the desk may answer to an admitted question

@@ -78,7 +78,7 @@ impl<'r, 'a, R: Wait + rt::Clock + Log, J: Naming, H: Histories, K: Clock> Clerk
         clock: K,
         tally: Tally<'r>,
     ) -> ClerkDesk<'r, 'a, R, J, H, K>
-        ensures { result ≡ record { clerk = clerk.entry; shards = repository.now.shards; rated = is_some limiter; asked = K.asked clock; gave = K.gave clock } }
+        ensures { result ≡ record { clerk = clerk.entry; shards = repository.now.shards; rated = is_some limiter.entry; asked = K.asked clock; gave = K.gave clock } }
     {
         ClerkDesk {
             rt,
