@@ -1,6 +1,6 @@
 -- How the program's desk answers.
 use Rattle.std.specs.Prelude.{slice_get}
-use Rattle.std.proofs.Common.{◌≡◌, ◌≢◌, ◌<◌, ◌+◌, ◌∙◌, ◌++◌, ◌∷◌, ℕ, ℤ, List, [], Option, Some, None, IfSome, length, refl, sym, ap, subst, inl, inr, arith, length-append}
+use Rattle.std.proofs.Common.{◌≡◌, ◌≢◌, ◌<◌, ◌+◌, ◌⊎◌, ◌∙◌, ◌++◌, ◌∷◌, ℕ, ℤ, Bool, true, List, [], Option, Some, None, IfSome, length, refl, sym, ap, subst, inl, inr, arith, length-append}
 use Rattle.std.specs.Borrow.{Bor}
 use Rattle.std.specs.Global.{Global}
 use Rattle.std.proofs.lemmas.Bool.Decides.{eqb_tells}
@@ -41,6 +41,12 @@ looks_up notice old user look told new times gave once moment learns seen latest
   reads = reads;
   same = λ i. record old { clerk = looks i; asked = times; gave = gave };
 }
+
+-- a line that the rate turns away, or want of memory
+pub over_rate : (notice : List Change) (old : DeskView) (from : Peer) (ask : Ask) (turn : Turn) (actor : Actor) (new : DeskView) → old.rated ≡ true
+    → (turn ≡ turns.Rate) ⊎ (turn ≡ turns.Memory) → Knows notice old from ask true actor new → Refuses notice old from ask turn new
+over_rate notice old from ask turn actor new rated (inl is) knows = subst (λ t. Refuses notice old from ask t new) (sym is) (rated, actor, knows)
+over_rate notice old from ask turn actor new rated (inr is) knows = subst (λ t. Refuses notice old from ask t new) (sym is) (rated, actor, knows)
 
 -- what the clerk has seen of the trails stays where the user is looked up
 looked : (notice : List Change) (old : DeskView) (user : Name) (look : Look) (new : DeskView) → LooksUp notice old user look new → new.clerk.sights ≡ old.clerk.sights
@@ -137,3 +143,12 @@ reaches old from ask said basis new serves =
 -- what is withheld rests on no more than was seen, where more was seen since
 pub within_more : (reach : List ℕ) (old new : List (List Entry)) → ((i : ℕ) → IsPrefix (row old i) (row new i)) → IsWithin reach old → IsWithin reach new
 within_more reach old new grown within i = omega (arith, within i, prefix_length (row old i) (row new i) (grown i))
+
+-- a release lets the receipts go
+pub lets_go : (was now : ClerkView) (shards : ℕ) (rated : Bool) (times : ℕ) (gave : ℤ) → ((i : ℕ) → IsPrefix (row was.sights i) (row now.sights i))
+    → now ≡ record was { sights = now.sights; receipts = [] }
+    → LetsGo (record { clerk = was; shards = shards; rated = rated; asked = times; gave = gave }) (record { clerk = now; shards = shards; rated = rated; asked = times; gave = gave })
+lets_go was now shards rated times gave begins same = record {
+  sights = begins;
+  same = λ i. record { clerk = same i; shards = shards; rated = rated; asked = times; gave = gave };
+}
