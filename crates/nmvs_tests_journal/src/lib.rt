@@ -5,3 +5,5 @@
 mod marks;
 #[cfg(test)]
 mod recovering;
+#[cfg(test)]
+mod waiting;
