@@ -1,28 +1,28 @@
 -- How a worker's turn goes on, from one connection's turn to the next and from release to release.
-use Rattle.std.proofs.Common.{◌≡◌, ◌≢◌, ◌≤◌, ◌<◌, ◌==◌, ◌+◌, ◌⊎◌, inl, inr, ℕ, List, [], ◌∷◌, ◌++◌, Option, Some, None, IsSome, Result, cond, length, take, drop, refl, sym, ap, subst, ◌∙◌, arith, rules}
+use Rattle.std.proofs.Common.{◌≡◌, ◌≢◌, ◌≤◌, ◌<◌, ◌==◌, ◌+◌, ◌⊎◌, inl, inr, ℕ, List, [], ◌∷◌, ◌++◌, Option, Some, None, IsSome, Result, cond, length, take, drop, All, refl, sym, ap, subst, ◌∙◌, arith, rules}
 use Rattle.std.specs.List.{Contains}
 use Rattle.std.proofs.lemmas.Bool.Decides.{eqb_tells, leb_tells}
 use Rattle.std.proofs.lemmas.Grind.{flat_map-append}
 use Rattle.std.proofs.lemmas.List.{append-nil, append_assoc, length-append, drop-drop}
-use Rattle.std.proofs.lemmas.List.Elements.{Contains-push_cases}
+use Rattle.std.proofs.lemmas.List.Elements.{All-append, All-cons, All-nil, All-tail, Contains-push_cases}
 use Rattle.slab.specs.Slab.{Slab, Updates, get, with_value}
 use Rattle.slab.proofs.SlabLemmas.{Updates-with_value}
-use Rattle.nmvs_identifier.specs.Name.{Name}
 use Rattle.nmvs_messages.specs.declared.ask.Ask.{Ask}
 use Rattle.nmvs_messages.specs.declared.answer.Answer.{Answer}
-use Rattle.nmvs_messages.specs.declared.answer.Turn.{Turn}
 use Rattle.nmvs_messages.specs.declared.end.End.{End}
 use Rattle.nmvs_messages.specs.declared.peer.Peer.{Peer}
 use Rattle.nmvs_messages.specs.declared.withheld.Withheld.{Withheld}
-use Rattle.nmvs_protocol.specs.Peers.{TakesOf}
+use Rattle.nmvs_messages.specs.Peers.{TakesFrom}
 use Rattle.nmvs_messages.specs.Withheld.{AreReleased}
 use Rattle.nmvs_protocol.specs.Session.{TakesLines, session_text}
 use Rattle.nmvs_protocol.specs.Texts.{text as text_of}
 use Rattle.nmvs_stream.specs.InputLines.{input_lines}
-use Rattle.nmvs_connections.specs.declared.connection.Next.{Next}
+use Rattle.nmvs_connections.specs.declared.next.Next.{Next}
 use Rattle.nmvs_connections.specs.declared.connection.Connection.{Connection}
+use Rattle.nmvs_connections.specs.Peers.{PeerState, IsConnection, StaysPeer}
+use Rattle.nmvs_connections.specs.declared.peer_session.Stage.TheVariants as stages
 use Rattle.nmvs_connections.specs.Replies.{SessionState, TellsPart, LacksMemory, StaysOrLacks}
-use Rattle.nmvs_connections.specs.Turns.{Taking, Round, held_of, TakesAll, ReleasesAll, GoesRound, GoesRounds, lines_to, answers_to, lines_in, answers_in, Answered, EachGoes, WorkerTurn, Kept, WaitsForRelease, LinesTaken, ConnectionSteps, TellsOwn, TellsWhereAsked, TellsAll, StepsOrStays, TurnOfOne}
+use Rattle.nmvs_connections.specs.Turns.{Taking, Round, held_of, TakesBy, TakesAll, IsOwn, ReleasesAll, GoesRound, GoesRounds, lines_to, answers_to, lines_in, answers_in, Answered, EachGoes, WorkerTurn, Kept, WaitsForRelease, LinesTaken, ConnectionSteps, TellsOwn, TellsPeer, TellsWhereAsked, TellsAll, StepsOrStays, TurnOfOne}
 
 -- what was withheld of more
 pub held_of-append : (xs ys : List Taking) → held_of (xs ++ ys) ≡ held_of xs ++ held_of ys
@@ -58,16 +58,16 @@ answers_in-append key (r ∷ xs) ys =
     ∙ sym (append_assoc (answers_to key r.takings r.said) (answers_in key xs) (answers_in key ys))
 
 -- one taking more
-takes_more : {D : Type 0} (takes : D → Ask → Withheld → D → Type 0) (tells : D → Name → Result Name Turn → D → Type 0) (old mid new : D) (takings : List Taking) (t : Taking)
-    → TakesAll takes tells old takings mid → TakesLines (TakesOf takes tells t.peer) mid t.lines t.held new → TakesAll takes tells old (takings ++ t ∷ []) new
-takes_more {D} takes tells old mid new [] t a l = (new, subst (λ (d : D). TakesLines (TakesOf takes tells t.peer) d t.lines t.held new) a l, refl)
-takes_more takes tells old mid new (s ∷ takings) t a l = (a.0, a.1, takes_more takes tells a.0 mid new takings t a.2 l)
+takes_more : {D : Type 0} (takes : D → Peer → Ask → Withheld → D → Type 0) (old mid new : D) (takings : List Taking) (t : Taking)
+    → TakesAll takes old takings mid → TakesBy takes t.connection.peer mid t.lines t.held new → TakesAll takes old (takings ++ t ∷ []) new
+takes_more {D} takes old mid new [] t a l = (new, subst (λ (d : D). TakesBy takes t.connection.peer d t.lines t.held new) a l, refl)
+takes_more takes old mid new (s ∷ takings) t a l = (a.0, a.1, takes_more takes a.0 mid new takings t a.2 l)
 
 -- one round more
-rounds_more : {D E : Type 0} (takes : D → Ask → Withheld → D → Type 0) (tells : D → Name → Result Name Turn → D → Type 0) (releases : D → E → Withheld → Answer → Type 0) (moves : D → D → Type 0) (old mid new : D) (rounds : List Round) (r : Round)
-    → GoesRounds takes tells releases moves old rounds mid → GoesRound takes tells releases moves mid r new → GoesRounds takes tells releases moves old (rounds ++ r ∷ []) new
-rounds_more {D} takes tells releases moves old mid new [] r a g = (new, subst (λ (d : D). GoesRound takes tells releases moves d r new) a g, refl)
-rounds_more takes tells releases moves old mid new (s ∷ rounds) r a g = (a.0, a.1, rounds_more takes tells releases moves a.0 mid new rounds r a.2 g)
+rounds_more : {D E : Type 0} (takes : D → Peer → Ask → Withheld → D → Type 0) (releases : D → E → Withheld → Answer → Type 0) (moves : D → D → Type 0) (old mid new : D) (rounds : List Round) (r : Round)
+    → GoesRounds takes releases moves old rounds mid → GoesRound takes releases moves mid r new → GoesRounds takes releases moves old (rounds ++ r ∷ []) new
+rounds_more {D} takes releases moves old mid new [] r a g = (new, subst (λ (d : D). GoesRound takes releases moves d r new) a g, refl)
+rounds_more takes releases moves old mid new (s ∷ rounds) r a g = (a.0, a.1, rounds_more takes releases moves a.0 mid new rounds r a.2 g)
 
 -- there is an answer for each that was withheld
 released_length : (releases : Withheld → Answer → Type 0) (withheld : List Withheld) (said : List Answer) → AreReleased releases withheld said → length said ≡ length withheld
@@ -283,7 +283,7 @@ lacks_still ended ended' untold s l = elim s [ inl stays ↦ subst (λ (e : Opti
 
 -- what was released was told
 stands_told : (key : ℕ) (rounds : List Round) (r : Round) (awaiting : List ℕ) (a b c : SessionState) → length r.said ≡ length (held_of r.takings)
-    → TellsWhereAsked r.said awaiting key b c → Stands key rounds r.takings awaiting a b → Stands key (rounds ++ r ∷ []) [] [] a c
+    → TellsOwn r.said b c ⊎ ((c ≡ b) × (Contains awaiting key → ⊥)) → Stands key rounds r.takings awaiting a b → Stands key (rounds ++ r ∷ []) [] [] a c
 stands_told key rounds r awaiting a b c one t s = elim t [
   | inl told ↦
       let p = told.tells in
@@ -309,37 +309,73 @@ stands_told key rounds r awaiting a b c one t s = elim t [
 ]
 
 -- two steps of each connection, one behind the other
-pub each_then : (R S T : ℕ → SessionState → SessionState → Type 0) (s t u : Slab Connection) → EachGoes R s t → EachGoes S t u
-    → ((key : ℕ) (a b c : SessionState) → R key a b → S key b c → T key a c) → EachGoes T s u
+pub each_then : (R S T : ℕ → PeerState → PeerState → Type 0) (s t u : Slab Connection) → EachGoes R s t → EachGoes S t u
+    → ((key : ℕ) (a b c : PeerState) → R key a b → S key b c → T key a c) → EachGoes T s u
 each_then R S T s t u r q both = λ key connection there.
     let second = q key connection there in
     let first = r key second.0 second.1 in
     (first.0, first.1, both key first.0.session second.0.session connection.session first.2 second.2)
 
 -- no step
-pub each_stays : (R : ℕ → SessionState → SessionState → Type 0) (s : Slab Connection) → ((key : ℕ) (a : SessionState) → R key a a) → EachGoes R s s
+pub each_stays : (R : ℕ → PeerState → PeerState → Type 0) (s : Slab Connection) → ((key : ℕ) (a : PeerState) → R key a a) → EachGoes R s s
 each_stays R s same = λ key connection there. (connection, there, same key connection.session)
 
+-- what was taken stays the lines of its own connection's peer, where each peer stays
+own_still : (s t : Slab Connection) (taking : Taking) → EachGoes (λ key a b. StaysPeer a b) s t → IsOwn s taking → IsOwn t taking
+own_still s t taking each own = (
+  own.0,
+  λ found there.
+      let before = each taking.key found there in
+      λ peer known. before.2 peer (own.1 before.0 before.1 peer known),
+)
+
+all_own : (s t : Slab Connection) (takings : List Taking) → EachGoes (λ key a b. StaysPeer a b) s t → All (IsOwn s) takings → All (IsOwn t) takings
+all_own s t [] each own = All-nil (IsOwn t)
+all_own s t (taking ∷ more) each own =
+    All-cons (IsOwn t) taking more (own_still s t taking each (own 0 taking (omega arith))) (all_own s t more each (All-tail (IsOwn s) taking more own))
+
+all_own_in : (s t : Slab Connection) (rounds : List Round) → EachGoes (λ key a b. StaysPeer a b) s t → All (λ (r : Round). All (IsOwn s) r.takings) rounds → All (λ (r : Round). All (IsOwn t) r.takings) rounds
+all_own_in s t [] each own = All-nil (λ (r : Round). All (IsOwn t) r.takings)
+all_own_in s t (round ∷ more) each own =
+    All-cons (λ (r : Round). All (IsOwn t) r.takings) round more (all_own s t round.takings each (own 0 round (omega arith)))
+    (all_own_in s t more each (All-tail (λ (r : Round). All (IsOwn s) r.takings) round more own))
+
+-- what each does, and more
+each_more : (R S : ℕ → PeerState → PeerState → Type 0) (s t : Slab Connection) → EachGoes R s t → ((key : ℕ) (a b : PeerState) → R key a b → S key a b) → EachGoes S s t
+each_more R S s t each more = λ key found there. let before = each key found there in (before.0, before.1, more key before.0.session found.session before.2)
+
+-- a connection that told its part, or did nothing, has its peer still
+tells_stays : (said : List Answer) (awaiting : List ℕ) (key : ℕ) (a b : PeerState) → TellsWhereAsked said awaiting key a b → StaysPeer a b
+tells_stays said awaiting key a b t = λ peer known. elim t [ inl told ↦ told.1 ∙ known | inr silent ↦ ap (λ (c : PeerState). c.peer) silent.0 ∙ known ]
+
+-- what becomes of its session
+tells_state : (said : List Answer) (awaiting : List ℕ) (key : ℕ) (a b : PeerState) → TellsWhereAsked said awaiting key a b → TellsOwn said a.session b.session ⊎ ((b.session ≡ a.session) × (Contains awaiting key → ⊥))
+tells_state said awaiting key a b t = elim t [ inl told ↦ inl told.0 | inr silent ↦ inr (ap (λ (c : PeerState). c.session) silent.0, silent.1) ]
+
 -- a turn that is not over: rounds are behind it, and what was taken since is withheld
-pub record OpenTurn {D E : Type 0} (takes : D → Ask → Withheld → D → Type 0) (tells : D → Name → Result Name Turn → D → Type 0) (releases : D → E → Withheld → Answer → Type 0) (moves : D → D → Type 0) (old new : D) (withheld : List Withheld) (awaiting : List ℕ) (connections connections' : Slab Connection) : Type 0 where
+pub record OpenTurn {D E : Type 0} (takes : D → Peer → Ask → Withheld → D → Type 0) (releases : D → E → Withheld → Answer → Type 0) (moves : D → D → Type 0) (old new : D) (withheld : List Withheld) (awaiting : List ℕ) (connections connections' : Slab Connection) : Type 0 where
   pub rounds : List Round
   pub takings : List Taking
   pub mid : D
-  pub gone : GoesRounds takes tells releases moves old rounds mid
-  pub taken : TakesAll takes tells mid takings new
+  pub gone : GoesRounds takes releases moves old rounds mid
+  pub taken : TakesAll takes mid takings new
   pub holds : withheld ≡ held_of takings
-  pub each : EachGoes (λ key a b. a.waiting ≡ 0 → Stands key rounds takings awaiting a b) connections connections'
+  pub own : All (λ (r : Round). All (IsOwn connections') r.takings) rounds
+  pub own_taken : All (IsOwn connections') takings
+  pub each : EachGoes (λ key a b. a.session.waiting ≡ 0 → Stands key rounds takings awaiting a.session b.session) connections connections'
 
-pub open_first : {D E : Type 0} (takes : D → Ask → Withheld → D → Type 0) (tells : D → Name → Result Name Turn → D → Type 0) (releases : D → E → Withheld → Answer → Type 0) (moves : D → D → Type 0) (desk : D) (withheld : List Withheld) (awaiting : List ℕ) (connections : Slab Connection)
-    → withheld ≡ [] → OpenTurn takes tells releases moves desk desk withheld awaiting connections connections
-open_first takes tells releases moves desk withheld awaiting connections none = record {
+pub open_first : {D E : Type 0} (takes : D → Peer → Ask → Withheld → D → Type 0) (releases : D → E → Withheld → Answer → Type 0) (moves : D → D → Type 0) (desk : D) (withheld : List Withheld) (awaiting : List ℕ) (connections : Slab Connection)
+    → withheld ≡ [] → OpenTurn takes releases moves desk desk withheld awaiting connections connections
+open_first takes releases moves desk withheld awaiting connections none = record {
   rounds = [];
   takings = [];
   mid = desk;
   gone = refl;
   taken = refl;
   holds = none;
-  each = each_stays _ connections (λ key a told. stands_first key awaiting a told);
+  own = All-nil (λ (r : Round). All (IsOwn connections) r.takings);
+  own_taken = All-nil (IsOwn connections);
+  each = each_stays _ connections (λ key a told. stands_first key awaiting a.session told);
 }
 
 -- a connection behind the turn of one, which may be itself
@@ -363,52 +399,73 @@ stands_behind key rounds takings t awaiting awaiting' first a b c begins still g
 ]
 
 -- the turn of one connection
-pub open_taken : {D E : Type 0} (takes : D → Ask → Withheld → D → Type 0) (tells : D → Name → Result Name Turn → D → Type 0) (releases : D → E → Withheld → Answer → Type 0) (moves : D → D → Type 0) (key : ℕ) (old new next : D)
+pub open_taken : {D E : Type 0} (takes : D → Peer → Ask → Withheld → D → Type 0) (releases : D → E → Withheld → Answer → Type 0) (moves : D → D → Type 0) (key : ℕ) (old new next : D)
     (withheld withheld' : List Withheld) (awaiting awaiting' : List ℕ) (s t u : Slab Connection)
-    → OpenTurn takes tells releases moves old new withheld awaiting s t → TurnOfOne takes tells key new next withheld withheld' awaiting awaiting' t u
-    → OpenTurn takes tells releases moves old next withheld' awaiting' s u
-open_taken takes tells releases moves key old new next withheld withheld' awaiting awaiting' s t u o n =
-    let taking : Taking = record { key = key; peer = n.peer; lines = n.lines; held = n.held } in record {
+    → OpenTurn takes releases moves old new withheld awaiting s t → TurnOfOne takes key new next withheld withheld' awaiting awaiting' t u
+    → OpenTurn takes releases moves old next withheld' awaiting' s u
+open_taken takes releases moves key old new next withheld withheld' awaiting awaiting' s t u o n =
+    let taking : Taking = record { key = key; connection = n.connection; lines = n.lines; held = n.held } in
+    let stays : EachGoes (λ key a b. StaysPeer a b) t u = each_more _ _ t u n.each (λ other a b goes. goes.2) in
+    let own : IsOwn u taking = (
+      n.is,
+      λ found there.
+          let before = n.each key found there in
+          λ peer known. before.2.2 peer (ap (λ (c : PeerState). c.peer) (n.own before.0 before.1) ∙ known),
+    ) in record {
       rounds = o.rounds;
       takings = o.takings ++ taking ∷ [];
       mid = o.mid;
       gone = o.gone;
-      taken = takes_more takes tells o.mid new next o.takings taking o.taken n.desk;
+      taken = takes_more takes o.mid new next o.takings taking o.taken n.desk;
       holds = n.behind ∙ ap (λ (l : List Withheld). l ++ n.held) o.holds ∙ sym (held_of-append o.takings (taking ∷ []) ∙ ap (λ (l : List Withheld). held_of o.takings ++ l) (append-nil n.held));
-      each = each_then _ _ _ s t u o.each n.each (λ other a b c stood goes told. stands_behind other o.rounds o.takings taking awaiting awaiting' (length withheld) a b c (ap (λ (l : List Withheld). length l) o.holds) (n.still other) goes (stood told));
+      own = all_own_in t u o.rounds stays o.own;
+      own_taken = All-append (IsOwn u) o.takings (taking ∷ []) (all_own t u o.takings stays o.own_taken) (All-cons (IsOwn u) taking [] own (All-nil (IsOwn u)));
+      each = each_then _ _ _ s t u o.each n.each (λ other a b c stood goes told. stands_behind other o.rounds o.takings taking awaiting awaiting' (length withheld) a.session b.session c.session (ap (λ (l : List Withheld). length l) o.holds) (n.still other)
+          (λ apart. ap (λ (x : PeerState). x.session) (goes.0 apart), goes.1) (stood told));
     }
 
+-- what was taken in one round more
+own_round : (rounds : List Round) (r : Round) (u : Slab Connection) → All (λ (r : Round). All (IsOwn u) r.takings) rounds → All (IsOwn u) r.takings → All (λ (r : Round). All (IsOwn u) r.takings) (rounds ++ r ∷ [])
+own_round rounds r u before own =
+    let Own = λ (r : Round). All (IsOwn u) r.takings in All-append Own rounds (r ∷ []) before (All-cons Own r [] own (All-nil Own))
+
 -- a release
-pub open_told : {D E : Type 0} (takes : D → Ask → Withheld → D → Type 0) (tells : D → Name → Result Name Turn → D → Type 0) (releases : D → E → Withheld → Answer → Type 0) (moves : D → D → Type 0) (old new next : D)
+pub open_told : {D E : Type 0} (takes : D → Peer → Ask → Withheld → D → Type 0) (releases : D → E → Withheld → Answer → Type 0) (moves : D → D → Type 0) (old new next : D)
     (withheld withheld' : List Withheld) (awaiting awaiting' : List ℕ) (s t u : Slab Connection)
-    → OpenTurn takes tells releases moves old new withheld awaiting s t → TellsAll releases moves new next withheld awaiting t u → withheld' ≡ [] → awaiting' ≡ []
-    → OpenTurn takes tells releases moves old next withheld' awaiting' s u
-open_told takes tells releases moves old new next withheld withheld' awaiting awaiting' s t u o n none silent =
+    → OpenTurn takes releases moves old new withheld awaiting s t → TellsAll releases moves new next withheld awaiting t u → withheld' ≡ [] → awaiting' ≡ []
+    → OpenTurn takes releases moves old next withheld' awaiting' s u
+open_told takes releases moves old new next withheld withheld' awaiting awaiting' s t u o n none silent =
     let r : Round = record { takings = o.takings; said = n.said } in
     let released = subst (λ (l : List Withheld). ReleasesAll releases moves new l n.said next) o.holds n.released in
-    let one = all_length releases moves new next (held_of o.takings) n.said released in record {
+    let one = all_length releases moves new next (held_of o.takings) n.said released in
+    let stays : EachGoes (λ key a b. StaysPeer a b) t u = each_more _ _ t u n.each (λ other a b goes. tells_stays n.said awaiting other a b goes) in record {
       rounds = o.rounds ++ r ∷ [];
       takings = [];
       mid = next;
-      gone = rounds_more takes tells releases moves old o.mid next o.rounds r o.gone (record { asked = new; taken = o.taken; released = released });
+      gone = rounds_more takes releases moves old o.mid next o.rounds r o.gone (record { asked = new; taken = o.taken; released = released });
       taken = refl;
       holds = none;
-      each = subst (λ (l : List ℕ). EachGoes (λ key a b. a.waiting ≡ 0 → Stands key (o.rounds ++ r ∷ []) [] l a b) s u) (sym silent)
-          (each_then _ _ _ s t u o.each n.each (λ other a b c stood goes told. stands_told other o.rounds r awaiting a b c one goes (stood told)));
+      own = own_round o.rounds r u (all_own_in t u o.rounds stays o.own) (all_own t u o.takings stays o.own_taken);
+      own_taken = All-nil (IsOwn u);
+      each = subst (λ (l : List ℕ). EachGoes (λ key a b. a.session.waiting ≡ 0 → Stands key (o.rounds ++ r ∷ []) [] l a.session b.session) s u) (sym silent)
+          (each_then _ _ _ s t u o.each n.each (λ other a b c stood goes told. stands_told other o.rounds r awaiting a.session b.session c.session one (tells_state n.said awaiting other b c goes) (stood told)));
     }
 
 -- a turn is over behind its last release
-pub open_last : {D E : Type 0} (takes : D → Ask → Withheld → D → Type 0) (tells : D → Name → Result Name Turn → D → Type 0) (releases : D → E → Withheld → Answer → Type 0) (moves : D → D → Type 0) (old new next : D)
+pub open_last : {D E : Type 0} (takes : D → Peer → Ask → Withheld → D → Type 0) (releases : D → E → Withheld → Answer → Type 0) (moves : D → D → Type 0) (old new next : D)
     (withheld : List Withheld) (awaiting : List ℕ) (s t u : Slab Connection)
-    → OpenTurn takes tells releases moves old new withheld awaiting s t → TellsAll releases moves new next withheld awaiting t u
-    → WorkerTurn takes tells releases moves old next s u
-open_last takes tells releases moves old new next withheld awaiting s t u o n =
+    → OpenTurn takes releases moves old new withheld awaiting s t → TellsAll releases moves new next withheld awaiting t u
+    → WorkerTurn takes releases moves old next s u
+open_last takes releases moves old new next withheld awaiting s t u o n =
     let r : Round = record { takings = o.takings; said = n.said } in
     let released = subst (λ (l : List Withheld). ReleasesAll releases moves new l n.said next) o.holds n.released in
-    let one = all_length releases moves new next (held_of o.takings) n.said released in record {
+    let one = all_length releases moves new next (held_of o.takings) n.said released in
+    let stays : EachGoes (λ key a b. StaysPeer a b) t u = each_more _ _ t u n.each (λ other a b goes. tells_stays n.said awaiting other a b goes) in record {
       rounds = o.rounds ++ r ∷ [];
-      desk = rounds_more takes tells releases moves old o.mid next o.rounds r o.gone (record { asked = new; taken = o.taken; released = released });
-      each = each_then _ _ _ s t u o.each n.each (λ other a b c stood goes told. stands_last other (o.rounds ++ r ∷ []) a c (stands_told other o.rounds r awaiting a b c one goes (stood told)));
+      own = own_round o.rounds r u (all_own_in t u o.rounds stays o.own) (all_own t u o.takings stays o.own_taken);
+      desk = rounds_more takes releases moves old o.mid next o.rounds r o.gone (record { asked = new; taken = o.taken; released = released });
+      each = each_then _ _ _ s t u o.each n.each (λ other a b c stood goes told. stands_last other (o.rounds ++ r ∷ []) a.session c.session
+          (stands_told other o.rounds r awaiting a.session b.session c.session one (tells_state n.said awaiting other b c goes) (stood told)));
     }
 
 -- a connection that is told twice is told nothing the second time
@@ -435,25 +492,25 @@ told_again said a b c t u =
     }
 
 -- a connection while those that asked are told: it was told, or nothing was done with it, and it is still to be told if it asked
-abbrev pub ToldSoFar : List Answer → List ℕ → List ℕ → ℕ → SessionState → SessionState → Type 0
-ToldSoFar said awaiting left key old new = TellsOwn said old new ⊎ ((new ≡ old) × (Contains awaiting key → Contains left key))
+abbrev pub ToldSoFar : List Answer → List ℕ → List ℕ → ℕ → PeerState → PeerState → Type 0
+ToldSoFar said awaiting left key old new = TellsPeer said old new ⊎ ((new ≡ old) × (Contains awaiting key → Contains left key))
 
 -- the step in which the connection under a key is told
-abbrev pub TellsOne : List Answer → ℕ → ℕ → SessionState → SessionState → Type 0
-TellsOne said key other old new = (other ≡ key → TellsOwn said old new) × (other ≢ key → new ≡ old)
+abbrev pub TellsOne : List Answer → ℕ → ℕ → PeerState → PeerState → Type 0
+TellsOne said key other old new = (other ≡ key → TellsPeer said old new) × (other ≢ key → new ≡ old)
 
 pub told_none : (said : List Answer) (awaiting : List ℕ) (s : Slab Connection) → EachGoes (ToldSoFar said awaiting awaiting) s s
 told_none said awaiting s = each_stays _ s (λ key a. inr (refl, λ h. h))
 
-told_one : (said : List Answer) (awaiting left left' : List ℕ) (key other : ℕ) (a b c : SessionState) → left ≡ left' ++ key ∷ [] → ToldSoFar said awaiting left other a b
+told_one : (said : List Answer) (awaiting left left' : List ℕ) (key other : ℕ) (a b c : PeerState) → left ≡ left' ++ key ∷ [] → ToldSoFar said awaiting left other a b
     → TellsOne said key other b c → ToldSoFar said awaiting left' other a c
 told_one said awaiting left left' key other a b c popped told step = elim (eqb_tells other key) [
   | inl same ↦ elim told [
-    | inl before ↦ inl (told_again said a b c before (step.0 same.1))
-    | inr silent ↦ inl (subst (λ (d : SessionState). TellsOwn said d c) silent.0 (step.0 same.1))
+    | inl before ↦ let after = step.0 same.1 in inl (told_again said a.session b.session c.session before.0 after.0, after.1 ∙ before.1)
+    | inr silent ↦ inl (subst (λ (d : PeerState). TellsPeer said d c) silent.0 (step.0 same.1))
   ]
   | inr apart ↦ elim told [
-    | inl before ↦ inl (subst (λ (d : SessionState). TellsOwn said a d) (sym (step.1 apart.1)) before)
+    | inl before ↦ inl (subst (λ (d : PeerState). TellsPeer said a d) (sym (step.1 apart.1)) before)
     | inr silent ↦ inr (
       step.1 apart.1 ∙ silent.0,
       λ asked.
@@ -481,8 +538,8 @@ told_all said awaiting left s t none told = λ key connection there.
     )
 
 -- a write of one connection
-pub each_written : (R : ℕ → SessionState → SessionState → Type 0) (s t : Slab Connection) (key : ℕ) (connection connection' : Connection) → get s key ≡ Some connection → Updates s t key (Some connection')
-    → R key connection.session connection'.session → ((other : ℕ) (a : SessionState) → other ≢ key → R other a a) → EachGoes R s t
+pub each_written : (R : ℕ → PeerState → PeerState → Type 0) (s t : Slab Connection) (key : ℕ) (connection connection' : Connection) → get s key ≡ Some connection → Updates s t key (Some connection')
+    → R key connection.session connection'.session → ((other : ℕ) (a : PeerState) → other ≢ key → R other a a) → EachGoes R s t
 each_written R s t key connection connection' was writes own others = λ other found there. elim (eqb_tells other key) [
   | inl same ↦
       let is : Some connection' ≡ Some found = sym writes.changed ∙ ap (λ (k : ℕ). get t k) (sym same.1) ∙ there in
@@ -491,8 +548,8 @@ each_written R s t key connection connection' was writes own others = λ other f
   | inr apart ↦ (found, sym (writes.others other apart.1) ∙ there, others other found.session apart.1)
 ]
 
-pub each_set : (R : ℕ → SessionState → SessionState → Type 0) (s : Slab Connection) (key : ℕ) (connection connection' : Connection) → Some connection ≡ get s key
-    → R key connection.session connection'.session → ((other : ℕ) (a : SessionState) → other ≢ key → R other a a) → EachGoes R s (with_value s key connection')
+pub each_set : (R : ℕ → PeerState → PeerState → Type 0) (s : Slab Connection) (key : ℕ) (connection connection' : Connection) → Some connection ≡ get s key
+    → R key connection.session connection'.session → ((other : ℕ) (a : PeerState) → other ≢ key → R other a a) → EachGoes R s (with_value s key connection')
 each_set R s key connection connection' was own others =
     let some : IsSome (Some connection) = search rules in
     let present : IsSome (get s key) = subst (λ (o : Option Connection). IsSome o) was some in
@@ -508,46 +565,74 @@ each_removed s t key removes = λ other found there. elim (eqb_tells other key) 
 ]
 
 -- a step of which no connection knows, behind another
-pub each_still : (R : ℕ → SessionState → SessionState → Type 0) (s t u : Slab Connection) → EachGoes R s t → EachGoes (λ other a b. b ≡ a) t u → EachGoes R s u
-each_still R s t u first still = each_then _ _ _ s t u first still (λ other a b c goes same. subst (λ (d : SessionState). R other a d) (sym same) goes)
+pub each_still : (R : ℕ → PeerState → PeerState → Type 0) (s t u : Slab Connection) → EachGoes R s t → EachGoes (λ other a b. b ≡ a) t u → EachGoes R s u
+each_still R s t u first still = each_then _ _ _ s t u first still (λ other a b c goes same. subst (λ (d : PeerState). R other a d) (sym same) goes)
 
--- the turn of one connection, which is then noted as awaiting or not
-pub turn_of_one : {D : Type 0} (takes : D → Ask → Withheld → D → Type 0) (tells : D → Name → Result Name Turn → D → Type 0) (peer : Peer) (key : ℕ) (old new : D) (withheld withheld' : List Withheld) (awaiting awaiting' : List ℕ) (next : Next)
-    (connections connections' : Slab Connection) (connection connection' : Connection) → Some connection ≡ get connections key → ConnectionSteps takes tells peer old new withheld withheld' next connection.session connection'.session
+-- the turn of one connection, which is then noted as waiting or not
+pub turn_of_one : {D : Type 0} (takes : D → Peer → Ask → Withheld → D → Type 0) (key : ℕ) (old new : D) (withheld withheld' : List Withheld) (awaiting awaiting' : List ℕ) (next : Next)
+    (connections connections' : Slab Connection) (connection connection' : Connection) → Some connection ≡ get connections key
+    → ConnectionSteps takes old new withheld withheld' next connection.session connection'.session
     → EachGoes (λ other a b. b ≡ a) (with_value connections key connection') connections' → ((other : ℕ) → Contains awaiting other → Contains awaiting' other)
-    → (WaitsForRelease next → (found : Connection) → get connections' key ≡ Some found → Contains awaiting' key) → TurnOfOne takes tells key old new withheld withheld' awaiting awaiting' connections connections'
-turn_of_one takes tells peer key old new withheld withheld' awaiting awaiting' next connections connections' connection connection' was step dispatched still asks = record {
-  peer = peer;
-  lines = step.lines;
-  held = step.held;
-  behind = step.behind;
-  desk = step.desk;
-  still = still;
-  each = λ other found there.
-      let Own : SessionState → SessionState → Type 0 = λ a b. (Kept a b × (step.lines ≡ []) × (step.held ≡ [])) ⊎ (WaitsForRelease next × LinesTaken step.lines step.held (length withheld) a b) in
-      let second = dispatched other found there in
-      let first = each_set (λ k a b. (k ≢ key → b ≡ a) × (k ≡ key → Own a b)) connections key connection connection' was (λ apart. absurd (apart refl), λ same. step.goes) (λ k a apart. (λ _. refl, λ same. absurd (apart same))) other second.0 second.1 in (
-        first.0,
-        first.1,
-        (
-          λ apart. second.2 ∙ first.2.0 apart,
-          λ same. subst (λ (d : SessionState). StepsOrStays awaiting' key step.lines step.held (length withheld) first.0.session d) (sym second.2) (elim (first.2.1 same) [
-            | inl kept ↦ inl kept
-            | inr took ↦ inr (asks took.0 found (ap (λ (k : ℕ). get connections' k) (sym same) ∙ there), took.1)
-          ]),
-        ),
-      );
+    → (WaitsForRelease next → (found : Connection) → get connections' key ≡ Some found → Contains awaiting' key) → TurnOfOne takes key old new withheld withheld' awaiting awaiting' connections connections'
+turn_of_one takes key old new withheld withheld' awaiting awaiting' next connections connections' connection connection' was steps dispatched still asks =
+    let step = steps.step in
+    let Own : PeerState → PeerState → Type 0 = λ a b. ((Kept a.session b.session × (step.lines ≡ []) × (step.held ≡ [])) ⊎ (WaitsForRelease next × LinesTaken step.lines step.held (length withheld) a.session b.session)) in
+    let goes : Own connection.session connection'.session = elim steps.waits [
+      | inl kept ↦ inl kept
+      | inr waits ↦ elim step.goes [ inl kept ↦ inl kept | inr took ↦ inr (waits, took) ]
+    ] in record {
+      connection = connection.session;
+      is = steps.is;
+      own = λ found there.
+          let both : Some connection ≡ Some found = was ∙ there in
+          let same : connection ≡ found = cc in
+          ap (λ (c : Connection). c.session) (sym same);
+      lines = step.lines;
+      held = step.held;
+      behind = step.behind;
+      desk = step.desk;
+      still = still;
+      each = λ other found there.
+          let second = dispatched other found there in
+          let first = each_set (λ k a b. (k ≢ key → b ≡ a) × (k ≡ key → Own a b) × StaysPeer a b) connections key connection connection' was
+          (λ apart. absurd (apart refl), λ same. goes, steps.stays) (λ k a apart. (λ _. refl, λ same. absurd (apart same), λ peer known. known)) other second.0 second.1 in (
+            first.0,
+            first.1,
+            (
+              λ apart. second.2 ∙ first.2.0 apart,
+              λ same. subst (λ (d : PeerState). StepsOrStays awaiting' key step.lines step.held (length withheld) first.0.session.session d.session) (sym second.2) (elim (first.2.1 same) [
+                | inl kept ↦ inl kept
+                | inr took ↦ inr (asks took.0 found (ap (λ (k : ℕ). get connections' k) (sym same) ∙ there), took.1)
+              ]),
+              λ peer known. ap (λ (d : PeerState). d.peer) second.2 ∙ first.2.2 peer known,
+            ),
+          );
+    }
+
+-- a connection of which nothing is known
+abbrev nobody : PeerState
+nobody = record {
+  proxy = None;
+  peer = None;
+  stage = stages.Serving;
+  stream = record { received = []; sent = [] };
+  session = record { fed = []; sent = []; unsent = []; ended = None; first = 0; waiting = 0 };
 }
 
+nobody_is : IsConnection nobody
+nobody_is = ([], record { header = []; rest = []; received_is = refl; named = (refl, refl); left = λ _. refl; notice = []; sent_is = refl; ended = refl })
+
 -- nobody has a turn
-pub turn_of_none : {D : Type 0} (takes : D → Ask → Withheld → D → Type 0) (tells : D → Name → Result Name Turn → D → Type 0) (peer : Peer) (key : ℕ) (desk : D) (withheld : List Withheld) (awaiting : List ℕ) (connections : Slab Connection)
-    → None ≡ get connections key → TurnOfOne takes tells key desk desk withheld withheld awaiting awaiting connections connections
-turn_of_none takes tells peer key desk withheld awaiting connections none = record {
-  peer = peer;
+pub turn_of_none : {D : Type 0} (takes : D → Peer → Ask → Withheld → D → Type 0) (key : ℕ) (desk : D) (withheld : List Withheld) (awaiting : List ℕ) (connections : Slab Connection)
+    → None ≡ get connections key → TurnOfOne takes key desk desk withheld withheld awaiting awaiting connections connections
+turn_of_none takes key desk withheld awaiting connections none = record {
+  connection = nobody;
+  is = nobody_is;
+  own = λ found there. let both : None ≡ Some found = none ∙ there in absurd (cc);
   lines = [];
   held = [];
   behind = sym (append-nil withheld);
-  desk = refl;
+  desk = (refl, refl, refl);
   still = λ other asks. asks;
   each = λ other found there. (
     found,
@@ -557,6 +642,7 @@ turn_of_none takes tells peer key desk withheld awaiting connections none = reco
       λ same.
           let both : None ≡ Some found = none ∙ ap (λ (k : ℕ). get connections k) (sym same) ∙ there in
           absurd (cc),
+      λ peer known. known,
     ),
   );
 }

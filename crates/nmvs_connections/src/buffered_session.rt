@@ -1,10 +1,12 @@
 //! A session whose bytes others move.
 ghost use Rattle.std.specs.Prelude.{◌≡◌, ◌≤◌, ◌++◌, List, [], ℕ, None, length, take, drop};
+ghost use Rattle.nmvs_messages.specs.Peers.{TakesFrom};
 ghost use Rattle.nmvs_connections.specs.Replies.{Asked, LacksMemory, Replies, TellsPart, WordsPart};
 
+use crate::byte_tag::extended;
 use crate::write_buffer::WriteBuffer;
-use boxcar::tag::{Names, Tag};
-use nmvs_messages::{Desk, End, Released, WithheldAnswers};
+use boxcar::tag::Tag;
+use nmvs_messages::{Desk, End, Peer, Released, WithheldAnswers};
 use nmvs_protocol::{Session, write_texts};
 use std::alloc::Global;
 use std::marker::Model;
@@ -89,6 +91,7 @@ impl BufferedSession {
         &mut self,
         more: &[u8],
         withheld: &mut WithheldAnswers<'a>,
+        from: &Peer,
         desk: &mut D,
     ) -> usize
         requires goes_on { self.old.ended ≡ None }
@@ -98,10 +101,10 @@ impl BufferedSession {
         ensures replies { (self.new.sent ≡ self.old.sent) × (self.new.unsent ≡ self.old.unsent) }
         ensures first { self.new.first ≡ length withheld.old }
         ensures sound { LacksMemory self.new.ended → ⊥ }
-        ensures asks { Asked D.takes self.old.fed (take result more.now) desk.old desk.new withheld.old withheld.new self.new.waiting }
+        ensures asks { Asked (TakesFrom D.takes from.now) self.old.fed (take result more.now) desk.old desk.new withheld.old withheld.new self.new.waiting }
     {
         self.first = withheld.len();
-        let taking = self.session.take(more, withheld, desk);
+        let taking = self.session.take(more, withheld, from, desk);
         self.waiting = withheld.len() - self.first;
         self.end = taking.end;
         self.fed = extended(&self.fed, &more[..taking.bytes]);
@@ -166,24 +169,4 @@ fn word_part(
         Some(part) => write_texts(alloc, part, replies),
         None => Some(End::WriteFault),
     }
-}
-
-/// What a tag has, and what comes behind it.
-#[derive(Clone, Copy)]
-struct Longer<'t> {
-    tag: &'t Tag,
-    more: &'t [u8],
-}
-
-struct Joined;
-
-impl<'t> Names<Longer<'t>> for Joined {
-    ghost numbers = { λ l. l.tag.now.numbers ++ l.more.now };
-}
-
-/// The tag of what this one has, and these bytes.
-fn extended(tag: &Tag, more: &[u8]) -> Tag
-    ensures { result.numbers ≡ tag.now.numbers ++ more.now }
-{
-    Tag::of::<Longer<'_>, Joined>(&Longer { tag, more })
 }

@@ -1,20 +1,17 @@
 //! One connection of a worker.
-ghost use Rattle.std.specs.Prelude.{◌≡◌, ◌≤◌, ◌++◌, List, [], length, take};
-ghost use Rattle.nmvs_connections.specs.declared.connection.Next.{Next as TheNext};
-ghost use Rattle.nmvs_connections.specs.Turns.{WaitsForRelease, Kept, ConnectionSteps, TellsOwn};
+ghost use Rattle.std.specs.Prelude.{◌≡◌, None, Some};
+ghost use Rattle.nmvs_connections.specs.declared.peer_session.Stage.TheVariants as stages;
+ghost use Rattle.nmvs_connections.specs.Peers.{IsConnection};
+ghost use Rattle.nmvs_connections.specs.Turns.{ConnectionSteps, Kept, TellsOwn};
 
-use crate::buffered_session::BufferedSession;
-use crate::pieces::{Piece, first_piece};
-use crate::proxy_header::{ProxyHeader, read_proxy_header};
-use crate::stream::{Moved, Stream};
+use crate::next::Next;
+use crate::peer_session::{PeerSession, Stage};
+use crate::scratch::Scratch;
+use crate::socket::Moved;
 use crate::worker_pool::{Accepted, WorkerPool};
-use memchr::memchr;
-use mio::{Registry, Token};
-use nmvs_messages::{
-    Authorisations, Desk, End, NO_LIMITS, NameOf, Peer, READ_SIZE, Released, WithheldAnswers,
-};
-use nmvs_protocol::OwnDesk;
-use std::alloc::{AllocError, Global};
+use mio::Registry;
+use nmvs_messages::{Desk, End, NameOf, Released, WithheldAnswers};
+use std::alloc::Global;
 use std::io;
 use std::sync::Wait;
 use std::time::{Duration, Instant};
@@ -22,101 +19,25 @@ use std::time::{Duration, Instant};
 /// For how many seconds replies wait for a peer that takes none of them (own).
 const SENDING: u64 = 30;
 
-/// For how many seconds a connection is read on behind the end of its session, and replies wait once the service is
+/// For how many seconds a connection is read on after the end of its session, and replies wait once the service is
 /// stopped (own).
 const PATIENCE: u64 = 1;
 
 /// For how many seconds the header of a gateway is waited for (own).
 const HEADER_TIMEOUT: u64 = 5;
 
-/// Room for the replies to what one read gives, but for a list or a report: the shortest line, that of no byte, has a
-/// reply of 13 (own).
-const ROOM: usize = 13 * READ_SIZE;
-
-/// The last reply to a connection that sent nothing for too long.
-const IDLE: &[u8] = b"FAULT IDLE\n";
-
-/// What a worker serves its connections with.
-#[derive(Drop)]
-pub(crate) struct Scratch {
-    pub(crate) alloc: Global,
-    pub(crate) now: Instant,
-    buffer: [u8; READ_SIZE],
-    room: Vec<u8>,
-}
-
-impl Scratch {
-    pub(crate) fn new(alloc: Global, now: Instant) -> Scratch {
-        Scratch {
-            alloc,
-            now,
-            buffer: [0; READ_SIZE],
-            room: Vec::new(alloc),
-        }
-    }
-
-    /// Makes room for the next replies, no more than they take as a rule.
-    fn make_room(&mut self) -> Result<(), AllocError> {
-        if self.room.capacity() > 2 * ROOM {
-            self.room = Vec::new(self.alloc);
-        }
-        self.room.clear();
-        self.room.reserve(ROOM)?;
-        Ok(())
-    }
-}
-
-/// How far a connection has come.
-#[derive(Clone, Copy, PartialEq, Eq)]
-enum Stage {
-    /// The header of a gateway is read, and nothing behind it.
-    Header(NameOf),
-    /// Its lines are answered.
-    Serving,
-    /// No more lines are answered, and its replies are sent to the end.
-    Ending,
-    /// The peer was told that no more is written, and is read on: where a connection is closed with bytes unread, the
-    /// system takes back what the peer has not received yet.
-    Lingering,
-}
-
-/// What becomes of a connection behind its turn.
-#[derive(Clone, Copy, PartialEq, Eq)]
-pub(crate) enum Next {
-    /// Its next turn comes.
-    Again,
-    /// It waits until the system reports it.
-    WaitIo,
-    /// Its answers wait until those of the turn are released.
-    WaitRelease,
-    /// Its answers wait, and are released before more are withheld.
-    ReleaseNow,
-    /// It is closed.
-    Close,
-}
-
-/// One connection of a worker.
+/// One connection of a worker: the session of its peer, and what the system reports of it.
 #[derive(Drop)]
 pub(crate) struct Connection {
     /// The number of the connection, in the order in which they were accepted.
     pub(crate) number: usize,
-    stream: Stream,
-    session: BufferedSession,
-    /// Whose lines it carries.
-    peer: Peer,
-    /// What was read, and is taken once the replies to what was taken are sent; first what has come of a header.
-    unread: Vec<u8>,
-    stage: Stage,
-    /// Whether its last read filled the buffer, so that more may be there to be read at once.
-    filled: bool,
-    /// Whether the peer is told that it sent nothing for too long.
+    session: PeerSession,
+    /// Whether the peer sent nothing for too long.
     was_idle: bool,
     /// When bytes were moved last.
     moved: Instant,
     /// Whether the peer ended or broke the connection, so that it is read to its end.
     peer_closed: bool,
-    /// Whether a line of it was served.
-    served: bool,
     stopped: bool,
     /// Whether its turn comes.
     pub(crate) queued: bool,
@@ -129,23 +50,16 @@ impl Connection {
         accepted: Accepted,
         proxy: Option<NameOf>,
         now: Instant,
-    ) -> Connection {
-        let Accepted { number, stream } = accepted;
+    ) -> Connection
+        ensures { result.session.proxy ≡ proxy }
+    {
+        let Accepted { number, socket } = accepted;
         Connection {
             number,
-            stream,
-            session: BufferedSession::new(alloc, NO_LIMITS.lines),
-            peer: Peer::Anyone,
-            unread: Vec::new(alloc),
-            stage: match proxy {
-                Some(name_of) => Stage::Header(name_of),
-                None => Stage::Serving,
-            },
-            filled: false,
+            session: PeerSession::new(alloc, socket, proxy),
             was_idle: false,
             moved: now,
             peer_closed: false,
-            served: false,
             stopped: false,
             queued: false,
         }
@@ -153,7 +67,7 @@ impl Connection {
 
     /// Has a poll report the connection under the key.
     pub(crate) fn register(&mut self, registry: &Registry, key: usize) -> io::Result<()> {
-        self.stream.register(registry, Token(key))
+        self.session.register(registry, key)
     }
 
     /// Notes that the peer ended or broke the connection.
@@ -163,12 +77,12 @@ impl Connection {
 
     /// Whether a line of it was served.
     pub(crate) fn is_served(&self) -> bool {
-        self.served
+        self.session.is_served()
     }
 
     /// Why the connection ends, where it does so now, as the log tells it.
     pub(crate) fn reason(&self) -> &'static str {
-        if matches!(self.stage, Stage::Header(_)) {
+        if self.session.awaited_header().is_some() {
             return "header";
         }
         if self.was_idle {
@@ -178,32 +92,32 @@ impl Connection {
             Some(End::Quit) => "quit",
             Some(_) => "memory",
             None if self.stopped => "stopped",
-            None if self.session.unsent().is_empty() || self.peer_closed => "ended by the peer",
+            None if self.session.is_sent() || self.peer_closed => "ended by the peer",
             None => "does not read",
         }
     }
 
-    /// Ends the session behind the lines that were read.
+    /// Ends the session after the lines that were read.
     pub(crate) fn stop(&mut self) {
         self.stopped = true;
     }
 
     /// Sends what is unsent; then takes the lines of what one read gives, or takes a step towards the end.
-    pub(crate) fn take_turn<'a, R: Wait, D: Desk<'a> + Authorisations>(
+    pub(crate) fn take_turn<'a, R: Wait, D: Desk<'a>>(
         &mut self,
         rt: &R,
         pool: &WorkerPool<'_>,
         scratch: &mut Scratch,
         withheld: &mut WithheldAnswers<'a>,
-        desk: &mut OwnDesk<D>,
+        desk: &mut D,
     ) -> Next
-        ensures { ConnectionSteps D.takes D.tells self.old.peer desk.old.desk desk.new.desk withheld.old withheld.new result self.old.session self.new.session }
+        ensures { ConnectionSteps D.takes desk.old desk.new withheld.old withheld.new result self.old.session self.new.session }
     {
         match self.send(scratch.now) {
             Next::Again => {}
             other => return other,
         }
-        if !self.session.unsent().is_empty() {
+        if !self.session.is_sent() {
             return Next::Again;
         }
         self.session.exchange(&mut Vec::new(scratch.alloc));
@@ -211,41 +125,87 @@ impl Connection {
     }
 
     /// Takes the lines of what one read gives, or takes a step towards the end.
-    fn step<'a, R: Wait, D: Desk<'a> + Authorisations>(
+    #[tactic(auto, using(crate::proofs::ConnectionLemmas::steps_idle, crate::proofs::ConnectionLemmas::steps_awaiting))]
+    fn step<'a, R: Wait, D: Desk<'a>>(
         &mut self,
         rt: &R,
         pool: &WorkerPool<'_>,
         scratch: &mut Scratch,
         withheld: &mut WithheldAnswers<'a>,
-        desk: &mut OwnDesk<D>,
+        desk: &mut D,
     ) -> Next
-        ensures { ConnectionSteps D.takes D.tells self.old.peer desk.old.desk desk.new.desk withheld.old withheld.new result self.old.session self.new.session }
+        requires { IsConnection self.old.session }
+        ensures { ConnectionSteps D.takes desk.old desk.new withheld.old withheld.new result self.old.session self.new.session }
     {
-        match self.stage {
-            Stage::Header(_) if self.stopped => Next::Close,
-            Stage::Header(name_of) => self.read_header(name_of, scratch),
-            Stage::Serving if self.unread.is_empty() && self.stopped => self.end(),
-            Stage::Serving if self.unread.is_empty() => {
-                self.take_read(rt, pool, scratch, withheld, desk)
-            }
-            Stage::Serving => self.take_unread(withheld, desk),
-            Stage::Ending => self.shutdown_write(scratch.now),
-            Stage::Lingering => self.linger(scratch),
+        match self.session.stage() {
+            Stage::Serving => {}
+            Stage::Ending => return self.shutdown_write(scratch.now),
+            Stage::Lingering => return self.session.linger(&mut scratch.buffer),
+        }
+        if let Some(name_of) = self.session.awaited_header() {
+            return self.read_header(name_of, scratch);
+        }
+        if self.stopped && !self.session.has_unread() {
+            self.session.stop_serving();
+            return Next::Again;
+        }
+        let buffer = &mut scratch.buffer;
+        let next = self.session.take(rt, pool, buffer, withheld, desk);
+        self.note_moved(next.waits_for_release(), scratch.now);
+        next
+    }
+
+    /// Reads on in the header of a gateway. When the service ends, it is not waited for.
+    fn read_header(&mut self, name_of: NameOf, scratch: &mut Scratch) -> Next
+        requires awaited { self.old.session.peer ≡ None }
+        requires proxy { self.old.session.proxy ≡ Some name_of }
+        requires serving { self.old.session.stage ≡ stages.Serving }
+        ensures { self.new.session.session ≡ self.old.session.session }
+    {
+        if self.stopped {
+            return Next::Close;
+        }
+        let next = self.session.read_header(name_of, &mut scratch.buffer);
+        let is_whole = self.session.awaited_header().is_none();
+        self.note_moved(is_whole, scratch.now);
+        next
+    }
+
+    /// Tells the peer that no more is written.
+    fn shutdown_write(&mut self, now: Instant) -> Next
+        requires { self.old.session.stage ≡ stages.Ending }
+        ensures session { self.new.session.session ≡ self.old.session.session }
+        ensures peer { self.new.session.peer ≡ self.old.session.peer }
+    {
+        self.moved = now;
+        if self.was_idle {
+            self.session.shutdown_idle();
+        } else {
+            self.session.shutdown_write();
+        }
+        Next::Again
+    }
+
+    /// Notes that bytes were moved now, if they were.
+    fn note_moved(&mut self, moved: bool, now: Instant)
+        ensures { self.new.session ≡ self.old.session }
+    {
+        if moved {
+            self.moved = now;
         }
     }
 
     /// Sends as much of what is unsent as the system takes.
     fn send(&mut self, now: Instant) -> Next
-        ensures kept { Kept self.old.session self.new.session }
-        ensures peer { self.new.peer ≡ self.old.peer }
+        ensures kept { Kept self.old.session.session self.new.session.session }
+        ensures peer { self.new.session.peer ≡ self.old.session.peer }
+        ensures is { IsConnection self.old.session }
     {
-        let unsent = self.session.unsent();
-        if unsent.is_empty() {
+        if self.session.is_sent() {
             return Next::Again;
         }
-        match self.stream.write(unsent) {
-            Moved::Bytes(count) => {
-                self.session.advance(count);
+        match self.session.send() {
+            Moved::Bytes(_) => {
                 self.moved = now;
                 Next::Again
             }
@@ -254,208 +214,53 @@ impl Connection {
         }
     }
 
-    /// Reads on in the header of a gateway, and no byte behind it. A connection that has none with a name is closed.
-    fn read_header(&mut self, name_of: NameOf, scratch: &mut Scratch) -> Next
-        ensures { self.new.session ≡ self.old.session }
-    {
-        let missing = match read_proxy_header(self.unread.as_slice(), name_of) {
-            ProxyHeader::Begun { missing } => missing.min(READ_SIZE),
-            ProxyHeader::Whole(peer) => {
-                self.peer = peer;
-                self.unread.clear();
-                self.stage = Stage::Serving;
-                self.moved = scratch.now;
-                return Next::Again;
-            }
-            ProxyHeader::Broken => return self.end(),
-        };
-        let count = match self.stream.read(&mut scratch.buffer[..missing]) {
-            Moved::Bytes(count) => count,
-            Moved::Blocked => return Next::WaitIo,
-            Moved::Over => return Next::Close,
-        };
-        match self.unread.extend_from_slice(&scratch.buffer[..count]) {
-            Ok(()) => Next::Again,
-            Err(_) => Next::Close,
-        }
-    }
-
-    /// Reads once, and takes the lines of the first piece of that; the rest waits until the replies are sent.
-    fn take_read<'a, R: Wait, D: Desk<'a> + Authorisations>(
-        &mut self,
-        rt: &R,
-        pool: &WorkerPool<'_>,
-        scratch: &mut Scratch,
-        withheld: &mut WithheldAnswers<'a>,
-        desk: &mut OwnDesk<D>,
-    ) -> Next
-        ensures { ConnectionSteps D.takes D.tells self.old.peer desk.old.desk desk.new.desk withheld.old withheld.new result self.old.session self.new.session }
-    {
-        let count = match self.stream.read(&mut scratch.buffer) {
-            Moved::Bytes(count) => count,
-            Moved::Blocked => return Next::WaitIo,
-            Moved::Over => return Next::Close,
-        };
-        self.moved = scratch.now;
-        self.filled = count == READ_SIZE;
-        let chunk = &scratch.buffer[..count];
-        if !self.served && memchr(b'\n', chunk).is_some() {
-            if !pool.begin_session(rt) {
-                return Next::Close;
-            }
-            self.served = true;
-        }
-        let piece = first_piece(chunk);
-        let bytes = &chunk[..piece.count];
-        let taken = take_lines(&mut self.session, self.peer, bytes, withheld, desk);
-        if self.unread.extend_from_slice(&chunk[taken..]).is_err() {
-            self.stage = Stage::Ending;
-        }
-        self.ask(piece, taken)
-    }
-
-    /// Takes the lines of the next piece of what was read.
-    fn take_unread<'a, D: Desk<'a> + Authorisations>(
-        &mut self,
-        withheld: &mut WithheldAnswers<'a>,
-        desk: &mut OwnDesk<D>,
-    ) -> Next
-        ensures { ConnectionSteps D.takes D.tells self.old.peer desk.old.desk desk.new.desk withheld.old withheld.new result self.old.session self.new.session }
-    {
-        self.filled = true;
-        let piece = first_piece(self.unread.as_slice());
-        let bytes = &self.unread.as_slice()[..piece.count];
-        let taken = take_lines(&mut self.session, self.peer, bytes, withheld, desk);
-        let left = self.unread.len() - taken;
-        self.unread.rotate_left(taken);
-        self.unread.truncate(left);
-        self.ask(piece, taken)
-    }
-
-    /// Waits for what was taken of the piece to be released. At once where a list may have been asked for, or where there
-    /// was no room for more answers.
-    fn ask(&self, piece: Piece, taken: usize) -> Next
-        ensures { WaitsForRelease result }
-    {
-        if piece.lists || taken < piece.count {
-            Next::ReleaseNow
-        } else {
-            Next::WaitRelease
-        }
-    }
-
-    /// Tells its part of the answers that are released, and sends the replies.
+    /// Tells its part of the answers that are released, and sends the replies. More may be there to be read at once.
     pub(crate) fn tell(&mut self, scratch: &mut Scratch, released: &Released<'_, '_>) -> Next
-        ensures { TellsOwn released.now self.old.session self.new.session }
+        ensures tells { TellsOwn released.now self.old.session.session self.new.session.session }
+        ensures peer { self.new.session.peer ≡ self.old.session.peer }
     {
-        if scratch.make_room().is_ok() {
-            self.session.exchange(&mut scratch.room);
-        }
-        self.session.tell(scratch.alloc, released);
-        self.reply(scratch)
-    }
-
-    /// Sends the replies. More may be there to be read at once.
-    fn reply(&mut self, scratch: &mut Scratch) -> Next
-        ensures { Kept self.old.session self.new.session }
-    {
-        if self.session.end().is_some() {
-            self.stage = Stage::Ending;
-        }
+        self.session.tell(scratch, released);
         match self.send(scratch.now) {
             Next::Again => {}
             other => return other,
         }
-        if !self.session.unsent().is_empty() {
+        if !self.session.is_sent() {
             return Next::Again;
         }
         self.session.exchange(&mut scratch.room);
-        let more = self.filled || !self.unread.is_empty();
-        if more || self.peer_closed || self.stage != Stage::Serving {
+        let serves = self.session.stage() == Stage::Serving;
+        if self.session.may_have_more() || self.peer_closed || !serves {
             Next::Again
         } else {
             Next::WaitIo
         }
     }
 
-    /// Answers no more lines.
-    fn end(&mut self) -> Next
-        ensures { self.new.session ≡ self.old.session }
-    {
-        self.stage = Stage::Ending;
-        Next::Again
-    }
-
-    /// Tells the peer that no more is written.
-    fn shutdown_write(&mut self, now: Instant) -> Next
-        ensures { self.new.session ≡ self.old.session }
-    {
-        if self.was_idle {
-            match self.stream.write(IDLE) {
-                Moved::Bytes(_) | Moved::Blocked => {}
-                Moved::Over => return Next::Close,
-            }
-        }
-        self.stream.shutdown_write();
-        self.stage = Stage::Lingering;
-        self.moved = now;
-        Next::Again
-    }
-
-    fn linger(&mut self, scratch: &mut Scratch) -> Next
-        ensures { self.new.session ≡ self.old.session }
-    {
-        match self.stream.read(&mut scratch.buffer) {
-            Moved::Bytes(_) => Next::Again,
-            Moved::Blocked => Next::WaitIo,
-            Moved::Over => Next::Close,
-        }
-    }
-
     /// What becomes of the connection by the time that has passed.
     pub(crate) fn check_timeouts(&mut self, now: Instant, idle: Option<Duration>) -> Next {
         let age = now.duration_since(self.moved);
-        match self.stage {
-            Stage::Lingering => return close_after(age, PATIENCE),
-            Stage::Header(_) => return close_after(age, HEADER_TIMEOUT),
-            Stage::Serving | Stage::Ending => {}
+        let stage = self.session.stage();
+        if stage == Stage::Lingering {
+            return close_after(age, PATIENCE);
         }
-        if !self.session.unsent().is_empty() {
+        if stage == Stage::Serving && self.session.awaited_header().is_some() {
+            return close_after(age, HEADER_TIMEOUT);
+        }
+        if !self.session.is_sent() {
             return close_after(age, if self.stopped { PATIENCE } else { SENDING });
         }
         match idle {
-            Some(most) if self.stage == Stage::Serving && age >= most => {
+            Some(most) if stage == Stage::Serving && age >= most => {
                 self.was_idle = true;
-                self.end()
+                self.session.stop_serving();
+                Next::Again
             }
             _ => Next::WaitIo,
         }
     }
 }
 
-/// Takes the lines of these bytes for this peer, where the session goes on, and tells how many of the bytes are done with.
-fn take_lines<'a, D: Desk<'a> + Authorisations>(
-    session: &mut BufferedSession,
-    peer: Peer,
-    bytes: &[u8],
-    withheld: &mut WithheldAnswers<'a>,
-    desk: &mut OwnDesk<D>,
-) -> usize
-    ensures within { result ≤ length bytes.now }
-    ensures steps { (next : TheNext) → WaitsForRelease next
-        → ConnectionSteps D.takes D.tells peer desk.old.desk desk.new.desk withheld.old withheld.new next session.old session.new }
-{
-    if session.end().is_some() {
-        return bytes.len();
-    }
-    if session.waiting() != 0 {
-        return 0;
-    }
-    desk.turn_to(peer);
-    session.take(bytes, withheld, desk)
-}
-
-/// A connection that waited so long is closed behind this number of seconds.
+/// A connection that waited so long is closed after this number of seconds.
 fn close_after(age: Duration, most: u64) -> Next {
     if age.as_secs() >= most {
         Next::Close

@@ -3,16 +3,17 @@ ghost use Rattle.std.specs.Prelude.{◌≡◌, ◌≢◌, ◌++◌, ◌∷◌, [
 ghost use Rattle.std.specs.List.{Contains};
 ghost use Rattle.slab.specs.Slab.{get};
 ghost use Rattle.nmvs_connections.specs.declared.connection.Connection.{Connection as TheConnection};
-ghost use Rattle.nmvs_connections.specs.Turns.{EachGoes, WaitsForRelease, TellsAll, TellsOwn, TellsWhereAsked, TurnOfOne, WorkerTurn};
+ghost use Rattle.nmvs_connections.specs.Turns.{EachGoes, WaitsForRelease, TellsAll, TellsPeer, TellsWhereAsked, TurnOfOne, WorkerTurn};
 
-use crate::connection::{Connection, Next, Scratch};
+use crate::connection::Connection;
+use crate::next::Next;
+use crate::scratch::Scratch;
 use crate::worker_pool::{Accepted, Poller, WAKE, WorkerPool};
 use log::{Log, debug};
 use mio::event::Event;
 use mio::{Events, Registry};
 use nmvs_figures::Fault;
-use nmvs_messages::{Authorisations, Desk, Released, WithheldAnswers};
-use nmvs_protocol::OwnDesk;
+use nmvs_messages::{Desk, Released, WithheldAnswers};
 use slab::Slab;
 use std::alloc::{AllocError, Global};
 use std::rt::Clock;
@@ -31,13 +32,13 @@ const TICK: u64 = 1;
 /// # Errors
 ///
 /// The system refused to wait, or the clock can't be read.
-pub fn serve<'a, R: Wait + Clock + Log, D: Desk<'a> + Authorisations>(
+pub fn serve<'a, R: Wait + Clock + Log, D: Desk<'a>>(
     rt: &R,
     alloc: Global,
     pool: &WorkerPool<'_>,
     worker: usize,
     poller: Poller,
-    desk: &mut OwnDesk<D>,
+    desk: &mut D,
 ) -> io::Result<()> {
     let mut poller = poller;
     let mut scratch = Scratch::new(alloc, Instant::now(rt)?);
@@ -75,13 +76,13 @@ impl EventLoop {
     }
 
     /// Serves the connections until the pool is closed and each session has ended.
-    fn serve_all<'a, R: Wait + Clock + Log, D: Desk<'a> + Authorisations>(
+    fn serve_all<'a, R: Wait + Clock + Log, D: Desk<'a>>(
         &mut self,
         rt: &R,
         pool: &WorkerPool<'_>,
         poller: &mut Poller,
         scratch: &mut Scratch,
-        desk: &mut OwnDesk<D>,
+        desk: &mut D,
     ) -> io::Result<()> {
         let mut withheld = WithheldAnswers::new();
         for _ in 0..u64::MAX {
@@ -209,17 +210,17 @@ impl EventLoop {
 
     /// Gives each connection whose turn it is its turn. The answers of all of them are released together, as far as the
     /// list of them has room and none shows a list.
-    fn take_turns<'a, R: Wait + Log, D: Desk<'a> + Authorisations>(
+    fn take_turns<'a, R: Wait + Log, D: Desk<'a>>(
         &mut self,
         rt: &R,
         pool: &WorkerPool<'_>,
         scratch: &mut Scratch,
         withheld: &mut WithheldAnswers<'a>,
-        desk: &mut OwnDesk<D>,
+        desk: &mut D,
     )
         requires { withheld.old ≡ [] }
         ensures none_withheld { withheld.new ≡ [] }
-        ensures turn { WorkerTurn D.takes D.tells D.releases D.moves desk.old.desk desk.new.desk self.old.connections self.new.connections }
+        ensures turn { WorkerTurn D.takes D.releases D.moves desk.old desk.new self.old.connections self.new.connections }
     {
         for index in 0..self.turns.len() {
             let Some(key) = self.turns.get(index).copied() else {
@@ -236,16 +237,16 @@ impl EventLoop {
     }
 
     /// Gives a connection its turn, and tells whether what is withheld is released before another has its own.
-    fn take_turn<'a, R: Wait + Log, D: Desk<'a> + Authorisations>(
+    fn take_turn<'a, R: Wait + Log, D: Desk<'a>>(
         &mut self,
         rt: &R,
         pool: &WorkerPool<'_>,
         key: usize,
         scratch: &mut Scratch,
         withheld: &mut WithheldAnswers<'a>,
-        desk: &mut OwnDesk<D>,
+        desk: &mut D,
     ) -> bool
-        ensures { TurnOfOne D.takes D.tells key desk.old.desk desk.new.desk withheld.old withheld.new self.old.awaiting.items self.new.awaiting.items self.old.connections self.new.connections }
+        ensures { TurnOfOne D.takes key desk.old desk.new withheld.old withheld.new self.old.awaiting.items self.new.awaiting.items self.old.connections self.new.connections }
     {
         let Some(connection) = self.connections.get_mut(key) else {
             return false;
@@ -270,17 +271,17 @@ impl EventLoop {
 
     /// Has the desk release what is withheld, once for all connections that wait for it, and each of them tell its own.
     /// Where nothing is withheld the desk is not asked.
-    fn tell_all<'a, R: Wait + Log, D: Desk<'a> + Authorisations>(
+    fn tell_all<'a, R: Wait + Log, D: Desk<'a>>(
         &mut self,
         rt: &R,
         pool: &WorkerPool<'_>,
         scratch: &mut Scratch,
         withheld: &mut WithheldAnswers<'a>,
-        desk: &mut OwnDesk<D>,
+        desk: &mut D,
     )
         ensures none_withheld { withheld.new ≡ [] }
         ensures none_asks { self.new.awaiting.items ≡ [] }
-        ensures tells { TellsAll D.releases D.moves desk.old.desk desk.new.desk withheld.old self.old.awaiting.items self.old.connections self.new.connections }
+        ensures tells { TellsAll D.releases D.moves desk.old desk.new withheld.old self.old.awaiting.items self.old.connections self.new.connections }
     {
         if withheld.len() == 0 {
             self.tell_each(rt, pool, scratch, &withheld.release());
@@ -318,7 +319,7 @@ impl EventLoop {
         released: &Released<'_, '_>,
     )
         ensures awaiting { self.new.awaiting ≡ self.old.awaiting }
-        ensures tells { EachGoes (λ other state state'. (other ≡ key → TellsOwn released.now state state') × (other ≢ key → state' ≡ state)) self.old.connections self.new.connections }
+        ensures tells { EachGoes (λ other state state'. (other ≡ key → TellsPeer released.now state state') × (other ≢ key → state' ≡ state)) self.old.connections self.new.connections }
     {
         let Some(connection) = self.connections.get_mut(key) else {
             return;

@@ -7,19 +7,23 @@
 //! carries the lines of the peer that it names alone.
 #![tactic(auto)]
 
-mod accept_loop;
+mod acceptor;
 mod buffered_session;
+mod byte_tag;
 mod connection;
 mod event_loop;
 mod keepalive;
-mod pieces;
+mod next;
+mod peer_session;
 mod proxy_header;
+mod scratch;
+mod socket;
 mod stream;
 mod worker_pool;
 mod write_buffer;
 
-pub use accept_loop::accept_loop;
+pub use acceptor::accept_loop;
 pub use buffered_session::BufferedSession;
 pub use event_loop::serve;
-pub use stream::Listener;
+pub use socket::Listener;
 pub use worker_pool::{Bounds, Load, Poller, WorkerPool};

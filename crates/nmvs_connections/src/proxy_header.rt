@@ -5,7 +5,7 @@ use nmvs_gateway::{Header, read_header};
 use nmvs_messages::{NameOf, Peer};
 
 #[cfg(test)]
-mod tests;
+pub(crate) mod tests;
 
 /// What the first bytes of a connection tell.
 #[derive(Clone, Copy)]

@@ -1,6 +1,6 @@
-//! Connections and listeners, over TCP or a socket of this machine.
+//! Sockets and listeners, over TCP or of this machine.
 ghost use Rattle.std.specs.Prelude.{◌≤◌, ℕ, length, IfOk};
-ghost use Rattle.nmvs_connections.specs.Moved.{IsWithin};
+ghost use Rattle.nmvs_connections.specs.Streams.{IsWithin};
 
 use crate::keepalive::keep_alive;
 use mio::net::{TcpListener, TcpStream, UnixListener, UnixStream};
@@ -12,7 +12,8 @@ use std::os::fd::{AsRawFd, RawFd};
 use std::path::AsPath;
 use std::rt::Files;
 
-/// What a read or a write of a connection came to.
+/// What a read or a write of a socket came to.
+#[derive(Clone, Copy)]
 pub(crate) enum Moved {
     /// So many bytes were moved.
     Bytes(usize),
@@ -22,20 +23,20 @@ pub(crate) enum Moved {
     Over,
 }
 
-/// An open connection, whose reads and writes never wait.
+/// The socket of a connection, whose reads and writes never wait.
 #[derive(Drop)]
-pub(crate) enum Stream {
+pub(crate) enum Socket {
     Tcp(TcpStream),
     Unix(UnixStream),
 }
 
-impl Stream {
+impl Socket {
     /// Has a poll report the connection under the token, when it may be read or written.
     pub(crate) fn register(&mut self, registry: &Registry, token: Token) -> io::Result<()> {
         let both = Interest::READABLE | Interest::WRITABLE;
         match self {
-            Stream::Tcp(stream) => registry.register(stream, token, both),
-            Stream::Unix(stream) => registry.register(stream, token, both),
+            Socket::Tcp(stream) => registry.register(stream, token, both),
+            Socket::Unix(stream) => registry.register(stream, token, both),
         }
     }
 
@@ -43,8 +44,8 @@ impl Stream {
         ensures { IsWithin result (length buffer.old) }
     {
         let read = match self {
-            Stream::Tcp(stream) => stream.read(buffer),
-            Stream::Unix(stream) => stream.read(buffer),
+            Socket::Tcp(stream) => stream.read(buffer),
+            Socket::Unix(stream) => stream.read(buffer),
         };
         outcome_of(read)
     }
@@ -53,8 +54,8 @@ impl Stream {
         ensures { IsWithin result (length bytes.now) }
     {
         let written = match self {
-            Stream::Tcp(stream) => stream.write(bytes),
-            Stream::Unix(stream) => stream.write(bytes),
+            Socket::Tcp(stream) => stream.write(bytes),
+            Socket::Unix(stream) => stream.write(bytes),
         };
         outcome_of(written)
     }
@@ -62,8 +63,8 @@ impl Stream {
     /// Tells the peer that no more is written. A connection that is broken stays so.
     pub(crate) fn shutdown_write(&self) {
         let _broken = match self {
-            Stream::Tcp(stream) => stream.shutdown(Shutdown::Write),
-            Stream::Unix(stream) => stream.shutdown(Shutdown::Write),
+            Socket::Tcp(stream) => stream.shutdown(Shutdown::Write),
+            Socket::Unix(stream) => stream.shutdown(Shutdown::Write),
         };
     }
 }
@@ -115,17 +116,17 @@ impl Listener {
     }
 
     /// The next connection, or `WouldBlock` where none waits.
-    pub(crate) fn accept(&self) -> io::Result<Stream> {
+    pub(crate) fn accept(&self) -> io::Result<Socket> {
         match self {
             Listener::Tcp(listener) => {
                 let (stream, _peer) = listener.accept()?;
                 let _slow = stream.set_nodelay(true);
                 keep_alive(&stream);
-                Ok(Stream::Tcp(stream))
+                Ok(Socket::Tcp(stream))
             }
             Listener::Unix(listener) => {
                 let (stream, _peer) = listener.accept()?;
-                Ok(Stream::Unix(stream))
+                Ok(Socket::Unix(stream))
             }
         }
     }

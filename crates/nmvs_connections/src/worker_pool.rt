@@ -1,5 +1,5 @@
 //! What the threads of a server share.
-use crate::stream::Stream;
+use crate::socket::Socket;
 use mio::{Events, Poll, Token, Waker};
 use nmvs_figures::{Fault, Panel, Tally};
 use nmvs_messages::NameOf;
@@ -88,7 +88,7 @@ pub struct Load {
 #[derive(Drop)]
 pub(crate) struct Accepted {
     pub(crate) number: usize,
-    pub(crate) stream: Stream,
+    pub(crate) socket: Socket,
 }
 
 /// How a worker is reached: the connections that were accepted for it, and what ends its wait.

@@ -8,7 +8,7 @@ use nmvs_figures::Panel;
 use nmvs_history::Histories;
 use nmvs_offices::Offices;
 use nmvs_operator::Options;
-use nmvs_rate::SharedRates;
+use nmvs_rate::SharedLimiter;
 use nmvs_shard::HashKey;
 use std::alloc::Global;
 use std::fs::File;
@@ -49,7 +49,7 @@ pub(crate) struct Shared<'s, 'f, 'r, 'o, R, J: Naming, H: Histories> {
     pub(crate) offices: &'s Option<Offices<'f, 'r, JournalStore<'r>, H>>,
     pub(crate) latest: &'s Mutex<Notice<J>>,
     /// How much each user may still ask, where there is a rate.
-    pub(crate) rates: &'s Option<SharedRates<Global>>,
+    pub(crate) limiter: &'s Option<SharedLimiter<Global>>,
     /// Whether the workers may begin: it is locked until all of them are there.
     pub(crate) ready: &'s Mutex<bool>,
 }

@@ -12,10 +12,8 @@ use nmvs_desk::Clerk;
 use nmvs_directory::{Naming, Registrar};
 use nmvs_history::Histories;
 use nmvs_kept_users::KeptUsers;
-use nmvs_messages::{Authorisations, Desk};
+use nmvs_messages::Desk;
 use nmvs_operator::{Latest, Options, obey_all};
-use nmvs_protocol::OwnDesk;
-use nmvs_rate::{Gate, RatedDesk};
 use nmvs_reception::{ClerkDesk, JournalDesk, ProgramClock};
 use nmvs_stream::{Console, Sides, Sink, deliver};
 use std::alloc::{AllocError, Global};
@@ -65,6 +63,7 @@ fn work<'r, R: Wait + Clock + Log, J: Naming, H: Histories>(
         clerk,
         shared.repository,
         shared.latest,
+        shared.limiter.as_ref(),
         clock,
         tally,
     );
@@ -82,20 +81,20 @@ fn work<'r, R: Wait + Clock + Log, J: Naming, H: Histories>(
     }
 }
 
-/// Serves connections by a desk, each user within the rate, and gives the desk back. Where it can't go on it ends the
+/// Serves connections by a desk, and gives it back. Where it can't go on it ends the
 /// service.
-fn serve_by_desk<'r, R: Wait + Clock + Log, J: Naming, H: Histories, D: Desk<'r> + Authorisations>(
+fn serve_by_desk<'r, R: Wait + Clock + Log, J: Naming, H: Histories, D: Desk<'r>>(
     shared: &Shared<'_, '_, 'r, '_, R, J, H>,
     number: usize,
     poller: Poller,
     desk: D,
 ) -> D {
     let run = shared.run;
-    let mut own = OwnDesk::new(RatedDesk::new(desk, Gate::new(run.rt, shared.rates.as_ref())));
-    if serve(run.rt, *run.alloc, shared.pool, number, poller, &mut own).is_err() {
+    let mut desk = desk;
+    if serve(run.rt, *run.alloc, shared.pool, number, poller, &mut desk).is_err() {
         shared.pool.stop(run.rt);
     }
-    own.into_desk().into_desk()
+    desk
 }
 
 /// Accepts connections for the workers. Where it can't go on it ends the service.

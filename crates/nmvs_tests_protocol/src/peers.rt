@@ -22,15 +22,14 @@ fn a_peer_speaks_for_its_own_users(rt: HostRuntime) {
         ("ph1b", "ph1", false, true),
         ("ph2", "ph2", false, false),
     ] {
-        let user = name(&rt, user);
-        let authorisation = name(&rt, authorisation);
+        let (named, enrolled) = (name(&rt, user), name(&rt, authorisation));
         for (peer, speaks) in [
             (Peer::Anyone, true),
             (NameOf::User.peer(own), by_user),
             (NameOf::Authorisation.peer(own), by_authorisation),
         ] {
             assert!(rt;
-                peer.speaks_for(&user, &authorisation) == speaks,
+                peer.speaks_for(&named, &enrolled) == speaks,
                 "{user} {authorisation}"
             );
         }

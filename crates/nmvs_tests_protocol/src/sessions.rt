@@ -363,6 +363,24 @@ fn kind_at(released: &Released<'_, '_>, place: usize) -> &'static str {
     }
 }
 
+/// The lines after a report wait until it is told.
+#[test]
+fn a_session_takes_no_line_after_a_report(rt: HostRuntime) {
+    let alloc = rt.alloc();
+    let mut desk = Shelf {
+        alloc: &alloc,
+        uploaded: None,
+        asked: 0,
+        kept: [ALL],
+    };
+    let mut withheld = WithheldAnswers::new();
+    let lines = b"ph1\nau1 REPORT 09506000134352\nph1\n";
+    let mut session = Session::new(9);
+    let taking = session.take(lines, &mut withheld, &Peer::Anyone, &mut desk);
+    assert_eq!(rt; (taking.bytes, taking.end, withheld.len()), (30, None, 2));
+    assert!(rt; withheld.ends_long());
+}
+
 /// Answers stand in the order in which their lines were taken, and each session goes on behind its own.
 #[test]
 fn two_sessions_take_into_one_list(rt: HostRuntime) {

@@ -1,6 +1,6 @@
 //! Buffered sessions that share a desk.
 use nmvs_connections::BufferedSession;
-use nmvs_messages::{Ask, Content, Desk, End, Released, Turn, Withheld, WithheldAnswers};
+use nmvs_messages::{Ask, Content, Desk, End, Peer, Released, Turn, Withheld, WithheldAnswers};
 use std::alloc::Global;
 use std::test::*;
 
@@ -13,13 +13,13 @@ impl<'a> Desk<'a> for Stranger {
 
     type Evidence = ();
 
-    ghost takes = { λ _ _ _ _. Unit {0} };
+    ghost takes = { λ _ _ _ _ _. Unit {0} };
 
     ghost releases = { AtOnce };
 
     ghost moves = { Stays };
 
-    fn take(&mut self, _ask: &Ask) -> Withheld<'a> {
+    fn take(&mut self, _from: &Peer, _ask: &Ask) -> Withheld<'a> {
         Withheld::new(Content::Turned(Turn::Nobody))
     }
 
@@ -31,7 +31,7 @@ impl<'a> Desk<'a> for Stranger {
 /// Has a session that goes on take these bytes, and tells how many it took.
 fn take(session: &mut BufferedSession, more: &[u8], withheld: &mut WithheldAnswers<'_>) -> usize {
     if session.end().is_none() && session.waiting() == 0 {
-        session.take(more, withheld, &mut Stranger)
+        session.take(more, withheld, &Peer::Anyone, &mut Stranger)
     } else {
         0
     }
@@ -45,9 +45,12 @@ fn send(session: &mut BufferedSession, count: usize) {
 }
 
 #[test]
-fn dialogues_beside_each_other_are_answered_each(rt: HostRuntime) -> Result<(), Fail> {
+fn sessions_that_share_a_desk_are_answered_each(rt: HostRuntime) -> Result<(), Fail> {
     let alloc = rt.alloc();
-    let (mut one, mut other) = (BufferedSession::new(alloc, 9), BufferedSession::new(alloc, 1));
+    let (mut one, mut other) = (
+        BufferedSession::new(alloc, 9),
+        BufferedSession::new(alloc, 1),
+    );
     let mut withheld = WithheldAnswers::new();
     let mut taken = [0; 3];
     taken[0] = take(&mut one, b"ph1 STATUS 0950", &mut withheld);

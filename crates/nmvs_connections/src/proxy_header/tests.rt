@@ -4,7 +4,7 @@ use nmvs_messages::{NameOf, Peer};
 use std::test::*;
 
 /// What HAProxy 2.6 sends over IPv4 before the first byte of a terminal with the certificate of ph1.
-const HEADER: &[u8] =
+pub(crate) const HEADER: &[u8] =
     b"\r\n\r\n\0\r\nQUIT\n\x21\x11\0\x24\x7f\0\0\x01\x7f\0\0\x01\xac\xf2\x1d\xdd\x20\0\x15\x07\0\0\0\0\x21\0\x07TLSv1.3\x22\0\x03ph1\n";
 
 #[test]

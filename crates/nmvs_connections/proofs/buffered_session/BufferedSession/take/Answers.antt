@@ -1,6 +1,7 @@
 use Rattle.std.proofs.Common.{◌≡◌, ◌∙◌, ◌++◌, ◌-◌, ℕ, List, [], Option, None, length, take, drop, sym, ap, subst, arith}
 use Rattle.std.proofs.lemmas.List.{length-append}
 use Rattle.nmvs_messages.specs.declared.withheld.Withheld.{Withheld}
+use Rattle.nmvs_messages.specs.Peers.{TakesFrom}
 use Rattle.nmvs_messages.specs.PendingLines.{kept_part}
 use Rattle.nmvs_stream.specs.InputLines.{lines_after, unfinished_line}
 use Rattle.nmvs_stream.proofs.LinesOfPieces.{rest_after-append}
@@ -20,7 +21,7 @@ invariant_of-self g c =
     subst (λ (n : ℕ). Replies is.fed.numbers text n None) none (subst (λ (o : Option End). Replies is.fed.numbers text is.waiting o) open_still c.self.invariant.2) in
     let took = c.take-taking.ensures.takes (unfinished_line is.fed.numbers) ready.0 ready.1 in
     let bytes = take c.take-taking.result.bytes c.args.more.now in
-    let lines = taken_length g.D.Desk.takes _ _ _ _ took.answers in
+    let lines = taken_length (TakesFrom g.D.Desk.takes c.args.from.now) _ _ _ _ took.answers in
     let grown = ap (λ (l : List Withheld). length l) took.behind ∙ length-append c.args.withheld.now took.held in
     let line = took.line ∙ ap kept_part (sym (rest_after-append [] is.fed.numbers bytes)) in
     let before = c.len-self-inside.ensures in
@@ -54,7 +55,7 @@ returns-clause-asks g c =
     let before = c.len-self-inside.ensures in
     let after = c.len.ensures in
     let fed : is.fed.numbers ≡ c.args.self.now.fed = ap (λ t. t.fed) c.self.view_is in
-    subst (λ (f : List ℕ). Asked g.D.Desk.takes f bytes c.args.desk.now c.take-taking.new.desk c.args.withheld.now c.take-taking.new.withheld (c.len.result - c.len-self-inside.result)) fed
+    subst (λ (f : List ℕ). Asked (TakesFrom g.D.Desk.takes c.args.from.now) f bytes c.args.desk.now c.take-taking.new.desk c.args.withheld.now c.take-taking.new.withheld (c.len.result - c.len-self-inside.result)) fed
     (record { held = took.held; behind = took.behind; answers = took.answers; one = omega (arith, grown, before, after) })
 
 pub returns-clause-sound : goal.returns-clause-sound

@@ -24,5 +24,5 @@ returns-clause-tells g c =
     let connections = c.args.self.now.connections in
     each_still (TellsOne c.args.released.now c.args.key) connections (with_value connections c.args.key c.tell-next.new.self) c.go_on.new.self.connections
     (each_set (TellsOne c.args.released.now c.args.key) connections c.args.key c.in-Some.connection.now c.tell-next.new.self c.in-Some.ensures.value
-    (λ same. c.tell-next.ensures, λ apart. absurd (apart refl)) (λ other a apart. (λ same. absurd (apart same), λ _. refl)))
+    (λ same. (c.tell-next.ensures.tells, c.tell-next.ensures.peer), λ apart. absurd (apart refl)) (λ other a apart. (λ same. absurd (apart same), λ _. refl)))
     c.go_on.ensures.connections

@@ -1,6 +1,5 @@
-use Rattle.std.proofs.Common.{rules, [], ◌∷◌, ◌++◌, ◌∙◌, sym, ap, subst, refl, inl, inr}
+use Rattle.std.proofs.Common.{rules, ◌∙◌, sym, ap, subst, refl, inl, inr}
 use Rattle.nmvs_rules.specs.declared.entry.Entry.{Entry}
-use Rattle.nmvs_rules.specs.Rules.{answered}
 use Rattle.nmvs_shard.specs.Asking.{Asks}
 use Rattle.nmvs_rehearsal.specs.Rehearsal.{put_at}
 use Rattle.nmvs_rehearsal.proofs.rehearsal.RehearsalDesk.judge.Goals as goal
@@ -13,27 +12,26 @@ returns c =
     let new = c.ask.new.self in
     elim c.match-ask.branch [
       | in-Ok-New w ↦
-          let asks = subst (λ o. Asks old put new o) w.in-Ok-New.field-0-is w.in-Ok-New.ensures.asks in
-          let lawful = ap (λ (e : Entry). e.reply) asks.1.entry in
+          let asks = subst (λ o. Asks old put new o) w.in-Ok-New.field-0-is w.in-Ok-New.ensures.asked in
           rw (← c.self.view_is, w.result-is, w.told.ensures)
           (record {
             actor = c.in-Some.actor;
             rostered = c.in-Some.ensures.known;
-            answers = inl (record { first = asks.0; lawful = lawful; shows = asks.1.shows; grows = asks.1.trail ∙ ap (λ e. old ++ e ∷ []) (asks.1.entry ∙ ap (answered put) (sym lawful)) });
+            answers = inl (record { first = asks.0; lawful = asks.1; shows = asks.2; grows = asks.3 });
             moments = refl;
           })
       | in-Ok-Again w ↦
-          let asks = subst (λ o. Asks old put new o) w.in-Ok-Again.field-0-is w.in-Ok-Again.ensures.asks in
+          let asks = subst (λ o. Asks old put new o) w.in-Ok-Again.field-0-is w.in-Ok-Again.ensures.asked in
           rw (← c.self.view_is, w.result-is, w.told-in-Ok-Again.ensures)
           (record {
             actor = c.in-Some.actor;
             rostered = c.in-Some.ensures.known;
-            answers = inr (record { place = w.in-Ok-Again.answered.place; repeats = asks.1.repeat; shows = asks.1.shows; same = asks.0 });
+            answers = inr (record { place = w.in-Ok-Again.field-0-0; repeats = asks.0; shows = asks.1; same = asks.2 });
             moments = refl;
           })
       | in-Ok-Other w ↦
-          let asks = subst (λ o. Asks old put new o) w.in-Ok-Other.field-0-is w.in-Ok-Other.ensures.asks in
+          let asks = subst (λ o. Asks old put new o) w.in-Ok-Other.field-0-is w.in-Ok-Other.ensures.asked in
           rw (← c.self.view_is, w.result-is)
-          (record { actor = c.in-Some.actor; rostered = c.in-Some.ensures.known; other = asks.1 }, record { trail = asks.0; moments = refl })
+          (record { actor = c.in-Some.actor; rostered = c.in-Some.ensures.known; other = asks.0 }, record { trail = asks.1; moments = refl })
       | in-Err w ↦ rw (← c.self.view_is, w.result-is) (search rules, record { trail = w.in-Err.ensures.unchanged; moments = refl })
     ]

@@ -1,5 +1,5 @@
 //! The thread that accepts connections.
-use crate::stream::{Listener, Moved, Stream};
+use crate::socket::{Listener, Moved, Socket};
 use crate::worker_pool::{Accepted, Poller, WorkerPool};
 use log::{Log, debug};
 use mio::unix::SourceFd;
@@ -58,14 +58,14 @@ fn accept_all<R: Wait + Log>(
 ) -> Option<Duration> {
     for _ in 0..u64::MAX {
         match listener.accept() {
-            Ok(stream) => {
+            Ok(socket) => {
                 let (number, worker) = (*next, pool.worker_of(*next));
                 if pool.enter(rt, worker) {
                     debug!(rt; connection = number, worker; "connection begins");
-                    pool.assign(rt, worker, Accepted { number, stream });
+                    pool.assign(rt, worker, Accepted { number, socket });
                     *next = number.wrapping_add(1);
                 } else {
-                    turn_away(stream);
+                    turn_away(socket);
                 }
             }
             Err(error) if error.kind() == ErrorKind::WouldBlock => return None,
@@ -76,9 +76,9 @@ fn accept_all<R: Wait + Log>(
 }
 
 /// Tells a connection that it is one too many, and closes it.
-fn turn_away(mut stream: Stream) {
-    match stream.write(BUSY) {
-        Moved::Bytes(_) => stream.shutdown_write(),
+fn turn_away(mut socket: Socket) {
+    match socket.write(BUSY) {
+        Moved::Bytes(_) => socket.shutdown_write(),
         Moved::Blocked | Moved::Over => {}
     }
 }
