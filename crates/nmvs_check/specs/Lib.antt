@@ -1,2 +1,4 @@
 pub mod Answers
 pub mod Comparison
+pub mod Scans
+pub mod Status

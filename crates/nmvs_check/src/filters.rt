@@ -228,7 +228,7 @@ fn reply(alloc: Global, matches: &ArgMatches<'_>) -> Result<Option<ReplyKind>, O
 }
 
 /// Why a value is refused.
-fn refused(alloc: Global, text: &str, wanted: &str) -> OptionFault {
+pub(crate) fn refused(alloc: Global, text: &str, wanted: &str) -> OptionFault {
     match format!(in alloc; "error: '{text}' is no {wanted}\n") {
         Ok(text) => OptionFault::Refused(text),
         Err(_) => OptionFault::Memory,

@@ -7,17 +7,21 @@ mod filters;
 mod inputs;
 mod inspect_fault;
 mod inspection;
+mod line_fault;
 mod options;
 mod page_file;
 mod request;
+mod scans;
 
 use crate::comparison::{CompareFault, compare};
 use crate::inputs::{InputFault, Inputs};
-use crate::inspect_fault::{InspectFault, fault_text};
+use crate::inspect_fault::{InspectFault, fault_text, status_of};
 use crate::inspection::inspect;
 use crate::options::{Asked, OptionFault, Options, read_options};
 use crate::page_file::{PageFault, write_page};
 use crate::request::Request;
+use crate::scans::answer_scans;
+use nmvs_elements::National;
 use nmvs_record::Finding;
 use nmvs_shard::HashKey;
 use nmvs_stream::Device;
@@ -26,8 +30,14 @@ use std::process::ExitCode;
 use std::rt::Env;
 use std::{env, io, slice};
 
-/// The most reads of an export.
+/// The most reads of an export, or of lines of scans.
 const READS: u64 = 1_000_000_000;
+
+/// The status of an export that is bad, of one that departs, and of lines of scans that are not all read.
+const BAD: u8 = 1;
+
+/// The status where nothing is known of the input, or not all of the answer was written.
+const TROUBLE: u8 = 2;
 
 fn main(rt: HostRuntime) -> ExitCode {
     let alloc = rt.alloc();
@@ -42,7 +52,7 @@ fn main(rt: HostRuntime) -> ExitCode {
         }
         Err(OptionFault::Refused(text)) => {
             let _ = eprint!(rt; "{text}");
-            ExitCode::from(2)
+            ExitCode::from(TROUBLE)
         }
         Err(OptionFault::Memory) => fail(&rt, "out of memory"),
     }
@@ -62,6 +72,7 @@ fn answer(rt: &HostRuntime, alloc: Global, asked: &Asked) -> ExitCode {
     match asked {
         Asked::Inspection(options) => check(rt, alloc, key, options),
         Asked::Comparison { old, new } => compare_files(rt, alloc, key, old, new),
+        Asked::Scans(nation) => scan(rt, alloc, *nation),
     }
 }
 
@@ -77,7 +88,7 @@ fn check(rt: &HostRuntime, alloc: Global, key: HashKey, options: &Options) -> Ex
             Err(PageFault::Inspect(fault)) => fail_at(rt, alloc, &inputs, &fault),
             Err(PageFault::File) => {
                 let _ = eprintln!(rt; "the file {path} cannot be written");
-                ExitCode::FAILURE
+                ExitCode::from(TROUBLE)
             }
         };
     }
@@ -97,7 +108,10 @@ fn fail_at(rt: &HostRuntime, alloc: Global, inputs: &Inputs, fault: &InspectFaul
         return fail_digest(rt, path);
     }
     match fault_text(alloc, fault) {
-        Ok(text) => fail(rt, &text),
+        Ok(text) => {
+            let _ = eprintln!(rt; "{text}");
+            ExitCode::from(status_of(fault))
+        }
         Err(AllocError) => fail(rt, "out of memory"),
     }
 }
@@ -125,12 +139,12 @@ fn compare_files(
     };
     match compared {
         Ok(true) => ExitCode::SUCCESS,
-        Ok(false) => ExitCode::FAILURE,
+        Ok(false) => ExitCode::from(BAD),
         Err(CompareFault::Old(finding)) => fail_of(rt, alloc, old, &before, finding),
         Err(CompareFault::New(finding)) => fail_of(rt, alloc, new, &after, finding),
         Err(CompareFault::Answer(fault)) => {
             let _ = eprintln!(rt; "{fault}");
-            ExitCode::FAILURE
+            ExitCode::from(TROUBLE)
         }
     }
 }
@@ -141,11 +155,11 @@ fn opened(rt: &HostRuntime, alloc: Global, paths: &[String]) -> Result<Inputs, E
         Ok(inputs) => Ok(inputs),
         Err(InputFault::Closed(path)) => {
             let _ = eprintln!(rt; "the file {path} cannot be opened");
-            Err(ExitCode::FAILURE)
+            Err(ExitCode::from(TROUBLE))
         }
         Err(InputFault::Digest(path, fault)) => {
             let _ = eprintln!(rt; "{path}.sha256: {fault}");
-            Err(ExitCode::FAILURE)
+            Err(ExitCode::from(TROUBLE))
         }
         Err(InputFault::Memory) => Err(fail(rt, "out of memory")),
     }
@@ -154,7 +168,7 @@ fn opened(rt: &HostRuntime, alloc: Global, paths: &[String]) -> Result<Inputs, E
 /// Tells that the digest of a file is not the one beside it, and gives the status that this makes.
 fn fail_digest(rt: &HostRuntime, path: &str) -> ExitCode {
     let _ = eprintln!(rt; "the digest of {path} is not the one in {path}.sha256");
-    ExitCode::FAILURE
+    ExitCode::from(BAD)
 }
 
 /// Tells what was found of the export in a file, and gives the status that it makes.
@@ -168,17 +182,35 @@ fn fail_of(
     if inputs.differing().is_some() {
         return fail_digest(rt, path);
     }
-    match fault_text(alloc, &InspectFault::Found(finding)) {
+    let fault = InspectFault::Found(finding);
+    match fault_text(alloc, &fault) {
         Ok(text) => {
             let _ = eprintln!(rt; "{path}: {text}");
-            ExitCode::FAILURE
+            ExitCode::from(status_of(&fault))
         }
         Err(AllocError) => fail(rt, "out of memory"),
     }
 }
 
-/// Tells a fault, and gives the status that it makes.
+/// Reads lines of scans on standard input, writes a row for each, and gives the status.
+fn scan(rt: &HostRuntime, alloc: Global, nation: Option<National>) -> ExitCode {
+    let answered = {
+        let (mut source, mut sink) = (Device::new(rt.stdin()), Device::new(rt.stdout()));
+        answer_scans(alloc, nation, &mut source, &mut sink, READS)
+    };
+    match answered {
+        Ok(true) => ExitCode::SUCCESS,
+        Ok(false) => ExitCode::from(BAD),
+        Err(InspectFault::Answer(fault)) => {
+            let _ = eprintln!(rt; "{fault}");
+            ExitCode::from(TROUBLE)
+        }
+        Err(InspectFault::Found(_)) => fail(rt, "standard input cannot be read to its end"),
+    }
+}
+
+/// Tells of trouble, and gives its status.
 fn fail(rt: &HostRuntime, fault: &str) -> ExitCode {
     let _ = eprintln!(rt; "{fault}");
-    ExitCode::FAILURE
+    ExitCode::from(TROUBLE)
 }

@@ -1,10 +1,11 @@
 //! The command line.
 use crate::filters::{
-    batch, by_of, code, filter_of, flag, form_of, option, with_filter, with_form,
+    batch, by_of, code, filter_of, flag, form_of, option, refused, with_filter, with_form,
 };
 use crate::request::Request;
 use clap::error::ErrorKind;
 use clap::{Arg, ArgMatches, Command, Error};
+use nmvs_elements::National;
 use nmvs_identifier::{Pack, ProductCode, Serial};
 use nmvs_inspect::Form;
 use std::alloc::{AllocError, Global};
@@ -21,6 +22,8 @@ pub(crate) enum Asked {
         /// That of the new one.
         new: String,
     },
+    /// To read lines of scans, with the national number of this nation.
+    Scans(Option<National>),
 }
 
 /// A command line that was taken, and asks for an inspection (own).
@@ -53,11 +56,11 @@ const ABOUT: &str =
     a line for each product code, or what a command asks.";
 
 const STATUS: &str =
-    "The status is 0 where the export is lawful, 1 where it is not or cannot be read, with the reason on standard \
-    error, and 2 where the command line is refused. Nothing is told of an export that is not lawful. Of a compressed \
-    export: gunzip -c export.gz | nmvs-check list -";
+    "The status is 0 where the export is lawful, 1 where it is not, and 2 in trouble: the command line is refused, a file \
+    cannot be read or written, or memory is refused. The reason is on standard error. Nothing is told of an export that is \
+    not lawful. Of a compressed export: gunzip -c export.gz | nmvs-check list -";
 
-const VERSION: &str = "1 (reads entry lines of versions 1 to 3)";
+const VERSION: &str = "0.9.0 (reads entry lines of versions 1 to 3)";
 
 const REPORT: &str = "Tells the reports of product codes, in order of first appearance";
 
@@ -76,6 +79,10 @@ const COMPARE: &str =
 
 const PAGE: &str =
     "Writes a page for a browser: the counts, product codes and batches, alerts by week, and the flagged alerts";
+
+const SCAN: &str =
+    "Reads each line of standard input as a scan of a pack, and writes a row of CSV: the elements of the pack, or why the \
+    scan is not read. The status is 0 where all lines are read, 1 where some are not, and 2 in trouble";
 
 /// What the words after the program's own name ask for.
 ///
@@ -104,6 +111,7 @@ fn command<'a>(alloc: Global) -> Result<Command<'a>, AllocError> {
     let command = with_subcommand(command, packs(alloc))?;
     let command = with_subcommand(command, reports(alloc))?;
     let command = with_subcommand(command, compare(alloc))?;
+    let command = with_subcommand(command, scan(alloc))?;
     with_subcommand(command, page(alloc))
 }
 
@@ -219,6 +227,16 @@ fn compare<'a>(alloc: Global) -> Result<Command<'a>, AllocError> {
     ))
 }
 
+fn scan<'a>(alloc: Global) -> Result<Command<'a>, AllocError> {
+    let national = option(
+        alloc,
+        "national",
+        "NUMBER",
+        "The application identifier of the national number that each pack has, 710 to 716",
+    );
+    Command::new(alloc, "scan").about(SCAN).arg(national)
+}
+
 /// A word that the command line must have, by its place.
 fn operand<'a>(alloc: Global, name: &'a str, value: &'a str, help: &'a str) -> Arg<'a> {
     Arg::new(alloc, name)
@@ -228,9 +246,14 @@ fn operand<'a>(alloc: Global, name: &'a str, value: &'a str, help: &'a str) -> A
 }
 
 fn asked_of(alloc: Global, matches: &ArgMatches<'_>) -> Result<Asked, OptionFault> {
-    let Some(("compare", asked)) = matches.subcommand() else {
-        return Ok(Asked::Inspection(options_of(alloc, matches)?));
-    };
+    match matches.subcommand() {
+        Some(("compare", asked)) => comparison_of(alloc, asked),
+        Some(("scan", asked)) => Ok(Asked::Scans(nation_of(alloc, asked)?)),
+        _ => Ok(Asked::Inspection(options_of(alloc, matches)?)),
+    }
+}
+
+fn comparison_of(alloc: Global, asked: &ArgMatches<'_>) -> Result<Asked, OptionFault> {
     let (Some(old), Some(new)) = (asked.get_str("old"), asked.get_str("new")) else {
         let wanted = "error: two exports are wanted\n";
         return Err(OptionFault::Refused(String::from_str(alloc, wanted)?));
@@ -243,6 +266,20 @@ fn asked_of(alloc: Global, matches: &ArgMatches<'_>) -> Result<Asked, OptionFaul
         old: String::from_str(alloc, old)?,
         new: String::from_str(alloc, new)?,
     })
+}
+
+fn nation_of(alloc: Global, asked: &ArgMatches<'_>) -> Result<Option<National>, OptionFault> {
+    let Some(text) = asked.get_str("national") else {
+        return Ok(None);
+    };
+    let nation = match text.parse() {
+        Ok(identifier) => National::new(identifier),
+        Err(_) => None,
+    };
+    match nation {
+        Some(nation) => Ok(Some(nation)),
+        None => Err(refused(alloc, text, "application identifier of 710 to 716")),
+    }
 }
 
 fn options_of(alloc: Global, matches: &ArgMatches<'_>) -> Result<Options, OptionFault> {

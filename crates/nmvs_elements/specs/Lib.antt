@@ -3,3 +3,4 @@ pub mod Scan
 pub mod Front
 pub mod Found
 pub mod Laws
+pub mod Faults

@@ -19,7 +19,8 @@ use Rattle.nmvs_elements.specs.Elements.{Element, skip_separator, identifier_tex
 abbrev pub longest_scan : ℕ
 longest_scan = 100
 
--- the symbology identifiers of GS1 DataMatrix, GS1-128, GS1 QR Code and GS1 DataBar (section 5.1.2)
+-- the symbology identifiers of GS1 DataMatrix, GS1-128, GS1 QR Code and GS1 DataBar (ISO/IEC 15424; the table in chapter 5 of the GS1
+-- General Specifications)
 abbrev pub symbologies : List (List ℕ)
 symbologies = codes "]d2" ∷ codes "]C1" ∷ codes "]Q3" ∷ codes "]e0" ∷ []
 

@@ -1,28 +1,75 @@
 //! Why a scan is refused.
+ghost use Rattle.std.specs.Prelude.{Some};
+ghost use Rattle.nmvs_elements.specs.Faults.{fault_text};
 
 use crate::ApplicationIdentifier;
-use thiserror::Error;
+use std::error::Error;
+use std::fmt;
 
-/// Why a scan is refused: the first fault from the left, then the first element that lacks, then the first value that is
-/// not in its grammar. Each has a text for the person who scans.
-#[derive(Clone, Copy, Debug, PartialEq, Eq, Error)]
+/// Why a scan is refused: the first fault from the left, then the first element that is missing, then the first value that
+/// is not in its grammar. Each has a text for the person who scans.
+#[derive(Clone, Copy, Debug, PartialEq, Eq)]
 pub enum ScanFault {
-    #[error("the scan is longer than a pack's code can be: scan one code at a time")]
+    /// It has more bytes than a pack's code can have.
     Long,
-    #[error("this is a Data Matrix code, but none of GS1: scan the code with the product code and the serial number")]
+    /// A Data Matrix code that is none of GS1.
     PlainDataMatrix,
-    #[error("this code is of a kind that no pack has: scan the square two-dimensional code")]
+    /// A symbology identifier that no pack's code has.
     Symbology,
-    #[error("this is not the code of a pack: scan the square two-dimensional code")]
+    /// It begins with no element that is read.
     NoElement,
-    #[error("what stands behind {0} characters of the scan is none of the elements that are read")]
+    /// After so many bytes there is no element that is read.
     Element(usize),
-    #[error("the {0} ends too early: scan again")]
+    /// The value of this element ends too early.
     Short(ApplicationIdentifier),
-    #[error("the {0} stands there twice: scan one code at a time")]
+    /// This element stands there twice.
     Twice(ApplicationIdentifier),
-    #[error("the scan has no {0}: if it is printed on the pack, the scanner leaves out separators")]
+    /// This element is missing.
     Missing(ApplicationIdentifier),
-    #[error("the {0} is not well-formed: scan again, and check the scanner's keyboard layout")]
+    /// The value of this element is not in its grammar.
     Value(ApplicationIdentifier),
 }
+
+impl fmt::Display for ScanFault {
+    ghost output = { λ fault. Some (fault_text fault) };
+
+    fn fmt<W: fmt::Write>(&self, f: &mut fmt::Formatter<W>) -> fmt::Result {
+        match self {
+            ScanFault::Long => f.write_str(
+                "the scan is longer than a pack's code can be: scan one code at a time",
+            ),
+            ScanFault::PlainDataMatrix => f.write_str(
+                "this is a Data Matrix code, but none of GS1: scan the code with the product code and the serial number",
+            ),
+            ScanFault::Symbology => f.write_str(
+                "this code is of a kind that no pack has: scan the square two-dimensional code",
+            ),
+            ScanFault::NoElement => f.write_str(
+                "this is not the code of a pack: scan the square two-dimensional code",
+            ),
+            ScanFault::Element(place) => write!(
+                f,
+                "what stands behind {place} characters of the scan is none of the elements that are read"
+            ),
+            ScanFault::Short(identifier) => {
+                write!(f, "the {identifier} ends too early: scan again")
+            }
+            ScanFault::Twice(identifier) => {
+                write!(
+                    f,
+                    "the {identifier} stands there twice: scan one code at a time"
+                )
+            }
+            ScanFault::Missing(identifier) => write!(
+                f,
+                "the scan has no {identifier}: if it is printed on the pack, the scanner leaves out separators"
+            ),
+            ScanFault::Value(identifier) => write!(
+                f,
+                "the {identifier} is not well-formed: scan again, and check the scanner's keyboard layout"
+            ),
+        }
+    }
+}
+
+impl Error for ScanFault {}

@@ -1,5 +1,6 @@
 //! Application identifiers (GS1 General Specifications, section 3.2).
-ghost use Rattle.std.specs.Prelude.{◌≡◌, ◌+◌, ◌≤◌, ◌↔◌, IsSome, IfSome, Some, ◌++◌, string_bytes};
+ghost use Rattle.std.specs.Prelude.{◌≡◌, ◌+◌, ◌≤◌, ◌↔◌, IsSome, IfSome, Some};
+ghost use Rattle.nmvs_elements.specs.Faults.{name_text};
 
 use std::fmt;
 
@@ -41,7 +42,10 @@ pub enum ApplicationIdentifier {
     NationalNumber(National),
 }
 
+/// The name of the element, and its identifier.
 impl fmt::Display for ApplicationIdentifier {
+    ghost output = { λ identifier. Some (name_text identifier) };
+
     fn fmt<W: fmt::Write>(&self, f: &mut fmt::Formatter<W>) -> fmt::Result {
         match self {
             ApplicationIdentifier::Code => f.write_str("product code (01)"),
@@ -49,9 +53,8 @@ impl fmt::Display for ApplicationIdentifier {
             ApplicationIdentifier::Batch => f.write_str("batch number (10)"),
             ApplicationIdentifier::Expiry => f.write_str("expiry date (17)"),
             ApplicationIdentifier::NationalNumber(nation) => {
-                f.write_str("national number (71")?;
-                f.write_char(nation.digit as char)?;
-                f.write_str(")")
+                let number = nation.digit as u16 + 662;
+                write!(f, "national number ({number})")
             }
         }
     }

@@ -1,8 +1,8 @@
 use crate::{ApplicationIdentifier, Elements, National, NationalNumber, ScanFault, read_scan};
 use std::rt::HostRuntime;
 
-/// One pack in several printed forms (GS1 General Specifications, sections 3.2, 5.1.2 and 7.8): each symbology identifier, four
-/// orders, separators at the front, at the end and behind values of predefined length.
+/// One pack in several printed forms (GS1 General Specifications, chapter 5 and sections 3.2 and 7.8): each symbology identifier,
+/// four orders, separators at the front, at the end and behind values of predefined length.
 const FORMS: [&[u8]; 6] = [
     b"]d20109506000134352172802001010A1\x1D21SN1",
     b"]C1\x1D010950600013435221SN1\x1D1010A1\x1D17280200",

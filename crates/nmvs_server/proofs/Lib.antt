@@ -1,3 +1,2 @@
-mod ShardExports
-mod Journals
+mod Begun
 mod Lengths

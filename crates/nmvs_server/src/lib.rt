@@ -2,24 +2,19 @@
 //!
 //! [`start`] does what the options say, by the desks of `nmvs_reception`.
 //!
-//! `main` is `nmvs_serve`'s; options, users files and commands are `nmvs_operator`'s.
+//! `main` is `nmvs_serve`'s; what a start reads, and an export, are `nmvs_recovery`'s; options, users files and commands are
+//! `nmvs_operator`'s.
 #![tactic(auto)]
 
 mod announcements;
-mod export_files;
-mod exports;
 mod fault;
-mod host;
-mod journal_files;
+mod journals;
 mod launch;
-mod progress;
-mod rehearsal_packs;
+mod server;
 mod service;
 mod starting;
-mod timed_file;
-mod users_file;
 mod workers;
 
 pub use fault::{Fault, Outcome, outcome_of};
-pub use host::Host;
+pub use nmvs_recovery::Host;
 pub use starting::start;

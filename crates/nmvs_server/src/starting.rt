@@ -37,23 +37,47 @@ pub fn start<'o, H: Host + Sync, T: Sides>(
     let Some(port) = options.metrics else {
         return serve_counted(rt, alloc, options, &panel, console);
     };
-    let booth = match Booth::open(rt, port) {
-        Ok(booth) => booth,
+    match open_booth(rt, port) {
+        Ok(booth) => serve_beside(rt, alloc, options, booth, &panel, console),
+        Err(fault) => Outcome::of(fault),
+    }
+}
+
+/// Opens the booth at which figures are told, and logs its port, or why it cannot be had.
+fn open_booth<'o, H: Host>(rt: &H, port: u16) -> Result<Booth, Fault<'o>> {
+    match Booth::open(rt, port) {
+        Ok(booth) => {
+            tell_booth(rt, &booth);
+            Ok(booth)
+        }
         Err(error) => {
             error!(rt; "cannot listen on port {port}: {error}");
-            return Outcome::of(Fault::CannotListen(port));
+            Err(Fault::CannotListen(port))
         }
-    };
-    tell_booth(rt, &booth);
+    }
+}
+
+/// Serves, while figures are told at the booth.
+fn serve_beside<'o, H: Host + Sync, T: Sides>(
+    rt: &H,
+    alloc: Global,
+    options: &'o Options,
+    booth: Booth,
+    panel: &Panel,
+    console: &mut Console<T>,
+) -> Outcome<'o>
+    requires options { AreInRange options.now }
+    requires fresh { IsFresh (T.Source.told console.old.source) (T.Sink.taken console.old.sink) }
+{
     let served = tell_beside(
         rt,
         alloc,
         booth,
-        &panel,
+        panel,
         ||
             requires options { AreInRange options.now }
             requires fresh { IsFresh (T.Source.told console.now.source) (T.Sink.taken console.now.sink) }
-        { serve_counted(rt, alloc, options, &panel, console) },
+        { serve_counted(rt, alloc, options, panel, console) },
     );
     match served {
         Ok(outcome) => outcome,
@@ -121,12 +145,15 @@ fn serve_counted<'o, H: Host + Sync, T: Sides>(
     tell_descriptors(rt, options);
     match listen(rt, options) {
         Ok(listener) => serve_run(rt, alloc, options, Some(&listener), panel, console),
-        Err(error) => {
-            let fault = Fault::of_listening(options);
-            error!(rt; "{fault}: {error}");
-            Outcome::of(fault)
-        }
+        Err(error) => Outcome::of(refused(rt, options, error)),
     }
+}
+
+/// Logs why it can't be listened where the options say.
+fn refused<'o, H: Log>(rt: &H, options: &'o Options, error: io::Error) -> Fault<'o> {
+    let fault = Fault::of_listening(options);
+    error!(rt; "{fault}: {error}");
+    fault
 }
 
 /// Logs the version and the options that say how much is served, and what is gone on from.

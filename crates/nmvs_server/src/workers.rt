@@ -3,11 +3,11 @@ ghost use Rattle.std.specs.Prelude.{◌≡◌};
 ghost use Rattle.nmvs_server.specs.Bounds.{sessions_of};
 
 use crate::announcements::{listening_at, listening_on};
-use crate::host::{Run, Shared};
-use crate::journal_files::JournalAlarm;
+use crate::journals::JournalAlarm;
+use crate::server::{Config, Server, Shared};
 use crate::service::Running;
 use log::{Log, info};
-use nmvs_connections::{Bounds, Listener, Poller, WorkerPool, accept_loop, serve};
+use nmvs_connections::{Bounds, Listener, Station, admit, serve};
 use nmvs_desk::Clerk;
 use nmvs_directory::{Naming, Registrar};
 use nmvs_history::Histories;
@@ -52,36 +52,47 @@ fn work<'r, R: Wait + Clock + Log, J: Naming, H: Histories>(
     number: usize,
     poller: Poller,
 ) -> Clerk<'r, J, H> {
-    let run = shared.run;
-    if !*shared.ready.lock(run.rt) {
+    if !may_begin(shared) {
         return clerk;
     }
-    let clock = ProgramClock::new(run.rt, run.options.moment);
-    let tally = run.panel.tally(number);
-    let desk = ClerkDesk::new(
-        run.rt,
-        clerk,
-        shared.repository,
-        shared.latest,
-        shared.limiter.as_ref(),
-        clock,
-        tally,
-    );
+    let desk = desk_of(shared.server, clerk, number);
     match shared.offices {
         None => serve_by_desk(shared, number, poller, desk).into_clerk(),
         Some(offices) => {
-            let alarm = JournalAlarm {
-                rt: run.rt,
-                options: run.options,
-                panel: run.panel,
-            };
+            let alarm = JournalAlarm::new(shared.server.config);
             let desk = JournalDesk::new(desk, offices, alarm);
             serve_by_desk(shared, number, poller, desk).into_clerk()
         }
     }
 }
 
-/// Serves connections by a desk, and gives it back. Where it can't go on it ends the
+/// Whether all workers are there. It waits until that is known.
+fn may_begin<R: Wait, J: Naming, H: Histories>(shared: &Shared<'_, '_, '_, '_, R, J, H>) -> bool {
+    let run = &shared.server.config.run;
+    *shared.ready.lock(run.rt)
+}
+
+/// The desk of the clerk of the worker of this number.
+fn desk_of<'s, 'r, R: Wait + Clock + Log, J: Naming, H: Histories>(
+    server: &Server<'s, 'r, '_, R, J, H>,
+    clerk: Clerk<'r, J, H>,
+    number: usize,
+) -> ClerkDesk<'s, 'r, R, J, H, ProgramClock<'s, R>> {
+    let config = server.config;
+    let run = &config.run;
+    let clock = ProgramClock::new(run.rt, run.options.moment);
+    let tally = config.panel.tally(number);
+    ClerkDesk::new(
+        run.rt,
+        clerk,
+        server.repository,
+        server.latest,
+        clock,
+        tally,
+    )
+}
+
+/// Serves connections by a desk, each user within the rate, and gives the desk back. Where it can't go on it ends the
 /// service.
 fn serve_by_desk<'r, R: Wait + Clock + Log, J: Naming, H: Histories, D: Desk<'r>>(
     shared: &Shared<'_, '_, 'r, '_, R, J, H>,
@@ -89,18 +100,23 @@ fn serve_by_desk<'r, R: Wait + Clock + Log, J: Naming, H: Histories, D: Desk<'r>
     poller: Poller,
     desk: D,
 ) -> D {
-    let run = shared.run;
-    let mut desk = desk;
-    if serve(run.rt, *run.alloc, shared.pool, number, poller, &mut desk).is_err() {
-        shared.pool.stop(run.rt);
+    let run = &shared.server.config.run;
+    let mut own = OwnDesk::new(RatedDesk::new(desk, Gate::new(run.rt, shared.rates.as_ref())));
+    if serve(run.rt, *run.alloc, shared.hall, number, station, &mut own).is_err() {
+        shared.hall.stop(run.rt);
     }
     desk
 }
 
 /// Accepts connections for the workers. Where it can't go on it ends the service.
-fn accept<R: Wait + Log>(rt: &R, pool: &WorkerPool<'_>, listener: &Listener, acceptor: Poller) {
-    if accept_loop(rt, pool, listener, acceptor).is_err() {
-        pool.stop(rt);
+fn keep_door<R: Wait + Log, J: Naming, H: Histories>(
+    shared: &Shared<'_, '_, '_, '_, R, J, H>,
+    door: Station,
+) {
+    let server = shared.server;
+    let run = &server.config.run;
+    if admit(run.rt, shared.hall, server.listener, door).is_err() {
+        shared.hall.stop(run.rt);
     }
 }
 
@@ -120,13 +136,13 @@ pub(crate) fn serve_connections<
 >(
     shared: &Shared<'_, '_, 'r, '_, R, J, H>,
     clerks: Vec<Clerk<'r, J, H>, &'r Global>,
-    pollers: (Vec<Poller>, Poller),
-    users: Option<KeptUsers<File>>,
+    stations: (Vec<Station>, Station),
+    service: &mut Running<'_, '_, 'r, '_, R, J, H>,
     registrar: &mut Registrar<J, &'r R, &'r Global>,
     console: &mut Console<T>,
 ) -> Result<Vec<Clerk<'r, J, H>, &'r Global>, AllocError> {
-    let run = shared.run;
-    let (pollers, acceptor) = pollers;
+    let run = &shared.server.config.run;
+    let (stations, door) = stations;
     thread::scope(thread::scope_env(), run.rt, |scope| {
         let mut ready = shared.ready.lock(run.rt);
         let mut workers = Vec::with_capacity(*run.alloc, clerks.len())?;
@@ -135,23 +151,19 @@ pub(crate) fn serve_connections<
         let mut number = 0usize;
         for (clerk, poller) in clerks.into_iter().zip(pollers) {
             let place = number;
-            match scope.spawn(move || work(shared, clerk, place, poller)) {
-                Ok(worker) => workers.push(worker)?,
-                Err(_) => return Err(AllocError),
-            }
+            let kept = match scope.spawn(move || work(shared, clerk, place, station)) {
+                Ok(worker) => workers.push(worker).or(Err(AllocError)),
+                Err(_) => Err(AllocError),
+            };
+            kept?;
             number = number.saturating_add(1);
         }
-        let (pool, listener) = (shared.pool, shared.listener);
-        let Ok(accepting) = scope.spawn(move || accept(run.rt, pool, listener, acceptor)) else {
+        let Ok(doorkeeper) = scope.spawn(move || keep_door(shared, door)) else {
             return Err(AllocError);
         };
         *ready = true;
         drop(ready);
-        run.panel.note_ready();
-        tell_port(run, shared.listener, &mut console.sink);
-        let mut latest = Latest::new(run.rt, shared.latest);
-        let mut service = Running { shared, users };
-        obey_all(*run.alloc, console, registrar, &mut latest, &mut service);
+        take_commands(service, registrar, console);
         for worker in workers {
             back.push(worker.join(run.rt))?;
         }
@@ -160,9 +172,29 @@ pub(crate) fn serve_connections<
     })
 }
 
+/// Says that the workers serve, and carries out the operator's commands until these end.
+fn take_commands<
+    'r,
+    R: Wait + Clock + Files<File = File> + Eprint + Log,
+    J: Naming,
+    H: Histories,
+    T: Sides,
+>(
+    service: &mut Running<'_, '_, 'r, '_, R, J, H>,
+    registrar: &mut Registrar<J, &'r R, &'r Global>,
+    console: &mut Console<T>,
+) {
+    let server = service.shared.server;
+    let config = server.config;
+    config.panel.note_ready();
+    tell_place(config, server.listener, &mut console.sink);
+    let mut latest = Latest::new(config.run.rt, server.latest);
+    obey_all(*config.run.alloc, console, registrar, &mut latest, service);
+}
+
 /// Tells on which port the program listens, or where its socket is. A failed write changes nothing.
-fn tell_port<R: Log, W: Sink>(run: &Run<'_, '_, R>, listener: &Listener, out: &mut W) {
-    let alloc = *run.alloc;
+fn tell_place<R: Log, W: Sink>(config: &Config<'_, '_, R>, listener: &Listener, out: &mut W) {
+    let (run, alloc) = (&config.run, *config.run.alloc);
     let text = match (listener.port(), &run.options.socket) {
         (Some(port), _) => {
             info!(run.rt; port; "listening");

@@ -39,21 +39,21 @@ pub fn at_repository<V: Visit, R: Wait + Clock + Log + Abort + Sync>(
     users: &str,
     visit: V,
 ) -> V::Output {
-    in_directory::<Brand, V, R>(rt, alloc, Directory::new(), users, visit)
+    in_directory::<Brand, V, R>(rt, alloc, Directory::new(), users.as_bytes(), visit)
 }
 
 fn in_directory<J: Naming, V: Visit, R: Wait + Clock + Log + Abort + Sync>(
     rt: &R,
     alloc: &Global,
     directory: Directory,
-    users: &str,
+    users: &[u8],
     visit: V,
 ) -> V::Output
     requires { directory_book directory ≡ J.book }
 {
     let opened = directory.open::<J, _, _>(rt, alloc, 1);
     let (mut registrar, windows) = opened.expect(rt, "a directory");
-    let mut source = Device::new(users.as_bytes());
+    let mut source = Device::new(users);
     let notice = load_users(*alloc, &mut source, &mut registrar, 2).expect(rt, "users");
     let shards = Shards::new(alloc, 1, HashKey::of(1)).expect(rt, "memory");
     let opening = Opening {

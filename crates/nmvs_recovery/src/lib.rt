@@ -1,0 +1,26 @@
+//! The files of a server: what a start reads, and what a server writes.
+//!
+//! - [`prepare`] reads what a run begins with: the users, and the shards of an import or of the journals ([`Ready`]).
+//! - [`export`] and [`write_export`] write the audit trail of a repository.
+//!
+//! It serves nobody, so it names neither connections nor the desks behind them.
+#![tactic(auto)]
+
+mod export_files;
+mod exports;
+mod fault;
+mod imports;
+mod journal_files;
+mod preparation;
+mod progress;
+mod rehearsal_packs;
+mod run;
+mod users;
+mod users_file;
+
+pub use export_files::{export, write_export};
+pub use exports::entries_of;
+pub use fault::FileFault;
+pub use imports::EachShard;
+pub use preparation::{JournalFiles, Ready, prepare};
+pub use run::{Host, Run};

@@ -1,0 +1,209 @@
+//! How far a long work has come, told to the operator.
+use log::{Level, Log, info, log_enabled};
+use memchr::memchr_iter;
+use nmvs_log::LogFormat;
+use std::io;
+use std::io::{Read, Write};
+use std::rt::Clock;
+use std::sync::atomic::{AtomicU64, Ordering};
+use std::time::Instant;
+
+/// For how many milliseconds nothing is told, at the begin and between two times (own).
+const PAUSE: u64 = 2_000;
+
+/// What the whole of a work is.
+#[derive(Clone, Copy)]
+pub(crate) enum Whole {
+    Bytes(u64),
+    Lines(u64),
+}
+
+/// Where it is told.
+#[derive(Clone, Copy, PartialEq, Eq)]
+pub(crate) enum Place {
+    /// In the log, a line each time.
+    Log,
+    /// On a terminal, where one line is written again and again.
+    Terminal,
+}
+
+impl Place {
+    /// On standard error, where that is a terminal and the log is a text.
+    pub(crate) fn of_log(format: LogFormat) -> Place {
+        if format == LogFormat::Text && libc::isatty(libc::STDERR_FILENO) == 1 {
+            Place::Terminal
+        } else {
+            Place::Log
+        }
+    }
+}
+
+/// How far a work has come, by one thread or several.
+#[derive(Drop)]
+pub(crate) struct Progress<'p, R> {
+    rt: &'p R,
+    /// The word of the work.
+    work: &'static str,
+    whole: Whole,
+    place: Place,
+    /// When it began, where a clock told.
+    begun: Option<Instant>,
+    bytes: AtomicU64,
+    lines: AtomicU64,
+    /// Behind how many milliseconds it is told next.
+    due: AtomicU64,
+}
+
+impl<'p, R: Log + Clock + Eprint> Progress<'p, R> {
+    /// A work that begins now.
+    pub(crate) fn begin(
+        rt: &'p R,
+        work: &'static str,
+        whole: Whole,
+        place: Place,
+    ) -> Progress<'p, R> {
+        Progress {
+            rt,
+            work,
+            whole,
+            place,
+            begun: Instant::now(rt).ok(),
+            bytes: AtomicU64::new(0),
+            lines: AtomicU64::new(0),
+            due: AtomicU64::new(PAUSE),
+        }
+    }
+
+    /// Notes these bytes as done, and tells how far the work is where it is time to.
+    fn note(&self, bytes: &[u8]) {
+        self.bytes.fetch_add(bytes.len() as u64, Ordering::SeqCst);
+        let lines = memchr_iter(b'\n', bytes).count() as u64;
+        self.lines.fetch_add(lines, Ordering::SeqCst);
+        let (passed, due) = (self.passed(), self.due.load(Ordering::SeqCst));
+        if passed < due {
+            return;
+        }
+        let next = passed.saturating_add(PAUSE);
+        // Of several threads one tells it.
+        let is_first = self
+            .due
+            .compare_exchange(due, next, Ordering::SeqCst, Ordering::SeqCst)
+            .is_ok();
+        if is_first {
+            self.tell(passed);
+        }
+    }
+
+    /// How many milliseconds have passed.
+    fn passed(&self) -> u64 {
+        match (self.begun, Instant::now(self.rt)) {
+            (Some(begun), Ok(now)) => {
+                u64::try_from(now.duration_since(begun).as_millis()).unwrap_or(u64::MAX)
+            }
+            _ => 0,
+        }
+    }
+
+    fn tell(&self, passed: u64) {
+        let lines = self.lines.load(Ordering::SeqCst);
+        let (done, whole) = match self.whole {
+            Whole::Bytes(whole) => (self.bytes.load(Ordering::SeqCst), whole),
+            Whole::Lines(whole) => (lines, whole),
+        };
+        let percent = share(done, 100, whole);
+        let rate = share(lines, 1_000, passed);
+        let left = share(whole.saturating_sub(done), passed, done) / 1_000;
+        let work = self.work;
+        match self.place {
+            Place::Log => {
+                info!(self.rt; percent, lines, lines_a_second = rate, seconds_left = left; "{work}");
+            }
+            Place::Terminal if log_enabled!(self.rt; Level::Info) => {
+                let _ = eprint!(self.rt;
+                    "\r{work}: {percent} %, {lines} lines, {rate} a second, {left} s left\u{1b}[K"
+                );
+            }
+            Place::Terminal => {}
+        }
+    }
+
+    /// Ends the work: it is told how much was done, and in what time.
+    pub(crate) fn end(&self) {
+        let (passed, work) = (self.passed(), self.work);
+        let lines = self.lines.load(Ordering::SeqCst);
+        if self.place == Place::Terminal && passed >= PAUSE && log_enabled!(self.rt; Level::Info) {
+            let _ = eprint!(self.rt; "\r\u{1b}[K");
+        }
+        info!(self.rt; lines, milliseconds = passed; "{work} done");
+    }
+}
+
+/// So many parts of a whole, of which these are done.
+fn share(done: u64, parts: u64, whole: u64) -> u64 {
+    done.saturating_mul(parts).checked_div(whole).unwrap_or(0)
+}
+
+/// A file that is read or written from its begin to its end. How far that is, is told, and why it failed.
+#[derive(Drop)]
+pub(crate) struct Watched<'w, 'p, R, F> {
+    file: F,
+    path: &'w str,
+    progress: &'w Progress<'p, R>,
+}
+
+impl<'w, 'p, R, F> Watched<'w, 'p, R, F> {
+    pub(crate) fn new(
+        file: F,
+        path: &'w str,
+        progress: &'w Progress<'p, R>,
+    ) -> Watched<'w, 'p, R, F> {
+        Watched {
+            file,
+            path,
+            progress,
+        }
+    }
+
+    pub(crate) fn into_file(self) -> F
+    where
+        F: Drop,
+    {
+        self.file
+    }
+}
+
+impl<'w, 'p, R: Log + Clock + Eprint, F: Read> Read for Watched<'w, 'p, R, F> {
+    fn read(&mut self, buffer: &mut [u8]) -> io::Result<usize> {
+        match self.file.read(buffer) {
+            Ok(count) => {
+                self.progress.note(&buffer[..count]);
+                Ok(count)
+            }
+            Err(error) => {
+                let path = self.path;
+                log::error!(self.progress.rt; "cannot read {path}: {error}");
+                Err(error)
+            }
+        }
+    }
+}
+
+impl<'w, 'p, R: Log + Clock + Eprint, F: Write> Write for Watched<'w, 'p, R, F> {
+    fn write(&mut self, bytes: &[u8]) -> io::Result<usize> {
+        match self.file.write(bytes) {
+            Ok(count) => {
+                self.progress.note(&bytes[..count]);
+                Ok(count)
+            }
+            Err(error) => {
+                let path = self.path;
+                log::error!(self.progress.rt; "cannot write {path}: {error}");
+                Err(error)
+            }
+        }
+    }
+
+    fn flush(&mut self) -> io::Result<()> {
+        self.file.flush()
+    }
+}
