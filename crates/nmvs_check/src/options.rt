@@ -52,19 +52,19 @@ impl From<AllocError> for OptionFault {
 
 const ABOUT: &str =
     "Checks an export of a medicines verification repository: reads it line by line, and judges each stored reply again \
-    by the rules. Of a lawful export it tells LAWFUL, the number of lines, how many of them are of which version, and \
+    by the rules. Of a lawful export it prints LAWFUL, the number of lines, how many of them are of which version, and \
     a line for each product code, or what a command asks.";
 
 const STATUS: &str =
     "The status is 0 where the export is lawful, 1 where it is not, and 2 in trouble: the command line is refused, a file \
-    cannot be read or written, or memory is refused. The reason is on standard error. Nothing is told of an export that is \
+    cannot be read or written, or memory is refused. The reason is on standard error. Nothing is printed of an export that is \
     not lawful. Of a compressed export: gunzip -c export.gz | nmvs-check list -";
 
 const VERSION: &str = "0.9.0 (reads entry lines of versions 1 to 3)";
 
-const REPORT: &str = "Tells the reports of product codes, in order of first appearance";
+const REPORT: &str = "Prints the reports of product codes, in order of first appearance";
 
-const LIST: &str = "Lists the entries that pass all tests, oldest first";
+const LIST: &str = "Lists the entries that pass all tests, in the order of the export";
 
 const COUNT: &str =
     "Counts the entries that pass all tests, by what they have in common; in order of first appearance";
@@ -73,8 +73,8 @@ const PACKS: &str =
     "Lists the packs that were uploaded in a batch: the status of each, since when, and by whom";
 
 const COMPARE: &str =
-    "Tells whether a new export goes on from an old one: for each product code the lines of the old one about it are, in \
-    order, the first lines of the new one about it. If so it tells GOES ON and the status is 0; else it tells the first \
+    "Says whether a new export goes on from an old one: for each product code the lines of the old one about it are, in \
+    order, the first lines of the new one about it. If so it prints GOES ON and the status is 0; else it prints the first \
     line of the old one that the new one does not have in its place, with what it has there, and the status is 1";
 
 const PAGE: &str =
@@ -129,7 +129,7 @@ fn with_lookups<'a>(alloc: Global, command: Command<'a>) -> Result<Command<'a>, 
         alloc,
         "report",
         "CODE",
-        "Tell the report of this product code instead",
+        "Print the report of this product code instead",
     ))?;
     command.arg(audit(alloc)?)
 }
@@ -139,7 +139,7 @@ fn audit<'a>(alloc: Global) -> Result<Arg<'a>, AllocError> {
         .long("audit")
         .value_names(&["CODE", "SERIAL"])
         .num_args(2)
-        .help("Tell the lines about the pack with this product code and serial number instead")
+        .help("Print the lines about the pack with this product code and serial number instead")
         .conflicts_with("report")
 }
 

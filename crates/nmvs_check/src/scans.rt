@@ -27,7 +27,7 @@ const HEADER: &str = "line,code,serial,batch,expiry,national,fault\n";
 ///
 /// # Errors
 ///
-/// A read failed, or so many reads did not reach the end; there is no memory for a row; or a write failed.
+/// A read failed, or this number of reads did not reach the end; there is no memory for a row; or a write failed.
 pub(crate) fn answer_scans<R: Source, W: Sink>(
     alloc: Global,
     nation: Option<National>,

@@ -18,7 +18,7 @@ pub enum ScanFault {
     Symbology,
     /// It begins with no element that is read.
     NoElement,
-    /// After so many bytes there is no element that is read.
+    /// No known element begins after this number of bytes.
     Element(usize),
     /// The value of this element ends too early.
     Short(ApplicationIdentifier),
