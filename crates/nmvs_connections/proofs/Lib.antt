@@ -1,3 +1,4 @@
 mod RepliesSteps
-mod SeatLemmas
+mod PeerSteps
+mod ConnectionLemmas
 mod TurnSteps

@@ -1,28 +1,28 @@
 -- How a worker's turn goes on, from one connection's turn to the next and from release to release.
-use Rattle.std.proofs.Common.{◌≡◌, ◌≢◌, ◌≤◌, ◌<◌, ◌==◌, ◌+◌, ◌⊎◌, inl, inr, ℕ, List, [], ◌∷◌, ◌++◌, Option, Some, None, IsSome, Result, cond, length, take, drop, refl, sym, ap, subst, ◌∙◌, arith, rules}
+use Rattle.std.proofs.Common.{◌≡◌, ◌≢◌, ◌≤◌, ◌<◌, ◌==◌, ◌+◌, ◌⊎◌, inl, inr, ℕ, List, [], ◌∷◌, ◌++◌, Option, Some, None, IsSome, Result, cond, length, take, drop, All, refl, sym, ap, subst, ◌∙◌, arith, rules}
 use Rattle.std.specs.List.{Contains}
 use Rattle.std.proofs.lemmas.Bool.Decides.{eqb_tells, leb_tells}
 use Rattle.std.proofs.lemmas.Grind.{flat_map-append}
 use Rattle.std.proofs.lemmas.List.{append-nil, append_assoc, length-append, drop-drop}
-use Rattle.std.proofs.lemmas.List.Elements.{Contains-push_cases}
+use Rattle.std.proofs.lemmas.List.Elements.{All-append, All-cons, All-nil, All-tail, Contains-push_cases}
 use Rattle.slab.specs.Slab.{Slab, Updates, get, with_value}
 use Rattle.slab.proofs.SlabLemmas.{Updates-with_value}
-use Rattle.nmvs_identifier.specs.Name.{Name}
 use Rattle.nmvs_messages.specs.declared.ask.Ask.{Ask}
 use Rattle.nmvs_messages.specs.declared.answer.Answer.{Answer}
-use Rattle.nmvs_messages.specs.declared.answer.Turn.{Turn}
 use Rattle.nmvs_messages.specs.declared.end.End.{End}
 use Rattle.nmvs_messages.specs.declared.peer.Peer.{Peer}
 use Rattle.nmvs_messages.specs.declared.withheld.Withheld.{Withheld}
-use Rattle.nmvs_protocol.specs.Peers.{TakesOf}
+use Rattle.nmvs_messages.specs.Peers.{TakesFrom}
 use Rattle.nmvs_messages.specs.Withheld.{AreReleased}
 use Rattle.nmvs_protocol.specs.Session.{TakesLines, session_text}
 use Rattle.nmvs_protocol.specs.Texts.{text as text_of}
 use Rattle.nmvs_stream.specs.InputLines.{input_lines}
-use Rattle.nmvs_connections.specs.declared.seat.After.{After}
-use Rattle.nmvs_connections.specs.declared.seat.Seat.{Seat}
-use Rattle.nmvs_connections.specs.Replies.{Talk, TellsPart, LacksMemory, StaysOrLacks}
-use Rattle.nmvs_connections.specs.Turns.{Taking, Round, held_of, TakesAll, ReleasesAll, GoesRound, GoesRounds, lines_to, answers_to, lines_in, answers_in, Answered, EachGoes, WorkerTurn, Kept, IsAsking, LinesTaken, SeatSteps, TellsOwn, TellsWhereAsked, TellsAll, StepsOrStays, TurnOfOne}
+use Rattle.nmvs_connections.specs.declared.next.Next.{Next}
+use Rattle.nmvs_connections.specs.declared.connection.Connection.{Connection}
+use Rattle.nmvs_connections.specs.Peers.{PeerState, IsConnection, StaysPeer}
+use Rattle.nmvs_connections.specs.declared.peer_session.Stage.TheVariants as stages
+use Rattle.nmvs_connections.specs.Replies.{SessionState, TellsPart, LacksMemory, StaysOrLacks}
+use Rattle.nmvs_connections.specs.Turns.{Taking, Round, held_of, TakesBy, TakesAll, IsOwn, ReleasesAll, GoesRound, GoesRounds, lines_to, answers_to, lines_in, answers_in, Answered, EachGoes, WorkerTurn, Kept, WaitsForRelease, LinesTaken, ConnectionSteps, TellsOwn, TellsPeer, TellsWhereAsked, TellsAll, StepsOrStays, TurnOfOne}
 
 -- what was withheld of more
 pub held_of-append : (xs ys : List Taking) → held_of (xs ++ ys) ≡ held_of xs ++ held_of ys
@@ -58,16 +58,16 @@ answers_in-append key (r ∷ xs) ys =
     ∙ sym (append_assoc (answers_to key r.takings r.said) (answers_in key xs) (answers_in key ys))
 
 -- one taking more
-takes_more : {D : Type 0} (takes : D → Ask → Withheld → D → Type 0) (tells : D → Name → Result Name Turn → D → Type 0) (old mid new : D) (takings : List Taking) (t : Taking)
-    → TakesAll takes tells old takings mid → TakesLines (TakesOf takes tells t.peer) mid t.lines t.held new → TakesAll takes tells old (takings ++ t ∷ []) new
-takes_more {D} takes tells old mid new [] t a l = (new, subst (λ (d : D). TakesLines (TakesOf takes tells t.peer) d t.lines t.held new) a l, refl)
-takes_more takes tells old mid new (s ∷ takings) t a l = (a.0, a.1, takes_more takes tells a.0 mid new takings t a.2 l)
+takes_more : {D : Type 0} (takes : D → Peer → Ask → Withheld → D → Type 0) (old mid new : D) (takings : List Taking) (t : Taking)
+    → TakesAll takes old takings mid → TakesBy takes t.connection.peer mid t.lines t.held new → TakesAll takes old (takings ++ t ∷ []) new
+takes_more {D} takes old mid new [] t a l = (new, subst (λ (d : D). TakesBy takes t.connection.peer d t.lines t.held new) a l, refl)
+takes_more takes old mid new (s ∷ takings) t a l = (a.0, a.1, takes_more takes a.0 mid new takings t a.2 l)
 
 -- one round more
-rounds_more : {D E : Type 0} (takes : D → Ask → Withheld → D → Type 0) (tells : D → Name → Result Name Turn → D → Type 0) (releases : D → E → Withheld → Answer → Type 0) (moves : D → D → Type 0) (old mid new : D) (rounds : List Round) (r : Round)
-    → GoesRounds takes tells releases moves old rounds mid → GoesRound takes tells releases moves mid r new → GoesRounds takes tells releases moves old (rounds ++ r ∷ []) new
-rounds_more {D} takes tells releases moves old mid new [] r a g = (new, subst (λ (d : D). GoesRound takes tells releases moves d r new) a g, refl)
-rounds_more takes tells releases moves old mid new (s ∷ rounds) r a g = (a.0, a.1, rounds_more takes tells releases moves a.0 mid new rounds r a.2 g)
+rounds_more : {D E : Type 0} (takes : D → Peer → Ask → Withheld → D → Type 0) (releases : D → E → Withheld → Answer → Type 0) (moves : D → D → Type 0) (old mid new : D) (rounds : List Round) (r : Round)
+    → GoesRounds takes releases moves old rounds mid → GoesRound takes releases moves mid r new → GoesRounds takes releases moves old (rounds ++ r ∷ []) new
+rounds_more {D} takes releases moves old mid new [] r a g = (new, subst (λ (d : D). GoesRound takes releases moves d r new) a g, refl)
+rounds_more takes releases moves old mid new (s ∷ rounds) r a g = (a.0, a.1, rounds_more takes releases moves a.0 mid new rounds r a.2 g)
 
 -- there is an answer for each that was withheld
 released_length : (releases : Withheld → Answer → Type 0) (withheld : List Withheld) (said : List Answer) → AreReleased releases withheld said → length said ≡ length withheld
@@ -90,7 +90,7 @@ nil_right [] ys e = e
 nil_right (x ∷ xs) ys e = absurd (cc e)
 
 -- a connection within a turn: rounds are behind it, and what was taken since is to be released
-pub record Stands (key : ℕ) (rounds : List Round) (takings : List Taking) (asking : List ℕ) (old new : Talk) : Type 0 where
+pub record Stands (key : ℕ) (rounds : List Round) (takings : List Taking) (awaiting : List ℕ) (old new : SessionState) : Type 0 where
   pub lines : input_lines new.fed ≡ (input_lines old.fed ++ lines_in key rounds) ++ lines_to key takings
   pub text : List ℕ
   pub untold : List ℕ
@@ -98,10 +98,10 @@ pub record Stands (key : ℕ) (rounds : List Round) (takings : List Taking) (ask
   pub text_is : session_text (answers_in key rounds) ≡ text ++ untold
   pub all : (untold ≡ []) ⊎ (LacksMemory new.ended × (new.waiting ≡ 0))
   pub waits : (said : List Answer) → length (held_of takings) ≤ length said → answers_to key takings said ≡ take new.waiting (drop new.first said)
-  pub within : (new.waiting ≡ 0) ⊎ ((new.first + new.waiting ≤ length (held_of takings)) × Contains asking key)
+  pub within : (new.waiting ≡ 0) ⊎ ((new.first + new.waiting ≤ length (held_of takings)) × Contains awaiting key)
 
-stands_first : (key : ℕ) (asking : List ℕ) (a : Talk) → a.waiting ≡ 0 → Stands key [] [] asking a a
-stands_first key asking a told = record {
+stands_first : (key : ℕ) (awaiting : List ℕ) (a : SessionState) → a.waiting ≡ 0 → Stands key [] [] awaiting a a
+stands_first key awaiting a told = record {
   lines = sym (append-nil _ ∙ append-nil (input_lines a.fed));
   text = [];
   untold = [];
@@ -112,7 +112,7 @@ stands_first key asking a told = record {
   within = inl told;
 }
 
-stands_last : (key : ℕ) (rounds : List Round) (a b : Talk) → Stands key rounds [] [] a b → Answered key rounds a b
+stands_last : (key : ℕ) (rounds : List Round) (a b : SessionState) → Stands key rounds [] [] a b → Answered key rounds a b
 stands_last key rounds a b s = record {
   lines = s.lines ∙ append-nil (input_lines a.fed ++ lines_in key rounds);
   text = s.text;
@@ -124,10 +124,10 @@ stands_last key rounds a b s = record {
 }
 
 -- more was withheld of others
-stands_later : (key : ℕ) (rounds : List Round) (takings : List Taking) (t : Taking) (asking asking' : List ℕ) (a b : Talk)
-    → lines_to key (t ∷ []) ≡ [] → ((said : List Answer) → answers_to key (t ∷ []) said ≡ []) → (Contains asking key → Contains asking' key)
-    → Stands key rounds takings asking a b → Stands key rounds (takings ++ t ∷ []) asking' a b
-stands_later key rounds takings t asking asking' a b no_lines no_answers still s =
+stands_later : (key : ℕ) (rounds : List Round) (takings : List Taking) (t : Taking) (awaiting awaiting' : List ℕ) (a b : SessionState)
+    → lines_to key (t ∷ []) ≡ [] → ((said : List Answer) → answers_to key (t ∷ []) said ≡ []) → (Contains awaiting key → Contains awaiting' key)
+    → Stands key rounds takings awaiting a b → Stands key rounds (takings ++ t ∷ []) awaiting' a b
+stands_later key rounds takings t awaiting awaiting' a b no_lines no_answers still s =
     let more = ap (λ (l : List Withheld). length l) (held_of-append takings (t ∷ [])) ∙ length-append (held_of takings) (held_of (t ∷ [])) in
     let before = input_lines a.fed ++ lines_in key rounds in record {
       lines = s.lines ∙ ap (λ (l : List (List ℕ)). before ++ l) (sym (lines_to-append key takings (t ∷ []) ∙ ap (λ (l : List (List ℕ)). lines_to key takings ++ l) no_lines ∙ append-nil (lines_to key takings)));
@@ -144,8 +144,8 @@ stands_later key rounds takings t asking asking' a b no_lines no_answers still s
     }
 
 -- replies may have been sent
-stands_kept : (key : ℕ) (rounds : List Round) (takings : List Taking) (asking : List ℕ) (a b c : Talk) → Kept b c → Stands key rounds takings asking a b → Stands key rounds takings asking a c
-stands_kept key rounds takings asking a b c k s = record {
+stands_kept : (key : ℕ) (rounds : List Round) (takings : List Taking) (awaiting : List ℕ) (a b c : SessionState) → Kept b c → Stands key rounds takings awaiting a b → Stands key rounds takings awaiting a c
+stands_kept key rounds takings awaiting a b c k s = record {
   lines = ap (λ (f : List ℕ). input_lines f) k.fed ∙ s.lines;
   text = s.text;
   untold = s.untold;
@@ -184,9 +184,9 @@ no_answers key t said other = elim (eqb_tells t.key key) [
 ]
 
 -- its lines were taken
-stands_taken : (key : ℕ) (rounds : List Round) (takings : List Taking) (t : Taking) (asking asking' : List ℕ) (a b c : Talk) → t.key ≡ key → Contains asking' key
-    → LinesTaken t.lines t.held (length (held_of takings)) b c → Stands key rounds takings asking a b → Stands key rounds (takings ++ t ∷ []) asking' a c
-stands_taken key rounds takings t asking asking' a b c own asks l s =
+stands_taken : (key : ℕ) (rounds : List Round) (takings : List Taking) (t : Taking) (awaiting awaiting' : List ℕ) (a b c : SessionState) → t.key ≡ key → Contains awaiting' key
+    → LinesTaken t.lines t.held (length (held_of takings)) b c → Stands key rounds takings awaiting a b → Stands key rounds (takings ++ t ∷ []) awaiting' a c
+stands_taken key rounds takings t awaiting awaiting' a b c own asks l s =
     let more = ap (λ (l : List Withheld). length l) (held_of-append takings (t ∷ [])) ∙ length-append (held_of takings) (held_of (t ∷ [])) in
     let last = ap (λ (l : List Withheld). length l) (append-nil t.held) in
     let before = input_lines a.fed ++ lines_in key rounds in
@@ -211,12 +211,12 @@ both_told : (first second : List Answer) (x u y v : List ℕ) → session_text f
 both_told first second x u y v e f = flat_map-append text_of first second ∙ (λ i. e i ++ f i)
 
 -- a round has ended, and the answers of the connection's lines in it were told, up to some text
-stands_released : (key : ℕ) (rounds : List Round) (r : Round) (asking : List ℕ) (a b c : Talk) (text untold : List ℕ)
+stands_released : (key : ℕ) (rounds : List Round) (r : Round) (awaiting : List ℕ) (a b c : SessionState) (text untold : List ℕ)
     → c.fed ≡ b.fed → c.sent ++ c.unsent ≡ (b.sent ++ b.unsent) ++ text → session_text (answers_to key r.takings r.said) ≡ text ++ untold → c.waiting ≡ 0
-    → (s : Stands key rounds r.takings asking a b)
+    → (s : Stands key rounds r.takings awaiting a b)
     → ((s.untold ≡ []) × ((untold ≡ []) ⊎ LacksMemory c.ended)) ⊎ (LacksMemory c.ended × (text ≡ []) × (untold ≡ []))
     → Stands key (rounds ++ r ∷ []) [] [] a c
-stands_released key rounds r asking a b c text untold fed replies part told s how =
+stands_released key rounds r awaiting a b c text untold fed replies part told s how =
     let own = answers_to key r.takings r.said in
     let lines_more = lines_in-append key rounds (r ∷ []) ∙ ap (λ (l : List (List ℕ)). lines_in key rounds ++ l) (append-nil (lines_to key r.takings)) in
     let answers_more = answers_in-append key rounds (r ∷ []) ∙ ap (λ (l : List Answer). answers_in key rounds ++ l) (append-nil own) in
@@ -253,10 +253,10 @@ le_or_lt : (a b : ℕ) → (a ≤ b) ⊎ (b < a)
 le_or_lt a b = elim (leb_tells a b) [ inl fits ↦ inl fits.1 | inr apart ↦ inr apart.1 ]
 
 -- what is told to a connection that asked is the part of the answers to its own lines
-part_is : (key : ℕ) (rounds : List Round) (takings : List Taking) (asking : List ℕ) (said part : List Answer) (a b : Talk) → length said ≡ length (held_of takings)
+part_is : (key : ℕ) (rounds : List Round) (takings : List Taking) (awaiting : List ℕ) (said part : List Answer) (a b : SessionState) → length said ≡ length (held_of takings)
     → (b.first + b.waiting ≤ length said → part ≡ take b.waiting (drop b.first said)) → (length said < b.first + b.waiting → part ≡ [])
-    → Stands key rounds takings asking a b → answers_to key takings said ≡ part
-part_is key rounds takings asking said part a b one its_own none s =
+    → Stands key rounds takings awaiting a b → answers_to key takings said ≡ part
+part_is key rounds takings awaiting said part a b one its_own none s =
     let enough : length (held_of takings) ≤ length said = omega (arith, one) in
     elim (le_or_lt (b.first + b.waiting) (length said)) [
       | inl fits ↦ s.waits said enough ∙ sym (its_own fits)
@@ -267,7 +267,7 @@ part_is key rounds takings asking said part a b one its_own none s =
     ]
 
 -- a connection that waits for nothing has no part
-no_part : (said part : List Answer) (text untold : List ℕ) (b : Talk) → b.waiting ≡ 0
+no_part : (said part : List Answer) (text untold : List ℕ) (b : SessionState) → b.waiting ≡ 0
     → (b.first + b.waiting ≤ length said → part ≡ take b.waiting (drop b.first said)) → (length said < b.first + b.waiting → part ≡ [])
     → session_text part ≡ text ++ untold → (text ≡ []) × (untold ≡ [])
 no_part said part text untold b told its_own none text_is =
@@ -282,13 +282,13 @@ lacks_still : (ended ended' : Option End) (untold : List ℕ) → StaysOrLacks e
 lacks_still ended ended' untold s l = elim s [ inl stays ↦ subst (λ (e : Option End). LacksMemory e) (sym stays.0) l | inr lacks ↦ lacks ]
 
 -- what was released was told
-stands_told : (key : ℕ) (rounds : List Round) (r : Round) (asking : List ℕ) (a b c : Talk) → length r.said ≡ length (held_of r.takings)
-    → TellsWhereAsked r.said asking key b c → Stands key rounds r.takings asking a b → Stands key (rounds ++ r ∷ []) [] [] a c
-stands_told key rounds r asking a b c one t s = elim t [
+stands_told : (key : ℕ) (rounds : List Round) (r : Round) (awaiting : List ℕ) (a b c : SessionState) → length r.said ≡ length (held_of r.takings)
+    → TellsOwn r.said b c ⊎ ((c ≡ b) × (Contains awaiting key → ⊥)) → Stands key rounds r.takings awaiting a b → Stands key (rounds ++ r ∷ []) [] [] a c
+stands_told key rounds r awaiting a b c one t s = elim t [
   | inl told ↦
       let p = told.tells in
-      let is = part_is key rounds r.takings asking r.said p.part a b one p.its_own p.none s in
-      stands_released key rounds r asking a b c told.text p.untold told.fed told.replies (ap (λ (l : List Answer). session_text l) is ∙ p.text_is) told.told s
+      let is = part_is key rounds r.takings awaiting r.said p.part a b one p.its_own p.none s in
+      stands_released key rounds r awaiting a b c told.text p.untold told.fed told.replies (ap (λ (l : List Answer). session_text l) is ∙ p.text_is) told.told s
       (elim s.all [
         | inl none ↦ inl (none, elim p.stays [ inl stays ↦ inl stays.1 | inr lacks ↦ inr lacks ])
         | inr lacks ↦
@@ -300,119 +300,176 @@ stands_told key rounds r asking a b c one t s = elim t [
       let enough : length (held_of r.takings) ≤ length r.said = omega (arith, one) in
       let empty : answers_to key r.takings r.said ≡ [] = s.waits r.said enough ∙ ap (λ (n : ℕ). take n (drop b.first r.said)) told in
       let same = silent.0 in
-      stands_released key rounds r asking a b c [] [] (ap (λ (d : Talk). d.fed) same) (ap (λ (d : Talk). d.sent ++ d.unsent) same ∙ sym (append-nil (b.sent ++ b.unsent)))
-      (ap (λ (l : List Answer). session_text l) empty) (ap (λ (d : Talk). d.waiting) same ∙ told) s
+      stands_released key rounds r awaiting a b c [] [] (ap (λ (d : SessionState). d.fed) same) (ap (λ (d : SessionState). d.sent ++ d.unsent) same ∙ sym (append-nil (b.sent ++ b.unsent)))
+      (ap (λ (l : List Answer). session_text l) empty) (ap (λ (d : SessionState). d.waiting) same ∙ told) s
       (elim s.all [
         | inl none ↦ inl (none, inl refl)
-        | inr lacks ↦ inr (subst (λ (e : Option End). LacksMemory e) (sym (ap (λ (d : Talk). d.ended) same)) lacks.0, refl, refl)
+        | inr lacks ↦ inr (subst (λ (e : Option End). LacksMemory e) (sym (ap (λ (d : SessionState). d.ended) same)) lacks.0, refl, refl)
       ])
 ]
 
 -- two steps of each connection, one behind the other
-pub each_then : (R S T : ℕ → Talk → Talk → Type 0) (s t u : Slab Seat) → EachGoes R s t → EachGoes S t u
-    → ((key : ℕ) (a b c : Talk) → R key a b → S key b c → T key a c) → EachGoes T s u
-each_then R S T s t u r q both = λ key seat there.
-    let second = q key seat there in
+pub each_then : (R S T : ℕ → PeerState → PeerState → Type 0) (s t u : Slab Connection) → EachGoes R s t → EachGoes S t u
+    → ((key : ℕ) (a b c : PeerState) → R key a b → S key b c → T key a c) → EachGoes T s u
+each_then R S T s t u r q both = λ key connection there.
+    let second = q key connection there in
     let first = r key second.0 second.1 in
-    (first.0, first.1, both key first.0.dialogue second.0.dialogue seat.dialogue first.2 second.2)
+    (first.0, first.1, both key first.0.session second.0.session connection.session first.2 second.2)
 
 -- no step
-pub each_stays : (R : ℕ → Talk → Talk → Type 0) (s : Slab Seat) → ((key : ℕ) (a : Talk) → R key a a) → EachGoes R s s
-each_stays R s same = λ key seat there. (seat, there, same key seat.dialogue)
+pub each_stays : (R : ℕ → PeerState → PeerState → Type 0) (s : Slab Connection) → ((key : ℕ) (a : PeerState) → R key a a) → EachGoes R s s
+each_stays R s same = λ key connection there. (connection, there, same key connection.session)
+
+-- what was taken stays the lines of its own connection's peer, where each peer stays
+own_still : (s t : Slab Connection) (taking : Taking) → EachGoes (λ key a b. StaysPeer a b) s t → IsOwn s taking → IsOwn t taking
+own_still s t taking each own = (
+  own.0,
+  λ found there.
+      let before = each taking.key found there in
+      λ peer known. before.2 peer (own.1 before.0 before.1 peer known),
+)
+
+all_own : (s t : Slab Connection) (takings : List Taking) → EachGoes (λ key a b. StaysPeer a b) s t → All (IsOwn s) takings → All (IsOwn t) takings
+all_own s t [] each own = All-nil (IsOwn t)
+all_own s t (taking ∷ more) each own =
+    All-cons (IsOwn t) taking more (own_still s t taking each (own 0 taking (omega arith))) (all_own s t more each (All-tail (IsOwn s) taking more own))
+
+all_own_in : (s t : Slab Connection) (rounds : List Round) → EachGoes (λ key a b. StaysPeer a b) s t → All (λ (r : Round). All (IsOwn s) r.takings) rounds → All (λ (r : Round). All (IsOwn t) r.takings) rounds
+all_own_in s t [] each own = All-nil (λ (r : Round). All (IsOwn t) r.takings)
+all_own_in s t (round ∷ more) each own =
+    All-cons (λ (r : Round). All (IsOwn t) r.takings) round more (all_own s t round.takings each (own 0 round (omega arith)))
+    (all_own_in s t more each (All-tail (λ (r : Round). All (IsOwn s) r.takings) round more own))
+
+-- what each does, and more
+each_more : (R S : ℕ → PeerState → PeerState → Type 0) (s t : Slab Connection) → EachGoes R s t → ((key : ℕ) (a b : PeerState) → R key a b → S key a b) → EachGoes S s t
+each_more R S s t each more = λ key found there. let before = each key found there in (before.0, before.1, more key before.0.session found.session before.2)
+
+-- a connection that told its part, or did nothing, has its peer still
+tells_stays : (said : List Answer) (awaiting : List ℕ) (key : ℕ) (a b : PeerState) → TellsWhereAsked said awaiting key a b → StaysPeer a b
+tells_stays said awaiting key a b t = λ peer known. elim t [ inl told ↦ told.1 ∙ known | inr silent ↦ ap (λ (c : PeerState). c.peer) silent.0 ∙ known ]
+
+-- what becomes of its session
+tells_state : (said : List Answer) (awaiting : List ℕ) (key : ℕ) (a b : PeerState) → TellsWhereAsked said awaiting key a b → TellsOwn said a.session b.session ⊎ ((b.session ≡ a.session) × (Contains awaiting key → ⊥))
+tells_state said awaiting key a b t = elim t [ inl told ↦ inl told.0 | inr silent ↦ inr (ap (λ (c : PeerState). c.session) silent.0, silent.1) ]
 
 -- a turn that is not over: rounds are behind it, and what was taken since is withheld
-pub record OpenTurn {D E : Type 0} (takes : D → Ask → Withheld → D → Type 0) (tells : D → Name → Result Name Turn → D → Type 0) (releases : D → E → Withheld → Answer → Type 0) (moves : D → D → Type 0) (old new : D) (withheld : List Withheld) (asking : List ℕ) (seats seats' : Slab Seat) : Type 0 where
+pub record OpenTurn {D E : Type 0} (takes : D → Peer → Ask → Withheld → D → Type 0) (releases : D → E → Withheld → Answer → Type 0) (moves : D → D → Type 0) (old new : D) (withheld : List Withheld) (awaiting : List ℕ) (connections connections' : Slab Connection) : Type 0 where
   pub rounds : List Round
   pub takings : List Taking
   pub mid : D
-  pub gone : GoesRounds takes tells releases moves old rounds mid
-  pub taken : TakesAll takes tells mid takings new
+  pub gone : GoesRounds takes releases moves old rounds mid
+  pub taken : TakesAll takes mid takings new
   pub holds : withheld ≡ held_of takings
-  pub each : EachGoes (λ key a b. a.waiting ≡ 0 → Stands key rounds takings asking a b) seats seats'
+  pub own : All (λ (r : Round). All (IsOwn connections') r.takings) rounds
+  pub own_taken : All (IsOwn connections') takings
+  pub each : EachGoes (λ key a b. a.session.waiting ≡ 0 → Stands key rounds takings awaiting a.session b.session) connections connections'
 
-pub open_first : {D E : Type 0} (takes : D → Ask → Withheld → D → Type 0) (tells : D → Name → Result Name Turn → D → Type 0) (releases : D → E → Withheld → Answer → Type 0) (moves : D → D → Type 0) (desk : D) (withheld : List Withheld) (asking : List ℕ) (seats : Slab Seat)
-    → withheld ≡ [] → OpenTurn takes tells releases moves desk desk withheld asking seats seats
-open_first takes tells releases moves desk withheld asking seats none = record {
+pub open_first : {D E : Type 0} (takes : D → Peer → Ask → Withheld → D → Type 0) (releases : D → E → Withheld → Answer → Type 0) (moves : D → D → Type 0) (desk : D) (withheld : List Withheld) (awaiting : List ℕ) (connections : Slab Connection)
+    → withheld ≡ [] → OpenTurn takes releases moves desk desk withheld awaiting connections connections
+open_first takes releases moves desk withheld awaiting connections none = record {
   rounds = [];
   takings = [];
   mid = desk;
   gone = refl;
   taken = refl;
   holds = none;
-  each = each_stays _ seats (λ key a told. stands_first key asking a told);
+  own = All-nil (λ (r : Round). All (IsOwn connections) r.takings);
+  own_taken = All-nil (IsOwn connections);
+  each = each_stays _ connections (λ key a told. stands_first key awaiting a.session told);
 }
 
 -- a connection behind the turn of one, which may be itself
-stands_behind : (key : ℕ) (rounds : List Round) (takings : List Taking) (t : Taking) (asking asking' : List ℕ) (first : ℕ) (a b c : Talk) → first ≡ length (held_of takings)
-    → (Contains asking key → Contains asking' key) → (key ≢ t.key → c ≡ b) × (key ≡ t.key → StepsOrStays asking' t.key t.lines t.held first b c)
-    → Stands key rounds takings asking a b → Stands key rounds (takings ++ t ∷ []) asking' a c
-stands_behind key rounds takings t asking asking' first a b c begins still goes s = elim (eqb_tells key t.key) [
+stands_behind : (key : ℕ) (rounds : List Round) (takings : List Taking) (t : Taking) (awaiting awaiting' : List ℕ) (first : ℕ) (a b c : SessionState) → first ≡ length (held_of takings)
+    → (Contains awaiting key → Contains awaiting' key) → (key ≢ t.key → c ≡ b) × (key ≡ t.key → StepsOrStays awaiting' t.key t.lines t.held first b c)
+    → Stands key rounds takings awaiting a b → Stands key rounds (takings ++ t ∷ []) awaiting' a c
+stands_behind key rounds takings t awaiting awaiting' first a b c begins still goes s = elim (eqb_tells key t.key) [
   | inr apart ↦
       let other : t.key ≡ key → ⊥ = λ is. apart.1 (sym is) in
-      subst (λ (d : Talk). Stands key rounds (takings ++ t ∷ []) asking' a d) (sym (goes.0 apart.1)) (stands_later key rounds takings t asking asking' a b (no_lines key t other) (λ said. no_answers key t said other) still s)
+      subst (λ (d : SessionState). Stands key rounds (takings ++ t ∷ []) awaiting' a d) (sym (goes.0 apart.1)) (stands_later key rounds takings t awaiting awaiting' a b (no_lines key t other) (λ said. no_answers key t said other) still s)
   | inl is ↦
       elim (goes.1 is.1) [
         | inl kept ↦
-            stands_later key rounds takings t asking asking' a c (own_lines key t (sym is.1) ∙ kept.1)
+            stands_later key rounds takings t awaiting awaiting' a c (own_lines key t (sym is.1) ∙ kept.1)
             (λ said. own_answers key t said (sym is.1) ∙ ap (λ (l : List Withheld). take (length l) said) kept.2)
-            still (stands_kept key rounds takings asking a b c kept.0 s)
+            still (stands_kept key rounds takings awaiting a b c kept.0 s)
         | inr took ↦
-            stands_taken key rounds takings t asking asking' a b c (sym is.1) (subst (λ (k : ℕ). Contains asking' k) (sym is.1) took.0)
+            stands_taken key rounds takings t awaiting awaiting' a b c (sym is.1) (subst (λ (k : ℕ). Contains awaiting' k) (sym is.1) took.0)
             (subst (λ (n : ℕ). LinesTaken t.lines t.held n b c) begins took.1) s
       ]
 ]
 
 -- the turn of one connection
-pub open_taken : {D E : Type 0} (takes : D → Ask → Withheld → D → Type 0) (tells : D → Name → Result Name Turn → D → Type 0) (releases : D → E → Withheld → Answer → Type 0) (moves : D → D → Type 0) (key : ℕ) (old new next : D)
-    (withheld withheld' : List Withheld) (asking asking' : List ℕ) (s t u : Slab Seat)
-    → OpenTurn takes tells releases moves old new withheld asking s t → TurnOfOne takes tells key new next withheld withheld' asking asking' t u
-    → OpenTurn takes tells releases moves old next withheld' asking' s u
-open_taken takes tells releases moves key old new next withheld withheld' asking asking' s t u o n =
-    let taking : Taking = record { key = key; peer = n.peer; lines = n.lines; held = n.held } in record {
+pub open_taken : {D E : Type 0} (takes : D → Peer → Ask → Withheld → D → Type 0) (releases : D → E → Withheld → Answer → Type 0) (moves : D → D → Type 0) (key : ℕ) (old new next : D)
+    (withheld withheld' : List Withheld) (awaiting awaiting' : List ℕ) (s t u : Slab Connection)
+    → OpenTurn takes releases moves old new withheld awaiting s t → TurnOfOne takes key new next withheld withheld' awaiting awaiting' t u
+    → OpenTurn takes releases moves old next withheld' awaiting' s u
+open_taken takes releases moves key old new next withheld withheld' awaiting awaiting' s t u o n =
+    let taking : Taking = record { key = key; connection = n.connection; lines = n.lines; held = n.held } in
+    let stays : EachGoes (λ key a b. StaysPeer a b) t u = each_more _ _ t u n.each (λ other a b goes. goes.2) in
+    let own : IsOwn u taking = (
+      n.is,
+      λ found there.
+          let before = n.each key found there in
+          λ peer known. before.2.2 peer (ap (λ (c : PeerState). c.peer) (n.own before.0 before.1) ∙ known),
+    ) in record {
       rounds = o.rounds;
       takings = o.takings ++ taking ∷ [];
       mid = o.mid;
       gone = o.gone;
-      taken = takes_more takes tells o.mid new next o.takings taking o.taken n.desk;
+      taken = takes_more takes o.mid new next o.takings taking o.taken n.desk;
       holds = n.behind ∙ ap (λ (l : List Withheld). l ++ n.held) o.holds ∙ sym (held_of-append o.takings (taking ∷ []) ∙ ap (λ (l : List Withheld). held_of o.takings ++ l) (append-nil n.held));
-      each = each_then _ _ _ s t u o.each n.each (λ other a b c stood goes told. stands_behind other o.rounds o.takings taking asking asking' (length withheld) a b c (ap (λ (l : List Withheld). length l) o.holds) (n.still other) goes (stood told));
+      own = all_own_in t u o.rounds stays o.own;
+      own_taken = All-append (IsOwn u) o.takings (taking ∷ []) (all_own t u o.takings stays o.own_taken) (All-cons (IsOwn u) taking [] own (All-nil (IsOwn u)));
+      each = each_then _ _ _ s t u o.each n.each (λ other a b c stood goes told. stands_behind other o.rounds o.takings taking awaiting awaiting' (length withheld) a.session b.session c.session (ap (λ (l : List Withheld). length l) o.holds) (n.still other)
+          (λ apart. ap (λ (x : PeerState). x.session) (goes.0 apart), goes.1) (stood told));
     }
 
+-- what was taken in one round more
+own_round : (rounds : List Round) (r : Round) (u : Slab Connection) → All (λ (r : Round). All (IsOwn u) r.takings) rounds → All (IsOwn u) r.takings → All (λ (r : Round). All (IsOwn u) r.takings) (rounds ++ r ∷ [])
+own_round rounds r u before own =
+    let Own = λ (r : Round). All (IsOwn u) r.takings in All-append Own rounds (r ∷ []) before (All-cons Own r [] own (All-nil Own))
+
 -- a release
-pub open_told : {D E : Type 0} (takes : D → Ask → Withheld → D → Type 0) (tells : D → Name → Result Name Turn → D → Type 0) (releases : D → E → Withheld → Answer → Type 0) (moves : D → D → Type 0) (old new next : D)
-    (withheld withheld' : List Withheld) (asking asking' : List ℕ) (s t u : Slab Seat)
-    → OpenTurn takes tells releases moves old new withheld asking s t → TellsAll releases moves new next withheld asking t u → withheld' ≡ [] → asking' ≡ []
-    → OpenTurn takes tells releases moves old next withheld' asking' s u
-open_told takes tells releases moves old new next withheld withheld' asking asking' s t u o n none silent =
+pub open_told : {D E : Type 0} (takes : D → Peer → Ask → Withheld → D → Type 0) (releases : D → E → Withheld → Answer → Type 0) (moves : D → D → Type 0) (old new next : D)
+    (withheld withheld' : List Withheld) (awaiting awaiting' : List ℕ) (s t u : Slab Connection)
+    → OpenTurn takes releases moves old new withheld awaiting s t → TellsAll releases moves new next withheld awaiting t u → withheld' ≡ [] → awaiting' ≡ []
+    → OpenTurn takes releases moves old next withheld' awaiting' s u
+open_told takes releases moves old new next withheld withheld' awaiting awaiting' s t u o n none silent =
     let r : Round = record { takings = o.takings; said = n.said } in
     let released = subst (λ (l : List Withheld). ReleasesAll releases moves new l n.said next) o.holds n.released in
-    let one = all_length releases moves new next (held_of o.takings) n.said released in record {
+    let one = all_length releases moves new next (held_of o.takings) n.said released in
+    let stays : EachGoes (λ key a b. StaysPeer a b) t u = each_more _ _ t u n.each (λ other a b goes. tells_stays n.said awaiting other a b goes) in record {
       rounds = o.rounds ++ r ∷ [];
       takings = [];
       mid = next;
-      gone = rounds_more takes tells releases moves old o.mid next o.rounds r o.gone (record { asked = new; taken = o.taken; released = released });
+      gone = rounds_more takes releases moves old o.mid next o.rounds r o.gone (record { asked = new; taken = o.taken; released = released });
       taken = refl;
       holds = none;
-      each = subst (λ (l : List ℕ). EachGoes (λ key a b. a.waiting ≡ 0 → Stands key (o.rounds ++ r ∷ []) [] l a b) s u) (sym silent)
-          (each_then _ _ _ s t u o.each n.each (λ other a b c stood goes told. stands_told other o.rounds r asking a b c one goes (stood told)));
+      own = own_round o.rounds r u (all_own_in t u o.rounds stays o.own) (all_own t u o.takings stays o.own_taken);
+      own_taken = All-nil (IsOwn u);
+      each = subst (λ (l : List ℕ). EachGoes (λ key a b. a.session.waiting ≡ 0 → Stands key (o.rounds ++ r ∷ []) [] l a.session b.session) s u) (sym silent)
+          (each_then _ _ _ s t u o.each n.each (λ other a b c stood goes told. stands_told other o.rounds r awaiting a.session b.session c.session one (tells_state n.said awaiting other b c goes) (stood told)));
     }
 
 -- a turn is over behind its last release
-pub open_last : {D E : Type 0} (takes : D → Ask → Withheld → D → Type 0) (tells : D → Name → Result Name Turn → D → Type 0) (releases : D → E → Withheld → Answer → Type 0) (moves : D → D → Type 0) (old new next : D)
-    (withheld : List Withheld) (asking : List ℕ) (s t u : Slab Seat)
-    → OpenTurn takes tells releases moves old new withheld asking s t → TellsAll releases moves new next withheld asking t u
-    → WorkerTurn takes tells releases moves old next s u
-open_last takes tells releases moves old new next withheld asking s t u o n =
+pub open_last : {D E : Type 0} (takes : D → Peer → Ask → Withheld → D → Type 0) (releases : D → E → Withheld → Answer → Type 0) (moves : D → D → Type 0) (old new next : D)
+    (withheld : List Withheld) (awaiting : List ℕ) (s t u : Slab Connection)
+    → OpenTurn takes releases moves old new withheld awaiting s t → TellsAll releases moves new next withheld awaiting t u
+    → WorkerTurn takes releases moves old next s u
+open_last takes releases moves old new next withheld awaiting s t u o n =
     let r : Round = record { takings = o.takings; said = n.said } in
     let released = subst (λ (l : List Withheld). ReleasesAll releases moves new l n.said next) o.holds n.released in
-    let one = all_length releases moves new next (held_of o.takings) n.said released in record {
+    let one = all_length releases moves new next (held_of o.takings) n.said released in
+    let stays : EachGoes (λ key a b. StaysPeer a b) t u = each_more _ _ t u n.each (λ other a b goes. tells_stays n.said awaiting other a b goes) in record {
       rounds = o.rounds ++ r ∷ [];
-      desk = rounds_more takes tells releases moves old o.mid next o.rounds r o.gone (record { asked = new; taken = o.taken; released = released });
-      each = each_then _ _ _ s t u o.each n.each (λ other a b c stood goes told. stands_last other (o.rounds ++ r ∷ []) a c (stands_told other o.rounds r asking a b c one goes (stood told)));
+      own = own_round o.rounds r u (all_own_in t u o.rounds stays o.own) (all_own t u o.takings stays o.own_taken);
+      desk = rounds_more takes releases moves old o.mid next o.rounds r o.gone (record { asked = new; taken = o.taken; released = released });
+      each = each_then _ _ _ s t u o.each n.each (λ other a b c stood goes told. stands_last other (o.rounds ++ r ∷ []) a.session c.session
+          (stands_told other o.rounds r awaiting a.session b.session c.session one (tells_state n.said awaiting other b c goes) (stood told)));
     }
 
 -- a connection that is told twice is told nothing the second time
-told_again : (said : List Answer) (a b c : Talk) → TellsOwn said a b → TellsOwn said b c → TellsOwn said a c
+told_again : (said : List Answer) (a b c : SessionState) → TellsOwn said a b → TellsOwn said b c → TellsOwn said a c
 told_again said a b c t u =
     let p = t.tells in
     let q = u.tells in
@@ -435,25 +492,25 @@ told_again said a b c t u =
     }
 
 -- a connection while those that asked are told: it was told, or nothing was done with it, and it is still to be told if it asked
-abbrev pub ToldSoFar : List Answer → List ℕ → List ℕ → ℕ → Talk → Talk → Type 0
-ToldSoFar said asking left key old new = TellsOwn said old new ⊎ ((new ≡ old) × (Contains asking key → Contains left key))
+abbrev pub ToldSoFar : List Answer → List ℕ → List ℕ → ℕ → PeerState → PeerState → Type 0
+ToldSoFar said awaiting left key old new = TellsPeer said old new ⊎ ((new ≡ old) × (Contains awaiting key → Contains left key))
 
 -- the step in which the connection under a key is told
-abbrev pub TellsOne : List Answer → ℕ → ℕ → Talk → Talk → Type 0
-TellsOne said key other old new = (other ≡ key → TellsOwn said old new) × (other ≢ key → new ≡ old)
+abbrev pub TellsOne : List Answer → ℕ → ℕ → PeerState → PeerState → Type 0
+TellsOne said key other old new = (other ≡ key → TellsPeer said old new) × (other ≢ key → new ≡ old)
 
-pub told_none : (said : List Answer) (asking : List ℕ) (s : Slab Seat) → EachGoes (ToldSoFar said asking asking) s s
-told_none said asking s = each_stays _ s (λ key a. inr (refl, λ h. h))
+pub told_none : (said : List Answer) (awaiting : List ℕ) (s : Slab Connection) → EachGoes (ToldSoFar said awaiting awaiting) s s
+told_none said awaiting s = each_stays _ s (λ key a. inr (refl, λ h. h))
 
-told_one : (said : List Answer) (asking left left' : List ℕ) (key other : ℕ) (a b c : Talk) → left ≡ left' ++ key ∷ [] → ToldSoFar said asking left other a b
-    → TellsOne said key other b c → ToldSoFar said asking left' other a c
-told_one said asking left left' key other a b c popped told step = elim (eqb_tells other key) [
+told_one : (said : List Answer) (awaiting left left' : List ℕ) (key other : ℕ) (a b c : PeerState) → left ≡ left' ++ key ∷ [] → ToldSoFar said awaiting left other a b
+    → TellsOne said key other b c → ToldSoFar said awaiting left' other a c
+told_one said awaiting left left' key other a b c popped told step = elim (eqb_tells other key) [
   | inl same ↦ elim told [
-    | inl before ↦ inl (told_again said a b c before (step.0 same.1))
-    | inr silent ↦ inl (subst (λ (d : Talk). TellsOwn said d c) silent.0 (step.0 same.1))
+    | inl before ↦ let after = step.0 same.1 in inl (told_again said a.session b.session c.session before.0 after.0, after.1 ∙ before.1)
+    | inr silent ↦ inl (subst (λ (d : PeerState). TellsPeer said d c) silent.0 (step.0 same.1))
   ]
   | inr apart ↦ elim told [
-    | inl before ↦ inl (subst (λ (d : Talk). TellsOwn said a d) (sym (step.1 apart.1)) before)
+    | inl before ↦ inl (subst (λ (d : PeerState). TellsPeer said a d) (sym (step.1 apart.1)) before)
     | inr silent ↦ inr (
       step.1 apart.1 ∙ silent.0,
       λ asked.
@@ -465,13 +522,13 @@ told_one said asking left left' key other a b c popped told step = elim (eqb_tel
   ]
 ]
 
-pub told_more : (said : List Answer) (asking left left' : List ℕ) (key : ℕ) (s t u : Slab Seat) → left ≡ left' ++ key ∷ [] → EachGoes (ToldSoFar said asking left) s t
-    → EachGoes (TellsOne said key) t u → EachGoes (ToldSoFar said asking left') s u
-told_more said asking left left' key s t u popped told step = each_then _ _ _ s t u told step (λ other a b c before goes. told_one said asking left left' key other a b c popped before goes)
+pub told_more : (said : List Answer) (awaiting left left' : List ℕ) (key : ℕ) (s t u : Slab Connection) → left ≡ left' ++ key ∷ [] → EachGoes (ToldSoFar said awaiting left) s t
+    → EachGoes (TellsOne said key) t u → EachGoes (ToldSoFar said awaiting left') s u
+told_more said awaiting left left' key s t u popped told step = each_then _ _ _ s t u told step (λ other a b c before goes. told_one said awaiting left left' key other a b c popped before goes)
 
-pub told_all : (said : List Answer) (asking left : List ℕ) (s t : Slab Seat) → left ≡ [] → EachGoes (ToldSoFar said asking left) s t → EachGoes (TellsWhereAsked said asking) s t
-told_all said asking left s t none told = λ key seat there.
-    let one = told key seat there in (
+pub told_all : (said : List Answer) (awaiting left : List ℕ) (s t : Slab Connection) → left ≡ [] → EachGoes (ToldSoFar said awaiting left) s t → EachGoes (TellsWhereAsked said awaiting) s t
+told_all said awaiting left s t none told = λ key connection there.
+    let one = told key connection there in (
       one.0,
       one.1,
       elim one.2 [
@@ -481,25 +538,25 @@ told_all said asking left s t none told = λ key seat there.
     )
 
 -- a write of one connection
-pub each_written : (R : ℕ → Talk → Talk → Type 0) (s t : Slab Seat) (key : ℕ) (seat seat' : Seat) → get s key ≡ Some seat → Updates s t key (Some seat')
-    → R key seat.dialogue seat'.dialogue → ((other : ℕ) (a : Talk) → other ≢ key → R other a a) → EachGoes R s t
-each_written R s t key seat seat' was writes own others = λ other found there. elim (eqb_tells other key) [
+pub each_written : (R : ℕ → PeerState → PeerState → Type 0) (s t : Slab Connection) (key : ℕ) (connection connection' : Connection) → get s key ≡ Some connection → Updates s t key (Some connection')
+    → R key connection.session connection'.session → ((other : ℕ) (a : PeerState) → other ≢ key → R other a a) → EachGoes R s t
+each_written R s t key connection connection' was writes own others = λ other found there. elim (eqb_tells other key) [
   | inl same ↦
-      let is : Some seat' ≡ Some found = sym writes.changed ∙ ap (λ (k : ℕ). get t k) (sym same.1) ∙ there in
-      let as_found : seat' ≡ found = cc in
-      (seat, ap (λ (k : ℕ). get s k) same.1 ∙ was, subst (λ (k : ℕ). R k seat.dialogue found.dialogue) (sym same.1) (subst (λ (x : Seat). R key seat.dialogue x.dialogue) as_found own))
-  | inr apart ↦ (found, sym (writes.others other apart.1) ∙ there, others other found.dialogue apart.1)
+      let is : Some connection' ≡ Some found = sym writes.changed ∙ ap (λ (k : ℕ). get t k) (sym same.1) ∙ there in
+      let as_found : connection' ≡ found = cc in
+      (connection, ap (λ (k : ℕ). get s k) same.1 ∙ was, subst (λ (k : ℕ). R k connection.session found.session) (sym same.1) (subst (λ (x : Connection). R key connection.session x.session) as_found own))
+  | inr apart ↦ (found, sym (writes.others other apart.1) ∙ there, others other found.session apart.1)
 ]
 
-pub each_set : (R : ℕ → Talk → Talk → Type 0) (s : Slab Seat) (key : ℕ) (seat seat' : Seat) → Some seat ≡ get s key
-    → R key seat.dialogue seat'.dialogue → ((other : ℕ) (a : Talk) → other ≢ key → R other a a) → EachGoes R s (with_value s key seat')
-each_set R s key seat seat' was own others =
-    let some : IsSome (Some seat) = search rules in
-    let present : IsSome (get s key) = subst (λ (o : Option Seat). IsSome o) was some in
-    each_written R s (with_value s key seat') key seat seat' (sym was) (Updates-with_value s key seat' present) own others
+pub each_set : (R : ℕ → PeerState → PeerState → Type 0) (s : Slab Connection) (key : ℕ) (connection connection' : Connection) → Some connection ≡ get s key
+    → R key connection.session connection'.session → ((other : ℕ) (a : PeerState) → other ≢ key → R other a a) → EachGoes R s (with_value s key connection')
+each_set R s key connection connection' was own others =
+    let some : IsSome (Some connection) = search rules in
+    let present : IsSome (get s key) = subst (λ (o : Option Connection). IsSome o) was some in
+    each_written R s (with_value s key connection') key connection connection' (sym was) (Updates-with_value s key connection' present) own others
 
 -- a connection is closed
-pub each_removed : (s t : Slab Seat) (key : ℕ) → Updates s t key None → EachGoes (λ other a b. b ≡ a) s t
+pub each_removed : (s t : Slab Connection) (key : ℕ) → Updates s t key None → EachGoes (λ other a b. b ≡ a) s t
 each_removed s t key removes = λ other found there. elim (eqb_tells other key) [
   | inl same ↦
       let none : None ≡ Some found = sym removes.changed ∙ ap (λ (k : ℕ). get t k) (sym same.1) ∙ there in
@@ -508,46 +565,74 @@ each_removed s t key removes = λ other found there. elim (eqb_tells other key) 
 ]
 
 -- a step of which no connection knows, behind another
-pub each_still : (R : ℕ → Talk → Talk → Type 0) (s t u : Slab Seat) → EachGoes R s t → EachGoes (λ other a b. b ≡ a) t u → EachGoes R s u
-each_still R s t u first still = each_then _ _ _ s t u first still (λ other a b c goes same. subst (λ (d : Talk). R other a d) (sym same) goes)
+pub each_still : (R : ℕ → PeerState → PeerState → Type 0) (s t u : Slab Connection) → EachGoes R s t → EachGoes (λ other a b. b ≡ a) t u → EachGoes R s u
+each_still R s t u first still = each_then _ _ _ s t u first still (λ other a b c goes same. subst (λ (d : PeerState). R other a d) (sym same) goes)
 
--- the turn of one connection, which is then noted as asking or not
-pub turn_of_one : {D : Type 0} (takes : D → Ask → Withheld → D → Type 0) (tells : D → Name → Result Name Turn → D → Type 0) (peer : Peer) (key : ℕ) (old new : D) (withheld withheld' : List Withheld) (asking asking' : List ℕ) (after : After)
-    (seats seats' : Slab Seat) (seat seat' : Seat) → Some seat ≡ get seats key → SeatSteps takes tells peer old new withheld withheld' after seat.dialogue seat'.dialogue
-    → EachGoes (λ other a b. b ≡ a) (with_value seats key seat') seats' → ((other : ℕ) → Contains asking other → Contains asking' other)
-    → (IsAsking after → (found : Seat) → get seats' key ≡ Some found → Contains asking' key) → TurnOfOne takes tells key old new withheld withheld' asking asking' seats seats'
-turn_of_one takes tells peer key old new withheld withheld' asking asking' after seats seats' seat seat' was step settled still asks = record {
-  peer = peer;
-  lines = step.lines;
-  held = step.held;
-  behind = step.behind;
-  desk = step.desk;
-  still = still;
-  each = λ other found there.
-      let Own : Talk → Talk → Type 0 = λ a b. (Kept a b × (step.lines ≡ []) × (step.held ≡ [])) ⊎ (IsAsking after × LinesTaken step.lines step.held (length withheld) a b) in
-      let second = settled other found there in
-      let first = each_set (λ k a b. (k ≢ key → b ≡ a) × (k ≡ key → Own a b)) seats key seat seat' was (λ apart. absurd (apart refl), λ same. step.goes) (λ k a apart. (λ _. refl, λ same. absurd (apart same))) other second.0 second.1 in (
-        first.0,
-        first.1,
-        (
-          λ apart. second.2 ∙ first.2.0 apart,
-          λ same. subst (λ (d : Talk). StepsOrStays asking' key step.lines step.held (length withheld) first.0.dialogue d) (sym second.2) (elim (first.2.1 same) [
-            | inl kept ↦ inl kept
-            | inr took ↦ inr (asks took.0 found (ap (λ (k : ℕ). get seats' k) (sym same) ∙ there), took.1)
-          ]),
-        ),
-      );
+-- the turn of one connection, which is then noted as waiting or not
+pub turn_of_one : {D : Type 0} (takes : D → Peer → Ask → Withheld → D → Type 0) (key : ℕ) (old new : D) (withheld withheld' : List Withheld) (awaiting awaiting' : List ℕ) (next : Next)
+    (connections connections' : Slab Connection) (connection connection' : Connection) → Some connection ≡ get connections key
+    → ConnectionSteps takes old new withheld withheld' next connection.session connection'.session
+    → EachGoes (λ other a b. b ≡ a) (with_value connections key connection') connections' → ((other : ℕ) → Contains awaiting other → Contains awaiting' other)
+    → (WaitsForRelease next → (found : Connection) → get connections' key ≡ Some found → Contains awaiting' key) → TurnOfOne takes key old new withheld withheld' awaiting awaiting' connections connections'
+turn_of_one takes key old new withheld withheld' awaiting awaiting' next connections connections' connection connection' was steps dispatched still asks =
+    let step = steps.step in
+    let Own : PeerState → PeerState → Type 0 = λ a b. ((Kept a.session b.session × (step.lines ≡ []) × (step.held ≡ [])) ⊎ (WaitsForRelease next × LinesTaken step.lines step.held (length withheld) a.session b.session)) in
+    let goes : Own connection.session connection'.session = elim steps.waits [
+      | inl kept ↦ inl kept
+      | inr waits ↦ elim step.goes [ inl kept ↦ inl kept | inr took ↦ inr (waits, took) ]
+    ] in record {
+      connection = connection.session;
+      is = steps.is;
+      own = λ found there.
+          let both : Some connection ≡ Some found = was ∙ there in
+          let same : connection ≡ found = cc in
+          ap (λ (c : Connection). c.session) (sym same);
+      lines = step.lines;
+      held = step.held;
+      behind = step.behind;
+      desk = step.desk;
+      still = still;
+      each = λ other found there.
+          let second = dispatched other found there in
+          let first = each_set (λ k a b. (k ≢ key → b ≡ a) × (k ≡ key → Own a b) × StaysPeer a b) connections key connection connection' was
+          (λ apart. absurd (apart refl), λ same. goes, steps.stays) (λ k a apart. (λ _. refl, λ same. absurd (apart same), λ peer known. known)) other second.0 second.1 in (
+            first.0,
+            first.1,
+            (
+              λ apart. second.2 ∙ first.2.0 apart,
+              λ same. subst (λ (d : PeerState). StepsOrStays awaiting' key step.lines step.held (length withheld) first.0.session.session d.session) (sym second.2) (elim (first.2.1 same) [
+                | inl kept ↦ inl kept
+                | inr took ↦ inr (asks took.0 found (ap (λ (k : ℕ). get connections' k) (sym same) ∙ there), took.1)
+              ]),
+              λ peer known. ap (λ (d : PeerState). d.peer) second.2 ∙ first.2.2 peer known,
+            ),
+          );
+    }
+
+-- a connection of which nothing is known
+abbrev nobody : PeerState
+nobody = record {
+  proxy = None;
+  peer = None;
+  stage = stages.Serving;
+  stream = record { received = []; sent = [] };
+  session = record { fed = []; sent = []; unsent = []; ended = None; first = 0; waiting = 0 };
 }
 
+nobody_is : IsConnection nobody
+nobody_is = ([], record { header = []; rest = []; received_is = refl; named = (refl, refl); left = λ _. refl; notice = []; sent_is = refl; ended = refl })
+
 -- nobody has a turn
-pub turn_of_none : {D : Type 0} (takes : D → Ask → Withheld → D → Type 0) (tells : D → Name → Result Name Turn → D → Type 0) (peer : Peer) (key : ℕ) (desk : D) (withheld : List Withheld) (asking : List ℕ) (seats : Slab Seat)
-    → None ≡ get seats key → TurnOfOne takes tells key desk desk withheld withheld asking asking seats seats
-turn_of_none takes tells peer key desk withheld asking seats none = record {
-  peer = peer;
+pub turn_of_none : {D : Type 0} (takes : D → Peer → Ask → Withheld → D → Type 0) (key : ℕ) (desk : D) (withheld : List Withheld) (awaiting : List ℕ) (connections : Slab Connection)
+    → None ≡ get connections key → TurnOfOne takes key desk desk withheld withheld awaiting awaiting connections connections
+turn_of_none takes key desk withheld awaiting connections none = record {
+  connection = nobody;
+  is = nobody_is;
+  own = λ found there. let both : None ≡ Some found = none ∙ there in absurd (cc);
   lines = [];
   held = [];
   behind = sym (append-nil withheld);
-  desk = refl;
+  desk = (refl, refl, refl);
   still = λ other asks. asks;
   each = λ other found there. (
     found,
@@ -555,8 +640,9 @@ turn_of_none takes tells peer key desk withheld asking seats none = record {
     (
       λ apart. refl,
       λ same.
-          let both : None ≡ Some found = none ∙ ap (λ (k : ℕ). get seats k) (sym same) ∙ there in
+          let both : None ≡ Some found = none ∙ ap (λ (k : ℕ). get connections k) (sym same) ∙ there in
           absurd (cc),
+      λ peer known. known,
     ),
   );
 }

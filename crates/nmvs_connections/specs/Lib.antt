@@ -1,4 +1,6 @@
+pub mod Traffic
+pub mod Streams
 pub mod Replies
-pub mod Moved
-pub mod Greeting
+pub mod ProxyHeader
+pub mod Peers
 pub mod Turns

@@ -12,7 +12,7 @@ use Rattle.nmvs_protocol.specs.Session.{TakesLines, session_text}
 
 -- a connection: the bytes that it was fed, the replies that were sent, those that are unsent, how its session ended, and where
 -- the answers begin that it waits for, among those that are withheld, and how many they are
-pub record Talk : Type 0 where
+pub record SessionState : Type 0 where
   pub fed : List ℕ
   pub sent : List ℕ
   pub unsent : List ℕ

@@ -1,27 +1,26 @@
 -- What a worker's turn makes of its connections, and of the desk that they share (own).
-use Rattle.std.specs.Prelude.{◌≡◌, ◌≢◌, ◌⊎◌, ◌==◌, if◌then◌else◌, ℕ, List, [], ◌∷◌, ◌++◌, length, take, drop, Option, Some, None, Result}
+use Rattle.std.specs.Prelude.{◌≡◌, ◌≢◌, ◌⊎◌, ◌==◌, if◌then◌else◌, ℕ, List, [], ◌∷◌, ◌++◌, length, take, drop, All, Option, Some, None}
 use Rattle.std.specs.List.{Contains}
 use Rattle.slab.specs.Slab.{Slab, get}
-use Rattle.nmvs_identifier.specs.Name.{Name}
 use Rattle.nmvs_messages.specs.declared.ask.Ask.{Ask}
 use Rattle.nmvs_messages.specs.declared.answer.Answer.{Answer}
-use Rattle.nmvs_messages.specs.declared.answer.Turn.{Turn}
 use Rattle.nmvs_messages.specs.declared.peer.Peer.{Peer}
 use Rattle.nmvs_messages.specs.declared.withheld.Withheld.{Withheld}
-use Rattle.nmvs_protocol.specs.Peers.{TakesOf}
+use Rattle.nmvs_messages.specs.Peers.{TakesFrom}
 use Rattle.nmvs_messages.specs.Withheld.{AreReleased}
 use Rattle.nmvs_protocol.specs.Session.{TakesLines, session_text}
 use Rattle.nmvs_stream.specs.InputLines.{input_lines}
-use Rattle.nmvs_connections.specs.declared.seat.Seat.{Seat}
-use Rattle.nmvs_connections.specs.declared.seat.After.{After}
-use Rattle.nmvs_connections.specs.declared.seat.After.TheVariants as afters
-use Rattle.nmvs_connections.specs.Replies.{Talk, TellsPart, LacksMemory}
+use Rattle.nmvs_connections.specs.declared.connection.Connection.{Connection}
+use Rattle.nmvs_connections.specs.declared.next.Next.{Next}
+use Rattle.nmvs_connections.specs.declared.next.Next.TheVariants as nexts
+use Rattle.nmvs_connections.specs.Peers.{PeerState, IsConnection, StaysPeer}
+use Rattle.nmvs_connections.specs.Replies.{SessionState, TellsPart, LacksMemory}
 
--- lines of the connection under this key that were taken together, each asked for the peer at its other end, and what was
+-- lines of the connection under this key that were taken together, the connection as it was when its turn came, and what was
 -- withheld of their answers
 pub record Taking : Type 0 where
   pub key : ℕ
-  pub peer : Peer
+  pub connection : PeerState
   pub lines : List (List ℕ)
   pub held : List Withheld
 
@@ -30,10 +29,15 @@ abbrev pub held_of : List Taking → List Withheld
 held_of [] = []
 held_of (t ∷ more) = t.held ++ held_of more
 
--- the desk goes from old to new by exactly the takes of these lines
-abbrev pub TakesAll : {D : Type 0} → (D → Ask → Withheld → D → Type 0) → (D → Name → Result Name Turn → D → Type 0) → D → List Taking → D → Type 0
-TakesAll takes tells old [] new = new ≡ old
-TakesAll {D} takes tells old (t ∷ more) new = (mid : D) × TakesLines (TakesOf takes tells t.peer) old t.lines t.held mid × TakesAll takes tells mid more new
+-- lines are taken as those of this peer, the desk going from old to new; where the peer is not known, there are none
+abbrev pub TakesBy : {D : Type 0} → (D → Peer → Ask → Withheld → D → Type 0) → Option Peer → D → List (List ℕ) → List Withheld → D → Type 0
+TakesBy takes None old lines held new = (lines ≡ []) × (held ≡ []) × (new ≡ old)
+TakesBy takes (Some peer) old lines held new = TakesLines (TakesFrom takes peer) old lines held new
+
+-- the desk goes from old to new by exactly the takes of these lines, each as one of its own connection's peer
+abbrev pub TakesAll : {D : Type 0} → (D → Peer → Ask → Withheld → D → Type 0) → D → List Taking → D → Type 0
+TakesAll takes old [] new = new ≡ old
+TakesAll {D} takes old (t ∷ more) new = (mid : D) × TakesBy takes t.connection.peer old t.lines t.held mid × TakesAll takes mid more new
 
 -- what is withheld is released at once, all of it; where there is none the desk is not asked
 abbrev pub ReleasesAll : {D E : Type 0} → (D → E → Withheld → Answer → Type 0) → (D → D → Type 0) → D → List Withheld → List Answer → D → Type 0
@@ -46,15 +50,15 @@ pub record Round : Type 0 where
   pub said : List Answer
 
 -- a round takes the desk from old to new
-pub record GoesRound {D E : Type 0} (takes : D → Ask → Withheld → D → Type 0) (tells : D → Name → Result Name Turn → D → Type 0) (releases : D → E → Withheld → Answer → Type 0) (moves : D → D → Type 0) (old : D) (round : Round) (new : D) : Type 0 where
+pub record GoesRound {D E : Type 0} (takes : D → Peer → Ask → Withheld → D → Type 0) (releases : D → E → Withheld → Answer → Type 0) (moves : D → D → Type 0) (old : D) (round : Round) (new : D) : Type 0 where
   pub asked : D
-  pub taken : TakesAll takes tells old round.takings asked
+  pub taken : TakesAll takes old round.takings asked
   pub released : ReleasesAll releases moves asked (held_of round.takings) round.said new
 
 -- rounds take the desk from old to new
-abbrev pub GoesRounds : {D E : Type 0} → (D → Ask → Withheld → D → Type 0) → (D → Name → Result Name Turn → D → Type 0) → (D → E → Withheld → Answer → Type 0) → (D → D → Type 0) → D → List Round → D → Type 0
-GoesRounds takes tells releases moves old [] new = new ≡ old
-GoesRounds {D} takes tells releases moves old (r ∷ more) new = (mid : D) × GoesRound takes tells releases moves old r mid × GoesRounds takes tells releases moves mid more new
+abbrev pub GoesRounds : {D E : Type 0} → (D → Peer → Ask → Withheld → D → Type 0) → (D → E → Withheld → Answer → Type 0) → (D → D → Type 0) → D → List Round → D → Type 0
+GoesRounds takes releases moves old [] new = new ≡ old
+GoesRounds {D} takes releases moves old (r ∷ more) new = (mid : D) × GoesRound takes releases moves old r mid × GoesRounds takes releases moves mid more new
 
 -- the lines of one connection among those that were taken
 abbrev pub lines_to : ℕ → List Taking → List (List ℕ)
@@ -78,7 +82,7 @@ answers_in key (r ∷ more) = answers_to key r.takings r.said ++ answers_in key 
 
 -- a connection that bytes were fed to and replies were gathered for: the lines that were completed are its lines of these rounds,
 -- and the replies are the texts of the answers to them, in order, up to want of memory. It waits for no answer
-pub record Answered (key : ℕ) (rounds : List Round) (old new : Talk) : Type 0 where
+pub record Answered (key : ℕ) (rounds : List Round) (old new : SessionState) : Type 0 where
   pub lines : input_lines new.fed ≡ input_lines old.fed ++ lines_in key rounds
   pub text : List ℕ
   pub untold : List ℕ
@@ -88,18 +92,24 @@ pub record Answered (key : ℕ) (rounds : List Round) (old new : Talk) : Type 0 
   pub told : new.waiting ≡ 0
 
 -- each connection that is there was there, and has gone so
-abbrev pub EachGoes : (ℕ → Talk → Talk → Type 0) → Slab Seat → Slab Seat → Type 0
-EachGoes goes old new = (key : ℕ) (seat' : Seat) → get new key ≡ Some seat' → (seat : Seat) × (get old key ≡ Some seat) × goes key seat.dialogue seat'.dialogue
+abbrev pub EachGoes : (ℕ → PeerState → PeerState → Type 0) → Slab Connection → Slab Connection → Type 0
+EachGoes goes old new = (key : ℕ) (connection' : Connection) → get new key ≡ Some connection' → (connection : Connection) × (get old key ≡ Some connection) × goes key connection.session connection'.session
 
--- a turn of a worker: rounds take the desk from old to new, and each connection that waited for no answer is answered in them,
--- whatever others are served between its lines
-pub record WorkerTurn {D E : Type 0} (takes : D → Ask → Withheld → D → Type 0) (tells : D → Name → Result Name Turn → D → Type 0) (releases : D → E → Withheld → Answer → Type 0) (moves : D → D → Type 0) (old new : D) (seats seats' : Slab Seat) : Type 0 where
+-- what was taken is of a connection whose header names its peer; and if the connection is still there, it has that peer still
+abbrev pub IsOwn : Slab Connection → Taking → Type 0
+IsOwn connections t =
+    IsConnection t.connection × ((connection : Connection) → get connections t.key ≡ Some connection → StaysPeer t.connection connection.session)
+
+-- a turn of a worker: rounds take the desk from old to new, each line as one of its own connection's peer; and each connection
+-- that waited for no answer is answered in them, whatever others are served between its lines
+pub record WorkerTurn {D E : Type 0} (takes : D → Peer → Ask → Withheld → D → Type 0) (releases : D → E → Withheld → Answer → Type 0) (moves : D → D → Type 0) (old new : D) (connections connections' : Slab Connection) : Type 0 where
   pub rounds : List Round
-  pub desk : GoesRounds takes tells releases moves old rounds new
-  pub each : EachGoes (λ key talk talk'. talk.waiting ≡ 0 → Answered key rounds talk talk') seats seats'
+  pub desk : GoesRounds takes releases moves old rounds new
+  pub own : All (λ (r : Round). All (IsOwn connections') r.takings) rounds
+  pub each : EachGoes (λ key state state'. state.session.waiting ≡ 0 → Answered key rounds state.session state'.session) connections connections'
 
 -- replies may have been sent, and nothing else
-pub record Kept (old new : Talk) : Type 0 where
+pub record Kept (old new : SessionState) : Type 0 where
   pub fed : new.fed ≡ old.fed
   pub text : new.sent ++ new.unsent ≡ old.sent ++ old.unsent
   pub ended : new.ended ≡ old.ended
@@ -107,7 +117,7 @@ pub record Kept (old new : Talk) : Type 0 where
   pub waiting : new.waiting ≡ old.waiting
 
 -- lines were taken, whose answers stand from this place on among those that are withheld
-pub record LinesTaken (lines : List (List ℕ)) (held : List Withheld) (first : ℕ) (old new : Talk) : Type 0 where
+pub record LinesTaken (lines : List (List ℕ)) (held : List Withheld) (first : ℕ) (old new : SessionState) : Type 0 where
   pub lines_are : input_lines new.fed ≡ input_lines old.fed ++ lines
   pub text : new.sent ++ new.unsent ≡ old.sent ++ old.unsent
   pub open_still : old.ended ≡ None
@@ -117,49 +127,65 @@ pub record LinesTaken (lines : List (List ℕ)) (held : List Withheld) (first : 
   pub sound : LacksMemory new.ended → ⊥
 
 -- the connection waits for a release
-abbrev pub IsAsking : After → Type 0
-IsAsking afters.Asks = Unit {0}
-IsAsking afters.AsksAtOnce = Unit {0}
-IsAsking _ = ⊥
+abbrev pub WaitsForRelease : Next → Type 0
+WaitsForRelease nexts.WaitRelease = Unit {0}
+WaitsForRelease nexts.ReleaseNow = Unit {0}
+WaitsForRelease _ = ⊥
 
--- a connection's step behind what was withheld: it took these lines, and asks for their release; or none, and has done no more
--- than to send
-pub record SeatSteps {D : Type 0} (takes : D → Ask → Withheld → D → Type 0) (tells : D → Name → Result Name Turn → D → Type 0) (peer : Peer) (old new : D) (withheld withheld' : List Withheld) (after : After) (talk talk' : Talk) : Type 0 where
+-- a session's step: lines were taken as those of the peer, and their answers put behind those that are withheld; or none, and no
+-- more was done than to send
+pub record LinesStep {D : Type 0} (takes : D → Peer → Ask → Withheld → D → Type 0) (peer : Option Peer) (old new : D) (withheld withheld' : List Withheld) (state state' : SessionState) : Type 0 where
   pub lines : List (List ℕ)
   pub held : List Withheld
   pub behind : withheld' ≡ withheld ++ held
-  pub desk : TakesLines (TakesOf takes tells peer) old lines held new
-  pub goes : (Kept talk talk' × (lines ≡ []) × (held ≡ [])) ⊎ (IsAsking after × LinesTaken lines held (length withheld) talk talk')
+  pub desk : TakesBy takes peer old lines held new
+  pub goes : (Kept state state' × (lines ≡ []) × (held ≡ [])) ⊎ LinesTaken lines held (length withheld) state state'
+
+-- a connection's step: its lines were taken, and it waits for the release of their answers; or none, and it has done no more than
+-- to send
+pub record ConnectionSteps {D : Type 0} (takes : D → Peer → Ask → Withheld → D → Type 0) (old new : D) (withheld withheld' : List Withheld) (next : Next) (state state' : PeerState) : Type 0 where
+  pub step : LinesStep takes state.peer old new withheld withheld' state.session state'.session
+  pub waits : Kept state.session state'.session × (step.lines ≡ []) × (step.held ≡ []) ⊎ WaitsForRelease next
+  pub stays : StaysPeer state state'
+  pub is : IsConnection state
 
 -- the connection told its part of what was released
-pub record TellsOwn (released : List Answer) (old new : Talk) : Type 0 where
+pub record TellsOwn (released : List Answer) (old new : SessionState) : Type 0 where
   pub fed : new.fed ≡ old.fed
   pub text : List ℕ
   pub replies : new.sent ++ new.unsent ≡ (old.sent ++ old.unsent) ++ text
   pub tells : TellsPart old.first old.waiting released text old.ended new.ended
   pub told : new.waiting ≡ 0
 
--- each connection that asked told its part of what was released, once; no other did anything
-abbrev pub TellsWhereAsked : List Answer → List ℕ → ℕ → Talk → Talk → Type 0
-TellsWhereAsked released asking key old new = TellsOwn released old new ⊎ ((new ≡ old) × (Contains asking key → ⊥))
+-- and its peer stays
+abbrev pub TellsPeer : List Answer → PeerState → PeerState → Type 0
+TellsPeer released old new = TellsOwn released old.session new.session × (new.peer ≡ old.peer)
+
+-- each connection that waited told its part of what was released, once; no other did anything
+abbrev pub TellsWhereAsked : List Answer → List ℕ → ℕ → PeerState → PeerState → Type 0
+TellsWhereAsked released awaiting key old new =
+    TellsPeer released old new ⊎ ((new ≡ old) × (Contains awaiting key → ⊥))
 
 -- what was withheld is released at once, and each connection that asked tells its part of that
-pub record TellsAll {D E : Type 0} (releases : D → E → Withheld → Answer → Type 0) (moves : D → D → Type 0) (old new : D) (withheld : List Withheld) (asking : List ℕ) (seats seats' : Slab Seat) : Type 0 where
+pub record TellsAll {D E : Type 0} (releases : D → E → Withheld → Answer → Type 0) (moves : D → D → Type 0) (old new : D) (withheld : List Withheld) (awaiting : List ℕ) (connections connections' : Slab Connection) : Type 0 where
   pub said : List Answer
   pub released : ReleasesAll releases moves old withheld said new
-  pub each : EachGoes (TellsWhereAsked said asking) seats seats'
+  pub each : EachGoes (TellsWhereAsked said awaiting) connections connections'
 
 -- lines of the connection were taken, and it asks for the release of their answers; or none, and it has done no more than to send
-abbrev pub StepsOrStays : List ℕ → ℕ → List (List ℕ) → List Withheld → ℕ → Talk → Talk → Type 0
-StepsOrStays asking key lines held first old new = (Kept old new × (lines ≡ []) × (held ≡ [])) ⊎ (Contains asking key × LinesTaken lines held first old new)
+abbrev pub StepsOrStays : List ℕ → ℕ → List (List ℕ) → List Withheld → ℕ → SessionState → SessionState → Type 0
+StepsOrStays awaiting key lines held first old new = (Kept old new × (lines ≡ []) × (held ≡ [])) ⊎ (Contains awaiting key × LinesTaken lines held first old new)
 
--- the turn of the connection under this key: the desk goes through the takes of its lines, and their answers are put behind those
--- that are withheld; if there are any, it asks for their release. No other connection has changed
-pub record TurnOfOne {D : Type 0} (takes : D → Ask → Withheld → D → Type 0) (tells : D → Name → Result Name Turn → D → Type 0) (key : ℕ) (old new : D) (withheld withheld' : List Withheld) (asking asking' : List ℕ) (seats seats' : Slab Seat) : Type 0 where
-  pub peer : Peer
+-- the turn of the connection under this key: the desk goes through the takes of its lines, as those of its peer, and their answers
+-- are put behind those that are withheld; if there are any, it waits for their release. No other connection has changed
+pub record TurnOfOne {D : Type 0} (takes : D → Peer → Ask → Withheld → D → Type 0) (key : ℕ) (old new : D) (withheld withheld' : List Withheld) (awaiting awaiting' : List ℕ) (connections connections' : Slab Connection) : Type 0 where
+  pub connection : PeerState
+  pub is : IsConnection connection
+  pub own : (found : Connection) → get connections key ≡ Some found → found.session ≡ connection
   pub lines : List (List ℕ)
   pub held : List Withheld
   pub behind : withheld' ≡ withheld ++ held
-  pub desk : TakesLines (TakesOf takes tells peer) old lines held new
-  pub still : (other : ℕ) → Contains asking other → Contains asking' other
-  pub each : EachGoes (λ other talk talk'. (other ≢ key → talk' ≡ talk) × (other ≡ key → StepsOrStays asking' key lines held (length withheld) talk talk')) seats seats'
+  pub desk : TakesBy takes connection.peer old lines held new
+  pub still : (other : ℕ) → Contains awaiting other → Contains awaiting' other
+  pub each : EachGoes (λ other state state'.
+      (other ≢ key → state' ≡ state) × (other ≡ key → StepsOrStays awaiting' key lines held (length withheld) state.session state'.session) × StaysPeer state state') connections connections'

@@ -1,140 +1,270 @@
-//! Connections and listeners, over TCP or a socket of this machine.
-ghost use Rattle.std.specs.Prelude.{◌≤◌, ℕ, length, IfOk};
-ghost use Rattle.nmvs_connections.specs.Moved.{IsWithin};
+//! One connection of a worker.
+ghost use Rattle.std.specs.Prelude.{◌≡◌, None, Some};
+ghost use Rattle.nmvs_connections.specs.declared.peer_session.Stage.TheVariants as stages;
+ghost use Rattle.nmvs_connections.specs.Peers.{IsConnection};
+ghost use Rattle.nmvs_connections.specs.Turns.{ConnectionSteps, Kept, TellsOwn};
 
-use crate::keepalive::keep_alive;
-use mio::net::{TcpListener, TcpStream, UnixListener, UnixStream};
-use mio::{Interest, Registry, Token};
+use crate::next::Next;
+use crate::peer_session::{PeerSession, Stage};
+use crate::scratch::Scratch;
+use crate::socket::Moved;
+use crate::worker_pool::{Accepted, WorkerPool};
+use mio::Registry;
+use nmvs_messages::{Desk, End, NameOf, Released, WithheldAnswers};
+use std::alloc::Global;
 use std::io;
-use std::io::{ErrorKind, Read, Write};
-use std::net::{Net, Shutdown, SocketAddr};
-use std::os::fd::{AsRawFd, RawFd};
-use std::path::AsPath;
-use std::rt::Files;
+use std::sync::Wait;
+use std::time::{Duration, Instant};
 
-/// What a read or a write of a connection came to.
-pub(crate) enum Moved {
-    /// So many bytes were moved.
-    Bytes(usize),
-    /// None can be moved now.
-    Blocked,
-    /// None will be moved any more: the peer ended, or the connection broke.
-    Over,
-}
+/// For how many seconds replies wait for a peer that takes none of them (own).
+const SENDING: u64 = 30;
 
-/// An open connection, whose reads and writes never wait.
+/// For how many seconds a connection is read on after the end of its session, and replies wait once the service is
+/// stopped (own).
+const PATIENCE: u64 = 1;
+
+/// For how many seconds the header of a gateway is waited for (own).
+const HEADER_TIMEOUT: u64 = 5;
+
+/// One connection of a worker: the session of its peer, and what the system reports of it.
 #[derive(Drop)]
-pub(crate) enum Connection {
-    Tcp(TcpStream),
-    Unix(UnixStream),
+pub(crate) struct Connection {
+    /// The number of the connection, in the order in which they were accepted.
+    pub(crate) number: usize,
+    session: PeerSession,
+    /// Whether the peer sent nothing for too long.
+    was_idle: bool,
+    /// When bytes were moved last.
+    moved: Instant,
+    /// Whether the peer ended or broke the connection, so that it is read to its end.
+    peer_closed: bool,
+    stopped: bool,
+    /// Whether its turn comes.
+    pub(crate) queued: bool,
 }
 
 impl Connection {
-    /// Has a poll report the connection under the token, when it may be read or written.
-    pub(crate) fn register(&mut self, registry: &Registry, token: Token) -> io::Result<()> {
-        let both = Interest::READABLE | Interest::WRITABLE;
-        match self {
-            Connection::Tcp(stream) => registry.register(stream, token, both),
-            Connection::Unix(stream) => registry.register(stream, token, both),
-        }
-    }
-
-    pub(crate) fn read(&mut self, buffer: &mut [u8]) -> Moved
-        ensures { IsWithin result (length buffer.old) }
+    /// A connection, which begins with a gateway's header where that has this name.
+    pub(crate) fn new(
+        alloc: Global,
+        accepted: Accepted,
+        proxy: Option<NameOf>,
+        now: Instant,
+    ) -> Connection
+        ensures { result.session.proxy ≡ proxy }
     {
-        let read = match self {
-            Connection::Tcp(stream) => stream.read(buffer),
-            Connection::Unix(stream) => stream.read(buffer),
-        };
-        outcome_of(read)
+        let Accepted { number, socket } = accepted;
+        Connection {
+            number,
+            session: PeerSession::new(alloc, socket, proxy),
+            was_idle: false,
+            moved: now,
+            peer_closed: false,
+            stopped: false,
+            queued: false,
+        }
     }
 
-    pub(crate) fn write(&mut self, bytes: &[u8]) -> Moved
-        ensures { IsWithin result (length bytes.now) }
+    /// Has a poll report the connection under the key.
+    pub(crate) fn register(&mut self, registry: &Registry, key: usize) -> io::Result<()> {
+        self.session.register(registry, key)
+    }
+
+    /// Notes that the peer ended or broke the connection.
+    pub(crate) fn on_peer_closed(&mut self) {
+        self.peer_closed = true;
+    }
+
+    /// Whether a line of it was served.
+    pub(crate) fn is_served(&self) -> bool {
+        self.session.is_served()
+    }
+
+    /// Why the connection ends, where it does so now, as the log tells it.
+    pub(crate) fn reason(&self) -> &'static str {
+        if self.session.awaited_header().is_some() {
+            return "header";
+        }
+        if self.was_idle {
+            return "idle";
+        }
+        match self.session.end() {
+            Some(End::Quit) => "quit",
+            Some(_) => "memory",
+            None if self.stopped => "stopped",
+            None if self.session.is_sent() || self.peer_closed => "ended by the peer",
+            None => "does not read",
+        }
+    }
+
+    /// Ends the session after the lines that were read.
+    pub(crate) fn stop(&mut self) {
+        self.stopped = true;
+    }
+
+    /// Sends what is unsent; then takes the lines of what one read gives, or takes a step towards the end.
+    pub(crate) fn take_turn<'a, R: Wait, D: Desk<'a>>(
+        &mut self,
+        rt: &R,
+        pool: &WorkerPool<'_>,
+        scratch: &mut Scratch,
+        withheld: &mut WithheldAnswers<'a>,
+        desk: &mut D,
+    ) -> Next
+        ensures { ConnectionSteps D.takes desk.old desk.new withheld.old withheld.new result self.old.session self.new.session }
     {
-        let written = match self {
-            Connection::Tcp(stream) => stream.write(bytes),
-            Connection::Unix(stream) => stream.write(bytes),
-        };
-        outcome_of(written)
+        match self.send(scratch.now) {
+            Next::Again => {}
+            other => return other,
+        }
+        if !self.session.is_sent() {
+            return Next::Again;
+        }
+        self.session.exchange(&mut Vec::new(scratch.alloc));
+        self.step(rt, pool, scratch, withheld, desk)
     }
 
-    /// Tells the peer that no more is written. A connection that is broken stays so.
-    pub(crate) fn end_writing(&self) {
-        let _broken = match self {
-            Connection::Tcp(stream) => stream.shutdown(Shutdown::Write),
-            Connection::Unix(stream) => stream.shutdown(Shutdown::Write),
-        };
-    }
-}
-
-/// What this outcome of a read or a write means. None of some bytes is the end.
-fn outcome_of(outcome: io::Result<usize>) -> Moved
-    ensures { (most : ℕ) → IfOk outcome (λ count. count ≤ most) → IsWithin result most }
-{
-    match outcome {
-        Ok(0) => Moved::Over,
-        Ok(count) => Moved::Bytes(count),
-        Err(error) if error.kind() == ErrorKind::WouldBlock => Moved::Blocked,
-        Err(_) => Moved::Over,
-    }
-}
-
-/// Where connections are accepted. Its queue of connections is as long as the system allows.
-#[derive(Drop)]
-pub enum Listener {
-    Tcp(TcpListener),
-    Unix(UnixListener),
-}
-
-impl Listener {
-    /// Listens on an address and a port; port 0 is any that is free.
-    ///
-    /// # Errors
-    ///
-    /// The system refuses it.
-    pub fn on_port(rt: &impl Net, address: SocketAddr) -> io::Result<Listener> {
-        Ok(Listener::Tcp(TcpListener::bind(rt, address)?))
+    /// Takes the lines of what one read gives, or takes a step towards the end.
+    #[tactic(auto, using(crate::proofs::ConnectionLemmas::steps_idle, crate::proofs::ConnectionLemmas::steps_awaiting))]
+    fn step<'a, R: Wait, D: Desk<'a>>(
+        &mut self,
+        rt: &R,
+        pool: &WorkerPool<'_>,
+        scratch: &mut Scratch,
+        withheld: &mut WithheldAnswers<'a>,
+        desk: &mut D,
+    ) -> Next
+        requires { IsConnection self.old.session }
+        ensures { ConnectionSteps D.takes desk.old desk.new withheld.old withheld.new result self.old.session self.new.session }
+    {
+        match self.session.stage() {
+            Stage::Serving => {}
+            Stage::Ending => return self.shutdown_write(scratch.now),
+            Stage::Lingering => return self.session.linger(&mut scratch.buffer),
+        }
+        if let Some(name_of) = self.session.awaited_header() {
+            return self.read_header(name_of, scratch);
+        }
+        if self.stopped && !self.session.has_unread() {
+            self.session.stop_serving();
+            return Next::Again;
+        }
+        let buffer = &mut scratch.buffer;
+        let next = self.session.take(rt, pool, buffer, withheld, desk);
+        self.note_moved(next.waits_for_release(), scratch.now);
+        next
     }
 
-    /// Listens on a socket of this machine, which is made at the path.
-    ///
-    /// # Errors
-    ///
-    /// The system refuses it, as where there is a file at the path.
-    pub fn on_path<R: Files + Net, P: AsPath>(rt: &R, path: P) -> io::Result<Listener> {
-        Ok(Listener::Unix(UnixListener::bind(rt, path)?))
+    /// Reads on in the header of a gateway. When the service ends, it is not waited for.
+    fn read_header(&mut self, name_of: NameOf, scratch: &mut Scratch) -> Next
+        requires awaited { self.old.session.peer ≡ None }
+        requires proxy { self.old.session.proxy ≡ Some name_of }
+        requires serving { self.old.session.stage ≡ stages.Serving }
+        ensures { self.new.session.session ≡ self.old.session.session }
+    {
+        if self.stopped {
+            return Next::Close;
+        }
+        let next = self.session.read_header(name_of, &mut scratch.buffer);
+        let is_whole = self.session.awaited_header().is_none();
+        self.note_moved(is_whole, scratch.now);
+        next
     }
 
-    /// The port, where it has one.
-    pub fn port(&self) -> Option<u16> {
-        match self {
-            Listener::Tcp(listener) => listener.local_addr().ok().map(|address| address.port()),
-            Listener::Unix(_) => None,
+    /// Tells the peer that no more is written.
+    fn shutdown_write(&mut self, now: Instant) -> Next
+        requires { self.old.session.stage ≡ stages.Ending }
+        ensures session { self.new.session.session ≡ self.old.session.session }
+        ensures peer { self.new.session.peer ≡ self.old.session.peer }
+    {
+        self.moved = now;
+        if self.was_idle {
+            self.session.shutdown_idle();
+        } else {
+            self.session.shutdown_write();
+        }
+        Next::Again
+    }
+
+    /// Notes that bytes were moved now, if they were.
+    fn note_moved(&mut self, moved: bool, now: Instant)
+        ensures { self.new.session ≡ self.old.session }
+    {
+        if moved {
+            self.moved = now;
         }
     }
 
-    /// The next connection, or `WouldBlock` where none waits.
-    pub(crate) fn accept(&self) -> io::Result<Connection> {
-        match self {
-            Listener::Tcp(listener) => {
-                let (stream, _peer) = listener.accept()?;
-                let _slow = stream.set_nodelay(true);
-                keep_alive(&stream);
-                Ok(Connection::Tcp(stream))
+    /// Sends as much of what is unsent as the system takes.
+    fn send(&mut self, now: Instant) -> Next
+        ensures kept { Kept self.old.session.session self.new.session.session }
+        ensures peer { self.new.session.peer ≡ self.old.session.peer }
+        ensures is { IsConnection self.old.session }
+    {
+        if self.session.is_sent() {
+            return Next::Again;
+        }
+        match self.session.send() {
+            Moved::Bytes(_) => {
+                self.moved = now;
+                Next::Again
             }
-            Listener::Unix(listener) => {
-                let (stream, _peer) = listener.accept()?;
-                Ok(Connection::Unix(stream))
-            }
+            Moved::Blocked => Next::WaitIo,
+            Moved::Over => Next::Close,
         }
     }
 
-    /// The descriptor, by which a poll reports that connections wait.
-    pub(crate) fn descriptor(&self) -> RawFd {
-        match self {
-            Listener::Tcp(listener) => listener.as_raw_fd(),
-            Listener::Unix(listener) => listener.as_raw_fd(),
+    /// Tells its part of the answers that are released, and sends the replies. More may be there to be read at once.
+    pub(crate) fn tell(&mut self, scratch: &mut Scratch, released: &Released<'_, '_>) -> Next
+        ensures tells { TellsOwn released.now self.old.session.session self.new.session.session }
+        ensures peer { self.new.session.peer ≡ self.old.session.peer }
+    {
+        self.session.tell(scratch, released);
+        match self.send(scratch.now) {
+            Next::Again => {}
+            other => return other,
         }
+        if !self.session.is_sent() {
+            return Next::Again;
+        }
+        self.session.exchange(&mut scratch.room);
+        let serves = self.session.stage() == Stage::Serving;
+        if self.session.may_have_more() || self.peer_closed || !serves {
+            Next::Again
+        } else {
+            Next::WaitIo
+        }
+    }
+
+    /// What becomes of the connection by the time that has passed.
+    pub(crate) fn check_timeouts(&mut self, now: Instant, idle: Option<Duration>) -> Next {
+        let age = now.duration_since(self.moved);
+        let stage = self.session.stage();
+        if stage == Stage::Lingering {
+            return close_after(age, PATIENCE);
+        }
+        if stage == Stage::Serving && self.session.awaited_header().is_some() {
+            return close_after(age, HEADER_TIMEOUT);
+        }
+        if !self.session.is_sent() {
+            return close_after(age, if self.stopped { PATIENCE } else { SENDING });
+        }
+        match idle {
+            Some(most) if stage == Stage::Serving && age >= most => {
+                self.was_idle = true;
+                self.session.stop_serving();
+                Next::Again
+            }
+            _ => Next::WaitIo,
+        }
+    }
+}
+
+/// A connection that waited so long is closed after this number of seconds.
+fn close_after(age: Duration, most: u64) -> Next {
+    if age.as_secs() >= most {
+        Next::Close
+    } else {
+        Next::WaitIo
     }
 }

@@ -1,24 +1,29 @@
 //! Many connections in few threads: an event loop a worker, over the system's readiness.
 //!
-//! [`Hall::open`] makes what the threads of a server share, and a [`Station`] for each of them. One thread runs [`admit`]: it
-//! accepts connections and deals them out. [`Hall::load`] tells how many are open. Each worker runs [`serve`]: it reads from its connections by turns, feeds what
-//! it read to the [`Dialogue`] of each, and sends the replies. All dialogues of a worker share its desk. Where a gateway stands
-//! in front, a connection begins with its header, and carries the lines of the peer that it names alone.
+//! [`WorkerPool::open`] makes what the threads of a server share, and a [`Poller`] for each of them. One thread runs
+//! [`accept_loop`]: it accepts connections and hands them to the workers. [`WorkerPool::load`] tells how many are open. Each
+//! worker runs [`serve`]: it reads from its connections by turns, feeds what it read to the [`BufferedSession`] of each, and
+//! sends the replies. All sessions of a worker share its desk. Behind a gateway a connection begins with its header, and
+//! carries the lines of the peer that it names alone.
 #![tactic(auto)]
 
+mod acceptor;
+mod buffered_session;
+mod byte_tag;
 mod connection;
-mod dialogue;
-mod door;
-mod gathered;
-mod greeting;
-mod hall;
+mod event_loop;
 mod keepalive;
-mod pieces;
-mod seat;
-mod worker;
+mod next;
+mod peer_session;
+mod proxy_header;
+mod scratch;
+mod socket;
+mod stream;
+mod worker_pool;
+mod write_buffer;
 
-pub use connection::Listener;
-pub use dialogue::Dialogue;
-pub use door::admit;
-pub use hall::{Bounds, Hall, Load, Station};
-pub use worker::serve;
+pub use acceptor::accept_loop;
+pub use buffered_session::BufferedSession;
+pub use event_loop::serve;
+pub use socket::Listener;
+pub use worker_pool::{Bounds, Load, Poller, WorkerPool};

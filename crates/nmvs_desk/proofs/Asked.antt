@@ -3,22 +3,23 @@ use Rattle.std.proofs.Common.{◌≡◌, ◌≢◌, ◌<◌, ◌==◌, ℕ, zero
 use Rattle.std.specs.Prelude.{Some, slice_get, filter}
 use Rattle.std.proofs.lemmas.Option.{slice_get_within, same_Some}
 use Rattle.std.proofs.lemmas.List.{map-append}
-use Rattle.std.proofs.lemmas.List.Elements.{filter-append, All-push}
+use Rattle.std.proofs.lemmas.List.Elements.{filter-append}
 use Rattle.std.proofs.lemmas.Bool.Decides.{eqb_tells}
 use mathlib.Core.List.{IsPrefix}
 use Rattle.nmvs_history.specs.Views.{HistoryId, TokenView}
-use Rattle.nmvs_history.proofs.Beginnings.{prefix_get, prefix_length, prefix_longer, last_get}
+use Rattle.nmvs_history.proofs.Beginnings.{prefix_get, prefix_length, prefix_trans, last_get}
 use Rattle.nmvs_rules.specs.declared.entry.Entry.{Entry}
 use Rattle.nmvs_rules.specs.declared.put.Put.{Put}
-use Rattle.nmvs_rules.specs.Questions.{code_of}
-use Rattle.nmvs_rules.specs.Rules.{IsLawful}
-use Rattle.nmvs_rules.proofs.LawfulLemmas.{IsLawful-push}
+use Rattle.nmvs_directory.specs.declared.change.Change.{Change}
+use Rattle.nmvs_shard.specs.declared.shard.Answered.{Answered}
+use Rattle.nmvs_shard.specs.declared.shard.Outcome.{Outcome}
+use Rattle.nmvs_shard.specs.declared.shard.Outcome.TheVariants as outcome
+use Rattle.nmvs_shard.specs.Asking.{Asks}
 use Rattle.nmvs_desk.specs.declared.ask.Receipt.{Receipt}
-use Rattle.nmvs_desk.specs.Answers.{IsAnswered, IsServed, IsShown, OwnsOneMore}
+use Rattle.nmvs_desk.specs.Answers.{Answers, Becomes, IsShown, new_places, new_receipts}
 use Rattle.nmvs_desk.specs.Clerks.{IsTokenOf, Stands, IsClerk}
-use Rattle.nmvs_desk.specs.Placing.{shard_of, IsPlaced}
 use Rattle.nmvs_desk.specs.Settlement.{row, places_in, AreOwn, Rises}
-use Rattle.nmvs_desk.specs.Views.{sights_of, places_of}
+use Rattle.nmvs_desk.specs.Views.{ClerkView, sights_of, places_of}
 use Rattle.nmvs_desk.proofs.Lists.{set_cases, set_same, set_other, push_cases}
 
 -- the places of one receipt more
@@ -67,6 +68,10 @@ same_places [] i was now has same = refl
 same_places (t ∷ ts) zero was now has same = ap (λ ps. ps ∷ places_of ts) (same ∙ ap (λ (k : TokenView). k.places) (sym (same_Some t was has)))
 same_places (t ∷ ts) (suc i) was now has same = ap (λ ps. t.places ∷ ps) (same_places ts i was now has same)
 
+-- what a clause sees of a clerk
+abbrev pub clerk : List Change → List TokenView → List Receipt → ClerkView
+clerk seen tokens receipts = record { seen = seen; sights = sights_of tokens; places = places_of tokens; receipts = receipts }
+
 module _ (tables : ℕ → HistoryId) (count : ℕ) (tokens : List TokenView) (receipts : List Receipt) (is : IsClerk tables count tokens receipts) (index : ℕ) (was now : TokenView) (has : slice_get tokens index ≡ Some was) where
   after_set : slice_get (set tokens index now) index ≡ Some now
   after_set = set_same tokens index now (slice_get_within tokens index was has)
@@ -85,33 +90,42 @@ module _ (tables : ℕ → HistoryId) (count : ℕ) (tokens : List TokenView) (r
         | inr e ↦ record { token = it.token; is = set_other tokens index o.shard now e.1 ∙ it.is; stands = it.stands }
       ]
 
-  module _ (r : Receipt) (shown : List Entry) (put : Put) (served : IsServed count index put was now r shown) (here : index ≡ shard_of count (code_of put.question)) where
-    begun : IsPrefix was.seen now.seen
-    begun = subst (λ t. IsPrefix was.seen t) (sym served.answered.seen) (prefix_longer was.seen served.answered.trail (r.entry ∷ []) served.answered.begins)
+  begins_now : {A : Type 0} (put : Put) (o : Outcome A) → Becomes count index put was now o → IsPrefix was.seen now.seen
+  begins_now put o b = prefix_trans was.seen b.trail now.seen b.shown.begins b.later.begins
 
-    token_now : IsTokenOf tables count (receipts ++ r ∷ []) index now
+  shown_now : {A : Type 0} (put : Put) (o : Outcome A) → Becomes count index put was now o → IsShown count index was.seen now.seen
+  shown_now put o b = record { begins = begins_now put o b; lawful = b.later.lawful; in_range = b.later.in_range; placed = b.later.placed }
+
+  -- a question that was not put gives the token no place
+  no_place : {A : Type 0} (put : Put) (o : Outcome A) → Becomes count index put was now o → new_places o ≡ [] → now ≡ record was { seen = now.seen }
+  no_place put o b none = b.token ∙ ap (λ l. record was { seen = now.seen; places = l }) (ap (λ l. was.places ++ l) none ∙ append-nil was.places)
+
+  module _ {A : Type 0} (a : Answered A) (put : Put) (b : Becomes count index put was now (outcome.New a)) where
+    abbrev New : List Receipt
+    New = receipts ++ new_receipts index (outcome.New a)
+
+    abbrev Its : Receipt
+    Its = record { shard = index; place = a.place; entry = a.entry }
+
+    token_now : IsTokenOf tables count New index now
     token_now =
         let own = is.each index was has in
-        let a = served.answered in
-        let P : Entry → Type 0 = λ e. shard_of count (code_of e.put.question) ≡ index in
-        let Q : ℕ → Type 0 = λ i. IsPlaced count i a.trail in
-        let fits : P r.entry = ap (λ (p : Put). shard_of count (code_of p.question)) served.asked ∙ sym here in
         record {
-          table = ap (λ (k : TokenView). k.table) served.token ∙ own.table;
+          table = ap (λ (k : TokenView). k.table) b.token ∙ own.table;
           places = record {
             gone = own.places.gone;
-            is = ap (λ (k : TokenView). k.places) served.token ∙ ap (λ l. l ++ r.place ∷ []) own.places.is
-                ∙ append_assoc own.places.gone (places_in index receipts) (r.place ∷ []) ∙ ap (λ l. own.places.gone ++ l) (sym (places_here index receipts r served.shard));
+            is = ap (λ (k : TokenView). k.places) b.token ∙ ap (λ l. l ++ a.place ∷ []) own.places.is
+                ∙ append_assoc own.places.gone (places_in index receipts) (a.place ∷ []) ∙ ap (λ l. own.places.gone ++ l) (sym (places_here index receipts Its refl));
           };
-          lawful = subst (λ t. IsLawful t) (sym a.seen) (IsLawful-push a.trail r.entry a.next.lawful a.next.reply);
-          in_range = served.in_range;
-          placed = subst (λ t. IsPlaced count index t) (sym a.seen) (All-push P a.trail r.entry (subst Q served.shard a.next.placed) fits);
+          lawful = b.later.lawful;
+          in_range = b.later.in_range;
+          placed = b.later.placed;
         }
 
-    each_now : (i : ℕ) (k : TokenView) → slice_get (set tokens index now) i ≡ Some k → IsTokenOf tables count (receipts ++ r ∷ []) i k
+    each_now : (i : ℕ) (k : TokenView) → slice_get (set tokens index now) i ≡ Some k → IsTokenOf tables count New i k
     each_now i k at =
         elim (set_cases tokens index i now k at) [
-          | inl e ↦ subst (λ (p : ℕ × TokenView). IsTokenOf tables count (receipts ++ r ∷ []) p.0 p.1) (λ j. (sym e.0 j, sym e.1 j)) token_now
+          | inl e ↦ subst (λ (p : ℕ × TokenView). IsTokenOf tables count New p.0 p.1) (λ j. (sym e.0 j, sym e.1 j)) token_now
           | inr e ↦ (
               let other = is.each i k e.1 in
               let apart = e.0 in
@@ -119,7 +133,7 @@ module _ (tables : ℕ → HistoryId) (count : ℕ) (tokens : List TokenView) (r
                 table = other.table;
                 places = record {
                   gone = other.places.gone;
-                  is = other.places.is ∙ ap (λ l. other.places.gone ++ l) (sym (places_else i receipts r (λ q. apart (sym q ∙ served.shard))));
+                  is = other.places.is ∙ ap (λ l. other.places.gone ++ l) (sym (places_else i receipts Its (λ q. apart (sym q))));
                 };
                 lawful = other.lawful;
                 in_range = other.in_range;
@@ -127,60 +141,44 @@ module _ (tables : ℕ → HistoryId) (count : ℕ) (tokens : List TokenView) (r
               })
         ]
 
-    stands_now : Stands (set tokens index now) r
+    stands_now : Stands (set tokens index now) Its
     stands_now =
-        let a = served.answered in
+        let step = b.asks.1 in
         record {
           token = now;
-          is = subst (λ i. slice_get (set tokens index now) i ≡ Some now) (sym served.shard) after_set;
-          stands = ap (λ t. slice_get t r.place) a.seen ∙ subst (λ n. slice_get (a.trail ++ r.entry ∷ []) n ≡ Some r.entry) a.next.length (last_get a.trail r.entry);
+          is = after_set;
+          stands = ap (λ t. slice_get t a.place) step.trail ∙ subst (λ n. slice_get (b.trail ++ a.entry ∷ []) n ≡ Some a.entry) (sym step.place) (last_get b.trail a.entry);
         }
 
-    below : (n : ℕ) (o : Receipt) → slice_get receipts n ≡ Some o → o.shard ≡ r.shard → o.place < r.place
+    below : (n : ℕ) (o : Receipt) → slice_get receipts n ≡ Some o → o.shard ≡ index → o.place < a.place
     below n o at same =
-        let a = served.answered in
         let it = is.stand n o at in
-        let token : it.token ≡ was = cc (it.is, has, same, served.shard) in
+        let token : it.token ≡ was = cc (it.is, has, same) in
         let within = slice_get_within was.seen o.place o.entry (subst (λ (k : TokenView). slice_get k.seen o.place ≡ Some o.entry) token it.stands) in
-        omega (arith, within, prefix_length was.seen a.trail a.begins, a.next.length)
+        omega (arith, within, prefix_length was.seen b.trail b.shown.begins, b.asks.1.place)
 
-    rises_now : Rises (receipts ++ r ∷ [])
+    rises_now : Rises New
     rises_now k m p q less at_k at_m same =
-        elim (push_cases receipts m r q at_m) [
+        elim (push_cases receipts m Its q at_m) [
           | inl new_m ↦ (
-              elim (push_cases receipts k r p at_k) [
+              elim (push_cases receipts k Its p at_k) [
                 | inl new_k ↦ absurd (omega (arith, less, new_k.0, new_m.0))
                 | inr old_k ↦ subst (λ (z : Receipt). p.place < z.place) (sym new_m.1) (below k p old_k (same ∙ ap (λ (z : Receipt). z.shard) new_m.1))
               ])
           | inr old_m ↦ (
-              elim (push_cases receipts k r p at_k) [
+              elim (push_cases receipts k Its p at_k) [
                 | inl new_k ↦ absurd (omega (arith, less, new_k.0, slice_get_within receipts m q old_m))
                 | inr old_k ↦ is.rising k m p q less old_k old_m same
               ])
         ]
 
-    pub asked : IsClerk tables count (set tokens index now) (receipts ++ r ∷ [])
-    asked = record {
+    with_receipt : IsClerk tables count (set tokens index now) New
+    with_receipt = record {
       shards = length-set tokens index now ∙ is.shards;
       each = each_now;
-      stand = λ n o at. elim (push_cases receipts n r o at) [ inl new ↦ subst (λ (z : Receipt). Stands (set tokens index now) z) (sym new.1) stands_now | inr old ↦ stays begun o (is.stand n o old) ];
+      stand = λ n o at. elim (push_cases receipts n Its o at) [ inl new ↦ subst (λ (z : Receipt). Stands (set tokens index now) z) (sym new.1) stands_now | inr old ↦ stays (begins_now put (outcome.New a) b) o (is.stand n o old) ];
       rising = rises_now;
     }
-
-    pub owns_then : OwnsOneMore (places_of tokens) (places_of (set tokens index now)) r
-    owns_then = record {
-      here =
-          let after = own_of (set tokens index now) index now after_set in
-          let more = ap (λ (k : TokenView). k.places) served.token ∙ ap (λ l. l ++ r.place ∷ []) (sym (own_of tokens index was has)) in
-          subst (λ i. row (places_of (set tokens index now)) i ≡ row (places_of tokens) i ++ r.place ∷ []) (sym served.shard) (after ∙ more);
-      others = λ i apart. own_else tokens index i now (λ e. apart (e ∙ sym served.shard));
-    }
-
-    pub answered_then : IsAnswered count (row (sights_of tokens) r.shard) (row (sights_of (set tokens index now)) r.shard) r shown
-    answered_then =
-        let before = ap (row (sights_of tokens)) served.shard ∙ sight_of tokens index was has in
-        let after = ap (row (sights_of (set tokens index now))) served.shard ∙ sight_of (set tokens index now) index now after_set in
-        subst (λ (p : List Entry × List Entry). IsAnswered count p.0 p.1 r shown) (λ i. (sym before i, sym after i)) served.answered
 
   module _ (look : IsShown count index was.seen now.seen) (token : now ≡ record was { seen = now.seen }) where
     each_looked : (i : ℕ) (k : TokenView) → slice_get (set tokens index now) i ≡ Some k → IsTokenOf tables count receipts i k
@@ -210,3 +208,26 @@ module _ (tables : ℕ → HistoryId) (count : ℕ) (tokens : List TokenView) (r
     shown_then =
         subst (λ (p : List Entry × List Entry). IsShown count index p.0 p.1)
         (λ i. (sym (sight_of tokens index was has) i, sym (sight_of (set tokens index now) index now after_set) i)) look
+
+  -- whatever becomes of a question, the clerk is a clerk
+  pub asked : {A : Type 0} (put : Put) (o : Outcome A) → Becomes count index put was now o → IsClerk tables count (set tokens index now) (receipts ++ new_receipts index o)
+  asked put (outcome.New a) b = with_receipt a put b
+  asked put (outcome.Again a) b = subst (λ l. IsClerk tables count (set tokens index now) l) (sym (append-nil receipts)) (looked (shown_now put (outcome.Again a) b) (no_place put (outcome.Again a) b refl))
+  asked put outcome.Other b = subst (λ l. IsClerk tables count (set tokens index now) l) (sym (append-nil receipts)) (looked (shown_now put outcome.Other b) (no_place put outcome.Other b refl))
+
+  -- and what it is answered
+  pub answers : {A : Type 0} (seen : List Change) (put : Put) (o : Outcome A) → Becomes count index put was now o
+      → Answers count index put (clerk seen tokens receipts) (clerk seen (set tokens index now) (receipts ++ new_receipts index o)) o
+  answers seen put o b =
+      let before = sym (sight_of tokens index was has) in
+      let after = sym (sight_of (set tokens index now) index now after_set) in
+      record {
+        trail = b.trail;
+        shown = subst (λ t. IsShown count index t b.trail) before b.shown;
+        asks = subst (λ t. Asks b.trail put t o) after b.asks;
+        later = subst (λ t. IsShown count index b.trail t) after b.later;
+        owned = own_of (set tokens index now) index now after_set ∙ ap (λ (k : TokenView). k.places) b.token ∙ ap (λ l. l ++ new_places o) (sym (own_of tokens index was has));
+        others = λ i apart. (sight_else tokens index i now apart, own_else tokens index i now apart);
+        receipts = refl;
+        seen = refl;
+      }

@@ -1,7 +1,6 @@
 pub mod Lists
 pub mod Serving
 pub mod Asked
-pub mod Once
 pub mod Opened
 pub mod Clerks
 pub mod Places

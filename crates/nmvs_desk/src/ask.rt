@@ -1,26 +1,25 @@
 //! Those who ask, and what they are answered.
-ghost use Rattle.std.specs.Prelude.{◌≡◌, ◌≢◌, ◌<◌, ◌⊎◌, ℕ, [], ◌∷◌, ◌++◌, Some, None, IfOk, IfErr, OnErr, slice_get};
+ghost use Rattle.std.specs.Prelude.{◌≡◌, ◌≢◌, ◌<◌, ◌⊎◌, ℕ, [], ◌++◌, Some, None, IfOk, OnErr, slice_get, vec_len, vec_capacity};
 ghost use mathlib.Core.List.{IsPrefix};
 ghost use Rattle.nmvs_directory.specs.Window.{Reads};
-ghost use Rattle.nmvs_directory.specs.declared.look.Look.TheVariants.{Known};
-ghost use Rattle.nmvs_rules.specs.declared.put.Put.{Put as APut};
 ghost use Rattle.nmvs_rules.specs.Entries.{AreEntries};
 ghost use Rattle.nmvs_rules.specs.Questions.{code_of};
 ghost use Rattle.nmvs_rules.specs.Rules.{IsLawful};
+ghost use Rattle.nmvs_shard.specs.Asking.{WasPut};
 ghost use Rattle.nmvs_desk.specs.declared.ask.Receipt.{Receipt};
-ghost use Rattle.nmvs_desk.specs.Answers.{Answers, IsAnswered, IsShown, OwnsOneMore, TurnedAway};
+ghost use Rattle.nmvs_desk.specs.Answers.{Answers, IsShown, new_receipts};
 ghost use Rattle.nmvs_desk.specs.Clerks.{IsClerk};
 ghost use Rattle.nmvs_desk.specs.Opening.{AreNew};
 ghost use Rattle.nmvs_desk.specs.Placing.{shard_of, IsPlaced};
 ghost use Rattle.nmvs_desk.specs.Settlement.{row, at, AreOwn, Rises};
 ghost use Rattle.nmvs_desk.specs.Views.{places_of, sights_of};
 
-use crate::{AskFault, Holder, Reader, Repository};
+use crate::{Holder, Reader, Repository};
 use nmvs_directory::{Look, Naming, Notice, Window};
 use nmvs_history::{Histories, Token};
-use nmvs_identifier::{Moment, Name, Tag};
-use nmvs_rules::{Actor, Entry, Put, Question};
-use nmvs_shard::Shard;
+use nmvs_identifier::Name;
+use nmvs_rules::{Entry, Put};
+use nmvs_shard::{Outcome, Shard};
 use std::alloc::{AllocError, Allocator, Global};
 use std::marker::{Model, PhantomData};
 use std::sync::Wait;
@@ -32,26 +31,6 @@ pub struct Receipt {
     pub shard: usize,
     pub place: usize,
     pub entry: Entry,
-}
-
-/// How a question was served: the receipt, and the earlier entries that an audit shows, oldest first; none, which takes
-/// no memory, where the question is no audit or was refused (Article 35).
-#[derive(Drop)]
-pub struct Served<'a, B: Allocator = Global> {
-    pub receipt: Receipt,
-    pub shown: Vec<Entry, &'a B>,
-}
-
-/// What became of a question with a tag.
-#[derive(Drop)]
-pub enum Outcome<'a, B: Allocator = Global> {
-    /// It was put, and the receipt is kept.
-    New(Served<'a, B>),
-    /// It was asked before: the receipt is of the entry that it repeats and is not kept, and the entries that were shown then
-    /// are shown again.
-    Again(Served<'a, B>),
-    /// Its user asked something else with the tag.
-    Other,
 }
 
 /// One who asks a repository, by a window on the directory and a token of each shard, and keeps a receipt for each answer
@@ -149,120 +128,30 @@ impl<'a, J: Naming, H: Histories, B: Allocator> Clerk<'a, J, H, B> {
         self.window.look(user)
     }
 
-    /// In what capacity the user asks. It waits for nobody.
-    pub fn actor_of(&mut self, user: &Name) -> Result<Actor, AskFault>
-        ensures known { IfOk result (λ actor.
-            Reads self.old.seen self.new.seen user.now (Known actor)) }
-        ensures turned_away { IfErr result (TurnedAway self.old.seen self.new.seen user.now) }
-        ensures looked { IfErr result (λ fault. fault ≢ AskFault.Memory) }
-        ensures same { self.new ≡ record self.old { seen = self.new.seen } }
-    {
-        match self.look(user) {
-            Look::Nobody => Err(AskFault::Nobody),
-            Look::Suspended => Err(AskFault::Suspended),
-            Look::Known(actor) => Ok(actor),
-            Look::Closed => Err(AskFault::Closed),
-        }
-    }
-
-    /// Puts a question: looks the user up, holds the shard of the question's product code for one step of the rules,
-    /// and keeps the receipt. An audit is shown the entries about its pack that stood before it. It waits for the shard.
+    /// Asks a question: holds the shard of the question's product code, in which the question is put where it was not asked
+    /// before by its tag, and keeps the receipt of one that was put. It waits for the shard. Refused only out of memory.
     ///
     /// The answer is given on a trail that begins with all that the clerk has seen of the shard; then the clerk has seen
-    /// the entry, too, whose place is its own: no other answer has it.
+    /// the entry, too, whose place is its own: no other answer has it. Of those who ask a question with its tag, one puts it.
     ///
     /// Condition: the clerk is one that `open` gave with this repository, which the names of their histories say.
     pub fn ask<R: Wait>(
         &mut self,
         rt: &R,
         repository: &Repository<'a, H, B>,
-        moment: Moment,
-        user: &Name,
-        question: &Question,
-    ) -> Result<Served<'a, B>, AskFault>
-        ensures kept { IfOk result (λ s. self.new.receipts ≡ self.old.receipts ++ s.receipt ∷ []) }
-        ensures shard { IfOk result (λ s.
-            s.receipt.shard ≡ shard_of repository.now.shards (code_of question.now)) }
-        ensures put { IfOk result (λ s.
-            let put = s.receipt.entry.put in
-            (put.moment ≡ moment) × (put.user ≡ user.now) × (put.question ≡ question.now)
-            × Reads self.old.seen self.new.seen user.now (Known put.actor)) }
-        ensures untagged { IfOk result (λ s. s.receipt.entry.put.tag ≡ None) }
-        ensures answered { IfOk result (λ s.
-            let shard = s.receipt.shard in
-            IsAnswered repository.now.shards (row self.old.sights shard) (row self.new.sights shard) s.receipt s.shown.items) }
-        ensures owned { IfOk result (λ s. OwnsOneMore self.old.places self.new.places s.receipt) }
-        ensures others { IfOk result (λ s. (i : ℕ) → i ≢ s.receipt.shard → row self.new.sights i ≡ row self.old.sights i) }
-        ensures unchanged { OnErr result (self.new ≡ record self.old { seen = self.new.seen }) }
-        ensures turned_away { IfErr result (TurnedAway self.old.seen self.new.seen user.now) }
-    {
-        let actor = self.actor_of(user)?;
-        let put = Put {
-            moment,
-            user: *user,
-            actor,
-            question: *question,
-            tag: None,
-        };
-        match self.put(rt, repository, &put)? {
-            Outcome::New(served) => Ok(served),
-            // A question without a tag repeats no other.
-            Outcome::Again(_) | Outcome::Other => unreachable!(),
-        }
-    }
-
-    /// As `ask`, for a question with a tag, by which it may have been asked before. Whether it was is looked for in the same
-    /// hold of its shard: so of those who ask it one puts it.
-    pub fn ask_once<R: Wait>(
-        &mut self,
-        rt: &R,
-        repository: &Repository<'a, H, B>,
-        moment: Moment,
-        user: &Name,
-        question: &Question,
-        tag: Tag,
-    ) -> Result<Outcome<'a, B>, AskFault>
-        ensures answers { IfOk result (λ outcome. (put : APut)
-            × (put.moment ≡ moment) × (put.user ≡ user.now) × (put.question ≡ question.now) × (put.tag ≡ Some tag)
-            × Reads self.old.seen self.new.seen user.now (Known put.actor)
-            × Answers repository.now.shards put (record self.old { seen = self.new.seen }) self.new outcome) }
-        ensures unchanged { OnErr result (self.new ≡ record self.old { seen = self.new.seen }) }
-        ensures turned_away { IfErr result (TurnedAway self.old.seen self.new.seen user.now) }
-    {
-        let actor = self.actor_of(user)?;
-        let put = Put {
-            moment,
-            user: *user,
-            actor,
-            question: *question,
-            tag: Some(tag),
-        };
-        let outcome = self.put(rt, repository, &put)?;
-        Ok(outcome)
-    }
-
-    /// Puts a question in the capacity that it names, where it was not asked before by its tag.
-    fn put<R: Wait>(
-        &mut self,
-        rt: &R,
-        repository: &Repository<'a, H, B>,
         put: &Put,
-    ) -> Result<Outcome<'a, B>, AllocError>
-        ensures answers { IfOk result (Answers repository.now.shards put.now self.old self.new) }
-        ensures seen { self.new.seen ≡ self.old.seen }
+    ) -> Result<Outcome<&'a B>, AllocError>
+        ensures answers { let count = repository.now.shards in
+            IfOk result (Answers count (shard_of count (code_of put.now.question)) put.now self.old self.new) }
+        ensures untagged { put.now.tag ≡ None → IfOk result WasPut }
         ensures unchanged { OnErr result (self.new ≡ self.old) }
     {
         self.receipts.reserve(1)?;
         let shard = repository.shard_of(&put.question.code());
         let slot = repository.slot(shard);
-        match slot.ask(rt, &mut self.tokens[shard], put)? {
-            Outcome::New(served) => {
-                self.receipts.push_reserved(served.receipt);
-                Ok(Outcome::New(served))
-            }
-            Outcome::Again(served) => Ok(Outcome::Again(served)),
-            Outcome::Other => Ok(Outcome::Other),
-        }
+        let outcome = slot.ask(rt, &mut self.tokens[shard], put)?;
+        keep(&mut self.receipts, shard, &outcome);
+        Ok(outcome)
     }
 
     /// What the reader makes of the shard of this number, whose trail begins with all that the clerk has seen of it; then
@@ -312,5 +201,24 @@ impl<'a, J: Naming, H: Histories, B: Allocator> Clerk<'a, J, H, B> {
             of: _,
         } = self;
         (tokens, receipts)
+    }
+}
+
+/// Keeps the receipt of a question that was put in the shard. There is room for it.
+fn keep<A: Allocator, B: Allocator>(
+    receipts: &mut Vec<Receipt, A>,
+    shard: usize,
+    outcome: &Outcome<B>,
+)
+    requires { vec_len receipts.old < vec_capacity receipts.old }
+    ensures { receipts.new.items ≡ receipts.old.items ++ new_receipts shard outcome.now }
+{
+    match outcome {
+        Outcome::New(answered) => receipts.push_reserved(Receipt {
+            shard,
+            place: answered.place,
+            entry: answered.entry,
+        }),
+        Outcome::Again(_) | Outcome::Other => {}
     }
 }

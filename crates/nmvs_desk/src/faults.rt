@@ -21,27 +21,3 @@ impl From<AllocError> for OpenFault {
         OpenFault::Memory
     }
 }
-
-/// Why a question wasn't put.
-#[derive(Clone, Copy, Debug, PartialEq, Eq, Error)]
-pub enum AskFault {
-    #[error("the directory does not know the user")]
-    Nobody,
-    #[error("the user is suspended")]
-    Suspended,
-    #[error("there is no memory for the entry or its receipt")]
-    Memory,
-    #[error("the directory could not be entered")]
-    Closed,
-}
-
-impl From<AllocError> for AskFault {
-    ghost use Rattle.std.specs.Prelude.{◌≡◌};
-    ghost use Rattle.nmvs_desk.specs.declared.faults.AskFault.TheVariants.{Memory};
-
-    ghost from_gives = { λ e f. f ≡ Memory };
-
-    fn from(_: AllocError) -> AskFault {
-        AskFault::Memory
-    }
-}

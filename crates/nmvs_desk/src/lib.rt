@@ -1,9 +1,8 @@
 //! Locked shards, the clerks that ask them with a receipt for each answer, and the settlement of all shards.
 //!
-//! A question goes one way, whatever its kind. A clerk looks its user up and makes the put of it (ask.rt), the repository
-//! finds the shard of its product code (repository.rt), whose slot holds the lock (lock.rt) for one step of the shard
-//! (locked.rt). The way back has the receipt, which the clerk keeps until it lets its receipts go, and the entries that an
-//! audit shows.
+//! A question goes one way, whatever its kind. A clerk asks it (ask.rt), the repository finds the shard of its product code
+//! (repository.rt), whose slot holds the lock (lock.rt) while the shard answers (locked.rt). The way back has the entry that
+//! answers it and what an audit shows. The clerk keeps the receipt of a question that was put until it lets its receipts go.
 //!
 //! Each shard has a history (`nmvs_history`), whose keeper lies under the shard's lock. A clerk has a token of each history, so
 //! what it has seen of a shard begins every later trail of it, and each place of a trail is the own of one token.
@@ -24,8 +23,8 @@ mod repository;
 mod settled;
 mod settling;
 
-pub use ask::{Clerk, Outcome, Receipt, Served};
-pub use faults::{AskFault, OpenFault};
+pub use ask::{Clerk, Receipt};
+pub use faults::OpenFault;
 pub use holder::Holder;
 pub use lock::Reader;
 pub use opening::Keepers;

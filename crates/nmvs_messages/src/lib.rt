@@ -29,7 +29,7 @@ pub use laws::commands_are_read;
 pub use limits::{
     LONGEST_LINE, Limits, MOST_LINES, MOST_READS, NO_LIMITS, READ_SIZE, SESSION_LIMITS,
 };
-pub use peer::{Authorisations, NameOf, Peer};
+pub use peer::{NameOf, Peer};
 pub use pending_line::PendingLine;
 pub use withheld::{Basis, Released, Withheld, WithheldAnswers};
 pub use words::{word_of_fault, word_of_turn};

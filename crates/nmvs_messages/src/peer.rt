@@ -1,10 +1,7 @@
 //! Who is at the other end of a connection.
-ghost use Rattle.std.specs.Prelude.{◌≡◌, Result};
-ghost use Rattle.nmvs_identifier.specs.Name.{Name as TheName};
-ghost use Rattle.nmvs_messages.specs.declared.answer.Turn.{Turn as TheTurn};
-ghost use Rattle.nmvs_messages.specs.Peers.{peer_named};
+ghost use Rattle.std.specs.Prelude.{◌≡◌};
+ghost use Rattle.nmvs_messages.specs.Peers.{peer_named, speaks_for};
 
-use crate::Turn;
 use nmvs_identifier::Name;
 
 /// Who is at the other end of a connection.
@@ -16,6 +13,19 @@ pub enum Peer {
     User(Name),
     /// The users of this authorisation.
     Authorisation(Name),
+}
+
+impl Peer {
+    /// Whether its lines may name this user, who has this authorisation.
+    pub fn speaks_for(&self, user: &Name, authorisation: &Name) -> bool
+        ensures { result ≡ speaks_for self.now user.now authorisation.now }
+    {
+        match self {
+            Peer::Anyone => true,
+            Peer::User(own) => user == own,
+            Peer::Authorisation(own) => authorisation == own,
+        }
+    }
 }
 
 /// Whose name a certificate has.
@@ -35,14 +45,4 @@ impl NameOf {
             NameOf::Authorisation => Peer::Authorisation(name),
         }
     }
-}
-
-/// What knows the authorisations of users.
-pub trait Authorisations {
-    // Whether what is in this state may tell this of a user, and be in that state then.
-    ghost tells: { Self → TheName → Result TheName TheTurn → Self → Type 0 };
-
-    /// The authorisation of a user, or why a line of the user is turned away. Nothing is asked.
-    fn authorisation_of(&mut self, user: &Name) -> Result<Name, Turn>
-        ensures { tells self.old user.now result self.new };
 }

@@ -1,6 +1,6 @@
 //! Answers that are withheld until the desk releases them.
 ghost use Rattle.std.specs.Prelude.{◌≡◌, ◌==◌, ◌<◌, ◌≤◌, ◌+◌, ◌++◌, ◌∷◌, ◌↔◌, [], false, length, map, take, drop, option_copied, slice_get, None, IsSome, IfNone, IfSome};
-ghost use Rattle.nmvs_messages.specs.Withheld.{AreReleased, answer_of, is_kept, is_of_repository as of_repository, plain, tagged, told_where, withheld_on, takes_memory as text_takes_memory};
+ghost use Rattle.nmvs_messages.specs.Withheld.{AreReleased, answer_of, is_kept, is_of_repository as of_repository, plain, tagged, told_where, withheld_on, ends_long, is_long};
 
 use crate::{Answer, Content, Turn};
 use arrayvec::ArrayVec;
@@ -56,12 +56,13 @@ impl<'a> Withheld<'a> {
         self.answer.tag = tag;
     }
 
-    /// Whether its text will take memory: that of an audit which shows entries.
-    pub fn takes_memory(&self) -> bool
-        ensures { result ≡ text_takes_memory self.now.answer }
+    /// Whether its text may be long: that of an audit which shows entries, or of a report.
+    pub fn is_long(&self) -> bool
+        ensures { result ≡ is_long self.now.answer }
     {
         match &self.answer.content {
             Content::Replied(_, shown) => !shown.entries().is_empty(),
+            Content::Reported(_) => true,
             _ => false,
         }
     }
@@ -152,6 +153,16 @@ impl<'a> WithheldAnswers<'a> {
         ensures room { result ≡ false → length self.now < MOST_WITHHELD }
     {
         self.list.is_full()
+    }
+
+    /// Whether the text of the last may be long.
+    pub fn ends_long(&self) -> bool
+        ensures { result ≡ ends_long self.now }
+    {
+        match self.list.as_slice().last() {
+            Some(withheld) => withheld.is_long(),
+            None => false,
+        }
     }
 
     /// Lets all of them go.

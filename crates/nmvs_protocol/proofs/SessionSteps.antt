@@ -292,13 +292,6 @@ module _ {D : Type 0} (takes : D → Ask → Withheld → D → Type 0) where
           told = tells_more end start sink sink' k.said said k.told (told.4 short);
         }
 
-    -- what is told of some that were withheld
-    pub told_withheld : (withheld : List Withheld) (old new : D) (evidence : E) (said : List Answer) (end : Option End) (sink sink' : Taken) → (length withheld == 0) ≡ false
-        → moves old new → AreReleased (releases old evidence) withheld said → (AreShortButLast said → Tells end sink sink' said) → TellsWithheld releases moves withheld old new end sink sink'
-    told_withheld [] old new evidence said end sink sink' some m r told = absurd (cc some)
-    told_withheld (w ∷ withheld) old new evidence said end sink sink' some m r told =
-        (m, evidence, said, r, λ short. told (released_short (releases old evidence) (w ∷ withheld) said r short))
-
     -- all lines are told so, and those behind them are left
     answered_so : (session session' : TheSession) (first : D) (start : Taken) (now : D) (sink : Taken) (lines left all : List (List ℕ)) (said : List Answer) (end : Option End)
         → AnswersLines takes releases moves first lines said now → lines ++ left ≡ all → session'.answered ≡ session.answered + length said → session'.limit ≡ session.limit → session'.answered ≤ session.limit

@@ -1,5 +1,5 @@
 -- How answers that were withheld are released together and told: gathered, broken off, and handed on.
-use Rattle.std.proofs.Common.{◌≡◌, ◌≢◌, ◌+◌, ℕ, true, false, List, [], ◌∷◌, ◌++◌, All, IsTrue, Option, Some, None, Result, Ok, Err, length, take, map, refl, sym, ap, ◌∙◌, subst, inl, inr, arith}
+use Rattle.std.proofs.Common.{◌≡◌, ◌≢◌, ◌==◌, ◌+◌, ℕ, true, false, List, [], ◌∷◌, ◌++◌, All, IsTrue, Option, Some, None, Result, Ok, Err, length, take, map, refl, sym, ap, ◌∙◌, subst, inl, inr, arith}
 use Rattle.std.proofs.lemmas.List.{flat_map_more, append-nil, append_assoc, length-append, take_at}
 use Rattle.std.proofs.lemmas.List.Elements.{All-append, All-cons, All-nil, All-tail}
 use Rattle.std.proofs.lemmas.Grind.{flat_map-append}
@@ -12,6 +12,7 @@ use Rattle.nmvs_stream.proofs.LinesOfPieces.{lines_after-append, rest_after-appe
 use Rattle.nmvs_messages.specs.declared.ask.Line.TheVariants as lines
 use Rattle.nmvs_identifier.specs.Tag.{Tag}
 use Rattle.nmvs_messages.specs.declared.answer.Answer.{Answer}
+use Rattle.nmvs_messages.specs.declared.answer.Content.{Content}
 use Rattle.nmvs_messages.specs.declared.answer.Content.TheVariants as contents
 use Rattle.nmvs_messages.specs.declared.withheld.Withheld.{Withheld}
 use Rattle.nmvs_messages.specs.declared.end.End.{End}
@@ -19,9 +20,9 @@ use Rattle.nmvs_messages.specs.declared.end.End.TheVariants as ends
 use Rattle.nmvs_protocol.specs.Lines.{line_text}
 use Rattle.nmvs_protocol.specs.Texts.{content_text, lines_behind, tagged_text, text}
 use Rattle.nmvs_protocol.specs.Tags.{tag_text}
-use Rattle.nmvs_messages.specs.Withheld.{answer_of, takes_memory, AreReleased, StaysOrTurns}
+use Rattle.nmvs_messages.specs.Withheld.{answer_of, content_is_long, content_takes_memory, takes_memory, AreReleased, StaysOrTurns}
 use Rattle.nmvs_protocol.specs.Session.{NoQuit, NoQuitBeforeLast, session_text}
-use Rattle.nmvs_protocol.specs.Progress.{AreShortButLast, Gathers, Delivered, Tells, TellsFirst, Stands, has_write_fault}
+use Rattle.nmvs_protocol.specs.Progress.{AreShortButLast, Gathers, Delivered, Tells, TellsFirst, TellsWithheld, Stands, has_write_fault}
 
 -- one line more that is not QUIT
 pub no_quit_more : (xs : List (List ℕ)) (x : List ℕ) → NoQuit xs → x ≢ line_text lines.Quit → NoQuit (xs ++ x ∷ [])
@@ -30,6 +31,15 @@ no_quit_more xs x none other = All-append (λ (y : List ℕ). y ≢ line_text li
 -- the text of what is withheld is short
 abbrev pub IsShort : Withheld → Type 0
 IsShort w = takes_memory w.answer ≡ false
+
+-- a text that is not long takes no memory
+pub short_of : (c : Content) → content_is_long c ≡ false → content_takes_memory c ≡ false
+short_of (contents.Replied r []) short = refl
+short_of (contents.Replied r (e ∷ es)) short = absurd (cc short)
+short_of (contents.Reported t) short = refl
+short_of (contents.Turned turn) short = refl
+short_of (contents.Unread fault) short = refl
+short_of contents.Bye short = refl
 
 -- what is short, and one more
 pub short_but_last : (withheld : List Withheld) (w : Withheld) → All IsShort withheld → AreShortButLast (map answer_of (withheld ++ w ∷ []))
@@ -62,6 +72,13 @@ released_short releases (w ∷ v ∷ withheld) (a ∷ []) r short = absurd r.2
 released_short releases (w ∷ []) (a ∷ b ∷ said) r short = absurd r.2
 released_short releases [] (a ∷ said) r short = absurd r
 released_short releases (w ∷ withheld) [] r short = absurd r
+
+-- what is told of some that were withheld
+pub told_withheld : {D E : Type 0} (releases : D → E → Withheld → Answer → Type 0) (moves : D → D → Type 0) (withheld : List Withheld) (old new : D) (evidence : E) (said : List Answer) (end : Option End) (sink sink' : Taken)
+    → (length withheld == 0) ≡ false → moves old new → AreReleased (releases old evidence) withheld said → (AreShortButLast said → Tells end sink sink' said) → TellsWithheld releases moves withheld old new end sink sink'
+told_withheld releases moves [] old new evidence said end sink sink' some m r told = absurd (cc some)
+told_withheld releases moves (w ∷ withheld) old new evidence said end sink sink' some m r told =
+    (m, evidence, said, r, λ short. told (released_short (releases old evidence) (w ∷ withheld) said r short))
 
 pub released_length : (releases : Withheld → Answer → Type 0) (withheld : List Withheld) (said : List Answer) → AreReleased releases withheld said → length said ≡ length withheld
 released_length releases [] [] r = refl

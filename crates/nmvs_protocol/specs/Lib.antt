@@ -4,4 +4,3 @@ pub mod Texts
 pub mod Wordings
 pub mod Session
 pub mod Progress
-pub mod Peers

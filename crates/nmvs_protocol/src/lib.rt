@@ -3,7 +3,6 @@
 
 mod laws;
 mod lines;
-mod peer;
 mod replies;
 mod serving;
 mod session;
@@ -12,7 +11,6 @@ mod wording;
 
 pub use laws::lines_are_read;
 pub use lines::{line_text, read_line};
-pub use peer::OwnDesk;
 pub use replies::reply_text;
 pub use serving::serve;
 pub use session::{Session, Taking, write_texts};

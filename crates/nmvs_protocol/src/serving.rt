@@ -4,14 +4,15 @@ ghost use Rattle.nmvs_stream.specs.Sink.{Taken};
 ghost use Rattle.nmvs_stream.specs.InputLines.{lines_after, unfinished_line};
 ghost use Rattle.nmvs_protocol.specs.Session.{Session as TheSession};
 ghost use Rattle.nmvs_messages.specs.PendingLines.{kept_part};
+ghost use Rattle.nmvs_messages.specs.Peers.{TakesFrom};
 ghost use Rattle.nmvs_protocol.specs.Progress.{Served, has_write_fault};
 
 use crate::Session;
-use nmvs_messages::{Desk, End, Limits, READ_SIZE, WithheldAnswers};
+use nmvs_messages::{Desk, End, Limits, Peer, READ_SIZE, WithheldAnswers};
 use nmvs_stream::{Failed, Sink, Source};
 use std::alloc::Global;
 
-/// Serves a session: answers the lines of the source in order. The answers to the whole lines that one read
+/// Serves a session of a peer: answers the lines of the source in order. The answers to the whole lines that one read
 /// completes are written together, and flushed before more is read and before the session ends (own).
 ///
 /// Bytes after the last LF get no answer. QUIT ends the session. What memory is taken for, and how long a line
@@ -20,13 +21,14 @@ pub fn serve<'a, R: Source, W: Sink, D: Desk<'a>>(
     alloc: Global,
     source: &mut R,
     sink: &mut W,
+    from: &Peer,
     desk: &mut D,
     limits: Limits,
 ) -> End
     requires source_sound { (R.told source.old).failed ≡ false }
     requires source_open { (R.told source.old).ended ≡ false }
     requires sink_sound { (W.taken sink.old).failed ≡ false }
-    ensures { TheSession D.takes D.releases D.moves limits desk.old (R.told source.old) (W.taken sink.old)
+    ensures { TheSession (TakesFrom D.takes from.now) D.releases D.moves limits desk.old (R.told source.old) (W.taken sink.old)
         desk.new (R.told source.new) (W.taken sink.new) result }
 {
     let mut session = Session::new(limits.lines);
@@ -38,7 +40,7 @@ pub fn serve<'a, R: Source, W: Sink, D: Desk<'a>>(
             Ok(0) => return End::Ended,
             Ok(count) => {
                 let chunk = &buffer[..count];
-                match serve_read(alloc, &mut session, chunk, &mut withheld, sink, desk) {
+                match serve_read(alloc, &mut session, chunk, &mut withheld, sink, from, desk) {
                     Some(end) => return end,
                     None => {}
                 }
@@ -55,15 +57,16 @@ fn serve_read<'a, W: Sink, D: Desk<'a>>(
     chunk: &[u8],
     withheld: &mut WithheldAnswers<'a>,
     sink: &mut W,
+    from: &Peer,
     desk: &mut D,
 ) -> Option<End>
     ensures { (fed : List ℕ) → session.old.line ≡ kept_part (unfinished_line fed) → session.old.answered ≤ session.old.limit
         → (W.taken sink.old).failed ≡ false
-        → Served D.takes D.releases D.moves session.old desk.old (W.taken sink.old) (lines_after (unfinished_line fed) chunk.now)
+        → Served (TakesFrom D.takes from.now) D.releases D.moves session.old desk.old (W.taken sink.old) (lines_after (unfinished_line fed) chunk.now)
         session.new desk.new (W.taken sink.new) result
         × IfNone result (session.new.line ≡ kept_part (unfinished_line (fed ++ chunk.now))) }
 {
-    let fed = session.feed(alloc, chunk, withheld, sink, desk);
+    let fed = session.feed(alloc, chunk, withheld, sink, from, desk);
     if is_write_fault(fed) {
         return fed;
     }

@@ -6,13 +6,15 @@ ghost use Rattle.nmvs_protocol.specs.Lines.{line_text};
 ghost use Rattle.nmvs_protocol.specs.Session.{Answers, TakesLine};
 ghost use Rattle.nmvs_protocol.specs.Texts.{content_text, lines_behind, text};
 ghost use Rattle.nmvs_messages.specs.PendingLines.{kept_part};
+ghost use Rattle.nmvs_messages.specs.Peers.{TakesFrom};
 ghost use Rattle.nmvs_protocol.specs.Progress.{Fed, Took, Tells, TellsFirst, TellsWithheld};
 
 use crate::read_line;
 use crate::replies::wording;
 use crate::tags::tag_text;
 use nmvs_messages::{
-    Answer, Content, Desk, End, Line, PendingLine, Released, Unread, Withheld, WithheldAnswers,
+    Answer, Content, Desk, End, Line, Peer, PendingLine, Released, Unread, Withheld,
+    WithheldAnswers,
 };
 use nmvs_stream::{Failed, Sink, cut_line, write_all};
 use std::alloc::Global;
@@ -48,7 +50,7 @@ impl Session {
         }
     }
 
-    /// Answers the whole lines that these bytes complete, after what was fed before. The texts of the answers
+    /// Answers the whole lines that these bytes of a peer complete, after what was fed before. The texts of the answers
     /// are written to the sink, which is left to be flushed; lines are taken until no more answers can be withheld,
     /// and then those are released together.
     ///
@@ -63,17 +65,18 @@ impl Session {
         more: &[u8],
         withheld: &mut WithheldAnswers<'a>,
         sink: &mut W,
+        from: &Peer,
         desk: &mut D,
     ) -> Option<End>
         ensures { (fed : List ℕ) → self.old.line ≡ kept_part (unfinished_line fed) → self.old.answered ≤ self.old.limit
-            → Fed D.takes D.releases D.moves self.old desk.old (W.taken sink.old) (lines_after (unfinished_line fed) more.now)
+            → Fed (TakesFrom D.takes from.now) D.releases D.moves self.old desk.old (W.taken sink.old) (lines_after (unfinished_line fed) more.now)
             self.new desk.new (W.taken sink.new) result
             × IfNone result (self.new.line ≡ kept_part (unfinished_line (fed ++ more.now))) }
     {
         withheld.clear();
         let mut rest = more;
         while !rest.is_empty() {
-            let taking = self.take(rest, withheld, desk);
+            let taking = self.take(rest, withheld, from, desk);
             match tell(alloc, withheld, sink, desk) {
                 Some(end) => return Some(end),
                 None => {}
@@ -86,20 +89,21 @@ impl Session {
         None
     }
 
-    /// Takes the lines that these bytes complete, after what was taken before, and puts their answers behind those that are
-    /// withheld. It stops behind a line whose answer's text will take memory, and before a line whose answer finds no room.
+    /// Takes the lines that these bytes of a peer complete, after what was taken before, and puts their answers behind those
+    /// that are withheld. It stops after a line whose answer may be long, and before a line whose answer finds no room.
     ///
     /// Once those answers are told, the session goes on with the bytes that are left, or has ended.
     pub fn take<'a, D: Desk<'a>>(
         &mut self,
         more: &[u8],
         withheld: &mut WithheldAnswers<'a>,
+        from: &Peer,
         desk: &mut D,
     ) -> Taking
         ensures within { result.bytes ≤ length more.now }
         ensures moves { 0 < length more.now → withheld.old ≡ [] → IfNone result.end (0 < result.bytes) }
         ensures takes { (begun : List ℕ) → self.old.line ≡ kept_part begun → self.old.answered ≤ self.old.limit
-            → Took D.takes self.old desk.old withheld.old begun (take result.bytes more.now) (drop result.bytes more.now)
+            → Took (TakesFrom D.takes from.now) self.old desk.old withheld.old begun (take result.bytes more.now) (drop result.bytes more.now)
             self.new desk.new withheld.new result.end }
     {
         let mut rest = more;
@@ -111,8 +115,8 @@ impl Session {
                 return taken_until(more, rest, None);
             }
             rest = behind;
-            let (answer, quits) = self.take_tail(tail, desk);
-            let is_long = answer.takes_memory();
+            let (answer, quits) = self.take_tail(tail, from, desk);
+            let is_long = answer.is_long();
             withheld.push(answer);
             self.answered += 1;
             if quits {
@@ -130,20 +134,25 @@ impl Session {
     }
 
     /// Takes the line that these bytes end, and tells whether it is QUIT.
-    fn take_tail<'a, D: Desk<'a>>(&mut self, tail: &[u8], desk: &mut D) -> (Withheld<'a>, bool)
+    fn take_tail<'a, D: Desk<'a>>(
+        &mut self,
+        tail: &[u8],
+        from: &Peer,
+        desk: &mut D,
+    ) -> (Withheld<'a>, bool)
         ensures begun { self.new.line ≡ [] }
         ensures counts { (self.new.answered ≡ self.old.answered) × (self.new.limit ≡ self.old.limit) }
         ensures takes { (begun : List ℕ) → self.old.line ≡ kept_part begun
-            → TakesLine D.takes desk.old (begun ++ tail.now) result.0 desk.new }
+            → TakesLine (TakesFrom D.takes from.now) desk.old (begun ++ tail.now) result.0 desk.new }
         ensures quit { (begun : List ℕ) → self.old.line ≡ kept_part begun
             → (IsTrue result.1 ↔ (begun ++ tail.now ≡ line_text Line.Quit)) }
     {
         // A line that lies in one read is not copied.
         if self.line.is_empty() {
-            return take_line(tail, desk);
+            return take_line(tail, from, desk);
         }
         self.line.extend(tail);
-        let taken = take_line(self.line.as_slice(), desk);
+        let taken = take_line(self.line.as_slice(), from, desk);
         self.line.clear();
         taken
     }
@@ -161,22 +170,26 @@ fn taken_until(more: &[u8], left: &[u8], end: Option<End>) -> Taking
 }
 
 /// Takes a line, of which as much is given as is kept of it, or more, and tells whether it is QUIT.
-fn take_line<'a, D: Desk<'a>>(line: &[u8], desk: &mut D) -> (Withheld<'a>, bool)
-    ensures takes { (x : List ℕ) → kept_part line.now ≡ kept_part x → TakesLine D.takes desk.old x result.0 desk.new }
+fn take_line<'a, D: Desk<'a>>(line: &[u8], from: &Peer, desk: &mut D) -> (Withheld<'a>, bool)
+    ensures takes { (x : List ℕ) → kept_part line.now ≡ kept_part x → TakesLine (TakesFrom D.takes from.now) desk.old x result.0 desk.new }
     ensures quit { (x : List ℕ) → kept_part line.now ≡ kept_part x → (IsTrue result.1 ↔ (x ≡ line_text Line.Quit)) }
 {
     let reading = read_line(line);
-    let withheld = answer(&reading, desk);
+    let withheld = answer(&reading, from, desk);
     (withheld, is_quit(&reading))
 }
 
 /// The answer to what was read. The desk is asked all but QUIT.
-fn answer<'a, D: Desk<'a>>(reading: &Result<Line, Unread>, desk: &mut D) -> Withheld<'a>
-    ensures { Answers D.takes desk.old reading.now result desk.new }
+fn answer<'a, D: Desk<'a>>(
+    reading: &Result<Line, Unread>,
+    from: &Peer,
+    desk: &mut D,
+) -> Withheld<'a>
+    ensures { Answers (TakesFrom D.takes from.now) desk.old reading.now result desk.new }
 {
     match reading {
         Ok(Line::Ask(ask)) => {
-            let mut withheld = desk.take(ask);
+            let mut withheld = desk.take(from, ask);
             withheld.set_tag(ask.tag);
             withheld
         }

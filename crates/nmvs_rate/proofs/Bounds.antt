@@ -5,8 +5,7 @@ use Rattle.std.proofs.Math.Nat.{min-le_left, min-le_right}
 use Rattle.std.proofs.lemmas.List.Elements.{recursion_from_All}
 use Rattle.nmvs_rate.specs.declared.rate.Rate.{Rate}
 use Rattle.nmvs_rate.specs.declared.bucket.Bucket.{Bucket}
-use Rattle.nmvs_rate.specs.declared.bucket.TheConstants.{LINE}
-use Rattle.nmvs_rate.specs.Buckets.{filled, passes, passing}
+use Rattle.nmvs_rate.specs.Buckets.{LINE, filled, passes, passing}
 use Rattle.nmvs_rate.specs.Laws.{allowed, NeverMore}
 use Rattle.nmvs_rate.proofs.Steps.{taken, whole, gained}
 

@@ -5,8 +5,7 @@ use Rattle.std.proofs.lemmas.Bool.{cases_lt, le-leb}
 use Rattle.std.proofs.lemmas.List.Sums.{sum_by-append, sum_by-cons}
 use Rattle.nmvs_rate.specs.declared.rate.Rate.{Rate}
 use Rattle.nmvs_rate.specs.declared.bucket.Bucket.{Bucket}
-use Rattle.nmvs_rate.specs.declared.bucket.TheConstants.{LINE}
-use Rattle.nmvs_rate.specs.Buckets.{full, filled, passes, passing, after_all}
+use Rattle.nmvs_rate.specs.Buckets.{LINE, full, filled, passes, passing, after_all}
 use Rattle.nmvs_rate.specs.Laws.{allowed, Ascends, NeverFewer}
 use Rattle.nmvs_rate.proofs.Steps.{taken, whole, less}
 

@@ -3,8 +3,7 @@ use Rattle.std.proofs.Common.{◌≡◌, ◌≤◌, ◌<◌, ◌+◌, ◌-◌, �
 use Rattle.std.proofs.lemmas.Bool.Decides.{nat_tests}
 use Rattle.nmvs_rate.specs.declared.rate.Rate.{Rate}
 use Rattle.nmvs_rate.specs.declared.bucket.Bucket.{Bucket}
-use Rattle.nmvs_rate.specs.declared.bucket.TheConstants.{LINE}
-use Rattle.nmvs_rate.specs.Buckets.{filled, passes}
+use Rattle.nmvs_rate.specs.Buckets.{LINE, filled, passes}
 
 -- the bucket after a line was taken out
 abbrev pub taken : Rate → Bucket → ℕ → Bucket

@@ -2,7 +2,10 @@
 use Rattle.std.specs.Prelude.{ℕ, Bool, ◌+◌, ◌-◌, ◌*◌, min, max, not, nat_lt, if◌then◌else◌, List, [], ◌∷◌}
 use Rattle.nmvs_rate.specs.declared.rate.Rate.{Rate}
 use Rattle.nmvs_rate.specs.declared.bucket.Bucket.{Bucket}
-use Rattle.nmvs_rate.specs.declared.bucket.TheConstants.{LINE}
+
+-- how many parts a line has: of one line a second a part comes in each millisecond
+abbrev pub LINE : ℕ
+LINE = 1000
 
 -- a bucket with all lines of the burst
 abbrev pub full : Rate → ℕ → Bucket

@@ -2,8 +2,7 @@
 use Rattle.std.specs.Prelude.{◌≡◌, ◌≤◌, ◌<◌, ℕ, false, nat_le, ◌+◌, ◌-◌, ◌*◌, List, [], ◌∷◌, ◌++◌, length, All, count_by}
 use Rattle.nmvs_rate.specs.declared.rate.Rate.{Rate}
 use Rattle.nmvs_rate.specs.declared.bucket.Bucket.{Bucket}
-use Rattle.nmvs_rate.specs.declared.bucket.TheConstants.{LINE}
-use Rattle.nmvs_rate.specs.Buckets.{full, passes, passing, after_all}
+use Rattle.nmvs_rate.specs.Buckets.{LINE, full, passes, passing, after_all}
 
 -- the thousandths of lines that a rate has in a span: the burst, and a line's thousandth a millisecond for each line a second
 abbrev pub allowed : Rate → ℕ → ℕ → ℕ

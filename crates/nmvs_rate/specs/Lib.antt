@@ -1,4 +1,3 @@
 pub mod Buckets
 pub mod Laws
-pub mod Rates
-pub mod Rated
+pub mod Limits

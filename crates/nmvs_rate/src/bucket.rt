@@ -5,7 +5,7 @@ ghost use Rattle.nmvs_rate.specs.Buckets.{after, filled, full, passes};
 use crate::Rate;
 
 /// How many parts a line has: in each millisecond a bucket gains a part for each line a second of its rate.
-pub const LINE: u64 = 1_000;
+const LINE: u64 = 1_000;
 
 /// What is left of the lines that a user may ask. Moments are in milliseconds since some beginning (own).
 #[derive(Clone, Copy)]

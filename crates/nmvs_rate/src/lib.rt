@@ -1,18 +1,16 @@
-//! How many lines a second each user may ask: buckets, and a desk that turns the lines away for which there is no room.
+//! How many lines a second each user may ask: a rate limiter with a bucket for each user.
 #![tactic(auto)]
 
 mod bucket;
-mod gate;
 mod laws;
-mod passage;
+mod limiter;
 mod rate;
-mod rated_desk;
-mod rates;
+mod shared_limiter;
+#[cfg(test)]
+mod tests;
 
-pub use bucket::{Bucket, LINE};
-pub use gate::{Gate, SharedRates};
+pub use bucket::Bucket;
 pub use laws::rates_are_kept;
-pub use passage::Passage;
+pub use limiter::RateLimiter;
 pub use rate::Rate;
-pub use rated_desk::{RatedDesk, Turnstile};
-pub use rates::Rates;
+pub use shared_limiter::{SharedLimiter, admit};

@@ -1,279 +1,154 @@
 -- How the program's desk answers.
-use Rattle.std.proofs.Common.{◌≡◌, ◌≢◌, ◌<◌, ◌∙◌, ◌∷◌, ◌++◌, ℕ, ℤ, pos, true, List, [], Option, Some, None, IfSome, Err, length, take, refl, sym, ap, subst, inl, inr, arith, length-append}
+use Rattle.std.specs.Prelude.{slice_get}
+use Rattle.std.proofs.Common.{◌≡◌, ◌≢◌, ◌<◌, ◌+◌, ◌⊎◌, ◌∙◌, ◌++◌, ◌∷◌, ℕ, ℤ, Bool, true, List, [], Option, Some, None, IfSome, length, refl, sym, ap, subst, inl, inr, arith, length-append}
+use Rattle.std.specs.Borrow.{Bor}
+use Rattle.std.specs.Global.{Global}
 use Rattle.std.proofs.lemmas.Bool.Decides.{eqb_tells}
 use Rattle.std.proofs.lemmas.Option.{slice_get_within}
 use mathlib.Core.List.{IsPrefix}
 use Rattle.nmvs_history.proofs.Beginnings.{prefix_self, prefix_trans, prefix_length}
 use Rattle.nmvs_identifier.specs.Name.{Name}
-use Rattle.nmvs_identifier.specs.ProductCode.{ProductCode}
 use Rattle.nmvs_identifier.specs.Tag.{Tag}
-use Rattle.nmvs_identifier.specs.declared.pack.Pack.{Pack}
 use Rattle.nmvs_directory.specs.Window.{Reads}
 use Rattle.nmvs_directory.specs.declared.change.Change.{Change}
-use Rattle.nmvs_directory.specs.declared.look.Look.TheVariants.{Known}
+use Rattle.nmvs_directory.specs.declared.look.Look.{Look}
 use Rattle.nmvs_rules.specs.declared.actor.Actor.{Actor}
 use Rattle.nmvs_rules.specs.declared.entry.Entry.{Entry}
 use Rattle.nmvs_rules.specs.declared.put.Put.{Put}
-use Rattle.nmvs_rules.specs.declared.question.Question.{Question}
-use Rattle.nmvs_rules.specs.declared.repeat.Repeat.TheVariants as repeat
-use Rattle.nmvs_rules.specs.Repeats.{repeat_of, repeat_by}
-use Rattle.nmvs_rules.specs.Questions.{code_of, pack_of, may_report}
-use Rattle.nmvs_desk.specs.Answers.{IsAnswered, IsRepeated, IsShown, Sees, TurnedAway, Receives as KeepsReceipt}
-use Rattle.nmvs_desk.specs.Placing.{shard_of}
+use Rattle.nmvs_shard.specs.Asking.{Asks}
+use Rattle.nmvs_shard.specs.declared.shard.Outcome.{Outcome}
+use Rattle.nmvs_shard.specs.declared.shard.Outcome.TheVariants as outcomes
 use Rattle.nmvs_desk.specs.Settlement.{row}
-use Rattle.nmvs_desk.specs.declared.ask.Receipt.{Receipt}
-use Rattle.nmvs_desk.specs.declared.faults.AskFault.{AskFault}
-use Rattle.nmvs_desk.specs.declared.faults.AskFault.TheVariants as faults
 use Rattle.nmvs_desk.specs.Views.{ClerkView}
 use Rattle.nmvs_messages.specs.declared.ask.Ask.{Ask}
 use Rattle.nmvs_messages.specs.declared.ask.Asked.{Asked}
 use Rattle.nmvs_messages.specs.declared.ask.Asked.TheVariants as asked
 use Rattle.nmvs_messages.specs.declared.answer.Content.{Content}
-use Rattle.nmvs_messages.specs.declared.answer.Content.TheVariants as contents
+use Rattle.nmvs_messages.specs.declared.answer.Turn.{Turn}
+use Rattle.nmvs_messages.specs.declared.answer.Turn.TheVariants as turns
+use Rattle.nmvs_messages.specs.declared.peer.Peer.{Peer}
 use Rattle.nmvs_messages.specs.declared.withheld.Basis.{Basis}
 use Rattle.nmvs_offices.specs.Told.{IsWithin}
-use Rattle.nmvs_record.specs.Report.{report_text}
-use Rattle.nmvs_reception.specs.Desk.{DeskView, AnswersQuestion, AnswersReport, AnswersTold, AsksOther, IsPut, NamesAuthorisation, Receives, Repeats, Reports, RestsOnAll, SeesShard, Serves, LeavesNone, IsInRole, IsTurned, LetsGo, may_put, turn_of_fault}
+use Rattle.nmvs_reception.specs.Desk.{DeskView, Admits, AnswersAdmitted, IsMoment, Knows, LetsGo, LooksUp, Refuses, Replies, RestsOnAll, Says, SeesShard, Serves}
 
--- a question without a tag is new
-untagged_first : (t : List Entry) (q : Put) → q.tag ≡ None → repeat_of t q ≡ repeat.New
-untagged_first t q none = ap (λ (g : Option Tag). repeat_by t q (pack_of q.question) g) none ∙ by (pack_of q.question)
-  where
-    by : (p : Option Pack) → repeat_by t q p None ≡ repeat.New
-    by None = refl
-    by (Some p) = refl
-
--- a question without a tag that the clerk put at the clock's moment
-pub received : (old new : DeskView) (user : Name) (q : Question) (moment : ℕ) (receipt : Receipt) (shown : List Entry) (basis : Option Basis)
-    → pos moment ≡ old.gave → new.receipts ≡ old.receipts ++ receipt ∷ []
-    → (receipt.entry.put.moment ≡ moment) × (receipt.entry.put.user ≡ user) × (receipt.entry.put.question ≡ q)
-    × Reads old.seen new.seen user (Known receipt.entry.put.actor) → receipt.entry.put.tag ≡ None
-    → receipt.shard ≡ shard_of old.shards (code_of q) → IsAnswered old.shards (row old.sights receipt.shard) (row new.sights receipt.shard) receipt shown
-    → ((i : ℕ) → i ≢ receipt.shard → row new.sights i ≡ row old.sights i) → basis ≡ Some (record { shard = receipt.shard; place = receipt.place })
-    → Receives old new user q None receipt.entry.reply shown basis
-received old new user q moment receipt shown basis gave kept put untagged shard answered others rests = record {
-  receipt = receipt;
-  kept = kept;
-  put = record { moment = ap pos put.0 ∙ gave; by = put.1; asked = put.2; tagged = untagged; actor = put.3 };
-  first = untagged_first (take receipt.place (row new.sights receipt.shard)) receipt.entry.put untagged;
-  replied = refl;
-  shard = shard;
-  answered = answered;
-  others = others;
-  rests = rests;
+-- the clock gave a moment, the clerk was told of the notice, and the directory said this of the user
+pub looks_up : (notice : List Change) (old : DeskView) (user : Name) (look : Look) (told new : ClerkView) (times : ℕ) (gave : ℤ) → times ≡ old.asked + 1 → IsMoment gave
+    → told ≡ record old.clerk { seen = told.seen } → IsPrefix old.clerk.seen told.seen → IsPrefix notice told.seen
+    → Reads told.seen new.seen user look → new ≡ record told { seen = new.seen } → LooksUp notice old user look (record old { clerk = new; asked = times; gave = gave })
+looks_up notice old user look told new times gave once moment learns seen latest reads looks = record {
+  told = record old { clerk = told; asked = times; gave = gave };
+  is = record { same = λ i. record old { clerk = learns i; asked = once i; gave = gave }; moment = moment; seen = seen; latest = latest };
+  reads = reads;
+  same = λ i. record old { clerk = looks i; asked = times; gave = gave };
 }
 
--- a question that an entry of what was seen answers again
-pub repeated : (old new : DeskView) (user : Name) (q : Question) (tag : Option Tag) (put : Put) (r : Receipt) (shown : List Entry) (basis : Option Basis)
-    → IsPut old new user q tag put → new.receipts ≡ old.receipts → r.shard ≡ shard_of old.shards (code_of q) → SeesShard old r.shard new
-    → IsRepeated put (row new.sights r.shard) r shown → basis ≡ Some (record { shard = r.shard; place = r.place })
-    → Repeats old new user q tag r.entry.reply shown basis
-repeated old new user q tag put r shown basis is receipts shard sees again rests =
-    let index = shard_of old.shards (code_of q) in
-    let here : IsRepeated put (row new.sights index) r shown = subst (λ (i : ℕ). IsRepeated put (row new.sights i) r shown) shard again in record {
-      put = put;
-      is = is;
-      receipts = receipts;
-      sees = subst (λ (i : ℕ). SeesShard old i new) shard sees;
-      place = r.place;
-      entry = r.entry;
-      stands = here.stands;
-      repeats = here.repeat;
-      shows = here.shows;
-      rests = rests ∙ (λ i. Some (record { shard = shard i; place = r.place }));
-    }
+-- a line that the rate turns away, or want of memory
+pub over_rate : (notice : List Change) (old : DeskView) (from : Peer) (ask : Ask) (turn : Turn) (actor : Actor) (new : DeskView) → old.rated ≡ true
+    → (turn ≡ turns.Rate) ⊎ (turn ≡ turns.Memory) → Knows notice old from ask true actor new → Refuses notice old from ask turn new
+over_rate notice old from ask turn actor new rated (inl is) knows = subst (λ t. Refuses notice old from ask t new) (sym is) (rated, actor, knows)
+over_rate notice old from ask turn actor new rated (inr is) knows = subst (λ t. Refuses notice old from ask t new) (sym is) (rated, actor, knows)
 
--- what was seen stands where nothing more was seen, or more of one shard
-pub stays : (old new : DeskView) → new.receipts ≡ old.receipts → new.sights ≡ old.sights → LeavesNone old new
-stays old new receipts sights = record { receipts = receipts; sights = λ i. subst (λ t. IsPrefix (row old.sights i) (row t i)) (sym sights) (prefix_self (row old.sights i)) }
+-- what the clerk has seen of the trails stays where the user is looked up
+looked : (notice : List Change) (old : DeskView) (user : Name) (look : Look) (new : DeskView) → LooksUp notice old user look new → new.clerk.sights ≡ old.clerk.sights
+looked notice old user look new is = ap (λ (d : DeskView). d.clerk.sights) is.same ∙ ap (λ (d : DeskView). d.clerk.sights) is.is.same
 
--- a look at the shard of a product code, and the report of what it showed
-pub sees : (old new : DeskView) (shards shard : ℕ) (code : ProductCode) → old.shards ≡ shards → shard ≡ shard_of old.shards code
-    → IsShown shards shard (row old.sights shard) (row new.sights shard) → ((i : ℕ) → i ≢ shard → row new.sights i ≡ row old.sights i)
-    → SeesShard old (shard_of old.shards code) new
-sees old new shards shard code named is shown others =
-    subst (λ (n : ℕ). SeesShard old n new) is
-    (record { shown = subst (λ (n : ℕ). IsShown n shard (row old.sights shard) (row new.sights shard)) (sym named) shown; others = others })
+-- and where a line is turned away
+refused : (notice : List Change) (old : DeskView) (from : Peer) (ask : Ask) (turn : Turn) (new : DeskView) → Refuses notice old from ask turn new → new.clerk.sights ≡ old.clerk.sights
+refused notice old from ask turns.Clock new is = ap (λ (d : DeskView). d.clerk.sights) is.same
+refused notice old from ask turns.Nobody new (inl is) = looked _ _ _ _ _ is
+refused notice old from ask turns.Nobody new (inr is) = looked _ _ _ _ _ is.1.looks
+refused notice old from ask turns.Suspended new is = looked _ _ _ _ _ is
+refused notice old from ask turns.Closed new is = looked _ _ _ _ _ is
+refused notice old from ask turns.Rate new is = looked _ _ _ _ _ is.2.looks
+refused notice old from ask turns.Memory new is = looked _ _ _ _ _ is.2.looks
+refused notice old from ask turns.Role new is = looked _ _ _ _ _ is.1.looks
+refused notice old from ask turns.Journal new is = absurd is
+refused notice old from ask turns.Tag new is = absurd is
 
-pub reports : (new : DeskView) (shard : ℕ) (code : ProductCode) (text : List ℕ) → shard ≡ shard_of new.shards code → text ≡ report_text (row new.sights shard) code → Reports new code text
-reports new shard code text is told = told ∙ ap (λ i. report_text (row new.sights i) code) is
+-- what was seen of each shard begins what is seen
+abbrev Grows : DeskView → DeskView → Type 0
+Grows old new = (i : ℕ) → IsPrefix (row old.clerk.sights i) (row new.clerk.sights i)
 
-pub sees_from : (old mid new : DeskView) (shard : ℕ) → mid.sights ≡ old.sights → mid.shards ≡ old.shards → SeesShard mid shard new → SeesShard old shard new
-sees_from old mid new shard sights shards sees = record {
-  shown = subst (λ (p : ℕ × List (List Entry)). IsShown p.0 shard (row p.1 shard) (row new.sights shard)) (λ i. (shards i, sights i)) sees.shown;
-  others = λ i apart. sees.others i apart ∙ ap (λ s. row s i) sights;
-}
+same_grows : (old new : DeskView) → new.clerk.sights ≡ old.clerk.sights → Grows old new
+same_grows old new same i = subst (λ t. IsPrefix (row old.clerk.sights i) (row t i)) (sym same) (prefix_self (row old.clerk.sights i))
 
-pub sees_no_less : (old new : DeskView) (shard : ℕ) → new.receipts ≡ old.receipts → SeesShard old shard new → LeavesNone old new
-sees_no_less old new shard receipts sees = record {
-  receipts = receipts;
-  sights = λ i.
-      elim (eqb_tells i shard) [
-        | inl e ↦ subst (λ j. IsPrefix (row old.sights j) (row new.sights j)) (sym e.1) sees.shown.begins
-        | inr e ↦ subst (λ t. IsPrefix (row old.sights i) t) (sym (sees.others i e.1)) (prefix_self (row old.sights i))
-      ];
-}
-
--- what a desk sees of its clerk
-abbrev over : ClerkView → ℕ → ℕ → ℤ → DeskView
-over clerk shards asked gave = record { seen = clerk.seen; sights = clerk.sights; receipts = clerk.receipts; shards = shards; asked = asked; gave = gave }
-
--- a question with a tag that the clerk put
-pub asked_new : (old new : ClerkView) (shards times : ℕ) (gave : ℤ) (user : Name) (q : Question) (tag : Tag) (put : Put) (r : Receipt) (shown : List Entry) (basis : Option Basis)
-    → IsPut (over old shards times gave) (over new shards times gave) user q (Some tag) put → KeepsReceipt shards put (record old { seen = new.seen }) new r shown
-    → repeat_of (take r.place (row new.sights r.shard)) put ≡ repeat.New → basis ≡ Some (record { shard = r.shard; place = r.place })
-    → Receives (over old shards times gave) (over new shards times gave) user q (Some tag) r.entry.reply shown basis
-asked_new old new shards times gave user q tag put r shown basis is keeps first rests = record {
-  receipt = r;
-  kept = keeps.kept;
-  put = subst (λ (p : Put). IsPut (over old shards times gave) (over new shards times gave) user q (Some tag) p) (sym keeps.asked) is;
-  first = subst (λ (p : Put). repeat_of (take r.place (row new.sights r.shard)) p ≡ repeat.New) (sym keeps.asked) first;
-  replied = refl;
-  shard = keeps.shard ∙ ap (λ (x : Question). shard_of shards (code_of x)) is.asked;
-  answered = keeps.answered;
-  others = keeps.others;
-  rests = rests;
-}
-
--- one that was asked before
-pub asked_again : (old new : ClerkView) (shards times : ℕ) (gave : ℤ) (user : Name) (q : Question) (tag : Tag) (put : Put) (r : Receipt) (shown : List Entry) (basis : Option Basis)
-    → IsPut (over old shards times gave) (over new shards times gave) user q (Some tag) put → r.shard ≡ shard_of shards (code_of put.question)
-    → Sees shards r.shard (record old { seen = new.seen }) new → IsRepeated put (row new.sights r.shard) r shown → basis ≡ Some (record { shard = r.shard; place = r.place })
-    → Repeats (over old shards times gave) (over new shards times gave) user q (Some tag) r.entry.reply shown basis
-asked_again old new shards times gave user q tag put r shown basis is shard sees again rests =
-    repeated _ _ user q (Some tag) put r shown basis is (ap (λ (v : ClerkView). v.receipts) sees.same) (shard ∙ ap (λ (x : Question). shard_of shards (code_of x)) is.asked)
-    (record { shown = sees.shown; others = sees.others }) again rests
-
--- one whose tag is that of something else
-pub asked_other : (old new : ClerkView) (shards times : ℕ) (gave : ℤ) (user : Name) (q : Question) (tag : Tag) (put : Put)
-    → (basis : Option Basis) → basis ≡ None → IsPut (over old shards times gave) (over new shards times gave) user q (Some tag) put
-    → (let index = shard_of shards (code_of put.question) in Sees shards index (record old { seen = new.seen }) new × (repeat_of (row new.sights index) put ≡ repeat.Other))
-    → (basis ≡ None) × LeavesNone (over old shards times gave) (over new shards times gave) × AsksOther (over old shards times gave) (over new shards times gave) user q (Some tag)
-asked_other old new shards times gave user q tag put basis none is became =
-    let named = ap (λ (x : Question). shard_of shards (code_of x)) is.asked in
-    let sees : SeesShard (over old shards times gave) (shard_of shards (code_of q)) (over new shards times gave) =
-    subst (λ (i : ℕ). SeesShard (over old shards times gave) i (over new shards times gave)) named (record { shown = became.0.shown; others = became.0.others }) in (
-      none,
-      sees_no_less _ _ _ (ap (λ (v : ClerkView). v.receipts) became.0.same) sees,
-      record { put = put; is = is; sees = sees; other = subst (λ (i : ℕ). repeat_of (row new.sights i) put ≡ repeat.Other) named became.1 },
-    )
-
--- a question that the clerk did not put
-turned_by : (old new : DeskView) (user : Name) (other : Type 0) (fault : AskFault) → TurnedAway old.seen new.seen user fault
-    → IsTurned old new user may_put other (turn_of_fault fault)
-turned_by old new user other faults.Nobody reads = reads
-turned_by old new user other faults.Suspended reads = reads
-turned_by old new user other faults.Closed reads = reads
-turned_by old new user other faults.Memory reads = (reads.0, reads.1, refl)
-
--- a question that the clerk did not put leaves all that was seen
-pub turned_away : (old new : DeskView) (user : Name) (other : Type 0) (fault : AskFault) (basis : Option Basis) → basis ≡ None → LeavesNone old new → TurnedAway old.seen new.seen user fault
-    → (basis ≡ None) × LeavesNone old new × IsTurned old new user may_put other (turn_of_fault fault)
-turned_away old new user other fault basis none leaves away = (none, leaves, turned_by old new user other fault away)
-
--- a user whom the directory does not let ask for a report
-pub looked_away : (old new : DeskView) (user : Name) (fault : AskFault) → TurnedAway old.seen new.seen user fault → fault ≢ faults.Memory
-    → IsTurned old new user may_report ⊥ (turn_of_fault fault)
-looked_away old new user faults.Nobody reads looked = reads
-looked_away old new user faults.Suspended reads looked = reads
-looked_away old new user faults.Closed reads looked = reads
-looked_away old new user faults.Memory reads looked = absurd (looked refl)
-
--- a report, or none for want of memory: the clerk looked up who asks, and then at the shard
-pub told_report : (old mid new : DeskView) (user : Name) (actor : Actor) (shard : ℕ) → SeesShard mid shard new
-    → mid.sights ≡ old.sights → mid.receipts ≡ old.receipts → mid.shards ≡ old.shards
-    → Reads old.seen mid.seen user (Known actor) → may_report actor.role ≡ true → new.seen ≡ mid.seen → new.receipts ≡ mid.receipts
-    → LeavesNone old new × IsInRole old new user may_report true × SeesShard old shard new
-told_report old mid new user actor shard sees sights receipts shards reads may seen kept =
-    let from = sees_from old mid new shard sights shards sees in (
-      sees_no_less old new shard (kept ∙ receipts) from,
-      (actor, subst (λ l. Reads old.seen l user (Known actor)) (sym seen) reads, may),
-      from,
-    )
-
--- a user of whom the directory tells no authorisation
-pub no_authorisation : (before after : List Change) (user : Name) (fault : AskFault) → TurnedAway before after user fault → fault ≢ faults.Memory
-    → NamesAuthorisation before after user (Err (turn_of_fault fault))
-no_authorisation before after user faults.Nobody reads looked = reads
-no_authorisation before after user faults.Suspended reads looked = reads
-no_authorisation before after user faults.Closed reads looked = reads
-no_authorisation before after user faults.Memory reads looked = absurd (looked refl)
-
--- after a question was put, more was seen
-receives_grows : (old new : DeskView) (receipt : Receipt) (shown : List Entry) → IsAnswered old.shards (row old.sights receipt.shard) (row new.sights receipt.shard) receipt shown
-    → ((i : ℕ) → i ≢ receipt.shard → row new.sights i ≡ row old.sights i) → (i : ℕ) → IsPrefix (row old.sights i) (row new.sights i)
-receives_grows old new receipt shown answered others i =
-    elim (eqb_tells i receipt.shard) [
-      | inl e ↦
-          let here : IsPrefix (row old.sights receipt.shard) (row new.sights receipt.shard) =
-          prefix_trans (row old.sights receipt.shard) answered.trail (row new.sights receipt.shard) answered.begins (receipt.entry ∷ [], sym answered.seen) in
-          subst (λ j. IsPrefix (row old.sights j) (row new.sights j)) (sym e.1) here
-      | inr e ↦ subst (λ t. IsPrefix (row old.sights i) t) (sym (others i e.1)) (prefix_self (row old.sights i))
+-- more was seen of one shard alone
+one_grows : (old new : DeskView) (shard : ℕ) → IsPrefix (row old.clerk.sights shard) (row new.clerk.sights shard)
+    → ((i : ℕ) → i ≢ shard → row new.clerk.sights i ≡ row old.clerk.sights i) → Grows old new
+one_grows old new shard here others i =
+    elim (eqb_tells i shard) [
+      | inl e ↦ subst (λ j. IsPrefix (row old.clerk.sights j) (row new.clerk.sights j)) (sym e.1) here
+      | inr e ↦ subst (λ t. IsPrefix (row old.clerk.sights i) t) (sym (others i e.1)) (prefix_self (row old.clerk.sights i))
     ]
 
-told_grows : (old new : DeskView) (tag : Option Tag) (what : Asked) (said : Content) (basis : Option Basis) → AnswersTold old tag what said basis new
-    → (i : ℕ) → IsPrefix (row old.sights i) (row new.sights i)
-told_grows old new tag (asked.Question user q) (contents.Replied r shown) basis (inl a) i = receives_grows old new a.receipt shown a.answered a.others i
-told_grows old new tag (asked.Question user q) (contents.Replied r shown) basis (inr a) i = (sees_no_less old new (shard_of old.shards (code_of q)) a.receipts a.sees).sights i
-told_grows old new tag (asked.Question user q) (contents.Reported t) basis a i = absurd a
-told_grows old new tag (asked.Question user q) (contents.Turned t) basis a i = a.1.sights i
-told_grows old new tag (asked.Question user q) (contents.Unread f) basis a i = absurd a
-told_grows old new tag (asked.Question user q) contents.Bye basis a i = absurd a
-told_grows old new tag (asked.Report user c) (contents.Replied r shown) basis a i = absurd a
-told_grows old new tag (asked.Report user c) (contents.Reported t) basis a i = a.1.sights i
-told_grows old new tag (asked.Report user c) (contents.Turned t) basis a i = a.1.sights i
-told_grows old new tag (asked.Report user c) (contents.Unread f) basis a i = absurd a
-told_grows old new tag (asked.Report user c) contents.Bye basis a i = absurd a
+replies_grow : (old : DeskView) (shard : ℕ) (put : Put) (said : Content) (basis : Option Basis) (new : DeskView) → Replies old shard put said basis new → Grows old new
+replies_grow old shard put said basis new is =
+    let a = is.answers in
+    one_grows old new shard (prefix_trans (row old.clerk.sights shard) a.trail (row new.clerk.sights shard) a.shown.begins a.later.begins) (λ i apart. (a.others i apart).0)
+
+admitted_grows : (old : DeskView) (tag : Option Tag) (what : Asked) (moment : ℕ) (actor : Actor) (said : Content) (basis : Option Basis) (new : DeskView)
+    → AnswersAdmitted old tag what moment actor said basis new → Grows old new
+admitted_grows old tag (asked.Question user q) moment actor said basis new (inl is) = replies_grow old _ _ said basis new is
+admitted_grows old tag (asked.Question user q) moment actor said basis new (inr is) = same_grows old new (ap (λ (d : DeskView). d.clerk.sights) is.1)
+admitted_grows old tag (asked.Report user c) moment actor said basis new is = one_grows old new _ is.0.shown.begins is.0.others
 
 -- whatever is asked, what was seen begins what is seen then
-pub grows : (old new : DeskView) (ask : Ask) (said : Content) (basis : Option Basis) → Serves old ask said basis new → (i : ℕ) → IsPrefix (row old.sights i) (row new.sights i)
-grows old new ask said basis serves i =
-    elim serves [
-      | inl stops ↦ subst (λ t. IsPrefix (row old.sights i) (row t i)) (sym stops.0.clock.sights) (prefix_self (row old.sights i))
-      | inr goes ↦ subst (λ t. IsPrefix (row t i) (row new.sights i)) goes.1.clock.sights (told_grows goes.0 new ask.tag ask.asked said basis goes.3 i)
+pub grows : (old : DeskView) (from : Peer) (ask : Ask) (said : Content) (basis : Option Basis) (new : DeskView) → Serves old from ask said basis new → Grows old new
+grows old from ask said basis new serves =
+    elim serves.1 [
+      | inl is ↦ same_grows old new (refused serves.0 old from ask is.0 new is.1)
+      | inr is ↦ (
+          let admitted = is.2 in
+          let same = looked _ _ _ _ _ is.3.knows.looks in
+          let then = admitted_grows admitted ask.tag ask.asked is.0 is.1 said basis new is.4 in
+          λ i. subst (λ t. IsPrefix (row t i) (row new.clerk.sights i)) same (then i))
     ]
 
 -- an answer rests on what was seen
 abbrev Within : DeskView → Option Basis → Type 0
-Within new basis = IfSome basis (λ (b : Basis). b.place < length (row new.sights b.shard))
+Within new basis = IfSome basis (λ (b : Basis). b.place < length (row new.clerk.sights b.shard))
 
 none_within : (new : DeskView) (basis : Option Basis) → basis ≡ None → Within new basis
 none_within new basis e = subst (Within new) (sym e) tt
 
-all_within : (new : DeskView) (shard : ℕ) (basis : Option Basis) → RestsOnAll shard (row new.sights shard) basis → Within new basis
+all_within : (new : DeskView) (shard : ℕ) (basis : Option Basis) → RestsOnAll shard (row new.clerk.sights shard) basis → Within new basis
 all_within new shard None r = tt
-all_within new shard (Some b) r = subst (λ i. b.place < length (row new.sights i)) (sym r.0) (omega (arith, r.1))
+all_within new shard (Some b) r = subst (λ i. b.place < length (row new.clerk.sights i)) (sym r.0) (omega (arith, r.1))
 
-told_within : (old new : DeskView) (tag : Option Tag) (what : Asked) (said : Content) (basis : Option Basis) → AnswersTold old tag what said basis new → Within new basis
-told_within old new tag (asked.Question user q) (contents.Replied r shown) basis (inl a) =
-    let long = ap length a.answered.seen ∙ length-append a.answered.trail (a.receipt.entry ∷ []) in
-    subst (Within new) (sym a.rests) (omega (arith, long, a.answered.next.length))
-told_within old new tag (asked.Question user q) (contents.Replied r shown) basis (inr a) = subst (Within new) (sym a.rests) (slice_get_within (row new.sights (shard_of old.shards (code_of q))) a.place a.entry a.stands)
-told_within old new tag (asked.Question user q) (contents.Reported t) basis a = absurd a
-told_within old new tag (asked.Question user q) (contents.Turned t) basis a = none_within new basis a.0
-told_within old new tag (asked.Question user q) (contents.Unread f) basis a = absurd a
-told_within old new tag (asked.Question user q) contents.Bye basis a = absurd a
-told_within old new tag (asked.Report user c) (contents.Replied r shown) basis a = absurd a
-told_within old new tag (asked.Report user c) (contents.Reported t) basis a = all_within new _ basis a.0
-told_within old new tag (asked.Report user c) (contents.Turned t) basis a = none_within new basis a.0
-told_within old new tag (asked.Report user c) (contents.Unread f) basis a = absurd a
-told_within old new tag (asked.Report user c) contents.Bye basis a = absurd a
+-- the entry that answers a question was seen
+said_within : (new : DeskView) (shard : ℕ) (trail : List Entry) (put : Put) (o : Outcome (Bor Global)) (said : Content) (basis : Option Basis)
+    → Asks trail put (row new.clerk.sights shard) o → Says shard o said basis → Within new basis
+said_within new shard trail put (outcomes.New a) said basis asks says =
+    let long = ap length asks.1.trail ∙ length-append trail (a.entry ∷ []) in
+    subst (Within new) (sym says.1) (omega (arith, long, asks.1.place))
+said_within new shard trail put (outcomes.Again a) said basis asks says =
+    let there = ap (λ t. slice_get t a.place) asks.0 ∙ asks.1.stands in
+    subst (Within new) (sym says.1) (slice_get_within (row new.clerk.sights shard) a.place a.entry there)
+said_within new shard trail put outcomes.Other said basis asks says = none_within new basis says.1
 
-pub reaches : (old new : DeskView) (ask : Ask) (said : Content) (basis : Option Basis) → Serves old ask said basis new → IfSome basis (λ (b : Basis). b.place < length (row new.sights b.shard))
-reaches old new ask said basis serves =
-    elim serves [
-      | inl stops ↦ none_within new basis stops.2
-      | inr goes ↦ told_within goes.0 new ask.tag ask.asked said basis goes.3
+admitted_within : (old : DeskView) (tag : Option Tag) (what : Asked) (moment : ℕ) (actor : Actor) (said : Content) (basis : Option Basis) (new : DeskView)
+    → AnswersAdmitted old tag what moment actor said basis new → Within new basis
+admitted_within old tag (asked.Question user q) moment actor said basis new (inl is) = said_within new _ is.answers.trail _ is.outcome said basis is.answers.asks is.says
+admitted_within old tag (asked.Question user q) moment actor said basis new (inr is) = none_within new basis is.0.1
+admitted_within old tag (asked.Report user c) moment actor said basis new (sees, inl is) = all_within new _ basis is.rests
+admitted_within old tag (asked.Report user c) moment actor said basis new (sees, inr is) = none_within new basis is.1
+
+pub reaches : (old : DeskView) (from : Peer) (ask : Ask) (said : Content) (basis : Option Basis) (new : DeskView) → Serves old from ask said basis new → Within new basis
+reaches old from ask said basis new serves =
+    elim serves.1 [
+      | inl is ↦ none_within new basis is.3
+      | inr is ↦ admitted_within is.2 ask.tag ask.asked is.0 is.1 said basis new is.4
     ]
-
--- a release, after which the clerk has seen more and has no receipts
-pub lets_go : (old new : DeskView) → ((i : ℕ) → IsPrefix (row old.sights i) (row new.sights i)) → new.seen ≡ old.seen → new.receipts ≡ [] → new.shards ≡ old.shards
-    → new.asked ≡ old.asked → new.gave ≡ old.gave → LetsGo old new
-lets_go old new begins seen none shards asked gave = record {
-  sights = begins;
-  same = λ i. record { seen = seen i; sights = new.sights; receipts = none i; shards = shards i; asked = asked i; gave = gave i };
-}
 
 -- what is withheld rests on no more than was seen, where more was seen since
 pub within_more : (reach : List ℕ) (old new : List (List Entry)) → ((i : ℕ) → IsPrefix (row old i) (row new i)) → IsWithin reach old → IsWithin reach new
 within_more reach old new grown within i = omega (arith, within i, prefix_length (row old i) (row new i) (grown i))
+
+-- a release lets the receipts go
+pub lets_go : (was now : ClerkView) (shards : ℕ) (rated : Bool) (times : ℕ) (gave : ℤ) → ((i : ℕ) → IsPrefix (row was.sights i) (row now.sights i))
+    → now ≡ record was { sights = now.sights; receipts = [] }
+    → LetsGo (record { clerk = was; shards = shards; rated = rated; asked = times; gave = gave }) (record { clerk = now; shards = shards; rated = rated; asked = times; gave = gave })
+lets_go was now shards rated times gave begins same = record {
+  sights = begins;
+  same = λ i. record { clerk = same i; shards = shards; rated = rated; asked = times; gave = gave };
+}

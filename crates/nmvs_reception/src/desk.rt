@@ -1,59 +1,72 @@
 //! The program's desk.
-ghost use Rattle.std.specs.Prelude.{◌≡◌, List, Some, length};
-ghost use Rattle.nmvs_messages.specs.declared.answer.Content.TheVariants.{Replied};
+ghost use Rattle.std.specs.Prelude.{◌≡◌, ◌⊎◌, List, true, length, IfSome};
+ghost use Rattle.std.specs.Option.{is_some};
+ghost use Rattle.nmvs_messages.specs.declared.answer.Turn.TheVariants as turns;
 ghost use Rattle.nmvs_rules.specs.declared.entry.Entry.{Entry as TheEntry};
-ghost use Rattle.nmvs_desk.specs.Settlement.{row};
-ghost use Rattle.nmvs_reception.specs.Desk.{turn_of_fault, RestsOnAll};
+ghost use Rattle.nmvs_reception.specs.Desk.{may_ask_this, RestsOnAll, Says};
 
 use crate::Clock;
 use log::{Log, info};
-use nmvs_desk::{AskFault, Clerk, Outcome, Reader, Receipt, Repository, Served};
-use nmvs_directory::{Naming, Notice};
+use nmvs_desk::{Clerk, Reader, Repository};
+use nmvs_directory::{Look, Naming, Notice};
 use nmvs_figures::Tally;
 use nmvs_history::Histories;
-use nmvs_identifier::{Moment, Name, ProductCode, Tag};
+use nmvs_identifier::{Moment, Name, ProductCode};
 use nmvs_journal::{Kept, Store};
 use nmvs_messages::{
-    Ask, Asked, Authorisations, Basis, Content, Desk, Entries, Released, Text, Turn, Withheld,
+    Ask, Asked, Basis, Content, Desk, Entries, Peer, Released, Text, Turn, Withheld,
     WithheldAnswers,
 };
 use nmvs_offices::{Alarm, Evidence, Offices, Reach};
+use nmvs_rate::SharedLimiter;
 use nmvs_record::report;
-use nmvs_rules::{Entry, Question, Reply, may_report};
-use nmvs_shard::Shard;
+use nmvs_rules::{Actor, Entry, Put, Reply, Role, may_report};
+use nmvs_shard::{Answered, Outcome, Shard};
 use nmvs_words::cause_word;
 use std::alloc::{AllocError, Global};
 use std::marker::Model;
+use std::rt;
 use std::sync::{Mutex, Wait};
 
-/// Answers lines by a clerk of a repository, at the moments of a clock, which it asks once a line. Before each line is
-/// answered the clerk learns the latest notice (own).
+/// Answers lines by a clerk of a repository, at the moments of a clock, which it asks once a line. A line is admitted first.
+/// Before that the clerk learns the latest notice (own).
 #[derive(Drop)]
 pub struct ClerkDesk<'r, 'a, R: Wait, J: Naming, H: Histories, K: Clock> {
     rt: &'r R,
     clerk: Clerk<'a, J, H>,
     repository: &'r Repository<'a, H>,
     latest: &'r Mutex<Notice<J>>,
+    limiter: Option<&'r SharedLimiter<Global>>,
     clock: K,
     tally: Tally<'r>,
 }
 
 impl<'r, 'a, R: Wait, J: Naming, H: Histories, K: Clock> Model for ClerkDesk<'r, 'a, R, J, H, K> {
+    ghost use Rattle.std.specs.Option.{is_some};
     ghost use Rattle.nmvs_reception.specs.Desk.{DeskView};
 
     ghost Value = { DeskView };
 
-    ghost view = { λ d. record { seen = d.clerk.seen; sights = d.clerk.sights; receipts = d.clerk.receipts; shards = d.repository.now.shards; asked = K.asked d.clock; gave = K.gave d.clock } };
+    ghost view = { λ d. record { clerk = d.clerk; shards = d.repository.now.shards; rated = is_some d.limiter; asked = K.asked d.clock; gave = K.gave d.clock } };
 }
 
-impl<'r, 'a, R: Wait + Log, J: Naming, H: Histories, K: Clock> ClerkDesk<'r, 'a, R, J, H, K> {
-    ghost use Rattle.std.specs.Prelude.{◌≡◌, pos, IfOk, IfSome, IfNone, string_bytes};
-    ghost use Rattle.std.specs.Prelude.{None, Some};
+impl<'r, 'a, R: Wait + rt::Clock + Log, J: Naming, H: Histories, K: Clock> ClerkDesk<
+    'r,
+    'a,
+    R,
+    J,
+    H,
+    K,
+> {
+    ghost use Rattle.std.specs.Prelude.{◌≡◌, IfOk, IfErr, string_bytes};
+    ghost use Rattle.std.specs.Option.{is_some};
     ghost use Rattle.nmvs_desk.specs.Placing.{shard_of};
-    ghost use mathlib.Core.List.{IsPrefix};
-    ghost use Rattle.nmvs_reception.specs.Desk.{AnswersQuestion, AnswersReport, IsTold, KeepsClock, NamesAuthorisation, Reports, RestsOnAll, SeesShard, Serves, StopsAtClock};
+    ghost use Rattle.nmvs_desk.specs.Settlement.{row};
+    ghost use Rattle.nmvs_record.specs.Report.{report_text};
+    ghost use Rattle.nmvs_reception.specs.Desk.{Admits, AnswersAdmitted, AnswersQuestion, AnswersReport, Refuses, RestsOnAll, SeesShard, Serves};
 
-    /// A desk over a clerk of this repository, and the lock of the latest notice. Its answers are counted on the tally.
+    /// A desk over a clerk of this repository, the lock of the latest notice, and the limiter of the users' rate, if they have
+    /// one. Its answers are counted on the tally.
     ///
     /// Condition: the clerk is one that `open` gave with the repository, which the names of their histories say.
     pub fn new(
@@ -61,21 +74,18 @@ impl<'r, 'a, R: Wait + Log, J: Naming, H: Histories, K: Clock> ClerkDesk<'r, 'a,
         clerk: Clerk<'a, J, H>,
         repository: &'r Repository<'a, H>,
         latest: &'r Mutex<Notice<J>>,
+        limiter: Option<&'r SharedLimiter<Global>>,
         clock: K,
         tally: Tally<'r>,
     ) -> ClerkDesk<'r, 'a, R, J, H, K>
-        ensures seen { result.seen ≡ clerk.entry.seen }
-        ensures sights { result.sights ≡ clerk.entry.sights }
-        ensures receipts { result.receipts ≡ clerk.entry.receipts }
-        ensures shards { result.shards ≡ repository.now.shards }
-        ensures asked { result.asked ≡ K.asked clock }
-        ensures gave { result.gave ≡ K.gave clock }
+        ensures { result ≡ record { clerk = clerk.entry; shards = repository.now.shards; rated = is_some limiter.entry; asked = K.asked clock; gave = K.gave clock } }
     {
         ClerkDesk {
             rt,
             clerk,
             repository,
             latest,
+            limiter,
             clock,
             tally,
         }
@@ -85,139 +95,107 @@ impl<'r, 'a, R: Wait + Log, J: Naming, H: Histories, K: Clock> ClerkDesk<'r, 'a,
     pub fn into_clerk(self) -> Clerk<'a, J, H>
     where
         K: Drop,
-        ensures seen { result.seen ≡ self.entry.seen }
-        ensures sights { result.sights ≡ self.entry.sights }
-        ensures receipts { result.receipts ≡ self.entry.receipts }
+        ensures { result ≡ self.entry.clerk }
     {
         self.clerk
     }
 
-    /// The moment of the next line, where the clock gives one. The clerk then learns the latest notice: it waits for the
-    /// notice's lock, and lets it go.
-    fn next_moment(&mut self) -> Option<Moment>
-        ensures none { IfNone result (StopsAtClock self.old self.new) }
-        ensures some { IfSome result (λ moment. (pos moment ≡ self.new.gave) × IsTold self.old self.new) }
+    /// The answer to a line of this peer, and on what it rests. It waits for the notice's lock, and lets it go.
+    pub(crate) fn answer(&mut self, from: &Peer, ask: &Ask) -> (Content<'a>, Option<Basis>)
+        ensures { Serves self.old from.now ask.now result.0 result.1 self.new }
     {
-        let moment = Moment::new(self.clock.seconds())?;
-        self.clerk.learn(&*self.latest.lock(self.rt));
-        Some(moment)
-    }
-
-    /// Has the clerk learn the latest notice: it waits for the notice's lock, and lets it go.
-    fn learn_latest(&mut self)
-        ensures seen { IsPrefix self.old.seen self.new.seen }
-        ensures same { self.new ≡ record self.old { seen = self.new.seen } }
-    {
-        self.clerk.learn(&*self.latest.lock(self.rt));
-    }
-
-    /// The authorisation of a user by the directory, or why a line of the user is turned away.
-    #[tactic(auto, using(crate::proofs::DeskTurns::no_authorisation))]
-    fn look_up(&mut self, user: &Name) -> Result<Name, Turn>
-        ensures tells { NamesAuthorisation self.old.seen self.new.seen user.now result }
-        ensures same { self.new ≡ record self.old { seen = self.new.seen } }
-    {
-        match self.clerk.actor_of(user) {
-            Ok(actor) => Ok(actor.authorisation),
-            Err(fault) => Err(turn_by(fault)),
+        let notice = self.latest.lock(self.rt).again();
+        match self.admit(&notice, from, ask) {
+            Ok((moment, actor)) => self.answer_admitted(moment, actor, ask),
+            Err(turn) => (Content::Turned(turn), None),
         }
     }
 
-    /// The answer to a line, and on what it rests.
-    pub(crate) fn answer(&mut self, ask: &Ask) -> (Content<'a>, Option<Basis>)
-        ensures { Serves self.old ask.now result.0 result.1 self.new }
+    /// Admits a line, or tells why it is turned away. It looks at these, in this order: whether the clock gives a moment; whether
+    /// the directory knows the user, looked up once, after the clerk has learnt the latest notice; whether the peer may speak for
+    /// the user; whether the line is within the user's rate, for which it waits for the limiter's lock; and whether the user's
+    /// role gets the report that it asks for.
+    fn admit(&mut self, notice: &Notice<J>, from: &Peer, ask: &Ask) -> Result<(Moment, Actor), Turn>
+        ensures admits { IfOk result (λ r. Admits notice.now self.old from.now ask.now r.0 r.1 self.new) }
+        ensures refuses { IfErr result (λ turn. Refuses notice.now self.old from.now ask.now turn self.new) }
     {
-        let Some(moment) = self.next_moment() else {
-            return (Content::Turned(Turn::Clock), None);
+        let Some(moment) = Moment::new(self.clock.seconds()) else {
+            return Err(Turn::Clock);
         };
+        self.clerk.learn(notice);
+        let user = ask.user();
+        let actor = match self.clerk.look(user) {
+            Look::Known(actor) => actor,
+            Look::Nobody => return Err(Turn::Nobody),
+            Look::Suspended => return Err(Turn::Suspended),
+            Look::Closed => return Err(Turn::Closed),
+        };
+        if !from.speaks_for(user, &actor.authorisation) {
+            return Err(Turn::Nobody);
+        }
+        if let Some(turn) = turn_by_rate(self.rt, self.limiter, user) {
+            return Err(turn);
+        }
+        if !may_ask_this(&ask.asked, actor.role) {
+            return Err(Turn::Role);
+        }
+        Ok((moment, actor))
+    }
+
+    /// The answer to a line that was admitted, and on what it rests.
+    fn answer_admitted(
+        &mut self,
+        moment: Moment,
+        actor: Actor,
+        ask: &Ask,
+    ) -> (Content<'a>, Option<Basis>)
+        ensures { AnswersAdmitted self.old ask.now.tag ask.now.asked moment actor result.0 result.1 self.new }
+    {
         match &ask.asked {
-            Asked::Question(user, question) => match ask.tag {
-                None => self.ask(moment, user, question),
-                Some(tag) => self.ask_once(moment, user, question, tag),
-            },
-            Asked::Report(user, code) => self.report(user, code),
+            Asked::Question(user, question) => self.ask(&Put {
+                moment,
+                user: *user,
+                actor,
+                question: *question,
+                tag: ask.tag,
+            }),
+            Asked::Report(_, code) => self.report(code),
         }
     }
 
-    /// Puts a question without a tag by the clerk, at the moment that the clock gave.
-    fn ask(
-        &mut self,
-        moment: Moment,
-        user: &Name,
-        question: &Question,
-    ) -> (Content<'a>, Option<Basis>)
-        requires { pos moment ≡ self.old.gave }
-        ensures clock { KeepsClock self.old self.new }
-        ensures answers { AnswersQuestion self.old user.now question.now None result.0 result.1 self.new }
+    /// Asks a question by the clerk, and counts it where it was put.
+    fn ask(&mut self, put: &Put) -> (Content<'a>, Option<Basis>)
+        ensures { AnswersQuestion self.old put.now result.0 result.1 self.new }
     {
         let (rt, repository) = (self.rt, self.repository);
-        match self.clerk.ask(rt, repository, moment, user, question) {
-            Ok(served) => {
-                note_put(rt, &self.tally, &served.receipt);
-                replied(served)
+        let shard = repository.shard_of(&put.question.code());
+        match self.clerk.ask(rt, repository, put) {
+            Ok(outcome) => {
+                note_put(rt, &self.tally, shard, &outcome);
+                answer_by(shard, outcome)
             }
-            Err(fault) => (Content::Turned(turn_by(fault)), None),
+            Err(AllocError) => (Content::Turned(Turn::Memory), None),
         }
     }
 
-    /// Asks a question with a tag by the clerk, at the moment that the clock gave: it is put where it was not asked before.
-    fn ask_once(
-        &mut self,
-        moment: Moment,
-        user: &Name,
-        question: &Question,
-        tag: Tag,
-    ) -> (Content<'a>, Option<Basis>)
-        requires { pos moment ≡ self.old.gave }
-        ensures clock { KeepsClock self.old self.new }
-        ensures answers { AnswersQuestion self.old user.now question.now (Some tag) result.0 result.1 self.new }
+    /// Reports on a product code. It waits for the code's shard, and nothing is recorded.
+    fn report(&mut self, code: &ProductCode) -> (Content<'a>, Option<Basis>)
+        ensures { AnswersReport self.old code.now result.0 result.1 self.new }
     {
-        let (rt, repository) = (self.rt, self.repository);
-        match self
-            .clerk
-            .ask_once(rt, repository, moment, user, question, tag)
-        {
-            Ok(Outcome::New(served)) => {
-                note_put(rt, &self.tally, &served.receipt);
-                replied(served)
+        match self.report_on(code) {
+            Ok((text, basis)) => {
+                self.tally.note_report();
+                (Content::Reported(Text::new(text)), basis)
             }
-            Ok(Outcome::Again(served)) => replied(served),
-            Ok(Outcome::Other) => (Content::Turned(Turn::Tag), None),
-            Err(fault) => (Content::Turned(turn_by(fault)), None),
-        }
-    }
-
-    /// Reports on a product code to those who may have it. It waits for the code's shard, and leaves no receipt.
-    #[tactic(auto, using(crate::proofs::DeskTurns::looked_away, crate::proofs::DeskTurns::stays))]
-    fn report(&mut self, user: &Name, code: &ProductCode) -> (Content<'a>, Option<Basis>)
-        ensures clock { KeepsClock self.old self.new }
-        ensures answers { AnswersReport self.old user.now code.now result.0 result.1 self.new }
-    {
-        match self.clerk.actor_of(user) {
-            Err(fault) => (Content::Turned(turn_by(fault)), None),
-            Ok(actor) => if may_report(actor.role) {
-                match self.report_on(code) {
-                    Ok((text, basis)) => {
-                        self.tally.note_report();
-                        (Content::Reported(Text::new(text)), basis)
-                    }
-                    Err(_) => (Content::Turned(Turn::Memory), None),
-                }
-            } else {
-                (Content::Turned(Turn::Role), None)
-            },
+            Err(AllocError) => (Content::Turned(Turn::Memory), None),
         }
     }
 
     /// The report of a product code, by its shard, on all of whose trail it rests.
-    #[tactic(auto, using(crate::proofs::DeskTurns::sees, crate::proofs::DeskTurns::reports))]
     fn report_on(&mut self, code: &ProductCode) -> Result<(String, Option<Basis>), AllocError>
-        ensures clock { KeepsClock self.old self.new }
-        ensures seen { self.new.seen ≡ self.old.seen }
-        ensures receipts { self.new.receipts ≡ self.old.receipts }
         ensures sees { SeesShard self.old (shard_of self.old.shards code.now) self.new }
-        ensures reports { IfOk result (λ told. Reports self.new code.now (string_bytes told.0)) }
-        ensures rests { IfOk result (λ told. RestsOnAll (shard_of self.new.shards code.now) (row self.new.sights (shard_of self.new.shards code.now)) told.1) }
+        ensures reports { IfOk result (λ r. string_bytes r.0 ≡ report_text (row self.new.clerk.sights (shard_of self.old.shards code.now)) code.now) }
+        ensures rests { IfOk result (λ r. RestsOnAll (shard_of self.old.shards code.now) (row self.new.clerk.sights (shard_of self.old.shards code.now)) r.1) }
     {
         let (rt, repository) = (self.rt, self.repository);
         let alloc = *self.clerk.allocator();
@@ -228,7 +206,14 @@ impl<'r, 'a, R: Wait + Log, J: Naming, H: Histories, K: Clock> ClerkDesk<'r, 'a,
     }
 }
 
-impl<'r, 'a, R: Wait + Log, J: Naming, H: Histories, K: Clock> ClerkDesk<'r, 'a, R, J, H, K> {
+impl<'r, 'a, R: Wait + rt::Clock + Log, J: Naming, H: Histories, K: Clock> ClerkDesk<
+    'r,
+    'a,
+    R,
+    J,
+    H,
+    K,
+> {
     ghost use Rattle.nmvs_messages.specs.Withheld.{AreReleased};
     ghost use Rattle.nmvs_offices.specs.Told.{AreKept, IsTold, IsWithin};
     ghost use Rattle.nmvs_reception.specs.Desk.{LetsGo};
@@ -241,10 +226,10 @@ impl<'r, 'a, R: Wait + Log, J: Naming, H: Histories, K: Clock> ClerkDesk<'r, 'a,
         withheld: &'h mut WithheldAnswers<'a>,
         alarm: &L,
     ) -> (Released<'h, 'a>, Evidence)
-        requires seen { IsWithin reach.old self.old.sights }
+        requires seen { IsWithin reach.old self.old.clerk.sights }
         ensures reach { (sights : List (List TheEntry)) → IsWithin reach.new sights }
         ensures released { AreReleased (IsTold result.1.items) withheld.old result.0 }
-        ensures kept { AreKept result.1.items self.old.sights }
+        ensures kept { AreKept result.1.items self.old.clerk.sights }
         ensures moves { LetsGo self.old self.new }
     {
         let (released, kept) = offices.release(self.rt, &mut self.clerk, reach, withheld, alarm);
@@ -253,25 +238,57 @@ impl<'r, 'a, R: Wait + Log, J: Naming, H: Histories, K: Clock> ClerkDesk<'r, 'a,
     }
 }
 
-/// The reply of an entry, with what it shows, and the entry as that on which it rests.
-fn replied<'a>(served: Served<'a>) -> (Content<'a>, Option<Basis>)
-    ensures { result ≡ (Replied served.entry.receipt.entry.reply served.entry.shown.items, Some (record { shard = served.entry.receipt.shard; place = served.entry.receipt.place })) }
+/// Why the rate turns a line of this user away, or None where it does not: each line passes where there is no limiter. It waits
+/// for the limiter's lock.
+fn turn_by_rate<R: Wait + rt::Clock>(
+    rt: &R,
+    limiter: Option<&SharedLimiter<Global>>,
+    user: &Name,
+) -> Option<Turn>
+    ensures { IfSome result (λ turn. (is_some limiter.entry ≡ true) × ((turn ≡ turns.Rate) ⊎ (turn ≡ turns.Memory))) }
 {
-    let Served { receipt, shown } = served;
-    let basis = Basis {
-        shard: receipt.shard,
-        place: receipt.place,
-    };
-    (
-        Content::Replied(receipt.entry.reply, Entries::new(shown)),
-        Some(basis),
-    )
+    match nmvs_rate::admit(rt, limiter, user) {
+        Ok(true) => None,
+        Ok(false) => Some(Turn::Rate),
+        Err(AllocError) => Some(Turn::Memory),
+    }
+}
+
+/// Whether who has this role may ask this: each may put a question, since a refusal is a reply.
+fn may_ask_this(asked: &Asked, role: Role) -> bool
+    ensures { result ≡ may_ask_this asked.now role }
+{
+    match asked {
+        Asked::Question(..) => true,
+        Asked::Report(..) => may_report(role),
+    }
+}
+
+/// What is said of an outcome in the shard of this number, and on what that rests.
+fn answer_by<'a>(shard: usize, outcome: Outcome<&'a Global>) -> (Content<'a>, Option<Basis>)
+    ensures { Says shard outcome.entry result.0 result.1 }
+{
+    match outcome {
+        Outcome::New(answered) | Outcome::Again(answered) => {
+            let Answered {
+                place,
+                entry,
+                shown,
+            } = answered;
+            let content = Content::Replied(entry.reply, Entries::new(shown));
+            (content, Some(Basis { shard, place }))
+        }
+        Outcome::Other => (Content::Turned(Turn::Tag), None),
+    }
 }
 
 /// Counts a question that was put, and logs an alert that is flagged as a potential falsification (Article 36).
-fn note_put<R: Log>(rt: &R, tally: &Tally<'_>, receipt: &Receipt) {
-    let Entry { put, reply } = &receipt.entry;
-    tally.note_put(receipt.shard, &put.question, reply);
+fn note_put<R: Log>(rt: &R, tally: &Tally<'_>, shard: usize, outcome: &Outcome<&Global>) {
+    let Outcome::New(answered) = outcome else {
+        return;
+    };
+    let Entry { put, reply } = &answered.entry;
+    tally.note_put(shard, &put.question, reply);
     if let Reply::Alert {
         cause,
         flagged: true,
@@ -305,18 +322,6 @@ fn basis_of(shard: usize, count: usize) -> Option<Basis>
     })
 }
 
-/// Why the line of a question is turned away.
-fn turn_by(fault: AskFault) -> Turn
-    ensures { result ≡ turn_of_fault fault }
-{
-    match fault {
-        AskFault::Nobody => Turn::Nobody,
-        AskFault::Suspended => Turn::Suspended,
-        AskFault::Closed => Turn::Closed,
-        AskFault::Memory => Turn::Memory,
-    }
-}
-
 /// Makes the report of a product code from a shard that is held, and counts the entries of its trail.
 #[derive(Clone, Copy)]
 struct ReportOf<'c> {
@@ -338,7 +343,7 @@ impl<'a, 'c> Reader<Shard<&'a Global>> for ReportOf<'c> {
     }
 }
 
-impl<'r, 'a, R: Wait + Log, J: Naming, H: Histories, K: Clock> Desk<'a>
+impl<'r, 'a, R: Wait + rt::Clock + Log, J: Naming, H: Histories, K: Clock> Desk<'a>
     for ClerkDesk<'r, 'a, R, J, H, K> {
     ghost use Rattle.nmvs_messages.specs.Withheld.{AtOnce, Stays};
     ghost use Rattle.nmvs_reception.specs.Desk.{Takes};
@@ -351,24 +356,12 @@ impl<'r, 'a, R: Wait + Log, J: Naming, H: Histories, K: Clock> Desk<'a>
 
     ghost moves = { Stays };
 
-    fn take(&mut self, ask: &Ask) -> Withheld<'a> {
-        let (content, basis) = self.answer(ask);
+    fn take(&mut self, from: &Peer, ask: &Ask) -> Withheld<'a> {
+        let (content, basis) = self.answer(from, ask);
         Withheld::resting_on(basis, content)
     }
 
     fn release<'h>(&mut self, withheld: &'h mut WithheldAnswers<'a>) -> (Released<'h, 'a>, ()) {
         (withheld.release(), ())
-    }
-}
-
-impl<'r, 'a, R: Wait + Log, J: Naming, H: Histories, K: Clock> Authorisations
-    for ClerkDesk<'r, 'a, R, J, H, K> {
-    ghost use Rattle.nmvs_reception.specs.Desk.{Tells};
-
-    ghost tells = { Tells };
-
-    fn authorisation_of(&mut self, user: &Name) -> Result<Name, Turn> {
-        self.learn_latest();
-        self.look_up(user)
     }
 }

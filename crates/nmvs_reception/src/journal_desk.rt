@@ -6,11 +6,11 @@ use log::Log;
 use nmvs_desk::Clerk;
 use nmvs_directory::Naming;
 use nmvs_history::Histories;
-use nmvs_identifier::Name;
 use nmvs_journal::Store;
-use nmvs_messages::{Ask, Authorisations, Desk, Released, Turn, Withheld, WithheldAnswers};
+use nmvs_messages::{Ask, Desk, Peer, Released, Withheld, WithheldAnswers};
 use nmvs_offices::{Alarm, Evidence, Offices, Reach};
 use std::marker::Model;
+use std::rt;
 use std::sync::Wait;
 
 /// Answers lines as a clerk's desk does, and lets an answer be told only once the journals have confirmed the lines of the
@@ -43,7 +43,7 @@ impl<'r, 'v, 'f, 'a, R: Wait, J: Naming, H: Histories, K: Clock, D: Store, L: Al
 
     ghost view = { λ d. d.desk };
 
-    ghost invariant = { λ d. IsWithin d.reach d.desk.sights };
+    ghost invariant = { λ d. IsWithin d.reach d.desk.clerk.sights };
 }
 
 impl<
@@ -51,7 +51,7 @@ impl<
     'v,
     'f,
     'a,
-    R: Wait + Log,
+    R: Wait + rt::Clock + Log,
     J: Naming,
     H: Histories,
     K: Clock,
@@ -79,9 +79,7 @@ impl<
     where
         K: Drop,
         L: Drop,
-        ensures seen { result.seen ≡ self.entry.seen }
-        ensures sights { result.sights ≡ self.entry.sights }
-        ensures receipts { result.receipts ≡ self.entry.receipts }
+        ensures { result ≡ self.entry.clerk }
     {
         self.desk.into_clerk()
     }
@@ -92,7 +90,7 @@ impl<
     'v,
     'f,
     'a,
-    R: Wait + Log,
+    R: Wait + rt::Clock + Log,
     J: Naming,
     H: Histories,
     K: Clock,
@@ -106,12 +104,12 @@ impl<
 
     ghost takes = { Takes };
 
-    ghost releases = { λ desk kept withheld said. IsTold kept.items withheld said × AreKept kept.items desk.sights };
+    ghost releases = { λ desk kept withheld said. IsTold kept.items withheld said × AreKept kept.items desk.clerk.sights };
 
     ghost moves = { LetsGo };
 
-    fn take(&mut self, ask: &Ask) -> Withheld<'a> {
-        let (answer, basis) = self.desk.answer(ask);
+    fn take(&mut self, from: &Peer, ask: &Ask) -> Withheld<'a> {
+        let (answer, basis) = self.desk.answer(from, ask);
         self.reach.note(basis);
         Withheld::resting_on(basis, answer)
     }
@@ -122,26 +120,5 @@ impl<
     ) -> (Released<'h, 'a>, Evidence) {
         self.desk
             .release_by(self.offices, &mut self.reach, withheld, &self.alarm)
-    }
-}
-
-impl<
-    'r,
-    'v,
-    'f,
-    'a,
-    R: Wait + Log,
-    J: Naming,
-    H: Histories,
-    K: Clock,
-    D: Store,
-    L: Alarm,
-> Authorisations for JournalDesk<'r, 'v, 'f, 'a, R, J, H, K, D, L> {
-    ghost use Rattle.nmvs_reception.specs.Desk.{Tells};
-
-    ghost tells = { Tells };
-
-    fn authorisation_of(&mut self, user: &Name) -> Result<Name, Turn> {
-        self.desk.authorisation_of(user)
     }
 }

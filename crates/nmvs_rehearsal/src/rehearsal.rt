@@ -9,7 +9,7 @@ ghost use Rattle.nmvs_rehearsal.specs.Rehearsal.{Rehearsal, Takes};
 use crate::roster::actor_of;
 use nmvs_identifier::{Moment, Name, ProductCode, Tag};
 use nmvs_messages::{
-    Ask, Asked, Content, Desk, End, Entries, Released, SESSION_LIMITS, Text, Turn, Withheld,
+    Ask, Asked, Content, Desk, End, Entries, Peer, Released, SESSION_LIMITS, Text, Turn, Withheld,
     WithheldAnswers,
 };
 use nmvs_protocol::serve;
@@ -26,7 +26,7 @@ const NO_SECRET: u64 = 0;
 /// 1 January 2026, 00:00:00 UTC (own).
 const NEW_YEAR: i64 = 1_767_225_600;
 
-/// One session over one empty shard, with eight users of its own (own).
+/// One session of anyone over one empty shard, with eight users of its own (own).
 ///
 /// The first line that reaches the desk is judged at the first moment, the next at the second and so on, and all later
 /// ones at the last. At most 10,000 lines are answered and 4,000,000 reads made.
@@ -47,7 +47,14 @@ pub fn rehearse<R: Source, W: Sink>(
         shard: Shard::new(&alloc, HashKey::of(NO_SECRET)),
         moments,
     };
-    serve(alloc, source, sink, &mut desk, SESSION_LIMITS)
+    serve(
+        alloc,
+        source,
+        sink,
+        &Peer::Anyone,
+        &mut desk,
+        SESSION_LIMITS,
+    )
 }
 
 /// The rehearsal of a program: each of its lines is judged at 1 January 2026, 00:00:00 UTC (own).
@@ -156,13 +163,14 @@ impl<'a> Desk<'a> for RehearsalDesk<'a> {
 
     type Evidence = ();
 
-    ghost takes = { Takes };
+    ghost takes = { λ old from ask withheld new. Takes old ask withheld new };
 
     ghost releases = { AtOnce };
 
     ghost moves = { Stays };
 
-    fn take(&mut self, ask: &Ask) -> Withheld<'a> {
+    /// Whoever asks is believed.
+    fn take(&mut self, _from: &Peer, ask: &Ask) -> Withheld<'a> {
         let moment = self.next_moment();
         Withheld::new(match &ask.asked {
             Asked::Question(user, question) => self.judge(moment, user, ask.tag, question),

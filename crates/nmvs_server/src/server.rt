@@ -38,7 +38,7 @@ pub(crate) struct Shared<'s, 'f, 'r, 'o, R, J: Naming, H: Histories> {
     /// Where answers wait for the journals, where there are journals.
     pub(crate) offices: &'s Option<Offices<'f, 'r, JournalStore<'r>, H>>,
     /// How much each user may still ask, where there is a rate.
-    pub(crate) rates: &'s Option<SharedRates<Global>>,
+    pub(crate) limiter: &'s Option<SharedLimiter<Global>>,
     /// Whether the workers may begin: it is locked until all of them are there.
     pub(crate) ready: &'s Mutex<bool>,
 }

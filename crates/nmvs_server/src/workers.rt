@@ -12,10 +12,8 @@ use nmvs_desk::Clerk;
 use nmvs_directory::{Naming, Registrar};
 use nmvs_history::Histories;
 use nmvs_kept_users::KeptUsers;
-use nmvs_messages::{Authorisations, Desk};
+use nmvs_messages::Desk;
 use nmvs_operator::{Latest, Options, obey_all};
-use nmvs_protocol::OwnDesk;
-use nmvs_rate::{Gate, RatedDesk};
 use nmvs_reception::{ClerkDesk, JournalDesk, ProgramClock};
 use nmvs_stream::{Console, Sides, Sink, deliver};
 use std::alloc::{AllocError, Global};
@@ -52,18 +50,18 @@ fn work<'r, R: Wait + Clock + Log, J: Naming, H: Histories>(
     shared: &Shared<'_, '_, 'r, '_, R, J, H>,
     clerk: Clerk<'r, J, H>,
     number: usize,
-    station: Station,
+    poller: Poller,
 ) -> Clerk<'r, J, H> {
     if !may_begin(shared) {
         return clerk;
     }
     let desk = desk_of(shared.server, clerk, number);
     match shared.offices {
-        None => serve_by_desk(shared, number, station, desk).into_clerk(),
+        None => serve_by_desk(shared, number, poller, desk).into_clerk(),
         Some(offices) => {
             let alarm = JournalAlarm::new(shared.server.config);
             let desk = JournalDesk::new(desk, offices, alarm);
-            serve_by_desk(shared, number, station, desk).into_clerk()
+            serve_by_desk(shared, number, poller, desk).into_clerk()
         }
     }
 }
@@ -96,10 +94,10 @@ fn desk_of<'s, 'r, R: Wait + Clock + Log, J: Naming, H: Histories>(
 
 /// Serves connections by a desk, each user within the rate, and gives the desk back. Where it can't go on it ends the
 /// service.
-fn serve_by_desk<'r, R: Wait + Clock + Log, J: Naming, H: Histories, D: Desk<'r> + Authorisations>(
+fn serve_by_desk<'r, R: Wait + Clock + Log, J: Naming, H: Histories, D: Desk<'r>>(
     shared: &Shared<'_, '_, 'r, '_, R, J, H>,
     number: usize,
-    station: Station,
+    poller: Poller,
     desk: D,
 ) -> D {
     let run = &shared.server.config.run;
@@ -107,7 +105,7 @@ fn serve_by_desk<'r, R: Wait + Clock + Log, J: Naming, H: Histories, D: Desk<'r>
     if serve(run.rt, *run.alloc, shared.hall, number, station, &mut own).is_err() {
         shared.hall.stop(run.rt);
     }
-    own.into_desk().into_desk()
+    desk
 }
 
 /// Accepts connections for the workers. Where it can't go on it ends the service.
@@ -123,7 +121,7 @@ fn keep_door<R: Wait + Log, J: Naming, H: Histories>(
 }
 
 /// Serves connections in as many threads as there are clerks, accepts them in one more, and carries out the operator's
-/// commands in this one. It returns the clerks once the commands have ended and the hall has closed.
+/// commands in this one. It returns the clerks once the commands have ended and the pool has closed.
 ///
 /// # Errors
 ///
@@ -151,7 +149,7 @@ pub(crate) fn serve_connections<
         // room for the clerks is made before anything is served, so that no trail is lost for want of it
         let mut back = Vec::with_capacity(run.alloc, clerks.len())?;
         let mut number = 0usize;
-        for (clerk, station) in clerks.into_iter().zip(stations) {
+        for (clerk, poller) in clerks.into_iter().zip(pollers) {
             let place = number;
             let kept = match scope.spawn(move || work(shared, clerk, place, station)) {
                 Ok(worker) => workers.push(worker).or(Err(AllocError)),
@@ -169,7 +167,7 @@ pub(crate) fn serve_connections<
         for worker in workers {
             back.push(worker.join(run.rt))?;
         }
-        doorkeeper.join(run.rt);
+        accepting.join(run.rt);
         Ok(back)
     })
 }

@@ -7,7 +7,7 @@ ghost use Rattle.nmvs_desk.specs.Settlement.{row};
 
 use crate::market::{actor, name, new_year, put, upload};
 use nmvs_desk::{Clerk, Keepers, MOST_CLERKS, Repository, Settled, settle};
-use nmvs_directory::{Directory, Naming, Registrar, Window};
+use nmvs_directory::{Directory, Look, Naming, Registrar, Window};
 use nmvs_history::Histories;
 use nmvs_identifier::{Moment, Name};
 use nmvs_rules::{Put, Question};
@@ -61,7 +61,7 @@ fn append<'a, B: Allocator>(
     ensures placed { OnOk result ((i : ℕ) → IsPlaced (vec_len shards.old) i (row shards.new.items i)) }
 {
     let index = shard_number(&put.question.code(), shards.len());
-    shards[index].step(put)?;
+    shards[index].ask(put)?;
     Ok(())
 }
 
@@ -105,6 +105,26 @@ pub struct Errand {
     pub times: u64,
 }
 
+/// A question of a user, in the capacity that the clerk's directory gives.
+pub fn put_of<'a, J: Naming, H: Histories, B: Allocator>(
+    rt: &impl Abort,
+    clerk: &mut Clerk<'a, J, H, B>,
+    moment: Moment,
+    user: &Name,
+    question: &Question,
+) -> Put {
+    let Look::Known(actor) = clerk.look(user) else {
+        panic!(rt; "nobody knows the user");
+    };
+    Put {
+        moment,
+        user: *user,
+        actor,
+        question: *question,
+        tag: None,
+    }
+}
+
 /// Puts the questions of an errand.
 fn run<'a, J: Naming, H: Histories, R: Wait + Abort>(
     place: &Place<'_, 'a, R, H>,
@@ -113,8 +133,8 @@ fn run<'a, J: Naming, H: Histories, R: Wait + Abort>(
 ) {
     let (rt, repository, moment) = (place.rt, place.repository, place.moment);
     for _ in 0..errand.times {
-        let answer = clerk.ask(rt, repository, moment, &errand.user, &errand.question);
-        answer.expect(rt, "an answer");
+        let put = put_of(rt, clerk, moment, &errand.user, &errand.question);
+        clerk.ask(rt, repository, &put).expect(rt, "an answer");
     }
 }
 

@@ -6,18 +6,15 @@ ghost use Rattle.nmvs_desk.specs.Placing.{IsPlaced};
 ghost use Rattle.nmvs_desk.specs.Settlement.{row};
 
 use crate::asking::{Copied, Line};
-use crate::crew::{enrol_all, shards_with};
+use crate::crew::{enrol_all, put_of, shards_with};
 use crate::market::{P, Q, audit, authentic, name, new_year, upload, verify};
 use linked_list_allocator::LocalHeap;
-use nmvs_desk::{
-    AskFault, Clerk, Keepers, MOST_CLERKS, OpenFault, Outcome, Repository, Settled, Unsettled,
-    settle,
-};
+use nmvs_desk::{Clerk, Keepers, MOST_CLERKS, OpenFault, Repository, Settled, Unsettled, settle};
 use nmvs_directory::{Directory, Naming, Window};
 use nmvs_history::Histories;
 use nmvs_identifier::Tag;
-use nmvs_rules::{Entry, Reply};
-use nmvs_shard::Shard;
+use nmvs_rules::{Entry, Put, Reply};
+use nmvs_shard::{Outcome, Shard};
 use std::alloc::{AllocError, Global};
 use std::marker::Brand;
 use std::process::Abort;
@@ -74,14 +71,15 @@ fn is_answered<'a, J: Naming, H: Histories, R: Wait + Abort>(
 ) -> bool {
     let receipts = clerk.receipts().len();
     let before = first_trail(rt, alloc, repository, clerk);
-    match clerk.ask(rt, repository, new_year(rt), &line.user, &line.question) {
-        Ok(served) => {
-            assert_eq!(rt; served.receipt.entry.reply, line.reply);
-            assert_eq!(rt; (served.receipt.shard, served.receipt.place), (0, receipts));
+    let put = put_of(rt, clerk, new_year(rt), &line.user, &line.question);
+    match clerk.ask(rt, repository, &put) {
+        Ok(Outcome::New(answered)) => {
+            assert_eq!(rt; answered.entry.reply, line.reply);
+            assert_eq!(rt; answered.place, receipts);
             true
         }
-        Err(fault) => {
-            assert_eq!(rt; fault, AskFault::Memory);
+        Ok(Outcome::Again(_) | Outcome::Other) => panic!(rt; "not put"),
+        Err(_) => {
             assert!(rt; first_trail(rt, alloc, repository, clerk) == before);
             false
         }
@@ -120,19 +118,20 @@ fn is_shown<'a, J: Naming, H: Histories, R: Wait + Abort>(
 ) -> bool {
     let tag = Tag::read("a17").expect(rt, "a tag");
     let (user, question) = (name(rt, "au1"), audit(rt, P));
-    match clerk.ask_once(rt, repository, new_year(rt), &user, &question, tag) {
-        Ok(Outcome::New(served) | Outcome::Again(served)) => {
+    let put = Put {
+        tag: Some(tag),
+        ..put_of(rt, clerk, new_year(rt), &user, &question)
+    };
+    match clerk.ask(rt, repository, &put) {
+        Ok(Outcome::New(answered) | Outcome::Again(answered)) => {
             assert_eq!(rt;
-                (served.receipt.place, served.shown.len()),
+                (answered.place, answered.shown.len()),
                 (SHOWN_AT, SHOWN_AT)
             );
             true
         }
         Ok(Outcome::Other) => panic!(rt; "another question"),
-        Err(fault) => {
-            assert_eq!(rt; fault, AskFault::Memory);
-            false
-        }
+        Err(_) => false,
     }
 }
 

@@ -1,12 +1,13 @@
 //! Questions with a tag, which several clerks ask.
 
-use crate::crew::{Crew, Place, Stage, play};
+use crate::crew::{Crew, Place, Stage, play, put_of};
 use crate::market::{P, USERS, decommission, name, verify};
-use nmvs_desk::{Clerk, Outcome, Receipt};
+use nmvs_desk::Clerk;
 use nmvs_directory::Naming;
 use nmvs_history::Histories;
 use nmvs_identifier::{Name, Tag};
-use nmvs_rules::{Question, Reason, Reply};
+use nmvs_rules::{Entry, Put, Question, Reason, Reply};
+use nmvs_shard::Outcome;
 use std::process::Abort;
 use std::rt::HostRuntime;
 use std::sync::Wait;
@@ -21,17 +22,25 @@ struct SameTag {
 }
 
 impl SameTag {
-    /// The receipt of the entry that answers the question, or None where the tag is that of another.
+    /// The entry that answers the question and its place, or None where the tag is that of another.
     fn ask<'a, J: Naming, H: Histories, R: Wait + Abort>(
         &self,
         place: &Place<'_, 'a, R, H>,
         clerk: &mut Clerk<'a, J, H>,
         question: &Question,
-    ) -> Option<Receipt> {
-        let (rt, repository, moment) = (place.rt, place.repository, place.moment);
-        let outcome = clerk.ask_once(rt, repository, moment, &self.user, question, self.tag);
-        match outcome.expect(rt, "an answer") {
-            Outcome::New(served) | Outcome::Again(served) => Some(served.receipt),
+    ) -> Option<(usize, Entry)> {
+        let rt = place.rt;
+        let put = Put {
+            tag: Some(self.tag),
+            ..put_of(rt, clerk, place.moment, &self.user, question)
+        };
+        match clerk
+            .ask(rt, place.repository, &put)
+            .expect(rt, "an answer")
+        {
+            Outcome::New(answered) | Outcome::Again(answered) => {
+                Some((answered.place, answered.entry))
+            }
             Outcome::Other => None,
         }
     }
@@ -46,9 +55,9 @@ impl Crew for SameTag {
     ) {
         let rt = place.rt;
         for _ in 0..2u32 {
-            let receipt = self.ask(place, clerk, &self.supply).expect(rt, "an entry");
-            assert!(rt; receipt.place == 1);
-            assert!(rt; receipt.entry.reply == Reply::Decommissioned);
+            let (stands, entry) = self.ask(place, clerk, &self.supply).expect(rt, "an entry");
+            assert!(rt; stands == 1);
+            assert!(rt; entry.reply == Reply::Decommissioned);
         }
         assert!(rt; self.ask(place, clerk, &self.other).is_none());
     }

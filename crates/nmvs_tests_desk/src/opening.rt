@@ -1,5 +1,5 @@
 //! How many shards a repository has, and what its faults are called.
-use nmvs_desk::{AskFault, Keepers, OpenFault};
+use nmvs_desk::{Keepers, OpenFault};
 use std::alloc::Global;
 use std::fmt::Display;
 use std::process::Abort;
@@ -29,17 +29,6 @@ fn faults_have_their_texts(rt: HostRuntime) {
     for (fault, text) in [
         (OpenFault::Memory, "there is no memory for the histories"),
         (OpenFault::Count, "a repository has 1 to 8 shards"),
-    ] {
-        assert!(&rt; is_shown(&rt, rt.alloc(), &fault, text), "{text}");
-    }
-    for (fault, text) in [
-        (AskFault::Nobody, "the directory does not know the user"),
-        (AskFault::Suspended, "the user is suspended"),
-        (
-            AskFault::Memory,
-            "there is no memory for the entry or its receipt",
-        ),
-        (AskFault::Closed, "the directory could not be entered"),
     ] {
         assert!(&rt; is_shown(&rt, rt.alloc(), &fault, text), "{text}");
     }

@@ -2,7 +2,7 @@
 ghost use Rattle.std.specs.Prelude.{◌≡◌, ◌<◌};
 
 use crate::asking::Copied;
-use crate::crew::{Crew, Place, Stage, play};
+use crate::crew::{Crew, Place, Stage, play, put_of};
 use crate::market::{P, Q, USERS, authentic, name, verify};
 use nmvs_desk::{Clerk, Holder, Owner, Repository, Settled};
 use nmvs_directory::Naming;
@@ -54,16 +54,12 @@ impl LetGo {
         stands: usize,
     ) {
         let (rt, repository) = (place.rt, place.repository);
-        let answer = clerk.ask(rt, repository, place.moment, &self.user, &self.question);
-        assert_eq!(rt;
-            answer.expect(rt, "an answer").receipt.entry.reply,
-            self.reply
-        );
+        let put = put_of(rt, clerk, place.moment, &self.user, &self.question);
+        clerk.ask(rt, repository, &put).expect(rt, "an answer");
         assert_eq!(rt; clerk.receipts().len(), 1);
-        assert_eq!(rt;
-            clerk.receipts().last().expect(rt, "a receipt").place,
-            stands
-        );
+        let receipt = clerk.receipts().last().expect(rt, "a receipt");
+        assert_eq!(rt; receipt.entry.reply, self.reply);
+        assert_eq!(rt; receipt.place, stands);
     }
 
     /// How many entries two sights see in shard 0.

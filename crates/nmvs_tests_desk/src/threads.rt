@@ -1,5 +1,5 @@
 //! What clerks in threads are answered, and settled to.
-use crate::crew::{Crew, Errand, Errands, Place, Stage, play};
+use crate::crew::{Crew, Errand, Errands, Place, Stage, play, put_of};
 use crate::market::{P, Q, USERS, authentic, decommission, name, pack, upload, verify};
 use nmvs_desk::{Clerk, Reader, Settled};
 use nmvs_directory::Naming;
@@ -170,8 +170,8 @@ impl Crew for Meeting {
             self.met.store(met, Ordering::SeqCst);
         } else {
             is_raised(&self.held);
-            let answer = clerk.ask(rt, repository, moment, &self.user, &self.second);
-            answer.expect(rt, "an answer");
+            let put = put_of(rt, clerk, moment, &self.user, &self.second);
+            clerk.ask(rt, repository, &put).expect(rt, "an answer");
             self.answered.store(true, Ordering::SeqCst);
         }
     }

@@ -3,7 +3,9 @@ use nmvs_figures::{
     Answered, Bucket, Counted, Fault, Figures, Guide, JournalFigures, Numbered, Panel,
     figures_page, resident_in,
 };
-use nmvs_messages::{Ask, Asked, Content, Desk, Line, Released, Turn, Withheld, WithheldAnswers};
+use nmvs_messages::{
+    Ask, Asked, Content, Desk, Line, Peer, Released, Turn, Withheld, WithheldAnswers,
+};
 use nmvs_protocol::{Session, read_line};
 use nmvs_rules::{Cause, Question, Refusal, Reply};
 use nmvs_words::{PackQuestion, QuestionKind, ReplyKind};
@@ -221,6 +223,7 @@ fn each_fault_is_counted_by_its_word(rt: HostRuntime) {
     let _taking = session.take(
         b"ph1 STATUS 09506000134352 SN1\n\nph1 NONE\n",
         &mut withheld,
+        &Peer::Anyone,
         &mut desk,
     );
     panel.tally(0).note_told(&withheld.release());
@@ -332,13 +335,13 @@ impl<'a> Desk<'a> for Stranger {
 
     type Evidence = ();
 
-    ghost takes = { λ _ _ _ _. Unit {0} };
+    ghost takes = { λ _ _ _ _ _. Unit {0} };
 
     ghost releases = { AtOnce };
 
     ghost moves = { Stays };
 
-    fn take(&mut self, _ask: &Ask) -> Withheld<'a> {
+    fn take(&mut self, _from: &Peer, _ask: &Ask) -> Withheld<'a> {
         Withheld::new(Content::Turned(Turn::Nobody))
     }
 

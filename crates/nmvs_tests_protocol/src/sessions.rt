@@ -1,7 +1,7 @@
 //! Sessions over bytes that come and go in pieces.
 use nmvs_identifier::{Batch, Expiry};
 use nmvs_messages::{
-    Ask, Asked, Basis, Content, Desk, End, Entries, Limits, Released, Text, Turn, Withheld,
+    Ask, Asked, Basis, Content, Desk, End, Entries, Limits, Peer, Released, Text, Turn, Withheld,
     WithheldAnswers,
 };
 use nmvs_protocol::{Session, serve};
@@ -67,13 +67,13 @@ impl<'a> Desk<'a> for Shelf<'a> {
 
     type Evidence = ();
 
-    ghost takes = { λ _ _ _ _. Unit {0} };
+    ghost takes = { λ _ _ _ _ _. Unit {0} };
 
     ghost releases = { λ shelf _ withheld said. said ≡ told_where shelf.kept withheld };
 
     ghost moves = { λ old new. new ≡ old };
 
-    fn take(&mut self, ask: &Ask) -> Withheld<'a> {
+    fn take(&mut self, _from: &Peer, ask: &Ask) -> Withheld<'a> {
         let basis = Basis {
             shard: 0,
             place: self.asked,
@@ -179,7 +179,14 @@ fn run<R: Read + Drop, W: Write + Drop>(
         asked: 0,
         kept: [ALL],
     };
-    serve(alloc, &mut source, &mut sink, &mut desk, limits)
+    serve(
+        alloc,
+        &mut source,
+        &mut sink,
+        &Peer::Anyone,
+        &mut desk,
+        limits,
+    )
 }
 
 /// The answers to the whole lines in so many bytes of the input.
@@ -328,7 +335,14 @@ fn a_session_is_fed_in_any_pieces(rt: HostRuntime) {
         };
         let mut end = None;
         for more in input.chunks(piece) {
-            end = session.feed(alloc, more, &mut withheld, &mut sink, &mut desk);
+            end = session.feed(
+                alloc,
+                more,
+                &mut withheld,
+                &mut sink,
+                &Peer::Anyone,
+                &mut desk,
+            );
         }
         drop(sink);
         assert_eq!(rt; end, Some(End::Quit));
@@ -349,6 +363,24 @@ fn kind_at(released: &Released<'_, '_>, place: usize) -> &'static str {
     }
 }
 
+/// The lines after a report wait until it is told.
+#[test]
+fn a_session_takes_no_line_after_a_report(rt: HostRuntime) {
+    let alloc = rt.alloc();
+    let mut desk = Shelf {
+        alloc: &alloc,
+        uploaded: None,
+        asked: 0,
+        kept: [ALL],
+    };
+    let mut withheld = WithheldAnswers::new();
+    let lines = b"ph1\nau1 REPORT 09506000134352\nph1\n";
+    let mut session = Session::new(9);
+    let taking = session.take(lines, &mut withheld, &Peer::Anyone, &mut desk);
+    assert_eq!(rt; (taking.bytes, taking.end, withheld.len()), (30, None, 2));
+    assert!(rt; withheld.ends_long());
+}
+
 /// Answers stand in the order in which their lines were taken, and each session goes on behind its own.
 #[test]
 fn two_sessions_take_into_one_list(rt: HostRuntime) {
@@ -361,12 +393,12 @@ fn two_sessions_take_into_one_list(rt: HostRuntime) {
     };
     let mut withheld = WithheldAnswers::new();
     let (mut one, mut other) = (Session::new(9), Session::new(1));
-    let taking = one.take(b"ph1\nph1 VER", &mut withheld, &mut desk);
+    let taking = one.take(b"ph1\nph1 VER", &mut withheld, &Peer::Anyone, &mut desk);
     assert_eq!(rt; (taking.bytes, taking.end), (11, None));
-    let taking = other.take(b"\n\n", &mut withheld, &mut desk);
+    let taking = other.take(b"\n\n", &mut withheld, &Peer::Anyone, &mut desk);
     assert_eq!(rt; (taking.bytes, taking.end), (1, Some(End::Limit)));
     let more = b"IFY 09506000134352 SN1\nQUIT\nph1\n";
-    let taking = one.take(more, &mut withheld, &mut desk);
+    let taking = one.take(more, &mut withheld, &Peer::Anyone, &mut desk);
     assert_eq!(rt; (taking.bytes, taking.end), (28, Some(End::Quit)));
     let (released, ()) = desk.release(&mut withheld);
     for (place, answer) in ["unread", "unread", "reply", "bye", "none"]
@@ -391,6 +423,7 @@ fn what_is_not_kept_is_not_told(rt: HostRuntime) {
         alloc,
         &mut Device::new(INPUT),
         &mut Device::new(&mut taken),
+        &Peer::Anyone,
         &mut desk,
         AMPLE,
     );

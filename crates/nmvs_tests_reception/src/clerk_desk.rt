@@ -7,9 +7,11 @@ use log::Log;
 use nmvs_directory::{Naming, Notice, Registrar};
 use nmvs_figures::Panel;
 use nmvs_history::Histories;
-use nmvs_messages::{Desk, SESSION_LIMITS};
+use nmvs_identifier::Name;
+use nmvs_messages::{Desk, NameOf, Peer, SESSION_LIMITS};
 use nmvs_operator::{Deed, Figure, Latest, Service, ServiceFault, Topic, obey_all};
 use nmvs_protocol::serve;
+use nmvs_rate::{Rate, SharedLimiter};
 use nmvs_reception::{ClerkDesk, Clock, Opened};
 use nmvs_stream::{Console, Device, deliver};
 use nmvs_trials::examples;
@@ -105,14 +107,20 @@ impl<'s> Clock for Seconds<'s> {
     }
 }
 
-/// What the desk writes in answer to one line.
-fn asked<'a, D: Desk<'a>>(alloc: Global, desk: &mut D, line: &str) -> Result<Vec<u8>, Fail> {
+/// What the desk writes in answer to one line of this peer.
+fn asked<'a, D: Desk<'a>>(
+    alloc: Global,
+    desk: &mut D,
+    from: &Peer,
+    line: &str,
+) -> Result<Vec<u8>, Fail> {
     let input = format!(in alloc; "{line}\n")?;
     let mut output = Vec::new(alloc);
     let _end = serve(
         alloc,
         &mut Device::new(input.as_bytes()),
         &mut Device::new(&mut output),
+        from,
         desk,
         SESSION_LIMITS,
     );
@@ -218,14 +226,14 @@ impl<'e> Visit for AskLines<'e> {
         let clock = Seconds::new(example.moments);
         let panel = Panel::new(alloc, 1, 1, false)?;
         let tally = panel.tally(0);
-        let mut desk = ClerkDesk::new(rt, clerk, &opened.repository, latest, clock, tally);
+        let mut desk = ClerkDesk::new(rt, clerk, &opened.repository, latest, None, clock, tally);
         for (line, answer) in example.lines {
             let wanted = format!(in alloc; "{answer}\n")?;
             if *line == "SUSPEND ph1" {
                 suspend(rt, alloc, registrar, latest);
                 continue;
             }
-            let said = asked(alloc, &mut desk, line)?;
+            let said = asked(alloc, &mut desk, &Peer::Anyone, line)?;
             assert_eq!(rt; said.as_slice(), wanted.as_bytes(), "{}", example.shows);
         }
         let places = 0..example.lines.len();
@@ -269,4 +277,94 @@ fn audits_show_entries_and_reports_leave_no_receipt(rt: HostRuntime) -> Result<(
 #[test]
 fn lines_that_are_asked_again_leave_no_receipt(rt: HostRuntime) -> Result<(), Fail> {
     get_their_answers(&rt, rt.alloc(), examples::REPEATS)
+}
+
+/// Lines, each with the name that its peer's certificate has, and their replies.
+const OF_PEERS: &[(NameOf, &str, &str, &str)] = &[
+    (
+        NameOf::User,
+        "ph1",
+        "ph1 STATUS 09506000134352 SN1",
+        "NOPACK",
+    ),
+    (
+        NameOf::User,
+        "ph1",
+        "ph1b STATUS 09506000134352 SN1",
+        "FAULT NOBODY",
+    ),
+    (
+        NameOf::User,
+        "ph1",
+        "ph1b REPORT 09506000134352",
+        "FAULT NOBODY",
+    ),
+    (
+        NameOf::User,
+        "zed",
+        "zed STATUS 09506000134352 SN1",
+        "FAULT NOBODY",
+    ),
+    (
+        NameOf::Authorisation,
+        "PH-1",
+        "ph1b STATUS 09506000134352 SN1",
+        "NOPACK",
+    ),
+    (
+        NameOf::Authorisation,
+        "PH-1",
+        "mah1 STATUS 09506000134352 SN1",
+        "FAULT NOBODY",
+    ),
+    (
+        NameOf::Authorisation,
+        "ph1",
+        "ph1 STATUS 09506000134352 SN1",
+        "FAULT NOBODY",
+    ),
+];
+
+/// Asks the lines of peers, and then one line again and again, over a rate of one line a second.
+#[derive(Drop)]
+struct AskOfPeers;
+
+impl Visit for AskOfPeers {
+    type Output = Result<(), Fail>;
+
+    fn visit<'r, 'a, J: Naming, H: Histories, R: Wait + SystemClock + Log + Abort + Sync>(
+        self,
+        rt: &'r R,
+        mut opened: Opened<'a, J, H>,
+        _registrar: &mut Registrar<J, &'r R, &'a Global>,
+        latest: &Mutex<Notice<J>>,
+    ) -> Result<(), Fail> {
+        let clerk = opened.clerks.pop().ok_or("a clerk")?;
+        let alloc = *clerk.allocator();
+        let limiter = SharedLimiter::new(rt, alloc, Rate::new(1, 1).ok_or("a rate")?);
+        let panel = Panel::new(alloc, 1, 1, false)?;
+        let (clock, limiter, tally) = (Seconds::new(&[NEW_YEAR]), Some(&limiter), panel.tally(0));
+        let repository = &opened.repository;
+        let mut desk = ClerkDesk::new(rt, clerk, repository, latest, limiter, clock, tally);
+        for (of, name, line, answer) in OF_PEERS {
+            let wanted = format!(in alloc; "{answer}\n")?;
+            let said = asked(alloc, &mut desk, &of.peer(Name::read(name)?), line)?;
+            assert_eq!(rt; said.as_slice(), wanted.as_bytes(), "{line}");
+        }
+        let mut over = 0u32;
+        for _ in 0..20u32 {
+            let said = asked(alloc, &mut desk, &Peer::Anyone, "au1 REPORT 09506000134352")?;
+            if said.as_slice() == b"FAULT RATE\n".as_slice() {
+                over += 1;
+            }
+        }
+        assert!(rt; 0 < over && over < 20);
+        assert_eq!(rt; desk.into_clerk().receipts().len(), 2);
+        Ok(())
+    }
+}
+
+#[test]
+fn a_peer_speaks_for_its_own_users_within_their_rate(rt: HostRuntime) -> Result<(), Fail> {
+    at_repository(&rt, &rt.alloc(), USERS, AskOfPeers)
 }

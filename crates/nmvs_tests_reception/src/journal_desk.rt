@@ -9,7 +9,7 @@ use nmvs_figures::Panel;
 use nmvs_history::Histories;
 use nmvs_identifier::Moment;
 use nmvs_journal::Filed;
-use nmvs_messages::{Desk, SESSION_LIMITS};
+use nmvs_messages::{Desk, Peer, SESSION_LIMITS};
 use nmvs_offices::{Alarm, Offices, Start};
 use nmvs_protocol::serve;
 use nmvs_reception::{ClerkDesk, JournalDesk, Opened, ProgramClock};
@@ -40,6 +40,7 @@ fn is_told<'a, D: Desk<'a>>(rt: &impl Abort, alloc: Global, desk: &mut D) -> boo
         alloc,
         &mut Device::new(QUESTION),
         &mut Device::new(&mut output),
+        &Peer::Anyone,
         desk,
         SESSION_LIMITS,
     );
@@ -66,7 +67,7 @@ fn ask_thrice<'a, 's, J: Naming, H: Histories, R: Wait + Clock + Log + Abort>(
     starts.push(Start { store, count: 0 }).expect(rt, "memory");
     let offices = Offices::open(rt, alloc, repository, starts).expect(rt, "memory");
     let clock = ProgramClock::new(rt, Moment::new(NEW_YEAR));
-    let desk = ClerkDesk::new(rt, clerk, repository, latest, clock, panel.tally(0));
+    let desk = ClerkDesk::new(rt, clerk, repository, latest, None, clock, panel.tally(0));
     let mut desk = JournalDesk::new(desk, &offices, Silent);
     let mut told = 0usize;
     for asked in 1..4usize {

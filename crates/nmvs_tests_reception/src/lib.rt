@@ -3,17 +3,15 @@
 #![tactic(auto)]
 
 #[cfg(test)]
+mod buffered_sessions;
+#[cfg(test)]
 mod clerk_desk;
 #[cfg(test)]
 mod clock;
 #[cfg(test)]
-mod dialogues;
-#[cfg(test)]
 mod journal_desk;
 #[cfg(test)]
 mod journal_file;
-#[cfg(test)]
-mod rates;
 #[cfg(test)]
 mod recovering;
 #[cfg(test)]

@@ -5,12 +5,12 @@ use crate::journal_file::{USERS, asked_moment, asked_pack, assert_told, name};
 use crate::repository::{Visit, at_repository};
 use log::Log;
 use nmvs_desk::{Clerk, Repository};
-use nmvs_directory::{Naming, Notice, Registrar};
+use nmvs_directory::{Look, Naming, Notice, Registrar};
 use nmvs_history::Histories;
 use nmvs_journal::Filed;
 use nmvs_offices::{Alarm, Offices, Start};
 use nmvs_reception::Opened;
-use nmvs_rules::Question;
+use nmvs_rules::{Put, Question};
 use nmvs_trials::{Calls, FakeFile};
 use std::alloc::Global;
 use std::io;
@@ -25,15 +25,18 @@ fn ask<'a, J: Naming, H: Histories, R: Wait + Abort>(
     clerk: &mut Clerk<'a, J, H>,
     repository: &Repository<'a, H>,
 ) {
-    let question = Question::Status(asked_pack(rt));
-    let asked = clerk.ask(
-        rt,
-        repository,
-        asked_moment(rt),
-        &name(rt, "ph1"),
-        &question,
-    );
-    asked.expect(rt, "an answer");
+    let user = name(rt, "ph1");
+    let Look::Known(actor) = clerk.look(&user) else {
+        panic!(rt; "nobody knows the user");
+    };
+    let put = Put {
+        moment: asked_moment(rt),
+        user,
+        actor,
+        question: Question::Status(asked_pack(rt)),
+        tag: None,
+    };
+    clerk.ask(rt, repository, &put).expect(rt, "an answer");
 }
 
 /// Counts the files that failed.

@@ -3,13 +3,14 @@ use Rattle.std.proofs.lemmas.List.{append-nil, append_assoc, length-take-le}
 use Rattle.std.proofs.lemmas.Bool.{ne_eqb}
 use Rattle.nmvs_stream.specs.InputLines.{input_lines}
 use Rattle.nmvs_protocol.proofs.SessionSteps.{so_far_none, so_far_more, closed}
+use Rattle.nmvs_messages.specs.Peers.{TakesFrom}
 use Rattle.nmvs_protocol.proofs.serving.serve.Goals as goal
 
 pub loop-init : goal.loop-init
 loop-init g c = (
   [],
   sym (append-nil _),
-  so_far_none g.D.Desk.takes g.D.Desk.releases g.D.Desk.moves c.args.limits.lines c.args.desk.now (g.W.Sink.taken c.args.sink.now) _ (search rules) (search rules) (search rules) c.requires.sink_sound,
+  so_far_none (TakesFrom g.D.Desk.takes c.args.from.now) g.D.Desk.releases g.D.Desk.moves c.args.limits.lines c.args.desk.now (g.W.Sink.taken c.args.sink.now) _ (search rules) (search rules) (search rules) c.requires.sink_sound,
   omega arith,
   c.requires.source_open,
   c.requires.source_sound,
@@ -22,7 +23,7 @@ returns-in-Some g c =
     let gives = c.in-Ok.ensures.ok in
     let chunk = take c.in-Ok.count c.read.new.buffer in
     let served = c.in-Some.ensures inv.0 inv.2.begun inv.2.within inv.2.sound in
-    closed g.D.Desk.takes g.D.Desk.releases g.D.Desk.moves c.args.limits (g.R.Source.told c.args.source.now) (g.R.Source.told c.read.new.self) chunk c.in-Some.end
+    closed (TakesFrom g.D.Desk.takes c.args.from.now) g.D.Desk.releases g.D.Desk.moves c.args.limits (g.R.Source.told c.args.source.now) (g.R.Source.told c.read.new.self) chunk c.in-Some.end
     (omega (arith, length-take-le c.in-Ok.count c.read.new.buffer gives.fits, gives.fits, c.read.auto.buffer)) inv.2 served.0
     (gives.bytes ∙ ap (λ (t : List ℕ). t ++ chunk) inv.1 ∙ append_assoc (g.R.Source.told c.args.source.now).bytes inv.0 chunk)
     (omega (arith, gives.reads, inv.3, c.loop-test.true))
@@ -37,7 +38,7 @@ loop-preserved g c =
     let served = c.in-None.ensures inv.0 inv.2.begun inv.2.within inv.2.sound in (
       inv.0 ++ chunk,
       gives.bytes ∙ ap (λ (t : List ℕ). t ++ chunk) inv.1 ∙ append_assoc (g.R.Source.told c.args.source.now).bytes inv.0 chunk,
-      so_far_more g.D.Desk.takes g.D.Desk.releases g.D.Desk.moves chunk inv.2 served.0 served.1,
+      so_far_more (TakesFrom g.D.Desk.takes c.args.from.now) g.D.Desk.releases g.D.Desk.moves chunk inv.2 served.0 served.1,
       omega (arith, gives.reads, inv.3),
       gives.ended ∙ ap (λ (t : Bool). t || (c.in-Ok.count == 0)) inv.4 ∙ ne_eqb c.in-Ok.count 0 c.in-Ok.count-test.1,
       gives.failed ∙ inv.5,

@@ -1,5 +1,3 @@
-use Rattle.std.proofs.Common.{ap, refl}
-use Rattle.nmvs_desk.specs.Views.{ClerkView}
 use Rattle.nmvs_reception.proofs.DeskTurns.{lets_go}
 use Rattle.nmvs_reception.proofs.desk.ClerkDesk.release_by.Goals as goal
 
@@ -7,6 +5,4 @@ pub returns-clause-kept : goal.returns-clause-kept
 returns-clause-kept g c = rw (← c.self.view_is) c.release-released.ensures.kept
 
 pub returns-clause-moves : goal.returns-clause-moves
-returns-clause-moves g c =
-    let same = c.release-released.ensures.same in
-    rw (← c.self.view_is) (lets_go _ _ c.release-released.ensures.begins (ap (λ (v : ClerkView). v.seen) same) (ap (λ (v : ClerkView). v.receipts) same) refl refl refl)
+returns-clause-moves g c = rw (← c.self.view_is) (lets_go _ _ _ _ _ _ c.release-released.ensures.begins c.release-released.ensures.same)

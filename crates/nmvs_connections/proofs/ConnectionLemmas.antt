@@ -1,0 +1,119 @@
+-- How a connection's steps follow each other.
+use Rattle.std.proofs.Common.{◌≡◌, ◌⊎◌, inl, inr, ℕ, List, [], ◌∷◌, ◌++◌, Option, Some, None, Result, Ok, Err, length, take, drop, refl, sym, ap, subst, ◌∙◌}
+use Rattle.std.proofs.lemmas.List.{append-nil, append_assoc, take-append-drop}
+use Rattle.nmvs_messages.specs.declared.ask.Ask.{Ask}
+use Rattle.nmvs_messages.specs.declared.answer.Answer.{Answer}
+use Rattle.nmvs_messages.specs.declared.end.End.{End}
+use Rattle.nmvs_messages.specs.declared.peer.Peer.{Peer}
+use Rattle.nmvs_messages.specs.declared.withheld.Withheld.{Withheld}
+use Rattle.nmvs_stream.specs.InputLines.{input_lines, lines_after, unfinished_line}
+use Rattle.nmvs_stream.proofs.LinesOfPieces.{lines_after-append}
+use Rattle.nmvs_connections.specs.declared.next.Next.{Next}
+use Rattle.nmvs_connections.specs.Peers.{PeerState, IsConnection, StaysPeer}
+use Rattle.nmvs_connections.specs.Replies.{SessionState, TellsPart}
+use Rattle.nmvs_connections.specs.Turns.{ConnectionSteps, Kept, LinesStep, LinesTaken, TakesBy, TellsOwn}
+
+pub kept_same : (a b : SessionState) → b ≡ a → Kept a b
+kept_same a b same = record {
+  fed = ap (λ (t : SessionState). t.fed) same;
+  text = ap (λ (t : SessionState). t.sent ++ t.unsent) same;
+  ended = ap (λ (t : SessionState). t.ended) same;
+  first = ap (λ (t : SessionState). t.first) same;
+  waiting = ap (λ (t : SessionState). t.waiting) same;
+}
+
+pub kept_twice : (a b c : SessionState) → Kept a b → Kept b c → Kept a c
+kept_twice a b c k l = record { fed = l.fed ∙ k.fed; text = l.text ∙ k.text; ended = l.ended ∙ k.ended; first = l.first ∙ k.first; waiting = l.waiting ∙ k.waiting }
+
+-- some of what was unsent was sent
+pub kept_sent : (a b : SessionState) (count : ℕ) → b.fed ≡ a.fed → b.sent ≡ a.sent ++ take count a.unsent → b.unsent ≡ drop count a.unsent → b.ended ≡ a.ended → b.first ≡ a.first → b.waiting ≡ a.waiting → Kept a b
+kept_sent a b count fed sent unsent ended first waiting = record {
+  fed = fed;
+  text = (λ i. sent i ++ unsent i) ∙ append_assoc a.sent (take count a.unsent) (drop count a.unsent) ∙ ap (λ (t : List ℕ). a.sent ++ t) (take-append-drop count a.unsent);
+  ended = ended;
+  first = first;
+  waiting = waiting;
+}
+
+-- no lines are taken, whoever the peer is
+none_by : {D : Type 0} (takes : D → Peer → Ask → Withheld → D → Type 0) (peer : Option Peer) (old new : D) → new ≡ old → TakesBy takes peer old [] [] new
+none_by takes None old new same = (refl, refl, same)
+none_by takes (Some peer) old new same = same
+
+-- no lines were taken
+pub lines_kept : {D : Type 0} (takes : D → Peer → Ask → Withheld → D → Type 0) (peer : Option Peer) (old new : D) (withheld withheld' : List Withheld) (a b : SessionState)
+    → new ≡ old → withheld' ≡ withheld → Kept a b → LinesStep takes peer old new withheld withheld' a b
+lines_kept takes peer old new withheld withheld' a b same none kept =
+    record { lines = []; held = []; behind = none ∙ sym (append-nil withheld); desk = none_by takes peer old new same; goes = inl (kept, refl, refl) }
+
+pub steps_kept : {D : Type 0} (takes : D → Peer → Ask → Withheld → D → Type 0) (old new : D) (withheld withheld' : List Withheld) (next : Next) (a b : PeerState)
+    → new ≡ old → withheld' ≡ withheld → Kept a.session b.session → StaysPeer a b → IsConnection a → ConnectionSteps takes old new withheld withheld' next a b
+unfolding lines_kept
+steps_kept takes old new withheld withheld' next a b same none kept stays is =
+    record { step = lines_kept takes a.peer old new withheld withheld' a.session b.session same none kept; waits = inl (kept, refl, refl); stays = stays; is = is }
+
+-- nothing was done with the session, and the peer stays, or is not known yet
+pub steps_idle : {D : Type 0} (takes : D → Peer → Ask → Withheld → D → Type 0) (desk : D) (withheld : List Withheld) (next : Next) (a b : PeerState)
+    → b.session ≡ a.session → b.peer ≡ a.peer → IsConnection a → ConnectionSteps takes desk desk withheld withheld next a b
+steps_idle takes desk withheld next a b same peer is = steps_kept takes desk desk withheld withheld next a b refl refl (kept_same a.session b.session same) (λ p known. peer ∙ known) is
+
+pub steps_awaiting : {D : Type 0} (takes : D → Peer → Ask → Withheld → D → Type 0) (desk : D) (withheld : List Withheld) (next : Next) (a b : PeerState)
+    → b.session ≡ a.session → a.peer ≡ None → IsConnection a → ConnectionSteps takes desk desk withheld withheld next a b
+steps_awaiting takes desk withheld next a b same none is =
+    steps_kept takes desk desk withheld withheld next a b refl refl (kept_same a.session b.session same) (λ p known. let both : None ≡ Some p = sym none ∙ known in absurd (cc)) is
+
+-- replies were sent before
+taken_later : (lines : List (List ℕ)) (held : List Withheld) (first : ℕ) (a b c : SessionState) → Kept a b → LinesTaken lines held first b c → LinesTaken lines held first a c
+taken_later lines held first a b c k l = record {
+  lines_are = l.lines_are ∙ ap (λ (f : List ℕ). input_lines f ++ lines) k.fed;
+  text = l.text ∙ k.text;
+  open_still = sym k.ended ∙ l.open_still;
+  told = sym k.waiting ∙ l.told;
+  starts = l.starts;
+  waits = l.waits;
+  sound = l.sound;
+}
+
+pub steps_later : {D : Type 0} (takes : D → Peer → Ask → Withheld → D → Type 0) (old new : D) (withheld withheld' : List Withheld) (next : Next) (a b c : PeerState)
+    → Kept a.session b.session → b.peer ≡ a.peer → IsConnection a → ConnectionSteps takes old new withheld withheld' next b c → ConnectionSteps takes old new withheld withheld' next a c
+steps_later takes old new withheld withheld' next a b c k peer is s =
+    let t = s.step in record {
+      step = record {
+        lines = t.lines;
+        held = t.held;
+        behind = t.behind;
+        desk = subst (λ (p : Option Peer). TakesBy takes p old t.lines t.held new) peer t.desk;
+        goes = elim t.goes [
+          | inl kept ↦ inl (kept_twice a.session b.session c.session k kept.0, kept.1, kept.2)
+          | inr took ↦ inr (taken_later t.lines t.held (length withheld) a.session b.session c.session k took)
+        ];
+      };
+      waits = elim s.waits [ inl kept ↦ inl (kept_twice a.session b.session c.session k kept.0, kept.1, kept.2) | inr waits ↦ inr waits ];
+      stays = λ known is. s.stays known (peer ∙ is);
+      is = is;
+    }
+
+-- the lines of a session that goes on
+pub lines_more : (fed bytes : List ℕ) → input_lines (fed ++ bytes) ≡ input_lines fed ++ lines_after (unfinished_line fed) bytes
+lines_more fed bytes = lines_after-append [] fed bytes
+
+-- what was told by a session
+pub tells_of : (released : List Answer) (a b : SessionState) → (b.fed ≡ a.fed) × (b.sent ≡ a.sent) → b.waiting ≡ 0
+    → (text : List ℕ) × (b.unsent ≡ a.unsent ++ text) × TellsPart a.first a.waiting released text a.ended b.ended → TellsOwn released a b
+tells_of released a b same told t = record {
+  fed = same.0;
+  text = t.0;
+  replies = (λ i. same.1 i ++ t.1 i) ∙ sym (append_assoc a.sent a.unsent t.0);
+  tells = t.2;
+  told = told;
+}
+
+-- what was told, and then perhaps sent
+pub tells_sent : (a b c : SessionState) (released : List Answer) → TellsOwn released a b → Kept b c → TellsOwn released a c
+tells_sent a b c released t k = record {
+  fed = k.fed ∙ t.fed;
+  text = t.text;
+  replies = k.text ∙ t.replies;
+  tells = subst (λ (e : Option End). TellsPart a.first a.waiting released t.text a.ended e) (sym k.ended) t.tells;
+  told = k.waiting ∙ t.told;
+}

@@ -1,0 +1,12 @@
+use Rattle.std.proofs.Common.{◌∙◌, List, ℕ, ap, subst}
+use Rattle.nmvs_connections.specs.declared.proxy_header.ProxyHeader.TheVariants as proxy_headers
+use Rattle.nmvs_connections.specs.ProxyHeader.{ReadsProxyHeader}
+use Rattle.nmvs_connections.proofs.PeerSteps.{holds_named}
+use Rattle.nmvs_connections.proofs.peer_session.PeerSession.read_header.Goals as goal
+
+pub invariant_of-self : goal.invariant_of-self
+invariant_of-self c =
+    let view = c.self.view_is in
+    let reads = subst (λ (t : List ℕ). ReadsProxyHeader t c.args.name_of (proxy_headers.Whole c.in-Whole.peer)) c.as_slice.ensures.value c.in-Whole.ensures in
+    holds_named c.args.name_of c.in-Whole.peer (ap (λ p. p.proxy) view ∙ c.requires.proxy) (ap (λ p. p.peer) view ∙ c.requires.awaited) (ap (λ p. p.stage) view ∙ c.requires.serving) c.clear.ensures.items
+    reads c.self.invariant

@@ -1,0 +1,23 @@
+use Rattle.std.proofs.Common.{◌≡◌, ◌∙◌, ◌++◌, ◌≤◌, ◌-◌, ℕ, List, inr, take, drop, length, sym, ap, subst, arith}
+use Rattle.nmvs_connections.specs.declared.peer_session.Stage.TheVariants as stages
+use Rattle.nmvs_connections.proofs.PeerSteps.{cut_front, holds_taken}
+use Rattle.nmvs_connections.proofs.peer_session.PeerSession.take_unread.Goals as goal
+
+pub invariant_of-self : goal.invariant_of-self
+invariant_of-self g c =
+    let is = c.self.inside in
+    let serving : is.stage ≡ stages.Serving = ap (λ p. p.stage) c.self.view_is ∙ c.requires in
+    let unread = is.unread.items in
+    let n = c.take_lines-taken.result in
+    let e = c.take_lines-taken.ensures in
+    let same : c.as_slice-unread.result.now ≡ unread = c.as_slice-unread.ensures.value in
+    let feeds = e.fed ∙ ap (λ (t : List ℕ). is.session.fed ++ take n t) same in
+    let within : n ≤ length unread = subst (λ (t : List ℕ). n ≤ length t) same e.within in
+    let many : c.len-count.result ≡ length unread = c.len-count.ensures ∙ sym c.as_slice-unread.ensures.len ∙ ap (λ (t : List ℕ). length t) same in
+    let left = c.truncate.ensures.items ∙ ap (λ (t : List ℕ). take (c.len-count.result - n) t) c.rotate_left.ensures.items ∙ cut_front n unread c.len-count.result within many in
+    holds_taken is.proxy is.peer n e.known serving feeds e.sent left c.self.invariant
+
+pub returns : goal.returns
+returns g c =
+    rw (← c.self.view_is)
+    (record { step = c.take_lines-taken.ensures.takes; waits = inr c.next_of.ensures; stays = λ peer known. known; is = (c.self.inside.unread.items, c.self.invariant) })

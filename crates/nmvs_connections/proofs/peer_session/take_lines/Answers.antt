@@ -1,0 +1,41 @@
+use Rattle.std.proofs.Common.{◌≡◌, ◌∙◌, ◌++◌, ℕ, List, Option, None, inr, take, refl, sym, ap, subst, arith, rules}
+use Rattle.nmvs_messages.specs.declared.peer.Peer.{Peer}
+use Rattle.nmvs_connections.specs.Turns.{TakesBy}
+use Rattle.nmvs_stream.specs.InputLines.{input_lines, lines_after, unfinished_line}
+use Rattle.nmvs_connections.proofs.ConnectionLemmas.{kept_same, lines_kept, lines_more}
+use Rattle.nmvs_connections.proofs.peer_session.take_lines.Goals as goal
+
+pub returns-in_default-clause-takes : goal.returns-in_default-clause-takes
+returns-in_default-clause-takes g c = lines_kept _ _ _ _ _ _ _ _ refl refl (kept_same c.args.session.now c.args.session.now refl)
+
+pub returns-then-is_some-clause-takes : goal.returns-then-is_some-clause-takes
+returns-then-is_some-clause-takes g c = lines_kept _ _ _ _ _ _ _ _ refl refl (kept_same c.args.session.now c.args.session.now refl)
+
+pub returns-then-waiting-ne0-clause-takes : goal.returns-then-waiting-ne0-clause-takes
+returns-then-waiting-ne0-clause-takes g c = lines_kept _ _ _ _ _ _ _ _ refl refl (kept_same c.args.session.now c.args.session.now refl)
+
+pub returns-clause-takes : goal.returns-clause-takes
+returns-clause-takes g c =
+    let fed = c.args.session.now.fed in
+    let bytes = take c.take.result c.args.bytes.now in
+    let e = c.take.ensures in
+    let a = e.asks in
+    let open_still : c.args.session.now.ended ≡ None = search rules in
+    let w = c.waiting.ensures in
+    let told : c.args.session.now.waiting ≡ 0 = omega (arith, w, c.if-waiting-ne0.false) in record {
+      lines = lines_after (unfinished_line fed) bytes;
+      held = a.held;
+      behind = a.behind;
+      desk = subst (λ (p : Option Peer). TakesBy g.D.Desk.takes p c.args.desk.now (lines_after (unfinished_line fed) bytes) a.held c.take.new.desk) (sym c.in-Some.is) a.answers;
+      goes = inr (
+          record {
+            lines_are = ap (λ (f : List ℕ). input_lines f) e.fed ∙ lines_more fed bytes;
+            text = λ i. e.replies.0 i ++ e.replies.1 i;
+            open_still = open_still;
+            told = told;
+            starts = e.first;
+            waits = sym a.one;
+            sound = e.sound;
+          }
+          );
+    }

@@ -1,7 +1,0 @@
-use Rattle.nmvs_connections.proofs.TurnSteps.{OpenTurn}
-use Rattle.nmvs_connections.proofs.worker.Floor.take_turns.Given as goal
-
--- the turns so far are a part of a turn
-abbrev pub invariant-loop-index : goal.invariant-loop-index
-invariant-loop-index g l =
-    OpenTurn g.D.Desk.takes g.D.Authorisations.tells g.D.Desk.releases g.D.Desk.moves l.initial.desk.desk l.desk.desk l.withheld l.self.asking.items l.initial.self.seats l.self.seats

@@ -1,0 +1,57 @@
+-- A connection with its peer: whose lines it carries, and which bytes are its header, its lines and its replies (own).
+use Rattle.std.specs.Prelude.{◌≡◌, ◌≢◌, ℕ, List, [], ◌++◌, Option, Some, None, codes}
+use Rattle.nmvs_messages.specs.declared.peer.NameOf.{NameOf}
+use Rattle.nmvs_messages.specs.declared.peer.Peer.{Peer}
+use Rattle.nmvs_messages.specs.declared.peer.Peer.TheVariants as peers
+use Rattle.nmvs_connections.specs.declared.peer_session.Stage.{Stage}
+use Rattle.nmvs_connections.specs.declared.peer_session.Stage.TheVariants as stages
+use Rattle.nmvs_connections.specs.declared.proxy_header.ProxyHeader.TheVariants as proxy_headers
+use Rattle.nmvs_connections.specs.ProxyHeader.{ReadsProxyHeader}
+use Rattle.nmvs_connections.specs.Replies.{SessionState}
+use Rattle.nmvs_connections.specs.Traffic.{Traffic}
+
+-- a connection: whose name the header of a gateway has that it begins with, if it begins with one; who is at its other end,
+-- once that is known; how far it has come; its bytes; and its session
+pub record PeerState : Type 0 where
+  pub proxy : Option NameOf
+  pub peer : Option Peer
+  pub stage : Stage
+  pub stream : Traffic
+  pub session : SessionState
+
+-- these bytes are the header that names the peer; where none is expected, the peer is anyone. Before the peer is known, there
+-- is no header, and the session was fed nothing
+abbrev pub NamesPeer : Option NameOf → Option Peer → List ℕ → List ℕ → Type 0
+NamesPeer proxy None header fed = (header ≡ []) × (fed ≡ [])
+NamesPeer None (Some peer) header fed = (header ≡ []) × (peer ≡ peers.Anyone)
+NamesPeer (Some name_of) (Some peer) header fed = ReadsProxyHeader header name_of (proxy_headers.Whole peer)
+
+-- these are the first bytes of the notice that a connection which sent nothing for too long is sent last
+abbrev pub IsNotice : List ℕ → Type 0
+IsNotice notice = (rest : List ℕ) × (notice ++ rest ≡ codes "FAULT IDLE\n")
+
+-- nothing is sent but replies, until the end
+abbrev pub EndsWith : Stage → List ℕ → Type 0
+EndsWith stages.Serving notice = notice ≡ []
+EndsWith stages.Ending notice = notice ≡ []
+EndsWith stages.Lingering notice = IsNotice notice
+
+-- the bytes that a connection received are those of its header, those that its session was fed, and the rest; the bytes that it
+-- was sent are the replies of its session, and at most a notice after them. While its lines are answered, the rest is unread
+pub record Holds (proxy : Option NameOf) (peer : Option Peer) (stage : Stage) (received sent fed replies unread : List ℕ) : Type 0 where
+  pub header : List ℕ
+  pub rest : List ℕ
+  pub received_is : received ≡ header ++ (fed ++ rest)
+  pub named : NamesPeer proxy peer header fed
+  pub left : stage ≡ stages.Serving → rest ≡ unread
+  pub notice : List ℕ
+  pub sent_is : sent ≡ replies ++ notice
+  pub ended : EndsWith stage notice
+
+-- a connection whose bytes are so
+abbrev pub IsConnection : PeerState → Type 0
+IsConnection c = (unread : List ℕ) × Holds c.proxy c.peer c.stage c.stream.received c.stream.sent c.session.fed c.session.sent unread
+
+-- a peer that was known stays
+abbrev pub StaysPeer : PeerState → PeerState → Type 0
+StaysPeer old new = (peer : Peer) → old.peer ≡ Some peer → new.peer ≡ Some peer

@@ -1,0 +1,21 @@
+-- What the first bytes of a connection tell of who is at its other end (own).
+use Rattle.std.specs.Prelude.{◌≡◌, ◌≢◌, ◌⊎◌, ℕ, List, length}
+use Rattle.nmvs_identifier.specs.Name.{Name}
+use Rattle.nmvs_gateway.specs.Header.{ReadsHeader}
+use Rattle.nmvs_gateway.specs.declared.header.Header.TheVariants as headers
+use Rattle.nmvs_messages.specs.declared.peer.NameOf.{NameOf}
+use Rattle.nmvs_messages.specs.Peers.{peer_named}
+use Rattle.nmvs_connections.specs.declared.proxy_header.ProxyHeader.{ProxyHeader}
+use Rattle.nmvs_connections.specs.declared.proxy_header.ProxyHeader.TheVariants as proxy_headers
+
+-- the bytes begin with no header that has the name of a verified certificate; or more was read than a header
+abbrev pub IsNoProxyHeader : List ℕ → Type 0
+IsNoProxyHeader bytes =
+    ReadsHeader bytes headers.Broken ⊎ ((name : Name) × (size : ℕ) × ReadsHeader bytes (headers.Whole name size) × (size ≢ length bytes))
+
+-- what is made of all that was read of a connection: a header and no byte behind it tells the peer, by the name of its
+-- certificate
+abbrev pub ReadsProxyHeader : List ℕ → NameOf → ProxyHeader → Type 0
+ReadsProxyHeader bytes name_of (proxy_headers.Begun missing) = ReadsHeader bytes (headers.Begun missing)
+ReadsProxyHeader bytes name_of (proxy_headers.Whole peer) = (name : Name) × ReadsHeader bytes (headers.Whole name (length bytes)) × (peer ≡ peer_named name_of name)
+ReadsProxyHeader bytes name_of proxy_headers.Broken = IsNoProxyHeader bytes

@@ -1,0 +1,405 @@
+//! The loop of a worker.
+ghost use Rattle.std.specs.Prelude.{◌≡◌, ◌≢◌, ◌++◌, ◌∷◌, [], ℕ, Some, None};
+ghost use Rattle.std.specs.List.{Contains};
+ghost use Rattle.slab.specs.Slab.{get};
+ghost use Rattle.nmvs_connections.specs.declared.connection.Connection.{Connection as TheConnection};
+ghost use Rattle.nmvs_connections.specs.Turns.{EachGoes, WaitsForRelease, TellsAll, TellsPeer, TellsWhereAsked, TurnOfOne, WorkerTurn};
+
+use crate::connection::Connection;
+use crate::next::Next;
+use crate::scratch::Scratch;
+use crate::worker_pool::{Accepted, Poller, WAKE, WorkerPool};
+use log::{Log, debug};
+use mio::event::Event;
+use mio::{Events, Registry};
+use nmvs_figures::Fault;
+use nmvs_messages::{Desk, Released, WithheldAnswers};
+use slab::Slab;
+use std::alloc::{AllocError, Global};
+use std::rt::Clock;
+use std::sync::Wait;
+use std::time::{Duration, Instant};
+use std::{io, mem};
+
+#[cfg(test)]
+mod tests;
+
+/// How many seconds behind each other a worker looks for connections that waited too long (own).
+const TICK: u64 = 1;
+
+/// Serves the connections that are accepted for the worker of this number, until the pool is closed and each session has ended.
+///
+/// # Errors
+///
+/// The system refused to wait, or the clock can't be read.
+pub fn serve<'a, R: Wait + Clock + Log, D: Desk<'a>>(
+    rt: &R,
+    alloc: Global,
+    pool: &WorkerPool<'_>,
+    worker: usize,
+    poller: Poller,
+    desk: &mut D,
+) -> io::Result<()> {
+    let mut poller = poller;
+    let mut scratch = Scratch::new(alloc, Instant::now(rt)?);
+    let mut event_loop = EventLoop::new(alloc, worker, scratch.now);
+    event_loop.serve_all(rt, pool, &mut poller, &mut scratch, desk)
+}
+
+/// The connections of a worker, and whose turns come.
+#[derive(Drop)]
+struct EventLoop {
+    /// The number of the worker.
+    worker: usize,
+    connections: Slab<Connection>,
+    turns: Vec<usize>,
+    later: Vec<usize>,
+    /// Whose answers wait for the release.
+    awaiting: Vec<usize>,
+    /// When those were looked for last that waited too long.
+    looked: Instant,
+    /// Whether no more sessions begin.
+    closing: bool,
+}
+
+impl EventLoop {
+    fn new(alloc: Global, worker: usize, now: Instant) -> EventLoop {
+        EventLoop {
+            worker,
+            connections: Slab::new(alloc),
+            turns: Vec::new(alloc),
+            later: Vec::new(alloc),
+            awaiting: Vec::new(alloc),
+            looked: now,
+            closing: false,
+        }
+    }
+
+    /// Serves the connections until the pool is closed and each session has ended.
+    fn serve_all<'a, R: Wait + Clock + Log, D: Desk<'a>>(
+        &mut self,
+        rt: &R,
+        pool: &WorkerPool<'_>,
+        poller: &mut Poller,
+        scratch: &mut Scratch,
+        desk: &mut D,
+    ) -> io::Result<()> {
+        let mut withheld = WithheldAnswers::new();
+        for _ in 0..u64::MAX {
+            poller.poll.poll(&mut poller.events, self.poll_timeout())?;
+            scratch.now = Instant::now(rt)?;
+            if self.note_all(&poller.events) {
+                self.check_shutdown(rt, pool);
+                self.admit_all(rt, pool, poller.poll.registry(), scratch);
+            }
+            self.take_turns(rt, pool, scratch, &mut withheld, desk);
+            self.check_timeouts(rt, pool, scratch.now);
+            if self.closing && self.connections.is_empty() {
+                return Ok(());
+            }
+        }
+        Ok(())
+    }
+
+    /// How long the worker may wait for the system's reports.
+    fn poll_timeout(&self) -> Option<Duration> {
+        if !self.turns.is_empty() {
+            Some(Duration::ZERO)
+        } else if self.connections.is_empty() {
+            None
+        } else {
+            Some(Duration::from_secs(TICK))
+        }
+    }
+
+    /// Notes what the system reports, and tells whether the worker was woken.
+    fn note_all(&mut self, events: &Events) -> bool {
+        let mut woken = false;
+        for event in events {
+            if event.token() == WAKE {
+                woken = true;
+            } else {
+                self.note(event);
+            }
+        }
+        woken
+    }
+
+    fn note(&mut self, event: &Event) {
+        let key = event.token().0;
+        if let Some(connection) = self.connections.get_mut(key) {
+            if event.is_read_closed() || event.is_error() {
+                connection.on_peer_closed();
+            }
+        }
+        self.queue(key);
+    }
+
+    /// Has the turn of a connection come, where it does not yet.
+    fn queue(&mut self, key: usize) {
+        let Some(connection) = self.connections.get_mut(key) else {
+            return;
+        };
+        if !connection.queued {
+            // Room was made when the connection was admitted.
+            connection.queued = self.turns.push(key).is_ok();
+        }
+    }
+
+    /// Admits the connections that were accepted for the worker.
+    fn admit_all<R: Wait + Log>(
+        &mut self,
+        rt: &R,
+        pool: &WorkerPool<'_>,
+        registry: &Registry,
+        scratch: &Scratch,
+    ) {
+        for _ in 0..u64::MAX {
+            let Some(accepted) = pool.next_accepted(rt, self.worker) else {
+                return;
+            };
+            if self.closing || self.admit(pool, registry, accepted, scratch).is_err() {
+                pool.leave(rt, self.worker);
+            }
+        }
+    }
+
+    fn admit(
+        &mut self,
+        pool: &WorkerPool<'_>,
+        registry: &Registry,
+        accepted: Accepted,
+        scratch: &Scratch,
+    ) -> io::Result<()> {
+        let most = self.connections.len().saturating_add(1);
+        self.turns.reserve(most)?;
+        self.later.reserve(most)?;
+        self.awaiting.reserve(most)?;
+        let mut connection = Connection::new(scratch.alloc, accepted, pool.proxy(), scratch.now);
+        connection.register(registry, self.connections.vacant_key())?;
+        match self.connections.insert(connection) {
+            Ok(_key) => Ok(()),
+            Err(_) => Err(io::Error::from(AllocError)),
+        }
+    }
+
+    /// Learns whether the service ends.
+    fn check_shutdown<R: Wait + Log>(&mut self, rt: &R, pool: &WorkerPool<'_>) {
+        if !pool.is_closing(rt) {
+            return;
+        }
+        self.closing = true;
+        let stopped = pool.is_stopped(rt);
+        for key in 0..self.connections.capacity() {
+            let is_served = match self.connections.get_mut(key) {
+                Some(connection) => {
+                    if stopped {
+                        connection.stop();
+                    }
+                    stopped || connection.is_served()
+                }
+                None => continue,
+            };
+            if is_served {
+                self.queue(key);
+            } else {
+                self.remove(rt, pool, key);
+            }
+        }
+    }
+
+    /// Gives each connection whose turn it is its turn. The answers of all of them are released together, as far as the
+    /// list of them has room and none shows a list.
+    fn take_turns<'a, R: Wait + Log, D: Desk<'a>>(
+        &mut self,
+        rt: &R,
+        pool: &WorkerPool<'_>,
+        scratch: &mut Scratch,
+        withheld: &mut WithheldAnswers<'a>,
+        desk: &mut D,
+    )
+        requires { withheld.old ≡ [] }
+        ensures none_withheld { withheld.new ≡ [] }
+        ensures turn { WorkerTurn D.takes D.releases D.moves desk.old desk.new self.old.connections self.new.connections }
+    {
+        for index in 0..self.turns.len() {
+            let Some(key) = self.turns.get(index).copied() else {
+                continue;
+            };
+            if !self.take_turn(rt, pool, key, scratch, withheld, desk) {
+                continue;
+            }
+            self.tell_all(rt, pool, scratch, withheld, desk);
+        }
+        self.tell_all(rt, pool, scratch, withheld, desk);
+        self.turns.clear();
+        mem::swap(&mut self.turns, &mut self.later);
+    }
+
+    /// Gives a connection its turn, and tells whether what is withheld is released before another has its own.
+    fn take_turn<'a, R: Wait + Log, D: Desk<'a>>(
+        &mut self,
+        rt: &R,
+        pool: &WorkerPool<'_>,
+        key: usize,
+        scratch: &mut Scratch,
+        withheld: &mut WithheldAnswers<'a>,
+        desk: &mut D,
+    ) -> bool
+        ensures { TurnOfOne D.takes key desk.old desk.new withheld.old withheld.new self.old.awaiting.items self.new.awaiting.items self.old.connections self.new.connections }
+    {
+        let Some(connection) = self.connections.get_mut(key) else {
+            return false;
+        };
+        connection.queued = false;
+        let next = connection.take_turn(rt, pool, scratch, withheld, desk);
+        self.dispatch(rt, pool, key, next);
+        next == Next::ReleaseNow
+    }
+
+    /// Does with a connection what becomes of it behind its turn.
+    fn dispatch<R: Wait + Log>(&mut self, rt: &R, pool: &WorkerPool<'_>, key: usize, next: Next)
+        ensures asks { WaitsForRelease next → (connection : TheConnection) → get self.new.connections key ≡ Some connection → Contains self.new.awaiting.items key }
+        ensures still { (other : ℕ) → Contains self.old.awaiting.items other → Contains self.new.awaiting.items other }
+        ensures connections { EachGoes (λ key state state'. state' ≡ state) self.old.connections self.new.connections }
+    {
+        match next {
+            Next::WaitRelease | Next::ReleaseNow => self.note_awaiting(rt, pool, key),
+            Next::Again | Next::WaitIo | Next::Close => self.go_on(rt, pool, key, next),
+        }
+    }
+
+    /// Has the desk release what is withheld, once for all connections that wait for it, and each of them tell its own.
+    /// Where nothing is withheld the desk is not asked.
+    fn tell_all<'a, R: Wait + Log, D: Desk<'a>>(
+        &mut self,
+        rt: &R,
+        pool: &WorkerPool<'_>,
+        scratch: &mut Scratch,
+        withheld: &mut WithheldAnswers<'a>,
+        desk: &mut D,
+    )
+        ensures none_withheld { withheld.new ≡ [] }
+        ensures none_asks { self.new.awaiting.items ≡ [] }
+        ensures tells { TellsAll D.releases D.moves desk.old desk.new withheld.old self.old.awaiting.items self.old.connections self.new.connections }
+    {
+        if withheld.len() == 0 {
+            self.tell_each(rt, pool, scratch, &withheld.release());
+            return;
+        }
+        let (released, _evidence) = desk.release(withheld);
+        pool.tally(self.worker).note_told(&released);
+        self.tell_each(rt, pool, scratch, &released);
+        withheld.clear();
+    }
+
+    /// Has each connection that waits for it tell its own of what was released.
+    fn tell_each<R: Wait + Log>(
+        &mut self,
+        rt: &R,
+        pool: &WorkerPool<'_>,
+        scratch: &mut Scratch,
+        released: &Released<'_, '_>,
+    )
+        ensures none_asks { self.new.awaiting.items ≡ [] }
+        ensures tells { EachGoes (TellsWhereAsked released.now self.old.awaiting.items) self.old.connections self.new.connections }
+    {
+        while let Some(key) = self.awaiting.pop() {
+            self.tell(rt, pool, key, scratch, released);
+        }
+    }
+
+    /// Has a connection tell its own of what was released.
+    fn tell<R: Wait + Log>(
+        &mut self,
+        rt: &R,
+        pool: &WorkerPool<'_>,
+        key: usize,
+        scratch: &mut Scratch,
+        released: &Released<'_, '_>,
+    )
+        ensures awaiting { self.new.awaiting ≡ self.old.awaiting }
+        ensures tells { EachGoes (λ other state state'. (other ≡ key → TellsPeer released.now state state') × (other ≢ key → state' ≡ state)) self.old.connections self.new.connections }
+    {
+        let Some(connection) = self.connections.get_mut(key) else {
+            return;
+        };
+        let next = connection.tell(scratch, released);
+        self.go_on(rt, pool, key, next);
+    }
+
+    /// Does with a connection what becomes of it where it waits for no release.
+    fn go_on<R: Wait + Log>(&mut self, rt: &R, pool: &WorkerPool<'_>, key: usize, next: Next)
+        ensures awaiting { self.new.awaiting ≡ self.old.awaiting }
+        ensures connections { EachGoes (λ key state state'. state' ≡ state) self.old.connections self.new.connections }
+    {
+        match next {
+            Next::Again => self.queue_later(key),
+            Next::Close => self.remove(rt, pool, key),
+            Next::WaitIo | Next::WaitRelease | Next::ReleaseNow => {}
+        }
+    }
+
+    /// Notes that a connection waits for the release. Where it can't be noted, it is closed.
+    fn note_awaiting<R: Wait + Log>(&mut self, rt: &R, pool: &WorkerPool<'_>, key: usize)
+        ensures asks { (connection : TheConnection) → get self.new.connections key ≡ Some connection → self.new.awaiting.items ≡ self.old.awaiting.items ++ key ∷ [] }
+        ensures still { (other : ℕ) → Contains self.old.awaiting.items other → Contains self.new.awaiting.items other }
+        ensures connections { EachGoes (λ key state state'. state' ≡ state) self.old.connections self.new.connections }
+    {
+        // Room was made when the connection was admitted.
+        if self.awaiting.push(key).is_err() {
+            self.remove(rt, pool, key);
+        }
+    }
+
+    fn queue_later(&mut self, key: usize)
+        ensures awaiting { self.new.awaiting ≡ self.old.awaiting }
+        ensures connections { EachGoes (λ key state state'. state' ≡ state) self.old.connections self.new.connections }
+    {
+        if let Some(connection) = self.connections.get_mut(key) {
+            connection.queued = self.later.push(key).is_ok();
+        }
+    }
+
+    /// Closes a connection.
+    fn remove<R: Wait + Log>(&mut self, rt: &R, pool: &WorkerPool<'_>, key: usize)
+        ensures awaiting { self.new.awaiting ≡ self.old.awaiting }
+        ensures gone { get self.new.connections key ≡ None }
+        ensures connections { EachGoes (λ key state state'. state' ≡ state) self.old.connections self.new.connections }
+    {
+        self.log_end(rt, key);
+        if self.connections.try_remove(key).is_some() {
+            pool.leave(rt, self.worker);
+        }
+    }
+
+    /// Tells in the log that a connection ends, and why.
+    fn log_end<R: Log>(&self, rt: &R, key: usize) {
+        if let Some(connection) = self.connections.get(key) {
+            let reason = connection.reason();
+            debug!(rt; connection = connection.number, worker = self.worker, reason; "connection ends");
+        }
+    }
+
+    /// Looks for connections that waited too long, where it is time to.
+    fn check_timeouts<R: Wait + Log>(&mut self, rt: &R, pool: &WorkerPool<'_>, now: Instant) {
+        if now.duration_since(self.looked).as_secs() < TICK {
+            return;
+        }
+        self.looked = now;
+        for key in 0..self.connections.capacity() {
+            let next = match self.connections.get_mut(key) {
+                Some(connection) => connection.check_timeouts(now, pool.idle()),
+                None => Next::WaitIo,
+            };
+            match next {
+                Next::Again => {
+                    pool.tally(self.worker).note_fault(Fault::Idle);
+                    self.queue(key);
+                }
+                Next::Close => self.remove(rt, pool, key),
+                Next::WaitIo | Next::WaitRelease | Next::ReleaseNow => {}
+            }
+        }
+    }
+}

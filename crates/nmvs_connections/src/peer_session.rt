@@ -1,0 +1,376 @@
+//! The session of the peer of a connection, over its bytes.
+ghost use Rattle.std.specs.Prelude.{◌≡◌, ◌≤◌, ◌++◌, if◌then◌else◌, List, ℕ, Some, None, IfSome, length, take};
+ghost use Rattle.nmvs_messages.specs.Peers.{TakesFrom};
+ghost use Rattle.nmvs_connections.specs.declared.next.Next.{Next as TheNext};
+ghost use Rattle.nmvs_connections.specs.declared.peer_session.Stage.TheVariants as stages;
+ghost use Rattle.nmvs_connections.specs.Peers.{IsConnection, StaysPeer};
+ghost use Rattle.nmvs_connections.specs.Turns.{ConnectionSteps, Kept, LinesStep, TellsOwn, WaitsForRelease};
+
+use crate::buffered_session::BufferedSession;
+use crate::next::Next;
+use crate::proxy_header::{ProxyHeader, read_proxy_header};
+use crate::scratch::Scratch;
+use crate::socket::{Moved, Socket};
+use crate::stream::Stream;
+use crate::worker_pool::WorkerPool;
+use memchr::memchr;
+use mio::{Registry, Token};
+use nmvs_messages::{Desk, End, NO_LIMITS, NameOf, Peer, READ_SIZE, Released, WithheldAnswers};
+use std::alloc::Global;
+use std::io;
+use std::marker::Model;
+use std::sync::Wait;
+
+/// The last reply to a connection that sent nothing for too long.
+const IDLE: &[u8] = b"FAULT IDLE\n";
+
+/// How far a connection has come.
+#[derive(Clone, Copy, PartialEq, Eq)]
+pub(crate) enum Stage {
+    /// Its header is read, where it has one, and then its lines are answered.
+    Serving,
+    /// No more lines are answered, and its replies are sent to the end.
+    Ending,
+    /// The peer was told that no more is written, and is read on: where a connection is closed with bytes unread, the
+    /// system takes back what the peer has not received yet.
+    Lingering,
+}
+
+/// The session of the peer of a connection: its lines are read from the stream, and its replies are written there. Behind a
+/// gateway the stream begins with a header, which names the peer. No line is taken before the peer is known.
+#[derive(Drop)]
+pub(crate) struct PeerSession {
+    stream: Stream,
+    session: BufferedSession,
+    /// Whose name the header has that the stream begins with, if it begins with one.
+    proxy: Option<NameOf>,
+    /// Who is at the other end, once that is known.
+    peer: Option<Peer>,
+    /// What was read, and is taken once the replies to what was taken are sent; first what has come of a header.
+    unread: Vec<u8>,
+    stage: Stage,
+    /// Whether its last read filled the buffer, so that more may be there to be read at once.
+    filled: bool,
+    /// Whether a line of it was served.
+    served: bool,
+}
+
+impl Model for PeerSession {
+    ghost use Rattle.nmvs_connections.specs.Peers.{PeerState, Holds};
+
+    ghost Value = { PeerState };
+
+    ghost view = { λ p. record { proxy = p.proxy; peer = p.peer; stage = p.stage; stream = p.stream; session = p.session } };
+
+    ghost invariant = { λ p. Holds p.proxy p.peer p.stage p.stream.received p.stream.sent p.session.fed p.session.sent p.unread.items };
+}
+
+impl PeerSession {
+    /// The session of anyone over the socket, or of the peer that a header names.
+    pub(crate) fn new(alloc: Global, socket: Socket, proxy: Option<NameOf>) -> PeerSession
+        ensures { result.proxy ≡ proxy }
+    {
+        PeerSession {
+            stream: Stream::new(socket),
+            session: BufferedSession::new(alloc, NO_LIMITS.lines),
+            proxy,
+            peer: match proxy {
+                Some(_) => None,
+                None => Some(Peer::Anyone),
+            },
+            unread: Vec::new(alloc),
+            stage: Stage::Serving,
+            filled: false,
+            served: false,
+        }
+    }
+
+    /// Has a poll report the connection under the key.
+    pub(crate) fn register(&mut self, registry: &Registry, key: usize) -> io::Result<()>
+        ensures { self.new ≡ self.old }
+    {
+        self.stream.register(registry, Token(key))
+    }
+
+    /// How far it has come.
+    pub(crate) fn stage(&self) -> Stage
+        ensures { result ≡ self.now.stage }
+    {
+        self.stage
+    }
+
+    /// Whose name the header has that has still to come.
+    pub(crate) fn awaited_header(&self) -> Option<NameOf>
+        ensures { IfSome result (λ name_of. (self.now.peer ≡ None) × (self.now.proxy ≡ Some name_of)) }
+    {
+        match self.peer {
+            Some(_) => None,
+            None => self.proxy,
+        }
+    }
+
+    /// How the session ended, where it has.
+    pub(crate) fn end(&self) -> Option<End>
+        ensures { result ≡ self.now.session.ended }
+    {
+        self.session.end()
+    }
+
+    /// Whether a line of it was served.
+    pub(crate) fn is_served(&self) -> bool {
+        self.served
+    }
+
+    /// Whether bytes were read that were not taken.
+    pub(crate) fn has_unread(&self) -> bool {
+        !self.unread.is_empty()
+    }
+
+    /// Whether more may be there to be taken at once.
+    pub(crate) fn may_have_more(&self) -> bool {
+        self.filled || !self.unread.is_empty()
+    }
+
+    /// Whether all replies were sent.
+    pub(crate) fn is_sent(&self) -> bool
+        ensures { IsConnection self.now }
+    {
+        self.session.unsent().is_empty()
+    }
+
+    /// Sends as much of what is unsent as the system takes.
+    pub(crate) fn send(&mut self) -> Moved
+        ensures kept { Kept self.old.session self.new.session }
+        ensures peer { self.new.peer ≡ self.old.peer }
+    {
+        if self.stage == Stage::Lingering {
+            return Moved::Over;
+        }
+        let moved = self.stream.write(self.session.unsent());
+        if let Moved::Bytes(count) = moved {
+            self.session.advance(count);
+        }
+        moved
+    }
+
+    /// Reads on in the header of a gateway, and no byte after it. A connection that has none with a name ends.
+    pub(crate) fn read_header(&mut self, name_of: NameOf, buffer: &mut [u8]) -> Next
+        requires awaited { self.old.peer ≡ None }
+        requires proxy { self.old.proxy ≡ Some name_of }
+        requires serving { self.old.stage ≡ stages.Serving }
+        requires room { READ_SIZE ≤ length buffer.old }
+        ensures { self.new.session ≡ self.old.session }
+    {
+        let missing = match read_proxy_header(self.unread.as_slice(), name_of) {
+            ProxyHeader::Begun { missing } => missing.min(READ_SIZE),
+            ProxyHeader::Whole(peer) => {
+                self.peer = Some(peer);
+                self.unread.clear();
+                return Next::Again;
+            }
+            ProxyHeader::Broken => {
+                self.stage = Stage::Ending;
+                return Next::Again;
+            }
+        };
+        let buffer = &mut buffer[..missing];
+        let count = match self.stream.read(buffer) {
+            Moved::Bytes(count) => count,
+            Moved::Blocked => return Next::WaitIo,
+            Moved::Over => return Next::Close,
+        };
+        match self.unread.extend_from_slice(&buffer[..count]) {
+            Ok(()) => Next::Again,
+            Err(_) => {
+                self.stage = Stage::Ending;
+                Next::Close
+            }
+        }
+    }
+
+    /// Takes the lines of what is unread, or else of what one read gives.
+    pub(crate) fn take<'a, R: Wait, D: Desk<'a>>(
+        &mut self,
+        rt: &R,
+        pool: &WorkerPool<'_>,
+        buffer: &mut [u8],
+        withheld: &mut WithheldAnswers<'a>,
+        desk: &mut D,
+    ) -> Next
+        requires { self.old.stage ≡ stages.Serving }
+        ensures { ConnectionSteps D.takes desk.old desk.new withheld.old withheld.new result self.old self.new }
+    {
+        if !self.unread.as_slice().is_empty() {
+            return self.take_unread(withheld, desk);
+        }
+        let count = match self.stream.read(buffer) {
+            Moved::Bytes(count) => count,
+            Moved::Blocked => return Next::WaitIo,
+            Moved::Over => return Next::Close,
+        };
+        let chunk = &buffer[..count];
+        let Some(served) = begin_session(rt, pool, self.served, chunk) else {
+            self.stage = Stage::Ending;
+            return Next::Close;
+        };
+        self.served = served;
+        self.filled = count == READ_SIZE;
+        let taken = take_lines(&mut self.session, &self.peer, chunk, withheld, desk);
+        let next = next_of(taken == count, withheld);
+        if is_lost(&mut self.unread, &chunk[taken..]) {
+            self.stage = Stage::Ending;
+            return next;
+        }
+        next
+    }
+
+    /// Takes the lines of what is unread.
+    fn take_unread<'a, D: Desk<'a>>(
+        &mut self,
+        withheld: &mut WithheldAnswers<'a>,
+        desk: &mut D,
+    ) -> Next
+        requires { self.old.stage ≡ stages.Serving }
+        ensures { ConnectionSteps D.takes desk.old desk.new withheld.old withheld.new result self.old self.new }
+    {
+        self.filled = true;
+        let count = self.unread.len();
+        let unread = self.unread.as_slice();
+        let taken = take_lines(&mut self.session, &self.peer, unread, withheld, desk);
+        self.unread.rotate_left(taken);
+        self.unread.truncate(count - taken);
+        next_of(taken == count, withheld)
+    }
+
+    /// Words its part of the answers that are released. Where the session has ended, no more lines are answered.
+    pub(crate) fn tell(&mut self, scratch: &mut Scratch, released: &Released<'_, '_>)
+        ensures tells { TellsOwn released.now self.old.session self.new.session }
+        ensures peer { self.new.peer ≡ self.old.peer }
+    {
+        // Without memory for room the replies find none either.
+        let _refused = scratch.make_room();
+        self.session.exchange(&mut scratch.room);
+        self.session.tell(scratch.alloc, released);
+        if self.session.end().is_none() {
+            return;
+        }
+        self.stop_serving();
+    }
+
+    /// Gives back the room that the replies had, where none are unsent.
+    pub(crate) fn exchange(&mut self, room: &mut Vec<u8>)
+        ensures { self.new ≡ self.old }
+    {
+        self.session.exchange(room);
+    }
+
+    /// Answers no more lines.
+    pub(crate) fn stop_serving(&mut self)
+        ensures session { self.new.session ≡ self.old.session }
+        ensures peer { self.new.peer ≡ self.old.peer }
+    {
+        if self.stage == Stage::Serving {
+            self.stage = Stage::Ending;
+        }
+    }
+
+    /// Tells the peer that no more is written.
+    #[tactic(auto, using(crate::proofs::PeerSteps::holds_quiet))]
+    pub(crate) fn shutdown_write(&mut self)
+        requires { self.old.stage ≡ stages.Ending }
+        ensures session { self.new.session ≡ self.old.session }
+        ensures peer { self.new.peer ≡ self.old.peer }
+    {
+        self.stream.shutdown_write();
+        self.stage = Stage::Lingering;
+    }
+
+    /// Tells the peer that it sent nothing for too long, and that no more is written.
+    pub(crate) fn shutdown_idle(&mut self)
+        requires { self.old.stage ≡ stages.Ending }
+        ensures session { self.new.session ≡ self.old.session }
+        ensures peer { self.new.peer ≡ self.old.peer }
+    {
+        let _moved = self.stream.write(IDLE);
+        self.stream.shutdown_write();
+        self.stage = Stage::Lingering;
+    }
+
+    /// Reads on, and lets the bytes go.
+    pub(crate) fn linger(&mut self, buffer: &mut [u8]) -> Next
+        requires { self.old.stage ≡ stages.Lingering }
+        ensures session { self.new.session ≡ self.old.session }
+        ensures peer { self.new.peer ≡ self.old.peer }
+    {
+        match self.stream.read(buffer) {
+            Moved::Bytes(_) => Next::Again,
+            Moved::Blocked => Next::WaitIo,
+            Moved::Over => Next::Close,
+        }
+    }
+}
+
+/// Whether a line was served once these bytes are taken; or none, where their first line would begin one session too many.
+fn begin_session<R: Wait>(
+    rt: &R,
+    pool: &WorkerPool<'_>,
+    served: bool,
+    bytes: &[u8],
+) -> Option<bool> {
+    if served || memchr(b'\n', bytes).is_none() {
+        return Some(served);
+    }
+    if pool.begin_session(rt) {
+        Some(true)
+    } else {
+        None
+    }
+}
+
+/// Keeps these bytes too, or tells that there was no memory for them.
+fn is_lost(unread: &mut Vec<u8>, rest: &[u8]) -> bool
+    ensures { unread.new.items ≡ (if result then unread.old.items else unread.old.items ++ rest.now) }
+{
+    match unread.extend_from_slice(rest) {
+        Ok(()) => false,
+        Err(_) => true,
+    }
+}
+
+/// Takes the lines of these bytes for the peer, where it is known and the session goes on, and tells how many of the bytes it
+/// took.
+fn take_lines<'a, D: Desk<'a>>(
+    session: &mut BufferedSession,
+    peer: &Option<Peer>,
+    bytes: &[u8],
+    withheld: &mut WithheldAnswers<'a>,
+    desk: &mut D,
+) -> usize
+    ensures within { result ≤ length bytes.now }
+    ensures fed { session.new.fed ≡ session.old.fed ++ take result bytes.now }
+    ensures sent { session.new.sent ≡ session.old.sent }
+    ensures known { peer.now ≡ None → result ≡ 0 }
+    ensures takes { LinesStep D.takes peer.now desk.old desk.new withheld.old withheld.new session.old session.new }
+{
+    let Some(peer) = peer else {
+        return 0;
+    };
+    if session.end().is_some() {
+        return 0;
+    }
+    if session.waiting() != 0 {
+        return 0;
+    }
+    session.take(bytes, withheld, peer, desk)
+}
+
+/// Waits for what was taken to be released: at once where the last answer may be long, or where bytes were left.
+fn next_of(all: bool, withheld: &WithheldAnswers<'_>) -> Next
+    ensures { WaitsForRelease result }
+{
+    if all && !withheld.ends_long() {
+        Next::WaitRelease
+    } else {
+        Next::ReleaseNow
+    }
+}

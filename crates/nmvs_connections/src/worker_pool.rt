@@ -1,0 +1,318 @@
+//! What the threads of a server share.
+use crate::socket::Socket;
+use mio::{Events, Poll, Token, Waker};
+use nmvs_figures::{Fault, Panel, Tally};
+use nmvs_messages::NameOf;
+use std::alloc::{AllocError, Global};
+use std::io;
+use std::net::Net;
+use std::sync::{Mutex, Wait};
+use std::time::Duration;
+
+/// The token of a wake-up.
+pub(crate) const WAKE: Token = Token(usize::MAX);
+
+/// How many events of a worker are taken at once (own).
+const WORKER_EVENTS: usize = 1_024;
+
+/// How many events of the thread that accepts are taken at once: the listener's and a wake-up (own).
+const ACCEPTOR_EVENTS: usize = 2;
+
+/// How far connections may go.
+#[derive(Clone, Copy)]
+pub struct Bounds {
+    /// The most connections that are open at once.
+    pub connections: usize,
+    /// How long a connection may send nothing, where it may not for ever.
+    pub idle: Option<Duration>,
+    /// Whose name the gateway's header has that each connection begins with, where it begins with one.
+    pub proxy: Option<NameOf>,
+    /// How many sessions are served in which a line is served.
+    pub sessions: u64,
+}
+
+/// Counts of the connections of all workers.
+#[derive(Drop)]
+struct Counts {
+    open: usize,
+    /// How many of them each worker has.
+    workers: Vec<usize>,
+    /// How many sessions have begun.
+    begun: u64,
+    /// How many more sessions may begin.
+    sessions: u64,
+    stopped: bool,
+}
+
+impl Counts {
+    /// No open connection, and how many sessions may begin.
+    fn none(alloc: Global, workers: usize, sessions: u64) -> Result<Counts, AllocError> {
+        Ok(Counts {
+            open: 0,
+            workers: Vec::from_elem(alloc, 0, workers)?,
+            begun: 0,
+            sessions,
+            stopped: false,
+        })
+    }
+
+    /// Counts a connection more of the worker of this number.
+    fn enter(&mut self, worker: usize) {
+        self.open = self.open.saturating_add(1);
+        if let Some(open) = self.workers.get_mut(worker) {
+            *open = open.saturating_add(1);
+        }
+    }
+
+    /// Counts a connection less of the worker of this number.
+    fn leave(&mut self, worker: usize) {
+        self.open = self.open.saturating_sub(1);
+        if let Some(open) = self.workers.get_mut(worker) {
+            *open = open.saturating_sub(1);
+        }
+    }
+}
+
+/// How busy a pool is, at one moment.
+#[derive(Drop)]
+pub struct Load {
+    /// How many connections are open.
+    pub open: usize,
+    /// How many of them each worker has.
+    pub workers: Vec<usize>,
+    /// How many sessions have begun in which a line is served.
+    pub sessions: u64,
+}
+
+/// A connection that was accepted, and its number, in the order in which they were accepted.
+#[derive(Drop)]
+pub(crate) struct Accepted {
+    pub(crate) number: usize,
+    pub(crate) socket: Socket,
+}
+
+/// How a worker is reached: the connections that were accepted for it, and what ends its wait.
+#[derive(Drop)]
+struct Inbox {
+    accepted: Mutex<Vec<Accepted>>,
+    waker: Waker,
+}
+
+impl Inbox {
+    /// The inbox of the worker that waits at this poller.
+    fn of(alloc: Global, poller: &Poller) -> io::Result<Inbox> {
+        let waker = poller.waker()?;
+        Ok(Inbox {
+            accepted: Mutex::new(Vec::new(alloc)),
+            waker,
+        })
+    }
+}
+
+/// What the threads of a server share: the counts of its connections, how each thread is reached, and where is counted what
+/// they do.
+#[derive(Drop)]
+pub struct WorkerPool<'p> {
+    bounds: Bounds,
+    panel: &'p Panel,
+    counts: Mutex<Counts>,
+    inboxes: Vec<Inbox>,
+    acceptor: Waker,
+}
+
+/// Where one thread waits.
+#[derive(Drop)]
+pub struct Poller {
+    pub(crate) poll: Poll,
+    pub(crate) events: Events,
+}
+
+impl Poller {
+    fn new(rt: &impl Net, alloc: Global, events: usize) -> io::Result<Poller> {
+        Ok(Poller {
+            poll: Poll::new(rt)?,
+            events: Events::with_capacity(alloc, events)?,
+        })
+    }
+
+    fn waker(&self) -> io::Result<Waker> {
+        Waker::new(self.poll.registry(), WAKE)
+    }
+}
+
+impl<'p> WorkerPool<'p> {
+    /// A pool for so many workers, with a poller for each, and one for the thread that accepts. What is done in it is
+    /// counted on the panel.
+    ///
+    /// # Errors
+    ///
+    /// Memory, or a descriptor, was refused.
+    pub fn open(
+        rt: &impl Net,
+        alloc: Global,
+        workers: usize,
+        bounds: Bounds,
+        panel: &'p Panel,
+    ) -> io::Result<(WorkerPool<'p>, Vec<Poller>, Poller)> {
+        let acceptor = Poller::new(rt, alloc, ACCEPTOR_EVENTS)?;
+        let mut pool = WorkerPool::with_acceptor(alloc, &acceptor, workers, bounds, panel)?;
+        let pollers = pool.open_inboxes(rt, alloc, workers)?;
+        Ok((pool, pollers, acceptor))
+    }
+
+    /// A pool that has no inbox of a worker yet. The thread that accepts waits at this poller.
+    fn with_acceptor(
+        alloc: Global,
+        acceptor: &Poller,
+        workers: usize,
+        bounds: Bounds,
+        panel: &'p Panel,
+    ) -> io::Result<WorkerPool<'p>> {
+        let counts = Counts::none(alloc, workers, bounds.sessions)?;
+        let inboxes = Vec::with_capacity(alloc, workers)?;
+        let waker = acceptor.waker()?;
+        Ok(WorkerPool {
+            bounds,
+            panel,
+            counts: Mutex::new(counts),
+            inboxes,
+            acceptor: waker,
+        })
+    }
+
+    /// Makes an inbox for each worker, and gives their pollers.
+    fn open_inboxes(
+        &mut self,
+        rt: &impl Net,
+        alloc: Global,
+        workers: usize,
+    ) -> io::Result<Vec<Poller>> {
+        let mut pollers = Vec::with_capacity(alloc, workers)?;
+        for _ in 0..workers {
+            let poller = Poller::new(rt, alloc, WORKER_EVENTS)?;
+            let inbox = Inbox::of(alloc, &poller)?;
+            self.inboxes.push(inbox)?;
+            pollers.push(poller)?;
+        }
+        Ok(pollers)
+    }
+
+    /// Ends the service: no connection is accepted any more, and each session ends behind the lines that were read.
+    pub fn stop(&self, rt: &impl Wait) {
+        self.counts.lock(rt).stopped = true;
+        self.wake_all();
+    }
+
+    /// Whether the service was stopped.
+    pub(crate) fn is_stopped(&self, rt: &impl Wait) -> bool {
+        self.counts.lock(rt).stopped
+    }
+
+    /// Whether no more sessions begin.
+    pub(crate) fn is_closing(&self, rt: &impl Wait) -> bool {
+        let counts = self.counts.lock(rt);
+        counts.stopped || counts.sessions == 0
+    }
+
+    /// How long a connection may send nothing.
+    pub(crate) fn idle(&self) -> Option<Duration> {
+        self.bounds.idle
+    }
+
+    /// Whose name the header has that a connection begins with, where it does.
+    pub(crate) fn proxy(&self) -> Option<NameOf> {
+        self.bounds.proxy
+    }
+
+    /// What it counts now. Connections are counted where they begin and end, and no line costs anything for it.
+    ///
+    /// # Errors
+    ///
+    /// There is no memory for the list of workers.
+    pub fn load(&self, rt: &impl Wait, alloc: Global) -> Result<Load, AllocError> {
+        let mut workers = Vec::with_capacity(alloc, self.inboxes.len())?;
+        let counts = self.counts.lock(rt);
+        for open in &counts.workers {
+            workers.push(*open)?;
+        }
+        Ok(Load {
+            open: counts.open,
+            workers,
+            sessions: counts.begun,
+        })
+    }
+
+    /// The worker to which the connection of this number is accepted: the next one of their row.
+    pub(crate) fn worker_of(&self, number: usize) -> usize {
+        number.checked_rem(self.inboxes.len()).unwrap_or(0)
+    }
+
+    /// Counts a connection that was accepted for a worker, where one more may be open.
+    pub(crate) fn enter(&self, rt: &impl Wait, worker: usize) -> bool {
+        let mut counts = self.counts.lock(rt);
+        let enters = counts.open < self.bounds.connections;
+        if enters {
+            counts.enter(worker);
+            self.tally(worker).note_accepted();
+        } else {
+            self.tally(worker).note_fault(Fault::Busy);
+        }
+        enters
+    }
+
+    /// Counts a connection of a worker no more.
+    pub(crate) fn leave(&self, rt: &impl Wait, worker: usize) {
+        self.counts.lock(rt).leave(worker);
+        self.tally(worker).note_ended();
+    }
+
+    /// Where the worker of this number counts.
+    pub(crate) fn tally(&self, worker: usize) -> Tally<'p> {
+        self.panel.tally(worker)
+    }
+
+    /// Counts a session in which a line is to be served, where one more may begin. With the last of them the other
+    /// threads learn that it was the last.
+    pub(crate) fn begin_session(&self, rt: &impl Wait) -> bool {
+        let mut counts = self.counts.lock(rt);
+        if counts.sessions == 0 {
+            return false;
+        }
+        if self.bounds.sessions < u64::MAX {
+            counts.sessions = counts.sessions.saturating_sub(1);
+        }
+        counts.begun = counts.begun.saturating_add(1);
+        let was_last = counts.sessions == 0;
+        drop(counts);
+        self.panel.note_session();
+        if was_last {
+            self.wake_all();
+        }
+        true
+    }
+
+    /// Hands a connection to a worker.
+    pub(crate) fn assign(&self, rt: &impl Wait, worker: usize, accepted: Accepted) {
+        let Some(inbox) = self.inboxes.get(worker) else {
+            return;
+        };
+        match inbox.accepted.lock(rt).push(accepted) {
+            Ok(()) => {}
+            Err(_) => self.leave(rt, worker),
+        }
+        let _full = inbox.waker.wake();
+    }
+
+    /// A connection that was accepted for a worker.
+    pub(crate) fn next_accepted(&self, rt: &impl Wait, worker: usize) -> Option<Accepted> {
+        self.inboxes.get(worker)?.accepted.lock(rt).pop()
+    }
+
+    /// Ends the wait of each thread. A thread that was woken before needs no more.
+    fn wake_all(&self) {
+        let _full = self.acceptor.wake();
+        for inbox in &self.inboxes {
+            let _full = inbox.waker.wake();
+        }
+    }
+}

@@ -1,0 +1,49 @@
+//! Replies in memory.
+ghost use Rattle.nmvs_stream.specs.Sink.{Taken};
+
+use nmvs_stream::{Failed, Sink};
+
+/// Replies that are gathered before they are sent. As a sink it fails where there is no memory for more.
+#[derive(Drop)]
+pub(crate) struct WriteBuffer {
+    pub(crate) bytes: Vec<u8>,
+    flushed: bool,
+    failed: bool,
+}
+
+impl WriteBuffer {
+    ghost use Rattle.std.specs.Prelude.{◌≡◌};
+
+    /// None, in this room.
+    pub(crate) fn new(room: Vec<u8>) -> WriteBuffer
+        ensures { result.bytes ≡ room }
+    {
+        WriteBuffer {
+            bytes: room,
+            flushed: true,
+            failed: false,
+        }
+    }
+}
+
+impl Sink for WriteBuffer {
+    ghost taken = { λ g. record { bytes = g.bytes.items; flushed = g.flushed; failed = g.failed } };
+
+    fn write(&mut self, buffer: &[u8]) -> Result<usize, Failed> {
+        match self.bytes.extend_from_slice(buffer) {
+            Ok(()) => {
+                self.flushed = self.flushed && buffer.is_empty();
+                Ok(buffer.len())
+            }
+            Err(_) => {
+                self.failed = true;
+                Err(Failed)
+            }
+        }
+    }
+
+    fn flush(&mut self) -> Result<(), Failed> {
+        self.flushed = true;
+        Ok(())
+    }
+}

@@ -1,0 +1,78 @@
+//! Buffered sessions that share a desk.
+use nmvs_connections::BufferedSession;
+use nmvs_messages::{Ask, Content, Desk, End, Peer, Released, Turn, Withheld, WithheldAnswers};
+use std::alloc::Global;
+use std::test::*;
+
+/// Knows nobody.
+#[derive(Clone, Copy)]
+struct Stranger;
+
+impl<'a> Desk<'a> for Stranger {
+    ghost use Rattle.nmvs_messages.specs.Withheld.{AtOnce, Stays};
+
+    type Evidence = ();
+
+    ghost takes = { λ _ _ _ _ _. Unit {0} };
+
+    ghost releases = { AtOnce };
+
+    ghost moves = { Stays };
+
+    fn take(&mut self, _from: &Peer, _ask: &Ask) -> Withheld<'a> {
+        Withheld::new(Content::Turned(Turn::Nobody))
+    }
+
+    fn release<'h>(&mut self, withheld: &'h mut WithheldAnswers<'a>) -> (Released<'h, 'a>, ()) {
+        (withheld.release(), ())
+    }
+}
+
+/// Has a session that goes on take these bytes, and tells how many it took.
+fn take(session: &mut BufferedSession, more: &[u8], withheld: &mut WithheldAnswers<'_>) -> usize {
+    if session.end().is_none() && session.waiting() == 0 {
+        session.take(more, withheld, &Peer::Anyone, &mut Stranger)
+    } else {
+        0
+    }
+}
+
+/// Sends so many bytes, where so many are unsent.
+fn send(session: &mut BufferedSession, count: usize) {
+    if count <= session.unsent().len() {
+        session.advance(count);
+    }
+}
+
+#[test]
+fn sessions_that_share_a_desk_are_answered_each(rt: HostRuntime) -> Result<(), Fail> {
+    let alloc = rt.alloc();
+    let (mut one, mut other) = (
+        BufferedSession::new(alloc, 9),
+        BufferedSession::new(alloc, 1),
+    );
+    let mut withheld = WithheldAnswers::new();
+    let mut taken = [0; 3];
+    taken[0] = take(&mut one, b"ph1 STATUS 0950", &mut withheld);
+    taken[1] = take(&mut other, b"\n\n", &mut withheld);
+    taken[2] = take(&mut one, b"6000134352 SN1\nph1\nQUIT\nph1\n", &mut withheld);
+    assert_eq!(rt; taken, [15, 1, 24]);
+    assert_eq!(rt; one.unsent(), b"".as_slice());
+    let (released, ()) = Stranger.release(&mut withheld);
+    other.tell(alloc, &released);
+    one.tell(alloc, &released);
+    assert_eq!(rt;
+        one.unsent(),
+        b"FAULT NOBODY\nFAULT FIELDS\nBYE\n".as_slice()
+    );
+    send(&mut one, 6);
+    one.exchange(&mut Vec::new(alloc));
+    assert_eq!(rt; one.unsent(), b"NOBODY\nFAULT FIELDS\nBYE\n".as_slice());
+    send(&mut one, 24);
+    one.exchange(&mut Vec::new(alloc));
+    assert_eq!(rt; one.unsent(), b"".as_slice());
+    assert_eq!(rt; one.end(), Some(End::Quit));
+    assert_eq!(rt; other.unsent(), b"FAULT FIELDS\n".as_slice());
+    assert_eq!(rt; other.end(), Some(End::Limit));
+    Ok(())
+}
