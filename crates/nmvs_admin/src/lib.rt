@@ -1,7 +1,7 @@
-//! The operator's commands from several sides: standard input, and the connections of a socket of this machine.
+//! The operator's commands from several sides: standard input, and the connections of a Unix socket of this machine.
 //!
-//! [`open`] makes one console of them. Its source gives whole lines, one at a time and each of one side; what is written to
-//! its sink behind a line goes to the side of that line. So whoever obeys a console serves all sides alike, and one after
+//! [`open`] makes one console of them. Its source gives whole lines, one at a time and each of one side. An answer that is
+//! written to its sink after a line goes to the side of that line. So one loop serves all sides alike, one command after
 //! another.
 #![tactic(auto)]
 

@@ -1,4 +1,4 @@
-//! A file of options: TOML, a key an option, by its long name without dashes.
+//! A file of options: TOML, with one key for each option, its long name without dashes.
 //!
 //! [`config_path`] finds the file that a command line names, [`read_config`] reads its text, and [`with_config`] puts the
 //! words of its options in front of those of the command line, so that one reader judges both together.

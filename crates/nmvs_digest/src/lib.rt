@@ -1,4 +1,4 @@
-//! Digests of files, which stand beside them in the lines that `sha256sum` writes (SHA-256 of FIPS 180-4).
+//! SHA-256 digests of files (FIPS 180-4). Each stands in a file next to its own, in the line that `sha256sum` writes.
 #![tactic(auto)]
 
 mod digest_fault;

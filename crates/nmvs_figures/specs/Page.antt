@@ -94,7 +94,7 @@ unfoldable pub lines_text : Figures → List ℕ
 lines_text f =
     questions_text f.answered.items
     ++ (warnings_text f
-    ++ (single (codes "nmvs_reports_total") (codes "counter") (codes "Reports on product codes that were told.") f.reports
+    ++ (single (codes "nmvs_reports_total") (codes "counter") (codes "Reports on product codes.") f.reports
     ++ worded (codes "nmvs_faults_total") (codes "counter") (codes "Lines and connections that were answered with a fault, by its word.") (codes "fault") f.faults.items))
 
 -- what is told of connections
@@ -123,7 +123,7 @@ journal_text (Some j) =
 unfoldable pub resident_text : Option ℕ → List ℕ
 resident_text None = []
 resident_text (Some bytes) =
-    single (codes "process_resident_memory_bytes") (codes "gauge") (codes "Bytes of memory that the process has.") bytes
+    single (codes "process_resident_memory_bytes") (codes "gauge") (codes "Resident memory size in bytes.") bytes
 
 -- what is told of the process: whether it listens, and its memory
 unfoldable pub process_text : Figures → List ℕ

@@ -1,8 +1,8 @@
-//! The figures of a running server.
+//! The metrics of a running server.
 //!
-//! What the server does it counts on a [`Panel`], which all its threads share and none waits for: each worker has counters of
-//! its own ([`Tally`]). [`Panel::figures`] reads them, [`figures_page`] tells them in the text format of Prometheus, and
-//! [`tell_figures`] serves that page over HTTP, beside whether the server lives and whether it listens.
+//! The threads of a server count what they do on a [`Panel`], which they share and none waits for. Each worker has counters of
+//! its own ([`Tally`]). [`Panel::figures`] reads them, and [`figures_page`] writes them in the text format of Prometheus.
+//! [`tell_figures`] serves that page over HTTP, and answers whether the server lives and whether it listens.
 #![tactic(auto)]
 
 mod booth;

@@ -55,7 +55,7 @@ fn resident_text(alloc: Global, bytes: Option<u64>) -> Result<String, AllocError
     let resident = Family {
         name: "process_resident_memory_bytes",
         kind: "gauge",
-        help: "Bytes of memory that the process has.",
+        help: "Resident memory size in bytes.",
     };
     single(alloc, resident, bytes)
 }
@@ -67,7 +67,7 @@ fn lines_text(alloc: Global, figures: &Figures) -> Result<String, AllocError>
     let reports = Family {
         name: "nmvs_reports_total",
         kind: "counter",
-        help: "Reports on product codes that were told.",
+        help: "Reports on product codes.",
     };
     let faults = Family {
         name: "nmvs_faults_total",

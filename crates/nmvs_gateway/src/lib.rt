@@ -1,4 +1,4 @@
-//! What a gateway tells the server of a connection: whose certificate opened it.
+//! The header of a gateway, PROXY protocol version 2: whose certificate opened the connection.
 #![tactic(auto)]
 
 mod header;

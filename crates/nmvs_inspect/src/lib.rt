@@ -1,9 +1,9 @@
 //! What inspectors ask of a lawful trail.
 //!
-//! A [`Filter`] says which entries are wanted, as a definition over entries; [`write_list`] writes them, in order, in a
-//! [`Form`]. [`write_groups`] counts them by what they have in common, and [`write_packs`] tells how the packs of a batch
-//! stand. The trail is not copied: an answer is made from the shard of an import, a block at a time. [`first_departure`]
-//! says whether a later trail goes on from an earlier one.
+//! A [`Filter`] says which entries are wanted, as a definition over entries. [`write_list`] writes them, in order, in a
+//! [`Form`]. [`write_groups`] counts them by the parts that they share, and [`write_packs`] lists the packs of a batch with
+//! their status. The trail is not copied: an answer is made from the shard of an import, a block at a time.
+//! [`first_departure`] says whether a later trail continues an earlier one.
 #![tactic(auto)]
 
 mod answer_fault;

@@ -75,7 +75,7 @@ static OPTIONS: [Described; 23] = [
         name: "config",
         value: Value::Text("FILE"),
         default: None,
-        help: "File of options, TOML with a key an option, as shards = 2: what the command line says goes before it",
+        help: "File of options, TOML with one key for each option, as shards = 2; the command line wins",
     },
     Described {
         name: "shards",
@@ -117,7 +117,7 @@ static OPTIONS: [Described; 23] = [
         name: "burst",
         value: Value::Number(1, MOST_RATE as i64),
         default: None,
-        help: "Lines that are taken from a user at once, 1 to 1000000, where there is a rate; without it those of a second",
+        help: "Lines that are taken from a user at once, 1 to 1000000, if there is a rate; by default as many as in a second",
     },
     Described {
         name: "bind",
@@ -141,7 +141,7 @@ static OPTIONS: [Described; 23] = [
         name: "admin",
         value: Value::Text("PATH"),
         default: None,
-        help: "Unix socket that takes the operator's commands, beside standard input; its owner alone may open it",
+        help: "Unix socket that takes the operator's commands, in addition to standard input; its owner alone may open it",
     },
     Described {
         name: "metrics",

@@ -1,11 +1,10 @@
-//! What the operator hands to the server: the options of its command line, a users file, orders.
+//! The operator's side of the server: options of the command line, a users file, commands.
 //!
-//! [`read_options`] takes a command line; [`load_users`] publishes the users of a file, all at once, by a
-//! `nmvs_directory::Registrar`, and [`obey_all`] carries out the [`Order`]s of a [`Console`] as they come: of a change of the
-//! users it shows the notice by a [`Latest`] before it answers; what only the server can do or count it has done and
-//! counted by a [`Service`].
+//! [`read_options`] reads a command line. [`load_users`] publishes the users of a file, all at once, by a
+//! `nmvs_directory::Registrar`. [`obey_all`] carries out the [`Order`]s of a [`Console`] as they come. It shows the notice of a
+//! changed user by a [`Latest`] before it answers, and asks a [`Service`] for all that only a server can do or count.
 //!
-//! It serves nobody: what is served, and when commands are read, is `nmvs_server`'s.
+//! It serves no lines: `nmvs_server` decides what is served, and when commands are read.
 #![tactic(auto)]
 
 mod command_line;

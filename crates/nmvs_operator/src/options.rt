@@ -19,7 +19,7 @@ pub const MOST_SHARDS: u64 = 8;
 /// The most workers: each asks by a window of the directory, which has at most so many.
 pub const MOST_WORKERS: u64 = 8;
 
-/// The most connections that a worker serves before it ends (own).
+/// The upper limit of `--sessions` (own).
 pub const MOST_SESSIONS: u64 = 1_000_000;
 
 /// The most connections that are open at once (own).
@@ -47,9 +47,9 @@ pub struct Options {
     pub journal: Option<String>,
     /// How many shards the repository has, 1 to 8.
     pub shards: usize,
-    /// How many workers accept connections, 1 to 8.
+    /// Worker threads, 1 to 8.
     pub workers: usize,
-    /// How many connections each worker serves, 0 to 1,000,000, where 0 is without end.
+    /// The server ends after this many sessions for each worker in which a line was served, 0 to 1,000,000; 0 is never.
     pub sessions: u64,
     /// How many connections are open at once, 1 to 100,000.
     pub connections: usize,
@@ -71,9 +71,9 @@ pub struct Options {
     pub moment: Option<Moment>,
     /// One session over standard input and output, in place of connections.
     pub stdin: bool,
-    /// Path of a Unix socket that takes the operator's commands, beside standard input.
+    /// Path of a Unix socket that takes the operator's commands, in addition to standard input.
     pub admin: Option<String>,
-    /// The port of this machine at which figures are told, where 0 is one that the system chooses.
+    /// The port of the metrics on this machine; 0 is one that the system chooses.
     pub metrics: Option<u16>,
     /// What is logged: events of this level and above.
     pub log_level: LevelFilter,
@@ -188,7 +188,7 @@ fn take_path(
     Ok(())
 }
 
-/// What is told of options that cannot stand together, where there are such.
+/// The text for options that exclude each other, if there are such.
 fn clash_of(matches: &ArgMatches<'_>) -> Option<&'static str> {
     let stdin = matches.get_flag("stdin");
     if matches.contains_id("users") == matches.get_flag("rehearsal") {
@@ -231,7 +231,7 @@ fn address_of(alloc: Global, matches: &ArgMatches<'_>) -> Result<IpAddr, OptionF
     ))
 }
 
-/// The port at which figures are told, where the option is given.
+/// The port of the metrics, if the option is given.
 fn metrics_of(alloc: Global, matches: &ArgMatches<'_>) -> Result<Option<u16>, OptionFault> {
     if !matches.contains_id("metrics") {
         return Ok(None);

@@ -1,6 +1,6 @@
-//! The program of the rehearsal: a session to learn the repository by, over standard input and output.
+//! The program of the rehearsal: a session to learn by, over standard input and output.
 //!
-//! `nmvs-serve` without arguments runs it, so its faults are told under that name.
+//! `./nmvs-serve` without arguments runs it, so its faults begin with `nmvs-serve: `.
 #![tactic(auto)]
 
 use nmvs_messages::End;

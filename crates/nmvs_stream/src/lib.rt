@@ -1,4 +1,4 @@
-//! Sources and sinks of bytes, which tell contracts what they gave and what they took; and lines of bytes.
+//! Sources and sinks of bytes, and lines of bytes. Contracts see the bytes that a source gave and that a sink took.
 #![tactic(auto)]
 
 mod console;

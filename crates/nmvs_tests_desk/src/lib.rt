@@ -1,5 +1,5 @@
-//! What no contract of `nmvs_desk` can say: that calls succeed where there is memory, that a look at a shard shows what was
-//! answered before, that shards are worked on side by side; and memory that is refused.
+//! What no contract of `nmvs_desk` can say: that calls succeed if there is memory, that a look at a shard shows what was
+//! answered before, that shards are worked on in parallel; and memory that is refused.
 #![tactic(auto)]
 
 #[cfg(test)]

@@ -18,7 +18,7 @@ use std::time::Duration;
 const PAGE: &str = r#"# HELP nmvs_ready Whether the server listens, 1 or 0.
 # TYPE nmvs_ready gauge
 nmvs_ready 1
-# HELP process_resident_memory_bytes Bytes of memory that the process has.
+# HELP process_resident_memory_bytes Resident memory size in bytes.
 # TYPE process_resident_memory_bytes gauge
 process_resident_memory_bytes 8192
 # HELP nmvs_questions_total Questions that the repository answered, by kind and reply.
@@ -32,7 +32,7 @@ nmvs_refusals_total{refusal="LATE"} 18446744073709551615
 # HELP nmvs_alerts_flagged_total Alerts that were flagged as potential falsifications, by their cause.
 # TYPE nmvs_alerts_flagged_total counter
 nmvs_alerts_flagged_total{cause="UNKNOWN"} 4
-# HELP nmvs_reports_total Reports on product codes that were told.
+# HELP nmvs_reports_total Reports on product codes.
 # TYPE nmvs_reports_total counter
 nmvs_reports_total 5
 # HELP nmvs_faults_total Lines and connections that were answered with a fault, by its word.

@@ -1,4 +1,4 @@
-//! Tests of what the operator hands in and is told: options, the users file, orders, figures and the log.
+//! Tests of options, users files, commands, metrics and the log.
 #![tactic(auto)]
 
 #[cfg(test)]

@@ -1,4 +1,4 @@
-//! Tests of commands, lines, answers, sessions and the rehearsal, by what their crates offer.
+//! Tests of commands, lines, answers, sessions and the rehearsal, through the public items of their crates.
 #![tactic(auto)]
 
 #[cfg(test)]

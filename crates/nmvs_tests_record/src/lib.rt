@@ -1,5 +1,5 @@
-//! What no contract of `nmvs_record` can say: that lines, exports and reports have the texts that they are to have, that
-//! each fault is told, that reads and writes may come in pieces; and memory that is refused.
+//! What no contract of `nmvs_record` can say: that lines, exports and reports have the right texts, that
+//! each fault is reported, that reads and writes may come in pieces; and memory that is refused.
 #![tactic(auto)]
 
 #[cfg(test)]

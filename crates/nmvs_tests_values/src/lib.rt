@@ -1,4 +1,4 @@
-//! Tests of the values, words, rules and tables, and of the crates of bytes beside them.
+//! Tests of the values, words, rules and tables, and of the crates of bytes.
 #![tactic(auto)]
 
 #[cfg(test)]
