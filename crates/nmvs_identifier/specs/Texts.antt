@@ -7,7 +7,7 @@ pub record Text : Type 0 where
   pub bytes : List ℕ
 
 -- how many bytes a serial number, a batch number and a name have at most (GS1 General Specifications, sections 3.4.1 and
--- 3.5.1; of names own)
+-- 3.5.2; of names own)
 abbrev pub longest_text : ℕ
 longest_text = 20
 

@@ -13,7 +13,7 @@ use std::marker::Model;
 use std::{fmt, str};
 
 /// The bytes that a serial number, a batch number and a name have at most (GS1 General Specifications, sections 3.4.1
-/// and 3.5.1; of names own).
+/// and 3.5.2; of names own).
 pub(crate) const LONGEST_TEXT: usize = 20;
 
 /// A text of at most `CAP` bytes, which lie in the value itself, with zeros after them.

@@ -1,5 +1,5 @@
 -- The rehearsal: one session over an empty trail, with users of its own and moments that are handed in. (own)
-use Rattle.std.specs.Prelude.{◌≡◌, ℕ, Bool, true, false, List, [], ◌∷◌, ◌++◌, take, ◌⊎◌, Option, None, IsSome}
+use Rattle.std.specs.Prelude.{◌≡◌, ℕ, Bool, true, false, List, [], ◌∷◌, ◌++◌, ◌⊎◌, Option, None, IsSome}
 use Rattle.nmvs_identifier.specs.Name.{Name}
 use Rattle.nmvs_identifier.specs.ProductCode.{ProductCode}
 use Rattle.nmvs_identifier.specs.Tag.{Tag}
@@ -56,11 +56,11 @@ pub record Steps (old : List Entry) (put : Put) (said : Reply) (shown new : List
   pub shows : shown ≡ shown_of old put
   pub grows : new ≡ old ++ answered put said ∷ []
 
--- a question was asked before, and is answered again by the entry that it repeats, with the entries that were shown then
+-- a question was asked before, and is answered again by the entry that it repeats, and shows nothing
 pub record Repeats (old : List Entry) (put : Put) (said : Reply) (shown new : List Entry) : Type 0 where
   pub place : ℕ
   pub repeats : repeat_of old put ≡ repeat.Same place said
-  pub shows : shown ≡ shown_of (take place old) put
+  pub shows : shown ≡ []
   pub same : new ≡ old
 
 -- the question is answered so, in the capacity that the roster gives its user

@@ -1,8 +1,9 @@
 -- What follows where a question is asked again.
-use Rattle.std.proofs.Common.{◌≡◌, ◌∙◌, ◌≤◌, ◌+◌, ◌-◌, ℕ, zero, suc, Bool, true, false, not, cond, List, [], ◌∷◌, ◌++◌, length, take, drop, reverse, Option, Some, None, refl, sym, ap, subst, inl, inr, ◌⊎◌, arith, length-append, append-nil, append_assoc}
+use Rattle.std.proofs.Common.{◌≡◌, ◌∙◌, ◌≤◌, ◌+◌, ◌-◌, ℕ, zero, suc, Bool, true, false, not, ◌||◌, ◌&&◌, ◌<◌, cond, List, [], ◌∷◌, ◌++◌, length, take, drop, reverse, Option, Some, None, refl, sym, ap, subst, inl, inr, ◌⊎◌, arith, length-append, append-nil, append_assoc}
 use Rattle.std.specs.Prelude.{nat_lt, slice_get}
 use Rattle.std.specs.Cmp.{first_so, second_so}
-use Rattle.std.specs.List.{suffix_len, prefix_len, count_by}
+use Rattle.std.specs.Cmp.Derive.{both_true}
+use Rattle.std.specs.List.{suffix_len, prefix_len, count_by, list_any}
 use Rattle.std.specs.Option.{option_map_or}
 use Rattle.std.proofs.lemmas.Bool.Decides.{nat_tests}
 use Rattle.std.proofs.lemmas.List.{reverse-append, length-reverse, drop-drop}
@@ -18,10 +19,12 @@ use Rattle.nmvs_rules.specs.Limits.{entries_looked_over}
 use Rattle.nmvs_rules.specs.Questions.{pack_of, names}
 use Rattle.nmvs_rules.specs.Trail.{is_about, about_of}
 use Rattle.nmvs_rules.specs.Rules.{reply_of, IsLawfulAfter, IsLawful}
-use Rattle.nmvs_rules.specs.Repeats.{same_actor, asks_same, has_tag, is_tagged, last_tagged, place_up_to, place_tagged, beside, repeat_at, repeat_by, repeat_of, AreNewAfter, AreNew, IsRepeated}
+use Rattle.nmvs_rules.specs.Repeats.{same_actor, asks_same, answer_of, has_tag, is_in_day, is_tagged, last_tagged, place_up_to, place_tagged, beside, beside_same, repeat_at, repeat_by, repeat_of, reply_by, tells_state, AreNewAfter, AreNew, IsRepeated}
 use Rattle.nmvs_rules.proofs.PushLemmas.{suffix_len-push}
-use Rattle.nmvs_rules.proofs.TextLemmas.{same_text-equal, same_pack-equal}
-use Rattle.nmvs_rules.proofs.RepeatLemmas.{same_actor-equal, same_question-equal}
+use Rattle.nmvs_identifier.specs.Texts.{same_text}
+use Rattle.nmvs_rules.specs.declared.repeat.Repeat.{Repeat}
+use Rattle.nmvs_rules.proofs.TextLemmas.{same_text-equal, same_text-refl, same_pack-equal, same_pack-refl}
+use Rattle.nmvs_rules.proofs.RepeatLemmas.{same_actor-equal, same_actor-refl, same_question-equal, same_question-refl}
 
 -- a list, taken apart at its last element that does not pass a test
 pub record IsSplit {X : Type 0} (p : X → Bool) (xs : List X) : Type 0 where
@@ -105,6 +108,11 @@ count-rest q xs k m le =
     let rest : drop (m - k) (drop k xs) ≡ drop m xs = drop-drop (m - k) k xs ∙ ap (λ n. drop n xs) up in
     omega (arith, sum_by-take-drop (λ x. cond (q x) 1 0) (drop k xs) (m - k), ap (count_by q) rest)
 
+-- neither of two tests passes
+neither : (a b : Bool) → (a || b) ≡ false → (a ≡ false) × (b ≡ false)
+neither true b h = absurd cc
+neither false b h = (refl, h)
+
 -- the pack that is named
 pub names-equal : (p : Pack) (o : Option Pack) → names p o ≡ true → o ≡ Some p
 names-equal p None h = cc
@@ -164,62 +172,120 @@ AreNewAfter-rest w (e ∷ u) v new =
     let P : List Entry → Type 0 = λ t. AreNewAfter t v in
     subst P (append_assoc w (e ∷ []) u) (AreNewAfter-rest (w ++ e ∷ []) u v new.1)
 
-beside-old : (q : Put) (place : ℕ) (e : Entry) → beside q place e ≡ repeat.New → ⊥
-beside-old q place e = by (asks_same q e.put)
+-- a run of elements that pass, behind one that does not
+passes-after : {X : Type 0} (p : X → Bool) (xs ys : List X) → list_any (λ y. not (p y)) ys ≡ false → suffix_len p (xs ++ ys) ≡ suffix_len p xs + length ys
+passes-after p xs [] h = ap (suffix_len p) (append-nil xs)
+passes-after p xs (y ∷ ys) h =
+    let here : p y ≡ true = passing (p y) (neither (not (p y)) (list_any (λ y. not (p y)) ys) h).0 in
+    let more : suffix_len p (xs ++ y ∷ []) ≡ 1 + suffix_len p xs = suffix_len-push p xs y ∙ ap (λ c. cond c (1 + suffix_len p xs) 0) here in
+    let rest = passes-after p (xs ++ y ∷ []) ys (neither (not (p y)) (list_any (λ y. not (p y)) ys) h).1 in
+    omega (arith, ap (suffix_len p) (append_assoc xs (y ∷ []) ys), more, rest)
   where
+    passing : (b : Bool) → not b ≡ false → b ≡ true
+    passing true h = refl
+    passing false h = cc
+
+-- the last entry with a tag, behind which fewer than 16 others are about the pack, is the one that is found
+module _ (u v : List Entry) (e : Entry) (p : Pack) (user : Name) (g : Tag) (tagged : is_tagged p user g e ≡ true) (last : list_any (is_tagged p user g) v ≡ false) where
+  abbrev Trail : List Entry
+  Trail = u ++ e ∷ v
+
+  abbrev Missed : Entry → Bool
+  Missed x = not (is_tagged p user g x)
+
+  none-missed : (xs : List Entry) → list_any (is_tagged p user g) xs ≡ false → list_any (λ x. not (Missed x)) xs ≡ false
+  none-missed [] h = refl
+  none-missed (x ∷ xs) h =
+      let both = neither (is_tagged p user g x) (list_any (is_tagged p user g) xs) h in
+      (λ i. not (not (both.0 i)) || list_any (λ x. not (Missed x)) xs) ∙ none-missed xs both.1
+
+  run : suffix_len Missed Trail ≡ length v
+  run =
+      let here : suffix_len Missed (u ++ e ∷ []) ≡ 0 = suffix_len-push Missed u e ∙ ap (λ c. cond (not c) (1 + suffix_len Missed u) 0) tagged in
+      omega (arith, ap (suffix_len Missed) (append_assoc u (e ∷ []) v), passes-after Missed (u ++ e ∷ []) v (none-missed v last), here)
+
+  pub found-last : nat_lt (about_of v p) entries_looked_over ≡ true → place_tagged Trail p user g ≡ Some (length u)
+  found-last few =
+      let at : last_tagged Trail p user g ≡ suc (length u) = omega (arith, run, length-append u (e ∷ v)) in
+      ap (place_up_to Trail p) at ∙ ap (λ t. cond (nat_lt (about_of t p) entries_looked_over) (Some (length u)) None) (rest-at u v e)
+      ∙ ap (λ c. cond c (Some (length u)) None) few
+
+-- a question within a day of an entry whose reply lasts is not new beside it
+beside-known : (q : Put) (place : ℕ) (e : Entry) → is_in_day e.put.moment q.moment ≡ true → tells_state e.reply ≡ false → beside q place e ≡ repeat.New → ⊥
+beside-known q place e day lasting h = by (asks_same q e.put) (sym is ∙ h)
+  where
+    is : beside q place e ≡ cond (asks_same q e.put) (repeat.Same place e.reply) repeat.Other
+    is = ap (λ c. cond c (cond (asks_same q e.put) (beside_same place e) repeat.Other) repeat.New) day
+        ∙ ap (λ c. cond (asks_same q e.put) (cond c repeat.New (repeat.Same place e.reply)) repeat.Other) lasting
+
     by : (b : Bool) → cond b (repeat.Same place e.reply) repeat.Other ≡ repeat.New → ⊥
     by true h = cc
     by false h = cc
 
--- a question with the tag of an entry is new only behind 16 others about the pack
-module _ (u v : List Entry) (e : Entry) (q : Put) (p : Pack) (user : Name) (g : Tag) (tagged : is_tagged p user g e ≡ true) (new : repeat_at (u ++ e ∷ v) q (place_tagged (u ++ e ∷ v) p user g) ≡ repeat.New) where
-  abbrev Trail : List Entry
-  Trail = u ++ e ∷ v
+in-day : (earlier later : ℕ) → later ≤ earlier + 86400 → is_in_day earlier later ≡ true
+in-day earlier later h = grind (arith, nat_tests)
 
-  missed : not (is_tagged p user g e) ≡ false
-  missed = ap not tagged
-
-  late : (s : IsSplit (Misses Trail p user g) Trail) → (b : Bool) → nat_lt (about_of (drop (suc (length s.before)) Trail) p) entries_looked_over ≡ b → entries_looked_over ≤ about_of v p
-  late s true h =
-      let place : place_tagged Trail p user g ≡ Some (length s.before) =
-      ap (place_up_to Trail p) (last-at Trail p user g s) ∙ ap (λ c. cond c (Some (length s.before)) None) h in
-      let told : repeat_at Trail q (place_tagged Trail p user g) ≡ beside q (length s.before) s.at =
-      ap (repeat_at Trail q) place ∙ ap (λ o. option_map_or (beside q (length s.before)) o repeat.New) (entry-at Trail p user g s) in
-      absurd (beside-old q (length s.before) s.at (sym told ∙ new))
-  late s false h =
-      let run : length s.after ≤ length v = omega (arith, s.run, suffix-stops (Misses Trail p user g) u v e missed) in
-      let behind : suc (length u) ≤ suc (length s.before) = omega (arith, run, ap length s.whole, length-append s.before (s.at ∷ s.after), length-append u (e ∷ v)) in
-      let fewer = count-rest (is_about p) Trail (suc (length u)) (suc (length s.before)) behind in
-      let rest : drop (suc (length u)) Trail ≡ v = rest-at u v e in
-      let many : entries_looked_over ≤ about_of (drop (suc (length s.before)) Trail) p = grind (arith, nat_tests) in
-      omega (arith, fewer, many, ap (λ t. about_of t p) rest)
-
-  pub behind-others : entries_looked_over ≤ about_of v p
-  behind-others = by (split-last (Misses Trail p user g) Trail)
-    where
-      by : (suffix_len (Misses Trail p user g) Trail ≡ length Trail) ⊎ IsSplit (Misses Trail p user g) Trail → entries_looked_over ≤ about_of v p
-      by (inl all) = absurd (omega (arith, all, suffix-stops (Misses Trail p user g) u v e missed, length-append u (e ∷ v)))
-      by (inr s) = late s (nat_lt (about_of (drop (suc (length s.before)) Trail) p) entries_looked_over) refl
-
--- between two entries about a pack, of one user and with one tag, stand 16 others about the pack
-pub at-most-once : (u v w : List Entry) (e f : Entry) (p : Pack) (user : Name) (g : Tag) → AreNew (u ++ (e ∷ v) ++ (f ∷ w)) → is_tagged p user g e ≡ true → is_tagged p user g f ≡ true → entries_looked_over ≤ about_of v p
-at-most-once u v w e f p user g new first second =
-    let asked = AreNewAfter-rest [] (u ++ e ∷ v) (f ∷ w) new in
-    let by = second_so (is_about p f) _ second in
-    let named = names-equal p (pack_of f.put.question) (first_so _ _ second) in
-    let tag = has_tag-equal g f.put.tag (first_so _ _ by) in
-    let who : user ≡ f.put.user = same_text-equal user f.put.user (second_so (has_tag g f.put.tag) _ by) in
-    let t : List Entry = u ++ e ∷ v in
-    let is : repeat_of t f.put ≡ repeat_at t f.put (place_tagged t p user g) =
-    (λ i. repeat_by t f.put (named i) (tag i)) ∙ ap (λ n. repeat_at t f.put (place_tagged t p n g)) (sym who) in
-    behind-others u v e f.put p user g first (sym is ∙ asked.0)
-
-beside-same : (q : Put) (n : ℕ) (e : Entry) (place : ℕ) (reply : Reply) → beside q n e ≡ repeat.Same place reply → (n ≡ place) × (asks_same q e.put ≡ true) × (reply ≡ e.reply)
-beside-same q n e place reply = by (asks_same q e.put)
+-- the next entry with a tag stands a day later, or behind 16 others about the pack
+pub at-most-once : (u v w : List Entry) (e f : Entry) (p : Pack) (user : Name) (g : Tag) → AreNew (u ++ (e ∷ v) ++ (f ∷ w)) → is_tagged p user g e ≡ true → is_tagged p user g f ≡ true
+    → list_any (is_tagged p user g) v ≡ false → tells_state e.reply ≡ false → f.put.moment ≤ e.put.moment + 86400 → 16 ≤ about_of v p
+at-most-once u v w e f p user g new first second last lasting day = late (nat_lt (about_of v p) entries_looked_over) refl
   where
-    by : (b : Bool) → cond b (repeat.Same n e.reply) repeat.Other ≡ repeat.Same place reply → (n ≡ place) × (b ≡ true) × (reply ≡ e.reply)
-    by true h = (cc, refl, cc)
-    by false h = cc
+    t : List Entry
+    t = u ++ e ∷ v
+
+    is : repeat_of t f.put ≡ repeat_at t f.put (place_tagged t p user g)
+    is =
+        let by = second_so (is_about p f) _ second in
+        let named = names-equal p (pack_of f.put.question) (first_so _ _ second) in
+        let tag = has_tag-equal g f.put.tag (first_so _ _ by) in
+        let who : user ≡ f.put.user = same_text-equal user f.put.user (second_so (has_tag g f.put.tag) _ by) in
+        (λ i. repeat_by t f.put (named i) (tag i)) ∙ ap (λ n. repeat_at t f.put (place_tagged t p n g)) (sym who)
+
+    late : (b : Bool) → nat_lt (about_of v p) entries_looked_over ≡ b → 16 ≤ about_of v p
+    late true few =
+        let told : repeat_at t f.put (place_tagged t p user g) ≡ beside f.put (length u) e =
+        ap (repeat_at t f.put) (found-last u v e p user g first last few) ∙ ap (λ o. option_map_or (beside f.put (length u)) o repeat.New) (at-split u v e) in
+        let asked = (AreNewAfter-rest [] (u ++ e ∷ v) (f ∷ w) new).0 in
+        absurd (beside-known f.put (length u) e (in-day e.put.moment f.put.moment day) lasting (sym told ∙ sym is ∙ asked))
+    late false many = grind (arith, nat_tests)
+
+-- a question that is asked again is answered again
+pub answered-again : (u v : List Entry) (e : Entry) (p : Pack) (g : Tag) (moment : ℕ) → pack_of e.put.question ≡ Some p → e.put.tag ≡ Some g
+    → list_any (is_tagged p e.put.user g) v ≡ false → about_of v p < 16 → tells_state e.reply ≡ false → moment ≤ e.put.moment + 86400
+    → repeat_of (u ++ e ∷ v) (record e.put { moment = moment }) ≡ repeat.Same (length u) e.reply
+answered-again u v e p g moment named tag last few lasting day =
+    let t : List Entry = u ++ e ∷ v in
+    let q : Put = record e.put { moment = moment } in
+    let tagged : is_tagged p e.put.user g e ≡ true = (λ i. names p (named i) && (has_tag g (tag i) && same_text e.put.user e.put.user))
+    ∙ both_true (same_pack-refl p) (both_true (same_text-refl g) (same_text-refl e.put.user)) in
+    let tests : nat_lt (about_of v p) entries_looked_over ≡ true = grind (arith, nat_tests) in
+    let same : asks_same q e.put ≡ true = both_true (same_actor-refl e.put.actor) (same_question-refl e.put.question) in
+    (λ i. repeat_by t q (named i) (tag i))
+    ∙ ap (repeat_at t q) (found-last u v e p e.put.user g tagged last tests)
+    ∙ ap (λ o. option_map_or (beside q (length u)) o repeat.New) (at-split u v e)
+    ∙ ap (λ c. cond c (cond (asks_same q e.put) (beside_same (length u) e) repeat.Other) repeat.New) (in-day e.put.moment moment day)
+    ∙ ap (λ c. cond c (beside_same (length u) e) repeat.Other) same
+    ∙ ap (λ c. cond c repeat.New (repeat.Same (length u) e.reply)) lasting
+
+-- what is answered again beside an entry
+pub record IsBeside (q : Put) (n : ℕ) (e : Entry) (place : ℕ) (reply : Reply) : Type 0 where
+  pub here : n ≡ place
+  pub asks : asks_same q e.put ≡ true
+  pub same : reply ≡ e.reply
+  pub day : q.moment ≤ e.put.moment + 86400
+  pub lasting : tells_state reply ≡ false
+
+beside-same : (q : Put) (n : ℕ) (e : Entry) (place : ℕ) (reply : Reply) → beside q n e ≡ repeat.Same place reply → IsBeside q n e place reply
+beside-same q n e place reply h = by (is_in_day e.put.moment q.moment) refl (asks_same q e.put) refl (tells_state e.reply) refl h
+  where
+    by : (d : Bool) → is_in_day e.put.moment q.moment ≡ d → (s : Bool) → asks_same q e.put ≡ s → (k : Bool) → tells_state e.reply ≡ k
+        → cond d (cond s (cond k repeat.New (repeat.Same n e.reply)) repeat.Other) repeat.New ≡ repeat.Same place reply → IsBeside q n e place reply
+    by true day true asks false lasting h =
+        let is : reply ≡ e.reply = cc in
+        record { here = cc; asks = asks; same = is; day = grind (arith, nat_tests); lasting = ap tells_state is ∙ lasting }
+    by true day true asks true lasting h = absurd cc
+    by true day false asks k lasting h = absurd cc
+    by false day s asks k lasting h = absurd cc
 
 module _ (t : List Entry) (q : Put) (place : ℕ) (reply : Reply) where
   repeated-at : (p : Pack) (g : Tag) → q.tag ≡ Some g → (n : ℕ) → IsFound t p q.user g n → repeat_at t q (Some n) ≡ repeat.Same place reply → IsRepeated t q place reply
@@ -230,12 +296,14 @@ module _ (t : List Entry) (q : Put) (place : ℕ) (reply : Reply) where
       let P : ℕ → Type 0 = λ m. slice_get t m ≡ Some e in
       record {
         entry = e;
-        stands = subst P told.0 found.stands;
+        stands = subst P told.here found.stands;
         user = sym (same_text-equal q.user e.put.user (second_so (has_tag g e.put.tag) _ by));
         tag = has_tag-equal g e.put.tag (first_so _ _ by) ∙ sym tag;
-        actor = sym (same_actor-equal q.actor e.put.actor (first_so _ _ told.1));
-        question = sym (same_question-equal q.question e.put.question (second_so (same_actor q.actor e.put.actor) _ told.1));
-        same = told.2;
+        actor = sym (same_actor-equal q.actor e.put.actor (first_so _ _ told.asks));
+        question = sym (same_question-equal q.question e.put.question (second_so (same_actor q.actor e.put.actor) _ told.asks));
+        same = told.same;
+        day = told.day;
+        lasting = told.lasting;
       }
 
   -- a reply that is answered again is that of an earlier entry
@@ -267,3 +335,15 @@ lawful-at u (x ∷ es) (suc n) e lawful h =
 -- a reply that is answered again is that of the rules where it was answered first
 pub repeated-by-rules : (t : List Entry) (q : Put) (place : ℕ) (reply : Reply) → IsLawful t → (again : IsRepeated t q place reply) → reply ≡ reply_of (take place t) again.entry.put
 repeated-by-rules t q place reply lawful again = again.same ∙ lawful-at [] t place again.entry lawful again.stands
+
+-- a reply that says how a pack stands is that of the rules at its moment
+pub told-now : (t : List Entry) (q : Put) (said : Reply) → tells_state said ≡ true → answer_of t q ≡ Some said → reply_of t q ≡ said
+told-now t q said state = by (repeat_of t q) refl
+  where
+    by : (r : Repeat) → repeat_of t q ≡ r → reply_by t q r ≡ Some said → reply_of t q ≡ said
+    by repeat.New is h = cc
+    by (repeat.Same place r) is h =
+        let again = repeated t q place r is in
+        let same : r ≡ said = cc in
+        absurd (cc (sym again.lasting ∙ ap tells_state same ∙ state))
+    by repeat.Other is h = absurd cc

@@ -1,6 +1,7 @@
 -- Questions that are asked again.
 use Rattle.std.proofs.Common.{◌≡◌, ◌&&◌, true, refl, ap}
 use Rattle.std.specs.Cmp.{first_so, second_so}
+use Rattle.std.specs.Cmp.Derive.{both_true}
 use Rattle.nmvs_rules.specs.declared.actor.Actor.{Actor}
 use Rattle.nmvs_rules.specs.declared.role.Role.{Role}
 use Rattle.nmvs_rules.specs.declared.role.Role.TheVariants as role
@@ -15,7 +16,7 @@ use Rattle.nmvs_rules.specs.contracts.reason.ReasonPartialEq.TheImpl as reason_e
 use Rattle.nmvs_rules.specs.contracts.actor.ActorPartialEq.TheImpl as actor_eq
 use Rattle.nmvs_rules.specs.contracts.question.QuestionPartialEq.TheImpl as question_eq
 use Rattle.nmvs_rules.specs.Repeats.{same_role, same_reason, same_actor, same_question}
-use Rattle.nmvs_rules.proofs.TextLemmas.{same_text-equal, same_pack-equal}
+use Rattle.nmvs_rules.proofs.TextLemmas.{same_text-equal, same_text-refl, same_pack-equal, same_pack-refl}
 
 -- what `==` says of roles
 derived-role : (r s : Role) → (role_eq.ghosts).eq r s ≡ same_role r s
@@ -97,3 +98,34 @@ same_question-equal (Withdraw c b) (Withdraw d e) h =
 same_question-equal (Theft p) (Theft q) h = ap Theft (same_pack-equal p q h)
 same_question-equal (Audit p) (Audit q) h = ap Audit (same_pack-equal p q h)
 same_question-equal _ _ h = cc
+
+same_role-refl : (r : Role) → same_role r r ≡ true
+same_role-refl role.Holder = refl
+same_role-refl role.Manufacturer = refl
+same_role-refl role.Wholesaler = refl
+same_role-refl role.Pharmacy = refl
+same_role-refl role.Authority = refl
+
+same_reason-refl : (r : Reason) → same_reason r r ≡ true
+same_reason-refl reason.Supply = refl
+same_reason-refl reason.Hold = refl
+same_reason-refl reason.Export = refl
+same_reason-refl reason.Sample = refl
+same_reason-refl reason.Destroy = refl
+
+-- an actor is the same as itself
+pub same_actor-refl : (a : Actor) → same_actor a a ≡ true
+same_actor-refl a = both_true (same_role-refl a.role) (both_true (same_text-refl a.authorisation) (same_text-refl a.premises))
+
+-- and so is a question
+pub same_question-refl : (q : Question) → same_question q q ≡ true
+same_question-refl (Upload p b x) = both_true (same_pack-refl p) (both_true (same_text-refl b) (same_text-refl x))
+same_question-refl (Verify p) = same_pack-refl p
+same_question-refl (Status p) = same_pack-refl p
+same_question-refl (Decommission p r) = both_true (same_pack-refl p) (same_reason-refl r)
+same_question-refl (Handover p) = same_pack-refl p
+same_question-refl (Revert p) = same_pack-refl p
+same_question-refl (Recall c b) = both_true (same_text-refl c) (same_text-refl b)
+same_question-refl (Withdraw c b) = both_true (same_text-refl c) (same_text-refl b)
+same_question-refl (Theft p) = same_pack-refl p
+same_question-refl (Audit p) = same_pack-refl p

@@ -1,5 +1,5 @@
 -- A question that is asked again with the tag that it had (own).
-use Rattle.std.specs.Prelude.{ℕ, zero, suc, ◌≡◌, ◌-◌, nat_lt, Bool, true, false, not, ◌&&◌, List, [], ◌∷◌, ◌++◌, length, map, drop, slice_get, Option, Some, None, if◌then◌else◌}
+use Rattle.std.specs.Prelude.{ℕ, zero, suc, ◌≡◌, ◌+◌, ◌-◌, ◌≤◌, IsFalse, nat_lt, Bool, true, false, not, ◌&&◌, List, [], ◌∷◌, ◌++◌, length, map, drop, slice_get, Option, Some, None, if◌then◌else◌}
 use Rattle.std.specs.List.{suffix_len}
 use Rattle.std.specs.Option.{option_map_or}
 use Rattle.nmvs_identifier.specs.Name.{Name}
@@ -17,10 +17,12 @@ use Rattle.nmvs_rules.specs.declared.question.Question.TheVariants.{Upload, Veri
 use Rattle.nmvs_rules.specs.declared.put.Put.{Put}
 use Rattle.nmvs_rules.specs.declared.entry.Entry.{Entry}
 use Rattle.nmvs_rules.specs.declared.reply.Reply.{Reply}
+use Rattle.nmvs_rules.specs.declared.reply.Reply.TheVariants as reply
 use Rattle.nmvs_rules.specs.declared.repeat.Repeat.{Repeat}
 use Rattle.nmvs_rules.specs.declared.repeat.Repeat.TheVariants as repeat
-use Rattle.nmvs_rules.specs.Limits.{entries_looked_over}
+use Rattle.nmvs_rules.specs.Limits.{entries_looked_over, seconds_answered}
 use Rattle.nmvs_rules.specs.Questions.{pack_of}
+use Rattle.nmvs_rules.specs.Rules.{reply_of}
 use Rattle.nmvs_rules.specs.Trail.{is_about, about_of}
 
 -- whether two roles are the same
@@ -90,9 +92,26 @@ place_up_to t p (suc n) = if nat_lt (about_of (drop (suc n) t) p) entries_looked
 abbrev pub place_tagged : List Entry → Pack → Name → Tag → Option ℕ
 place_tagged t p user g = place_up_to t p (last_tagged t p user g)
 
+-- whether the reply says how a pack stands at its moment: such a reply is never answered again
+abbrev pub tells_state : Reply → Bool
+tells_state (reply.Authentic b x past) = true
+tells_state (reply.StatusIs own lock onward b x) = true
+tells_state reply.NoPack = true
+tells_state (reply.Shown n) = true
+tells_state _ = false
+
+-- whether a moment is at most a day after an earlier one
+abbrev pub is_in_day : ℕ → ℕ → Bool
+is_in_day earlier later = not (nat_lt (earlier + seconds_answered) later)
+
+-- what a question is beside the entry at a place that asked the same
+abbrev pub beside_same : ℕ → Entry → Repeat
+beside_same place e = if tells_state e.reply then repeat.New else repeat.Same place e.reply
+
 -- what a question is beside the entry at a place, which has its user and its tag
 abbrev pub beside : Put → ℕ → Entry → Repeat
-beside q place e = if asks_same q e.put then repeat.Same place e.reply else repeat.Other
+beside q place e =
+    if is_in_day e.put.moment q.moment then (if asks_same q e.put then beside_same place e else repeat.Other) else repeat.New
 
 -- what a question is, by the place of such an entry
 abbrev pub repeat_at : List Entry → Put → Option ℕ → Repeat
@@ -108,6 +127,17 @@ repeat_by t q _ _ = repeat.New
 abbrev pub repeat_of : List Entry → Put → Repeat
 repeat_of t q = repeat_by t q (pack_of q.question) q.tag
 
+-- the reply that the asker gets, by what the question is: that of the rules where it is new, that of the entry which it repeats,
+-- or none
+abbrev pub reply_by : List Entry → Put → Repeat → Option Reply
+reply_by t q repeat.New = Some (reply_of t q)
+reply_by t q (repeat.Same place r) = Some r
+reply_by t q repeat.Other = None
+
+-- the reply that the asker of a question gets on a trail
+abbrev pub answer_of : List Entry → Put → Option Reply
+answer_of t q = reply_by t q (repeat_of t q)
+
 -- each of the entries es, which follow the entries u, asked what was new on all entries before it
 abbrev pub AreNewAfter : List Entry → List Entry → Type 0
 AreNewAfter u [] = Unit {0}
@@ -117,7 +147,8 @@ AreNewAfter u (e ∷ es) = (repeat_of u e.put ≡ repeat.New) × AreNewAfter (u 
 abbrev pub AreNew : List Entry → Type 0
 AreNew t = AreNewAfter [] t
 
--- the entry at a place asked what the question asks, by the same user, with the same tag and in the same capacity
+-- the entry at a place asked what the question asks, by the same user, with the same tag and in the same capacity, at most a
+-- day before; and its reply, which is this one, does not say how a pack stands
 pub record IsRepeated (t : List Entry) (q : Put) (place : ℕ) (reply : Reply) : Type 0 where
   pub entry : Entry
   pub stands : slice_get t place ≡ Some entry
@@ -126,6 +157,8 @@ pub record IsRepeated (t : List Entry) (q : Put) (place : ℕ) (reply : Reply) :
   pub actor : entry.put.actor ≡ q.actor
   pub question : entry.put.question ≡ q.question
   pub same : reply ≡ entry.reply
+  pub day : q.moment ≤ entry.put.moment + 86400
+  pub lasting : IsFalse (tells_state reply)
 
 -- a question as it was put, without its tag
 abbrev pub without_tag : Put → Put

@@ -1,6 +1,7 @@
 //! What is answered.
-ghost use Rattle.std.specs.Prelude.{IsTrue};
+ghost use Rattle.std.specs.Prelude.{◌≡◌, IsTrue};
 ghost use Rattle.nmvs_rules.specs.Entries.{is_reply};
+ghost use Rattle.nmvs_rules.specs.Repeats.{tells_state};
 
 use crate::{BatchLock, Cause, Onward, OwnStatus, Refusal};
 use nmvs_identifier::{Batch, Expiry};
@@ -43,6 +44,16 @@ pub enum Reply {
 }
 
 impl Reply {
+    /// Whether it says how a pack stands at its moment, so that it is never answered again (own).
+    pub fn tells_state(&self) -> bool
+        ensures { result ≡ tells_state self.now }
+    {
+        matches!(
+            self,
+            Reply::Authentic { .. } | Reply::StatusIs { .. } | Reply::NoPack | Reply::Shown(_)
+        )
+    }
+
     /// Tells a proof that the reply's texts are in their grammars and its numbers in their ranges, and does nothing.
     pub fn tell_ranges(&self)
         ensures { IsTrue (is_reply self.now) }

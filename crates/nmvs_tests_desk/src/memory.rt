@@ -13,7 +13,7 @@ use nmvs_desk::{Clerk, Keepers, MOST_CLERKS, OpenFault, Repository, Settled, Uns
 use nmvs_directory::{Directory, Naming, Window};
 use nmvs_history::Histories;
 use nmvs_identifier::Tag;
-use nmvs_rules::{Entry, Put, Reply};
+use nmvs_rules::{Entry, Put, Refusal, Reply};
 use nmvs_shard::{Outcome, Shard};
 use std::alloc::{AllocError, Global};
 use std::marker::Brand;
@@ -107,27 +107,23 @@ fn is_answered_at_last<'a, J: Naming, H: Histories, R: Wait + Abort>(
     full.refused
 }
 
-/// Where the entry of the audit with a tag stands in its shard.
-const SHOWN_AT: usize = 3;
-
-/// Asks an audit of P with a tag, by which it was asked before or not. Tells whether it was answered, by the entry at its place.
-fn is_shown<'a, J: Naming, H: Histories, R: Wait + Abort>(
+/// Asks to upload P once more with a tag, by which it was asked before or not. Tells whether it was refused, by the entry at
+/// place 3.
+fn is_refused<'a, J: Naming, H: Histories, R: Wait + Abort>(
     rt: &R,
     repository: &Repository<'a, H, LocalHeap>,
     clerk: &mut Clerk<'a, J, H, LocalHeap>,
 ) -> bool {
     let tag = Tag::read("a17").expect(rt, "a tag");
-    let (user, question) = (name(rt, "au1"), audit(rt, P));
+    let (user, question) = (name(rt, "mah1"), upload(rt, P));
     let put = Put {
         tag: Some(tag),
         ..put_of(rt, clerk, new_year(rt), &user, &question)
     };
     match clerk.ask(rt, repository, &put) {
         Ok(Outcome::New(answered) | Outcome::Again(answered)) => {
-            assert_eq!(rt;
-                (answered.place, answered.shown.len()),
-                (SHOWN_AT, SHOWN_AT)
-            );
+            assert_eq!(rt; answered.place, 3);
+            assert_eq!(rt; answered.entry.reply, Reply::Refused(Refusal::Already));
             true
         }
         Ok(Outcome::Other) => panic!(rt; "another question"),
@@ -135,8 +131,8 @@ fn is_shown<'a, J: Naming, H: Histories, R: Wait + Abort>(
     }
 }
 
-/// Asks it on a full heap until it is answered. The list that is shown takes memory each time, and one receipt is kept.
-fn is_shown_at_last<'a, J: Naming, H: Histories, R: Wait + Abort>(
+/// Asks it on a full heap until it is answered. One receipt is kept.
+fn is_refused_at_last<'a, J: Naming, H: Histories, R: Wait + Abort>(
     rt: &R,
     full: &mut FullHeap,
     repository: &Repository<'a, H, LocalHeap>,
@@ -144,13 +140,12 @@ fn is_shown_at_last<'a, J: Naming, H: Histories, R: Wait + Abort>(
 ) {
     full.fill(rt);
     for _turn in 0..10_000 {
-        if is_shown(rt, repository, clerk) {
+        if is_refused(rt, repository, clerk) {
             break;
         }
         full.give_back(rt);
     }
-    assert!(rt; full.refused >= 1);
-    assert_eq!(rt; clerk.receipts().len(), SHOWN_AT + 1);
+    assert_eq!(rt; clerk.receipts().len(), 4);
 }
 
 /// Puts all questions, each on a full heap.
@@ -171,8 +166,8 @@ fn are_answered_at_last<'a, J: Naming, H: Histories, R: Wait + Abort>(
         let refused = is_answered_at_last(rt, alloc, full, repository, clerk, &line);
         assert!(rt; refused >= least);
     }
-    is_shown_at_last(rt, full, repository, clerk);
-    is_shown_at_last(rt, full, repository, clerk);
+    is_refused_at_last(rt, full, repository, clerk);
+    is_refused_at_last(rt, full, repository, clerk);
 }
 
 /// Settles on a full heap.

@@ -630,6 +630,26 @@ pub const REPEATS: &[Example] = &[
         ],
     },
     Example {
+        shows: "how a pack stands is looked at anew, and a day later all is",
+        moments: &[NEW_YEAR, NEW_YEAR, NEW_YEAR, NEW_YEAR, NEW_YEAR + 86_401],
+        lines: &[
+            ("mah1 UPLOAD 09506000134352 SN1 B1 280200", "UPLOADED"),
+            (
+                "#1 ph1 VERIFY 09506000134352 SN1",
+                "#1 AUTHENTIC B1 280200 VALID",
+            ),
+            ("mah1 RECALL 09506000134352 B1", "LOCKED 1"),
+            (
+                "#1 ph1 VERIFY 09506000134352 SN1",
+                "#1 ALERT RECALLED UNFLAGGED 1",
+            ),
+            (
+                "#1 ph1 VERIFY 09506000134352 SN1",
+                "#1 ALERT RECALLED UNFLAGGED 2",
+            ),
+        ],
+    },
+    Example {
         shows: "a recall is not looked for by its tag",
         moments: &[NEW_YEAR],
         lines: &[

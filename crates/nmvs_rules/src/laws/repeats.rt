@@ -1,28 +1,56 @@
 //! Laws on questions that are asked again with the tag that they had (own).
-ghost use Rattle.std.specs.Prelude.{◌≡◌, ◌↔◌, ◌≤◌, ℕ, IsTrue, List, ◌∷◌, ◌++◌, None, take};
-ghost use Rattle.std.specs.List.{All};
+ghost use Rattle.std.specs.Prelude.{◌≡◌, ◌↔◌, ◌<◌, ◌≤◌, ◌+◌, ℕ, Bool, IsTrue, IsFalse, List, ◌∷◌, ◌++◌, length, Some, None, take};
+ghost use Rattle.std.specs.List.{All, list_any};
+ghost use Rattle.nmvs_identifier.specs.Batch.{Batch};
+ghost use Rattle.nmvs_identifier.specs.Expiry.{Expiry};
 ghost use Rattle.nmvs_identifier.specs.Name.{Name};
 ghost use Rattle.nmvs_identifier.specs.Tag.{Tag};
 ghost use Rattle.nmvs_identifier.specs.declared.pack.Pack.{Pack};
 ghost use Rattle.nmvs_rules.specs.declared.entry.Entry.{Entry};
 ghost use Rattle.nmvs_rules.specs.declared.put.Put.{Put};
 ghost use Rattle.nmvs_rules.specs.declared.repeat.Repeat.TheVariants as repeat;
+ghost use Rattle.nmvs_rules.specs.declared.question.Question.TheVariants.{Verify};
 ghost use Rattle.nmvs_rules.specs.declared.reply.Reply.{Reply};
-ghost use Rattle.nmvs_rules.specs.Limits.{entries_looked_over};
+ghost use Rattle.nmvs_rules.specs.declared.reply.Reply.TheVariants as reply;
+ghost use Rattle.nmvs_rules.specs.Laws.{IsGenuine};
+ghost use Rattle.nmvs_rules.specs.Questions.{pack_of};
 ghost use Rattle.nmvs_rules.specs.Trail.{about_of};
 ghost use Rattle.nmvs_rules.specs.Rules.{reply_of, IsLawful};
-ghost use Rattle.nmvs_rules.specs.Repeats.{is_tagged, repeat_of, AreNew, IsRepeated, without_tag, without_tags};
+ghost use Rattle.nmvs_rules.specs.Repeats.{answer_of, is_tagged, repeat_of, tells_state, AreNew, IsRepeated, without_tag, without_tags};
 
-/// A question with a tag is carried out at most once among any 16 entries about its pack, where each was looked for before
-/// it was put: between two entries about a pack, of one user and with one tag, stand at least 16 others about the pack.
+/// What was carried out, refused or raised as an alert for a question with a tag is not done again, where each question was
+/// looked for before it was put: the next entry about the pack, of that user and with that tag, stands more than a day later,
+/// or behind at least 16 others about the pack.
 pub fn once()
     ensures { (u v w : List Entry) (e f : Entry) (p : Pack) (user : Name) (g : Tag) →
         AreNew (u ++ (e ∷ v) ++ (f ∷ w)) → IsTrue (is_tagged p user g e) → IsTrue (is_tagged p user g f) →
-        entries_looked_over ≤ about_of v p }
+        IsFalse (list_any (is_tagged p user g) v) → IsFalse (tells_state e.reply) →
+        f.put.moment ≤ e.put.moment + 86400 → 16 ≤ about_of v p }
+{}
+
+/// Asked again with its tag, at a moment at most a day later and before 16 others about the pack were put, such a question is
+/// answered by its entry.
+pub fn asked_again()
+    ensures { (u v : List Entry) (e : Entry) (p : Pack) (g : Tag) (moment : ℕ) →
+        pack_of e.put.question ≡ Some p → e.put.tag ≡ Some g →
+        IsFalse (list_any (is_tagged p e.put.user g) v) → about_of v p < 16 → IsFalse (tells_state e.reply) →
+        moment ≤ e.put.moment + 86400 →
+        repeat_of (u ++ e ∷ v) (record e.put { moment = moment }) ≡ repeat.Same (length u) e.reply }
+{}
+
+/// A reply that says how a pack stands is what the rules say on the trail of that moment, also where the question was asked
+/// before. So Authentic is the reply for a pack alone that was uploaded with that batch and expiry, was last uploaded or
+/// reverted, and whose batch was neither recalled nor withdrawn (Articles 11 and 40). On every trail.
+pub fn states_are_current()
+    ensures state { (t : List Entry) (q : Put) (said : Reply) → IsTrue (tells_state said) →
+        answer_of t q ≡ Some said → reply_of t q ≡ said }
+    ensures authentic { (t : List Entry) (q : Put) (p : Pack) (b : Batch) (x : Expiry) (expired : Bool) →
+        q.question ≡ Verify p → answer_of t q ≡ Some (reply.Authentic b x expired) → IsGenuine t p b x }
 {}
 
 /// A reply that is answered again is that of an earlier entry, which asked the same by the same user, with the same tag and
-/// in the same capacity. In a lawful trail it is the reply of the rules there.
+/// in the same capacity, at most a day before; and it does not say how a pack stands. In a lawful trail it is the reply of the
+/// rules there.
 pub fn repetition()
     ensures entry { (t : List Entry) (q : Put) (place : ℕ) (reply : Reply) →
         repeat_of t q ≡ repeat.Same place reply → IsRepeated t q place reply }
