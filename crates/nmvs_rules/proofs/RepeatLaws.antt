@@ -174,7 +174,7 @@ AreNewAfter-rest w (e ∷ u) v new =
 
 -- a run of elements that pass, behind one that does not
 passes-after : {X : Type 0} (p : X → Bool) (xs ys : List X) → list_any (λ y. not (p y)) ys ≡ false → suffix_len p (xs ++ ys) ≡ suffix_len p xs + length ys
-passes-after p xs [] h = ap (suffix_len p) (append-nil xs)
+passes-after p xs [] h = omega (arith, ap (suffix_len p) (append-nil xs))
 passes-after p xs (y ∷ ys) h =
     let here : p y ≡ true = passing (p y) (neither (not (p y)) (list_any (λ y. not (p y)) ys) h).0 in
     let more : suffix_len p (xs ++ y ∷ []) ≡ 1 + suffix_len p xs = suffix_len-push p xs y ∙ ap (λ c. cond c (1 + suffix_len p xs) 0) here in

@@ -9,4 +9,4 @@ returns-clause-state c = told-now
 
 pub returns-clause-authentic : goal.returns-clause-authentic
 returns-clause-authentic c t q p b x expired is told =
-    ((verification-exact t q p b x expired is).0 (told-now t q (Authentic b x expired) refl told)).1.0
+    ((verification-exact t q p b x expired is).0 (told-now t q (Authentic b x expired) refl told)).1
