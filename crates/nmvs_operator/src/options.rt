@@ -117,6 +117,15 @@ fn options_of(alloc: Global, matches: &ArgMatches<'_>) -> Result<Options, Option
     if let Some(text) = clash_of(matches) {
         return Err(refused(alloc, text));
     }
+    let mut options = values_of(alloc, matches)?;
+    take_paths(alloc, matches, &mut options)?;
+    Ok(options)
+}
+
+/// The options of a line, without the paths that it names.
+fn values_of(alloc: Global, matches: &ArgMatches<'_>) -> Result<Options, OptionFault>
+    ensures { IfOk result AreInRange }
+{
     let shards = within(alloc, matches, "shards", 1, MOST_SHARDS)? as usize;
     let workers = within(alloc, matches, "workers", 1, MOST_WORKERS)? as usize;
     let sessions = within(alloc, matches, "sessions", 0, MOST_SESSIONS)?;
@@ -131,7 +140,7 @@ fn options_of(alloc: Global, matches: &ArgMatches<'_>) -> Result<Options, Option
     let metrics = metrics_of(alloc, matches)?;
     let log_level = level_of(alloc, matches)?;
     let log_format = format_of(alloc, matches)?;
-    let mut options = Options {
+    Ok(Options {
         users: None,
         import: None,
         export: None,
@@ -153,9 +162,7 @@ fn options_of(alloc: Global, matches: &ArgMatches<'_>) -> Result<Options, Option
         metrics,
         log_level,
         log_format,
-    };
-    take_paths(alloc, matches, &mut options)?;
-    Ok(options)
+    })
 }
 
 /// Takes the paths that the options name.

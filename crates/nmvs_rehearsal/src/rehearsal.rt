@@ -15,7 +15,7 @@ use nmvs_messages::{
 use nmvs_protocol::serve;
 use nmvs_record::report;
 use nmvs_rules::{Put, Question, may_report};
-use nmvs_shard::{Answered, Asked as Outcome, HashKey, Shard};
+use nmvs_shard::{Answered, HashKey, Outcome, Shard};
 use nmvs_stream::{Sink, Source};
 use std::alloc::{AllocError, Global};
 use std::marker::Model;
@@ -127,7 +127,7 @@ impl<'a> RehearsalDesk<'a> {
         };
         match self.shard.ask(&put) {
             Ok(Outcome::New(answered)) => told(answered),
-            Ok(Outcome::Again { place: _, answered }) => told(answered),
+            Ok(Outcome::Again(answered)) => told(answered),
             Ok(Outcome::Other) => Content::Turned(Turn::Tag),
             Err(AllocError) => Content::Turned(Turn::Memory),
         }
@@ -152,9 +152,9 @@ impl<'a> RehearsalDesk<'a> {
 
 /// The reply to a question, and the entries that are shown with it.
 fn told<'a>(answered: Answered<&'a Global>) -> Content<'a>
-    ensures { result ≡ Replied answered.entry.reply answered.entry.shown.items }
+    ensures { result ≡ Replied answered.entry.entry.reply answered.entry.shown.items }
 {
-    Content::Replied(answered.reply, Entries::new(answered.shown))
+    Content::Replied(answered.entry.reply, Entries::new(answered.shown))
 }
 
 impl<'a> Desk<'a> for RehearsalDesk<'a> {

@@ -1,12 +1,12 @@
 //! What a server goes by, and what its workers share.
 use crate::journals::JournalStore;
-use nmvs_connections::{Hall, Listener};
+use nmvs_connections::{Listener, WorkerPool};
 use nmvs_desk::Repository;
 use nmvs_directory::{Naming, Notice};
 use nmvs_figures::Panel;
 use nmvs_history::Histories;
 use nmvs_offices::Offices;
-use nmvs_rate::SharedRates;
+use nmvs_rate::SharedLimiter;
 use nmvs_recovery::Run;
 use std::alloc::Global;
 use std::sync::Mutex;
@@ -34,7 +34,7 @@ pub(crate) struct Server<'s, 'r, 'o, R, J: Naming, H: Histories> {
 #[derive(Drop)]
 pub(crate) struct Shared<'s, 'f, 'r, 'o, R, J: Naming, H: Histories> {
     pub(crate) server: &'s Server<'f, 'r, 'o, R, J, H>,
-    pub(crate) hall: &'s Hall<'r>,
+    pub(crate) pool: &'s WorkerPool<'r>,
     /// Where answers wait for the journals, where there are journals.
     pub(crate) offices: &'s Option<Offices<'f, 'r, JournalStore<'r>, H>>,
     /// How much each user may still ask, where there is a rate.

@@ -4,14 +4,13 @@ ghost use Rattle.nmvs_server.specs.Bounds.{sessions_of};
 
 use crate::announcements::{listening_at, listening_on};
 use crate::journals::JournalAlarm;
-use crate::server::{Config, Server, Shared};
+use crate::server::{Config, Shared};
 use crate::service::Running;
 use log::{Log, info};
-use nmvs_connections::{Bounds, Listener, Station, admit, serve};
+use nmvs_connections::{Bounds, Listener, Poller, accept_loop, serve};
 use nmvs_desk::Clerk;
 use nmvs_directory::{Naming, Registrar};
 use nmvs_history::Histories;
-use nmvs_kept_users::KeptUsers;
 use nmvs_messages::Desk;
 use nmvs_operator::{Latest, Options, obey_all};
 use nmvs_reception::{ClerkDesk, JournalDesk, ProgramClock};
@@ -55,7 +54,7 @@ fn work<'r, R: Wait + Clock + Log, J: Naming, H: Histories>(
     if !may_begin(shared) {
         return clerk;
     }
-    let desk = desk_of(shared.server, clerk, number);
+    let desk = desk_of(shared, clerk, number);
     match shared.offices {
         None => serve_by_desk(shared, number, poller, desk).into_clerk(),
         Some(offices) => {
@@ -74,49 +73,48 @@ fn may_begin<R: Wait, J: Naming, H: Histories>(shared: &Shared<'_, '_, '_, '_, R
 
 /// The desk of the clerk of the worker of this number.
 fn desk_of<'s, 'r, R: Wait + Clock + Log, J: Naming, H: Histories>(
-    server: &Server<'s, 'r, '_, R, J, H>,
+    shared: &Shared<'s, '_, 'r, '_, R, J, H>,
     clerk: Clerk<'r, J, H>,
     number: usize,
 ) -> ClerkDesk<'s, 'r, R, J, H, ProgramClock<'s, R>> {
-    let config = server.config;
-    let run = &config.run;
+    let server = shared.server;
+    let run = &server.config.run;
     let clock = ProgramClock::new(run.rt, run.options.moment);
-    let tally = config.panel.tally(number);
+    let tally = server.config.panel.tally(number);
     ClerkDesk::new(
         run.rt,
         clerk,
         server.repository,
         server.latest,
+        shared.limiter.as_ref(),
         clock,
         tally,
     )
 }
 
-/// Serves connections by a desk, each user within the rate, and gives the desk back. Where it can't go on it ends the
-/// service.
+/// Serves connections by a desk, and gives the desk back. Where it can't go on it ends the service.
 fn serve_by_desk<'r, R: Wait + Clock + Log, J: Naming, H: Histories, D: Desk<'r>>(
     shared: &Shared<'_, '_, 'r, '_, R, J, H>,
     number: usize,
     poller: Poller,
-    desk: D,
+    mut desk: D,
 ) -> D {
     let run = &shared.server.config.run;
-    let mut own = OwnDesk::new(RatedDesk::new(desk, Gate::new(run.rt, shared.rates.as_ref())));
-    if serve(run.rt, *run.alloc, shared.hall, number, station, &mut own).is_err() {
-        shared.hall.stop(run.rt);
+    if serve(run.rt, *run.alloc, shared.pool, number, poller, &mut desk).is_err() {
+        shared.pool.stop(run.rt);
     }
     desk
 }
 
 /// Accepts connections for the workers. Where it can't go on it ends the service.
-fn keep_door<R: Wait + Log, J: Naming, H: Histories>(
+fn accept<R: Wait + Log, J: Naming, H: Histories>(
     shared: &Shared<'_, '_, '_, '_, R, J, H>,
-    door: Station,
+    acceptor: Poller,
 ) {
     let server = shared.server;
     let run = &server.config.run;
-    if admit(run.rt, shared.hall, server.listener, door).is_err() {
-        shared.hall.stop(run.rt);
+    if accept_loop(run.rt, shared.pool, server.listener, acceptor).is_err() {
+        shared.pool.stop(run.rt);
     }
 }
 
@@ -136,13 +134,13 @@ pub(crate) fn serve_connections<
 >(
     shared: &Shared<'_, '_, 'r, '_, R, J, H>,
     clerks: Vec<Clerk<'r, J, H>, &'r Global>,
-    stations: (Vec<Station>, Station),
+    pollers: (Vec<Poller>, Poller),
     service: &mut Running<'_, '_, 'r, '_, R, J, H>,
     registrar: &mut Registrar<J, &'r R, &'r Global>,
     console: &mut Console<T>,
 ) -> Result<Vec<Clerk<'r, J, H>, &'r Global>, AllocError> {
     let run = &shared.server.config.run;
-    let (stations, door) = stations;
+    let (pollers, acceptor) = pollers;
     thread::scope(thread::scope_env(), run.rt, |scope| {
         let mut ready = shared.ready.lock(run.rt);
         let mut workers = Vec::with_capacity(*run.alloc, clerks.len())?;
@@ -151,14 +149,14 @@ pub(crate) fn serve_connections<
         let mut number = 0usize;
         for (clerk, poller) in clerks.into_iter().zip(pollers) {
             let place = number;
-            let kept = match scope.spawn(move || work(shared, clerk, place, station)) {
+            let kept = match scope.spawn(move || work(shared, clerk, place, poller)) {
                 Ok(worker) => workers.push(worker).or(Err(AllocError)),
                 Err(_) => Err(AllocError),
             };
             kept?;
             number = number.saturating_add(1);
         }
-        let Ok(doorkeeper) = scope.spawn(move || keep_door(shared, door)) else {
+        let Ok(accepting) = scope.spawn(move || accept(shared, acceptor)) else {
             return Err(AllocError);
         };
         *ready = true;
