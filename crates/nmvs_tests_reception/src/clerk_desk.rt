@@ -190,13 +190,17 @@ fn suspend<'r, J: Naming, R: Wait + Log + Abort>(
     assert_eq!(rt; deliver(&mut console.sink, b"."), Ok(()));
 }
 
-/// Whether the line at this place is a question that was put, and no one that is asked again by its tag.
+/// Whether the line at this place is a question that was put, and not one that is answered again by its tag. The examples have
+/// no tagged line that is put twice with one answer.
 fn is_put(lines: &[(&str, &str)], place: usize) -> bool {
     let Some((line, answer)) = lines.get(place) else {
         return false;
     };
     let (earlier, _) = lines.split_at(place);
-    let is_repeated = line.starts_with('#') && earlier.iter().any(|(other, _)| other == line);
+    let is_repeated = line.starts_with('#')
+        && earlier
+            .iter()
+            .any(|(other, said)| other == line && said == answer);
     !(is_repeated
         || answer.contains("FAULT")
         || answer.starts_with("PRODUCT")
