@@ -123,7 +123,7 @@ fn is_refused<'a, J: Naming, H: Histories, R: Wait + Abort>(
     match clerk.ask(rt, repository, &put) {
         Ok(Outcome::New(answered) | Outcome::Again(answered)) => {
             assert_eq!(rt; answered.place, 3);
-            assert_eq!(rt; answered.entry.reply, Reply::Refused(Refusal::Already));
+            assert_eq!(rt; answered.entry.reply, Reply::Refused(Refusal::Duplicate));
             true
         }
         Ok(Outcome::Other) => panic!(rt; "another question"),
