@@ -123,13 +123,13 @@ fn a_header_names_the_peer_of_its_lines(rt: HostRuntime) -> Result<(), Fail> {
     nameless.write_all(b"ph1 STATUS 09506000134352 SN1\n")?;
     event_loop.queue(0);
     event_loop.queue(1);
-    let mut withheld = WithheldAnswers::new();
     let mut desk = Counting {
         peer: NameOf::User.peer(Name::read("ph1").expect(&rt, "a name")),
         releases: 0,
         answers: 0,
     };
     for _ in 0..8 {
+        let mut withheld = WithheldAnswers::new();
         event_loop.take_turns(&rt, &pool, &mut scratch, &mut withheld, &mut desk);
     }
     assert_eq!(rt; desk.answers, 2);

@@ -1,9 +1,28 @@
-use Rattle.std.proofs.Common.{rules, ◌∙◌, sym, ap, subst, refl, inl, inr}
+use Rattle.std.proofs.Common.{rules, List, ◌∷◌, [], ◌++◌, ◌∙◌, sym, ap, subst, refl, inl, inr}
 use Rattle.nmvs_rules.specs.declared.entry.Entry.{Entry}
+use Rattle.nmvs_rules.specs.declared.put.Put.{Put}
+use Rattle.nmvs_rules.specs.Rules.{answered}
+use Rattle.nmvs_shard.specs.declared.shard.Answered.{Answered}
+use Rattle.nmvs_shard.specs.declared.shard.Outcome.TheVariants as outcome
 use Rattle.nmvs_shard.specs.Asking.{Asks}
-use Rattle.nmvs_rehearsal.specs.Rehearsal.{put_at}
+use Rattle.nmvs_rehearsal.specs.Rehearsal.{put_at, Repeats, Steps}
 use Rattle.nmvs_rehearsal.proofs.rehearsal.RehearsalDesk.judge.Goals as goal
 use Rattle.nmvs_rehearsal.proofs.rehearsal.RehearsalDesk.judge.Goals.{in-Ok-New, in-Ok-Again, in-Ok-Other, in-Err}
+
+-- what a shard says of a question that it put
+steps : {A : Type 0} (old new : List Entry) (put : Put) (a : Answered A) → Asks old put new (outcome.New a) → Steps old put a.entry.reply a.shown.items new
+steps old new put a (first, step) =
+    let lawful = ap (λ (e : Entry). e.reply) step.entry in
+    record {
+      first = first;
+      lawful = lawful;
+      shows = step.shows;
+      grows = step.trail ∙ ap (λ e. old ++ e ∷ []) (step.entry ∙ ap (answered put) (sym lawful));
+    }
+
+-- and of one that it answers again
+repeats : {A : Type 0} (old new : List Entry) (put : Put) (a : Answered A) → Asks old put new (outcome.Again a) → Repeats old put a.entry.reply a.shown.items new
+repeats old new put a (same, again) = record { place = a.place; repeats = again.repeat; shows = again.shows; same = same }
 
 pub returns : goal.returns
 returns c =
@@ -12,26 +31,26 @@ returns c =
     let new = c.ask.new.self in
     elim c.match-ask.branch [
       | in-Ok-New w ↦
-          let asks = subst (λ o. Asks old put new o) w.in-Ok-New.field-0-is w.in-Ok-New.ensures.asked in
+          let asks = subst (λ o. Asks old put new o) w.in-Ok-New.field-0-is w.in-Ok-New.ensures.asks in
           rw (← c.self.view_is, w.result-is, w.told.ensures)
           (record {
             actor = c.in-Some.actor;
             rostered = c.in-Some.ensures.known;
-            answers = inl (record { first = asks.0; lawful = asks.1; shows = asks.2; grows = asks.3 });
+            answers = inl (steps old new put _ asks);
             moments = refl;
           })
       | in-Ok-Again w ↦
-          let asks = subst (λ o. Asks old put new o) w.in-Ok-Again.field-0-is w.in-Ok-Again.ensures.asked in
+          let asks = subst (λ o. Asks old put new o) w.in-Ok-Again.field-0-is w.in-Ok-Again.ensures.asks in
           rw (← c.self.view_is, w.result-is, w.told-in-Ok-Again.ensures)
           (record {
             actor = c.in-Some.actor;
             rostered = c.in-Some.ensures.known;
-            answers = inr (record { place = w.in-Ok-Again.field-0-0; repeats = asks.0; shows = asks.1; same = asks.2 });
+            answers = inr (repeats old new put _ asks);
             moments = refl;
           })
       | in-Ok-Other w ↦
-          let asks = subst (λ o. Asks old put new o) w.in-Ok-Other.field-0-is w.in-Ok-Other.ensures.asked in
+          let asks = subst (λ o. Asks old put new o) w.in-Ok-Other.field-0-is w.in-Ok-Other.ensures.asks in
           rw (← c.self.view_is, w.result-is)
-          (record { actor = c.in-Some.actor; rostered = c.in-Some.ensures.known; other = asks.0 }, record { trail = asks.1; moments = refl })
+          (record { actor = c.in-Some.actor; rostered = c.in-Some.ensures.known; other = asks.1 }, record { trail = asks.0; moments = refl })
       | in-Err w ↦ rw (← c.self.view_is, w.result-is) (search rules, record { trail = w.in-Err.ensures.unchanged; moments = refl })
     ]
