@@ -435,21 +435,30 @@ fn a_tag_is_its_users_own(rt: HostRuntime) {
     assert!(rt; !untagged.is_by(&put.user, &tag(&rt, "a17")));
 }
 
+/// An entry answers again what it asked, for a day, unless its reply says how a pack stood.
 #[test]
 fn an_earlier_entry_answers_what_it_asked(rt: HostRuntime) {
     let put = tagged(&rt);
-    let entry = Entry {
-        put,
-        reply: Reply::NoPack,
+    let reply = Reply::Alert {
+        cause: Cause::Unknown,
+        flagged: true,
+        number: 1,
     };
-    let again = Repeat::Same {
-        place: 3,
-        reply: Reply::NoPack,
-    };
-    assert!(rt; put.beside(3, &entry) == again);
+    let entry = Entry { put, reply };
+    assert!(rt; put.beside(3, &entry) == Repeat::Same { place: 3, reply });
     let other = Put {
         question: Question::Status(pack(&rt)),
         ..put
     };
     assert!(rt; other.beside(3, &entry) == Repeat::Other);
+    let too_late = Put {
+        moment: at(&rt, NEW_YEAR + DAY + 1),
+        ..put
+    };
+    assert!(rt; too_late.beside(3, &entry) == Repeat::New);
+    let of_a_state = Entry {
+        put,
+        reply: Reply::NoPack,
+    };
+    assert!(rt; put.beside(3, &of_a_state) == Repeat::New);
 }
