@@ -10,7 +10,7 @@ use nmvs_desk::{Clerk, Keepers, MOST_CLERKS, Repository, Settled, settle};
 use nmvs_directory::{Directory, Look, Naming, Registrar, Window};
 use nmvs_history::Histories;
 use nmvs_identifier::{Moment, Name};
-use nmvs_rules::{Put, Question};
+use nmvs_rules::{Entry, Put, Question};
 use nmvs_shard::{HashKey, Shard, shard_number};
 use std::alloc::{AllocError, Allocator, Global};
 use std::marker::Brand;
@@ -50,7 +50,7 @@ pub fn shards_with<'a, B: Allocator>(
     Ok(shards)
 }
 
-/// Puts a question to the shard of its product code.
+/// Stores a question in the shard of its product code, with the reply of the rules.
 fn append<'a, B: Allocator>(
     shards: &mut Vec<Shard<&'a B>, &'a B>,
     put: &Put,
@@ -61,8 +61,8 @@ fn append<'a, B: Allocator>(
     ensures placed { OnOk result ((i : ℕ) → IsPlaced (vec_len shards.old) i (row shards.new.items i)) }
 {
     let index = shard_number(&put.question.code(), shards.len());
-    shards[index].ask(put)?;
-    Ok(())
+    let reply = shards[index].reply_to(put);
+    shards[index].store(&Entry { put: *put, reply })
 }
 
 /// Enrols the users, and publishes them.
