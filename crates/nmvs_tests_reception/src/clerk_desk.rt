@@ -229,8 +229,9 @@ impl<'e> Visit for AskLines<'e> {
         let alloc = *clerk.allocator();
         let clock = Seconds::new(example.moments);
         let panel = Panel::new(alloc, 1, 1, false)?;
-        let tally = panel.tally(0);
-        let mut desk = ClerkDesk::new(rt, clerk, &opened.repository, latest, None, clock, tally);
+        let (limiter, tally) = (None::<SharedLimiter<Global>>, panel.tally(0));
+        let (repository, limiter) = (&opened.repository, limiter.as_ref());
+        let mut desk = ClerkDesk::new(rt, clerk, repository, latest, limiter, clock, tally);
         for (line, answer) in example.lines {
             let wanted = format!(in alloc; "{answer}\n")?;
             if *line == "SUSPEND ph1" {
@@ -359,7 +360,7 @@ impl Visit for AskOfPeers {
         for _ in 0..20u32 {
             let said = asked(alloc, &mut desk, &Peer::Anyone, "au1 REPORT 09506000134352")?;
             if said.as_slice() == b"FAULT RATE\n".as_slice() {
-                over += 1;
+                over = over.saturating_add(1);
             }
         }
         assert!(rt; 0 < over && over < 20);

@@ -435,30 +435,40 @@ fn a_tag_is_its_users_own(rt: HostRuntime) {
     assert!(rt; !untagged.is_by(&put.user, &tag(&rt, "a17")));
 }
 
-/// An entry answers again what it asked, for a day, unless its reply says how a pack stood.
-#[test]
-fn an_earlier_entry_answers_what_it_asked(rt: HostRuntime) {
-    let put = tagged(&rt);
-    let reply = Reply::Alert {
+/// The first alert on an unknown pack.
+fn first_alert() -> Reply {
+    Reply::Alert {
         cause: Cause::Unknown,
         flagged: true,
         number: 1,
+    }
+}
+
+/// An entry answers again what it asked, for a day, unless its reply says how a pack stood.
+#[test]
+fn an_earlier_entry_answers_what_it_asked(rt: HostRuntime) {
+    let entry = Entry {
+        put: tagged(&rt),
+        reply: first_alert(),
     };
-    let entry = Entry { put, reply };
-    assert!(rt; put.beside(3, &entry) == Repeat::Same { place: 3, reply });
+    let same = Repeat::Same {
+        place: 3,
+        reply: first_alert(),
+    };
+    assert!(rt; tagged(&rt).beside(3, &entry) == same);
     let other = Put {
         question: Question::Status(pack(&rt)),
-        ..put
+        ..tagged(&rt)
     };
     assert!(rt; other.beside(3, &entry) == Repeat::Other);
     let too_late = Put {
         moment: at(&rt, NEW_YEAR + DAY + 1),
-        ..put
+        ..tagged(&rt)
     };
     assert!(rt; too_late.beside(3, &entry) == Repeat::New);
     let of_a_state = Entry {
-        put,
+        put: tagged(&rt),
         reply: Reply::NoPack,
     };
-    assert!(rt; put.beside(3, &of_a_state) == Repeat::New);
+    assert!(rt; tagged(&rt).beside(3, &of_a_state) == Repeat::New);
 }
