@@ -173,3 +173,18 @@ Takes old from ask withheld new = Serves old from ask withheld.answer.content wi
 pub record LetsGo (old new : DeskView) : Type 0 where
   pub sights : (i : ℕ) → IsPrefix (row old.clerk.sights i) (row new.clerk.sights i)
   pub same : new ≡ record old { clerk = record old.clerk { sights = new.clerk.sights; receipts = [] } }
+
+-- a desk whose answers wait for a log: the clerk's desk, and the trail that it knows the log to have confirmed
+pub record WaitingView : Type 0 where
+  pub desk : DeskView
+  pub confirmed : List Entry
+
+-- it takes a line as the clerk's desk does
+pub record TakesWaiting (old : WaitingView) (from : Peer) (ask : Ask) (withheld : Withheld) (new : WaitingView) : Type 0 where
+  pub takes : Takes old.desk from ask withheld new.desk
+  pub same : new.confirmed ≡ old.confirmed
+
+-- a release lets its clerk's receipts go, and it may know more to be confirmed
+pub record LearnsMore (old new : WaitingView) : Type 0 where
+  pub moves : LetsGo old.desk new.desk
+  pub longer : IsPrefix old.confirmed new.confirmed
