@@ -180,11 +180,9 @@ pub record WaitingView : Type 0 where
   pub confirmed : List Entry
 
 -- it takes a line as the clerk's desk does
-pub record TakesWaiting (old : WaitingView) (from : Peer) (ask : Ask) (withheld : Withheld) (new : WaitingView) : Type 0 where
-  pub takes : Takes old.desk from ask withheld new.desk
-  pub same : new.confirmed ≡ old.confirmed
+abbrev pub TakesWaiting : WaitingView → Peer → Ask → Withheld → WaitingView → Type 0
+TakesWaiting old from ask withheld new = Takes old.desk from ask withheld new.desk × (new.confirmed ≡ old.confirmed)
 
 -- a release lets its clerk's receipts go, and it may know more to be confirmed
-pub record LearnsMore (old new : WaitingView) : Type 0 where
-  pub moves : LetsGo old.desk new.desk
-  pub longer : IsPrefix old.confirmed new.confirmed
+abbrev pub LearnsMore : WaitingView → WaitingView → Type 0
+LearnsMore old new = LetsGo old.desk new.desk × IsPrefix old.confirmed new.confirmed

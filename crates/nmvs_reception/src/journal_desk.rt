@@ -9,6 +9,7 @@ use nmvs_directory::Naming;
 use nmvs_history::Histories;
 use nmvs_journal::{CommitLog, Confirmed, LogName, Reach, Store};
 use nmvs_messages::{Ask, Desk, Peer, Released, Withheld, WithheldAnswers};
+use std::io;
 use std::marker::Model;
 use std::rt;
 use std::sync::Wait;
@@ -142,9 +143,14 @@ impl<
         let (released, failure) =
             self.desk
                 .release_by(self.log, &mut self.reach, &mut self.confirmed, withheld);
-        if let Some(fault) = failure {
-            self.alarm.tell(fault);
-        }
+        tell_failure(&self.alarm, failure);
         (released, self.confirmed.again())
+    }
+}
+
+/// Tells an alarm why the log failed, where it did.
+fn tell_failure<W: Alarm>(alarm: &W, failure: Option<io::Error>) {
+    if let Some(fault) = failure {
+        alarm.tell(fault);
     }
 }
