@@ -7,9 +7,10 @@ use Rattle.std.proofs.lemmas.List.Elements.{filter-append}
 use Rattle.std.proofs.lemmas.Bool.Decides.{eqb_tells}
 use mathlib.Core.List.{IsPrefix}
 use Rattle.nmvs_history.specs.Views.{HistoryId, TokenView}
-use Rattle.nmvs_history.proofs.Beginnings.{prefix_get, prefix_length, prefix_trans, last_get}
+use Rattle.nmvs_history.proofs.Beginnings.{prefix_get, prefix_length, prefix_trans}
 use Rattle.nmvs_rules.specs.declared.entry.Entry.{Entry}
 use Rattle.nmvs_rules.specs.declared.put.Put.{Put}
+use Rattle.nmvs_rules.specs.Rules.{answered}
 use Rattle.nmvs_directory.specs.declared.change.Change.{Change}
 use Rattle.nmvs_shard.specs.declared.shard.Answered.{Answered}
 use Rattle.nmvs_shard.specs.declared.shard.Outcome.{Outcome}
@@ -21,6 +22,7 @@ use Rattle.nmvs_desk.specs.Clerks.{IsTokenOf, Stands, IsClerk}
 use Rattle.nmvs_desk.specs.Settlement.{row, places_in, AreOwn, Rises}
 use Rattle.nmvs_desk.specs.Views.{ClerkView, sights_of, places_of}
 use Rattle.nmvs_desk.proofs.Lists.{set_cases, set_same, set_other, push_cases}
+use Rattle.nmvs_desk.proofs.Serving.{last_there}
 
 -- the places of one receipt more
 pub places_push : (i : ℕ) (receipts : List Receipt) (r : Receipt) → places_in i (receipts ++ r ∷ []) ≡ places_in i receipts ++ places_in i (r ∷ [])
@@ -102,10 +104,10 @@ module _ (tables : ℕ → HistoryId) (count : ℕ) (tokens : List TokenView) (r
 
   module _ {A : Type 0} (a : Answered A) (put : Put) (b : Becomes count index put was now (outcome.New a)) where
     abbrev New : List Receipt
-    New = receipts ++ new_receipts index (outcome.New a)
+    New = receipts ++ new_receipts index put (outcome.New a)
 
     abbrev Its : Receipt
-    Its = record { shard = index; place = a.place; entry = a.entry }
+    Its = record { shard = index; place = a.place; entry = answered put a.reply }
 
     token_now : IsTokenOf tables count New index now
     token_now =
@@ -143,11 +145,10 @@ module _ (tables : ℕ → HistoryId) (count : ℕ) (tokens : List TokenView) (r
 
     stands_now : Stands (set tokens index now) Its
     stands_now =
-        let step = b.asks.1 in
         record {
           token = now;
           is = after_set;
-          stands = ap (λ t. slice_get t a.place) step.trail ∙ subst (λ n. slice_get (b.trail ++ a.entry ∷ []) n ≡ Some a.entry) (sym step.place) (last_get b.trail a.entry);
+          stands = last_there b.trail now.seen put a b.asks;
         }
 
     below : (n : ℕ) (o : Receipt) → slice_get receipts n ≡ Some o → o.shard ≡ index → o.place < a.place
@@ -210,14 +211,14 @@ module _ (tables : ℕ → HistoryId) (count : ℕ) (tokens : List TokenView) (r
         (λ i. (sym (sight_of tokens index was has) i, sym (sight_of (set tokens index now) index now after_set) i)) look
 
   -- whatever becomes of a question, the clerk is a clerk
-  pub asked : {A : Type 0} (put : Put) (o : Outcome A) → Becomes count index put was now o → IsClerk tables count (set tokens index now) (receipts ++ new_receipts index o)
+  pub asked : {A : Type 0} (put : Put) (o : Outcome A) → Becomes count index put was now o → IsClerk tables count (set tokens index now) (receipts ++ new_receipts index put o)
   asked put (outcome.New a) b = with_receipt a put b
   asked put (outcome.Again a) b = subst (λ l. IsClerk tables count (set tokens index now) l) (sym (append-nil receipts)) (looked (shown_now put (outcome.Again a) b) (no_place put (outcome.Again a) b refl))
   asked put outcome.Other b = subst (λ l. IsClerk tables count (set tokens index now) l) (sym (append-nil receipts)) (looked (shown_now put outcome.Other b) (no_place put outcome.Other b refl))
 
   -- and what it is answered
   pub answers : {A : Type 0} (seen : List Change) (put : Put) (o : Outcome A) → Becomes count index put was now o
-      → Answers count index put (clerk seen tokens receipts) (clerk seen (set tokens index now) (receipts ++ new_receipts index o)) o
+      → Answers count index put (clerk seen tokens receipts) (clerk seen (set tokens index now) (receipts ++ new_receipts index put o)) o
   answers seen put o b =
       let before = sym (sight_of tokens index was has) in
       let after = sym (sight_of (set tokens index now) index now after_set) in

@@ -5,7 +5,7 @@ use Rattle.nmvs_history.specs.Views.{TokenView}
 use Rattle.nmvs_rules.specs.declared.entry.Entry.{Entry}
 use Rattle.nmvs_rules.specs.declared.put.Put.{Put}
 use Rattle.nmvs_rules.specs.Entries.{AreEntries}
-use Rattle.nmvs_rules.specs.Rules.{IsLawful}
+use Rattle.nmvs_rules.specs.Rules.{IsLawful, answered}
 use Rattle.nmvs_shard.specs.declared.shard.Outcome.{Outcome}
 use Rattle.nmvs_shard.specs.declared.shard.Outcome.TheVariants as outcome
 use Rattle.nmvs_shard.specs.Asking.{Asks}
@@ -27,10 +27,10 @@ abbrev pub new_places : {A : Type 0} → Outcome A → List ℕ
 new_places (outcome.New a) = a.place ∷ []
 new_places _ = []
 
--- and its receipt, in the shard of this number
-abbrev pub new_receipts : {A : Type 0} → ℕ → Outcome A → List Receipt
-new_receipts index (outcome.New a) = record { shard = index; place = a.place; entry = a.entry } ∷ []
-new_receipts index _ = []
+-- and its receipt, in the shard of this number: the question with its reply
+abbrev pub new_receipts : {A : Type 0} → ℕ → Put → Outcome A → List Receipt
+new_receipts index put (outcome.New a) = record { shard = index; place = a.place; entry = answered put a.reply } ∷ []
+new_receipts index put _ = []
 
 -- what becomes of a question in the shard of this number, and of the token by which it is asked: it is answered on a trail of
 -- the shard that begins with all that the token had seen; now the token has seen what the answer left, and owns the place of
@@ -52,5 +52,5 @@ pub record Answers {A : Type 0} (count index : ℕ) (put : Put) (old new : Clerk
   pub later : IsShown count index trail (row new.sights index)
   pub owned : row new.places index ≡ row old.places index ++ new_places o
   pub others : (i : ℕ) → i ≢ index → (row new.sights i ≡ row old.sights i) × (row new.places i ≡ row old.places i)
-  pub receipts : new.receipts ≡ old.receipts ++ new_receipts index o
+  pub receipts : new.receipts ≡ old.receipts ++ new_receipts index put o
   pub seen : new.seen ≡ old.seen

@@ -150,7 +150,7 @@ impl<'a, J: Naming, H: Histories, B: Allocator> Clerk<'a, J, H, B> {
         let shard = repository.shard_of(&put.question.code());
         let slot = repository.slot(shard);
         let outcome = slot.ask(rt, &mut self.tokens[shard], put)?;
-        keep(&mut self.receipts, shard, &outcome);
+        keep(&mut self.receipts, shard, put, &outcome);
         Ok(outcome)
     }
 
@@ -208,16 +208,20 @@ impl<'a, J: Naming, H: Histories, B: Allocator> Clerk<'a, J, H, B> {
 fn keep<A: Allocator, B: Allocator>(
     receipts: &mut Vec<Receipt, A>,
     shard: usize,
+    put: &Put,
     outcome: &Outcome<B>,
 )
     requires { vec_len receipts.old < vec_capacity receipts.old }
-    ensures { receipts.new.items ≡ receipts.old.items ++ new_receipts shard outcome.now }
+    ensures { receipts.new.items ≡ receipts.old.items ++ new_receipts shard put.now outcome.now }
 {
     match outcome {
         Outcome::New(answered) => receipts.push_reserved(Receipt {
             shard,
             place: answered.place,
-            entry: answered.entry,
+            entry: Entry {
+                put: *put,
+                reply: answered.reply,
+            },
         }),
         Outcome::Again(_) | Outcome::Other => {}
     }

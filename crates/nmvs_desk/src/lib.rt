@@ -1,8 +1,9 @@
 //! Locked shards, the clerks that ask them with a receipt for each answer, and the settlement of all shards.
 //!
 //! A question goes one way, whatever its kind. A clerk asks it (ask.rt), the repository finds the shard of its product code
-//! (repository.rt), whose slot holds the lock (lock.rt) while the shard answers (locked.rt). The way back has the entry that
-//! answers it and what an audit shows. The clerk keeps the receipt of a question that was put until it lets its receipts go.
+//! (repository.rt), whose slot holds the lock (lock.rt) while the shard answers (locked.rt). The way back has the place and
+//! the reply of the entry that answers it, and what an audit shows. The clerk keeps the receipt of a question that was put
+//! until it lets its receipts go.
 //!
 //! Each shard has a history (`nmvs_history`), whose keeper lies under the shard's lock. A clerk has a token of each history, so
 //! what it has seen of a shard begins every later trail of it, and each place of a trail is the own of one token.

@@ -1,10 +1,8 @@
 -- How the program's desk answers.
-use Rattle.std.specs.Prelude.{slice_get}
 use Rattle.std.proofs.Common.{◌≡◌, ◌≢◌, ◌<◌, ◌+◌, ◌⊎◌, ◌∙◌, ◌++◌, ◌∷◌, ℕ, ℤ, Bool, true, List, [], Option, Some, None, IfSome, length, refl, sym, ap, subst, inl, inr, arith, length-append}
 use Rattle.std.specs.Borrow.{Bor}
 use Rattle.std.specs.Global.{Global}
 use Rattle.std.proofs.lemmas.Bool.Decides.{eqb_tells}
-use Rattle.std.proofs.lemmas.Option.{slice_get_within}
 use mathlib.Core.List.{IsPrefix}
 use Rattle.nmvs_history.proofs.Beginnings.{prefix_self, prefix_trans, prefix_length}
 use Rattle.nmvs_identifier.specs.Name.{Name}
@@ -15,6 +13,8 @@ use Rattle.nmvs_directory.specs.declared.look.Look.{Look}
 use Rattle.nmvs_rules.specs.declared.actor.Actor.{Actor}
 use Rattle.nmvs_rules.specs.declared.entry.Entry.{Entry}
 use Rattle.nmvs_rules.specs.declared.put.Put.{Put}
+use Rattle.nmvs_rules.specs.Rules.{answered}
+use Rattle.nmvs_shard.proofs.Again.{stands_for}
 use Rattle.nmvs_shard.specs.Asking.{Asks}
 use Rattle.nmvs_shard.specs.declared.shard.Outcome.{Outcome}
 use Rattle.nmvs_shard.specs.declared.shard.Outcome.TheVariants as outcomes
@@ -119,11 +119,11 @@ all_within new shard (Some b) r = subst (λ i. b.place < length (row new.clerk.s
 said_within : (new : DeskView) (shard : ℕ) (trail : List Entry) (put : Put) (o : Outcome (Bor Global)) (said : Content) (basis : Option Basis)
     → Asks trail put (row new.clerk.sights shard) o → Says shard o said basis → Within new basis
 said_within new shard trail put (outcomes.New a) said basis asks says =
-    let long = ap length asks.1.trail ∙ length-append trail (a.entry ∷ []) in
+    let long = ap length asks.1.trail ∙ length-append trail (answered put a.reply ∷ []) in
     subst (Within new) (sym says.1) (omega (arith, long, asks.1.place))
 said_within new shard trail put (outcomes.Again a) said basis asks says =
-    let there = ap (λ t. slice_get t a.place) asks.0 ∙ asks.1.stands in
-    subst (Within new) (sym says.1) (slice_get_within (row new.clerk.sights shard) a.place a.entry there)
+    let there = (stands_for trail put a.place a.reply asks.1.repeat).within in
+    subst (Within new) (sym says.1) (subst (λ t. a.place < length t) (sym asks.0) there)
 said_within new shard trail put outcomes.Other said basis asks says = none_within new basis says.1
 
 admitted_within : (old : DeskView) (tag : Option Tag) (what : Asked) (moment : ℕ) (actor : Actor) (said : Content) (basis : Option Basis) (new : DeskView)

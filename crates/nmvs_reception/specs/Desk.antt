@@ -106,8 +106,8 @@ Refuses notice old from ask turns.Tag new = ⊥
 -- what is said of an outcome in the shard of this number, and on what that rests: the reply of the entry that answers the
 -- question, with what it shows, on the entries up to that one; or that the tag is another question's
 abbrev pub Says : ℕ → Outcome (Bor Global) → Content → Option Basis → Type 0
-Says shard (outcomes.New a) said basis = (said ≡ contents.Replied a.entry.reply a.shown.items) × (basis ≡ Some (record { shard = shard; place = a.place }))
-Says shard (outcomes.Again a) said basis = (said ≡ contents.Replied a.entry.reply a.shown.items) × (basis ≡ Some (record { shard = shard; place = a.place }))
+Says shard (outcomes.New a) said basis = (said ≡ contents.Replied a.reply a.shown.items) × (basis ≡ Some (record { shard = shard; place = a.place }))
+Says shard (outcomes.Again a) said basis = (said ≡ contents.Replied a.reply a.shown.items) × (basis ≡ Some (record { shard = shard; place = a.place }))
 Says shard outcomes.Other said basis = (said ≡ contents.Turned turns.Tag) × (basis ≡ None)
 
 -- the clerk asks the question in the shard of this number, once, and the desk says what became of it. Nothing else changes

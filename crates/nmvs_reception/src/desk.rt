@@ -20,7 +20,7 @@ use nmvs_messages::{
 use nmvs_offices::{Alarm, Evidence, Offices, Reach};
 use nmvs_rate::SharedLimiter;
 use nmvs_record::report;
-use nmvs_rules::{Actor, Entry, Put, Reply, Role, may_report};
+use nmvs_rules::{Actor, Put, Reply, Role, may_report};
 use nmvs_shard::{Answered, Outcome, Shard};
 use nmvs_words::cause_word;
 use std::alloc::{AllocError, Global};
@@ -171,7 +171,7 @@ impl<'r, 'a, R: Wait + rt::Clock + Log, J: Naming, H: Histories, K: Clock> Clerk
         let shard = repository.shard_of(&put.question.code());
         match self.clerk.ask(rt, repository, put) {
             Ok(outcome) => {
-                note_put(rt, &self.tally, shard, &outcome);
+                note_put(rt, &self.tally, shard, put, &outcome);
                 answer_by(shard, outcome)
             }
             Err(AllocError) => (Content::Turned(Turn::Memory), None),
@@ -272,10 +272,10 @@ fn answer_by<'a>(shard: usize, outcome: Outcome<&'a Global>) -> (Content<'a>, Op
         Outcome::New(answered) | Outcome::Again(answered) => {
             let Answered {
                 place,
-                entry,
+                reply,
                 shown,
             } = answered;
-            let content = Content::Replied(entry.reply, Entries::new(shown));
+            let content = Content::Replied(reply, Entries::new(shown));
             (content, Some(Basis { shard, place }))
         }
         Outcome::Other => (Content::Turned(Turn::Tag), None),
@@ -283,17 +283,22 @@ fn answer_by<'a>(shard: usize, outcome: Outcome<&'a Global>) -> (Content<'a>, Op
 }
 
 /// Counts a question that was put, and logs an alert that is flagged as a potential falsification (Article 36).
-fn note_put<R: Log>(rt: &R, tally: &Tally<'_>, shard: usize, outcome: &Outcome<&Global>) {
+fn note_put<R: Log>(
+    rt: &R,
+    tally: &Tally<'_>,
+    shard: usize,
+    put: &Put,
+    outcome: &Outcome<&Global>,
+) {
     let Outcome::New(answered) = outcome else {
         return;
     };
-    let Entry { put, reply } = &answered.entry;
-    tally.note_put(shard, &put.question, reply);
+    tally.note_put(shard, &put.question, &answered.reply);
     if let Reply::Alert {
         cause,
         flagged: true,
         number,
-    } = reply
+    } = &answered.reply
     {
         let (code, cause) = (put.question.code(), cause_word(*cause));
         info!(rt; code = code.text(), cause, number = *number; "alert");

@@ -152,9 +152,9 @@ impl<'a> RehearsalDesk<'a> {
 
 /// The reply to a question, and the entries that are shown with it.
 fn told<'a>(answered: Answered<&'a Global>) -> Content<'a>
-    ensures { result ≡ Replied answered.entry.entry.reply answered.entry.shown.items }
+    ensures { result ≡ Replied answered.entry.reply answered.entry.shown.items }
 {
-    Content::Replied(answered.entry.reply, Entries::new(answered.shown))
+    Content::Replied(answered.reply, Entries::new(answered.shown))
 }
 
 impl<'a> Desk<'a> for RehearsalDesk<'a> {

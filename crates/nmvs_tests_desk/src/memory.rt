@@ -74,7 +74,7 @@ fn is_answered<'a, J: Naming, H: Histories, R: Wait + Abort>(
     let put = put_of(rt, clerk, new_year(rt), &line.user, &line.question);
     match clerk.ask(rt, repository, &put) {
         Ok(Outcome::New(answered)) => {
-            assert_eq!(rt; answered.entry.reply, line.reply);
+            assert_eq!(rt; answered.reply, line.reply);
             assert_eq!(rt; answered.place, receipts);
             true
         }
@@ -123,7 +123,7 @@ fn is_refused<'a, J: Naming, H: Histories, R: Wait + Abort>(
     match clerk.ask(rt, repository, &put) {
         Ok(Outcome::New(answered) | Outcome::Again(answered)) => {
             assert_eq!(rt; answered.place, 3);
-            assert_eq!(rt; answered.entry.reply, Reply::Refused(Refusal::Duplicate));
+            assert_eq!(rt; answered.reply, Reply::Refused(Refusal::Duplicate));
             true
         }
         Ok(Outcome::Other) => panic!(rt; "another question"),

@@ -6,7 +6,7 @@ use nmvs_desk::Clerk;
 use nmvs_directory::Naming;
 use nmvs_history::Histories;
 use nmvs_identifier::{Name, Tag};
-use nmvs_rules::{Entry, Put, Question, Reason, Reply};
+use nmvs_rules::{Put, Question, Reason, Reply};
 use nmvs_shard::Outcome;
 use std::process::Abort;
 use std::rt::HostRuntime;
@@ -22,13 +22,13 @@ struct SameTag {
 }
 
 impl SameTag {
-    /// The entry that answers the question and its place, or None where the tag is that of another.
+    /// The place of the entry that answers the question and its reply, or None where the tag is that of another.
     fn ask<'a, J: Naming, H: Histories, R: Wait + Abort>(
         &self,
         place: &Place<'_, 'a, R, H>,
         clerk: &mut Clerk<'a, J, H>,
         question: &Question,
-    ) -> Option<(usize, Entry)> {
+    ) -> Option<(usize, Reply)> {
         let rt = place.rt;
         let put = Put {
             tag: Some(self.tag),
@@ -39,7 +39,7 @@ impl SameTag {
             .expect(rt, "an answer")
         {
             Outcome::New(answered) | Outcome::Again(answered) => {
-                Some((answered.place, answered.entry))
+                Some((answered.place, answered.reply))
             }
             Outcome::Other => None,
         }
@@ -55,9 +55,9 @@ impl Crew for SameTag {
     ) {
         let rt = place.rt;
         for _ in 0..2u32 {
-            let (stands, entry) = self.ask(place, clerk, &self.supply).expect(rt, "an entry");
+            let (stands, reply) = self.ask(place, clerk, &self.supply).expect(rt, "an entry");
             assert!(rt; stands == 1);
-            assert!(rt; entry.reply == Reply::Decommissioned);
+            assert!(rt; reply == Reply::Decommissioned);
         }
         assert!(rt; self.ask(place, clerk, &self.other).is_none());
     }

@@ -1,7 +1,6 @@
-use Rattle.std.proofs.Common.{rules, List, ◌∷◌, [], ◌++◌, ◌∙◌, sym, ap, subst, refl, inl, inr}
+use Rattle.std.proofs.Common.{rules, List, subst, refl, inl, inr}
 use Rattle.nmvs_rules.specs.declared.entry.Entry.{Entry}
 use Rattle.nmvs_rules.specs.declared.put.Put.{Put}
-use Rattle.nmvs_rules.specs.Rules.{answered}
 use Rattle.nmvs_shard.specs.declared.shard.Answered.{Answered}
 use Rattle.nmvs_shard.specs.declared.shard.Outcome.TheVariants as outcome
 use Rattle.nmvs_shard.specs.Asking.{Asks}
@@ -10,18 +9,11 @@ use Rattle.nmvs_rehearsal.proofs.rehearsal.RehearsalDesk.judge.Goals as goal
 use Rattle.nmvs_rehearsal.proofs.rehearsal.RehearsalDesk.judge.Goals.{in-Ok-New, in-Ok-Again, in-Ok-Other, in-Err}
 
 -- what a shard says of a question that it put
-steps : {A : Type 0} (old new : List Entry) (put : Put) (a : Answered A) → Asks old put new (outcome.New a) → Steps old put a.entry.reply a.shown.items new
-steps old new put a (first, step) =
-    let lawful = ap (λ (e : Entry). e.reply) step.entry in
-    record {
-      first = first;
-      lawful = lawful;
-      shows = step.shows;
-      grows = step.trail ∙ ap (λ e. old ++ e ∷ []) (step.entry ∙ ap (answered put) (sym lawful));
-    }
+steps : {A : Type 0} (old new : List Entry) (put : Put) (a : Answered A) → Asks old put new (outcome.New a) → Steps old put a.reply a.shown.items new
+steps old new put a (first, step) = record { first = first; lawful = step.reply; shows = step.shows; grows = step.trail }
 
 -- and of one that it answers again
-repeats : {A : Type 0} (old new : List Entry) (put : Put) (a : Answered A) → Asks old put new (outcome.Again a) → Repeats old put a.entry.reply a.shown.items new
+repeats : {A : Type 0} (old new : List Entry) (put : Put) (a : Answered A) → Asks old put new (outcome.Again a) → Repeats old put a.reply a.shown.items new
 repeats old new put a (same, again) = record { place = a.place; repeats = again.repeat; shows = again.shows; same = same }
 
 pub returns : goal.returns
