@@ -1,5 +1,5 @@
-"""What the tools about journals have in common: the built program over a journal, the disk under it (tools/disk.c), and what
-stands in the journal's files."""
+"""What the tools about the log have in common: the built program over a log, the disk under it (tools/disk.c), and what stands
+in the files of its folder."""
 import json
 import os
 import pathlib
@@ -15,7 +15,7 @@ from told import QUIET, told_of
 TOP = pathlib.Path(__file__).resolve().parent.parent
 PROGRAM = TOP / "crates/nmvs_serve/out/nmvs_serve"
 CHECKER = TOP / "crates/nmvs_check/out/nmvs_check"
-BOUND = 300  # seconds that any wait takes at most; a start reads the whole journal
+BOUND = 300  # seconds that any wait takes at most; a start reads the whole log
 SHARDS = 2
 
 passed, failed = [], []
@@ -57,7 +57,7 @@ class Disk:
 
 
 class Server:
-    """The program over the journal of a folder, which listens on a port that is free."""
+    """The program over the log of a folder, which listens on a port that is free."""
 
     def __init__(self, place, folder, *options, environment=None, before=()):
         users = place / "users"
@@ -130,26 +130,27 @@ class Asker(threading.Thread):
             pass
 
 
-def journal_files(folder):
-    return sorted(folder.glob("shard-*-of-*.txt"))
+def log_text(folder):
+    """The bytes of a log."""
+    path = folder / "trail.txt"
+    return path.read_bytes() if path.exists() else b""
 
 
 def kept_commands(folder):
-    """The commands that a journal's users file has; the line above each tells when it was given."""
+    """The commands that the users file of a log's folder has; the line above each tells when it was given."""
     return [line for line in (folder / "users.txt").read_text().splitlines() if not line.startswith("#")]
 
 
 def entries_by_code(folder):
-    """The lines of a journal by their product codes, in order."""
+    """The lines of a log by their product codes, in order."""
     entries = {}
-    for path in journal_files(folder):
-        for line in path.read_text().splitlines():
-            entries.setdefault(json.loads(line)[6][1], []).append(line)
+    for line in log_text(folder).decode().splitlines():
+        entries.setdefault(json.loads(line)[6][1], []).append(line)
     return entries
 
 
 def faults_of(product, asker, lines):
-    """Lets the model follow what a journal has of these questions behind what it had, and tells what is wrong: each reply that
+    """Lets the model follow what a log has of these questions behind what it had, and tells what is wrong: each reply that
     was read has its entry there, in order, and whatever else is there is that of the next questions."""
     had = len(product.entries)
     for number, question in enumerate(asker.asked):
@@ -166,8 +167,8 @@ def faults_of(product, asker, lines):
 
 
 def lawful(folder):
-    """What the checker says of a journal: its first line, or a fault."""
-    ended = subprocess.run([CHECKER, *journal_files(folder)], capture_output=True, text=True, timeout=600)
+    """What the checker says of a log: its first line, or a fault."""
+    ended = subprocess.run([CHECKER, folder / "trail.txt"], capture_output=True, text=True, timeout=600)
     return ended.stdout.partition("\n")[0] or ended.stderr.strip()
 
 

@@ -28,7 +28,7 @@ use Rattle.nmvs_messages.specs.declared.answer.Turn.{Turn}
 use Rattle.nmvs_messages.specs.declared.answer.Turn.TheVariants as turns
 use Rattle.nmvs_messages.specs.declared.peer.Peer.{Peer}
 use Rattle.nmvs_messages.specs.declared.withheld.Basis.{Basis}
-use Rattle.nmvs_offices.specs.Told.{IsWithin}
+use Rattle.nmvs_journal.specs.Told.{IsWithin}
 use Rattle.nmvs_reception.specs.Desk.{DeskView, Admits, AnswersAdmitted, IsMoment, Knows, LetsGo, LooksUp, Refuses, Replies, RestsOnAll, Says, SeesShard, Serves}
 
 -- the clock gave a moment, the clerk was told of the notice, and the directory said this of the user

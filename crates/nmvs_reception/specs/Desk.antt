@@ -173,3 +173,16 @@ Takes old from ask withheld new = Serves old from ask withheld.answer.content wi
 pub record LetsGo (old new : DeskView) : Type 0 where
   pub sights : (i : ℕ) → IsPrefix (row old.clerk.sights i) (row new.clerk.sights i)
   pub same : new ≡ record old { clerk = record old.clerk { sights = new.clerk.sights; receipts = [] } }
+
+-- a desk whose answers wait for a log: the clerk's desk, and the trail that it knows the log to have confirmed
+pub record WaitingView : Type 0 where
+  pub desk : DeskView
+  pub confirmed : List Entry
+
+-- it takes a line as the clerk's desk does
+abbrev pub TakesWaiting : WaitingView → Peer → Ask → Withheld → WaitingView → Type 0
+TakesWaiting old from ask withheld new = Takes old.desk from ask withheld new.desk × (new.confirmed ≡ old.confirmed)
+
+-- a release lets its clerk's receipts go, and it may know more to be confirmed
+abbrev pub LearnsMore : WaitingView → WaitingView → Type 0
+LearnsMore old new = LetsGo old.desk new.desk × IsPrefix old.confirmed new.confirmed

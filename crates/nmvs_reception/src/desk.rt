@@ -12,18 +12,18 @@ use nmvs_directory::{Look, Naming, Notice};
 use nmvs_figures::Tally;
 use nmvs_history::Histories;
 use nmvs_identifier::{Moment, Name, ProductCode};
-use nmvs_journal::{Kept, Store};
+use nmvs_journal::{CommitLog, Confirmed, LogName, Reach, Store};
 use nmvs_messages::{
     Ask, Asked, Basis, Content, Desk, Entries, Peer, Released, Text, Turn, Withheld,
     WithheldAnswers,
 };
-use nmvs_offices::{Alarm, Evidence, Offices, Reach};
 use nmvs_rate::SharedLimiter;
 use nmvs_record::report;
 use nmvs_rules::{Actor, Put, Reply, Role, may_report};
 use nmvs_shard::{Answered, Outcome, Shard};
 use nmvs_words::cause_word;
 use std::alloc::{AllocError, Global};
+use std::io;
 use std::marker::Model;
 use std::rt;
 use std::sync::{Mutex, Wait};
@@ -215,26 +215,27 @@ impl<'r, 'a, R: Wait + rt::Clock + Log, J: Naming, H: Histories, K: Clock> Clerk
     K,
 > {
     ghost use Rattle.nmvs_messages.specs.Withheld.{AreReleased};
-    ghost use Rattle.nmvs_offices.specs.Told.{AreKept, IsTold, IsWithin};
+    ghost use mathlib.Core.List.{IsPrefix};
+    ghost use Rattle.nmvs_journal.specs.Told.{IsTold, IsWithin};
     ghost use Rattle.nmvs_reception.specs.Desk.{LetsGo};
 
-    /// Releases answers by the offices of the repository's shards, once what they rest on is kept.
-    pub(crate) fn release_by<'h, D: Store + Drop, L: Alarm>(
+    /// Releases answers by the log of the repository, once it has confirmed what they rest on. It tells why the log failed,
+    /// where it failed meanwhile.
+    pub(crate) fn release_by<'h, D: Store + Drop, L: LogName>(
         &mut self,
-        offices: &Offices<'_, 'a, D, H>,
+        log: &CommitLog<'_, 'a, D, H, L>,
         reach: &mut Reach,
+        confirmed: &mut Confirmed<L>,
         withheld: &'h mut WithheldAnswers<'a>,
-        alarm: &L,
-    ) -> (Released<'h, 'a>, Evidence)
-        requires seen { IsWithin reach.old self.old.clerk.sights }
+    ) -> (Released<'h, 'a>, Option<io::Error>)
         ensures reach { (sights : List (List TheEntry)) → IsWithin reach.new sights }
-        ensures released { AreReleased (IsTold result.1.items) withheld.old result.0 }
-        ensures kept { AreKept result.1.items self.old.clerk.sights }
+        ensures released { AreReleased (IsTold H.shards confirmed.new self.old.clerk.sights) withheld.old result.0 }
+        ensures longer { IsPrefix confirmed.old confirmed.new }
         ensures moves { LetsGo self.old self.new }
     {
-        let (released, kept) = offices.release(self.rt, &mut self.clerk, reach, withheld, alarm);
-        note_confirmed(&self.tally, &kept);
-        (released, kept)
+        let (released, waited) = log.release(self.rt, &mut self.clerk, reach, confirmed, withheld);
+        note_confirmed(&self.tally, &waited.counts);
+        (released, waited.failure)
     }
 }
 
@@ -306,10 +307,10 @@ fn note_put<R: Log>(
 }
 
 /// Counts what is confirmed of each shard that was waited for.
-fn note_confirmed(tally: &Tally<'_>, kept: &[Kept]) {
-    for (shard, kept) in kept.iter().enumerate() {
-        if kept.count() > 0 {
-            tally.note_confirmed(shard, kept.count() as u64);
+fn note_confirmed(tally: &Tally<'_>, counts: &[usize]) {
+    for (shard, count) in counts.iter().enumerate() {
+        if *count > 0 {
+            tally.note_confirmed(shard, *count as u64);
         }
     }
 }

@@ -1,20 +1,23 @@
-//! The program's desk where answers wait for journals.
+//! The program's desk where answers wait for the log.
 ghost use Rattle.std.specs.Prelude.{◌≡◌};
+ghost use mathlib.Core.List.{IsPrefix};
 
-use crate::{ClerkDesk, Clock};
+use crate::{Alarm, ClerkDesk, Clock};
 use log::Log;
 use nmvs_desk::Clerk;
 use nmvs_directory::Naming;
 use nmvs_history::Histories;
-use nmvs_journal::Store;
+use nmvs_journal::{CommitLog, Confirmed, LogName, Reach, Store};
 use nmvs_messages::{Ask, Desk, Peer, Released, Withheld, WithheldAnswers};
-use nmvs_offices::{Alarm, Evidence, Offices, Reach};
+use std::io;
 use std::marker::Model;
 use std::rt;
 use std::sync::Wait;
 
-/// Answers lines as a clerk's desk does, and lets an answer be told only once the journals have confirmed the lines of the
-/// entries on which it rests. The clerk's receipts are let go then. An alarm is told of a journal that fails meanwhile (own).
+/// Answers lines as a clerk's desk does, and lets an answer go only once the log of the repository has confirmed the entries
+/// on which it rests. The clerk's receipts are let go then. An alarm is told where the log fails meanwhile (own).
+///
+/// Contracts see the clerk's desk, and the trail that this desk knows to be confirmed.
 #[derive(Drop)]
 pub struct JournalDesk<
     'r,
@@ -26,22 +29,35 @@ pub struct JournalDesk<
     H: Histories,
     K: Clock,
     D: Store,
-    L: Alarm,
+    L: LogName,
+    W: Alarm,
 > {
     desk: ClerkDesk<'r, 'a, R, J, H, K>,
-    offices: &'v Offices<'f, 'a, D, H>,
+    log: &'v CommitLog<'f, 'a, D, H, L>,
     reach: Reach,
-    alarm: L,
+    confirmed: Confirmed<L>,
+    alarm: W,
 }
 
-impl<'r, 'v, 'f, 'a, R: Wait, J: Naming, H: Histories, K: Clock, D: Store, L: Alarm> Model
-    for JournalDesk<'r, 'v, 'f, 'a, R, J, H, K, D, L> {
-    ghost use Rattle.nmvs_offices.specs.Told.{IsWithin};
-    ghost use Rattle.nmvs_reception.specs.Desk.{DeskView};
+impl<
+    'r,
+    'v,
+    'f,
+    'a,
+    R: Wait,
+    J: Naming,
+    H: Histories,
+    K: Clock,
+    D: Store,
+    L: LogName,
+    W: Alarm,
+> Model for JournalDesk<'r, 'v, 'f, 'a, R, J, H, K, D, L, W> {
+    ghost use Rattle.nmvs_journal.specs.Told.{IsWithin};
+    ghost use Rattle.nmvs_reception.specs.Desk.{WaitingView};
 
-    ghost Value = { DeskView };
+    ghost Value = { WaitingView };
 
-    ghost view = { λ d. d.desk };
+    ghost view = { λ d. record { desk = d.desk; confirmed = d.confirmed } };
 
     ghost invariant = { λ d. IsWithin d.reach d.desk.clerk.sights };
 }
@@ -55,21 +71,24 @@ impl<
     J: Naming,
     H: Histories,
     K: Clock,
-    D: Store,
-    L: Alarm,
-> JournalDesk<'r, 'v, 'f, 'a, R, J, H, K, D, L> {
-    /// A desk over a clerk's, the offices of its repository's shards, and an alarm.
+    D: Store + Drop,
+    L: LogName,
+    W: Alarm,
+> JournalDesk<'r, 'v, 'f, 'a, R, J, H, K, D, L, W> {
+    /// A desk over a clerk's, the log of its repository, what that has confirmed, and an alarm.
     pub fn new(
         desk: ClerkDesk<'r, 'a, R, J, H, K>,
-        offices: &'v Offices<'f, 'a, D, H>,
-        alarm: L,
-    ) -> JournalDesk<'r, 'v, 'f, 'a, R, J, H, K, D, L>
-        ensures { result ≡ desk.entry }
+        log: &'v CommitLog<'f, 'a, D, H, L>,
+        confirmed: Confirmed<L>,
+        alarm: W,
+    ) -> JournalDesk<'r, 'v, 'f, 'a, R, J, H, K, D, L, W>
+        ensures { result ≡ record { desk = desk.entry; confirmed = confirmed } }
     {
         JournalDesk {
             desk,
-            offices,
+            log,
             reach: Reach::none(),
+            confirmed,
             alarm,
         }
     }
@@ -78,8 +97,8 @@ impl<
     pub fn into_clerk(self) -> Clerk<'a, J, H>
     where
         K: Drop,
-        L: Drop,
-        ensures { result ≡ self.entry.clerk }
+        W: Drop,
+        ensures { result ≡ self.entry.desk.clerk }
     {
         self.desk.into_clerk()
     }
@@ -95,18 +114,21 @@ impl<
     H: Histories,
     K: Clock,
     D: Store + Drop,
-    L: Alarm,
-> Desk<'a> for JournalDesk<'r, 'v, 'f, 'a, R, J, H, K, D, L> {
-    ghost use Rattle.nmvs_offices.specs.Told.{AreKept, IsTold};
-    ghost use Rattle.nmvs_reception.specs.Desk.{LetsGo, Takes};
+    L: LogName,
+    W: Alarm,
+> Desk<'a> for JournalDesk<'r, 'v, 'f, 'a, R, J, H, K, D, L, W> {
+    ghost use mathlib.Core.List.{IsPrefix};
+    ghost use Rattle.nmvs_journal.specs.Told.{IsTold};
+    ghost use Rattle.nmvs_reception.specs.Desk.{LearnsMore, TakesWaiting};
 
-    type Evidence = Evidence;
+    /// What the log has confirmed.
+    type Evidence = Confirmed<L>;
 
-    ghost takes = { Takes };
+    ghost takes = { TakesWaiting };
 
-    ghost releases = { λ desk kept withheld said. IsTold kept.items withheld said × AreKept kept.items desk.clerk.sights };
+    ghost releases = { λ old confirmed withheld said. IsPrefix old.confirmed confirmed × IsTold H.shards confirmed old.desk.clerk.sights withheld said };
 
-    ghost moves = { LetsGo };
+    ghost moves = { LearnsMore };
 
     fn take(&mut self, from: &Peer, ask: &Ask) -> Withheld<'a> {
         let (answer, basis) = self.desk.answer(from, ask);
@@ -117,8 +139,18 @@ impl<
     fn release<'h>(
         &mut self,
         withheld: &'h mut WithheldAnswers<'a>,
-    ) -> (Released<'h, 'a>, Evidence) {
-        self.desk
-            .release_by(self.offices, &mut self.reach, withheld, &self.alarm)
+    ) -> (Released<'h, 'a>, Confirmed<L>) {
+        let (released, failure) =
+            self.desk
+                .release_by(self.log, &mut self.reach, &mut self.confirmed, withheld);
+        tell_failure(&self.alarm, failure);
+        (released, self.confirmed.again())
+    }
+}
+
+/// Tells an alarm why the log failed, where it did.
+fn tell_failure<W: Alarm>(alarm: &W, failure: Option<io::Error>) {
+    if let Some(fault) = failure {
+        alarm.tell(fault);
     }
 }

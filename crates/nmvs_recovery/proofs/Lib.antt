@@ -1,2 +1,1 @@
 mod ShardExports
-mod Rows

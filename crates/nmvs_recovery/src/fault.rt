@@ -23,7 +23,7 @@ pub enum FileFault<'a> {
     ImportLine(usize),
     /// The reply in this line of the import is not that of the rules.
     ImportUnlawful(usize),
-    /// The journals in the folder of this path are not gone on from.
+    /// The log in the folder of this path is not gone on from.
     JournalRefused(&'a str),
     /// The digest of the import of this path is not the one that stands beside it.
     ImportDigest(&'a str),
@@ -31,7 +31,7 @@ pub enum FileFault<'a> {
     NoDigest(&'a str),
     /// The digest beside the import of this path can't be read.
     CannotReadDigest(&'a str),
-    /// Memory was wanting, or a thread to read a journal.
+    /// Memory was wanting.
     Memory,
 }
 

@@ -1,6 +1,7 @@
 //! The files of a server: what a start reads, and what a server writes.
 //!
-//! - [`prepare`] reads what a run begins with: the users, and the shards of an import or of the journals ([`Ready`]).
+//! - [`prepare`] reads what a run begins with: the users, and the shards of an import or of the log ([`Ready`]).
+//! - [`mark`] notes how far the log is confirmed.
 //! - [`export`] and [`write_export`] write the audit trail of a repository.
 //!
 //! It serves nobody, so it names neither connections nor the desks behind them.
@@ -10,7 +11,9 @@ mod export_files;
 mod exports;
 mod fault;
 mod imports;
-mod journal_files;
+mod log_files;
+mod marks;
+mod paths;
 mod preparation;
 mod progress;
 mod rehearsal_packs;
@@ -18,9 +21,10 @@ mod run;
 mod users;
 mod users_file;
 
-pub use export_files::{export, write_export};
+pub use export_files::{Confirming, FileExportFault, Unwaited, export, write_export};
 pub use exports::entries_of;
 pub use fault::FileFault;
-pub use imports::EachShard;
-pub use preparation::{JournalFiles, Ready, prepare};
+pub use marks::{mark, mark_users};
+pub use paths::Paths;
+pub use preparation::{LogFiles, Ready, prepare};
 pub use run::{Host, Run};

@@ -1,8 +1,8 @@
 //! The users with which a run begins.
 use crate::imports::{MOST_FILE_READS, open};
 use crate::rehearsal_packs::USERS;
-use crate::users_file::{refused, users_path};
-use crate::{FileFault, Host, Run};
+use crate::marks::refused;
+use crate::{FileFault, Host, Paths, Run};
 use nmvs_directory::{Naming, Notice, Registrar};
 use nmvs_operator::{LoadFault, load_users};
 use nmvs_stream::Device;
@@ -39,19 +39,16 @@ fn publish_rehearsal<'r, 'o, J: Naming, H: Files + Wait>(
     }
 }
 
-/// Publishes the users that the journals in this folder keep.
+/// Publishes the users that the folder of the log keeps.
 pub(crate) fn publish_kept<'r, 'o, J: Naming, H: Host>(
     run: &Run<'r, 'o, H>,
     registrar: &mut Registrar<J, &'r H, &'r Global>,
-    folder: &'o str,
+    paths: &Paths<'o>,
 ) -> Result<Notice<J>, FileFault<'o>> {
-    let Ok(path) = users_path(*run.alloc, folder) else {
-        return Err(FileFault::Memory);
-    };
-    match load_file(run, registrar, &path) {
+    match load_file(run, registrar, &paths.users) {
         Ok(notice) => Ok(notice),
         Err(LoadFault::Memory) => Err(FileFault::Memory),
-        Err(fault) => Err(refused(run.rt, folder, &fault)),
+        Err(fault) => Err(refused(run.rt, paths, &paths.users, &fault)),
     }
 }
 

@@ -1,4 +1,4 @@
 pub mod Faults
 pub mod Announcements
 pub mod Bounds
-pub mod Journals
+pub mod LogStart

@@ -8,11 +8,12 @@
 
 mod announcements;
 mod fault;
-mod journals;
 mod launch;
+mod log_start;
 mod server;
 mod service;
 mod starting;
+mod timed_file;
 mod workers;
 
 pub use fault::{Fault, Outcome, outcome_of};

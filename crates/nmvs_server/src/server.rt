@@ -1,11 +1,11 @@
 //! What a server goes by, and what its workers share.
-use crate::journals::JournalStore;
+use crate::timed_file::LogStore;
 use nmvs_connections::{Listener, WorkerPool};
 use nmvs_desk::Repository;
 use nmvs_directory::{Naming, Notice};
 use nmvs_figures::Panel;
 use nmvs_history::Histories;
-use nmvs_offices::Offices;
+use nmvs_journal::{CommitLog, LogName};
 use nmvs_rate::SharedLimiter;
 use nmvs_recovery::Run;
 use std::alloc::Global;
@@ -32,11 +32,11 @@ pub(crate) struct Server<'s, 'r, 'o, R, J: Naming, H: Histories> {
 
 /// What the workers of a server share.
 #[derive(Drop)]
-pub(crate) struct Shared<'s, 'f, 'r, 'o, R, J: Naming, H: Histories> {
+pub(crate) struct Shared<'s, 'f, 'r, 'o, R, J: Naming, H: Histories, L: LogName> {
     pub(crate) server: &'s Server<'f, 'r, 'o, R, J, H>,
     pub(crate) pool: &'s WorkerPool<'r>,
-    /// Where answers wait for the journals, where there are journals.
-    pub(crate) offices: &'s Option<Offices<'f, 'r, JournalStore<'r>, H>>,
+    /// The log that answers wait for, where there is one.
+    pub(crate) log: &'s Option<CommitLog<'f, 'r, LogStore<'r>, H, L>>,
     /// How much each user may still ask, where there is a rate.
     pub(crate) limiter: &'s Option<SharedLimiter<Global>>,
     /// Whether the workers may begin: it is locked until all of them are there.

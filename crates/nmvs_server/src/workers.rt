@@ -3,7 +3,7 @@ ghost use Rattle.std.specs.Prelude.{◌≡◌};
 ghost use Rattle.nmvs_server.specs.Bounds.{sessions_of};
 
 use crate::announcements::{listening_at, listening_on};
-use crate::journals::JournalAlarm;
+use crate::log_start::LogAlarm;
 use crate::server::{Config, Shared};
 use crate::service::Running;
 use log::{Log, info};
@@ -11,6 +11,7 @@ use nmvs_connections::{Bounds, Listener, Poller, accept_loop, serve};
 use nmvs_desk::Clerk;
 use nmvs_directory::{Naming, Registrar};
 use nmvs_history::Histories;
+use nmvs_journal::LogName;
 use nmvs_messages::Desk;
 use nmvs_operator::{Latest, Options, obey_all};
 use nmvs_reception::{ClerkDesk, JournalDesk, ProgramClock};
@@ -45,8 +46,8 @@ pub(crate) fn bounds_of(options: &Options, workers: usize) -> Bounds
 
 /// Serves the connections that are dealt to the worker of this number, and gives the clerk back. Where it can't go on it
 /// ends the service.
-fn work<'r, R: Wait + Clock + Log, J: Naming, H: Histories>(
-    shared: &Shared<'_, '_, 'r, '_, R, J, H>,
+fn work<'r, R: Wait + Clock + Log, J: Naming, H: Histories, L: LogName>(
+    shared: &Shared<'_, '_, 'r, '_, R, J, H, L>,
     clerk: Clerk<'r, J, H>,
     number: usize,
     poller: Poller,
@@ -55,25 +56,28 @@ fn work<'r, R: Wait + Clock + Log, J: Naming, H: Histories>(
         return clerk;
     }
     let desk = desk_of(shared, clerk, number);
-    match shared.offices {
+    match shared.log {
         None => serve_by_desk(shared, number, poller, desk).into_clerk(),
-        Some(offices) => {
-            let alarm = JournalAlarm::new(shared.server.config);
-            let desk = JournalDesk::new(desk, offices, alarm);
+        Some(log) => {
+            let config = shared.server.config;
+            let confirmed = log.confirmed(config.run.rt);
+            let desk = JournalDesk::new(desk, log, confirmed, LogAlarm::new(config));
             serve_by_desk(shared, number, poller, desk).into_clerk()
         }
     }
 }
 
 /// Whether all workers are there. It waits until that is known.
-fn may_begin<R: Wait, J: Naming, H: Histories>(shared: &Shared<'_, '_, '_, '_, R, J, H>) -> bool {
+fn may_begin<R: Wait, J: Naming, H: Histories, L: LogName>(
+    shared: &Shared<'_, '_, '_, '_, R, J, H, L>,
+) -> bool {
     let run = &shared.server.config.run;
     *shared.ready.lock(run.rt)
 }
 
 /// The desk of the clerk of the worker of this number.
-fn desk_of<'s, 'r, R: Wait + Clock + Log, J: Naming, H: Histories>(
-    shared: &Shared<'s, '_, 'r, '_, R, J, H>,
+fn desk_of<'s, 'r, R: Wait + Clock + Log, J: Naming, H: Histories, L: LogName>(
+    shared: &Shared<'s, '_, 'r, '_, R, J, H, L>,
     clerk: Clerk<'r, J, H>,
     number: usize,
 ) -> ClerkDesk<'s, 'r, R, J, H, ProgramClock<'s, R>> {
@@ -93,8 +97,15 @@ fn desk_of<'s, 'r, R: Wait + Clock + Log, J: Naming, H: Histories>(
 }
 
 /// Serves connections by a desk, and gives the desk back. Where it can't go on it ends the service.
-fn serve_by_desk<'r, R: Wait + Clock + Log, J: Naming, H: Histories, D: Desk<'r>>(
-    shared: &Shared<'_, '_, 'r, '_, R, J, H>,
+fn serve_by_desk<
+    'r,
+    R: Wait + Clock + Log,
+    J: Naming,
+    H: Histories,
+    L: LogName,
+    D: Desk<'r>,
+>(
+    shared: &Shared<'_, '_, 'r, '_, R, J, H, L>,
     number: usize,
     poller: Poller,
     mut desk: D,
@@ -107,8 +118,8 @@ fn serve_by_desk<'r, R: Wait + Clock + Log, J: Naming, H: Histories, D: Desk<'r>
 }
 
 /// Accepts connections for the workers. Where it can't go on it ends the service.
-fn accept<R: Wait + Log, J: Naming, H: Histories>(
-    shared: &Shared<'_, '_, '_, '_, R, J, H>,
+fn accept<R: Wait + Log, J: Naming, H: Histories, L: LogName>(
+    shared: &Shared<'_, '_, '_, '_, R, J, H, L>,
     acceptor: Poller,
 ) {
     let server = shared.server;
@@ -130,12 +141,13 @@ pub(crate) fn serve_connections<
     R: Threads + Wait + Clock + Files<File = File> + Eprint + Log + Sync,
     J: Naming + Send + Sync,
     H: Histories + Send + Sync,
+    L: LogName + Send + Sync,
     T: Sides,
 >(
-    shared: &Shared<'_, '_, 'r, '_, R, J, H>,
+    shared: &Shared<'_, '_, 'r, '_, R, J, H, L>,
     clerks: Vec<Clerk<'r, J, H>, &'r Global>,
     pollers: (Vec<Poller>, Poller),
-    service: &mut Running<'_, '_, 'r, '_, R, J, H>,
+    service: &mut Running<'_, '_, 'r, '_, R, J, H, L>,
     registrar: &mut Registrar<J, &'r R, &'r Global>,
     console: &mut Console<T>,
 ) -> Result<Vec<Clerk<'r, J, H>, &'r Global>, AllocError> {
@@ -176,9 +188,10 @@ fn take_commands<
     R: Wait + Clock + Files<File = File> + Eprint + Log,
     J: Naming,
     H: Histories,
+    L: LogName,
     T: Sides,
 >(
-    service: &mut Running<'_, '_, 'r, '_, R, J, H>,
+    service: &mut Running<'_, '_, 'r, '_, R, J, H, L>,
     registrar: &mut Registrar<J, &'r R, &'r Global>,
     console: &mut Console<T>,
 ) {

@@ -1,4 +1,5 @@
-//! A desk whose answers wait for the journal of a repository with one shard.
+//! A desk whose answers wait for the log of a repository with one shard.
+ghost use Rattle.std.specs.Prelude.{◌≡◌, [], ◌∷◌};
 
 use crate::journal_file::{LINE, USERS, assert_told};
 use crate::repository::{Visit, at_repository};
@@ -8,16 +9,17 @@ use nmvs_directory::{Naming, Notice, Registrar};
 use nmvs_figures::Panel;
 use nmvs_history::Histories;
 use nmvs_identifier::Moment;
-use nmvs_journal::Filed;
+use nmvs_journal::{CommitLog, Filed, LogName, UnnamedLog};
 use nmvs_messages::{Desk, Peer, SESSION_LIMITS};
-use nmvs_offices::{Alarm, Offices, Start};
 use nmvs_protocol::serve;
-use nmvs_reception::{ClerkDesk, JournalDesk, Opened, ProgramClock};
+use nmvs_reception::{Alarm, ClerkDesk, JournalDesk, Opened, ProgramClock};
+use nmvs_shard::{HashKey, Shards};
 use nmvs_stream::Device;
 use nmvs_trials::examples::NEW_YEAR;
 use nmvs_trials::{Calls, FakeFile};
 use std::alloc::Global;
 use std::io;
+use std::marker::Brand;
 use std::process::Abort;
 use std::rt::Clock;
 use std::sync::{Mutex, Wait};
@@ -30,7 +32,7 @@ const QUESTION: &[u8] = b"ph1 STATUS 09506000134352 S1\n";
 struct Silent;
 
 impl Alarm for Silent {
-    fn tell(&self, _shard: usize, _fault: io::Error) {}
+    fn tell(&self, _fault: io::Error) {}
 }
 
 /// Asks the question in a session of its own, and tells whether its reply was told; else its line was turned away.
@@ -52,23 +54,34 @@ fn is_told<'a, D: Desk<'a>>(rt: &impl Abort, alloc: Global, desk: &mut D) -> boo
 }
 
 /// Asks three times, and tells how many replies were told. When one is told the file has confirmed its line.
-fn ask_thrice<'a, 's, J: Naming, H: Histories, R: Wait + Clock + Log + Abort>(
+fn ask_thrice<
+    'a,
+    's,
+    J: Naming,
+    H: Histories,
+    L: LogName,
+    R: Wait + Clock + Log + Abort,
+>(
     rt: &'s R,
     latest: &'s Mutex<Notice<J>>,
     repository: &'s Repository<'a, H>,
     clerk: Clerk<'a, J, H>,
     panel: &'s Panel,
+    history: UnnamedLog,
     file: FakeFile<'_>,
-) -> usize {
+) -> usize
+    requires name { history.seen.book ≡ L.book }
+    requires empty { history.seen.log ≡ [] ∷ [] }
+{
     let alloc = *clerk.allocator();
     let calls = file.calls;
-    let mut starts = Vec::new(alloc);
-    let store = Filed::new(file, &[]);
-    starts.push(Start { store, count: 0 }).expect(rt, "memory");
-    let offices = Offices::open(rt, alloc, repository, starts).expect(rt, "memory");
+    assert_eq!(rt; repository.shards(), 1);
+    let store = Filed::new(file);
+    let opened = CommitLog::<_, H, L>::open(rt, alloc, repository, store, history, &[0]);
+    let log = opened.expect(rt, "memory");
     let clock = ProgramClock::new(rt, Moment::new(NEW_YEAR));
     let desk = ClerkDesk::new(rt, clerk, repository, latest, None, clock, panel.tally(0));
-    let mut desk = JournalDesk::new(desk, &offices, Silent);
+    let mut desk = JournalDesk::new(desk, &log, log.confirmed(rt), Silent);
     let mut told = 0usize;
     for asked in 1..4usize {
         if is_told(rt, alloc, &mut desk) {
@@ -77,6 +90,21 @@ fn ask_thrice<'a, 's, J: Naming, H: Histories, R: Wait + Clock + Log + Abort>(
         }
     }
     told
+}
+
+/// Asks by a log that is named here.
+fn ask_named<'a, 's, J: Naming, H: Histories, R: Wait + Clock + Log + Abort>(
+    rt: &'s R,
+    latest: &'s Mutex<Notice<J>>,
+    repository: &'s Repository<'a, H>,
+    clerk: Clerk<'a, J, H>,
+    panel: &'s Panel,
+    history: UnnamedLog,
+    file: FakeFile<'_>,
+) -> usize
+    requires { history.seen.log ≡ [] ∷ [] }
+{
+    ask_thrice::<J, H, Brand, R>(rt, latest, repository, clerk, panel, history, file)
 }
 
 /// Asks over this file, and answers how many replies were told.
@@ -100,8 +128,11 @@ impl<'f> Visit for AskThrice<'f> {
             mut clerks,
         } = opened;
         let clerk = clerks.pop().expect(rt, "a clerk");
-        let panel = Panel::new(*clerk.allocator(), 1, 1, true).expect(rt, "memory");
-        ask_thrice(rt, latest, &repository, clerk, &panel, self.file)
+        let alloc = *clerk.allocator();
+        let panel = Panel::new(alloc, 1, 1, true).expect(rt, "memory");
+        let shards = Shards::new(alloc, 1, HashKey::of(1)).expect(rt, "memory");
+        let history = UnnamedLog::new(&shards);
+        ask_named(rt, latest, &repository, clerk, &panel, history, self.file)
     }
 }
 

@@ -1,2 +1,0 @@
-mod Starting
-pub mod Telling
