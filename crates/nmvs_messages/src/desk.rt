@@ -9,14 +9,11 @@ use crate::{Ask, Peer, Released, Withheld, WithheldAnswers};
 
 /// Answers what is asked in a session. A desk that waits carries the runtime.
 pub trait Desk<'a> {
-    /// What a desk has once its answers may be told, where they waited for something. It is let go.
-    type Evidence: Drop;
-
     // Whether a desk in this state may take this ask from this peer, withhold this, and be in that state then.
     ghost takes: { Self → ThePeer → TheAsk → TheWithheld → Self → Type 0 };
 
-    // Whether a desk in this state may release, on this evidence, what was withheld as this answer.
-    ghost releases: { Self → Self.Evidence → TheWithheld → TheAnswer → Type 0 };
+    // Whether a release that takes a desk from this state to that one may release what was withheld as this answer.
+    ghost releases: { Self → Self → TheWithheld → TheAnswer → Type 0 };
 
     // Whether a desk in this state may be in that one after a release.
     ghost moves: { Self → Self → Type 0 };
@@ -27,10 +24,7 @@ pub trait Desk<'a> {
 
     /// Lets the answers be told that were withheld, once the desk can answer for them. In place of a reply
     /// or a report it may turn its line away.
-    fn release<'h>(
-        &mut self,
-        withheld: &'h mut WithheldAnswers<'a>,
-    ) -> (Released<'h, 'a>, Self::Evidence)
+    fn release<'h>(&mut self, withheld: &'h mut WithheldAnswers<'a>) -> Released<'h, 'a>
         ensures moves { moves self.old self.new }
-        ensures released { AreReleased (releases self.old result.1) withheld.old result.0 };
+        ensures released { AreReleased (releases self.old self.new) withheld.old result };
 }

@@ -1,2 +1,1 @@
 mod DeskTurns
-mod Releasing

@@ -354,8 +354,6 @@ impl<'r, 'a, R: Wait + rt::Clock + Log, J: Naming, H: Histories, K: Clock> Desk<
     ghost use Rattle.nmvs_messages.specs.Withheld.{AtOnce, Stays};
     ghost use Rattle.nmvs_reception.specs.Desk.{Takes};
 
-    type Evidence = ();
-
     ghost takes = { Takes };
 
     ghost releases = { AtOnce };
@@ -367,7 +365,7 @@ impl<'r, 'a, R: Wait + rt::Clock + Log, J: Naming, H: Histories, K: Clock> Desk<
         Withheld::resting_on(basis, content)
     }
 
-    fn release<'h>(&mut self, withheld: &'h mut WithheldAnswers<'a>) -> (Released<'h, 'a>, ()) {
-        (withheld.release(), ())
+    fn release<'h>(&mut self, withheld: &'h mut WithheldAnswers<'a>) -> Released<'h, 'a> {
+        withheld.release()
     }
 }

@@ -1,6 +1,5 @@
 //! The program's desk where answers wait for the log.
 ghost use Rattle.std.specs.Prelude.{◌≡◌};
-ghost use mathlib.Core.List.{IsPrefix};
 
 use crate::{Alarm, ClerkDesk, Clock};
 use log::Log;
@@ -117,16 +116,12 @@ impl<
     L: LogName,
     W: Alarm,
 > Desk<'a> for JournalDesk<'r, 'v, 'f, 'a, R, J, H, K, D, L, W> {
-    ghost use mathlib.Core.List.{IsPrefix};
     ghost use Rattle.nmvs_journal.specs.Told.{IsTold};
     ghost use Rattle.nmvs_reception.specs.Desk.{LearnsMore, TakesWaiting};
 
-    /// What the log has confirmed.
-    type Evidence = Confirmed<L>;
-
     ghost takes = { TakesWaiting };
 
-    ghost releases = { λ old confirmed withheld said. IsPrefix old.confirmed confirmed × IsTold H.shards confirmed old.desk.clerk.sights withheld said };
+    ghost releases = { λ old new withheld said. IsTold H.shards new.confirmed old.desk.clerk.sights withheld said };
 
     ghost moves = { LearnsMore };
 
@@ -136,15 +131,12 @@ impl<
         Withheld::resting_on(basis, answer)
     }
 
-    fn release<'h>(
-        &mut self,
-        withheld: &'h mut WithheldAnswers<'a>,
-    ) -> (Released<'h, 'a>, Confirmed<L>) {
+    fn release<'h>(&mut self, withheld: &'h mut WithheldAnswers<'a>) -> Released<'h, 'a> {
         let (released, failure) =
             self.desk
                 .release_by(self.log, &mut self.reach, &mut self.confirmed, withheld);
         tell_failure(&self.alarm, failure);
-        (released, self.confirmed.again())
+        released
     }
 }
 

@@ -161,8 +161,6 @@ impl<'a> Desk<'a> for RehearsalDesk<'a> {
     ghost use Rattle.nmvs_messages.specs.Withheld.{AtOnce, Stays};
     ghost use Rattle.nmvs_rehearsal.specs.Rehearsal.{Takes};
 
-    type Evidence = ();
-
     ghost takes = { λ old from ask withheld new. Takes old ask withheld new };
 
     ghost releases = { AtOnce };
@@ -178,7 +176,7 @@ impl<'a> Desk<'a> for RehearsalDesk<'a> {
         })
     }
 
-    fn release<'h>(&mut self, withheld: &'h mut WithheldAnswers<'a>) -> (Released<'h, 'a>, ()) {
-        (withheld.release(), ())
+    fn release<'h>(&mut self, withheld: &'h mut WithheldAnswers<'a>) -> Released<'h, 'a> {
+        withheld.release()
     }
 }
