@@ -19,14 +19,14 @@ use std::time::{Duration, Instant};
 pub(crate) const MOST_CONNECTIONS: usize = 16;
 
 /// For how many seconds an answer waits for a connection to take all of it (own).
-const PATIENCE: u64 = 5;
+const SEND_TIMEOUT: u64 = 5;
 
 /// For how many milliseconds no connection is accepted behind one that could not be: as a rule for want of a descriptor
 /// (own).
-const PAUSE: u64 = 100;
+const ACCEPT_PAUSE: u64 = 100;
 
 /// How many of the system's reports are taken at once: of each connection, the listener and standard input.
-const REPORTS: usize = MOST_CONNECTIONS + 2;
+const MOST_EVENTS: usize = MOST_CONNECTIONS + 2;
 
 /// The descriptor of standard input.
 const STANDARD_INPUT: RawFd = 0;
@@ -36,7 +36,7 @@ const LISTENER: Token = Token(usize::MAX);
 
 const STANDARD: Token = Token(usize::MAX - 1);
 
-/// What the connection is told that is one too many.
+/// What the connection is sent that is one too many.
 const BUSY: &[u8] = b"FAULT BUSY\n";
 
 /// The connections of a socket, and what the system reports of them, of the socket and of standard input.
@@ -47,8 +47,8 @@ pub(crate) struct Connections {
     listener: UnixListener,
     open: Slab<Connection>,
     /// Whether connections may wait to be accepted.
-    is_knocked_at: bool,
-    /// Whether the system tells when standard input may be read. It does not of a file, which may be always.
+    may_accept: bool,
+    /// Whether the system reports when standard input may be read. It does not of a file, which may be always.
     reports_standard: bool,
     /// Whether standard input may be read.
     is_standard_ready: bool,
@@ -67,7 +67,7 @@ impl Connections {
     ) -> io::Result<Connections> {
         let mut listener = listener;
         let poll = poll_of(rt, &mut listener)?;
-        let events = Events::with_capacity(alloc, REPORTS)?;
+        let events = Events::with_capacity(alloc, MOST_EVENTS)?;
         let open = Slab::with_capacity(alloc, MOST_CONNECTIONS)?;
         let reports_standard = is_reported(&poll);
         Ok(Connections {
@@ -75,7 +75,7 @@ impl Connections {
             events,
             listener,
             open,
-            is_knocked_at: false,
+            may_accept: false,
             reports_standard,
             is_standard_ready: !reports_standard,
         })
@@ -86,7 +86,7 @@ impl Connections {
         self.is_standard_ready
     }
 
-    /// Has the system tell anew when standard input may be read, behind a read of it.
+    /// Has the system report anew when standard input may be read, behind a read of it.
     pub(crate) fn watch_standard(&mut self) {
         if !self.reports_standard {
             return;
@@ -106,8 +106,8 @@ impl Connections {
     ///
     /// The system refuses to report.
     pub(crate) fn wait(&mut self, has_work: bool) -> io::Result<()> {
-        let patience = self.patience(has_work);
-        self.poll.poll(&mut self.events, patience)?;
+        let timeout = self.timeout(has_work);
+        self.poll.poll(&mut self.events, timeout)?;
         self.note_all();
         self.accept_all();
         for number in 0..self.open.capacity() {
@@ -119,7 +119,7 @@ impl Connections {
     }
 
     /// How long the system's reports may be waited for.
-    fn patience(&self, has_work: bool) -> Option<Duration> {
+    fn timeout(&self, has_work: bool) -> Option<Duration> {
         if has_work
             || self
                 .open
@@ -127,8 +127,8 @@ impl Connections {
                 .any(|(_, connection)| connection.is_at_work())
         {
             Some(Duration::ZERO)
-        } else if self.is_knocked_at {
-            Some(Duration::from_millis(PAUSE))
+        } else if self.may_accept {
+            Some(Duration::from_millis(ACCEPT_PAUSE))
         } else {
             None
         }
@@ -138,7 +138,7 @@ impl Connections {
     fn note_all(&mut self) {
         for event in &self.events {
             match event.token() {
-                LISTENER => self.is_knocked_at = true,
+                LISTENER => self.may_accept = true,
                 STANDARD => self.is_standard_ready = true,
                 Token(number) => {
                     if let Some(connection) = self.open.get_mut(number) {
@@ -149,16 +149,16 @@ impl Connections {
         }
     }
 
-    /// Accepts the connections that wait. One too many is told so, and closed.
+    /// Accepts the connections that wait. One too many is sent a fault, and closed.
     fn accept_all(&mut self) {
-        if !self.is_knocked_at {
+        if !self.may_accept {
             return;
         }
         for _ in 0..u64::MAX {
             match self.listener.accept() {
                 Ok((stream, _peer)) => self.admit(stream),
                 Err(error) => {
-                    self.is_knocked_at = error.kind() != ErrorKind::WouldBlock;
+                    self.may_accept = error.kind() != ErrorKind::WouldBlock;
                     return;
                 }
             }
@@ -167,7 +167,7 @@ impl Connections {
 
     fn admit(&mut self, stream: UnixStream) {
         if self.open.len() >= MOST_CONNECTIONS {
-            let _untold = Connection::new(stream).write(BUSY);
+            let _unsent = Connection::new(stream).write(BUSY);
             return;
         }
         let mut stream = stream;
@@ -201,7 +201,7 @@ impl Connections {
         let _closed = self.open.try_remove(number);
     }
 
-    /// Sends all of a text to the connection of this number, and tells whether it took it. One that does not take it in
+    /// Sends all of a text to the connection of this number, and answers whether it took it. One that does not take it in
     /// time, or is broken, is closed.
     pub(crate) fn send<R: Wait + Clock>(&mut self, rt: &R, number: usize, text: &[u8]) -> bool {
         let is_taken = self.try_send(rt, number, text).unwrap_or(false);
@@ -240,14 +240,14 @@ impl Connections {
         unreachable!()
     }
 
-    /// Waits until the system reports something, where an answer that was begun then may wait still, and tells whether it may.
+    /// Waits until the system reports something, where an answer that was begun then may wait still, and answers whether it may.
     fn wait_since<R: Wait + Clock>(&mut self, rt: &R, begun: Instant) -> io::Result<bool> {
-        let patience = Duration::from_secs(PATIENCE);
+        let timeout = Duration::from_secs(SEND_TIMEOUT);
         let waited = begun.elapsed(rt)?;
-        if waited >= patience {
+        if waited >= timeout {
             return Ok(false);
         }
-        self.poll.poll(&mut self.events, Some(patience - waited))?;
+        self.poll.poll(&mut self.events, Some(timeout - waited))?;
         self.note_all();
         Ok(true)
     }
@@ -261,7 +261,7 @@ fn poll_of(rt: &impl Net, listener: &mut UnixListener) -> io::Result<Poll> {
     Ok(poll)
 }
 
-/// Has the system report when standard input may be read, and tells whether it will.
+/// Has the system report when standard input may be read, and answers whether it will.
 fn is_reported(poll: &Poll) -> bool {
     let standard = &mut SourceFd(&STANDARD_INPUT);
     poll.registry()

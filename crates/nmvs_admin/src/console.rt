@@ -5,8 +5,8 @@ ghost use Rattle.nmvs_stream.specs.Sink.{untouched_sink};
 ghost use Rattle.nmvs_stream.specs.Device.{told_of, taken_of};
 
 use crate::connections::Connections;
+use crate::multiplexer::Multiplexer;
 use crate::socket::listen_at;
-use crate::switchboard::Switchboard;
 use log::{Log, error};
 use nmvs_stream::{Console, Device, Sink, Source};
 use std::alloc::{AllocError, Global};
@@ -36,7 +36,7 @@ impl From<AllocError> for AdminFault {
 #[derive(Drop)]
 struct Shared<R, I, W> {
     rt: R,
-    switchboard: Mutex<Switchboard<I, W>>,
+    multiplexer: Mutex<Multiplexer<I, W>>,
 }
 
 /// Where the lines of all sides come from.
@@ -79,8 +79,8 @@ pub fn open<R: Log + Wait + Clock + Files + Net + Drop, I: Source + Drop, W: Sin
         None => None,
     };
     let Console { source, sink } = standard;
-    let switchboard = Mutex::new(Switchboard::new(alloc, source, sink, connections));
-    match Arc::new(alloc, Shared { rt, switchboard }) {
+    let multiplexer = Mutex::new(Multiplexer::new(alloc, source, sink, connections));
+    match Arc::new(alloc, Shared { rt, multiplexer }) {
         Ok(shared) => console_of(shared),
         Err(_) => Err(AdminFault::Memory),
     }
@@ -122,20 +122,20 @@ fn fault_of<R: Log>(rt: &R, path: &str, error: &io::Error) -> AdminFault {
 
 impl<R: Log + Wait + Clock, I: Source, W: Sink> Read for Lines<R, I, W> {
     fn read(&mut self, buffer: &mut [u8]) -> io::Result<usize> {
-        let Shared { rt, switchboard } = &*self.shared;
-        switchboard.lock(rt).read(rt, buffer)
+        let Shared { rt, multiplexer } = &*self.shared;
+        multiplexer.lock(rt).read(rt, buffer)
     }
 }
 
 impl<R: Log + Wait + Clock, I: Source, W: Sink> Write for Answers<R, I, W> {
     fn write(&mut self, buffer: &[u8]) -> io::Result<usize> {
-        let Shared { rt, switchboard } = &*self.shared;
-        switchboard.lock(rt).say(rt, buffer)?;
+        let Shared { rt, multiplexer } = &*self.shared;
+        multiplexer.lock(rt).write(rt, buffer)?;
         Ok(buffer.len())
     }
 
     fn flush(&mut self) -> io::Result<()> {
-        let Shared { rt, switchboard } = &*self.shared;
-        switchboard.lock(rt).end_exchange(rt)
+        let Shared { rt, multiplexer } = &*self.shared;
+        multiplexer.lock(rt).end_exchange(rt)
     }
 }

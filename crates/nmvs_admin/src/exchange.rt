@@ -1,4 +1,4 @@
-//! A line that is handed over, and what is said to it.
+//! A line that is handed over, and the answer to it.
 ghost use Rattle.std.specs.Prelude.{◌≡◌, ◌≤◌, ◌++◌, ◌==◌, [], None, Some, length, take, OnOk, OnErr};
 ghost use Rattle.nmvs_messages.specs.PendingLines.{kept_part};
 
@@ -28,15 +28,15 @@ impl fmt::Display for Side {
     }
 }
 
-/// What was said to the line of a side; or by itself to standard output, where there is no line.
+/// The answer to the line of a side; or what is written to standard output, where there is no line.
 #[derive(Drop)]
-pub(crate) struct Said {
+pub(crate) struct Answer {
     pub(crate) side: Side,
     pub(crate) line: Option<PendingLine>,
     pub(crate) text: Vec<u8>,
 }
 
-/// The line that was handed over last, what of it is still to be read, and what is said to it so far.
+/// The line that was handed over last, what of it is still to be read, and the answer to it so far.
 #[derive(Drop)]
 pub(crate) struct Exchange {
     alloc: Global,
@@ -47,7 +47,7 @@ pub(crate) struct Exchange {
 }
 
 impl Exchange {
-    /// Before the first line: what is said goes to standard output.
+    /// Before the first line: what is written goes to standard output.
     pub(crate) fn new(alloc: Global) -> Exchange
         ensures side { result.side ≡ Side.Standard }
         ensures line { result.line ≡ None }
@@ -88,7 +88,7 @@ impl Exchange {
         self.unread.is_empty()
     }
 
-    /// Reads on in the line, into the front of the buffer, and tells how many bytes.
+    /// Reads on in the line, into the front of the buffer, and answers how many bytes.
     pub(crate) fn read(&mut self, buffer: &mut [u8]) -> usize
         ensures fits { result ≤ length buffer.new }
         ensures bytes { self.old.unread.items ≡ take result buffer.new ++ self.new.unread.items }
@@ -102,12 +102,12 @@ impl Exchange {
         count
     }
 
-    /// Says this behind what was said so far.
+    /// Adds this to the answer.
     ///
     /// # Errors
     ///
     /// There is no memory for it, and nothing is added.
-    pub(crate) fn say(&mut self, bytes: &[u8]) -> Result<(), AllocError>
+    pub(crate) fn write(&mut self, bytes: &[u8]) -> Result<(), AllocError>
         ensures side { self.new.side ≡ self.old.side }
         ensures line { self.new.line ≡ self.old.line }
         ensures ok { OnOk result (self.new.text.items ≡ self.old.text.items ++ bytes.now) }
@@ -116,8 +116,8 @@ impl Exchange {
         self.text.extend_from_slice(bytes)
     }
 
-    /// Ends it: all that was said since it began is the answer to its side. What is said next goes to standard output.
-    pub(crate) fn end(&mut self) -> Said
+    /// Ends it: all that was written since it began is the answer to its side. What is written next goes to standard output.
+    pub(crate) fn end(&mut self) -> Answer
         ensures side { result.side ≡ self.old.side }
         ensures line { result.line ≡ self.old.line }
         ensures text { result.text.items ≡ self.old.text.items }
@@ -126,7 +126,7 @@ impl Exchange {
         ensures next_text { self.new.text.items ≡ [] }
         ensures unread { self.new.unread ≡ self.old.unread }
     {
-        Said {
+        Answer {
             side: mem::replace(&mut self.side, Side::Standard),
             line: mem::replace(&mut self.line, None),
             text: mem::replace(&mut self.text, Vec::new(self.alloc)),

@@ -11,8 +11,8 @@ mod console;
 mod exchange;
 mod incoming;
 mod logged;
+mod multiplexer;
 mod socket;
-mod switchboard;
 #[cfg(test)]
 mod tests;
 

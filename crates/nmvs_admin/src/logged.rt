@@ -6,9 +6,9 @@ use std::fmt;
 
 /// Bytes of a line as the log shows them: in quotes, and what is no printable ASCII character by its number.
 #[derive(Clone, Copy)]
-pub(crate) struct Shown<'l>(pub(crate) &'l [u8]);
+pub(crate) struct Escaped<'l>(pub(crate) &'l [u8]);
 
-impl<'l> fmt::Display for Shown<'l> {
+impl<'l> fmt::Display for Escaped<'l> {
     fn fmt<W: fmt::Write>(&self, f: &mut fmt::Formatter<W>) -> fmt::Result {
         write!(f, "\"{}\"", self.0.escape_ascii())
     }

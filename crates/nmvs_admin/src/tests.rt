@@ -1,7 +1,7 @@
 use crate::exchange::{Exchange, Side};
 use crate::incoming::Incoming;
-use crate::logged::{Shown, last_line};
-use crate::switchboard::Switchboard;
+use crate::logged::{Escaped, last_line};
+use crate::multiplexer::Multiplexer;
 use nmvs_messages::PendingLine;
 use nmvs_stream::Device;
 use std::test::*;
@@ -49,12 +49,12 @@ fn of_a_long_line_its_beginning_is_handed_over_once(rt: HostRuntime) {
 }
 
 #[test]
-fn what_is_said_goes_to_the_side_of_the_line(rt: HostRuntime) -> Result<(), Fail> {
+fn an_answer_goes_to_the_side_of_its_line(rt: HostRuntime) -> Result<(), Fail> {
     let mut exchange = Exchange::new(rt.alloc());
-    exchange.say(b"LISTENING 7161\n")?;
-    let said = exchange.end();
-    assert_eq!(rt; said.side, Side::Standard);
-    assert_eq!(rt; said.text.as_slice(), b"LISTENING 7161\n".as_slice());
+    exchange.write(b"LISTENING 7161\n")?;
+    let answer = exchange.end();
+    assert_eq!(rt; answer.side, Side::Standard);
+    assert_eq!(rt; answer.text.as_slice(), b"LISTENING 7161\n".as_slice());
     let mut line = PendingLine::new();
     line.extend(b"STOP");
     exchange.begin(Side::Connection(3), line, b"\n");
@@ -65,13 +65,14 @@ fn what_is_said_goes_to_the_side_of_the_line(rt: HostRuntime) -> Result<(), Fail
     assert_eq!(rt; exchange.read(&mut buffer), 2);
     assert_eq!(rt; &buffer[..2], b"P\n".as_slice());
     assert!(rt; exchange.is_read());
-    exchange.say(b"DO")?;
-    exchange.say(b"NE\n")?;
-    let said = exchange.end();
-    assert_eq!(rt; said.side, Side::Connection(3));
-    assert_eq!(rt; said.text.as_slice(), b"DONE\n".as_slice());
+    exchange.write(b"DO")?;
+    exchange.write(b"NE\n")?;
+    let answer = exchange.end();
+    assert_eq!(rt; answer.side, Side::Connection(3));
+    assert_eq!(rt; answer.text.as_slice(), b"DONE\n".as_slice());
     assert!(rt;
-        said.line
+        answer
+            .line
             .is_some_and(|line| line.as_slice() == b"STOP".as_slice())
     );
     assert_eq!(rt; exchange.end().side, Side::Standard);
@@ -82,7 +83,7 @@ fn what_is_said_goes_to_the_side_of_the_line(rt: HostRuntime) -> Result<(), Fail
 fn standard_input_alone_ends_with_what_it_began(rt: HostRuntime) -> Result<(), Fail> {
     let input = Device::new(b"USERS\nHELP\nSTO".as_slice());
     let output = Device::new(Vec::new(rt.alloc()));
-    let mut switchboard = Switchboard::new(rt.alloc(), input, output, None);
+    let mut multiplexer = Multiplexer::new(rt.alloc(), input, output, None);
     let mut buffer = [0; 99];
     for (line, answer) in [
         (b"USERS\n".as_slice(), b"DONE\n".as_slice()),
@@ -90,17 +91,17 @@ fn standard_input_alone_ends_with_what_it_began(rt: HostRuntime) -> Result<(), F
         (b"STO", b"FAULT UNENDED\n"),
         (b"", b"SETTLED 0\n"),
     ] {
-        let count = switchboard.read(&rt, &mut buffer)?;
+        let count = multiplexer.read(&rt, &mut buffer)?;
         assert_eq!(rt; &buffer[..count], line);
-        switchboard.say(&rt, answer)?;
-        switchboard.end_exchange(&rt)?;
+        multiplexer.write(&rt, answer)?;
+        multiplexer.end_exchange(&rt)?;
     }
     Ok(())
 }
 
 #[test]
 fn a_line_is_logged_without_control_characters(rt: HostRuntime) {
-    let shown = format!(in rt.alloc(); "{}", Shown(b"SUSPEND \x1b[2J\"\xffph1"));
+    let shown = format!(in rt.alloc(); "{}", Escaped(b"SUSPEND \x1b[2J\"\xffph1"));
     assert!(rt; shown.is_ok_and(|text| text.as_str() == "\"SUSPEND \\x1b[2J\\\"\\xffph1\""));
 }
 

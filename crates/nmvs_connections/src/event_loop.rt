@@ -12,8 +12,8 @@ use crate::worker_pool::{Accepted, Poller, WAKE, WorkerPool};
 use log::{Log, debug};
 use mio::event::Event;
 use mio::{Events, Registry};
-use nmvs_figures::Fault;
 use nmvs_messages::{Desk, Released, WithheldAnswers};
+use nmvs_metrics::Fault;
 use slab::Slab;
 use std::alloc::{AllocError, Global};
 use std::rt::Clock;
@@ -288,7 +288,7 @@ impl EventLoop {
             return;
         }
         let (released, _evidence) = desk.release(withheld);
-        pool.tally(self.worker).note_told(&released);
+        pool.metrics(self.worker).note_answers(&released);
         self.tell_each(rt, pool, scratch, &released);
         withheld.clear();
     }
@@ -394,7 +394,7 @@ impl EventLoop {
             };
             match next {
                 Next::Again => {
-                    pool.tally(self.worker).note_fault(Fault::Idle);
+                    pool.metrics(self.worker).note_fault(Fault::Idle);
                     self.queue(key);
                 }
                 Next::Close => self.remove(rt, pool, key),

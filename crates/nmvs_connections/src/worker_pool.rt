@@ -1,8 +1,8 @@
 //! What the threads of a server share.
 use crate::socket::Socket;
 use mio::{Events, Poll, Token, Waker};
-use nmvs_figures::{Fault, Panel, Tally};
 use nmvs_messages::NameOf;
+use nmvs_metrics::{Fault, Metrics, WorkerMetrics};
 use std::alloc::{AllocError, Global};
 use std::io;
 use std::net::Net;
@@ -114,7 +114,7 @@ impl Inbox {
 #[derive(Drop)]
 pub struct WorkerPool<'p> {
     bounds: Bounds,
-    panel: &'p Panel,
+    metrics: &'p Metrics,
     counts: Mutex<Counts>,
     inboxes: Vec<Inbox>,
     acceptor: Waker,
@@ -142,7 +142,7 @@ impl Poller {
 
 impl<'p> WorkerPool<'p> {
     /// A pool for so many workers, with a poller for each, and one for the thread that accepts. What is done in it is
-    /// counted on the panel.
+    /// counted in the metrics.
     ///
     /// # Errors
     ///
@@ -152,10 +152,10 @@ impl<'p> WorkerPool<'p> {
         alloc: Global,
         workers: usize,
         bounds: Bounds,
-        panel: &'p Panel,
+        metrics: &'p Metrics,
     ) -> io::Result<(WorkerPool<'p>, Vec<Poller>, Poller)> {
         let acceptor = Poller::new(rt, alloc, ACCEPTOR_EVENTS)?;
-        let mut pool = WorkerPool::with_acceptor(alloc, &acceptor, workers, bounds, panel)?;
+        let mut pool = WorkerPool::with_acceptor(alloc, &acceptor, workers, bounds, metrics)?;
         let pollers = pool.open_inboxes(rt, alloc, workers)?;
         Ok((pool, pollers, acceptor))
     }
@@ -166,14 +166,14 @@ impl<'p> WorkerPool<'p> {
         acceptor: &Poller,
         workers: usize,
         bounds: Bounds,
-        panel: &'p Panel,
+        metrics: &'p Metrics,
     ) -> io::Result<WorkerPool<'p>> {
         let counts = Counts::none(alloc, workers, bounds.sessions)?;
         let inboxes = Vec::with_capacity(alloc, workers)?;
         let waker = acceptor.waker()?;
         Ok(WorkerPool {
             bounds,
-            panel,
+            metrics,
             counts: Mutex::new(counts),
             inboxes,
             acceptor: waker,
@@ -253,9 +253,9 @@ impl<'p> WorkerPool<'p> {
         let enters = counts.open < self.bounds.connections;
         if enters {
             counts.enter(worker);
-            self.tally(worker).note_accepted();
+            self.metrics(worker).note_accepted();
         } else {
-            self.tally(worker).note_fault(Fault::Busy);
+            self.metrics(worker).note_fault(Fault::Busy);
         }
         enters
     }
@@ -263,12 +263,12 @@ impl<'p> WorkerPool<'p> {
     /// Counts a connection of a worker no more.
     pub(crate) fn leave(&self, rt: &impl Wait, worker: usize) {
         self.counts.lock(rt).leave(worker);
-        self.tally(worker).note_ended();
+        self.metrics(worker).note_ended();
     }
 
     /// Where the worker of this number counts.
-    pub(crate) fn tally(&self, worker: usize) -> Tally<'p> {
-        self.panel.tally(worker)
+    pub(crate) fn metrics(&self, worker: usize) -> WorkerMetrics<'p> {
+        self.metrics.worker(worker)
     }
 
     /// Counts a session in which a line is to be served, where one more may begin. With the last of them the other
@@ -284,7 +284,7 @@ impl<'p> WorkerPool<'p> {
         counts.begun = counts.begun.saturating_add(1);
         let was_last = counts.sessions == 0;
         drop(counts);
-        self.panel.note_session();
+        self.metrics.note_session();
         if was_last {
             self.wake_all();
         }

@@ -9,7 +9,6 @@ use crate::Clock;
 use log::{Log, info};
 use nmvs_desk::{Clerk, Reader, Repository};
 use nmvs_directory::{Look, Naming, Notice};
-use nmvs_figures::Tally;
 use nmvs_history::Histories;
 use nmvs_identifier::{Moment, Name, ProductCode};
 use nmvs_journal::{CommitLog, Confirmed, LogName, Reach, Store};
@@ -17,16 +16,16 @@ use nmvs_messages::{
     Ask, Asked, Basis, Content, Desk, Entries, Peer, Released, Text, Turn, Withheld,
     WithheldAnswers,
 };
+use nmvs_metrics::WorkerMetrics;
 use nmvs_rate::SharedLimiter;
 use nmvs_record::report;
 use nmvs_rules::{Actor, Put, Reply, Role, may_report};
 use nmvs_shard::{Answered, Outcome, Shard};
 use nmvs_words::cause_word;
 use std::alloc::{AllocError, Global};
-use std::io;
 use std::marker::Model;
-use std::rt;
 use std::sync::{Mutex, Wait};
+use std::{io, rt};
 
 /// Answers lines by a clerk of a repository, at the moments of a clock, which it asks once a line. A line is admitted first.
 /// Before that the clerk learns the latest notice (own).
@@ -38,7 +37,7 @@ pub struct ClerkDesk<'r, 'a, R: Wait, J: Naming, H: Histories, K: Clock> {
     latest: &'r Mutex<Notice<J>>,
     limiter: Option<&'r SharedLimiter<Global>>,
     clock: K,
-    tally: Tally<'r>,
+    metrics: WorkerMetrics<'r>,
 }
 
 impl<'r, 'a, R: Wait, J: Naming, H: Histories, K: Clock> Model for ClerkDesk<'r, 'a, R, J, H, K> {
@@ -66,7 +65,7 @@ impl<'r, 'a, R: Wait + rt::Clock + Log, J: Naming, H: Histories, K: Clock> Clerk
     ghost use Rattle.nmvs_reception.specs.Desk.{Admits, AnswersAdmitted, AnswersQuestion, AnswersReport, Refuses, RestsOnAll, SeesShard, Serves};
 
     /// A desk over a clerk of this repository, the lock of the latest notice, and the limiter of the users' rate, if they have
-    /// one. Its answers are counted on the tally.
+    /// one. Its answers are counted in the metrics.
     ///
     /// Condition: the clerk is one that `open` gave with the repository, which the names of their histories say.
     pub fn new(
@@ -76,7 +75,7 @@ impl<'r, 'a, R: Wait + rt::Clock + Log, J: Naming, H: Histories, K: Clock> Clerk
         latest: &'r Mutex<Notice<J>>,
         limiter: Option<&'r SharedLimiter<Global>>,
         clock: K,
-        tally: Tally<'r>,
+        metrics: WorkerMetrics<'r>,
     ) -> ClerkDesk<'r, 'a, R, J, H, K>
         ensures { result ≡ record { clerk = clerk.entry; shards = repository.now.shards; rated = is_some limiter.entry; asked = K.asked clock; gave = K.gave clock } }
     {
@@ -87,7 +86,7 @@ impl<'r, 'a, R: Wait + rt::Clock + Log, J: Naming, H: Histories, K: Clock> Clerk
             latest,
             limiter,
             clock,
-            tally,
+            metrics,
         }
     }
 
@@ -171,7 +170,7 @@ impl<'r, 'a, R: Wait + rt::Clock + Log, J: Naming, H: Histories, K: Clock> Clerk
         let shard = repository.shard_of(&put.question.code());
         match self.clerk.ask(rt, repository, put) {
             Ok(outcome) => {
-                note_put(rt, &self.tally, shard, put, &outcome);
+                note_put(rt, &self.metrics, shard, put, &outcome);
                 answer_by(shard, outcome)
             }
             Err(AllocError) => (Content::Turned(Turn::Memory), None),
@@ -184,7 +183,7 @@ impl<'r, 'a, R: Wait + rt::Clock + Log, J: Naming, H: Histories, K: Clock> Clerk
     {
         match self.report_on(code) {
             Ok((text, basis)) => {
-                self.tally.note_report();
+                self.metrics.note_report();
                 (Content::Reported(Text::new(text)), basis)
             }
             Err(AllocError) => (Content::Turned(Turn::Memory), None),
@@ -234,7 +233,7 @@ impl<'r, 'a, R: Wait + rt::Clock + Log, J: Naming, H: Histories, K: Clock> Clerk
         ensures moves { LetsGo self.old self.new }
     {
         let (released, waited) = log.release(self.rt, &mut self.clerk, reach, confirmed, withheld);
-        note_confirmed(&self.tally, &waited.counts);
+        note_confirmed(&self.metrics, &waited.counts);
         (released, waited.failure)
     }
 }
@@ -286,7 +285,7 @@ fn answer_by<'a>(shard: usize, outcome: Outcome<&'a Global>) -> (Content<'a>, Op
 /// Counts a question that was put, and logs an alert that is flagged as a potential falsification (Article 36).
 fn note_put<R: Log>(
     rt: &R,
-    tally: &Tally<'_>,
+    metrics: &WorkerMetrics<'_>,
     shard: usize,
     put: &Put,
     outcome: &Outcome<&Global>,
@@ -294,7 +293,7 @@ fn note_put<R: Log>(
     let Outcome::New(answered) = outcome else {
         return;
     };
-    tally.note_put(shard, &put.question, &answered.reply);
+    metrics.note_put(shard, &put.question, &answered.reply);
     if let Reply::Alert {
         cause,
         flagged: true,
@@ -307,10 +306,10 @@ fn note_put<R: Log>(
 }
 
 /// Counts what is confirmed of each shard that was waited for.
-fn note_confirmed(tally: &Tally<'_>, counts: &[usize]) {
+fn note_confirmed(metrics: &WorkerMetrics<'_>, counts: &[usize]) {
     for (shard, count) in counts.iter().enumerate() {
         if *count > 0 {
-            tally.note_confirmed(shard, *count as u64);
+            metrics.note_confirmed(shard, *count as u64);
         }
     }
 }

@@ -3,9 +3,9 @@ use crate::timed_file::LogStore;
 use nmvs_connections::{Listener, WorkerPool};
 use nmvs_desk::Repository;
 use nmvs_directory::{Naming, Notice};
-use nmvs_figures::Panel;
 use nmvs_history::Histories;
 use nmvs_journal::{CommitLog, LogName};
+use nmvs_metrics::Metrics;
 use nmvs_rate::SharedLimiter;
 use nmvs_recovery::Run;
 use std::alloc::Global;
@@ -18,7 +18,7 @@ pub(crate) struct Config<'r, 'o, R> {
     /// Connections are accepted here; where there is none, one session is served over the console.
     pub(crate) listener: Option<&'r Listener>,
     /// What the run does is counted here.
-    pub(crate) panel: &'r Panel,
+    pub(crate) metrics: &'r Metrics,
 }
 
 /// A server whose repository is open.

@@ -1,4 +1,4 @@
-//! The program from its options on: where it listens, where figures are told, and what is logged of its start.
+//! The program from its options on: where it listens, where metrics are served, and what is logged of its start.
 ghost use Rattle.nmvs_operator.specs.Options.{AreInRange};
 ghost use Rattle.nmvs_stream.specs.Console.{IsFresh};
 
@@ -7,7 +7,7 @@ use crate::{Fault, Host, Outcome};
 use libc::types::rlimit;
 use log::{Log, error, info, warn};
 use nmvs_connections::Listener;
-use nmvs_figures::{Booth, Panel, tell_figures};
+use nmvs_metrics::{Metrics, MetricsListener, serve_metrics};
 use nmvs_operator::{Options, VERSION};
 use nmvs_stream::{Console, Sides};
 use std::alloc::{AllocError, Global};
@@ -19,8 +19,8 @@ use std::thread::Threads;
 use std::{io, thread};
 
 /// Serves as the options say: one session over the console, or connections on the port or the socket of the options, while
-/// the console gives commands of the registrar and takes their answers. Where the options say so, figures are told at a port
-/// of their own from the start on.
+/// the console gives commands of the registrar and takes their answers. Where the options say so, metrics are served at a
+/// port of their own from the start on.
 pub fn start<'o, H: Host + Sync, T: Sides>(
     rt: &H,
     alloc: Global,
@@ -31,24 +31,24 @@ pub fn start<'o, H: Host + Sync, T: Sides>(
     requires fresh { IsFresh (T.Source.told console.old.source) (T.Sink.taken console.old.sink) }
 {
     tell_start(rt, options);
-    let Ok(panel) = panel_of(alloc, options) else {
+    let Ok(metrics) = metrics_of(alloc, options) else {
         return Outcome::of(Fault::Memory);
     };
     let Some(port) = options.metrics else {
-        return serve_counted(rt, alloc, options, &panel, console);
+        return serve_counted(rt, alloc, options, &metrics, console);
     };
-    match open_booth(rt, port) {
-        Ok(booth) => serve_beside(rt, alloc, options, booth, &panel, console),
+    match open_metrics(rt, port) {
+        Ok(listener) => serve_beside(rt, alloc, options, listener, &metrics, console),
         Err(fault) => Outcome::of(fault),
     }
 }
 
-/// Opens the booth at which figures are told, and logs its port, or why it cannot be had.
-fn open_booth<'o, H: Host>(rt: &H, port: u16) -> Result<Booth, Fault<'o>> {
-    match Booth::open(rt, port) {
-        Ok(booth) => {
-            tell_booth(rt, &booth);
-            Ok(booth)
+/// Opens the port at which metrics are served, and logs it, or why it cannot be had.
+fn open_metrics<'o, H: Host>(rt: &H, port: u16) -> Result<MetricsListener, Fault<'o>> {
+    match MetricsListener::open(rt, port) {
+        Ok(listener) => {
+            log_metrics_port(rt, &listener);
+            Ok(listener)
         }
         Err(error) => {
             error!(rt; "cannot listen on port {port}: {error}");
@@ -57,27 +57,27 @@ fn open_booth<'o, H: Host>(rt: &H, port: u16) -> Result<Booth, Fault<'o>> {
     }
 }
 
-/// Serves, while figures are told at the booth.
+/// Serves, while metrics are served beside it.
 fn serve_beside<'o, H: Host + Sync, T: Sides>(
     rt: &H,
     alloc: Global,
     options: &'o Options,
-    booth: Booth,
-    panel: &Panel,
+    listener: MetricsListener,
+    metrics: &Metrics,
     console: &mut Console<T>,
 ) -> Outcome<'o>
     requires options { AreInRange options.now }
     requires fresh { IsFresh (T.Source.told console.old.source) (T.Sink.taken console.old.sink) }
 {
-    let served = tell_beside(
+    let served = run_beside(
         rt,
         alloc,
-        booth,
-        panel,
+        listener,
+        metrics,
         ||
             requires options { AreInRange options.now }
             requires fresh { IsFresh (T.Source.told console.now.source) (T.Sink.taken console.now.sink) }
-        { serve_counted(rt, alloc, options, panel, console) },
+        { serve_counted(rt, alloc, options, metrics, console) },
     );
     match served {
         Ok(outcome) => outcome,
@@ -85,17 +85,23 @@ fn serve_beside<'o, H: Host + Sync, T: Sides>(
     }
 }
 
-/// Does this work, while figures are told at the booth in a thread beside it, and ends once both have ended.
+/// Does this work, while metrics are served in a thread beside it, and ends once both have ended.
 ///
 /// # Errors
 ///
 /// The thread or memory for it was refused. The work is not begun then.
-fn tell_beside<
+fn run_beside<
     // Neither `Host` nor `Files`: what a thread runs may not rest on them.
     R: Threads + Wait + Clock + RandomSource + Sync,
     O,
     F: FnOnce() -> O,
->(rt: &R, alloc: Global, booth: Booth, panel: &Panel, work: F) -> Result<O, AllocError>
+>(
+    rt: &R,
+    alloc: Global,
+    listener: MetricsListener,
+    metrics: &Metrics,
+    work: F,
+) -> Result<O, AllocError>
     requires work { F.pre work }
 {
     thread::scope(
@@ -104,47 +110,47 @@ fn tell_beside<
         |scope|
             requires work { F.pre work }
         {
-            let Ok(teller) = scope.spawn(move || tell_figures(rt, alloc, booth, panel)) else {
+            let Ok(server) = scope.spawn(move || serve_metrics(rt, alloc, listener, metrics)) else {
                 return Err(AllocError);
             };
             let outcome = work();
-            panel.note_end();
-            let _told_no_more = teller.join(rt);
+            metrics.note_end();
+            let _served_no_more = server.join(rt);
             Ok(outcome)
         },
     )
 }
 
-/// The panel of a run.
-fn panel_of(alloc: Global, options: &Options) -> Result<Panel, AllocError> {
+/// The metrics of a run.
+fn metrics_of(alloc: Global, options: &Options) -> Result<Metrics, AllocError> {
     let workers = if options.stdin { 1 } else { options.workers };
-    Panel::new(alloc, workers, options.shards, options.journal.is_some())
+    Metrics::new(alloc, workers, options.shards, options.journal.is_some())
 }
 
-/// Tells in the log at which port figures are told.
-fn tell_booth<R: Log>(rt: &R, booth: &Booth) {
-    if let Some(port) = booth.port() {
-        info!(rt; port; "figures");
+/// Logs at which port metrics are served.
+fn log_metrics_port<R: Log>(rt: &R, listener: &MetricsListener) {
+    if let Some(port) = listener.port() {
+        info!(rt; port; "metrics");
     }
 }
 
-/// Serves one session over the console, or connections on the port or the socket of the options, and counts on the panel.
+/// Serves one session over the console, or connections on the port or the socket of the options, and counts in the metrics.
 fn serve_counted<'o, H: Host + Sync, T: Sides>(
     rt: &H,
     alloc: Global,
     options: &'o Options,
-    panel: &Panel,
+    metrics: &Metrics,
     console: &mut Console<T>,
 ) -> Outcome<'o>
     requires options { AreInRange options.now }
     requires fresh { IsFresh (T.Source.told console.old.source) (T.Sink.taken console.old.sink) }
 {
     if options.stdin {
-        return serve_run(rt, alloc, options, None, panel, console);
+        return serve_run(rt, alloc, options, None, metrics, console);
     }
     tell_descriptors(rt, options);
     match listen(rt, options) {
-        Ok(listener) => serve_run(rt, alloc, options, Some(&listener), panel, console),
+        Ok(listener) => serve_run(rt, alloc, options, Some(&listener), metrics, console),
         Err(error) => Outcome::of(refused(rt, options, error)),
     }
 }

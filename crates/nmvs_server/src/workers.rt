@@ -84,7 +84,7 @@ fn desk_of<'s, 'r, R: Wait + Clock + Log, J: Naming, H: Histories, L: LogName>(
     let server = shared.server;
     let run = &server.config.run;
     let clock = ProgramClock::new(run.rt, run.options.moment);
-    let tally = server.config.panel.tally(number);
+    let metrics = server.config.metrics.worker(number);
     ClerkDesk::new(
         run.rt,
         clerk,
@@ -92,19 +92,12 @@ fn desk_of<'s, 'r, R: Wait + Clock + Log, J: Naming, H: Histories, L: LogName>(
         server.latest,
         shared.limiter.as_ref(),
         clock,
-        tally,
+        metrics,
     )
 }
 
 /// Serves connections by a desk, and gives the desk back. Where it can't go on it ends the service.
-fn serve_by_desk<
-    'r,
-    R: Wait + Clock + Log,
-    J: Naming,
-    H: Histories,
-    L: LogName,
-    D: Desk<'r>,
->(
+fn serve_by_desk<'r, R: Wait + Clock + Log, J: Naming, H: Histories, L: LogName, D: Desk<'r>>(
     shared: &Shared<'_, '_, 'r, '_, R, J, H, L>,
     number: usize,
     poller: Poller,
@@ -197,7 +190,7 @@ fn take_commands<
 ) {
     let server = service.shared.server;
     let config = server.config;
-    config.panel.note_ready();
+    config.metrics.note_ready();
     tell_place(config, server.listener, &mut console.sink);
     let mut latest = Latest::new(config.run.rt, server.latest);
     obey_all(*config.run.alloc, console, registrar, &mut latest, service);

@@ -8,7 +8,7 @@ mod events;
 #[cfg(test)]
 mod faults;
 #[cfg(test)]
-mod figures;
+mod metrics;
 #[cfg(test)]
 mod options;
 #[cfg(test)]

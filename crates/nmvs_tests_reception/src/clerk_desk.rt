@@ -5,10 +5,10 @@ use crate::repository::{Visit, at_repository};
 use boxcar::tag::{Names, Tag};
 use log::Log;
 use nmvs_directory::{Naming, Notice, Registrar};
-use nmvs_figures::Panel;
 use nmvs_history::Histories;
 use nmvs_identifier::Name;
 use nmvs_messages::{Desk, NameOf, Peer, SESSION_LIMITS};
+use nmvs_metrics::Metrics;
 use nmvs_operator::{Deed, Figure, Latest, Service, ServiceFault, Topic, obey_all};
 use nmvs_protocol::serve;
 use nmvs_rate::{Rate, SharedLimiter};
@@ -228,10 +228,10 @@ impl<'e> Visit for AskLines<'e> {
         let clerk = opened.clerks.pop().ok_or("a clerk")?;
         let alloc = *clerk.allocator();
         let clock = Seconds::new(example.moments);
-        let panel = Panel::new(alloc, 1, 1, false)?;
-        let (limiter, tally) = (None::<SharedLimiter<Global>>, panel.tally(0));
+        let metrics = Metrics::new(alloc, 1, 1, false)?;
+        let (limiter, counts) = (None::<SharedLimiter<Global>>, metrics.worker(0));
         let (repository, limiter) = (&opened.repository, limiter.as_ref());
-        let mut desk = ClerkDesk::new(rt, clerk, repository, latest, limiter, clock, tally);
+        let mut desk = ClerkDesk::new(rt, clerk, repository, latest, limiter, clock, counts);
         for (line, answer) in example.lines {
             let wanted = format!(in alloc; "{answer}\n")?;
             if *line == "SUSPEND ph1" {
@@ -347,10 +347,14 @@ impl Visit for AskOfPeers {
         let clerk = opened.clerks.pop().ok_or("a clerk")?;
         let alloc = *clerk.allocator();
         let limiter = SharedLimiter::new(rt, alloc, Rate::new(1, 1).ok_or("a rate")?);
-        let panel = Panel::new(alloc, 1, 1, false)?;
-        let (clock, limiter, tally) = (Seconds::new(&[NEW_YEAR]), Some(&limiter), panel.tally(0));
+        let metrics = Metrics::new(alloc, 1, 1, false)?;
+        let (clock, limiter, counts) = (
+            Seconds::new(&[NEW_YEAR]),
+            Some(&limiter),
+            metrics.worker(0),
+        );
         let repository = &opened.repository;
-        let mut desk = ClerkDesk::new(rt, clerk, repository, latest, limiter, clock, tally);
+        let mut desk = ClerkDesk::new(rt, clerk, repository, latest, limiter, clock, counts);
         for (of, name, line, answer) in OF_PEERS {
             let wanted = format!(in alloc; "{answer}\n")?;
             let said = asked(alloc, &mut desk, &of.peer(Name::read(name)?), line)?;

@@ -6,11 +6,11 @@ use crate::repository::{Visit, at_repository};
 use log::Log;
 use nmvs_desk::{Clerk, Repository};
 use nmvs_directory::{Naming, Notice, Registrar};
-use nmvs_figures::Panel;
 use nmvs_history::Histories;
 use nmvs_identifier::Moment;
 use nmvs_journal::{CommitLog, Filed, LogName, UnnamedLog};
 use nmvs_messages::{Desk, Peer, SESSION_LIMITS};
+use nmvs_metrics::Metrics;
 use nmvs_protocol::serve;
 use nmvs_reception::{Alarm, ClerkDesk, JournalDesk, Opened, ProgramClock};
 use nmvs_shard::{HashKey, Shards};
@@ -54,19 +54,12 @@ fn is_told<'a, D: Desk<'a>>(rt: &impl Abort, alloc: Global, desk: &mut D) -> boo
 }
 
 /// Asks three times, and tells how many replies were told. When one is told the file has confirmed its line.
-fn ask_thrice<
-    'a,
-    's,
-    J: Naming,
-    H: Histories,
-    L: LogName,
-    R: Wait + Clock + Log + Abort,
->(
+fn ask_thrice<'a, 's, J: Naming, H: Histories, L: LogName, R: Wait + Clock + Log + Abort>(
     rt: &'s R,
     latest: &'s Mutex<Notice<J>>,
     repository: &'s Repository<'a, H>,
     clerk: Clerk<'a, J, H>,
-    panel: &'s Panel,
+    metrics: &'s Metrics,
     history: UnnamedLog,
     file: FakeFile<'_>,
 ) -> usize
@@ -80,7 +73,15 @@ fn ask_thrice<
     let opened = CommitLog::<_, H, L>::open(rt, alloc, repository, store, history, &[0]);
     let log = opened.expect(rt, "memory");
     let clock = ProgramClock::new(rt, Moment::new(NEW_YEAR));
-    let desk = ClerkDesk::new(rt, clerk, repository, latest, None, clock, panel.tally(0));
+    let desk = ClerkDesk::new(
+        rt,
+        clerk,
+        repository,
+        latest,
+        None,
+        clock,
+        metrics.worker(0),
+    );
     let mut desk = JournalDesk::new(desk, &log, log.confirmed(rt), Silent);
     let mut told = 0usize;
     for asked in 1..4usize {
@@ -98,13 +99,13 @@ fn ask_named<'a, 's, J: Naming, H: Histories, R: Wait + Clock + Log + Abort>(
     latest: &'s Mutex<Notice<J>>,
     repository: &'s Repository<'a, H>,
     clerk: Clerk<'a, J, H>,
-    panel: &'s Panel,
+    metrics: &'s Metrics,
     history: UnnamedLog,
     file: FakeFile<'_>,
 ) -> usize
     requires { history.seen.log ≡ [] ∷ [] }
 {
-    ask_thrice::<J, H, Brand, R>(rt, latest, repository, clerk, panel, history, file)
+    ask_thrice::<J, H, Brand, R>(rt, latest, repository, clerk, metrics, history, file)
 }
 
 /// Asks over this file, and answers how many replies were told.
@@ -129,10 +130,10 @@ impl<'f> Visit for AskThrice<'f> {
         } = opened;
         let clerk = clerks.pop().expect(rt, "a clerk");
         let alloc = *clerk.allocator();
-        let panel = Panel::new(alloc, 1, 1, true).expect(rt, "memory");
+        let metrics = Metrics::new(alloc, 1, 1, true).expect(rt, "memory");
         let shards = Shards::new(alloc, 1, HashKey::of(1)).expect(rt, "memory");
         let history = UnnamedLog::new(&shards);
-        ask_named(rt, latest, &repository, clerk, &panel, history, self.file)
+        ask_named(rt, latest, &repository, clerk, &metrics, history, self.file)
     }
 }
 

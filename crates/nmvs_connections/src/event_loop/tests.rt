@@ -5,9 +5,9 @@ use crate::scratch::Scratch;
 use crate::socket::Socket;
 use crate::worker_pool::{Accepted, Bounds, Poller, WorkerPool};
 use mio::net::UnixStream;
-use nmvs_figures::Panel;
 use nmvs_identifier::Name;
 use nmvs_messages::{Ask, Content, Desk, NameOf, Peer, Released, Turn, Withheld, WithheldAnswers};
+use nmvs_metrics::Metrics;
 use std::io;
 use std::io::{Read, Write};
 use std::rt::Clock;
@@ -84,8 +84,8 @@ fn is_told(peer: &mut UnixStream, wanted: &[u8]) -> io::Result<bool> {
 #[test]
 fn connections_of_a_turn_share_one_release(rt: HostRuntime) -> Result<(), Fail> {
     let alloc = rt.alloc();
-    let panel = Panel::new(alloc, 1, 1, false)?;
-    let (pool, _pollers, poller) = WorkerPool::open(&rt, alloc, 1, bounds(None), &panel)?;
+    let metrics = Metrics::new(alloc, 1, 1, false)?;
+    let (pool, _pollers, poller) = WorkerPool::open(&rt, alloc, 1, bounds(None), &metrics)?;
     let mut scratch = Scratch::new(alloc, Instant::now(&rt)?);
     let mut event_loop = EventLoop::new(alloc, 0, scratch.now);
     let mut one = connect(&rt, &mut event_loop, &pool, &poller, &scratch)?;
@@ -111,9 +111,9 @@ fn connections_of_a_turn_share_one_release(rt: HostRuntime) -> Result<(), Fail> 
 #[test]
 fn a_header_names_the_peer_of_its_lines(rt: HostRuntime) -> Result<(), Fail> {
     let alloc = rt.alloc();
-    let panel = Panel::new(alloc, 1, 1, false)?;
+    let metrics = Metrics::new(alloc, 1, 1, false)?;
     let proxy = Some(NameOf::User);
-    let (pool, _pollers, poller) = WorkerPool::open(&rt, alloc, 1, bounds(proxy), &panel)?;
+    let (pool, _pollers, poller) = WorkerPool::open(&rt, alloc, 1, bounds(proxy), &metrics)?;
     let mut scratch = Scratch::new(alloc, Instant::now(&rt)?);
     let mut event_loop = EventLoop::new(alloc, 0, scratch.now);
     let mut named = connect(&rt, &mut event_loop, &pool, &poller, &scratch)?;

@@ -1,8 +1,8 @@
-//! What a visitor over HTTP is told.
+//! What a client over HTTP is answered.
 ghost use Rattle.std.specs.Prelude.{◌≡◌};
-ghost use Rattle.nmvs_figures.specs.Visits as specs;
+ghost use Rattle.nmvs_metrics.specs.Visits as specs;
 
-use crate::{Panel, figures_page};
+use crate::{Metrics, encode};
 use bytes::{BufMut, Bytes};
 use http::{HeaderValue, Request, StatusCode, header};
 use http_server::{Response, Service};
@@ -10,8 +10,8 @@ use std::alloc::{AllocError, Global};
 use std::fs::File;
 use std::os::unix::fs::FileExt;
 
-/// The type of the page of figures.
-const FIGURES_TYPE: &str = "text/plain; version=0.0.4; charset=utf-8";
+/// The type of the page of metrics.
+const METRICS_TYPE: &str = "text/plain; version=0.0.4; charset=utf-8";
 
 /// The type of the other answers.
 const TEXT_TYPE: &str = "text/plain; charset=utf-8";
@@ -19,10 +19,10 @@ const TEXT_TYPE: &str = "text/plain; charset=utf-8";
 /// The bytes of a page of memory, as the kernel counts.
 const PAGE_SIZE: u64 = 4_096;
 
-/// What is told of a request.
+/// What a request is answered.
 #[derive(Clone, Copy)]
 pub(crate) enum Content {
-    Figures,
+    Metrics,
     Alive,
     Listens,
     Starts,
@@ -30,12 +30,12 @@ pub(crate) enum Content {
     NoMethod,
 }
 
-/// What a request of this method for this path is told, where the server listens or not.
+/// What a request of this method for this path is answered, where the server listens or not.
 pub(crate) fn told(method: &str, path: &str, listens: bool) -> Content
     ensures { result ≡ specs.told method.now path.now listens }
 {
     let page = match path {
-        "/metrics" => Content::Figures,
+        "/metrics" => Content::Metrics,
         "/healthz" => Content::Alive,
         "/readyz" if listens => Content::Listens,
         "/readyz" => Content::Starts,
@@ -47,15 +47,15 @@ pub(crate) fn told(method: &str, path: &str, listens: bool) -> Content
     }
 }
 
-/// Answers the requests of all visitors.
+/// Answers the requests of all clients.
 #[derive(Drop)]
-pub struct Guide<'p, 'm> {
+pub struct MetricsService<'p, 'm> {
     alloc: Global,
-    panel: &'p Panel,
+    metrics: &'p Metrics,
     memory: Option<&'m File>,
 }
 
-impl<'p, 'm> Service for Guide<'p, 'm> {
+impl<'p, 'm> Service for MetricsService<'p, 'm> {
     // What is counted meanwhile, no contract can say.
     ghost answers = { λ _ _ _ _. Unit {0} };
 
@@ -64,44 +64,48 @@ impl<'p, 'm> Service for Guide<'p, 'm> {
         request: &Request<Bytes>,
         response: &mut Response,
     ) -> Result<(), AllocError> {
-        // One answer a connection: the next visitor is not to wait for one that stays.
+        // One answer a connection: the next client is not to wait for one that stays.
         response.add_header(header::CONNECTION, HeaderValue::from_static("close"))?;
         let (method, path) = (request.method().as_str(), request.uri().path());
-        match told(method, path, self.panel.is_ready()) {
-            Content::Figures => {
+        match told(method, path, self.metrics.is_ready()) {
+            Content::Metrics => {
                 let page = self.page()?;
-                put(response, HeaderValue::from_static(FIGURES_TYPE), &page)
+                put(response, HeaderValue::from_static(METRICS_TYPE), &page)
             }
-            Content::Alive | Content::Listens => tell(response, StatusCode::OK, "ok\n"),
-            Content::Starts => tell(response, StatusCode::SERVICE_UNAVAILABLE, "starting\n"),
-            Content::NoPage => tell(response, StatusCode::NOT_FOUND, "not found\n"),
+            Content::Alive | Content::Listens => answer(response, StatusCode::OK, "ok\n"),
+            Content::Starts => answer(response, StatusCode::SERVICE_UNAVAILABLE, "starting\n"),
+            Content::NoPage => answer(response, StatusCode::NOT_FOUND, "not found\n"),
             Content::NoMethod => {
                 response.add_header(header::ALLOW, HeaderValue::from_static("GET, HEAD"))?;
-                tell(response, StatusCode::METHOD_NOT_ALLOWED, "not allowed\n")
+                answer(response, StatusCode::METHOD_NOT_ALLOWED, "not allowed\n")
             }
         }
     }
 }
 
-impl<'p, 'm> Guide<'p, 'm> {
-    /// Tells what the panel counts; and the memory of the process, where the system tells it in this file.
-    pub fn new(alloc: Global, panel: &'p Panel, memory: Option<&'m File>) -> Guide<'p, 'm> {
-        Guide {
+impl<'p, 'm> MetricsService<'p, 'm> {
+    /// Answers with these metrics, and with the memory of the process, where the system reports it in this file.
+    pub fn new(
+        alloc: Global,
+        metrics: &'p Metrics,
+        memory: Option<&'m File>,
+    ) -> MetricsService<'p, 'm> {
+        MetricsService {
             alloc,
-            panel,
+            metrics,
             memory,
         }
     }
 
-    /// The page of figures as they are now.
+    /// The page of the metrics as they are now.
     fn page(&self) -> Result<String, AllocError> {
         let resident = self.memory.and_then(|file| resident(file));
-        let figures = self.panel.figures(self.alloc, resident)?;
-        figures_page(self.alloc, &figures)
+        let snapshot = self.metrics.snapshot(self.alloc, resident)?;
+        encode(self.alloc, &snapshot)
     }
 }
 
-fn tell(response: &mut Response, status: StatusCode, text: &str) -> Result<(), AllocError> {
+fn answer(response: &mut Response, status: StatusCode, text: &str) -> Result<(), AllocError> {
     response.status = status;
     put(response, HeaderValue::from_static(TEXT_TYPE), text)
 }
@@ -112,7 +116,7 @@ fn put(response: &mut Response, kind: HeaderValue, text: &str) -> Result<(), All
     response.body.put_slice(text.as_bytes())
 }
 
-/// How many bytes of memory the process has, where the system tells it.
+/// How many bytes of memory the process has, where the system reports it.
 fn resident(memory: &File) -> Option<u64> {
     let mut buffer = [0; 128];
     let count = memory.read_at(&mut buffer, 0).ok()?;

@@ -1,14 +1,14 @@
--- The page of figures, in the text format of Prometheus, version 0.0.4 (own).
+-- The page of metrics, in the text format of Prometheus, version 0.0.4 (own).
 use Rattle.std.specs.Prelude.{ℕ, List, [], ◌∷◌, ◌+◌, ◌-◌, ◌^◌, ◌++◌, Option, Some, None, if◌then◌else◌, codes, decimal, min}
 use Rattle.std.specs.List.{flat_map}
 use Rattle.nmvs_words.specs.Kinds.{kind_word}
 use Rattle.nmvs_words.specs.ReplyKinds.{reply_word}
-use Rattle.nmvs_figures.specs.declared.figures.Answered.{Answered}
-use Rattle.nmvs_figures.specs.declared.figures.Counted.{Counted}
-use Rattle.nmvs_figures.specs.declared.figures.Numbered.{Numbered}
-use Rattle.nmvs_figures.specs.declared.figures.Bucket.{Bucket}
-use Rattle.nmvs_figures.specs.declared.figures.JournalFigures.{JournalFigures}
-use Rattle.nmvs_figures.specs.declared.figures.Figures.{Figures}
+use Rattle.nmvs_metrics.specs.declared.snapshot.Answered.{Answered}
+use Rattle.nmvs_metrics.specs.declared.snapshot.Counted.{Counted}
+use Rattle.nmvs_metrics.specs.declared.snapshot.Numbered.{Numbered}
+use Rattle.nmvs_metrics.specs.declared.snapshot.Bucket.{Bucket}
+use Rattle.nmvs_metrics.specs.declared.snapshot.LogSnapshot.{LogSnapshot}
+use Rattle.nmvs_metrics.specs.declared.snapshot.Snapshot.{Snapshot}
 
 -- what the samples of one name begin with: what they say, and of which type they are
 abbrev pub heading : List ℕ → List ℕ → List ℕ → List ℕ
@@ -84,54 +84,54 @@ questions_text answered =
     ++ flat_map answered_line answered
 
 -- what questions came to that were refused, or alerted
-unfoldable pub warnings_text : Figures → List ℕ
+unfoldable pub warnings_text : Snapshot → List ℕ
 warnings_text f =
     worded (codes "nmvs_refusals_total") (codes "counter") (codes "Questions that the repository refused, by the word of the refusal.") (codes "refusal") f.refusals.items
     ++ worded (codes "nmvs_alerts_flagged_total") (codes "counter") (codes "Alerts that were flagged as potential falsifications, by their cause.") (codes "cause") f.alerts.items
 
--- what is told of lines
-unfoldable pub lines_text : Figures → List ℕ
+-- the samples of lines
+unfoldable pub lines_text : Snapshot → List ℕ
 lines_text f =
     questions_text f.answered.items
     ++ (warnings_text f
     ++ (single (codes "nmvs_reports_total") (codes "counter") (codes "Reports on product codes.") f.reports
     ++ worded (codes "nmvs_faults_total") (codes "counter") (codes "Lines and connections that were answered with a fault, by its word.") (codes "fault") f.faults.items))
 
--- what is told of connections
-unfoldable pub connections_text : Figures → List ℕ
+-- the samples of connections
+unfoldable pub connections_text : Snapshot → List ℕ
 connections_text f =
     numbered (codes "nmvs_connections_open") (codes "gauge") (codes "Connections that are open, by worker.") (codes "worker") f.open.items
     ++ (numbered (codes "nmvs_connections_total") (codes "counter") (codes "Connections that were accepted, by worker.") (codes "worker") f.accepted.items
     ++ single (codes "nmvs_sessions_total") (codes "counter") (codes "Sessions that have begun in which a line is served.") f.sessions)
 
--- what is told of the audit trail
-unfoldable pub trail_text : Figures → List ℕ
+-- the samples of the audit trail
+unfoldable pub trail_text : Snapshot → List ℕ
 trail_text f =
     numbered (codes "nmvs_entries") (codes "gauge") (codes "Entries of the audit trail, by shard.") (codes "shard") f.entries.items
     ++ numbered (codes "nmvs_packs") (codes "gauge") (codes "Packs that the repository knows, by shard.") (codes "shard") f.packs.items
 
--- what is told of journals, where there are journals
-unfoldable pub journal_text : Option JournalFigures → List ℕ
-journal_text None = []
-journal_text (Some j) =
+-- the samples of the log, where there is one
+unfoldable pub log_text : Option LogSnapshot → List ℕ
+log_text None = []
+log_text (Some j) =
     numbered (codes "nmvs_journal_confirmed_entries") (codes "gauge") (codes "Entries that the journals have confirmed, by shard.") (codes "shard") j.confirmed.items
     ++ (numbered (codes "nmvs_journal_waiting_entries") (codes "gauge") (codes "Entries that the journals have not confirmed yet, by shard.") (codes "shard") j.waiting.items
     ++ (syncs_text j.syncs.items j.nanoseconds
     ++ single (codes "nmvs_journal_failures_total") (codes "counter") (codes "Journals whose file failed.") j.failures))
 
--- what is told of the memory of the process, where the system tells it
+-- the sample of the memory of the process, where the system reports it
 unfoldable pub resident_text : Option ℕ → List ℕ
 resident_text None = []
 resident_text (Some bytes) =
     single (codes "process_resident_memory_bytes") (codes "gauge") (codes "Resident memory size in bytes.") bytes
 
--- what is told of the process: whether it listens, and its memory
-unfoldable pub process_text : Figures → List ℕ
+-- the samples of the process: whether it listens, and its memory
+unfoldable pub process_text : Snapshot → List ℕ
 process_text f =
     single (codes "nmvs_ready") (codes "gauge") (codes "Whether the server listens, 1 or 0.") (if f.ready then 1 else 0)
     ++ resident_text f.resident
 
--- all figures
-abbrev pub page : Figures → List ℕ
+-- all metrics
+abbrev pub page : Snapshot → List ℕ
 page f =
-    process_text f ++ (lines_text f ++ (connections_text f ++ (trail_text f ++ journal_text f.journal)))
+    process_text f ++ (lines_text f ++ (connections_text f ++ (trail_text f ++ log_text f.log)))

@@ -1,10 +1,10 @@
-//! The sides of a console, joined.
+//! The sides of a console as one: standard input and output, and the connections of a socket.
 ghost use Rattle.std.specs.Io.{ReadsAtMost};
 
 use crate::connections::{Connections, MOST_CONNECTIONS};
 use crate::exchange::{Exchange, Side};
 use crate::incoming::Incoming;
-use crate::logged::{Shown, last_line};
+use crate::logged::{Escaped, last_line};
 use log::{Log, info};
 use nmvs_messages::{PendingLine, READ_SIZE};
 use nmvs_stream::{Failed, Sink, Source, deliver};
@@ -25,7 +25,7 @@ const NO_MEMORY: &[u8] = b"FAULT MEMORY\n";
 
 /// Standard input and output, and the connections of a socket, where there is one.
 #[derive(Drop)]
-pub(crate) struct Switchboard<I, W> {
+pub(crate) struct Multiplexer<I, W> {
     exchange: Exchange,
     input: I,
     output: W,
@@ -37,14 +37,14 @@ pub(crate) struct Switchboard<I, W> {
     first: usize,
 }
 
-impl<I: Source, W: Sink> Switchboard<I, W> {
+impl<I: Source, W: Sink> Multiplexer<I, W> {
     pub(crate) fn new(
         alloc: Global,
         input: I,
         output: W,
         connections: Option<Connections>,
-    ) -> Switchboard<I, W> {
-        Switchboard {
+    ) -> Multiplexer<I, W> {
+        Multiplexer {
             exchange: Exchange::new(alloc),
             input,
             output,
@@ -85,12 +85,12 @@ impl<I: Source, W: Sink> Switchboard<I, W> {
                 return Ok(());
             }
             self.end_sides(rt);
-            self.look()?;
+            self.poll()?;
         }
         unreachable!()
     }
 
-    /// Hands over a line of the next side that has one, and tells whether there is one. The sides have their turns in a row.
+    /// Hands over a line of the next side that has one, and answers whether there is one. The sides have their turns in a row.
     fn begin_next(&mut self) -> bool {
         for step in 0..MOST_SIDES {
             let place = self.first.wrapping_add(step) % MOST_SIDES;
@@ -144,12 +144,12 @@ impl<I: Source, W: Sink> Switchboard<I, W> {
     /// Answers what a side began and did not end.
     fn end_side<R: Wait + Clock + Log>(&mut self, rt: &R, side: Side, begun: PendingLine) {
         if !begun.is_empty() {
-            self.answer(rt, side, Some(&begun), UNENDED);
+            self.send_answer(rt, side, Some(&begun), UNENDED);
         }
     }
 
-    /// Looks what the sides send. It waits where none has sent anything.
-    fn look(&mut self) -> io::Result<()> {
+    /// Polls the sides. It waits where none has sent anything.
+    fn poll(&mut self) -> io::Result<()> {
         if let Some(connections) = &mut self.connections {
             let has_work = !self.is_over && connections.is_standard_ready();
             connections.wait(has_work)?;
@@ -177,36 +177,41 @@ impl<I: Source, W: Sink> Switchboard<I, W> {
         }
     }
 
-    /// Says this to the side whose line was handed over last.
+    /// Adds this to the answer to the line that was handed over last.
     ///
     /// # Errors
     ///
-    /// There is no memory for it. The side is told so in place of its answer.
-    pub(crate) fn say<R: Wait + Clock + Log>(&mut self, rt: &R, bytes: &[u8]) -> io::Result<()> {
-        if self.exchange.say(bytes).is_ok() {
+    /// There is no memory for it. The side is sent a fault in place of its answer.
+    pub(crate) fn write<R: Wait + Clock + Log>(&mut self, rt: &R, bytes: &[u8]) -> io::Result<()> {
+        if self.exchange.write(bytes).is_ok() {
             return Ok(());
         }
-        let said = self.exchange.end();
-        self.answer(rt, said.side, said.line.as_ref(), NO_MEMORY);
+        let answer = self.exchange.end();
+        self.send_answer(rt, answer.side, answer.line.as_ref(), NO_MEMORY);
         Err(io::Error::from(ErrorKind::OutOfMemory))
     }
 
-    /// Sends what was said since the last line was handed over to its side.
+    /// Sends what was written since the last line was handed over to its side.
     ///
     /// # Errors
     ///
     /// The side does not take it.
     pub(crate) fn end_exchange<R: Wait + Clock + Log>(&mut self, rt: &R) -> io::Result<()> {
-        let said = self.exchange.end();
-        if self.answer(rt, said.side, said.line.as_ref(), said.text.as_slice()) {
+        let answer = self.exchange.end();
+        if self.send_answer(
+            rt,
+            answer.side,
+            answer.line.as_ref(),
+            answer.text.as_slice(),
+        ) {
             Ok(())
         } else {
             Err(io::Error::from(ErrorKind::BrokenPipe))
         }
     }
 
-    /// Sends an answer to a side, logs it with the line that it answers, and tells whether the side took it.
-    fn answer<R: Wait + Clock + Log>(
+    /// Sends an answer to a side, logs it with the line that it answers, and answers whether the side took it.
+    fn send_answer<R: Wait + Clock + Log>(
         &mut self,
         rt: &R,
         side: Side,
@@ -226,7 +231,7 @@ impl<I: Source, W: Sink> Switchboard<I, W> {
 
 /// Logs the answer to the line of a side.
 fn log_answer<R: Log>(rt: &R, side: Side, line: &[u8], text: &[u8]) {
-    let (command, answer) = (Shown(line), Shown(last_line(text)));
+    let (command, answer) = (Escaped(line), Escaped(last_line(text)));
     info!(rt; side:% = side, command:% = command, answer:% = answer; "command");
 }
 

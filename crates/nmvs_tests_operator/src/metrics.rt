@@ -1,10 +1,10 @@
 use http_server::{Config, Connection, serve};
-use nmvs_figures::{
-    Answered, Bucket, Counted, Fault, Figures, Guide, JournalFigures, Numbered, Panel,
-    figures_page, resident_in,
-};
 use nmvs_messages::{
     Ask, Asked, Content, Desk, Line, Peer, Released, Turn, Withheld, WithheldAnswers,
+};
+use nmvs_metrics::{
+    Answered, Bucket, Counted, Fault, LogSnapshot, Metrics, MetricsService, Numbered, Snapshot,
+    encode, resident_in,
 };
 use nmvs_protocol::{Session, read_line};
 use nmvs_rules::{Cause, Question, Refusal, Reply};
@@ -56,7 +56,7 @@ nmvs_entries{shard="0"} 5
 nmvs_packs{shard="0"} 3
 "#;
 
-const JOURNAL: &str =
+const LOG: &str =
     r#"# HELP nmvs_journal_confirmed_entries Entries that the journals have confirmed, by shard.
 # TYPE nmvs_journal_confirmed_entries gauge
 nmvs_journal_confirmed_entries{shard="0"} 4
@@ -95,10 +95,10 @@ fn answered(question: QuestionKind, reply: ReplyKind, count: u64) -> Answered {
     }
 }
 
-/// Some figures, of a server without journals.
-fn figures(alloc: Global) -> Result<Figures, AllocError> {
+/// A snapshot of a server without a log.
+fn snapshot(alloc: Global) -> Result<Snapshot, AllocError> {
     let verify = QuestionKind::OfPack(PackQuestion::Verify);
-    Ok(Figures {
+    Ok(Snapshot {
         ready: true,
         answered: vec![in alloc;
             answered(QuestionKind::Upload, ReplyKind::Uploaded, 3),
@@ -113,14 +113,14 @@ fn figures(alloc: Global) -> Result<Figures, AllocError> {
         sessions: 9,
         entries: vec![in alloc; numbered(0, 5)]?,
         packs: vec![in alloc; numbered(0, 3)]?,
-        journal: None,
+        log: None,
         resident: Some(8_192),
     })
 }
 
-/// Some figures of journals.
-fn journal(alloc: Global) -> Result<JournalFigures, AllocError> {
-    Ok(JournalFigures {
+/// A snapshot of a log.
+fn log_snapshot(alloc: Global) -> Result<LogSnapshot, AllocError> {
+    Ok(LogSnapshot {
         confirmed: vec![in alloc; numbered(0, 4)]?,
         waiting: vec![in alloc; numbered(0, 1)]?,
         syncs: vec![in alloc; bucket("0.001", 2), bucket("0.1", 0), bucket("+Inf", 3)]?,
@@ -130,21 +130,21 @@ fn journal(alloc: Global) -> Result<JournalFigures, AllocError> {
 }
 
 #[test]
-fn figures_are_told_as_written_by_hand(rt: HostRuntime) {
+fn the_page_is_as_written_by_hand(rt: HostRuntime) {
     let alloc = rt.alloc();
-    let mut figures = figures(alloc).expect(&rt, "memory");
-    let page = figures_page(alloc, &figures).expect(&rt, "memory");
+    let mut snapshot = snapshot(alloc).expect(&rt, "memory");
+    let page = encode(alloc, &snapshot).expect(&rt, "memory");
     assert_eq!(rt; page.as_str(), PAGE);
-    figures.journal = Some(journal(alloc).expect(&rt, "memory"));
-    let page = figures_page(alloc, &figures).expect(&rt, "memory");
-    assert!(rt; page.strip_prefix(PAGE) == Some(JOURNAL));
+    snapshot.log = Some(log_snapshot(alloc).expect(&rt, "memory"));
+    let page = encode(alloc, &snapshot).expect(&rt, "memory");
+    assert!(rt; page.strip_prefix(PAGE) == Some(LOG));
 }
 
-/// Whether the page of a panel has this line.
-fn has_line(alloc: Global, panel: &Panel, line: &str) -> bool {
-    match panel.figures(alloc, None) {
-        Ok(figures) => match figures_page(alloc, &figures) {
-            Ok(page) => page.lines().any(|told| told == line),
+/// Whether the page of these metrics has this line.
+fn has_line(alloc: Global, metrics: &Metrics, line: &str) -> bool {
+    match metrics.snapshot(alloc, None) {
+        Ok(snapshot) => match encode(alloc, &snapshot) {
+            Ok(page) => page.lines().any(|found| found == line),
             Err(_) => false,
         },
         Err(_) => false,
@@ -167,16 +167,16 @@ fn question(line: &str) -> Option<Question> {
 }
 
 /// Counts that this line, whose entry is in shard 1, had this reply.
-fn note(panel: &Panel, line: &str, reply: Reply) {
+fn note(metrics: &Metrics, line: &str, reply: Reply) {
     if let Some(question) = question(line) {
-        panel.tally(1).note_put(1, &question, &reply);
+        metrics.worker(1).note_put(1, &question, &reply);
     }
 }
 
 #[test]
 fn each_question_is_counted_in_its_place(rt: HostRuntime) {
-    let panel = Panel::new(rt.alloc(), 2, 2, false).expect(&rt, "memory");
-    panel.note_opening(1, 7, 2);
+    let metrics = Metrics::new(rt.alloc(), 2, 2, false).expect(&rt, "memory");
+    metrics.note_opening(1, 7, 2);
     let flagged = Reply::Alert {
         cause: Cause::Stolen,
         flagged: true,
@@ -192,9 +192,9 @@ fn each_question_is_counted_in_its_place(rt: HostRuntime) {
         ),
         ("mah1 RECALL 09506000134352 B1", Reply::LockedNow(3)),
     ] {
-        note(&panel, line, reply);
+        note(&metrics, line, reply);
     }
-    panel.tally(0).note_report();
+    metrics.worker(0).note_report();
     for line in [
         "nmvs_questions_total{question=\"UPLOAD\",reply=\"UPLOADED\"} 1",
         "nmvs_questions_total{question=\"VERIFY\",reply=\"ALERT\"} 1",
@@ -209,14 +209,14 @@ fn each_question_is_counted_in_its_place(rt: HostRuntime) {
         "nmvs_entries{shard=\"0\"} 0",
         "nmvs_packs{shard=\"1\"} 3",
     ] {
-        assert!(rt; has_line(rt.alloc(), &panel, line), "{line}");
+        assert!(rt; has_line(rt.alloc(), &metrics, line), "{line}");
     }
 }
 
 #[test]
 fn each_fault_is_counted_by_its_word(rt: HostRuntime) {
     let alloc = rt.alloc();
-    let panel = Panel::new(alloc, 2, 1, false).expect(&rt, "memory");
+    let metrics = Metrics::new(alloc, 2, 1, false).expect(&rt, "memory");
     let mut desk = Stranger;
     let mut withheld = WithheldAnswers::new();
     let mut session = Session::new(9);
@@ -226,10 +226,10 @@ fn each_fault_is_counted_by_its_word(rt: HostRuntime) {
         &Peer::Anyone,
         &mut desk,
     );
-    panel.tally(0).note_told(&withheld.release());
-    panel.tally(1).note_fault(Fault::Idle);
-    panel.tally(1).note_fault(Fault::Busy);
-    panel.tally(2).note_fault(Fault::Busy);
+    metrics.worker(0).note_answers(&withheld.release());
+    metrics.worker(1).note_fault(Fault::Idle);
+    metrics.worker(1).note_fault(Fault::Busy);
+    metrics.worker(2).note_fault(Fault::Busy);
     for line in [
         "nmvs_faults_total{fault=\"NOBODY\"} 1",
         "nmvs_faults_total{fault=\"FIELDS\"} 1",
@@ -239,24 +239,24 @@ fn each_fault_is_counted_by_its_word(rt: HostRuntime) {
         "nmvs_faults_total{fault=\"JOURNAL\"} 0",
         "nmvs_faults_total{fault=\"TAG\"} 0",
     ] {
-        assert!(rt; has_line(rt.alloc(), &panel, line), "{line}");
+        assert!(rt; has_line(rt.alloc(), &metrics, line), "{line}");
     }
 }
 
 #[test]
-fn connections_and_journals_are_counted(rt: HostRuntime) {
-    let panel = Panel::new(rt.alloc(), 2, 1, true).expect(&rt, "memory");
-    panel.note_opening(0, 5, 5);
-    panel.note_session();
+fn connections_and_syncs_are_counted(rt: HostRuntime) {
+    let metrics = Metrics::new(rt.alloc(), 2, 1, true).expect(&rt, "memory");
+    metrics.note_opening(0, 5, 5);
+    metrics.note_session();
     for worker in [0, 1, 1] {
-        panel.tally(worker).note_accepted();
+        metrics.worker(worker).note_accepted();
     }
-    panel.tally(1).note_ended();
-    panel.tally(0).note_confirmed(0, 3);
-    panel.tally(1).note_confirmed(0, 4);
-    panel.note_sync(Duration::from_micros(100));
-    panel.note_sync(Duration::from_millis(2));
-    panel.note_failure();
+    metrics.worker(1).note_ended();
+    metrics.worker(0).note_confirmed(0, 3);
+    metrics.worker(1).note_confirmed(0, 4);
+    metrics.note_sync(Duration::from_micros(100));
+    metrics.note_sync(Duration::from_millis(2));
+    metrics.note_failure();
     for line in [
         "nmvs_connections_open{worker=\"1\"} 1",
         "nmvs_connections_total{worker=\"1\"} 2",
@@ -269,25 +269,25 @@ fn connections_and_journals_are_counted(rt: HostRuntime) {
         "nmvs_journal_sync_seconds_sum 2100000e-9",
         "nmvs_journal_failures_total 1",
     ] {
-        assert!(rt; has_line(rt.alloc(), &panel, line), "{line}");
+        assert!(rt; has_line(rt.alloc(), &metrics, line), "{line}");
     }
 }
 
 /// What a request is answered with.
-fn answer_to(rt: &HostRuntime, panel: &Panel, request: &str) -> io::Result<Vec<u8>> {
+fn answer_to(rt: &HostRuntime, metrics: &Metrics, request: &str) -> io::Result<Vec<u8>> {
     let alloc = rt.alloc();
     let keys = RandomState::new(rt)?;
     let mut connection = Connection::new(alloc, keys, Config::default());
-    let mut guide = Guide::new(alloc, panel, None);
+    let mut service = MetricsService::new(alloc, metrics, None);
     let mut input = request.as_bytes();
     let mut output = Vec::new(alloc);
-    serve(&mut connection, &mut guide, &mut input, &mut output)?;
+    serve(&mut connection, &mut service, &mut input, &mut output)?;
     Ok(output)
 }
 
 #[test]
-fn visitors_are_told_by_path_and_method(rt: HostRuntime) {
-    let panel = Panel::new(rt.alloc(), 1, 1, false).expect(&rt, "memory");
+fn requests_are_answered_by_path_and_method(rt: HostRuntime) {
+    let metrics = Metrics::new(rt.alloc(), 1, 1, false).expect(&rt, "memory");
     for (request, begin) in [
         (
             "GET /healthz HTTP/1.1\r\nHost: x\r\n\r\n",
@@ -311,17 +311,17 @@ fn visitors_are_told_by_path_and_method(rt: HostRuntime) {
         ),
         ("nonsense\r\n\r\n", "HTTP/1.1 400 Bad Request\r\n"),
     ] {
-        let answer = answer_to(&rt, &panel, request).expect(&rt, "an answer");
+        let answer = answer_to(&rt, &metrics, request).expect(&rt, "an answer");
         assert!(rt; answer.starts_with(begin.as_bytes()), "{request}");
     }
-    panel.note_ready();
+    metrics.note_ready();
     let request = "GET /readyz HTTP/1.1\r\nHost: x\r\n\r\n";
-    let answer = answer_to(&rt, &panel, request).expect(&rt, "an answer");
+    let answer = answer_to(&rt, &metrics, request).expect(&rt, "an answer");
     assert!(rt; answer.ends_with(b"\r\n\r\nok\n"));
 }
 
 #[test]
-fn memory_is_read_as_the_system_tells_it(rt: HostRuntime) {
+fn memory_is_read_as_the_system_reports_it(rt: HostRuntime) {
     assert!(rt; resident_in("7350 2141 1012 5 0 1892 0\n") == Some(8_769_536));
     assert!(rt; resident_in("7350") == None);
 }

@@ -1,8 +1,8 @@
 use Rattle.std.proofs.Common.{◌≡◌, ◌++◌, length, string_bytes}
-use Rattle.nmvs_figures.specs.Page.{bucket_lines, sync_count}
-use Rattle.nmvs_figures.proofs.page.bucket_lines.Given as goal
+use Rattle.nmvs_metrics.specs.Page.{bucket_lines, sync_count}
+use Rattle.nmvs_metrics.proofs.exposition.bucket_lines.Given as goal
 
--- what is told of the buckets so far, and then of the rest, is what is told of all; and so it is with their count
+-- the lines of the buckets so far, and then of the rest, are the lines of all; and so it is with their count
 abbrev pub invariant-loop-rest : goal.invariant-loop-rest
 invariant-loop-rest l =
     (string_bytes l.text ++ bucket_lines l.count l.rest ≡ bucket_lines 0 l.fn.syncs)

@@ -5,7 +5,7 @@ use crate::kinds::{
     place_of_fault, place_of_question, place_of_refusal, place_of_reply, word_of,
 };
 use crate::syncs::{BOUNDS, bucket_of, push_buckets};
-use crate::{Answered, Counted, Figures, JournalFigures, Numbered};
+use crate::{Answered, Counted, LogSnapshot, Numbered, Snapshot};
 use nmvs_messages::{Content, Released};
 use nmvs_rules::{Question, Reply};
 use nmvs_words::{QuestionKind, cause_word, refusal_word};
@@ -71,9 +71,9 @@ impl WorkerCounts {
     }
 }
 
-/// What is counted of the journals.
+/// What is counted of the log.
 #[derive(Drop)]
-struct JournalCounts {
+struct LogCounts {
     syncs: Counters,
     nanoseconds: AtomicU64,
     failures: AtomicU64,
@@ -82,7 +82,7 @@ struct JournalCounts {
 /// What a running server counts, from its start on. All its threads share it, and none waits for another; a count beyond
 /// 64 bits begins again at 0.
 #[derive(Drop)]
-pub struct Panel {
+pub struct Metrics {
     is_ready: AtomicBool,
     has_ended: AtomicBool,
     workers: Vec<WorkerCounts>,
@@ -90,11 +90,11 @@ pub struct Panel {
     packs: Counters,
     shards: usize,
     sessions: AtomicU64,
-    journal: Option<JournalCounts>,
+    log: Option<LogCounts>,
 }
 
-impl Panel {
-    /// A panel on which nothing is counted yet, of a server with so many workers and shards, with journals or without.
+impl Metrics {
+    /// Nothing is counted yet, of a server with so many workers and shards, with a log or without.
     ///
     /// # Errors
     ///
@@ -103,14 +103,14 @@ impl Panel {
         alloc: Global,
         workers: usize,
         shards: usize,
-        has_journal: bool,
-    ) -> Result<Panel, AllocError> {
+        has_log: bool,
+    ) -> Result<Metrics, AllocError> {
         let mut counts = Vec::with_capacity(alloc, workers)?;
         for _ in 0..workers {
             counts.push(WorkerCounts::new(alloc, shards)?)?;
         }
-        let journal = if has_journal {
-            Some(JournalCounts {
+        let log = if has_log {
+            Some(LogCounts {
                 syncs: Counters::new(alloc, BOUNDS.len() + 1)?,
                 nanoseconds: AtomicU64::new(0),
                 failures: AtomicU64::new(0),
@@ -118,7 +118,7 @@ impl Panel {
         } else {
             None
         };
-        Ok(Panel {
+        Ok(Metrics {
             is_ready: AtomicBool::new(false),
             has_ended: AtomicBool::new(false),
             workers: counts,
@@ -126,15 +126,15 @@ impl Panel {
             packs: Counters::new(alloc, shards)?,
             shards,
             sessions: AtomicU64::new(0),
-            journal,
+            log,
         })
     }
 
-    /// Where the worker of this number counts. One that the panel does not have counts nothing.
-    pub fn tally(&self, worker: usize) -> Tally<'_> {
-        Tally {
-            panel: self,
-            counts: self.workers.get(worker),
+    /// The metrics of the worker of this number. One that the server does not have counts nothing.
+    pub fn worker(&self, number: usize) -> WorkerMetrics<'_> {
+        WorkerMetrics {
+            metrics: self,
+            counts: self.workers.get(number),
         }
     }
 
@@ -164,11 +164,11 @@ impl Panel {
         self.packs.set(shard, packs);
     }
 
-    /// Notes that all entries of each shard are confirmed by its journal.
+    /// Notes that the log has confirmed all entries of each shard.
     pub fn note_all_confirmed(&self) {
-        let tally = self.tally(0);
+        let worker = self.worker(0);
         for shard in 0..self.shards {
-            tally.note_confirmed(shard, self.entries.at(shard));
+            worker.note_confirmed(shard, self.entries.at(shard));
         }
     }
 
@@ -177,19 +177,19 @@ impl Panel {
         self.sessions.fetch_add(1, Ordering::SeqCst);
     }
 
-    /// Notes that a sync of a journal succeeded and took so long.
+    /// Notes that a sync of the log succeeded and took so long.
     pub fn note_sync(&self, time: Duration) {
-        if let Some(journal) = &self.journal {
+        if let Some(log) = &self.log {
             let nanoseconds = nanoseconds_of(time);
-            journal.syncs.add(bucket_of(nanoseconds), 1);
-            journal.nanoseconds.fetch_add(nanoseconds, Ordering::SeqCst);
+            log.syncs.add(bucket_of(nanoseconds), 1);
+            log.nanoseconds.fetch_add(nanoseconds, Ordering::SeqCst);
         }
     }
 
-    /// Notes that a journal failed.
+    /// Notes that the log failed.
     pub fn note_failure(&self) {
-        if let Some(journal) = &self.journal {
-            journal.failures.fetch_add(1, Ordering::SeqCst);
+        if let Some(log) = &self.log {
+            log.failures.fetch_add(1, Ordering::SeqCst);
         }
     }
 }
@@ -199,20 +199,20 @@ fn nanoseconds_of(time: Duration) -> u64 {
     u64::try_from(time.as_nanos()).unwrap_or(u64::MAX)
 }
 
-/// Where one worker counts.
+/// The metrics of one worker.
 #[derive(Clone, Copy)]
-pub struct Tally<'p> {
-    panel: &'p Panel,
+pub struct WorkerMetrics<'p> {
+    metrics: &'p Metrics,
     counts: Option<&'p WorkerCounts>,
 }
 
-impl<'p> Tally<'p> {
+impl<'p> WorkerMetrics<'p> {
     /// Counts a question that was put, its reply, and its entry in this shard.
     pub fn note_put(&self, shard: usize, question: &Question, reply: &Reply) {
         self.note_reply(question, reply);
-        self.panel.entries.add(shard, 1);
+        self.metrics.entries.add(shard, 1);
         if matches!(reply, Reply::Uploaded) {
-            self.panel.packs.add(shard, 1);
+            self.metrics.packs.add(shard, 1);
         }
     }
 
@@ -221,8 +221,8 @@ impl<'p> Tally<'p> {
         self.add(Row::Single, REPORTS);
     }
 
-    /// Counts the faults among answers that are told.
-    pub fn note_told(&self, released: &Released<'_, '_>) {
+    /// Counts the faults among answers that are sent.
+    pub fn note_answers(&self, released: &Released<'_, '_>) {
         for place in 0..released.len() {
             let Some(answer) = released.answer(place) else {
                 return;
@@ -240,7 +240,7 @@ impl<'p> Tally<'p> {
         self.add(Row::Faults, place_of_fault(fault));
     }
 
-    /// Notes that so many entries of a shard are confirmed by its journal, as the worker learns: no fewer than before.
+    /// Notes that the log has confirmed so many entries of a shard, as the worker learns: no fewer than before.
     pub fn note_confirmed(&self, shard: usize, count: u64) {
         if let Some(counts) = self.counts {
             counts.confirmed.set(shard, count);
@@ -267,8 +267,8 @@ impl<'p> Tally<'p> {
     /// Counts a question that had this reply.
     fn note_reply(&self, question: &Question, reply: &Reply) {
         let asked = place_of_question(QuestionKind::of(question));
-        let told = place_of_reply(kind_of_reply(reply));
-        self.add(Row::Answered, asked * REPLIES.len() + told);
+        let replied = place_of_reply(kind_of_reply(reply));
+        self.add(Row::Answered, asked * REPLIES.len() + replied);
         match reply {
             Reply::Alert {
                 cause,
@@ -281,14 +281,14 @@ impl<'p> Tally<'p> {
     }
 }
 
-impl Panel {
-    /// What is counted now, and how many bytes of memory the process has, where the system tells it.
+impl Metrics {
+    /// What is counted now, and how many bytes of memory the process has, where the system reports it.
     ///
     /// # Errors
     ///
     /// There is no memory for the lists.
-    pub fn figures(&self, alloc: Global, resident: Option<u64>) -> Result<Figures, AllocError> {
-        let mut figures = Figures {
+    pub fn snapshot(&self, alloc: Global, resident: Option<u64>) -> Result<Snapshot, AllocError> {
+        let mut snapshot = Snapshot {
             ready: self.is_ready(),
             answered: Vec::new(alloc),
             refusals: Vec::new(alloc),
@@ -300,23 +300,23 @@ impl Panel {
             sessions: self.sessions.load(Ordering::SeqCst),
             entries: Vec::new(alloc),
             packs: Vec::new(alloc),
-            journal: self.journal_figures(alloc)?,
+            log: self.log_snapshot(alloc)?,
             resident,
         };
-        self.push_all(&mut figures)?;
-        Ok(figures)
+        self.push_all(&mut snapshot)?;
+        Ok(snapshot)
     }
 
-    /// Adds what is counted beside the journals.
-    fn push_all(&self, figures: &mut Figures) -> Result<(), AllocError> {
-        self.push_answered(&mut figures.answered)?;
-        self.push_refusals(&mut figures.refusals)?;
-        self.push_alerts(&mut figures.alerts)?;
-        self.push_faults(&mut figures.faults)?;
-        self.push_open(&mut figures.open)?;
-        self.push_accepted(&mut figures.accepted)?;
-        self.push_shards(&mut figures.entries, &self.entries)?;
-        self.push_shards(&mut figures.packs, &self.packs)
+    /// Adds what is counted beside the log.
+    fn push_all(&self, snapshot: &mut Snapshot) -> Result<(), AllocError> {
+        self.push_answered(&mut snapshot.answered)?;
+        self.push_refusals(&mut snapshot.refusals)?;
+        self.push_alerts(&mut snapshot.alerts)?;
+        self.push_faults(&mut snapshot.faults)?;
+        self.push_open(&mut snapshot.open)?;
+        self.push_accepted(&mut snapshot.accepted)?;
+        self.push_shards(&mut snapshot.entries, &self.entries)?;
+        self.push_shards(&mut snapshot.packs, &self.packs)
     }
 
     /// What all workers have counted at this place of a row.
@@ -426,36 +426,32 @@ impl Panel {
         confirmed
     }
 
-    fn journal_figures(&self, alloc: Global) -> Result<Option<JournalFigures>, AllocError> {
-        let Some(journal) = &self.journal else {
+    fn log_snapshot(&self, alloc: Global) -> Result<Option<LogSnapshot>, AllocError> {
+        let Some(log) = &self.log else {
             return Ok(None);
         };
-        let mut figures = JournalFigures {
+        let mut snapshot = LogSnapshot {
             confirmed: Vec::new(alloc),
             waiting: Vec::new(alloc),
             syncs: Vec::new(alloc),
-            nanoseconds: journal.nanoseconds.load(Ordering::SeqCst),
-            failures: journal.failures.load(Ordering::SeqCst),
+            nanoseconds: log.nanoseconds.load(Ordering::SeqCst),
+            failures: log.failures.load(Ordering::SeqCst),
         };
-        self.push_journal(&mut figures, journal)?;
-        Ok(Some(figures))
+        self.push_log(&mut snapshot, log)?;
+        Ok(Some(snapshot))
     }
 
-    /// Adds what is counted of the journals of the shards, and of syncs.
-    fn push_journal(
-        &self,
-        figures: &mut JournalFigures,
-        journal: &JournalCounts,
-    ) -> Result<(), AllocError> {
+    /// Adds what the log has confirmed of each shard, and the syncs.
+    fn push_log(&self, snapshot: &mut LogSnapshot, log: &LogCounts) -> Result<(), AllocError> {
         for shard in 0..self.shards {
             let (number, kept) = (shard as u64, self.confirmed(shard));
             let value = self.entries.at(shard).saturating_sub(kept);
-            figures.confirmed.push(Numbered {
+            snapshot.confirmed.push(Numbered {
                 number,
                 value: kept,
             })?;
-            figures.waiting.push(Numbered { number, value })?;
+            snapshot.waiting.push(Numbered { number, value })?;
         }
-        push_buckets(&mut figures.syncs, &journal.syncs)
+        push_buckets(&mut snapshot.syncs, &log.syncs)
     }
 }

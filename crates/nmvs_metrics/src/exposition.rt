@@ -1,9 +1,9 @@
-//! The page of figures.
+//! The page of metrics.
 ghost use Rattle.std.specs.Prelude.{◌≡◌, IfOk, string_bytes};
 ghost use Rattle.std.specs.List.{flat_map};
-ghost use Rattle.nmvs_figures.specs.Page as specs;
+ghost use Rattle.nmvs_metrics.specs.Page as specs;
 
-use crate::{Answered, Bucket, Counted, Figures, JournalFigures, Numbered};
+use crate::{Answered, Bucket, Counted, LogSnapshot, Numbered, Snapshot};
 use itoa::Buffer;
 use std::alloc::{AllocError, Global};
 
@@ -15,33 +15,33 @@ struct Family {
     help: &'static str,
 }
 
-/// The figures as a page in the text format of Prometheus, version 0.0.4.
+/// A snapshot as a page in the text format of Prometheus, version 0.0.4.
 ///
 /// # Errors
 ///
 /// There is no memory for the text.
-pub fn figures_page(alloc: Global, figures: &Figures) -> Result<String, AllocError>
-    ensures { IfOk result (λ text. string_bytes text ≡ specs.page figures.now) }
+pub fn encode(alloc: Global, snapshot: &Snapshot) -> Result<String, AllocError>
+    ensures { IfOk result (λ text. string_bytes text ≡ specs.page snapshot.now) }
 {
-    let process = process_text(alloc, figures)?;
-    let lines = lines_text(alloc, figures)?;
-    let connections = connections_text(alloc, figures)?;
-    let trail = trail_text(alloc, figures)?;
-    let journal = journal_text(alloc, &figures.journal)?;
-    format!(in alloc; "{process}{lines}{connections}{trail}{journal}")
+    let process = process_text(alloc, snapshot)?;
+    let lines = lines_text(alloc, snapshot)?;
+    let connections = connections_text(alloc, snapshot)?;
+    let trail = trail_text(alloc, snapshot)?;
+    let log = log_text(alloc, &snapshot.log)?;
+    format!(in alloc; "{process}{lines}{connections}{trail}{log}")
 }
 
 #[tactic(auto, unfolding(crate::specs::Page::process_text))]
-fn process_text(alloc: Global, figures: &Figures) -> Result<String, AllocError>
-    ensures { IfOk result (λ text. string_bytes text ≡ specs.process_text figures.now) }
+fn process_text(alloc: Global, snapshot: &Snapshot) -> Result<String, AllocError>
+    ensures { IfOk result (λ text. string_bytes text ≡ specs.process_text snapshot.now) }
 {
     let ready = Family {
         name: "nmvs_ready",
         kind: "gauge",
         help: "Whether the server listens, 1 or 0.",
     };
-    let ready = single(alloc, ready, if figures.ready { 1 } else { 0 })?;
-    let resident = resident_text(alloc, figures.resident)?;
+    let ready = single(alloc, ready, if snapshot.ready { 1 } else { 0 })?;
+    let resident = resident_text(alloc, snapshot.resident)?;
     format!(in alloc; "{ready}{resident}")
 }
 
@@ -61,8 +61,8 @@ fn resident_text(alloc: Global, bytes: Option<u64>) -> Result<String, AllocError
 }
 
 #[tactic(auto, unfolding(crate::specs::Page::lines_text))]
-fn lines_text(alloc: Global, figures: &Figures) -> Result<String, AllocError>
-    ensures { IfOk result (λ text. string_bytes text ≡ specs.lines_text figures.now) }
+fn lines_text(alloc: Global, snapshot: &Snapshot) -> Result<String, AllocError>
+    ensures { IfOk result (λ text. string_bytes text ≡ specs.lines_text snapshot.now) }
 {
     let reports = Family {
         name: "nmvs_reports_total",
@@ -74,16 +74,16 @@ fn lines_text(alloc: Global, figures: &Figures) -> Result<String, AllocError>
         kind: "counter",
         help: "Lines and connections that were answered with a fault, by its word.",
     };
-    let questions = questions_text(alloc, &figures.answered)?;
-    let warnings = warnings_text(alloc, figures)?;
-    let reports = single(alloc, reports, figures.reports)?;
-    let faults = worded(alloc, faults, "fault", &figures.faults)?;
+    let questions = questions_text(alloc, &snapshot.answered)?;
+    let warnings = warnings_text(alloc, snapshot)?;
+    let reports = single(alloc, reports, snapshot.reports)?;
+    let faults = worded(alloc, faults, "fault", &snapshot.faults)?;
     format!(in alloc; "{questions}{warnings}{reports}{faults}")
 }
 
 #[tactic(auto, unfolding(crate::specs::Page::warnings_text))]
-fn warnings_text(alloc: Global, figures: &Figures) -> Result<String, AllocError>
-    ensures { IfOk result (λ text. string_bytes text ≡ specs.warnings_text figures.now) }
+fn warnings_text(alloc: Global, snapshot: &Snapshot) -> Result<String, AllocError>
+    ensures { IfOk result (λ text. string_bytes text ≡ specs.warnings_text snapshot.now) }
 {
     let refusals = Family {
         name: "nmvs_refusals_total",
@@ -95,14 +95,14 @@ fn warnings_text(alloc: Global, figures: &Figures) -> Result<String, AllocError>
         kind: "counter",
         help: "Alerts that were flagged as potential falsifications, by their cause.",
     };
-    let refusals = worded(alloc, refusals, "refusal", &figures.refusals)?;
-    let alerts = worded(alloc, alerts, "cause", &figures.alerts)?;
+    let refusals = worded(alloc, refusals, "refusal", &snapshot.refusals)?;
+    let alerts = worded(alloc, alerts, "cause", &snapshot.alerts)?;
     format!(in alloc; "{refusals}{alerts}")
 }
 
 #[tactic(auto, unfolding(crate::specs::Page::connections_text))]
-fn connections_text(alloc: Global, figures: &Figures) -> Result<String, AllocError>
-    ensures { IfOk result (λ text. string_bytes text ≡ specs.connections_text figures.now) }
+fn connections_text(alloc: Global, snapshot: &Snapshot) -> Result<String, AllocError>
+    ensures { IfOk result (λ text. string_bytes text ≡ specs.connections_text snapshot.now) }
 {
     let open = Family {
         name: "nmvs_connections_open",
@@ -119,15 +119,15 @@ fn connections_text(alloc: Global, figures: &Figures) -> Result<String, AllocErr
         kind: "counter",
         help: "Sessions that have begun in which a line is served.",
     };
-    let open = numbered(alloc, open, "worker", &figures.open)?;
-    let accepted = numbered(alloc, accepted, "worker", &figures.accepted)?;
-    let sessions = single(alloc, sessions, figures.sessions)?;
+    let open = numbered(alloc, open, "worker", &snapshot.open)?;
+    let accepted = numbered(alloc, accepted, "worker", &snapshot.accepted)?;
+    let sessions = single(alloc, sessions, snapshot.sessions)?;
     format!(in alloc; "{open}{accepted}{sessions}")
 }
 
 #[tactic(auto, unfolding(crate::specs::Page::trail_text))]
-fn trail_text(alloc: Global, figures: &Figures) -> Result<String, AllocError>
-    ensures { IfOk result (λ text. string_bytes text ≡ specs.trail_text figures.now) }
+fn trail_text(alloc: Global, snapshot: &Snapshot) -> Result<String, AllocError>
+    ensures { IfOk result (λ text. string_bytes text ≡ specs.trail_text snapshot.now) }
 {
     let entries = Family {
         name: "nmvs_entries",
@@ -139,16 +139,16 @@ fn trail_text(alloc: Global, figures: &Figures) -> Result<String, AllocError>
         kind: "gauge",
         help: "Packs that the repository knows, by shard.",
     };
-    let entries = numbered(alloc, entries, "shard", &figures.entries)?;
-    let packs = numbered(alloc, packs, "shard", &figures.packs)?;
+    let entries = numbered(alloc, entries, "shard", &snapshot.entries)?;
+    let packs = numbered(alloc, packs, "shard", &snapshot.packs)?;
     format!(in alloc; "{entries}{packs}")
 }
 
-#[tactic(auto, unfolding(crate::specs::Page::journal_text))]
-fn journal_text(alloc: Global, journal: &Option<JournalFigures>) -> Result<String, AllocError>
-    ensures { IfOk result (λ text. string_bytes text ≡ specs.journal_text journal.now) }
+#[tactic(auto, unfolding(crate::specs::Page::log_text))]
+fn log_text(alloc: Global, log: &Option<LogSnapshot>) -> Result<String, AllocError>
+    ensures { IfOk result (λ text. string_bytes text ≡ specs.log_text log.now) }
 {
-    let Some(journal) = journal else {
+    let Some(log) = log else {
         return Ok(String::new(alloc));
     };
     let confirmed = Family {
@@ -166,10 +166,10 @@ fn journal_text(alloc: Global, journal: &Option<JournalFigures>) -> Result<Strin
         kind: "counter",
         help: "Journals whose file failed.",
     };
-    let confirmed = numbered(alloc, confirmed, "shard", &journal.confirmed)?;
-    let waiting = numbered(alloc, waiting, "shard", &journal.waiting)?;
-    let syncs = syncs_text(alloc, &journal.syncs, journal.nanoseconds)?;
-    let failures = single(alloc, failures, journal.failures)?;
+    let confirmed = numbered(alloc, confirmed, "shard", &log.confirmed)?;
+    let waiting = numbered(alloc, waiting, "shard", &log.waiting)?;
+    let syncs = syncs_text(alloc, &log.syncs, log.nanoseconds)?;
+    let failures = single(alloc, failures, log.failures)?;
     format!(in alloc; "{confirmed}{waiting}{syncs}{failures}")
 }
 

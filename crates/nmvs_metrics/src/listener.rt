@@ -1,8 +1,8 @@
-//! Where figures are told, over HTTP.
+//! The port of metrics, over HTTP.
 ghost use Rattle.std.specs.Prelude.{◌<◌, vec_len};
 
-use crate::Panel;
-use crate::visit::Guide;
+use crate::Metrics;
+use crate::service::MetricsService;
 use http_server::{Config, Connection, Service};
 use mio::net::{TcpListener, TcpStream};
 use mio::{Events, Interest, Poll, Token};
@@ -16,53 +16,53 @@ use std::rt::{Clock, Files};
 use std::time::{Duration, Instant};
 use std::{fs, io};
 
-/// How many visitors there are at once at most; others wait until one has gone (own).
-const MOST_VISITS: usize = 16;
+/// How many clients are served at once at most; others wait until one has gone (own).
+const MOST_CLIENTS: usize = 16;
 
-/// For how many seconds a visitor stays at most, answered or not (own).
-const PATIENCE: u64 = 5;
+/// For how many seconds a client stays at most, answered or not (own).
+const TIMEOUT: u64 = 5;
 
-/// How many milliseconds behind each other the end of the server is looked for, and visitors that stayed too long (own).
+/// How many milliseconds behind each other the end of the server is looked for, and clients that stayed too long (own).
 const TICK: u64 = 200;
 
-/// How many reads and writes a visitor has one behind the other, while others may wait (own).
+/// How many reads and writes a client has one behind the other, while others may wait (own).
 const MOST_STEPS: u64 = 64;
 
-/// What tells how much memory the process has (Linux, proc(5)).
+/// The file that reports how much memory the process has (Linux, proc(5)).
 const MEMORY: &str = "/proc/self/statm";
 
-/// The token of the listener and of each visitor: at each wake-up all of them are looked at.
+/// The token of the listener and of each client: at each wake-up all of them are looked at.
 const ANY: Token = Token(0);
 
-/// A port of this machine alone, at which figures are told.
+/// A port of this machine alone, at which metrics are served.
 #[derive(Drop)]
-pub struct Booth {
+pub struct MetricsListener {
     listener: TcpListener,
     poll: Poll,
-    /// What the system tells of the memory of the process, where it does.
+    /// The system's report of the memory of the process, where there is one.
     memory: Option<File>,
 }
 
-impl Booth {
+impl MetricsListener {
     /// Listens on this port of 127.0.0.1; port 0 is any that is free.
     ///
     /// # Errors
     ///
     /// The system refuses it.
-    pub fn open<R: Net + Files<File = File>>(rt: &R, port: u16) -> io::Result<Booth> {
+    pub fn open<R: Net + Files<File = File>>(rt: &R, port: u16) -> io::Result<MetricsListener> {
         let mut listener = TcpListener::bind(rt, SocketAddr::from((Ipv4Addr::LOCALHOST, port)))?;
         let poll = Poll::new(rt)?;
         poll.registry()
             .register(&mut listener, ANY, Interest::READABLE)?;
         let memory = fs::open(rt, MEMORY).ok();
-        Ok(Booth {
+        Ok(MetricsListener {
             listener,
             poll,
             memory,
         })
     }
 
-    /// The port, where the system tells it.
+    /// The port, where the system reports it.
     pub fn port(&self) -> Option<u16> {
         self.listener
             .local_addr()
@@ -71,88 +71,88 @@ impl Booth {
     }
 }
 
-/// Tells the figures of the panel to visitors, until the panel has it that the server ends: then for less than a second.
-/// A visitor that stays for 5 seconds is sent away, and of 16 at once no other is let in.
+/// Serves the metrics to clients, until they note that the server ends: then for less than a second. A client that stays for
+/// 5 seconds is closed, and while 16 are served no other is accepted.
 ///
 /// # Errors
 ///
 /// The system refused to wait, the clock can't be read, or there is no memory for the events.
-pub fn tell_figures<R: Clock + RandomSource>(
+pub fn serve_metrics<R: Clock + RandomSource>(
     rt: &R,
     alloc: Global,
-    booth: Booth,
-    panel: &Panel,
+    listener: MetricsListener,
+    metrics: &Metrics,
 ) -> io::Result<()> {
-    let mut booth = booth;
-    let mut events = Events::with_capacity(alloc, MOST_VISITS)?;
-    let mut visits = Vec::with_capacity(alloc, MOST_VISITS)?;
-    booth.receive(rt, alloc, panel, &mut events, &mut visits)
+    let mut listener = listener;
+    let mut events = Events::with_capacity(alloc, MOST_CLIENTS)?;
+    let mut clients = Vec::with_capacity(alloc, MOST_CLIENTS)?;
+    listener.serve(rt, alloc, metrics, &mut events, &mut clients)
 }
 
-/// A visitor: a connection, its requests and answers, and when it came.
+/// A client: a connection, its requests and answers, and when it was accepted.
 #[derive(Drop)]
-struct Visit {
+struct Client {
     stream: TcpStream,
     connection: Connection,
-    came: Instant,
+    accepted: Instant,
 }
 
-impl Booth {
-    /// Lets visitors in, and goes on with them, until the panel has it that the server ends.
-    fn receive<R: Clock + RandomSource>(
+impl MetricsListener {
+    /// Accepts clients, and goes on with them, until the metrics note that the server ends.
+    fn serve<R: Clock + RandomSource>(
         &mut self,
         rt: &R,
         alloc: Global,
-        panel: &Panel,
+        metrics: &Metrics,
         events: &mut Events,
-        visits: &mut Vec<Visit>,
+        clients: &mut Vec<Client>,
     ) -> io::Result<()> {
         for _ in 0..u64::MAX {
             self.poll.poll(events, Some(Duration::from_millis(TICK)))?;
-            if panel.has_ended() {
+            if metrics.has_ended() {
                 return Ok(());
             }
             let now = Instant::now(rt)?;
-            self.admit_all(rt, alloc, now, visits);
+            self.accept_all(rt, alloc, now, clients);
             let memory = self.memory.as_ref();
-            let mut guide = Guide::new(alloc, panel, memory);
-            step_all(&mut guide, now, visits);
+            let mut service = MetricsService::new(alloc, metrics, memory);
+            step_all(&mut service, now, clients);
         }
         Ok(())
     }
 
-    /// Lets in the visitors that wait, as far as there is room. One that can't be let in is sent away.
-    fn admit_all<R: RandomSource>(
+    /// Accepts the clients that wait, as far as there is room. One that can't be served is closed.
+    fn accept_all<R: RandomSource>(
         &self,
         rt: &R,
         alloc: Global,
         now: Instant,
-        visits: &mut Vec<Visit>,
+        clients: &mut Vec<Client>,
     ) {
-        for _ in visits.len()..MOST_VISITS {
-            let is_admitted = match self.listener.accept() {
-                Ok((stream, _peer)) => self.admit(rt, alloc, now, stream, visits).is_ok(),
+        for _ in clients.len()..MOST_CLIENTS {
+            let is_accepted = match self.listener.accept() {
+                Ok((stream, _peer)) => self.add(rt, alloc, now, stream, clients).is_ok(),
                 Err(_) => false,
             };
-            if !is_admitted {
+            if !is_accepted {
                 return;
             }
         }
     }
 
-    /// Lets in a visitor whose stream can be watched.
-    fn admit<R: RandomSource>(
+    /// Adds a client whose stream can be watched.
+    fn add<R: RandomSource>(
         &self,
         rt: &R,
         alloc: Global,
         now: Instant,
         stream: TcpStream,
-        visits: &mut Vec<Visit>,
+        clients: &mut Vec<Client>,
     ) -> io::Result<()> {
         let keys = RandomState::new(rt)?;
         if let Some(stream) = self.watched(stream) {
             let connection = Connection::new(alloc, keys, config());
-            push_visit(visits, stream, connection, now);
+            push_client(clients, stream, connection, now);
         }
         Ok(())
     }
@@ -168,11 +168,16 @@ impl Booth {
     }
 }
 
-fn push_visit(visits: &mut Vec<Visit>, stream: TcpStream, connection: Connection, came: Instant) {
-    let _room_was_made = visits.push(Visit {
+fn push_client(
+    clients: &mut Vec<Client>,
+    stream: TcpStream,
+    connection: Connection,
+    accepted: Instant,
+) {
+    let _room_was_made = clients.push(Client {
         stream,
         connection,
-        came,
+        accepted,
     });
 }
 
@@ -183,28 +188,28 @@ fn config() -> Config {
     config
 }
 
-/// Goes on with each visitor, and lets those go that are done or stayed too long.
-fn step_all<S: Service>(service: &mut S, now: Instant, visits: &mut Vec<Visit>) {
-    for place in (0..visits.len()).rev() {
-        let stays = match visits.get_mut(place) {
-            Some(visit) => visit.step(service) && !visit.is_late(now),
+/// Goes on with each client, and closes those that are done or stayed too long.
+fn step_all<S: Service>(service: &mut S, now: Instant, clients: &mut Vec<Client>) {
+    for place in (0..clients.len()).rev() {
+        let stays = match clients.get_mut(place) {
+            Some(client) => client.step(service) && !client.is_late(now),
             None => continue,
         };
         if !stays {
-            send_away(visits, place);
+            close(clients, place);
         }
     }
 }
 
-/// Lets the visitor at this place go.
-fn send_away(visits: &mut Vec<Visit>, place: usize)
-    requires { place < vec_len visits.old }
+/// Closes the client at this place.
+fn close(clients: &mut Vec<Client>, place: usize)
+    requires { place < vec_len clients.old }
 {
-    visits.swap_remove(place);
+    clients.swap_remove(place);
 }
 
-impl Visit {
-    /// Reads, answers and writes as far as that goes without waiting, and tells whether the visitor stays.
+impl Client {
+    /// Reads, answers and writes as far as that goes without waiting, and answers whether the client stays.
     fn step<S: Service>(&mut self, service: &mut S) -> bool {
         for _ in 0..MOST_STEPS {
             self.connection.advance(service);
@@ -233,6 +238,6 @@ impl Visit {
     }
 
     fn is_late(&self, now: Instant) -> bool {
-        now.duration_since(self.came).as_secs() >= PATIENCE
+        now.duration_since(self.accepted).as_secs() >= TIMEOUT
     }
 }

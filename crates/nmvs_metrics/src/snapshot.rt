@@ -26,14 +26,14 @@ pub struct Numbered {
 /// How many syncs took no longer than this, and longer than the bucket before it says.
 #[derive(Clone, Copy)]
 pub struct Bucket {
-    /// In seconds, as it is told.
+    /// In seconds, as the page has it.
     pub bound: &'static str,
     pub count: u64,
 }
 
-/// What a server has counted of its journals.
+/// What a server has counted of its log.
 #[derive(Drop)]
-pub struct JournalFigures {
+pub struct LogSnapshot {
     /// How many entries of each shard are confirmed.
     pub confirmed: Vec<Numbered>,
     /// How many entries of each shard are not confirmed yet.
@@ -42,13 +42,13 @@ pub struct JournalFigures {
     pub syncs: Vec<Bucket>,
     /// How many nanoseconds all of them took.
     pub nanoseconds: u64,
-    /// How many journals failed.
+    /// How often the log failed.
     pub failures: u64,
 }
 
 /// What a server has counted, at one moment.
 #[derive(Drop)]
-pub struct Figures {
+pub struct Snapshot {
     /// Whether it listens.
     pub ready: bool,
     /// Of the kinds of questions and replies those that have come.
@@ -57,7 +57,7 @@ pub struct Figures {
     pub refusals: Vec<Counted>,
     /// The alerts that were flagged, by the words of their causes.
     pub alerts: Vec<Counted>,
-    /// How many reports were told.
+    /// How many reports were given.
     pub reports: u64,
     /// The lines that were answered with a fault, by its word.
     pub faults: Vec<Counted>,
@@ -71,8 +71,8 @@ pub struct Figures {
     pub entries: Vec<Numbered>,
     /// How many packs each shard has.
     pub packs: Vec<Numbered>,
-    /// Of the journals, where there are journals.
-    pub journal: Option<JournalFigures>,
-    /// How many bytes of memory the process has, where the system tells it.
+    /// Of the log, where there is one.
+    pub log: Option<LogSnapshot>,
+    /// How many bytes of memory the process has, where the system reports it.
     pub resident: Option<u64>,
 }

@@ -1,4 +1,4 @@
-//! How long syncs of journals take.
+//! How long syncs of the log take.
 ghost use Rattle.std.specs.Prelude.{◌≡◌, ◌<◌, ◌≤◌, ℕ, Some, slice_get};
 
 use crate::Bucket;
@@ -20,7 +20,7 @@ pub(crate) const BOUNDS: [u64; 11] = [
     10_000_000_000,
 ];
 
-/// The same in seconds, as it is told, and what is told of the last bucket.
+/// The same in seconds, as the page has it, and the bound of the last bucket.
 const SECONDS: [&str; 12] = [
     "0.0001", "0.0005", "0.001", "0.005", "0.01", "0.05", "0.1", "0.5", "1", "5", "10", "+Inf",
 ];
