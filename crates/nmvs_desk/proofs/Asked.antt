@@ -1,5 +1,5 @@
 -- A clerk that was answered, or that looked at a shard, is a clerk, and has seen more of that shard alone.
-use Rattle.std.proofs.Common.{◌≡◌, ◌≢◌, ◌<◌, ◌==◌, ℕ, zero, suc, List, [], ◌∷◌, ◌++◌, map, set, cond, sym, refl, ap, ◌∙◌, subst, arith, inl, inr, eq-eqb, ne_eqb, length-set, append-nil, append_assoc}
+use Rattle.std.proofs.Common.{◌≡◌, ◌≢◌, ◌<◌, ◌==◌, ℕ, zero, suc, Bool, List, [], ◌∷◌, ◌++◌, map, set, cond, sym, refl, ap, ◌∙◌, subst, arith, inl, inr, eq-eqb, ne_eqb, length-set, append-nil, append_assoc}
 use Rattle.std.specs.Prelude.{Some, slice_get, filter}
 use Rattle.std.proofs.lemmas.Option.{slice_get_within, same_Some}
 use Rattle.std.proofs.lemmas.List.{map-append}
@@ -17,7 +17,7 @@ use Rattle.nmvs_shard.specs.declared.shard.Outcome.{Outcome}
 use Rattle.nmvs_shard.specs.declared.shard.Outcome.TheVariants as outcome
 use Rattle.nmvs_shard.specs.Asking.{Asks}
 use Rattle.nmvs_desk.specs.declared.ask.Receipt.{Receipt}
-use Rattle.nmvs_desk.specs.Answers.{Answers, Becomes, IsShown, new_places, new_receipts}
+use Rattle.nmvs_desk.specs.Answers.{Answers, Becomes, IsShown, new_places, new_receipts, receipts_then}
 use Rattle.nmvs_desk.specs.Clerks.{IsTokenOf, Stands, IsClerk}
 use Rattle.nmvs_desk.specs.Settlement.{row, places_in, AreOwn, Rises}
 use Rattle.nmvs_desk.specs.Views.{ClerkView, sights_of, places_of}
@@ -71,8 +71,8 @@ same_places (t ∷ ts) zero was now has same = ap (λ ps. ps ∷ places_of ts) (
 same_places (t ∷ ts) (suc i) was now has same = ap (λ ps. t.places ∷ ps) (same_places ts i was now has same)
 
 -- what a clause sees of a clerk
-abbrev pub clerk : List Change → List TokenView → List Receipt → ClerkView
-clerk seen tokens receipts = record { seen = seen; sights = sights_of tokens; places = places_of tokens; receipts = receipts }
+abbrev pub clerk : List Change → List TokenView → List Receipt → Bool → ClerkView
+clerk seen tokens receipts keeps = record { seen = seen; sights = sights_of tokens; places = places_of tokens; receipts = receipts; keeps = keeps }
 
 module _ (tables : ℕ → HistoryId) (count : ℕ) (tokens : List TokenView) (receipts : List Receipt) (is : IsClerk tables count tokens receipts) (index : ℕ) (was now : TokenView) (has : slice_get tokens index ≡ Some was) where
   after_set : slice_get (set tokens index now) index ≡ Some now
@@ -217,9 +217,9 @@ module _ (tables : ℕ → HistoryId) (count : ℕ) (tokens : List TokenView) (r
   asked put outcome.Other b = subst (λ l. IsClerk tables count (set tokens index now) l) (sym (append-nil receipts)) (looked (shown_now put outcome.Other b) (no_place put outcome.Other b refl))
 
   -- and what it is answered
-  pub answers : {A : Type 0} (seen : List Change) (put : Put) (o : Outcome A) → Becomes count index put was now o
-      → Answers count index put (clerk seen tokens receipts) (clerk seen (set tokens index now) (receipts ++ new_receipts index put o)) o
-  answers seen put o b =
+  pub answers : {A : Type 0} (seen : List Change) (keeps : Bool) (put : Put) (o : Outcome A) → Becomes count index put was now o
+      → Answers count index put (clerk seen tokens receipts keeps) (clerk seen (set tokens index now) (receipts_then keeps receipts index put o) keeps) o
+  answers seen keeps put o b =
       let before = sym (sight_of tokens index was has) in
       let after = sym (sight_of (set tokens index now) index now after_set) in
       record {
@@ -230,5 +230,6 @@ module _ (tables : ℕ → HistoryId) (count : ℕ) (tokens : List TokenView) (r
         owned = own_of (set tokens index now) index now after_set ∙ ap (λ (k : TokenView). k.places) b.token ∙ ap (λ l. l ++ new_places o) (sym (own_of tokens index was has));
         others = λ i apart. (sight_else tokens index i now apart, own_else tokens index i now apart);
         receipts = refl;
+        keeps = refl;
         seen = refl;
       }

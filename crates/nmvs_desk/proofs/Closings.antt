@@ -76,7 +76,7 @@ module _ (tables : ℕ → HistoryId) (opening : ℕ → List Entry) (count : �
 
     pub settled_then : (c : ClerkView) → sights_of tokens ≡ c.sights → places_of tokens ≡ c.places → receipts ≡ c.receipts → IsSettled trails c
     settled_then c sights owned held =
-        subst (λ (p : List (List Entry) × (List (List ℕ) × List Receipt)). IsSettled trails (record { seen = c.seen; sights = p.0; places = p.1.0; receipts = p.1.1 })) (λ i. (sights i, (owned i, held i))) (record {
+        subst (λ (p : List (List Entry) × (List (List ℕ) × List Receipt)). IsSettled trails (record { seen = c.seen; sights = p.0; places = p.1.0; receipts = p.1.1; keeps = c.keeps })) (λ i. (sights i, (owned i, held i))) (record {
           seen = begins;
           stand = λ n r there. (let it = is.stand n r there in
               prefix_get it.token.seen (row trails r.shard) r.place r.entry (subst (λ t. IsPrefix t (row trails r.shard)) (sight_of tokens r.shard it.token it.is) (begins r.shard)) it.stands);

@@ -1,5 +1,5 @@
 -- What an answer tells.
-use Rattle.std.specs.Prelude.{ℕ, ◌≡◌, ◌≢◌, List, [], ◌∷◌, ◌++◌}
+use Rattle.std.specs.Prelude.{ℕ, ◌≡◌, ◌≢◌, Bool, true, false, List, [], ◌∷◌, ◌++◌}
 use mathlib.Core.List.{IsPrefix}
 use Rattle.nmvs_history.specs.Views.{TokenView}
 use Rattle.nmvs_rules.specs.declared.entry.Entry.{Entry}
@@ -32,6 +32,11 @@ abbrev pub new_receipts : {A : Type 0} → ℕ → Put → Outcome A → List Re
 new_receipts index put (outcome.New a) = record { shard = index; place = a.place; entry = answered put a.reply } ∷ []
 new_receipts index put _ = []
 
+-- the receipts that a clerk then has in hand, where it keeps receipts: those of before, and the new one; else none
+abbrev pub receipts_then : {A : Type 0} → Bool → List Receipt → ℕ → Put → Outcome A → List Receipt
+receipts_then true receipts index put o = receipts ++ new_receipts index put o
+receipts_then false receipts index put o = []
+
 -- what becomes of a question in the shard of this number, and of the token by which it is asked: it is answered on a trail of
 -- the shard that begins with all that the token had seen; now the token has seen what the answer left, and owns the place of
 -- the entry, where the question was put
@@ -44,7 +49,7 @@ pub record Becomes {A : Type 0} (count index : ℕ) (put : Put) (was now : Token
 
 -- what a clerk is answered in the shard of this number: the question is answered on a trail of the shard that begins with all
 -- that the clerk had seen of it; now the clerk has seen what the answer left, and no more of another shard. Where the question
--- was put, its entry's place is the clerk's own, and its receipt is in hand; nothing else is
+-- was put, its entry's place is the clerk's own, and its receipt is in hand if the clerk keeps receipts; nothing else is
 pub record Answers {A : Type 0} (count index : ℕ) (put : Put) (old new : ClerkView) (o : Outcome A) : Type 0 where
   pub trail : List Entry
   pub shown : IsShown count index (row old.sights index) trail
@@ -52,5 +57,6 @@ pub record Answers {A : Type 0} (count index : ℕ) (put : Put) (old new : Clerk
   pub later : IsShown count index trail (row new.sights index)
   pub owned : row new.places index ≡ row old.places index ++ new_places o
   pub others : (i : ℕ) → i ≢ index → (row new.sights i ≡ row old.sights i) × (row new.places i ≡ row old.places i)
-  pub receipts : new.receipts ≡ old.receipts ++ new_receipts index put o
+  pub receipts : new.receipts ≡ receipts_then old.keeps old.receipts index put o
+  pub keeps : new.keeps ≡ old.keeps
   pub seen : new.seen ≡ old.seen

@@ -1,5 +1,5 @@
 -- What a clause sees of a locked shard, a clerk and a repository.
-use Rattle.std.specs.Prelude.{◌≡◌, ℕ, ◌<◌, List, length, map, slice_index}
+use Rattle.std.specs.Prelude.{◌≡◌, ℕ, ◌<◌, Bool, List, length, map, slice_index}
 use Rattle.nmvs_history.specs.Views.{TokenView}
 use Rattle.nmvs_rules.specs.declared.entry.Entry.{Entry}
 use Rattle.nmvs_directory.specs.declared.change.Change.{Change}
@@ -12,12 +12,13 @@ pub record LockedView : Type 0 where
   pub parts : ℕ
 
 -- a clerk: the changes of the directory that it saw or was told; of each shard what it has seen of the trail, and which
--- places of the trail are the clerk's own; and the receipts that it has in hand
+-- places of the trail are the clerk's own; the receipts that it has in hand, and whether it keeps receipts
 pub record ClerkView : Type 0 where
   pub seen : List Change
   pub sights : List (List Entry)
   pub places : List (List ℕ)
   pub receipts : List Receipt
+  pub keeps : Bool
 
 -- a repository as it was opened: how many shards and clerks it has
 pub record RepositoryView : Type 0 where

@@ -1,5 +1,5 @@
 //! Those who ask, and what they are answered.
-ghost use Rattle.std.specs.Prelude.{◌≡◌, ◌≢◌, ◌<◌, ◌⊎◌, ℕ, [], ◌++◌, Some, None, IfOk, OnErr, slice_get, vec_len, vec_capacity};
+ghost use Rattle.std.specs.Prelude.{◌≡◌, ◌≢◌, ◌<◌, ◌⊎◌, ℕ, true, false, [], Some, None, IfOk, OnOk, OnErr, slice_get, vec_len, vec_capacity};
 ghost use mathlib.Core.List.{IsPrefix};
 ghost use Rattle.nmvs_directory.specs.Window.{Reads};
 ghost use Rattle.nmvs_rules.specs.Entries.{AreEntries};
@@ -7,7 +7,7 @@ ghost use Rattle.nmvs_rules.specs.Questions.{code_of};
 ghost use Rattle.nmvs_rules.specs.Rules.{IsLawful};
 ghost use Rattle.nmvs_shard.specs.Asking.{WasPut};
 ghost use Rattle.nmvs_desk.specs.declared.ask.Receipt.{Receipt};
-ghost use Rattle.nmvs_desk.specs.Answers.{Answers, IsShown, new_receipts};
+ghost use Rattle.nmvs_desk.specs.Answers.{Answers, IsShown, receipts_then};
 ghost use Rattle.nmvs_desk.specs.Clerks.{IsClerk};
 ghost use Rattle.nmvs_desk.specs.Opening.{AreNew};
 ghost use Rattle.nmvs_desk.specs.Placing.{shard_of, IsPlaced};
@@ -33,16 +33,17 @@ pub struct Receipt {
     pub entry: Entry,
 }
 
-/// One who asks a repository, by a window on the directory and a token of each shard, and keeps a receipt for each answer
-/// until it lets its receipts go.
+/// One who asks a repository, by a window on the directory and a token of each shard. It keeps a receipt for each answer until
+/// it lets its receipts go, or keeps none.
 ///
 /// Contracts see what its window saw or was told, what it has seen of each shard's trail, which places of the trail are its
-/// own, those of all its answers, and the receipts that it has in hand, oldest first.
+/// own, those of all its answers, the receipts that it has in hand, oldest first, and whether it keeps receipts.
 #[derive(Drop)]
 pub struct Clerk<'a, J: Naming, H: Histories, B: Allocator = Global> {
     window: Window<J, &'a B>,
     tokens: Vec<Token, &'a B>,
     receipts: Vec<Receipt, &'a B>,
+    keeps: bool,
     of: PhantomData<H>,
 }
 
@@ -57,13 +58,14 @@ impl<'a, J: Naming, H: Histories, B: Allocator> Model for Clerk<'a, J, H, B> {
       sights = sights_of c.tokens.items;
       places = places_of c.tokens.items;
       receipts = c.receipts.items;
+      keeps = c.keeps;
     } };
 
     ghost invariant = { λ c. IsClerk H.tables H.shards c.tokens.items c.receipts.items };
 }
 
 impl<'a, J: Naming, H: Histories, B: Allocator> Clerk<'a, J, H, B> {
-    /// A clerk with no receipt, whose tokens have seen what was there when the shards were opened.
+    /// A clerk with no receipt, which keeps receipts, and whose tokens have seen what was there when the shards were opened.
     pub(crate) fn new(
         alloc: &'a B,
         window: Window<J, &'a B>,
@@ -74,11 +76,13 @@ impl<'a, J: Naming, H: Histories, B: Allocator> Clerk<'a, J, H, B> {
         ensures sights { result.sights ≡ sights_of tokens.entry.items }
         ensures places { result.places ≡ places_of tokens.entry.items }
         ensures receipts { result.receipts ≡ [] }
+        ensures keeps { result.keeps ≡ true }
     {
         Clerk {
             window,
             tokens,
             receipts: Vec::new(alloc),
+            keeps: true,
             of: PhantomData,
         }
     }
@@ -105,6 +109,15 @@ impl<'a, J: Naming, H: Histories, B: Allocator> Clerk<'a, J, H, B> {
         self.receipts.clear();
     }
 
+    /// Lets the receipts in hand go, and keeps none from now on: the clerk's places alone say what was answered, and an entry is
+    /// copied to no receipt.
+    pub fn keep_no_receipts(&mut self)
+        ensures { self.new ≡ record self.old { receipts = []; keeps = false } }
+    {
+        self.let_go();
+        self.keeps = false;
+    }
+
     /// The memory in which the clerk keeps its receipts.
     pub fn allocator(&self) -> &'a B {
         *self.receipts.allocator()
@@ -129,7 +142,7 @@ impl<'a, J: Naming, H: Histories, B: Allocator> Clerk<'a, J, H, B> {
     }
 
     /// Asks a question: holds the shard of the question's product code, in which the question is put where it was not asked
-    /// before by its tag, and keeps the receipt of one that was put. It waits for the shard. Refused only out of memory.
+    /// before by its tag, and keeps the receipt of one that was put, if it keeps receipts. It waits for the shard. Refused only out of memory.
     ///
     /// The answer is given on a trail that begins with all that the clerk has seen of the shard; then the clerk has seen
     /// the entry, too, whose place is its own: no other answer has it. Of those who ask a question with its tag, one puts it.
@@ -146,11 +159,11 @@ impl<'a, J: Naming, H: Histories, B: Allocator> Clerk<'a, J, H, B> {
         ensures untagged { put.now.tag ≡ None → IfOk result WasPut }
         ensures unchanged { OnErr result (self.new ≡ self.old) }
     {
-        self.receipts.reserve(1)?;
+        make_room(&mut self.receipts, self.keeps)?;
         let shard = repository.shard_of(&put.question.code());
         let slot = repository.slot(shard);
         let outcome = slot.ask(rt, &mut self.tokens[shard], put)?;
-        keep(&mut self.receipts, shard, put, &outcome);
+        keep(&mut self.receipts, self.keeps, shard, put, &outcome);
         Ok(outcome)
     }
 
@@ -198,22 +211,39 @@ impl<'a, J: Naming, H: Histories, B: Allocator> Clerk<'a, J, H, B> {
             window: _,
             tokens,
             receipts,
+            keeps: _,
             of: _,
         } = self;
         (tokens, receipts)
     }
 }
 
-/// Keeps the receipt of a question that was put in the shard. There is room for it.
+/// Makes room for a receipt, where receipts are kept.
+fn make_room<A: Allocator>(receipts: &mut Vec<Receipt, A>, keeps: bool) -> Result<(), AllocError>
+    ensures room { OnOk result (keeps ≡ true → vec_len receipts.new < vec_capacity receipts.new) }
+    ensures same { receipts.new.items ≡ receipts.old.items }
+{
+    if keeps {
+        receipts.reserve(1)?;
+    }
+    Ok(())
+}
+
+/// Keeps the receipt of a question that was put in the shard, where receipts are kept. There is room for it then.
 fn keep<A: Allocator, B: Allocator>(
     receipts: &mut Vec<Receipt, A>,
+    keeps: bool,
     shard: usize,
     put: &Put,
     outcome: &Outcome<B>,
 )
-    requires { vec_len receipts.old < vec_capacity receipts.old }
-    ensures { receipts.new.items ≡ receipts.old.items ++ new_receipts shard put.now outcome.now }
+    requires { keeps ≡ true → vec_len receipts.old < vec_capacity receipts.old }
+    ensures { receipts.new.items ≡ receipts_then keeps receipts.old.items shard put.now outcome.now }
 {
+    if !keeps {
+        receipts.clear();
+        return;
+    }
     match outcome {
         Outcome::New(answered) => receipts.push_reserved(Receipt {
             shard,

@@ -55,12 +55,17 @@ fn work<'r, R: Wait + Clock + Log, J: Naming, H: Histories, L: LogName>(
     if !may_begin(shared) {
         return clerk;
     }
-    let desk = desk_of(shared, clerk, number);
     match shared.log {
-        None => serve_by_desk(shared, number, poller, desk).into_clerk(),
+        None => {
+            let desk = desk_of(shared, clerk, number);
+            serve_by_desk(shared, number, poller, desk).into_clerk()
+        }
         Some(log) => {
+            let mut clerk = clerk;
+            clerk.keep_no_receipts();
             let config = shared.server.config;
             let confirmed = log.confirmed(config.run.rt);
+            let desk = desk_of(shared, clerk, number);
             let desk = JournalDesk::new(desk, log, confirmed, LogAlarm::new(config));
             serve_by_desk(shared, number, poller, desk).into_clerk()
         }

@@ -104,6 +104,28 @@ impl Crew for LetGo {
     }
 }
 
+/// Verifies a pack of shard 0, and keeps no receipt.
+#[derive(Drop)]
+struct KeepNone {
+    user: Name,
+    question: Question,
+}
+
+impl Crew for KeepNone {
+    fn work<'a, J: Naming, H: Histories, R: Wait + Abort>(
+        &self,
+        place: &Place<'_, 'a, R, H>,
+        clerk: &mut Clerk<'a, J, H>,
+        _number: usize,
+    ) {
+        let (rt, repository) = (place.rt, place.repository);
+        clerk.keep_no_receipts();
+        let put = put_of(rt, clerk, place.moment, &self.user, &self.question);
+        clerk.ask(rt, repository, &put).expect(rt, "an answer");
+        assert_eq!(rt; clerk.receipts().len(), 0);
+    }
+}
+
 /// The owners of the entries of both shards.
 fn have_owners(rt: &impl Abort, settled: &Settled<'_>, owners: [&[Option<Owner>]; 2]) {
     assert_eq!(rt;
@@ -120,20 +142,19 @@ fn have_owners(rt: &impl Abort, settled: &Settled<'_>, owners: [&[Option<Owner>]
     }
 }
 
-fn settled<'a, R: Threads + Wait + Abort + Sync>(rt: &R, alloc: &'a Global) -> Settled<'a> {
+/// Two shards with a pack each, once the one clerk has worked.
+fn settled<'a, R: Threads + Wait + Abort + Sync, C: Crew + Sync>(
+    rt: &R,
+    alloc: &'a Global,
+    crew: &C,
+) -> Settled<'a> {
     let stage = Stage {
         shards: 2,
         clerks: 1,
         users: &USERS,
         opening: &[Q, P],
     };
-    let crew = LetGo {
-        alloc: *alloc,
-        user: name(rt, "ph1"),
-        question: verify(rt, P),
-        reply: authentic(rt),
-    };
-    play(rt, alloc, &stage, &crew)
+    play(rt, alloc, &stage, crew)
 }
 
 #[test]
@@ -143,6 +164,23 @@ fn receipts_in_hand_own_their_entries(rt: HostRuntime) {
         clerk: 0,
         receipt: 0,
     };
-    let settled = settled(&rt, &alloc);
+    let crew = LetGo {
+        alloc,
+        user: name(&rt, "ph1"),
+        question: verify(&rt, P),
+        reply: authentic(&rt),
+    };
+    let settled = settled(&rt, &alloc, &crew);
     have_owners(&rt, &settled, [&[None, None, Some(last)], &[None]]);
+}
+
+#[test]
+fn entries_without_receipts_stand_in_the_trail(rt: HostRuntime) {
+    let alloc = rt.alloc();
+    let crew = KeepNone {
+        user: name(&rt, "ph1"),
+        question: verify(&rt, P),
+    };
+    let settled = settled(&rt, &alloc, &crew);
+    have_owners(&rt, &settled, [&[None, None], &[None]]);
 }

@@ -62,4 +62,5 @@ returns-clause-same g c =
       sights = sights_of (set tokens c.args.index now);
       places = kept i;
       receipts = (ap (λ (v : ClerkView). v.receipts) c.self.view_is) i;
+      keeps = (ap (λ (v : ClerkView). v.keeps) c.self.view_is) i;
     }
