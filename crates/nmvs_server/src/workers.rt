@@ -55,17 +55,12 @@ fn work<'r, R: Wait + Clock + Log, J: Naming, H: Histories, L: LogName>(
     if !may_begin(shared) {
         return clerk;
     }
+    let desk = desk_of(shared, clerk, number);
     match shared.log {
-        None => {
-            let desk = desk_of(shared, clerk, number);
-            serve_by_desk(shared, number, poller, desk).into_clerk()
-        }
+        None => serve_by_desk(shared, number, poller, desk).into_clerk(),
         Some(log) => {
-            let mut clerk = clerk;
-            clerk.keep_no_receipts();
             let config = shared.server.config;
             let confirmed = log.confirmed(config.run.rt);
-            let desk = desk_of(shared, clerk, number);
             let desk = JournalDesk::new(desk, log, confirmed, LogAlarm::new(config));
             serve_by_desk(shared, number, poller, desk).into_clerk()
         }
@@ -80,12 +75,14 @@ fn may_begin<R: Wait, J: Naming, H: Histories, L: LogName>(
     *shared.ready.lock(run.rt)
 }
 
-/// The desk of the clerk of the worker of this number.
+/// The desk of the clerk of the worker of this number. The clerk keeps no receipts: at the end its places alone are looked at.
 fn desk_of<'s, 'r, R: Wait + Clock + Log, J: Naming, H: Histories, L: LogName>(
     shared: &Shared<'s, '_, 'r, '_, R, J, H, L>,
     clerk: Clerk<'r, J, H>,
     number: usize,
 ) -> ClerkDesk<'s, 'r, R, J, H, ProgramClock<'s, R>> {
+    let mut clerk = clerk;
+    clerk.keep_no_receipts();
     let server = shared.server;
     let run = &server.config.run;
     let clock = ProgramClock::new(run.rt, run.options.moment);
