@@ -23,11 +23,11 @@ use Rattle.nmvs_protocol.specs.Texts.{text}
 use Rattle.nmvs_stream.specs.InputLines.{HasNoLf, input_lines, unfinished_line, lines_after, rest_after}
 use Rattle.nmvs_stream.proofs.LinesOfPieces.{lines_after-append, rest_after-append, no_line, line_cut, left_cut}
 use Rattle.nmvs_messages.proofs.KeptLines.{kept_more}
-use Rattle.nmvs_messages.specs.Withheld.{answer_of, AreReleased}
-use Rattle.nmvs_protocol.specs.Session.{TakesLine, TakesLines, AnswersLines, NoQuit, NoQuitBeforeLast, EndsWithQuit, DeliversAll, BreaksOff, Closes, Session, session_text, is_input_end, is_read_fault}
+use Rattle.nmvs_messages.specs.Withheld.{answer_of}
+use Rattle.nmvs_protocol.specs.Session.{TakesLine, TakesLines, ReleasesAll, Round, GoesRounds, lines_of, answers_of, AnswersLines, NoQuit, NoQuitBeforeLast, EndsWithQuit, DeliversAll, BreaksOff, Closes, Session, session_text, is_input_end, is_read_fault}
 use Rattle.nmvs_messages.specs.PendingLines.{kept_part}
 use Rattle.nmvs_protocol.specs.Progress.{AreShortButLast, TellsWithheld, Halts, Took, Gathers, Delivered, Tells, Stands, Fed, Served, has_write_fault}
-use Rattle.nmvs_protocol.proofs.SessionTelling.{no_quit_more, IsShort, short_but_last, all_short, released_short, released_length, tells_more, tells_sound, broken, flushes, unflushed, flush_fails}
+use Rattle.nmvs_protocol.proofs.SessionTelling.{no_quit_more, IsShort, short_but_last, all_short, told_of, all_length, tells_more, tells_sound, broken, flushes, unflushed, flush_fails}
 
 -- bytes that are cut once more
 pub whole_cut : (n : ℕ) (bytes rest : List ℕ) {all : List ℕ} → bytes ++ rest ≡ all → (bytes ++ take n rest) ++ drop n rest ≡ all
@@ -206,43 +206,56 @@ module _ {D : Type 0} (takes : D → Ask → Withheld → D → Type 0) where
         halts = subst NoQuit (sym these) k.no_quit;
       }
 
-  module _ {E : Type 0} (releases : D → E → Withheld → Answer → Type 0) (moves : D → D → Type 0) where
+  module _ (releases : D → D → Withheld → Answer → Type 0) (moves : D → D → Type 0) where
+    -- an answer is withheld for each line, and one released for each withheld
+    taken_length : (old : D) (xs : List (List ℕ)) (held : List Withheld) (new : D) → TakesLines takes old xs held new → length held ≡ length xs
+    taken_length old [] [] new t = refl
+    taken_length old (x ∷ xs) (w ∷ held) new t = let n = taken_length t.0 xs held new t.2 in omega arith
+    taken_length old [] (w ∷ held) new t = absurd t
+    taken_length old (x ∷ xs) [] new t = absurd t
+
+    rounds_length : (old : D) (rounds : List Round) (new : D) → GoesRounds takes releases moves old rounds new → length (answers_of rounds) ≡ length (lines_of rounds)
+    rounds_length old [] new g = refl
+    rounds_length old (r ∷ rounds) new g =
+        let one = g.1 in
+        let taken = taken_length old r.lines one.held one.asked one.taken in
+        let released = all_length releases moves one.asked g.0 one.held r.said one.released in
+        let rest = rounds_length g.0 rounds new g.2 in
+        let n = length-append r.said (answers_of rounds) in
+        let m = length-append r.lines (lines_of rounds) in
+        omega arith
+
     answered_length : (old : D) (xs : List (List ℕ)) (said : List Answer) (new : D) → AnswersLines takes releases moves old xs said new → length said ≡ length xs
-    answered_length old [] [] new a = refl
-    answered_length old (x ∷ xs) (s ∷ said) new a = let n = answered_length a.1 xs said new a.4 in omega arith
-    answered_length old [] (s ∷ said) new a = absurd a
-    answered_length old (x ∷ xs) [] new a = absurd a
+    answered_length old xs said new a =
+        ap (λ (l : List Answer). length l) a.answers_are ∙ rounds_length old a.rounds new a.desk ∙ ap (λ (l : List (List ℕ)). length l) (sym a.lines_are)
+
+    no_lines_answered : (old : D) → AnswersLines takes releases moves old [] [] old
+    no_lines_answered old = record { rounds = []; desk = refl; lines_are = refl; answers_are = refl }
 
     -- lines that were taken, whose answers are released together
-    released_lines : (evidence : E) (old : D) (xs : List (List ℕ)) (w : Withheld) (withheld : List Withheld) (said : List Answer) (at new : D) → TakesLines takes old xs (w ∷ withheld) at
-        → AreReleased (releases at evidence) (w ∷ withheld) said → moves at new → AnswersLines takes releases moves old xs said new
-    released_lines evidence old (x ∷ []) w [] (a ∷ []) at new t r m = (
-      t.0,
-      new,
-      record { withheld = w; taken = t.1; at = at; later = []; held = []; reached = t.2; evidence = evidence; released = r.0; stays = r.1 },
-      inr (subst (λ (d : D). moves d new) t.2 m),
-      refl,
-    )
-    released_lines evidence old (x ∷ y ∷ xs) w (v ∷ withheld) (a ∷ said) at new t r m = (
-      t.0,
-      t.0,
-      record { withheld = w; taken = t.1; at = at; later = y ∷ xs; held = v ∷ withheld; reached = t.2; evidence = evidence; released = r.0; stays = r.1 },
-      inl refl,
-      released_lines evidence t.0 (y ∷ xs) v withheld said at new t.2 r.2 m,
-    )
-    released_lines evidence old (x ∷ []) w [] (a ∷ b ∷ said) at new t r m = absurd r.2
-    released_lines evidence old (x ∷ []) w (v ∷ withheld) (a ∷ said) at new t r m = absurd t.2
-    released_lines evidence old (x ∷ y ∷ xs) w [] (a ∷ said) at new t r m = absurd t.2
-    released_lines evidence old (x ∷ xs) w withheld [] at new t r m = absurd r
-    released_lines evidence old [] w withheld said at new t r m = absurd t
+    one_round : (old : D) (xs : List (List ℕ)) (held : List Withheld) (asked : D) (said : List Answer) (new : D) → TakesLines takes old xs held asked
+        → ReleasesAll releases moves asked held said new → AnswersLines takes releases moves old xs said new
+    one_round old xs held asked said new taken released = record {
+      rounds = record { lines = xs; said = said } ∷ [];
+      desk = (new, record { held = held; asked = asked; taken = taken; released = released }, refl);
+      lines_are = sym (append-nil xs);
+      answers_are = sym (append-nil said);
+    }
+
+    rounds_both : (old : D) (rounds more : List Round) (mid new : D) → GoesRounds takes releases moves old rounds mid → GoesRounds takes releases moves mid more new
+        → GoesRounds takes releases moves old (rounds ++ more) new
+    rounds_both old [] more mid new a b = subst (λ (d : D). GoesRounds takes releases moves d more new) a b
+    rounds_both old (r ∷ rounds) more mid new a b = (a.0, a.1, rounds_both a.0 rounds more mid new a.2 b)
 
     -- lines after others
     pub answers_both : (old : D) (xs ys : List (List ℕ)) (said more : List Answer) (mid new : D) → AnswersLines takes releases moves old xs said mid
         → AnswersLines takes releases moves mid ys more new → AnswersLines takes releases moves old (xs ++ ys) (said ++ more) new
-    answers_both old [] ys [] more mid new a b = subst (λ (d : D). AnswersLines takes releases moves d ys more new) a b
-    answers_both old (x ∷ xs) ys (s ∷ said) more mid new a b = (a.0, a.1, a.2, a.3, answers_both a.1 xs ys said more mid new a.4 b)
-    answers_both old [] ys (s ∷ said) more mid new a b = absurd a
-    answers_both old (x ∷ xs) ys [] more mid new a b = absurd a
+    answers_both old xs ys said more mid new a b = record {
+      rounds = a.rounds ++ b.rounds;
+      desk = rounds_both old a.rounds b.rounds mid new a.desk b.desk;
+      lines_are = (λ i. a.lines_are i ++ b.lines_are i) ∙ sym (flat_map-append (λ (r : Round). r.lines) a.rounds b.rounds);
+      answers_are = (λ i. a.answers_are i ++ b.answers_are i) ∙ sym (flat_map-append (λ (r : Round). r.said) a.rounds b.rounds);
+    }
 
     -- lines whose answers were all released, and told so
     pub record AllTold (session : TheSession) (first : D) (start : Taken) (now : D) (sink : Taken) (count : ℕ) (lines : List (List ℕ)) (end : Option End) : Type 0 where
@@ -252,15 +265,11 @@ module _ {D : Type 0} (takes : D → Ask → Withheld → D → Type 0) where
       pub within : count ≤ session.limit
       pub told : Tells end start sink said
 
-    none_waiting : (mid now : D) (waiting : List (List ℕ)) → TakesLines takes mid waiting [] now → (waiting ≡ []) × (now ≡ mid)
-    none_waiting mid now [] t = (refl, t)
-    none_waiting mid now (x ∷ xs) t = absurd t
-
     -- no line was fed
     pub all_told_none : (session : TheSession) (first : D) (start : Taken) → session.answered ≤ session.limit → AllTold session first start first start session.answered [] None
     all_told_none session first start within = record {
       said = [];
-      answers = refl;
+      answers = no_lines_answered first;
       counted = omega arith;
       within = within;
       told = record { bytes = sym (append-nil start.bytes); flushed = λ none. refl; failed = refl };
@@ -270,26 +279,16 @@ module _ {D : Type 0} (takes : D → Ask → Withheld → D → Type 0) where
     tells : {session : TheSession} {first : D} {start : Taken} {now new : D} {sink sink' : Taken} {count count' : ℕ} {lines : List (List ℕ)} (at : D) (xs : List (List ℕ)) (withheld : List Withheld) (end : Option End)
         → AllTold session first start now sink count lines None → TakesLines takes now xs withheld at → count' ≡ count + length withheld → count' ≤ session.limit
         → AreShortButLast (map answer_of withheld) → TellsWithheld releases moves withheld at new end sink sink' → AllTold session first start new sink' count' (lines ++ xs) end
-    tells {session} {first} {start} {now} {new} {sink} {sink'} {lines = lines} at xs [] end k taken more within short told =
-        let none = none_waiting now at xs taken in
+    tells {session} {first} {start} {now} {new} {sink} {sink'} {lines = lines} at xs withheld end k taken more within short told =
+        let t = told_of releases moves withheld at new end sink sink' told in
+        let n = all_length releases moves at new withheld t.0 t.1 in
+        let m = length-append k.said t.0 in
         let counted = k.counted in record {
-          said = k.said;
-          answers = subst (λ (d : D). AnswersLines takes releases moves first (lines ++ xs) k.said d) (sym (told.0 ∙ none.1))
-              (subst (λ (ys : List (List ℕ)). AnswersLines takes releases moves first ys k.said now) (sym (append-nil lines) ∙ ap (λ (ys : List (List ℕ)). lines ++ ys) (sym none.0)) k.answers);
+          said = k.said ++ t.0;
+          answers = answers_both first lines xs k.said t.0 now new k.answers (one_round now xs withheld at t.0 new taken t.1);
           counted = omega arith;
           within = within;
-          told = subst (λ (e : Option End). Tells e start sink' k.said) (sym told.1) (subst (λ (s : Taken). Gathers start s k.said) (sym told.2) k.told);
-        }
-    tells {session} {first} {start} {now} {new} {sink} {sink'} {lines = lines} at xs (w ∷ withheld) end k taken more within short told =
-        let said = told.2 in
-        let n = released_length (releases at told.1) (w ∷ withheld) said told.3 in
-        let m = length-append k.said said in
-        let counted = k.counted in record {
-          said = k.said ++ said;
-          answers = answers_both first lines xs k.said said now new k.answers (released_lines told.1 now xs w withheld said at new taken told.3 told.0);
-          counted = omega arith;
-          within = within;
-          told = tells_more end start sink sink' k.said said k.told (told.4 short);
+          told = tells_more end start sink sink' k.said t.0 k.told (t.2 short);
         }
 
     -- all lines are told so, and those behind them are left
@@ -507,7 +506,7 @@ module _ {D : Type 0} (takes : D → Ask → Withheld → D → Type 0) where
     unfolding lines_after rest_after
     so_far_none limit first start session line answered is sound = record {
       said = [];
-      answers = refl;
+      answers = no_lines_answered first;
       no_quit = All-nil _;
       counted = answered;
       limit_is = is;

@@ -21,7 +21,7 @@ use Rattle.nmvs_protocol.specs.Lines.{line_text}
 use Rattle.nmvs_protocol.specs.Texts.{content_text, lines_behind, tagged_text, text}
 use Rattle.nmvs_protocol.specs.Tags.{tag_text}
 use Rattle.nmvs_messages.specs.Withheld.{answer_of, content_is_long, content_takes_memory, takes_memory, AreReleased, StaysOrTurns}
-use Rattle.nmvs_protocol.specs.Session.{NoQuit, NoQuitBeforeLast, session_text}
+use Rattle.nmvs_protocol.specs.Session.{ReleasesAll, NoQuit, NoQuitBeforeLast, session_text}
 use Rattle.nmvs_protocol.specs.Progress.{AreShortButLast, Gathers, Delivered, Tells, TellsFirst, TellsWithheld, Stands, has_write_fault}
 
 -- one line more that is not QUIT
@@ -74,25 +74,34 @@ released_short releases [] (a ∷ said) r short = absurd r
 released_short releases (w ∷ withheld) [] r short = absurd r
 
 -- what is told of some that were withheld
-pub told_withheld : {D E : Type 0} (releases : D → E → Withheld → Answer → Type 0) (moves : D → D → Type 0) (withheld : List Withheld) (old new : D) (evidence : E) (said : List Answer) (end : Option End) (sink sink' : Taken)
-    → (length withheld == 0) ≡ false → moves old new → AreReleased (releases old evidence) withheld said → (AreShortButLast said → Tells end sink sink' said) → TellsWithheld releases moves withheld old new end sink sink'
-told_withheld releases moves [] old new evidence said end sink sink' some m r told = absurd (cc some)
-told_withheld releases moves (w ∷ withheld) old new evidence said end sink sink' some m r told =
-    (m, evidence, said, r, λ short. told (released_short (releases old evidence) (w ∷ withheld) said r short))
+pub told_withheld : {D : Type 0} (releases : D → D → Withheld → Answer → Type 0) (moves : D → D → Type 0) (withheld : List Withheld) (old new : D) (said : List Answer) (end : Option End) (sink sink' : Taken)
+    → (length withheld == 0) ≡ false → moves old new → AreReleased (releases old new) withheld said → (AreShortButLast said → Tells end sink sink' said) → TellsWithheld releases moves withheld old new end sink sink'
+told_withheld releases moves [] old new said end sink sink' some m r told = absurd (cc some)
+told_withheld releases moves (w ∷ withheld) old new said end sink sink' some m r told =
+    (said, (m, r), λ short. told (released_short (releases old new) (w ∷ withheld) said r short))
 
-pub released_length : (releases : Withheld → Answer → Type 0) (withheld : List Withheld) (said : List Answer) → AreReleased releases withheld said → length said ≡ length withheld
+-- what is told of what was withheld, if any was
+pub told_of : {D : Type 0} (releases : D → D → Withheld → Answer → Type 0) (moves : D → D → Type 0) (withheld : List Withheld) (old new : D) (end : Option End) (sink sink' : Taken)
+    → TellsWithheld releases moves withheld old new end sink sink' → (said : List Answer) × ReleasesAll releases moves old withheld said new × (AreShortButLast (map answer_of withheld) → Tells end sink sink' said)
+told_of releases moves [] old new end sink sink' t = (
+  [],
+  (refl, t.0),
+  λ short. subst (λ (e : Option End). Tells e sink sink' []) (sym t.1)
+      (subst (λ (s : Taken). Gathers sink s []) (sym t.2) (record { bytes = sym (append-nil sink.bytes); flushed = λ none. refl; failed = refl })),
+)
+told_of releases moves (w ∷ withheld) old new end sink sink' t = t
+
+-- there is an answer for each that was withheld
+released_length : (releases : Withheld → Answer → Type 0) (withheld : List Withheld) (said : List Answer) → AreReleased releases withheld said → length said ≡ length withheld
 released_length releases [] [] r = refl
 released_length releases (w ∷ withheld) (a ∷ said) r = let n = released_length releases withheld said r.2 in omega arith
 released_length releases [] (a ∷ said) r = absurd r
 released_length releases (w ∷ withheld) [] r = absurd r
 
--- what is released so is released so, too
-pub released_as : (releases more : Withheld → Answer → Type 0) → ((w : Withheld) (a : Answer) → releases w a → more w a)
-    → (withheld : List Withheld) (said : List Answer) → AreReleased releases withheld said → AreReleased more withheld said
-released_as releases more step [] [] r = tt
-released_as releases more step (w ∷ withheld) (a ∷ said) r = (step w a r.0, r.1, released_as releases more step withheld said r.2)
-released_as releases more step [] (a ∷ said) r = absurd r
-released_as releases more step (w ∷ withheld) [] r = absurd r
+pub all_length : {D : Type 0} (releases : D → D → Withheld → Answer → Type 0) (moves : D → D → Type 0) (old new : D) (withheld : List Withheld) (said : List Answer)
+    → ReleasesAll releases moves old withheld said new → length said ≡ length withheld
+all_length releases moves old new [] said r = ap (λ (l : List Answer). length l) r.0
+all_length releases moves old new (w ∷ withheld) said r = released_length (releases old new) (w ∷ withheld) said r.1
 
 none_before : (xs ys : List ℕ) → xs ++ ys ≡ [] → xs ≡ []
 none_before [] ys e = refl

@@ -10,8 +10,8 @@ use Rattle.nmvs_protocol.specs.declared.session.Session.{Session}
 use Rattle.nmvs_messages.specs.declared.withheld.Withheld.{Withheld}
 use Rattle.nmvs_stream.specs.InputLines.{lines_after, rest_after}
 use Rattle.nmvs_messages.specs.PendingLines.{kept_part}
-use Rattle.nmvs_messages.specs.Withheld.{AreReleased, answer_of, takes_memory}
-use Rattle.nmvs_protocol.specs.Session.{TakesLines, AnswersLines, AnswersAll, NoQuit, EndsWithQuit, NoQuitBeforeLast, LacksLast, session_text, is_write_fault}
+use Rattle.nmvs_messages.specs.Withheld.{answer_of, takes_memory}
+use Rattle.nmvs_protocol.specs.Session.{TakesLines, ReleasesAll, AnswersLines, AnswersAll, NoQuit, EndsWithQuit, NoQuitBeforeLast, LacksLast, session_text, is_write_fault}
 
 -- of these answers none but perhaps the last has a text that takes memory
 abbrev pub AreShortButLast : List Answer → Type 0
@@ -52,10 +52,10 @@ TellsFirst (Some ends.Memory) sink sink' said = LacksRest (Gathers sink sink') s
 TellsFirst end sink sink' said = Tells end sink sink' said
 
 -- what telling what is withheld comes to, and what it makes of the desk: where there is none the desk is not asked
-abbrev pub TellsWithheld : {D E : Type 0} → (D → E → Withheld → Answer → Type 0) → (D → D → Type 0) → List Withheld → D → D → Option End → Taken → Taken → Type 0
+abbrev pub TellsWithheld : {D : Type 0} → (D → D → Withheld → Answer → Type 0) → (D → D → Type 0) → List Withheld → D → D → Option End → Taken → Taken → Type 0
 TellsWithheld releases moves [] old new end sink sink' = (new ≡ old) × (end ≡ None) × (sink' ≡ sink)
-TellsWithheld {E = E} releases moves (w ∷ withheld) old new end sink sink' =
-    moves old new × (evidence : E) × (said : List Answer) × AreReleased (releases old evidence) (w ∷ withheld) said
+TellsWithheld releases moves (w ∷ withheld) old new end sink sink' =
+    (said : List Answer) × ReleasesAll releases moves old (w ∷ withheld) said new
     × (AreShortButLast (map answer_of (w ∷ withheld)) → Tells end sink sink' said)
 
 -- another whole line is there, and no more may be answered
@@ -102,7 +102,7 @@ has_write_fault (None) = false
 has_write_fault (Some end) = is_write_fault end
 
 -- of the lines that some bytes complete the first were answered, and told so
-pub record AnsweredSo {D E : Type 0} (tells : Taken → Taken → List Answer → Type 0) (takes : D → Ask → Withheld → D → Type 0) (releases : D → E → Withheld → Answer → Type 0) (moves : D → D → Type 0) (session : Session) (desk : D) (sink : Taken) (lines : List (List ℕ)) (session' : Session) (desk' : D) (sink' : Taken) (end : Option End) : Type 0 where
+pub record AnsweredSo {D : Type 0} (tells : Taken → Taken → List Answer → Type 0) (takes : D → Ask → Withheld → D → Type 0) (releases : D → D → Withheld → Answer → Type 0) (moves : D → D → Type 0) (session : Session) (desk : D) (sink : Taken) (lines : List (List ℕ)) (session' : Session) (desk' : D) (sink' : Taken) (end : Option End) : Type 0 where
   pub answered : List (List ℕ)
   pub left : List (List ℕ)
   pub these : lines ≡ answered ++ left
@@ -115,9 +115,9 @@ pub record AnsweredSo {D E : Type 0} (tells : Taken → Taken → List Answer �
   pub sound : sink.failed ≡ false → sink'.failed ≡ has_write_fault end
 
 -- and their texts are written, and are to be flushed
-abbrev pub Fed : {D E : Type 0} → (D → Ask → Withheld → D → Type 0) → (D → E → Withheld → Answer → Type 0) → (D → D → Type 0) → Session → D → Taken → List (List ℕ) → Session → D → Taken → Option End → Type 0
+abbrev pub Fed : {D : Type 0} → (D → Ask → Withheld → D → Type 0) → (D → D → Withheld → Answer → Type 0) → (D → D → Type 0) → Session → D → Taken → List (List ℕ) → Session → D → Taken → Option End → Type 0
 Fed takes releases moves = AnsweredSo Gathers takes releases moves
 
 -- and their texts are written and flushed
-abbrev pub Served : {D E : Type 0} → (D → Ask → Withheld → D → Type 0) → (D → E → Withheld → Answer → Type 0) → (D → D → Type 0) → Session → D → Taken → List (List ℕ) → Session → D → Taken → Option End → Type 0
+abbrev pub Served : {D : Type 0} → (D → Ask → Withheld → D → Type 0) → (D → D → Withheld → Answer → Type 0) → (D → D → Type 0) → Session → D → Taken → List (List ℕ) → Session → D → Taken → Option End → Type 0
 Served takes releases moves = AnsweredSo Delivered takes releases moves

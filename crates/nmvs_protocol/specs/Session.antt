@@ -14,7 +14,7 @@ use Rattle.nmvs_messages.specs.declared.limits.Limits.{Limits}
 use Rattle.nmvs_messages.specs.declared.limits.TheConstants.{READ_SIZE}
 use Rattle.nmvs_messages.specs.declared.end.End.{End}
 use Rattle.nmvs_messages.specs.declared.end.End.TheVariants as ends
-use Rattle.nmvs_messages.specs.Withheld.{StaysOrTurns, plain, tagged, takes_memory}
+use Rattle.nmvs_messages.specs.Withheld.{AreReleased, plain, tagged, takes_memory}
 use Rattle.nmvs_protocol.specs.Lines.{line_text, ReadsLine}
 use Rattle.nmvs_protocol.specs.Texts.{text}
 use Rattle.nmvs_stream.specs.InputLines.{input_lines}
@@ -39,30 +39,42 @@ TakesLines {D} takes old (x ∷ xs) (w ∷ withheld) new = (mid : D) × TakesLin
 TakesLines takes old [] (w ∷ withheld) new = ⊥
 TakesLines takes old (x ∷ xs) [] new = ⊥
 
--- a line is answered so: it is taken; and once the desk has taken these lines more, what is withheld is released so, on some
--- evidence
-pub record AnswersLine {D E : Type 0} (takes : D → Ask → Withheld → D → Type 0) (releases : D → E → Withheld → Answer → Type 0) (old : D) (x : List ℕ) (said : Answer) (new : D) : Type 0 where
-  pub withheld : Withheld
-  pub taken : TakesLine takes old x withheld new
-  pub at : D
-  pub later : List (List ℕ)
+-- what is withheld is released at once, all of it, by one step of the desk; where there is none the desk is not asked
+abbrev pub ReleasesAll : {D : Type 0} → (D → D → Withheld → Answer → Type 0) → (D → D → Type 0) → D → List Withheld → List Answer → D → Type 0
+ReleasesAll releases moves old [] said new = (said ≡ []) × (new ≡ old)
+ReleasesAll releases moves old (w ∷ withheld) said new = moves old new × AreReleased (releases old new) (w ∷ withheld) said
+
+-- the lines that were taken between two releases, and the answers that the second let be told
+pub record Round : Type 0 where
+  pub lines : List (List ℕ)
+  pub said : List Answer
+
+-- a round takes the desk from old to new: its lines are taken, and then what is withheld is released
+pub record GoesRound {D : Type 0} (takes : D → Ask → Withheld → D → Type 0) (releases : D → D → Withheld → Answer → Type 0) (moves : D → D → Type 0) (old : D) (round : Round) (new : D) : Type 0 where
   pub held : List Withheld
-  pub reached : TakesLines takes new later held at
-  pub evidence : E
-  pub released : releases at evidence withheld said
-  pub stays : StaysOrTurns withheld said
+  pub asked : D
+  pub taken : TakesLines takes old round.lines held asked
+  pub released : ReleasesAll releases moves asked held round.said new
 
--- between two lines there is no release or one
-abbrev pub StaysOrMoves : {D : Type 0} → (D → D → Type 0) → D → D → Type 0
-StaysOrMoves moves old new = (new ≡ old) ⊎ moves old new
+-- rounds take the desk from old to new
+abbrev pub GoesRounds : {D : Type 0} → (D → Ask → Withheld → D → Type 0) → (D → D → Withheld → Answer → Type 0) → (D → D → Type 0) → D → List Round → D → Type 0
+GoesRounds takes releases moves old [] new = new ≡ old
+GoesRounds {D} takes releases moves old (r ∷ more) new = (mid : D) × GoesRound takes releases moves old r mid × GoesRounds takes releases moves mid more new
 
--- lines are answered so, one answer a line, in order, the desk going from old to new by exactly their takes and releases
-abbrev pub AnswersLines : {D E : Type 0} → (D → Ask → Withheld → D → Type 0) → (D → E → Withheld → Answer → Type 0) → (D → D → Type 0) → D → List (List ℕ) → List Answer → D → Type 0
-AnswersLines takes releases moves old [] [] new = new ≡ old
-AnswersLines {D} takes releases moves old (x ∷ xs) (a ∷ said) new =
-    (mid next : D) × AnswersLine takes releases old x a mid × StaysOrMoves moves mid next × AnswersLines takes releases moves next xs said new
-AnswersLines takes releases moves old [] (a ∷ said) new = ⊥
-AnswersLines takes releases moves old (x ∷ xs) [] new = ⊥
+-- the lines of these rounds, in order
+abbrev pub lines_of : List Round → List (List ℕ)
+lines_of rounds = flat_map (λ (r : Round). r.lines) rounds
+
+-- the answers to them, in order
+abbrev pub answers_of : List Round → List Answer
+answers_of rounds = flat_map (λ (r : Round). r.said) rounds
+
+-- lines are answered so, one answer a line, in order, in rounds that take the desk from old to new
+pub record AnswersLines {D : Type 0} (takes : D → Ask → Withheld → D → Type 0) (releases : D → D → Withheld → Answer → Type 0) (moves : D → D → Type 0) (old : D) (xs : List (List ℕ)) (said : List Answer) (new : D) : Type 0 where
+  pub rounds : List Round
+  pub desk : GoesRounds takes releases moves old rounds new
+  pub lines_are : xs ≡ lines_of rounds
+  pub answers_are : said ≡ answers_of rounds
 
 -- none of these lines is QUIT
 abbrev pub NoQuit : List (List ℕ) → Type 0
@@ -153,7 +165,7 @@ is_write_fault ends.WriteFault = true
 is_write_fault _ = false
 
 -- a session that ended so, with the desk, the source and the sink before and after
-pub record Session {D E : Type 0} (takes : D → Ask → Withheld → D → Type 0) (releases : D → E → Withheld → Answer → Type 0) (moves : D → D → Type 0) (limits : Limits) (desk : D) (source : Told) (sink : Taken) (desk' : D) (source' : Told) (sink' : Taken) (end : End) : Type 0 where
+pub record Session {D : Type 0} (takes : D → Ask → Withheld → D → Type 0) (releases : D → D → Withheld → Answer → Type 0) (moves : D → D → Type 0) (limits : Limits) (desk : D) (source : Told) (sink : Taken) (desk' : D) (source' : Told) (sink' : Taken) (end : End) : Type 0 where
   -- these bytes were read
   pub input : List ℕ
   pub read : source'.bytes ≡ source.bytes ++ input

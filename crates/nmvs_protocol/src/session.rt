@@ -208,8 +208,7 @@ fn is_quit(reading: &Result<Line, Unread>) -> bool
     matches!(reading, Ok(Line::Quit))
 }
 
-/// Has the answers released that are withheld, and writes their texts. None is withheld then. The evidence for them has
-/// been had, and is let go.
+/// Has the answers released that are withheld, and writes their texts. None is withheld then.
 fn tell<'a, W: Sink, D: Desk<'a>>(
     alloc: Global,
     withheld: &mut WithheldAnswers<'a>,
@@ -222,7 +221,7 @@ fn tell<'a, W: Sink, D: Desk<'a>>(
     if withheld.is_empty() {
         return None;
     }
-    let (released, _evidence) = desk.release(withheld);
+    let released = desk.release(withheld);
     let told = write_texts(alloc, released, sink);
     withheld.clear();
     told

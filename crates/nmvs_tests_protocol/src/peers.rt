@@ -45,8 +45,6 @@ struct Own {
 impl<'a> Desk<'a> for Own {
     ghost use Rattle.nmvs_messages.specs.Withheld.{AtOnce, Stays};
 
-    type Evidence = ();
-
     ghost takes = { λ _ _ _ _ _. Unit {0} };
 
     ghost releases = { AtOnce };
@@ -61,8 +59,8 @@ impl<'a> Desk<'a> for Own {
         }))
     }
 
-    fn release<'h>(&mut self, withheld: &'h mut WithheldAnswers<'a>) -> (Released<'h, 'a>, ()) {
-        (withheld.release(), ())
+    fn release<'h>(&mut self, withheld: &'h mut WithheldAnswers<'a>) -> Released<'h, 'a> {
+        withheld.release()
     }
 }
 

@@ -65,8 +65,6 @@ impl<'a> Desk<'a> for Shelf<'a> {
     ghost use Rattle.std.specs.Prelude.{◌≡◌};
     ghost use Rattle.nmvs_messages.specs.Withheld.{told_where};
 
-    type Evidence = ();
-
     ghost takes = { λ _ _ _ _ _. Unit {0} };
 
     ghost releases = { λ shelf _ withheld said. said ≡ told_where shelf.kept withheld };
@@ -82,8 +80,8 @@ impl<'a> Desk<'a> for Shelf<'a> {
         Withheld::resting_on(Some(basis), self.answer(ask))
     }
 
-    fn release<'h>(&mut self, withheld: &'h mut WithheldAnswers<'a>) -> (Released<'h, 'a>, ()) {
-        (withheld.release_kept(&self.kept), ())
+    fn release<'h>(&mut self, withheld: &'h mut WithheldAnswers<'a>) -> Released<'h, 'a> {
+        withheld.release_kept(&self.kept)
     }
 }
 
