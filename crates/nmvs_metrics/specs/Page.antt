@@ -110,6 +110,19 @@ trail_text f =
     numbered (codes "nmvs_entries") (codes "gauge") (codes "Entries of the audit trail, by shard.") (codes "shard") f.entries.items
     ++ numbered (codes "nmvs_packs") (codes "gauge") (codes "Packs that the repository knows, by shard.") (codes "shard") f.packs.items
 
+-- for how long the write or sync of the log that is under way has taken
+unfoldable pub writing_text : ℕ → List ℕ
+writing_text nanoseconds =
+    heading (codes "nmvs_log_write_seconds") (codes "gauge") (codes "Seconds that the write or sync of the log that is under way has taken, 0 where none is.")
+    ++ (codes "nmvs_log_write_seconds " ++ (decimal nanoseconds ++ codes "e-9\n"))
+
+-- whether the log failed, as a counter and as a gauge, and for how long it writes
+unfoldable pub log_health_text : LogSnapshot → List ℕ
+log_health_text j =
+    single (codes "nmvs_journal_failures_total") (codes "counter") (codes "Journals whose file failed.") (if j.has_failed then 1 else 0)
+    ++ (single (codes "nmvs_log_failed") (codes "gauge") (codes "Whether the log failed, 1 or 0.") (if j.has_failed then 1 else 0)
+    ++ writing_text j.writing)
+
 -- the samples of the log, where there is one
 unfoldable pub log_text : Option LogSnapshot → List ℕ
 log_text None = []
@@ -117,7 +130,7 @@ log_text (Some j) =
     numbered (codes "nmvs_journal_confirmed_entries") (codes "gauge") (codes "Entries that the journals have confirmed, by shard.") (codes "shard") j.confirmed.items
     ++ (numbered (codes "nmvs_journal_waiting_entries") (codes "gauge") (codes "Entries that the journals have not confirmed yet, by shard.") (codes "shard") j.waiting.items
     ++ (syncs_text j.syncs.items j.nanoseconds
-    ++ single (codes "nmvs_journal_failures_total") (codes "counter") (codes "Journals whose file failed.") j.failures))
+    ++ log_health_text j))
 
 -- the sample of the memory of the process, where the system reports it
 unfoldable pub resident_text : Option ℕ → List ℕ
@@ -125,11 +138,12 @@ resident_text None = []
 resident_text (Some bytes) =
     single (codes "process_resident_memory_bytes") (codes "gauge") (codes "Resident memory size in bytes.") bytes
 
--- the samples of the process: whether it listens, and its memory
+-- the samples of the process: whether it listens, the steps of its clock, and its memory
 unfoldable pub process_text : Snapshot → List ℕ
 process_text f =
     single (codes "nmvs_ready") (codes "gauge") (codes "Whether the server listens, 1 or 0.") (if f.ready then 1 else 0)
-    ++ resident_text f.resident
+    ++ (single (codes "nmvs_clock_steps_total") (codes "counter") (codes "Steps of the system's clock by more than 2 seconds.") f.clock_steps
+    ++ resident_text f.resident)
 
 -- all metrics
 abbrev pub page : Snapshot → List ℕ

@@ -41,8 +41,14 @@ fn process_text(alloc: Global, snapshot: &Snapshot) -> Result<String, AllocError
         help: "Whether the server listens, 1 or 0.",
     };
     let ready = single(alloc, ready, if snapshot.ready { 1 } else { 0 })?;
+    let steps = Family {
+        name: "nmvs_clock_steps_total",
+        kind: "counter",
+        help: "Steps of the system's clock by more than 2 seconds.",
+    };
+    let steps = single(alloc, steps, snapshot.clock_steps)?;
     let resident = resident_text(alloc, snapshot.resident)?;
-    format!(in alloc; "{ready}{resident}")
+    format!(in alloc; "{ready}{steps}{resident}")
 }
 
 #[tactic(auto, unfolding(crate::specs::Page::resident_text))]
@@ -161,16 +167,47 @@ fn log_text(alloc: Global, log: &Option<LogSnapshot>) -> Result<String, AllocErr
         kind: "gauge",
         help: "Entries that the journals have not confirmed yet, by shard.",
     };
+    let confirmed = numbered(alloc, confirmed, "shard", &log.confirmed)?;
+    let waiting = numbered(alloc, waiting, "shard", &log.waiting)?;
+    let syncs = syncs_text(alloc, &log.syncs, log.nanoseconds)?;
+    let health = log_health_text(alloc, log)?;
+    format!(in alloc; "{confirmed}{waiting}{syncs}{health}")
+}
+
+/// Whether the log failed, and for how long it writes.
+#[tactic(auto, unfolding(crate::specs::Page::log_health_text))]
+fn log_health_text(alloc: Global, log: &LogSnapshot) -> Result<String, AllocError>
+    ensures { IfOk result (λ text. string_bytes text ≡ specs.log_health_text log.now) }
+{
     let failures = Family {
         name: "nmvs_journal_failures_total",
         kind: "counter",
         help: "Journals whose file failed.",
     };
-    let confirmed = numbered(alloc, confirmed, "shard", &log.confirmed)?;
-    let waiting = numbered(alloc, waiting, "shard", &log.waiting)?;
-    let syncs = syncs_text(alloc, &log.syncs, log.nanoseconds)?;
-    let failures = single(alloc, failures, log.failures)?;
-    format!(in alloc; "{confirmed}{waiting}{syncs}{failures}")
+    let failed = Family {
+        name: "nmvs_log_failed",
+        kind: "gauge",
+        help: "Whether the log failed, 1 or 0.",
+    };
+    let count = if log.has_failed { 1 } else { 0 };
+    let failures = single(alloc, failures, count)?;
+    let failed = single(alloc, failed, count)?;
+    let writing = writing_text(alloc, log.writing)?;
+    format!(in alloc; "{failures}{failed}{writing}")
+}
+
+/// For how long the write or sync of the log that is under way has taken.
+#[tactic(auto, unfolding(crate::specs::Page::writing_text))]
+fn writing_text(alloc: Global, nanoseconds: u64) -> Result<String, AllocError>
+    ensures { IfOk result (λ text. string_bytes text ≡ specs.writing_text nanoseconds) }
+{
+    let family = Family {
+        name: "nmvs_log_write_seconds",
+        kind: "gauge",
+        help: "Seconds that the write or sync of the log that is under way has taken, 0 where none is.",
+    };
+    let head = heading(alloc, family)?;
+    format!(in alloc; "{head}nmvs_log_write_seconds {nanoseconds}e-9\n")
 }
 
 fn heading(alloc: Global, family: Family) -> Result<String, AllocError>

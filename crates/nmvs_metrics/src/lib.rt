@@ -2,18 +2,22 @@
 //!
 //! The threads of a server count what they do in [`Metrics`], which they share and none waits for. Each worker has counters of
 //! its own ([`WorkerMetrics`]). [`Metrics::snapshot`] reads them, and [`encode`] writes them in the text format of Prometheus.
-//! [`serve_metrics`] serves that page over HTTP, and answers whether the server lives and whether it listens.
+//! [`serve_metrics`] serves that page over HTTP, and answers whether the server lives and whether it is ready. Beside that it
+//! watches the system's clock for steps.
 #![tactic(auto)]
 
+mod clock;
 mod counters;
 mod exposition;
 mod kinds;
 mod listener;
+mod readiness;
 mod registry;
 mod service;
 mod snapshot;
 mod syncs;
 
+pub use clock::{ClockReading, uptime};
 pub use exposition::encode;
 pub use kinds::Fault;
 pub use listener::{MetricsListener, serve_metrics};

@@ -1,9 +1,10 @@
 //! The port of metrics, over HTTP.
 ghost use Rattle.std.specs.Prelude.{◌<◌, vec_len};
 
-use crate::Metrics;
 use crate::service::MetricsService;
+use crate::{ClockReading, Metrics, uptime};
 use http_server::{Config, Connection, Service};
+use log::{Log, warn};
 use mio::net::{TcpListener, TcpStream};
 use mio::{Events, Interest, Poll, Token};
 use std::alloc::Global;
@@ -71,13 +72,14 @@ impl MetricsListener {
     }
 }
 
-/// Serves the metrics to clients, until they note that the server ends: then for less than a second. A client that stays for
-/// 5 seconds is closed, and while 16 are served no other is accepted.
+/// Serves the metrics to clients, and counts and logs each step of the system's clock, until the metrics note that the server
+/// ends: then for less than a second. A client that stays for 5 seconds is closed, and while 16 are served no other is
+/// accepted.
 ///
 /// # Errors
 ///
 /// The system refused to wait, the clock can't be read, or there is no memory for the events.
-pub fn serve_metrics<R: Clock + RandomSource>(
+pub fn serve_metrics<R: Clock + RandomSource + Log>(
     rt: &R,
     alloc: Global,
     listener: MetricsListener,
@@ -98,8 +100,8 @@ struct Client {
 }
 
 impl MetricsListener {
-    /// Accepts clients, and goes on with them, until the metrics note that the server ends.
-    fn serve<R: Clock + RandomSource>(
+    /// Accepts clients, and goes on with them, until the metrics note that the server ends. Beside that it checks the clock.
+    fn serve<R: Clock + RandomSource + Log>(
         &mut self,
         rt: &R,
         alloc: Global,
@@ -107,15 +109,18 @@ impl MetricsListener {
         events: &mut Events,
         clients: &mut Vec<Client>,
     ) -> io::Result<()> {
+        let mut clock = ClockReading::now(rt);
         for _ in 0..u64::MAX {
             self.poll.poll(events, Some(Duration::from_millis(TICK)))?;
             if metrics.has_ended() {
                 return Ok(());
             }
+            check_clock(rt, metrics, &mut clock);
             let now = Instant::now(rt)?;
             self.accept_all(rt, alloc, now, clients);
             let memory = self.memory.as_ref();
-            let mut service = MetricsService::new(alloc, metrics, memory);
+            let uptime = uptime().unwrap_or(Duration::ZERO);
+            let mut service = MetricsService::new(alloc, metrics, memory, uptime);
             step_all(&mut service, now, clients);
         }
         Ok(())
@@ -166,6 +171,20 @@ impl MetricsListener {
             Err(_) => None,
         }
     }
+}
+
+/// Counts and logs a step of the system's clock since it was read last.
+fn check_clock<R: Clock + Log>(rt: &R, metrics: &Metrics, last: &mut Option<ClockReading>) {
+    let Some(now) = ClockReading::now(rt) else {
+        return;
+    };
+    if let Some(earlier) = last {
+        if let Some(seconds) = now.step_since(earlier) {
+            metrics.note_clock_step();
+            warn!(rt; seconds; "the system's clock was set");
+        }
+    }
+    *last = Some(now);
 }
 
 fn push_client(

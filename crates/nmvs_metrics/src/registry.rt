@@ -4,6 +4,7 @@ use crate::kinds::{
     CAUSES, FAULTS, Fault, QUESTIONS, REFUSALS, REPLIES, kind_of_reply, place_of_cause,
     place_of_fault, place_of_question, place_of_refusal, place_of_reply, word_of,
 };
+use crate::readiness::{Readiness, readiness_of};
 use crate::syncs::{BOUNDS, bucket_of, push_buckets};
 use crate::{Answered, Counted, LogSnapshot, Numbered, Snapshot};
 use nmvs_messages::{Content, Released};
@@ -76,7 +77,19 @@ impl WorkerCounts {
 struct LogCounts {
     syncs: Counters,
     nanoseconds: AtomicU64,
-    failures: AtomicU64,
+    has_failed: AtomicBool,
+    /// When the write or sync that is under way began, in nanoseconds since the machine runs, or 0 where none is.
+    began: AtomicU64,
+}
+
+impl LogCounts {
+    /// How many nanoseconds the write or sync that is under way has taken, when the machine runs for this long.
+    fn writing(&self, uptime: Duration) -> u64 {
+        match self.began.load(Ordering::SeqCst) {
+            0 => 0,
+            began => nanoseconds_of(uptime).saturating_sub(began),
+        }
+    }
 }
 
 /// What a running server counts, from its start on. All its threads share it, and none waits for another; a count beyond
@@ -90,6 +103,7 @@ pub struct Metrics {
     packs: Counters,
     shards: usize,
     sessions: AtomicU64,
+    clock_steps: AtomicU64,
     log: Option<LogCounts>,
 }
 
@@ -113,7 +127,8 @@ impl Metrics {
             Some(LogCounts {
                 syncs: Counters::new(alloc, BOUNDS.len() + 1)?,
                 nanoseconds: AtomicU64::new(0),
-                failures: AtomicU64::new(0),
+                has_failed: AtomicBool::new(false),
+                began: AtomicU64::new(0),
             })
         } else {
             None
@@ -126,6 +141,7 @@ impl Metrics {
             packs: Counters::new(alloc, shards)?,
             shards,
             sessions: AtomicU64::new(0),
+            clock_steps: AtomicU64::new(0),
             log,
         })
     }
@@ -143,8 +159,17 @@ impl Metrics {
         self.is_ready.store(true, Ordering::SeqCst);
     }
 
+    /// Whether the server is ready, when the machine runs for this long.
+    pub(crate) fn readiness(&self, uptime: Duration) -> Readiness {
+        let (has_failed, writing) = match &self.log {
+            Some(log) => (log.has_failed.load(Ordering::SeqCst), log.writing(uptime)),
+            None => (false, 0),
+        };
+        readiness_of(self.is_ready(), has_failed, writing)
+    }
+
     /// Whether the server listens.
-    pub(crate) fn is_ready(&self) -> bool {
+    fn is_ready(&self) -> bool {
         self.is_ready.load(Ordering::SeqCst)
     }
 
@@ -172,6 +197,11 @@ impl Metrics {
         }
     }
 
+    /// Counts a step of the system's clock.
+    pub(crate) fn note_clock_step(&self) {
+        self.clock_steps.fetch_add(1, Ordering::SeqCst);
+    }
+
     /// Counts a session in which a line is to be served.
     pub fn note_session(&self) {
         self.sessions.fetch_add(1, Ordering::SeqCst);
@@ -186,10 +216,25 @@ impl Metrics {
         }
     }
 
-    /// Notes that the log failed.
+    /// Notes that a write or sync of the log begins, when the machine runs for this long.
+    pub fn note_write(&self, uptime: Duration) {
+        if let Some(log) = &self.log {
+            let began = nanoseconds_of(uptime).max(1);
+            log.began.store(began, Ordering::SeqCst);
+        }
+    }
+
+    /// Notes that no write or sync of the log is under way any more.
+    pub fn note_written(&self) {
+        if let Some(log) = &self.log {
+            log.began.store(0, Ordering::SeqCst);
+        }
+    }
+
+    /// Notes that the log failed, which it does for good.
     pub fn note_failure(&self) {
         if let Some(log) = &self.log {
-            log.failures.fetch_add(1, Ordering::SeqCst);
+            log.has_failed.store(true, Ordering::SeqCst);
         }
     }
 }
@@ -282,12 +327,18 @@ impl<'p> WorkerMetrics<'p> {
 }
 
 impl Metrics {
-    /// What is counted now, and how many bytes of memory the process has, where the system reports it.
+    /// What is counted now, when the machine runs for this long, and how many bytes of memory the process has, where the
+    /// system reports it.
     ///
     /// # Errors
     ///
     /// There is no memory for the lists.
-    pub fn snapshot(&self, alloc: Global, resident: Option<u64>) -> Result<Snapshot, AllocError> {
+    pub fn snapshot(
+        &self,
+        alloc: Global,
+        resident: Option<u64>,
+        uptime: Duration,
+    ) -> Result<Snapshot, AllocError> {
         let mut snapshot = Snapshot {
             ready: self.is_ready(),
             answered: Vec::new(alloc),
@@ -300,7 +351,8 @@ impl Metrics {
             sessions: self.sessions.load(Ordering::SeqCst),
             entries: Vec::new(alloc),
             packs: Vec::new(alloc),
-            log: self.log_snapshot(alloc)?,
+            log: self.log_snapshot(alloc, uptime)?,
+            clock_steps: self.clock_steps.load(Ordering::SeqCst),
             resident,
         };
         self.push_all(&mut snapshot)?;
@@ -426,7 +478,11 @@ impl Metrics {
         confirmed
     }
 
-    fn log_snapshot(&self, alloc: Global) -> Result<Option<LogSnapshot>, AllocError> {
+    fn log_snapshot(
+        &self,
+        alloc: Global,
+        uptime: Duration,
+    ) -> Result<Option<LogSnapshot>, AllocError> {
         let Some(log) = &self.log else {
             return Ok(None);
         };
@@ -435,7 +491,8 @@ impl Metrics {
             waiting: Vec::new(alloc),
             syncs: Vec::new(alloc),
             nanoseconds: log.nanoseconds.load(Ordering::SeqCst),
-            failures: log.failures.load(Ordering::SeqCst),
+            has_failed: log.has_failed.load(Ordering::SeqCst),
+            writing: log.writing(uptime),
         };
         self.push_log(&mut snapshot, log)?;
         Ok(Some(snapshot))

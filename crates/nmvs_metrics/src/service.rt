@@ -2,6 +2,7 @@
 ghost use Rattle.std.specs.Prelude.{◌≡◌};
 ghost use Rattle.nmvs_metrics.specs.Visits as specs;
 
+use crate::readiness::{Readiness, status_of, text_of};
 use crate::{Metrics, encode};
 use bytes::{BufMut, Bytes};
 use http::{HeaderValue, Request, StatusCode, header};
@@ -9,6 +10,7 @@ use http_server::{Response, Service};
 use std::alloc::{AllocError, Global};
 use std::fs::File;
 use std::os::unix::fs::FileExt;
+use std::time::Duration;
 
 /// The type of the page of metrics.
 const METRICS_TYPE: &str = "text/plain; version=0.0.4; charset=utf-8";
@@ -24,21 +26,19 @@ const PAGE_SIZE: u64 = 4_096;
 pub(crate) enum Content {
     Metrics,
     Alive,
-    Listens,
-    Starts,
+    Ready(Readiness),
     NoPage,
     NoMethod,
 }
 
-/// What a request of this method for this path is answered, where the server listens or not.
-pub(crate) fn told(method: &str, path: &str, listens: bool) -> Content
-    ensures { result ≡ specs.told method.now path.now listens }
+/// What a request of this method for this path is answered by a server of this readiness.
+pub(crate) fn told(method: &str, path: &str, readiness: Readiness) -> Content
+    ensures { result ≡ specs.told method.now path.now readiness }
 {
     let page = match path {
         "/metrics" => Content::Metrics,
         "/healthz" => Content::Alive,
-        "/readyz" if listens => Content::Listens,
-        "/readyz" => Content::Starts,
+        "/readyz" => Content::Ready(readiness),
         _ => return Content::NoPage,
     };
     match method {
@@ -53,6 +53,7 @@ pub struct MetricsService<'p, 'm> {
     alloc: Global,
     metrics: &'p Metrics,
     memory: Option<&'m File>,
+    uptime: Duration,
 }
 
 impl<'p, 'm> Service for MetricsService<'p, 'm> {
@@ -67,13 +68,16 @@ impl<'p, 'm> Service for MetricsService<'p, 'm> {
         // One answer a connection: the next client is not to wait for one that stays.
         response.add_header(header::CONNECTION, HeaderValue::from_static("close"))?;
         let (method, path) = (request.method().as_str(), request.uri().path());
-        match told(method, path, self.metrics.is_ready()) {
+        match told(method, path, self.metrics.readiness(self.uptime)) {
             Content::Metrics => {
                 let page = self.page()?;
                 put(response, HeaderValue::from_static(METRICS_TYPE), &page)
             }
-            Content::Alive | Content::Listens => answer(response, StatusCode::OK, "ok\n"),
-            Content::Starts => answer(response, StatusCode::SERVICE_UNAVAILABLE, "starting\n"),
+            Content::Alive => answer(response, StatusCode::OK, "ok\n"),
+            Content::Ready(readiness) => {
+                let status = status_of(readiness);
+                answer(response, status, text_of(readiness))
+            }
             Content::NoPage => answer(response, StatusCode::NOT_FOUND, "not found\n"),
             Content::NoMethod => {
                 response.add_header(header::ALLOW, HeaderValue::from_static("GET, HEAD"))?;
@@ -84,23 +88,26 @@ impl<'p, 'm> Service for MetricsService<'p, 'm> {
 }
 
 impl<'p, 'm> MetricsService<'p, 'm> {
-    /// Answers with these metrics, and with the memory of the process, where the system reports it in this file.
+    /// Answers with these metrics, and with the memory of the process, where the system reports it in this file, when the
+    /// machine runs for this long.
     pub fn new(
         alloc: Global,
         metrics: &'p Metrics,
         memory: Option<&'m File>,
+        uptime: Duration,
     ) -> MetricsService<'p, 'm> {
         MetricsService {
             alloc,
             metrics,
             memory,
+            uptime,
         }
     }
 
     /// The page of the metrics as they are now.
     fn page(&self) -> Result<String, AllocError> {
         let resident = self.memory.and_then(|file| resident(file));
-        let snapshot = self.metrics.snapshot(self.alloc, resident)?;
+        let snapshot = self.metrics.snapshot(self.alloc, resident, self.uptime)?;
         encode(self.alloc, &snapshot)
     }
 }

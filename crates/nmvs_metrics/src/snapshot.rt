@@ -42,8 +42,10 @@ pub struct LogSnapshot {
     pub syncs: Vec<Bucket>,
     /// How many nanoseconds all of them took.
     pub nanoseconds: u64,
-    /// How often the log failed.
-    pub failures: u64,
+    /// Whether it failed.
+    pub has_failed: bool,
+    /// How many nanoseconds the write or sync that is under way has taken, or 0 where none is.
+    pub writing: u64,
 }
 
 /// What a server has counted, at one moment.
@@ -73,6 +75,8 @@ pub struct Snapshot {
     pub packs: Vec<Numbered>,
     /// Of the log, where there is one.
     pub log: Option<LogSnapshot>,
+    /// How often the system's clock was set.
+    pub clock_steps: u64,
     /// How many bytes of memory the process has, where the system reports it.
     pub resident: Option<u64>,
 }

@@ -92,7 +92,7 @@ fn serve_beside<'o, H: Host + Sync, T: Sides>(
 /// The thread or memory for it was refused. The work is not begun then.
 fn run_beside<
     // Neither `Host` nor `Files`: what a thread runs may not rest on them.
-    R: Threads + Wait + Clock + RandomSource + Sync,
+    R: Threads + Wait + Clock + RandomSource + Log + Sync,
     O,
     F: FnOnce() -> O,
 >(

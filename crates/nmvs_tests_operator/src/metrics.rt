@@ -3,8 +3,8 @@ use nmvs_messages::{
     Ask, Asked, Content, Desk, Line, Peer, Released, Turn, Withheld, WithheldAnswers,
 };
 use nmvs_metrics::{
-    Answered, Bucket, Counted, Fault, LogSnapshot, Metrics, MetricsService, Numbered, Snapshot,
-    encode, resident_in,
+    Answered, Bucket, ClockReading, Counted, Fault, LogSnapshot, Metrics, MetricsService, Numbered,
+    Snapshot, encode, resident_in,
 };
 use nmvs_protocol::{Session, read_line};
 use nmvs_rules::{Cause, Question, Refusal, Reply};
@@ -18,6 +18,9 @@ use std::time::Duration;
 const PAGE: &str = r#"# HELP nmvs_ready Whether the server listens, 1 or 0.
 # TYPE nmvs_ready gauge
 nmvs_ready 1
+# HELP nmvs_clock_steps_total Steps of the system's clock by more than 2 seconds.
+# TYPE nmvs_clock_steps_total counter
+nmvs_clock_steps_total 2
 # HELP process_resident_memory_bytes Resident memory size in bytes.
 # TYPE process_resident_memory_bytes gauge
 process_resident_memory_bytes 8192
@@ -73,6 +76,12 @@ nmvs_journal_sync_seconds_count 5
 # HELP nmvs_journal_failures_total Journals whose file failed.
 # TYPE nmvs_journal_failures_total counter
 nmvs_journal_failures_total 1
+# HELP nmvs_log_failed Whether the log failed, 1 or 0.
+# TYPE nmvs_log_failed gauge
+nmvs_log_failed 1
+# HELP nmvs_log_write_seconds Seconds that the write or sync of the log that is under way has taken, 0 where none is.
+# TYPE nmvs_log_write_seconds gauge
+nmvs_log_write_seconds 7000000002e-9
 "#;
 
 fn counted(word: &'static str, count: u64) -> Counted {
@@ -114,6 +123,7 @@ fn snapshot(alloc: Global) -> Result<Snapshot, AllocError> {
         entries: vec![in alloc; numbered(0, 5)]?,
         packs: vec![in alloc; numbered(0, 3)]?,
         log: None,
+        clock_steps: 2,
         resident: Some(8_192),
     })
 }
@@ -125,7 +135,8 @@ fn log_snapshot(alloc: Global) -> Result<LogSnapshot, AllocError> {
         waiting: vec![in alloc; numbered(0, 1)]?,
         syncs: vec![in alloc; bucket("0.001", 2), bucket("0.1", 0), bucket("+Inf", 3)]?,
         nanoseconds: 6_000_000_001,
-        failures: 1,
+        has_failed: true,
+        writing: 7_000_000_002,
     })
 }
 
@@ -140,9 +151,12 @@ fn the_page_is_as_written_by_hand(rt: HostRuntime) {
     assert!(rt; page.strip_prefix(PAGE) == Some(LOG));
 }
 
+/// How long the machine runs when metrics are asked for.
+const LATER: Duration = Duration::from_secs(1_000);
+
 /// Whether the page of these metrics has this line.
 fn has_line(alloc: Global, metrics: &Metrics, line: &str) -> bool {
-    match metrics.snapshot(alloc, None) {
+    match metrics.snapshot(alloc, None, LATER) {
         Ok(snapshot) => match encode(alloc, &snapshot) {
             Ok(page) => page.lines().any(|found| found == line),
             Err(_) => false,
@@ -256,6 +270,8 @@ fn connections_and_syncs_are_counted(rt: HostRuntime) {
     metrics.worker(1).note_confirmed(0, 4);
     metrics.note_sync(Duration::from_micros(100));
     metrics.note_sync(Duration::from_millis(2));
+    metrics.note_write(Duration::from_millis(999_999));
+    metrics.note_failure();
     metrics.note_failure();
     for line in [
         "nmvs_connections_open{worker=\"1\"} 1",
@@ -268,6 +284,9 @@ fn connections_and_syncs_are_counted(rt: HostRuntime) {
         "nmvs_journal_sync_seconds_bucket{le=\"0.005\"} 2",
         "nmvs_journal_sync_seconds_sum 2100000e-9",
         "nmvs_journal_failures_total 1",
+        "nmvs_log_failed 1",
+        "nmvs_log_write_seconds 1000000e-9",
+        "nmvs_clock_steps_total 0",
     ] {
         assert!(rt; has_line(rt.alloc(), &metrics, line), "{line}");
     }
@@ -278,7 +297,7 @@ fn answer_to(rt: &HostRuntime, metrics: &Metrics, request: &str) -> io::Result<V
     let alloc = rt.alloc();
     let keys = RandomState::new(rt)?;
     let mut connection = Connection::new(alloc, keys, Config::default());
-    let mut service = MetricsService::new(alloc, metrics, None);
+    let mut service = MetricsService::new(alloc, metrics, None, LATER);
     let mut input = request.as_bytes();
     let mut output = Vec::new(alloc);
     serve(&mut connection, &mut service, &mut input, &mut output)?;
@@ -314,10 +333,60 @@ fn requests_are_answered_by_path_and_method(rt: HostRuntime) {
         let answer = answer_to(&rt, &metrics, request).expect(&rt, "an answer");
         assert!(rt; answer.starts_with(begin.as_bytes()), "{request}");
     }
-    metrics.note_ready();
+}
+
+/// Whether a request for `/readyz` has an answer of this status, and with this text.
+fn is_answered(rt: &HostRuntime, metrics: &Metrics, status: &str, text: &str) -> bool {
     let request = "GET /readyz HTTP/1.1\r\nHost: x\r\n\r\n";
-    let answer = answer_to(&rt, &metrics, request).expect(&rt, "an answer");
-    assert!(rt; answer.ends_with(b"\r\n\r\nok\n"));
+    match answer_to(rt, metrics, request) {
+        Ok(answer) => { answer.starts_with(status.as_bytes()) && answer.ends_with(text.as_bytes()) }
+        Err(_) => false,
+    }
+}
+
+const READY: &str = "HTTP/1.1 200 OK\r\n";
+
+const UNREADY: &str = "HTTP/1.1 503 Service Unavailable\r\n";
+
+#[test]
+fn a_failed_or_hanging_log_is_not_ready(rt: HostRuntime) {
+    let metrics = Metrics::new(rt.alloc(), 1, 1, true).expect(&rt, "memory");
+    assert!(rt; is_answered(&rt, &metrics, UNREADY, "\r\n\r\nstarting\n"));
+    metrics.note_ready();
+    assert!(rt; is_answered(&rt, &metrics, READY, "\r\n\r\nok\n"));
+    metrics.note_write(Duration::from_secs(995));
+    assert!(rt; is_answered(&rt, &metrics, READY, "\r\n\r\nok\n"));
+    metrics.note_write(Duration::from_millis(994_999));
+    assert!(rt; is_answered(&rt, &metrics, UNREADY, "\r\n\r\nlog hangs\n"));
+    metrics.note_written();
+    assert!(rt; is_answered(&rt, &metrics, READY, "\r\n\r\nok\n"));
+    metrics.note_write(Duration::from_secs(1));
+    metrics.note_failure();
+    assert!(rt; is_answered(&rt, &metrics, UNREADY, "\r\n\r\nlog failed\n"));
+}
+
+fn reading(since_1970: u64, uptime: u64) -> ClockReading {
+    ClockReading {
+        since_1970: Duration::from_millis(since_1970),
+        uptime: Duration::from_millis(uptime),
+    }
+}
+
+#[test]
+fn a_step_is_more_than_two_seconds_from_the_time_that_passed(rt: HostRuntime) {
+    let earlier = reading(1_000_000, 50_000);
+    for (later, step) in [
+        (reading(1_000_200, 50_200), None),
+        (reading(1_002_200, 50_200), None),
+        (reading(1_002_201, 50_200), Some(2)),
+        (reading(4_600_200, 50_200), Some(3_600)),
+        (reading(998_200, 50_200), None),
+        (reading(940_200, 50_200), Some(-60)),
+        (reading(1_060_000, 110_000), None),
+        (reading(1_000_000, 110_000), Some(-60)),
+    ] {
+        assert!(rt; later.step_since(&earlier) == step);
+    }
 }
 
 #[test]

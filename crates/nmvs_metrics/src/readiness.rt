@@ -1,0 +1,60 @@
+//! Whether a server is ready to answer questions.
+ghost use Rattle.std.specs.Prelude.{◌≡◌};
+ghost use Rattle.nmvs_metrics.specs.Visits as specs;
+
+use http::StatusCode;
+
+/// How many nanoseconds a write or sync of the log takes before the log hangs (own).
+const LONGEST_WRITE: u64 = 5_000_000_000;
+
+/// Whether a server is ready to answer questions.
+#[derive(Clone, Copy)]
+pub(crate) enum Readiness {
+    /// It does not listen yet.
+    Starting,
+    Listening,
+    /// No new entry can be answered any more.
+    LogFailed,
+    /// The write or sync of the log that is under way takes too long.
+    LogHangs,
+}
+
+/// The readiness of a server that listens or not, and whose log failed or not. The write or sync of the log that is under way
+/// has taken this many nanoseconds, or 0 where none is.
+pub(crate) fn readiness_of(listens: bool, has_failed: bool, nanoseconds: u64) -> Readiness
+    ensures { result ≡ specs.readiness listens has_failed nanoseconds }
+{
+    if has_failed {
+        Readiness::LogFailed
+    } else if nanoseconds > LONGEST_WRITE {
+        Readiness::LogHangs
+    } else if listens {
+        Readiness::Listening
+    } else {
+        Readiness::Starting
+    }
+}
+
+/// The text of the answer to `/readyz`.
+pub(crate) fn text_of(readiness: Readiness) -> &'static str
+    ensures { result.now ≡ specs.readiness_text readiness }
+{
+    match readiness {
+        Readiness::Starting => "starting\n",
+        Readiness::Listening => "ok\n",
+        Readiness::LogFailed => "log failed\n",
+        Readiness::LogHangs => "log hangs\n",
+    }
+}
+
+/// The status of the answer to `/readyz`.
+pub(crate) fn status_of(readiness: Readiness) -> StatusCode
+    ensures { result ≡ specs.readiness_status readiness }
+{
+    match readiness {
+        Readiness::Listening => StatusCode::OK,
+        Readiness::Starting | Readiness::LogFailed | Readiness::LogHangs => {
+            StatusCode::SERVICE_UNAVAILABLE
+        }
+    }
+}
