@@ -398,7 +398,7 @@ fn two_sessions_take_into_one_list(rt: HostRuntime) {
     let more = b"IFY 09506000134352 SN1\nQUIT\nph1\n";
     let taking = one.take(more, &mut withheld, &Peer::Anyone, &mut desk);
     assert_eq!(rt; (taking.bytes, taking.end), (28, Some(End::Quit)));
-    let (released, ()) = desk.release(&mut withheld);
+    let released = desk.release(&mut withheld);
     for (place, answer) in ["unread", "unread", "reply", "bye", "none"]
         .iter()
         .enumerate()
