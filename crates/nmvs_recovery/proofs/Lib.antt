@@ -1,1 +1,2 @@
 mod ShardExports
+mod Slicing

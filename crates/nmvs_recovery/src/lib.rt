@@ -2,7 +2,7 @@
 //!
 //! - [`prepare`] reads what a run begins with: the users, and the shards of an import or of the log ([`Ready`]).
 //! - [`mark`] notes how far the log is confirmed.
-//! - [`export`] and [`write_export`] write the audit trail of a repository.
+//! - [`export`] and [`write_export`] write the audit trail of a repository to a file, and [`export_summed`] to any sink.
 //!
 //! It serves nobody, so it names neither connections nor the desks behind them.
 #![tactic(auto)]
@@ -18,11 +18,12 @@ mod preparation;
 mod progress;
 mod rehearsal_packs;
 mod run;
+mod slices;
 mod users;
 mod users_file;
 
 pub use export_files::{Confirming, FileExportFault, Unwaited, export, write_export};
-pub use exports::entries_of;
+pub use exports::{Exported, entries_of, export_summed};
 pub use fault::FileFault;
 pub use marks::{mark, mark_users};
 pub use paths::Paths;

@@ -1,7 +1,7 @@
 //! The users with which a run begins.
 use crate::imports::{MOST_FILE_READS, open};
-use crate::rehearsal_packs::USERS;
 use crate::marks::refused;
+use crate::rehearsal_packs::USERS;
 use crate::{FileFault, Host, Paths, Run};
 use nmvs_directory::{Naming, Notice, Registrar};
 use nmvs_operator::{LoadFault, load_users};
