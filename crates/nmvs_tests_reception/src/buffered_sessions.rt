@@ -11,8 +11,6 @@ struct Stranger;
 impl<'a> Desk<'a> for Stranger {
     ghost use Rattle.nmvs_messages.specs.Withheld.{AtOnce, Stays};
 
-    type Evidence = ();
-
     ghost takes = { λ _ _ _ _ _. Unit {0} };
 
     ghost releases = { AtOnce };
@@ -23,8 +21,8 @@ impl<'a> Desk<'a> for Stranger {
         Withheld::new(Content::Turned(Turn::Nobody))
     }
 
-    fn release<'h>(&mut self, withheld: &'h mut WithheldAnswers<'a>) -> (Released<'h, 'a>, ()) {
-        (withheld.release(), ())
+    fn release<'h>(&mut self, withheld: &'h mut WithheldAnswers<'a>) -> Released<'h, 'a> {
+        withheld.release()
     }
 }
 
@@ -58,7 +56,7 @@ fn sessions_that_share_a_desk_are_answered_each(rt: HostRuntime) -> Result<(), F
     taken[2] = take(&mut one, b"6000134352 SN1\nph1\nQUIT\nph1\n", &mut withheld);
     assert_eq!(rt; taken, [15, 1, 24]);
     assert_eq!(rt; one.unsent(), b"".as_slice());
-    let (released, ()) = Stranger.release(&mut withheld);
+    let released = Stranger.release(&mut withheld);
     other.tell(alloc, &released);
     one.tell(alloc, &released);
     assert_eq!(rt;
