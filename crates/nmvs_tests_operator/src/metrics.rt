@@ -152,11 +152,13 @@ fn the_page_is_as_written_by_hand(rt: HostRuntime) {
 }
 
 /// How long the machine runs when metrics are asked for.
-const LATER: Duration = Duration::from_secs(1_000);
+fn later() -> Duration {
+    Duration::from_secs(1_000)
+}
 
 /// Whether the page of these metrics has this line.
 fn has_line(alloc: Global, metrics: &Metrics, line: &str) -> bool {
-    match metrics.snapshot(alloc, None, LATER) {
+    match metrics.snapshot(alloc, None, later()) {
         Ok(snapshot) => match encode(alloc, &snapshot) {
             Ok(page) => page.lines().any(|found| found == line),
             Err(_) => false,
@@ -297,7 +299,7 @@ fn answer_to(rt: &HostRuntime, metrics: &Metrics, request: &str) -> io::Result<V
     let alloc = rt.alloc();
     let keys = RandomState::new(rt)?;
     let mut connection = Connection::new(alloc, keys, Config::default());
-    let mut service = MetricsService::new(alloc, metrics, None, LATER);
+    let mut service = MetricsService::new(alloc, metrics, None, later());
     let mut input = request.as_bytes();
     let mut output = Vec::new(alloc);
     serve(&mut connection, &mut service, &mut input, &mut output)?;
