@@ -8,10 +8,9 @@ use nmvs_directory::Naming;
 use nmvs_history::Histories;
 use nmvs_journal::{CommitLog, Confirmed, LogName, Reach, Store};
 use nmvs_messages::{Ask, Desk, Peer, Released, Withheld, WithheldAnswers};
-use std::io;
 use std::marker::Model;
-use std::rt;
 use std::sync::Wait;
+use std::{io, rt};
 
 /// Answers lines as a clerk's desk does, and lets an answer go only once the log of the repository has confirmed the entries
 /// on which it rests. The clerk's receipts are let go then. An alarm is told where the log fails meanwhile (own).
@@ -132,9 +131,9 @@ impl<
     }
 
     fn release<'h>(&mut self, withheld: &'h mut WithheldAnswers<'a>) -> Released<'h, 'a> {
-        let (released, failure) =
-            self.desk
-                .release_by(self.log, &mut self.reach, &mut self.confirmed, withheld);
+        let (released, failure) = self
+            .desk
+            .release_by(self.log, &mut self.reach, &mut self.confirmed, withheld);
         tell_failure(&self.alarm, failure);
         released
     }
