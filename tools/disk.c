@@ -10,7 +10,7 @@
  * DISK_DELAY    microseconds that each sync takes longer
  *
  * The notes are five counts of calls, one a kind, and then for each file its name (120 bytes) and its length when the last
- * sync of it that succeeded began (8 bytes). */
+ * sync of it that succeeded began (8 bytes); of a folder 1. The folder itself has the name ".". */
 #define _GNU_SOURCE
 #include <dlfcn.h>
 #include <errno.h>
@@ -117,7 +117,7 @@ static int synced(int fd, int (*real)(int)) {
     if (fails(SYNC)) return -1;
     fstat(fd, &before);
     int failed = real(fd);
-    if (!failed && S_ISREG(before.st_mode)) note(name, before.st_size);
+    if (!failed) note(name, S_ISREG(before.st_mode) ? before.st_size : 1);
     return failed;
 }
 

@@ -49,11 +49,20 @@ class Disk:
         """How many calls of each kind there were."""
         return dict(zip(self.CALLS, struct.unpack_from(f"{len(self.CALLS)}q", self.notes.read_bytes())))
 
-    def confirmed(self):
-        """How many bytes of each file were confirmed, by its name."""
+    def synced(self):
+        """How many bytes of each file were confirmed, by its name; 1 of each folder that was synced, of which the disk's is "."."""
         noted = self.notes.read_bytes()[8 * len(self.CALLS):]
         rows = struct.iter_unpack(f"{self.NAME}sq", noted)
         return {name.rstrip(b"\0").decode(): length for name, length in rows if name[0]}
+
+    def confirmed(self):
+        """How many bytes of each file in the folder were confirmed, by its name."""
+        return {name: length for name, length in self.synced().items() if name != "."}
+
+    def forget(self):
+        """Forgets what was counted and noted, while the program runs."""
+        with self.notes.open("r+b") as notes:
+            notes.write(bytes(8 * len(self.CALLS) + (self.NAME + 8) * self.FILES))
 
 
 class Server:
