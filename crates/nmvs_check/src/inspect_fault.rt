@@ -1,7 +1,4 @@
 //! Why nothing is told of an export.
-ghost use Rattle.std.specs.Prelude.{◌≡◌};
-ghost use Rattle.nmvs_check.specs.Status as statuses;
-
 use nmvs_inspect::AnswerFault;
 use nmvs_protocol::reply_text;
 use nmvs_record::{Finding, Objection};
@@ -15,19 +12,6 @@ pub(crate) enum InspectFault {
     Found(Finding),
     /// It is lawful, and the answer was not told to its end.
     Answer(AnswerFault),
-}
-
-/// The status that a fault makes: 1 where the input is no export of a lawful trail, and 2 where that is not known, or where
-/// it is lawful.
-pub(crate) fn status_of(fault: &InspectFault) -> u8
-    ensures { result ≡ statuses.status_of fault.now }
-{
-    match fault {
-        InspectFault::Found(Finding::Unended(_)) => 1,
-        InspectFault::Found(Finding::Line(_, Objection::Memory)) => 2,
-        InspectFault::Found(Finding::Line(..)) => 1,
-        InspectFault::Found(Finding::Read) | InspectFault::Answer(_) => 2,
-    }
 }
 
 /// The text of a fault, without LF (own).

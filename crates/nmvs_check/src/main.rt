@@ -12,15 +12,17 @@ mod options;
 mod page_file;
 mod request;
 mod scans;
+mod status;
 
 use crate::comparison::{CompareFault, compare};
 use crate::inputs::{InputFault, Inputs};
-use crate::inspect_fault::{InspectFault, fault_text, status_of};
+use crate::inspect_fault::{InspectFault, fault_text};
 use crate::inspection::inspect;
 use crate::options::{Asked, OptionFault, Options, read_options};
 use crate::page_file::{PageFault, write_page};
 use crate::request::Request;
 use crate::scans::answer_scans;
+use crate::status::{status_of, status_of_answer};
 use nmvs_elements::National;
 use nmvs_record::Finding;
 use nmvs_shard::HashKey;
@@ -33,7 +35,7 @@ use std::{env, io, slice};
 /// The most reads of an export, or of lines of scans.
 const READS: u64 = 1_000_000_000;
 
-/// The status of an export that is bad, of one that departs, and of lines of scans that are not all read.
+/// The status of an export with another digest than the one beside it.
 const BAD: u8 = 1;
 
 /// The status where nothing is known of the input, or not all of the answer was written.
@@ -138,8 +140,7 @@ fn compare_files(
         compare(alloc, key, &mut old, &mut new, &mut sink, READS)
     };
     match compared {
-        Ok(true) => ExitCode::SUCCESS,
-        Ok(false) => ExitCode::from(BAD),
+        Ok(goes_on) => ExitCode::from(status_of_answer(goes_on)),
         Err(CompareFault::Old(finding)) => fail_of(rt, alloc, old, &before, finding),
         Err(CompareFault::New(finding)) => fail_of(rt, alloc, new, &after, finding),
         Err(CompareFault::Answer(fault)) => {
@@ -199,8 +200,7 @@ fn scan(rt: &HostRuntime, alloc: Global, nation: Option<National>) -> ExitCode {
         answer_scans(alloc, nation, &mut source, &mut sink, READS)
     };
     match answered {
-        Ok(true) => ExitCode::SUCCESS,
-        Ok(false) => ExitCode::from(BAD),
+        Ok(all_read) => ExitCode::from(status_of_answer(all_read)),
         Err(InspectFault::Answer(fault)) => {
             let _ = eprintln!(rt; "{fault}");
             ExitCode::from(TROUBLE)

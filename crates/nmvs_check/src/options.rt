@@ -64,10 +64,11 @@ const VERSION: &str = "0.9.0 (reads entry lines of versions 1 to 3)";
 
 const REPORT: &str = "Prints the reports of product codes, in order of first appearance";
 
-const LIST: &str = "Lists the entries that pass all tests, in the order of the export";
+const LIST: &str =
+    "Lists the entries that pass all tests, oldest first; those of one moment are in the order of the export";
 
 const COUNT: &str =
-    "Counts the entries that pass all tests, by what they have in common; in order of first appearance";
+    "Counts the entries that pass all tests, by what they have in common; the rows are in order of their oldest entries";
 
 const PACKS: &str =
     "Lists the packs that were uploaded in a batch: the status of each, since when, and by whom";
@@ -75,10 +76,11 @@ const PACKS: &str =
 const COMPARE: &str =
     "Says whether a new export goes on from an old one: for each product code the lines of the old one about it are, in \
     order, the first lines of the new one about it. If so it prints GOES ON and the status is 0; else it prints the first \
-    line of the old one that the new one does not have in its place, with what it has there, and the status is 1";
+    line of the old one that the new one does not have in its place, with what it has there, and the status is 1. The \
+    status is also 1 where one of them is not lawful, and 2 in trouble";
 
 const PAGE: &str =
-    "Writes a page for a browser: the counts, product codes and batches, alerts by week, and the flagged alerts";
+    "Writes a page for a browser: the counts, product codes and batches, alerts by week, and the flagged alerts, oldest first";
 
 const SCAN: &str =
     "Reads each line of standard input as a scan of a pack, and writes a row of CSV: the elements of the pack, or why the \

@@ -1,6 +1,7 @@
 pub mod RowLemmas
 pub mod GatheringLemmas
 pub mod ListLemmas
+pub mod SelectionLemmas
 pub mod GroupLemmas
 pub mod PackLemmas
 pub mod ReportRowLemmas

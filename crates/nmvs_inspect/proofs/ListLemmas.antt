@@ -24,6 +24,13 @@ pub untaken-next : {X : Type 0} (entry : X → Entry) (p : Entry → Bool) (t : 
 untaken-next entry p t i e ds l fails at inv =
     inv ∙ sym (append-nil (filter p (take i t))) ∙ ap (λ (b : Bool). filter p (take i t) ++ cond b (get_or t i e ∷ []) []) (sym fails ∙ ap p at) ∙ sym (filter_more p t i e l)
 
+-- what is kept of each element up to one has its entry
+pub each-next : {X Y : Type 0} (entry : X → Entry) (at : Y → Entry) (ys : List Y) (i : ℕ) (y : Y) (xs : List X) (x : X) → i < length ys → y ≡ get_or ys i y → entry x ≡ at y
+    → map entry xs ≡ map at (take i ys) → map entry (xs ++ x ∷ []) ≡ map at (take (i + 1) ys)
+each-next entry at ys i y xs x l is e inv =
+    map-append entry xs (x ∷ []) ∙ ap (λ (z : List Entry). z ++ entry x ∷ []) inv ∙ ap (λ (z : Entry). map at (take i ys) ++ z ∷ []) (e ∙ ap at is)
+    ∙ sym (ap (map at) (take_more ys i y l) ∙ map-append at (take i ys) (get_or ys i y ∷ []))
+
 -- a list with one entry more
 pub list_text-more : (f : Form) (ds : List Dated) (d : Dated) → list_text f (ds ++ d ∷ []) ≡ list_text f ds ++ entry_text f d
 list_text-more f ds d =

@@ -1,5 +1,5 @@
 -- Entries that are counted in groups (own): those of a group have the same parts, as their day and their cause.
-use Rattle.std.specs.Prelude.{◌≡◌, ℕ, ◌+◌, ◌%◌, ◌≤◌, List, [], ◌∷◌, ◌++◌, Bool, if◌then◌else◌, take, map, filter, fold, find, codes, decimal, pos, ℤ, ◌-ℤ◌, Option}
+use Rattle.std.specs.Prelude.{◌≡◌, ℕ, ◌+◌, ◌%◌, ◌≤◌, List, [], ◌∷◌, ◌++◌, Bool, if◌then◌else◌, take, map, fold, find, codes, decimal, pos, ℤ, ◌-ℤ◌, Option}
 use Rattle.std.specs.List.{flat_map, All}
 use Rattle.std.specs.Str.{bytes_eq}
 use Rattle.std.specs.Global.{Vec}
@@ -18,8 +18,9 @@ use Rattle.nmvs_inspect.specs.declared.by.By.TheVariants as by
 use Rattle.nmvs_inspect.specs.declared.filter.Filter.{Filter}
 use Rattle.nmvs_inspect.specs.declared.form.Form.{Form}
 pub use Rattle.nmvs_inspect.specs.declared.groups.Group.{Group}
-use Rattle.nmvs_inspect.specs.Filter.{kind_of_reply, takes}
+use Rattle.nmvs_inspect.specs.Filter.{kind_of_reply}
 use Rattle.nmvs_inspect.specs.Rows.{row_in}
+use Rattle.nmvs_inspect.specs.Selection.{selected}
 
 -- what entries are counted by, in a word
 abbrev pub by_word : By → List ℕ
@@ -68,9 +69,9 @@ abbrev pub IsSingle : Group → Type 0
 IsSingle g =
     let n = day_of g.first.put.moment in (epoch_day g.day ≡ pos n) × (epoch_day g.monday ≡ monday_of n) × (g.number ≡ 1)
 
--- the entries of a trail that a filter takes, in order, each as a group of one
+-- the entries of a trail that a filter takes, oldest first, each as a group of one
 pub record AreSingle (f : Filter) (t : List Entry) (gs : List Group) : Type 0 where
-  pub these : map (λ g. g.first) gs ≡ filter (takes f t) t
+  pub these : map (λ g. g.first) gs ≡ selected f t
   pub single : All IsSingle gs
 
 -- the cause of an alert; other replies have none

@@ -1,5 +1,6 @@
 pub mod Filter
 pub mod Html
+pub mod Selection
 pub mod Rows
 pub mod Gathering
 pub mod Groups

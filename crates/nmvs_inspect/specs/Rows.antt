@@ -1,5 +1,5 @@
 -- Entries as rows: the cells of each, and the texts of rows (own).
-use Rattle.std.specs.Prelude.{◌≡◌, ◌==◌, if◌then◌else◌, slice_index, ℕ, ◌+◌, ◌-◌, ◌*◌, List, [], ◌∷◌, ◌++◌, length, map, take, filter, replicate, codes, pos, Option, Some, None}
+use Rattle.std.specs.Prelude.{◌≡◌, ◌==◌, if◌then◌else◌, slice_index, ℕ, ◌+◌, ◌-◌, ◌*◌, List, [], ◌∷◌, ◌++◌, length, map, take, replicate, codes, pos, Option, Some, None}
 use Rattle.std.specs.List.{flat_map}
 use Rattle.csv.specs.Writing.{default_writer, row_text}
 use Rattle.jiff_core.specs.DateTime.{civil_nanos}
@@ -17,8 +17,9 @@ use Rattle.nmvs_protocol.specs.Texts.{reply_text}
 use Rattle.nmvs_inspect.specs.declared.filter.Filter.{Filter}
 use Rattle.nmvs_inspect.specs.declared.form.Form.{Form}
 use Rattle.nmvs_inspect.specs.declared.form.Form.TheVariants as form
-use Rattle.nmvs_inspect.specs.Filter.{named_batch, takes}
+use Rattle.nmvs_inspect.specs.Filter.{named_batch}
 use Rattle.nmvs_inspect.specs.Html.{html_row}
+use Rattle.nmvs_inspect.specs.Selection.{selected}
 
 -- an entry with the date and the time of its moment, by UTC
 pub record Dated : Type 0 where
@@ -97,9 +98,9 @@ entry_text form.Csv d = row form.Csv (cells d)
 entry_text form.Table d = row form.Table (cells d)
 entry_text form.Html d = row form.Html (cells d)
 
--- the entries of a trail that a filter takes, in order, with their dates
+-- the entries of a trail that a filter takes, oldest first, with their dates
 pub record AreTaken (f : Filter) (t : List Entry) (ds : List Dated) : Type 0 where
-  pub these : map (λ d. d.entry) ds ≡ filter (takes f t) t
+  pub these : map (λ d. d.entry) ds ≡ selected f t
 
 -- the text of a list
 abbrev pub list_text : Form → List Dated → List ℕ

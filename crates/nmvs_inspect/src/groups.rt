@@ -11,6 +11,7 @@ ghost use Rattle.nmvs_inspect.specs.Rows.{row_in};
 
 use crate::filter::kind_of_reply;
 use crate::rows::append_row;
+use crate::selection::select;
 use crate::{AnswerFault, By, Filter, Form};
 use indexmap::IndexSet;
 use jiff::civil::Date;
@@ -34,13 +35,15 @@ pub(crate) struct Group {
     pub number: u64,
 }
 
-/// Writes how many of the entries that a filter takes have the same parts: a row a group, in order of first appearance.
+/// Writes how many of the entries that a filter takes have the same parts: a row a group, in order of first appearance in
+/// the list of these entries, which is oldest first. So the groups of a day, a week or a month come in order of time.
 ///
-/// It takes memory for the groups and their rows.
+/// It takes memory for a reference to each entry, as much again for a trail that is not in order of time, and for the groups
+/// and their rows.
 ///
 /// # Errors
 ///
-/// There is no memory for a group or a row, or a write failed.
+/// There is no memory for the references, a group or a row, or a write failed.
 pub fn write_groups<A: Allocator, W: Sink>(
     alloc: Global,
     shard: &Shard<A>,
@@ -69,15 +72,25 @@ pub(crate) fn groups_of<A: Allocator>(
     ensures { IfOk result (λ groups. (ds : List spec.Group) × spec.AreSingle filter.now shard.now ds
         × (groups.items ≡ spec.groups_of by.now ds)) }
 {
-    let entries = shard.trail();
-    let tables = shard.tables();
-    let mut keys = IndexSet::with_hasher(alloc, tables.key());
+    let entries = select(alloc, shard, filter)?;
+    count_all(alloc, shard.tables().key(), by, &entries)
+}
+
+/// The groups of entries, in order of first appearance.
+fn count_all(
+    alloc: Global,
+    key: HashKey,
+    by: &[By],
+    entries: &[&Entry],
+) -> Result<Vec<Group>, AllocError>
+    ensures { IfOk result (λ groups. (ds : List spec.Group) × (map (λ d. d.first) ds ≡ map (λ e. e.now) entries.now)
+        × All spec.IsSingle ds × (groups.items ≡ spec.groups_of by.now ds)) }
+{
+    let mut keys = IndexSet::with_hasher(alloc, key);
     let mut groups = Vec::new(alloc);
     for (place, entry) in entries.iter().enumerate() {
-        if filter.takes(tables, entry) {
-            let found = single(entry);
-            count(alloc, &mut keys, &mut groups, by, place, &found)?;
-        }
+        let found = single(entry);
+        count(alloc, &mut keys, &mut groups, by, place, &found)?;
     }
     Ok(groups)
 }

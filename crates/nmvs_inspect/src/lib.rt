@@ -1,6 +1,6 @@
 //! What inspectors ask of a lawful trail.
 //!
-//! A [`Filter`] says which entries are wanted, as a definition over entries. [`write_list`] writes them, in order, in a
+//! A [`Filter`] says which entries are wanted, as a definition over entries. [`write_list`] writes them, oldest first, in a
 //! [`Form`]. [`write_groups`] counts them by the parts that they share, and [`write_packs`] lists the packs of a batch with
 //! their status. The trail is not copied: an answer is made from the shard of an import, a block at a time.
 //! [`first_departure`] says whether a later trail continues an earlier one.
@@ -20,6 +20,7 @@ mod packs;
 mod page;
 mod reports;
 mod rows;
+mod selection;
 mod weeks;
 
 pub use answer_fault::AnswerFault;

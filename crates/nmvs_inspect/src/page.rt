@@ -9,11 +9,11 @@ ghost use Rattle.nmvs_inspect.specs.Groups as groups;
 ghost use Rattle.nmvs_inspect.specs.Page as page;
 ghost use Rattle.nmvs_inspect.specs.Rows as rows;
 
-use crate::gathering::write_full;
 use crate::groups::{append_groups, groups_of};
 use crate::html::{append_escaped, append_html, append_html_row};
+use crate::listing::write_entries;
 use crate::reports::{holder_text, lock_text};
-use crate::rows::append_entry;
+use crate::selection::select;
 use crate::weeks::append_chart;
 use crate::{AnswerFault, By, Filter, Form};
 use nmvs_identifier::{Batch, Name, ProductCode};
@@ -90,10 +90,11 @@ const FOOT: &str = "</tbody></table></div>\n<script>\n\
     }\n\
     </script>\n</body></html>\n";
 
-/// Writes a page for a browser: a verdict, these product codes with their counts, alerts by week, and the flagged alerts
-/// in order (Articles 36 and 40; the form is own). It needs nothing from elsewhere.
+/// Writes a page for a browser: a verdict, these product codes with their counts, alerts by week, and the flagged alerts,
+/// both oldest first (Articles 36 and 40; the form is own). It needs nothing from elsewhere.
 ///
-/// It takes memory for the rows of product codes, batches and weeks, and for one block of those of alerts.
+/// It takes memory for the rows of product codes, batches and weeks, for references to the alerts, and for one block of
+/// their rows.
 ///
 /// # Errors
 ///
@@ -289,16 +290,10 @@ fn write_alerts<A: Allocator, W: Sink>(
     ensures { OnOk result ((ds : List rows.Dated) × rows.AreTaken page.flagged_alerts shard.now ds
         × Delivers (W.taken sink.old) (W.taken sink.new) (block.old.items ++ page.alerts_text ds)) }
 {
-    let entries = shard.trail();
-    let tables = shard.tables();
     let filter = flagged_alerts();
+    let entries = select(alloc, shard, &filter)?;
     append_html(block, ALERTS)?;
-    for entry in entries {
-        if filter.takes(tables, entry) {
-            append_entry(alloc, block, Form::Html, entry)?;
-            write_full(block, sink)?;
-        }
-    }
+    write_entries(alloc, block, Form::Html, &entries, sink)?;
     append_html(block, FOOT)?;
     Ok(deliver(sink, block)?)
 }

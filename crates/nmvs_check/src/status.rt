@@ -1,0 +1,26 @@
+//! The statuses of the program, which are those of grep: 0 for yes, 1 for no, 2 in trouble (own).
+ghost use Rattle.std.specs.Prelude.{◌≡◌};
+ghost use Rattle.nmvs_check.specs.Status as statuses;
+
+use crate::inspect_fault::InspectFault;
+use nmvs_record::{Finding, Objection};
+
+/// The status of an answer: 0 where the new export goes on, or all scans are read; 1 where not.
+pub(crate) fn status_of_answer(holds: bool) -> u8
+    ensures { result ≡ statuses.status_of_answer holds }
+{
+    if holds { 0 } else { 1 }
+}
+
+/// The status that a fault makes: 1 where the input is no export of a lawful trail, and 2 where that is not known, or where
+/// it is lawful.
+pub(crate) fn status_of(fault: &InspectFault) -> u8
+    ensures { result ≡ statuses.status_of fault.now }
+{
+    match fault {
+        InspectFault::Found(Finding::Unended(_)) => 1,
+        InspectFault::Found(Finding::Line(_, Objection::Memory)) => 2,
+        InspectFault::Found(Finding::Line(..)) => 1,
+        InspectFault::Found(Finding::Read) | InspectFault::Answer(_) => 2,
+    }
+}
