@@ -11,8 +11,6 @@ struct Stranger;
 impl<'a> Desk<'a> for Stranger {
     ghost use Rattle.nmvs_messages.specs.Withheld.{AtOnce, Stays};
 
-    type Evidence = ();
-
     ghost takes = { λ _ _ _ _ _. Unit {0} };
 
     ghost releases = { AtOnce };
@@ -23,8 +21,8 @@ impl<'a> Desk<'a> for Stranger {
         Withheld::new(Content::Turned(Turn::Nobody))
     }
 
-    fn release<'h>(&mut self, withheld: &'h mut WithheldAnswers<'a>) -> (Released<'h, 'a>, ()) {
-        (withheld.release(), ())
+    fn release<'h>(&mut self, withheld: &'h mut WithheldAnswers<'a>) -> Released<'h, 'a> {
+        withheld.release()
     }
 }
 
