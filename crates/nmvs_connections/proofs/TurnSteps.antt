@@ -1,5 +1,5 @@
 -- How a worker's turn goes on, from one connection's turn to the next and from release to release.
-use Rattle.std.proofs.Common.{◌≡◌, ◌≢◌, ◌≤◌, ◌<◌, ◌==◌, ◌+◌, ◌⊎◌, inl, inr, ℕ, List, [], ◌∷◌, ◌++◌, Option, Some, None, IsSome, Result, cond, length, take, drop, All, refl, sym, ap, subst, ◌∙◌, arith, rules}
+use Rattle.std.proofs.Common.{◌≡◌, ◌≢◌, ◌≤◌, ◌<◌, ◌==◌, ◌+◌, ◌⊎◌, inl, inr, ℕ, List, [], ◌∷◌, ◌++◌, Option, Some, None, IsSome, cond, length, take, drop, All, refl, sym, ap, subst, ◌∙◌, arith, rules}
 use Rattle.std.specs.List.{Contains}
 use Rattle.std.proofs.lemmas.Bool.Decides.{eqb_tells, leb_tells}
 use Rattle.std.proofs.lemmas.Grind.{flat_map-append}
@@ -12,17 +12,17 @@ use Rattle.nmvs_messages.specs.declared.answer.Answer.{Answer}
 use Rattle.nmvs_messages.specs.declared.end.End.{End}
 use Rattle.nmvs_messages.specs.declared.peer.Peer.{Peer}
 use Rattle.nmvs_messages.specs.declared.withheld.Withheld.{Withheld}
-use Rattle.nmvs_messages.specs.Peers.{TakesFrom}
 use Rattle.nmvs_messages.specs.Withheld.{AreReleased}
-use Rattle.nmvs_protocol.specs.Session.{TakesLines, session_text}
+use Rattle.nmvs_protocol.specs.Session.{ReleasesAll, session_text}
+use Rattle.nmvs_protocol.proofs.SessionTelling.{all_length}
 use Rattle.nmvs_protocol.specs.Texts.{text as text_of}
 use Rattle.nmvs_stream.specs.InputLines.{input_lines}
 use Rattle.nmvs_connections.specs.declared.next.Next.{Next}
 use Rattle.nmvs_connections.specs.declared.connection.Connection.{Connection}
 use Rattle.nmvs_connections.specs.Peers.{PeerState, IsConnection, StaysPeer}
 use Rattle.nmvs_connections.specs.declared.peer_session.Stage.TheVariants as stages
-use Rattle.nmvs_connections.specs.Replies.{SessionState, TellsPart, LacksMemory, StaysOrLacks}
-use Rattle.nmvs_connections.specs.Turns.{Taking, Round, held_of, TakesBy, TakesAll, IsOwn, ReleasesAll, GoesRound, GoesRounds, lines_to, answers_to, lines_in, answers_in, Answered, EachGoes, WorkerTurn, Kept, WaitsForRelease, LinesTaken, ConnectionSteps, TellsOwn, TellsPeer, TellsWhereAsked, TellsAll, StepsOrStays, TurnOfOne}
+use Rattle.nmvs_connections.specs.Replies.{SessionState, LacksMemory, StaysOrLacks}
+use Rattle.nmvs_connections.specs.Turns.{Taking, Round, held_of, TakesBy, TakesAll, IsOwn, GoesRound, GoesRounds, lines_to, answers_to, lines_in, answers_in, Answered, EachGoes, WorkerTurn, Kept, WaitsForRelease, LinesTaken, ConnectionSteps, TellsOwn, TellsPeer, TellsWhereAsked, TellsAll, StepsOrStays, TurnOfOne}
 
 -- what was withheld of more
 pub held_of-append : (xs ys : List Taking) → held_of (xs ++ ys) ≡ held_of xs ++ held_of ys
@@ -64,22 +64,10 @@ takes_more {D} takes old mid new [] t a l = (new, subst (λ (d : D). TakesBy tak
 takes_more takes old mid new (s ∷ takings) t a l = (a.0, a.1, takes_more takes a.0 mid new takings t a.2 l)
 
 -- one round more
-rounds_more : {D E : Type 0} (takes : D → Peer → Ask → Withheld → D → Type 0) (releases : D → E → Withheld → Answer → Type 0) (moves : D → D → Type 0) (old mid new : D) (rounds : List Round) (r : Round)
+rounds_more : {D : Type 0} (takes : D → Peer → Ask → Withheld → D → Type 0) (releases : D → D → Withheld → Answer → Type 0) (moves : D → D → Type 0) (old mid new : D) (rounds : List Round) (r : Round)
     → GoesRounds takes releases moves old rounds mid → GoesRound takes releases moves mid r new → GoesRounds takes releases moves old (rounds ++ r ∷ []) new
 rounds_more {D} takes releases moves old mid new [] r a g = (new, subst (λ (d : D). GoesRound takes releases moves d r new) a g, refl)
 rounds_more takes releases moves old mid new (s ∷ rounds) r a g = (a.0, a.1, rounds_more takes releases moves a.0 mid new rounds r a.2 g)
-
--- there is an answer for each that was withheld
-released_length : (releases : Withheld → Answer → Type 0) (withheld : List Withheld) (said : List Answer) → AreReleased releases withheld said → length said ≡ length withheld
-released_length releases [] [] a = refl
-released_length releases (w ∷ withheld) (s ∷ said) a = let n = released_length releases withheld said a.2 in omega arith
-released_length releases [] (s ∷ said) a = absurd a
-released_length releases (w ∷ withheld) [] a = absurd a
-
-all_length : {D E : Type 0} (releases : D → E → Withheld → Answer → Type 0) (moves : D → D → Type 0) (old new : D) (withheld : List Withheld) (said : List Answer)
-    → ReleasesAll releases moves old withheld said new → length said ≡ length withheld
-all_length releases moves old new [] said r = ap (λ (l : List Answer). length l) r.0
-all_length releases moves old new (w ∷ withheld) said r = released_length (releases old r.1) (w ∷ withheld) said r.2
 
 nil_left : (xs ys : List ℕ) → xs ++ ys ≡ [] → xs ≡ []
 nil_left [] ys e = refl
@@ -353,7 +341,7 @@ tells_state : (said : List Answer) (awaiting : List ℕ) (key : ℕ) (a b : Peer
 tells_state said awaiting key a b t = elim t [ inl told ↦ inl told.0 | inr silent ↦ inr (ap (λ (c : PeerState). c.session) silent.0, silent.1) ]
 
 -- a turn that is not over: rounds are behind it, and what was taken since is withheld
-pub record OpenTurn {D E : Type 0} (takes : D → Peer → Ask → Withheld → D → Type 0) (releases : D → E → Withheld → Answer → Type 0) (moves : D → D → Type 0) (old new : D) (withheld : List Withheld) (awaiting : List ℕ) (connections connections' : Slab Connection) : Type 0 where
+pub record OpenTurn {D : Type 0} (takes : D → Peer → Ask → Withheld → D → Type 0) (releases : D → D → Withheld → Answer → Type 0) (moves : D → D → Type 0) (old new : D) (withheld : List Withheld) (awaiting : List ℕ) (connections connections' : Slab Connection) : Type 0 where
   pub rounds : List Round
   pub takings : List Taking
   pub mid : D
@@ -364,7 +352,7 @@ pub record OpenTurn {D E : Type 0} (takes : D → Peer → Ask → Withheld → 
   pub own_taken : All (IsOwn connections') takings
   pub each : EachGoes (λ key a b. a.session.waiting ≡ 0 → Stands key rounds takings awaiting a.session b.session) connections connections'
 
-pub open_first : {D E : Type 0} (takes : D → Peer → Ask → Withheld → D → Type 0) (releases : D → E → Withheld → Answer → Type 0) (moves : D → D → Type 0) (desk : D) (withheld : List Withheld) (awaiting : List ℕ) (connections : Slab Connection)
+pub open_first : {D : Type 0} (takes : D → Peer → Ask → Withheld → D → Type 0) (releases : D → D → Withheld → Answer → Type 0) (moves : D → D → Type 0) (desk : D) (withheld : List Withheld) (awaiting : List ℕ) (connections : Slab Connection)
     → withheld ≡ [] → OpenTurn takes releases moves desk desk withheld awaiting connections connections
 open_first takes releases moves desk withheld awaiting connections none = record {
   rounds = [];
@@ -399,7 +387,7 @@ stands_behind key rounds takings t awaiting awaiting' first a b c begins still g
 ]
 
 -- the turn of one connection
-pub open_taken : {D E : Type 0} (takes : D → Peer → Ask → Withheld → D → Type 0) (releases : D → E → Withheld → Answer → Type 0) (moves : D → D → Type 0) (key : ℕ) (old new next : D)
+pub open_taken : {D : Type 0} (takes : D → Peer → Ask → Withheld → D → Type 0) (releases : D → D → Withheld → Answer → Type 0) (moves : D → D → Type 0) (key : ℕ) (old new next : D)
     (withheld withheld' : List Withheld) (awaiting awaiting' : List ℕ) (s t u : Slab Connection)
     → OpenTurn takes releases moves old new withheld awaiting s t → TurnOfOne takes key new next withheld withheld' awaiting awaiting' t u
     → OpenTurn takes releases moves old next withheld' awaiting' s u
@@ -430,7 +418,7 @@ own_round rounds r u before own =
     let Own = λ (r : Round). All (IsOwn u) r.takings in All-append Own rounds (r ∷ []) before (All-cons Own r [] own (All-nil Own))
 
 -- a release
-pub open_told : {D E : Type 0} (takes : D → Peer → Ask → Withheld → D → Type 0) (releases : D → E → Withheld → Answer → Type 0) (moves : D → D → Type 0) (old new next : D)
+pub open_told : {D : Type 0} (takes : D → Peer → Ask → Withheld → D → Type 0) (releases : D → D → Withheld → Answer → Type 0) (moves : D → D → Type 0) (old new next : D)
     (withheld withheld' : List Withheld) (awaiting awaiting' : List ℕ) (s t u : Slab Connection)
     → OpenTurn takes releases moves old new withheld awaiting s t → TellsAll releases moves new next withheld awaiting t u → withheld' ≡ [] → awaiting' ≡ []
     → OpenTurn takes releases moves old next withheld' awaiting' s u
@@ -452,7 +440,7 @@ open_told takes releases moves old new next withheld withheld' awaiting awaiting
     }
 
 -- a turn is over behind its last release
-pub open_last : {D E : Type 0} (takes : D → Peer → Ask → Withheld → D → Type 0) (releases : D → E → Withheld → Answer → Type 0) (moves : D → D → Type 0) (old new next : D)
+pub open_last : {D : Type 0} (takes : D → Peer → Ask → Withheld → D → Type 0) (releases : D → D → Withheld → Answer → Type 0) (moves : D → D → Type 0) (old new next : D)
     (withheld : List Withheld) (awaiting : List ℕ) (s t u : Slab Connection)
     → OpenTurn takes releases moves old new withheld awaiting s t → TellsAll releases moves new next withheld awaiting t u
     → WorkerTurn takes releases moves old next s u
@@ -647,13 +635,13 @@ turn_of_none takes key desk withheld awaiting connections none = record {
   );
 }
 
-pub releases_none : {D E : Type 0} (releases : D → E → Withheld → Answer → Type 0) (moves : D → D → Type 0) (how : Withheld → Answer → Type 0) (desk : D) (withheld : List Withheld) (said : List Answer)
+pub releases_none : {D : Type 0} (releases : D → D → Withheld → Answer → Type 0) (moves : D → D → Type 0) (how : Withheld → Answer → Type 0) (desk : D) (withheld : List Withheld) (said : List Answer)
     → length withheld ≡ 0 → AreReleased how withheld said → ReleasesAll releases moves desk withheld said desk
 releases_none releases moves how desk [] [] none a = (refl, refl)
 releases_none releases moves how desk [] (s ∷ said) none a = absurd a
 releases_none releases moves how desk (w ∷ withheld) said none a = absurd (omega (arith, none))
 
-pub releases_some : {D E : Type 0} (releases : D → E → Withheld → Answer → Type 0) (moves : D → D → Type 0) (old new : D) (evidence : E) (withheld : List Withheld) (said : List Answer)
-    → (length withheld ≡ 0 → ⊥) → moves old new → AreReleased (releases old evidence) withheld said → ReleasesAll releases moves old withheld said new
-releases_some releases moves old new evidence [] said some m a = absurd (some refl)
-releases_some releases moves old new evidence (w ∷ withheld) said some m a = (m, evidence, a)
+pub releases_some : {D : Type 0} (releases : D → D → Withheld → Answer → Type 0) (moves : D → D → Type 0) (old new : D) (withheld : List Withheld) (said : List Answer)
+    → (length withheld ≡ 0 → ⊥) → moves old new → AreReleased (releases old new) withheld said → ReleasesAll releases moves old withheld said new
+releases_some releases moves old new [] said some m a = absurd (some refl)
+releases_some releases moves old new (w ∷ withheld) said some m a = (m, a)

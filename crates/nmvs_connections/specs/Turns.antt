@@ -7,8 +7,7 @@ use Rattle.nmvs_messages.specs.declared.answer.Answer.{Answer}
 use Rattle.nmvs_messages.specs.declared.peer.Peer.{Peer}
 use Rattle.nmvs_messages.specs.declared.withheld.Withheld.{Withheld}
 use Rattle.nmvs_messages.specs.Peers.{TakesFrom}
-use Rattle.nmvs_messages.specs.Withheld.{AreReleased}
-use Rattle.nmvs_protocol.specs.Session.{TakesLines, session_text}
+use Rattle.nmvs_protocol.specs.Session.{TakesLines, ReleasesAll, session_text}
 use Rattle.nmvs_stream.specs.InputLines.{input_lines}
 use Rattle.nmvs_connections.specs.declared.connection.Connection.{Connection}
 use Rattle.nmvs_connections.specs.declared.next.Next.{Next}
@@ -39,24 +38,19 @@ abbrev pub TakesAll : {D : Type 0} → (D → Peer → Ask → Withheld → D �
 TakesAll takes old [] new = new ≡ old
 TakesAll {D} takes old (t ∷ more) new = (mid : D) × TakesBy takes t.connection.peer old t.lines t.held mid × TakesAll takes mid more new
 
--- what is withheld is released at once, all of it; where there is none the desk is not asked
-abbrev pub ReleasesAll : {D E : Type 0} → (D → E → Withheld → Answer → Type 0) → (D → D → Type 0) → D → List Withheld → List Answer → D → Type 0
-ReleasesAll releases moves old [] said new = (said ≡ []) × (new ≡ old)
-ReleasesAll {E = E} releases moves old (w ∷ withheld) said new = moves old new × (evidence : E) × AreReleased (releases old evidence) (w ∷ withheld) said
-
 -- what was taken between two releases, and what the second let be told
 pub record Round : Type 0 where
   pub takings : List Taking
   pub said : List Answer
 
 -- a round takes the desk from old to new
-pub record GoesRound {D E : Type 0} (takes : D → Peer → Ask → Withheld → D → Type 0) (releases : D → E → Withheld → Answer → Type 0) (moves : D → D → Type 0) (old : D) (round : Round) (new : D) : Type 0 where
+pub record GoesRound {D : Type 0} (takes : D → Peer → Ask → Withheld → D → Type 0) (releases : D → D → Withheld → Answer → Type 0) (moves : D → D → Type 0) (old : D) (round : Round) (new : D) : Type 0 where
   pub asked : D
   pub taken : TakesAll takes old round.takings asked
   pub released : ReleasesAll releases moves asked (held_of round.takings) round.said new
 
 -- rounds take the desk from old to new
-abbrev pub GoesRounds : {D E : Type 0} → (D → Peer → Ask → Withheld → D → Type 0) → (D → E → Withheld → Answer → Type 0) → (D → D → Type 0) → D → List Round → D → Type 0
+abbrev pub GoesRounds : {D : Type 0} → (D → Peer → Ask → Withheld → D → Type 0) → (D → D → Withheld → Answer → Type 0) → (D → D → Type 0) → D → List Round → D → Type 0
 GoesRounds takes releases moves old [] new = new ≡ old
 GoesRounds {D} takes releases moves old (r ∷ more) new = (mid : D) × GoesRound takes releases moves old r mid × GoesRounds takes releases moves mid more new
 
@@ -102,7 +96,7 @@ IsOwn connections t =
 
 -- a turn of a worker: rounds take the desk from old to new, each line as one of its own connection's peer; and each connection
 -- that waited for no answer is answered in them, whatever others are served between its lines
-pub record WorkerTurn {D E : Type 0} (takes : D → Peer → Ask → Withheld → D → Type 0) (releases : D → E → Withheld → Answer → Type 0) (moves : D → D → Type 0) (old new : D) (connections connections' : Slab Connection) : Type 0 where
+pub record WorkerTurn {D : Type 0} (takes : D → Peer → Ask → Withheld → D → Type 0) (releases : D → D → Withheld → Answer → Type 0) (moves : D → D → Type 0) (old new : D) (connections connections' : Slab Connection) : Type 0 where
   pub rounds : List Round
   pub desk : GoesRounds takes releases moves old rounds new
   pub own : All (λ (r : Round). All (IsOwn connections') r.takings) rounds
@@ -167,7 +161,7 @@ TellsWhereAsked released awaiting key old new =
     TellsPeer released old new ⊎ ((new ≡ old) × (Contains awaiting key → ⊥))
 
 -- what was withheld is released at once, and each connection that asked tells its part of that
-pub record TellsAll {D E : Type 0} (releases : D → E → Withheld → Answer → Type 0) (moves : D → D → Type 0) (old new : D) (withheld : List Withheld) (awaiting : List ℕ) (connections connections' : Slab Connection) : Type 0 where
+pub record TellsAll {D : Type 0} (releases : D → D → Withheld → Answer → Type 0) (moves : D → D → Type 0) (old new : D) (withheld : List Withheld) (awaiting : List ℕ) (connections connections' : Slab Connection) : Type 0 where
   pub said : List Answer
   pub released : ReleasesAll releases moves old withheld said new
   pub each : EachGoes (TellsWhereAsked said awaiting) connections connections'

@@ -287,7 +287,7 @@ impl EventLoop {
             self.tell_each(rt, pool, scratch, &withheld.release());
             return;
         }
-        let (released, _evidence) = desk.release(withheld);
+        let released = desk.release(withheld);
         pool.tally(self.worker).note_told(&released);
         self.tell_each(rt, pool, scratch, &released);
         withheld.clear();

@@ -25,8 +25,6 @@ struct Counting {
 impl<'a> Desk<'a> for Counting {
     ghost use Rattle.nmvs_messages.specs.Withheld.{AtOnce};
 
-    type Evidence = ();
-
     ghost takes = { λ _ _ _ _ _. Unit {0} };
 
     ghost releases = { AtOnce };
@@ -41,10 +39,10 @@ impl<'a> Desk<'a> for Counting {
         }))
     }
 
-    fn release<'h>(&mut self, withheld: &'h mut WithheldAnswers<'a>) -> (Released<'h, 'a>, ()) {
+    fn release<'h>(&mut self, withheld: &'h mut WithheldAnswers<'a>) -> Released<'h, 'a> {
         self.releases = self.releases.saturating_add(1);
         self.answers = self.answers.saturating_add(withheld.len());
-        (withheld.release(), ())
+        withheld.release()
     }
 }
 

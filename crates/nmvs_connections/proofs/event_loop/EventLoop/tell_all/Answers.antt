@@ -6,7 +6,7 @@ pub returns-clause-tells : goal.returns-clause-tells
 returns-clause-tells g c =
     let r = c.release-released in
     let some : length c.args.withheld.now ≡ 0 → ⊥ = λ none. c.if-len-eq0.false (c.len.ensures ∙ none) in record {
-      said = r.result.0;
-      released = releases_some g.D.Desk.releases g.D.Desk.moves c.args.desk.now r.new.self r.result.1 c.args.withheld.now r.result.0 some r.ensures.moves r.ensures.released;
+      said = r.result;
+      released = releases_some g.D.Desk.releases g.D.Desk.moves c.args.desk.now r.new.self c.args.withheld.now r.result some r.ensures.moves r.ensures.released;
       each = c.tell_each-2.ensures.tells;
     }
