@@ -17,7 +17,7 @@ use std::process::Abort;
 use std::rt::HostRuntime;
 use std::sync::{Mutex, Wait};
 use std::test::*;
-use std::thread::{Threads, join};
+use std::thread::Threads;
 
 /// The line of a question in shard 0 (FILES.md).
 const LINE: &str =
@@ -102,42 +102,6 @@ impl Trial for Growing {
 #[test]
 fn a_shard_that_grows_between_slices_is_exported_as_it_was(rt: HostRuntime) {
     play(&rt, rt.alloc(), &Growing);
-}
-
-/// A clerk asks in a thread of its own while the export is written.
-struct Beside;
-
-impl Trial for Beside {
-    fn run<
-        'a,
-        J: Naming + Send + Sync,
-        H: Histories + Send + Sync,
-        R: Threads + Wait + Abort + Sync,
-    >(&self, rt: &R, alloc: Global, repository: &Repository<'a, H>, clerk: &mut Clerk<'a, J, H>) {
-        ask(rt, repository, clerk, FIRST, 3_000);
-        let calls = Mutex::new(Calls::none(alloc));
-        let (is_exported, _asked) = join(
-            rt,
-            || {
-                let file = FakeFile {
-                    calls: &calls,
-                    fails_at: usize::MAX,
-                };
-                export_summed(rt, alloc, repository, Device::new(file)).is_ok()
-            },
-            || ask(rt, repository, clerk, FIRST, 3_000),
-        );
-        assert!(rt; is_exported);
-        let (first, second) = lines_in(rt, &calls.into_inner().bytes);
-        assert!(rt; 3_000 <= first && first <= 6_000);
-        assert_eq!(rt; second, 0);
-        assert_eq!(rt; entries_of(rt, repository, 0), 6_000);
-    }
-}
-
-#[test]
-fn a_thread_asks_while_an_export_is_written(rt: HostRuntime) {
-    play(&rt, rt.alloc(), &Beside);
 }
 
 /// The write of the second slice fails.
