@@ -14,7 +14,7 @@ use Rattle.nmvs_shard.specs.declared.shard.Outcome.{Outcome}
 use Rattle.nmvs_desk.specs.Answers.{Becomes, new_receipts, receipts_then}
 use Rattle.nmvs_desk.specs.Clerks.{IsClerk}
 use Rattle.nmvs_desk.specs.Opening.{AreNew, IsNew}
-use Rattle.nmvs_desk.specs.Placing.{shard_of, IsPlaced}
+use Rattle.nmvs_desk.specs.Placing.{shard_of, IsPartOf}
 use Rattle.nmvs_desk.specs.Settlement.{row, at, AreOwn}
 use Rattle.nmvs_desk.specs.Views.{ClerkView, places_of, sights_of}
 use Rattle.nmvs_desk.proofs.Asked.{asked, sight_of, own_of}
@@ -35,9 +35,9 @@ all_sights P none (t ∷ ts) each (suc i) = all_sights (λ j. P (suc j)) (λ j. 
 
 -- what a clerk has seen of a shard is lawful, in grammars and ranges, and belongs to the shard
 pub lawful : (tables : ℕ → HistoryId) (count : ℕ) (tokens : List TokenView) (receipts : List Receipt) → IsClerk tables count tokens receipts
-    → (i : ℕ) → IsLawful (row (sights_of tokens) i) × AreEntries (row (sights_of tokens) i) × IsPlaced count i (row (sights_of tokens) i)
+    → (i : ℕ) → IsLawful (row (sights_of tokens) i) × AreEntries (row (sights_of tokens) i) × IsPartOf count i (row (sights_of tokens) i)
 lawful tables count tokens receipts is =
-    all_sights (λ i t. IsLawful t × AreEntries t × IsPlaced count i t) (λ i. (tt, All-nil (λ (e : Entry). IsTrue (is_entry e)), All-nil (λ (e : Entry). shard_of count (code_of e.put.question) ≡ i))) tokens
+    all_sights (λ i t. IsLawful t × AreEntries t × IsPartOf count i t) (λ i. (tt, All-nil (λ (e : Entry). IsTrue (is_entry e)), record { placed = All-nil (λ (e : Entry). shard_of count (code_of e.put.question) ≡ i); new = tt; })) tokens
     (λ i k at. ((is.each i k at).lawful, (is.each i k at).in_range, (is.each i k at).placed))
 
 -- and its receipts' places are among its own
@@ -79,7 +79,7 @@ new_clerk tables count opening tokens new = record {
         places = record { gone = []; is = ap (λ (k : TokenView). k.places) it.is };
         lawful = subst (λ t. IsLawful t) (sym seen) it.lawful;
         in_range = subst (λ t. AreEntries t) (sym seen) it.in_range;
-        placed = subst (λ t. IsPlaced count i t) (sym seen) it.placed;
+        placed = subst (λ t. IsPartOf count i t) (sym seen) it.placed;
       };
   stand = λ n r there. absurd cc;
   rising = λ k m p q less at_k at_m same. absurd cc;

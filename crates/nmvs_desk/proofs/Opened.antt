@@ -10,7 +10,7 @@ use Rattle.nmvs_rules.specs.Entries.{AreEntries}
 use Rattle.nmvs_rules.specs.Rules.{IsLawful}
 use Rattle.nmvs_desk.specs.Views.{LockedView, IsNumbered}
 use Rattle.nmvs_desk.specs.Opening.{table_of, AreLocked, IsFresh, IsOpened, IsNewToken, AreNew}
-use Rattle.nmvs_desk.specs.Placing.{IsPlaced}
+use Rattle.nmvs_desk.specs.Placing.{IsPartOf}
 use Rattle.nmvs_desk.specs.Trails.{IsKept}
 use Rattle.nmvs_desk.proofs.Lists.{set_cases, push_cases}
 
@@ -120,5 +120,5 @@ new_more tables count opening n tokens k h so_far there is kept = record {
       is = is ∙ (λ j. record { table = tables (there.1 j); seen = there.0 j; places = [] });
       lawful = subst (λ t. IsLawful t) there.0 kept.lawful;
       in_range = subst (λ t. AreEntries t) there.0 kept.in_range;
-      placed = subst (λ (p : ℕ × List Entry). IsPlaced count p.0 p.1) (λ j. (there.1 j, there.0 j)) kept.placed;
+      placed = subst (λ (p : ℕ × List Entry). IsPartOf count p.0 p.1) (λ j. (there.1 j, there.0 j)) kept.placed;
     }

@@ -14,7 +14,7 @@ use Rattle.nmvs_rules.proofs.MergeLemmas.{IsLawful-merged}
 use Rattle.nmvs_rules.proofs.TextLemmas.{same_text-bytes}
 use Rattle.nmvs_desk.specs.Closing.{trails_of}
 use Rattle.nmvs_desk.specs.Views.{LockedView, IsNumbered}
-use Rattle.nmvs_desk.specs.Placing.{place_of, shard_of, IsPlaced}
+use Rattle.nmvs_desk.specs.Placing.{place_of, shard_of, IsPlaced, IsPartOf}
 use Rattle.nmvs_desk.specs.Settlement.{row}
 use Rattle.nmvs_desk.specs.Trails.{IsKept, AreTrails}
 
@@ -34,14 +34,14 @@ row_of count (h ∷ locked) kept (suc i) =
     ]
 
 kept_row : (count : ℕ) (locked : List LockedView) → All (IsKept count) locked → IsNumbered (numbers_of locked) → (i : ℕ)
-    → IsLawful (row (trails_of locked) i) × AreEntries (row (trails_of locked) i) × IsPlaced count i (row (trails_of locked) i)
+    → IsLawful (row (trails_of locked) i) × AreEntries (row (trails_of locked) i) × IsPartOf count i (row (trails_of locked) i)
 kept_row count locked kept numbered i =
-    let P : List Entry → Type 0 = λ t. IsLawful t × AreEntries t × IsPlaced count i t in
+    let P : List Entry → Type 0 = λ t. IsLawful t × AreEntries t × IsPartOf count i t in
     elim (row_of count locked kept i) [
-      | inl e ↦ subst P (sym e) (tt, All-nil (λ (x : Entry). IsTrue (is_entry x)), All-nil (λ (x : Entry). shard_of count (code_of x.put.question) ≡ i))
+      | inl e ↦ subst P (sym e) (tt, All-nil (λ (x : Entry). IsTrue (is_entry x)), record { placed = All-nil (λ (x : Entry). shard_of count (code_of x.put.question) ≡ i); new = tt; })
       | inr e ↦
           let index : e.0.index ≡ i = sym e.3 ∙ numbered i (omega (arith, e.2, length-map locked (λ (h : LockedView). h.index))) in
-          let Q : ℕ → Type 0 = λ n. IsPlaced count n e.0.trail in
+          let Q : ℕ → Type 0 = λ n. IsPartOf count n e.0.trail in
           subst P (sym e.4) (e.1.lawful, e.1.in_range, subst Q index e.1.placed)
     ]
 
@@ -67,7 +67,7 @@ are_trails count locked many kept numbered =
       in_range = λ i. (rows i).1;
       placed = λ i. (rows i).2;
       whole = λ t merging. IsLawful-merged (row ts) t merging
-          (λ c i j a b. sym (code_placed count i c (row ts i) (rows i).2 a) ∙ code_placed count j c (row ts j) (rows j).2 b)
+          (λ c i j a b. sym (code_placed count i c (row ts i) (rows i).2.placed a) ∙ code_placed count j c (row ts j) (rows j).2.placed b)
           (λ i. (rows i).0);
     }
 

@@ -10,17 +10,17 @@ use Rattle.nmvs_shard.specs.declared.shard.Outcome.{Outcome}
 use Rattle.nmvs_shard.specs.declared.shard.Outcome.TheVariants as outcome
 use Rattle.nmvs_shard.specs.Asking.{Asks}
 use Rattle.nmvs_desk.specs.declared.ask.Receipt.{Receipt}
-use Rattle.nmvs_desk.specs.Placing.{IsPlaced}
+use Rattle.nmvs_desk.specs.Placing.{IsPartOf}
 use Rattle.nmvs_desk.specs.Settlement.{row}
 use Rattle.nmvs_desk.specs.Views.{ClerkView}
 
 -- what was seen of a shard, of `count`, begins what is seen now: a lawful trail whose entries belong to the shard and are in
--- their grammars and ranges
+-- their grammars and ranges, and whose questions were new where they were put
 pub record IsShown (count index : ℕ) (before after : List Entry) : Type 0 where
   pub begins : IsPrefix before after
   pub lawful : IsLawful after
   pub in_range : AreEntries after
-  pub placed : IsPlaced count index after
+  pub placed : IsPartOf count index after
 
 -- the place of the entry of a question that was put
 abbrev pub new_places : {A : Type 0} → Outcome A → List ℕ

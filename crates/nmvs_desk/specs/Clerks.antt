@@ -5,7 +5,7 @@ use Rattle.nmvs_history.specs.Views.{HistoryId, TokenView}
 use Rattle.nmvs_rules.specs.Entries.{AreEntries}
 use Rattle.nmvs_rules.specs.Rules.{IsLawful}
 use Rattle.nmvs_desk.specs.declared.ask.Receipt.{Receipt}
-use Rattle.nmvs_desk.specs.Placing.{IsPlaced}
+use Rattle.nmvs_desk.specs.Placing.{IsPartOf}
 use Rattle.nmvs_desk.specs.Settlement.{AreOwn, Rises}
 
 -- the token of a shard, of `count`, is of the shard's history, owns the places of the receipts that name the shard, and of
@@ -15,7 +15,7 @@ pub record IsTokenOf (tables : ℕ → HistoryId) (count : ℕ) (receipts : List
   pub places : AreOwn shard receipts k.places
   pub lawful : IsLawful k.seen
   pub in_range : AreEntries k.seen
-  pub placed : IsPlaced count shard k.seen
+  pub placed : IsPartOf count shard k.seen
 
 -- the receipt's entry stands at its place in what the token of its shard has seen
 pub record Stands (tokens : List TokenView) (r : Receipt) : Type 0 where

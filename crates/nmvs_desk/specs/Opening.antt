@@ -5,7 +5,7 @@ use Rattle.nmvs_history.specs.Views.{HistoryId, KeeperView, TokenView, no_table}
 use Rattle.nmvs_rules.specs.declared.entry.Entry.{Entry}
 use Rattle.nmvs_rules.specs.Entries.{AreEntries}
 use Rattle.nmvs_rules.specs.Rules.{IsLawful}
-use Rattle.nmvs_desk.specs.Placing.{IsPlaced}
+use Rattle.nmvs_desk.specs.Placing.{IsPartOf}
 use Rattle.nmvs_desk.specs.Settlement.{row}
 use Rattle.nmvs_desk.specs.Views.{LockedView, ClerkView}
 
@@ -31,7 +31,7 @@ pub record IsNewToken (tables : ℕ → HistoryId) (count : ℕ) (opening : ℕ 
   pub is : k ≡ record { table = tables shard; seen = opening shard; places = [] }
   pub lawful : IsLawful (opening shard)
   pub in_range : AreEntries (opening shard)
-  pub placed : IsPlaced count shard (opening shard)
+  pub placed : IsPartOf count shard (opening shard)
 
 -- the tokens of the first n shards, of `count`
 pub record AreNew (tables : ℕ → HistoryId) (count : ℕ) (opening : ℕ → List Entry) (n : ℕ) (tokens : List TokenView) : Type 0 where

@@ -5,21 +5,21 @@ use Rattle.nmvs_rules.specs.Entries.{AreEntries}
 use Rattle.nmvs_rules.specs.Laws.{IsMerging}
 use Rattle.nmvs_rules.specs.Rules.{IsLawful}
 use Rattle.nmvs_desk.specs.Views.{LockedView}
-use Rattle.nmvs_desk.specs.Placing.{IsPlaced}
+use Rattle.nmvs_desk.specs.Placing.{IsPartOf}
 use Rattle.nmvs_desk.specs.Settlement.{row}
 
--- the trail of a shard, of `count`, is lawful, its entries are in their grammars and ranges, and each entry's product code
--- belongs to the shard
+-- the trail of a shard, of `count`, is lawful, its entries are in their grammars and ranges, each entry's product code belongs
+-- to the shard, and each question was new where it was put
 pub record IsKept (count : ℕ) (h : LockedView) : Type 0 where
   pub lawful : IsLawful h.trail
   pub in_range : AreEntries h.trail
-  pub placed : IsPlaced count h.index h.trail
+  pub placed : IsPartOf count h.index h.trail
 
 -- the trails of `count` shards, in order: each is lawful, its entries are in their grammars and ranges, each entry's product
--- code belongs to its shard, and every merging of them is one lawful trail
+-- code belongs to its shard, each question was new where it was put, and every merging of them is one lawful trail
 pub record AreTrails (count : ℕ) (trails : List (List Entry)) : Type 0 where
   pub shards : length trails ≡ count
   pub lawful : (i : ℕ) → IsLawful (row trails i)
   pub in_range : (i : ℕ) → AreEntries (row trails i)
-  pub placed : (i : ℕ) → IsPlaced count i (row trails i)
+  pub placed : (i : ℕ) → IsPartOf count i (row trails i)
   pub whole : (t : List Entry) → IsMerging (row trails) t → IsLawful t

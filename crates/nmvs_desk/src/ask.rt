@@ -10,7 +10,7 @@ ghost use Rattle.nmvs_desk.specs.declared.ask.Receipt.{Receipt};
 ghost use Rattle.nmvs_desk.specs.Answers.{Answers, IsShown, receipts_then};
 ghost use Rattle.nmvs_desk.specs.Clerks.{IsClerk};
 ghost use Rattle.nmvs_desk.specs.Opening.{AreNew};
-ghost use Rattle.nmvs_desk.specs.Placing.{shard_of, IsPlaced};
+ghost use Rattle.nmvs_desk.specs.Placing.{shard_of, IsPartOf};
 ghost use Rattle.nmvs_desk.specs.Settlement.{row, at, AreOwn, Rises};
 ghost use Rattle.nmvs_desk.specs.Views.{places_of, sights_of};
 
@@ -96,7 +96,7 @@ impl<'a, J: Naming, H: Histories, B: Allocator> Clerk<'a, J, H, B> {
             → at self.now.sights r.shard r.place ≡ Some r.entry }
         ensures own { (i : ℕ) → i < H.shards → AreOwn i result.now (row self.now.places i) }
         ensures rising { Rises result.now }
-        ensures lawful { (i : ℕ) → IsLawful (row self.now.sights i) × AreEntries (row self.now.sights i) × IsPlaced H.shards i (row self.now.sights i) }
+        ensures lawful { (i : ℕ) → IsLawful (row self.now.sights i) × AreEntries (row self.now.sights i) × IsPartOf H.shards i (row self.now.sights i) }
     {
         self.receipts.as_slice()
     }

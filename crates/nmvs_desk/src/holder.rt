@@ -2,7 +2,7 @@ ghost use Rattle.std.specs.Prelude.{◌≡◌};
 ghost use Rattle.nmvs_rules.specs.Entries.{AreEntries};
 ghost use Rattle.nmvs_rules.specs.Rules.{IsLawful};
 ghost use Rattle.nmvs_desk.specs.Answers.{IsShown};
-ghost use Rattle.nmvs_desk.specs.Placing.{IsPlaced};
+ghost use Rattle.nmvs_desk.specs.Placing.{IsPartOf};
 
 use nmvs_history::{Histories, Token};
 
@@ -25,7 +25,7 @@ pub trait Holder<H: Histories> {
 
     fn hold(self, token: &mut Token) -> Self::Output
         requires table { token.old.table ≡ H.tables (index self) }
-        requires seen { IsLawful token.old.seen × AreEntries token.old.seen × IsPlaced H.shards (index self) token.old.seen }
+        requires seen { IsLawful token.old.seen × AreEntries token.old.seen × IsPartOf H.shards (index self) token.old.seen }
         requires may { may self token.old.seen }
         ensures token { token.new ≡ record token.old { seen = token.new.seen } }
         ensures shown { IsShown H.shards (index self) token.old.seen token.new.seen }

@@ -1,7 +1,7 @@
 //! How a repository is opened.
 ghost use Rattle.std.specs.Prelude.{◌≡◌, ◌+◌, ◌-◌, ◌<◌, ◌≤◌, ◌↔◌, ◌⊎◌, ℕ, [], All, map, vec_len, vec_capacity, length, IfOk, IsErrOf, OnOk, OnErr};
 ghost use Rattle.nmvs_desk.specs.Opening.{table_of, AreLocked, AreNew, IsNew, IsOpened};
-ghost use Rattle.nmvs_desk.specs.Placing.{IsPlaced};
+ghost use Rattle.nmvs_desk.specs.Placing.{IsPartOf};
 ghost use Rattle.nmvs_desk.specs.Settlement.{row};
 
 use crate::lock::Slot;
@@ -61,7 +61,7 @@ fn keep_all<'a, H: Histories, B: Allocator>(
     requires tables { (i : ℕ) → table_of keepers i ≡ H.tables i }
     requires many { vec_len shards ≡ length keepers }
     requires opening { (i : ℕ) → H.opening i ≡ row shards.items i }
-    requires placed { (i : ℕ) → IsPlaced H.shards i (row shards.items i) }
+    requires placed { (i : ℕ) → IsPartOf H.shards i (row shards.items i) }
     ensures locked { IfOk result (λ locked. AreLocked 8 (length keepers.entry) H.opening locked.items) }
     ensures count { (0 < length keepers.entry) × (length keepers.entry ≤ MOST_SHARDS) }
 {
@@ -157,7 +157,8 @@ impl<'a, H: Histories, B: Allocator> Repository<'a, H, B> {
     /// Opens a repository over these shards, as they are, with the keeper of each, and a clerk for each window, in order. No
     /// receipt is made of what the shards have, and each clerk has seen it.
     ///
-    /// Condition: each entry's product code belongs to its shard, among so many. So shards are as many as when they were made.
+    /// Condition: each entry's product code belongs to its shard, of as many as there are, and each question was new where it
+    /// was put.
     ///
     /// It is refused only where a growth was; then the windows stay in their list, and the keepers and the shards are spent.
     pub fn open<J: Naming>(
@@ -170,7 +171,7 @@ impl<'a, H: Histories, B: Allocator> Repository<'a, H, B> {
         requires named { (H.shards ≡ length keepers) × (H.clerks ≡ vec_len windows.old)
             × ((i : ℕ) → H.opening i ≡ row shards.items i) }
         requires many { vec_len shards ≡ length keepers }
-        requires placed { (i : ℕ) → IsPlaced (length keepers) i (row shards.items i) }
+        requires placed { (i : ℕ) → IsPartOf (length keepers) i (row shards.items i) }
         requires few { vec_len windows.old ≤ MOST_CLERKS }
         ensures shards { IfOk result (λ r. r.0.shards ≡ length keepers.entry) }
         ensures clerks { IfOk result (λ r. (r.0.clerks ≡ vec_len windows.old)

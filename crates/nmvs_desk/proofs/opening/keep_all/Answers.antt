@@ -4,7 +4,7 @@ use Rattle.std.proofs.lemmas.List.{length-map}
 use Rattle.std.proofs.lemmas.Option.{slice_get_read}
 use Rattle.nmvs_history.specs.Views.{KeeperView}
 use Rattle.nmvs_desk.specs.Opening.{table_of}
-use Rattle.nmvs_desk.specs.Placing.{IsPlaced}
+use Rattle.nmvs_desk.specs.Placing.{IsPartOf}
 use Rattle.nmvs_desk.specs.Settlement.{row}
 use Rattle.nmvs_desk.proofs.Closings.{rest_get, rest_row}
 use Rattle.nmvs_desk.proofs.Noting.{read_row}
@@ -52,7 +52,7 @@ new-requires-clause-placed g c =
     let shard = c.remove-shard.result in
     let first = read_row l.shards.items 0 shard (omega (arith, c.remove-shard.ensures.len, l.shards.ok.0)) c.remove-shard.ensures.value in
     let is = ap (row c.args.shards.items) (omega (arith, c.len-index.ensures)) ∙ sym (l.invariant.2 0) ∙ first in
-    subst (λ t. IsPlaced g.H.Histories.shards c.len-index.result t) is (c.requires.placed c.len-index.result)
+    subst (λ t. IsPartOf g.H.Histories.shards c.len-index.result t) is (c.requires.placed c.len-index.result)
 
 pub loop-locked-preserved : goal.loop-locked-preserved
 loop-locked-preserved g c =

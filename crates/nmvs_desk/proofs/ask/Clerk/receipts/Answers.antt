@@ -4,7 +4,7 @@ use Rattle.nmvs_desk.specs.declared.ask.Receipt.{Receipt}
 use Rattle.nmvs_rules.specs.declared.entry.Entry.{Entry}
 use Rattle.nmvs_rules.specs.Entries.{AreEntries}
 use Rattle.nmvs_rules.specs.Rules.{IsLawful}
-use Rattle.nmvs_desk.specs.Placing.{IsPlaced}
+use Rattle.nmvs_desk.specs.Placing.{IsPartOf}
 use Rattle.nmvs_desk.specs.Settlement.{row, at, AreOwn}
 use Rattle.nmvs_desk.specs.Views.{ClerkView}
 use Rattle.nmvs_desk.proofs.Clerks.{stand, own, lawful}
@@ -27,5 +27,5 @@ returns-clause-own g c =
 pub returns-clause-lawful : goal.returns-clause-lawful
 returns-clause-lawful g c =
     let h = g.H.Histories in
-    subst (λ (s : List (List Entry)). (i : ℕ) → IsLawful (row s i) × AreEntries (row s i) × IsPlaced h.shards i (row s i)) (ap (λ (v : ClerkView). v.sights) c.self.view_is)
+    subst (λ (s : List (List Entry)). (i : ℕ) → IsLawful (row s i) × AreEntries (row s i) × IsPartOf h.shards i (row s i)) (ap (λ (v : ClerkView). v.sights) c.self.view_is)
     (lawful h.tables h.shards _ _ c.self.invariant)

@@ -3,7 +3,7 @@ use Rattle.std.proofs.lemmas.Option.{slice_get_read}
 use Rattle.nmvs_history.specs.Views.{TokenView}
 use Rattle.nmvs_rules.specs.declared.entry.Entry.{Entry}
 use Rattle.nmvs_desk.specs.Answers.{IsShown}
-use Rattle.nmvs_desk.specs.Placing.{IsPlaced}
+use Rattle.nmvs_desk.specs.Placing.{IsPartOf}
 use Rattle.nmvs_desk.specs.Settlement.{row}
 use Rattle.nmvs_desk.specs.Views.{ClerkView, sights_of}
 use Rattle.nmvs_desk.proofs.Asked.{looked, same_places, shown_then, sight_else, sight_of}
@@ -25,7 +25,7 @@ hold-requires-clause-seen g c =
     let was = c.index_mut.result.now in
     let has = slice_get_read c.self.inside.tokens.items h.shards c.args.index was (sym is.shards) c.requires.index c.index_mut.ensures.value in
     let own = is.each c.args.index was has in
-    let P : ℕ → Type 0 = λ i. IsPlaced h.shards i was.seen in
+    let P : ℕ → Type 0 = λ i. IsPartOf h.shards i was.seen in
     (own.lawful, own.in_range, subst P (sym c.requires.holder) own.placed)
 
 pub hold-requires-clause-may : goal.hold-requires-clause-may
