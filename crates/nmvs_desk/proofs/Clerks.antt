@@ -37,7 +37,7 @@ all_sights P none (t ∷ ts) each (suc i) = all_sights (λ j. P (suc j)) (λ j. 
 pub lawful : (tables : ℕ → HistoryId) (count : ℕ) (tokens : List TokenView) (receipts : List Receipt) → IsClerk tables count tokens receipts
     → (i : ℕ) → IsLawful (row (sights_of tokens) i) × AreEntries (row (sights_of tokens) i) × IsPartOf count i (row (sights_of tokens) i)
 lawful tables count tokens receipts is =
-    all_sights (λ i t. IsLawful t × AreEntries t × IsPartOf count i t) (λ i. (tt, All-nil (λ (e : Entry). IsTrue (is_entry e)), record { placed = All-nil (λ (e : Entry). shard_of count (code_of e.put.question) ≡ i); new = tt; })) tokens
+    all_sights (λ i t. IsLawful t × AreEntries t × IsPartOf count i t) (λ i. (tt, All-nil (λ (e : Entry). IsTrue (is_entry e)), record { placed = All-nil (λ (e : Entry). shard_of count (code_of e.put.question) ≡ i); new = tt })) tokens
     (λ i k at. ((is.each i k at).lawful, (is.each i k at).in_range, (is.each i k at).placed))
 
 -- and its receipts' places are among its own

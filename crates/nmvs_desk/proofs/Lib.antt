@@ -7,4 +7,5 @@ pub mod Places
 pub mod Noting
 pub mod Closings
 pub mod Whole
+pub mod Merging
 pub mod Unlocking

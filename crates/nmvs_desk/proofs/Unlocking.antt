@@ -17,6 +17,7 @@ use Rattle.nmvs_desk.specs.Views.{LockedView, IsNumbered}
 use Rattle.nmvs_desk.specs.Placing.{place_of, shard_of, IsPlaced, IsPartOf}
 use Rattle.nmvs_desk.specs.Settlement.{row}
 use Rattle.nmvs_desk.specs.Trails.{IsKept, AreTrails}
+use Rattle.nmvs_desk.proofs.Merging.{new-merged}
 
 abbrev pub numbers_of : List LockedView → List ℕ
 numbers_of locked = map (λ (h : LockedView). h.index) locked
@@ -38,7 +39,7 @@ kept_row : (count : ℕ) (locked : List LockedView) → All (IsKept count) locke
 kept_row count locked kept numbered i =
     let P : List Entry → Type 0 = λ t. IsLawful t × AreEntries t × IsPartOf count i t in
     elim (row_of count locked kept i) [
-      | inl e ↦ subst P (sym e) (tt, All-nil (λ (x : Entry). IsTrue (is_entry x)), record { placed = All-nil (λ (x : Entry). shard_of count (code_of x.put.question) ≡ i); new = tt; })
+      | inl e ↦ subst P (sym e) (tt, All-nil (λ (x : Entry). IsTrue (is_entry x)), record { placed = All-nil (λ (x : Entry). shard_of count (code_of x.put.question) ≡ i); new = tt })
       | inr e ↦
           let index : e.0.index ≡ i = sym e.3 ∙ numbered i (omega (arith, e.2, length-map locked (λ (h : LockedView). h.index))) in
           let Q : ℕ → Type 0 = λ n. IsPartOf count n e.0.trail in
@@ -66,9 +67,12 @@ are_trails count locked many kept numbered =
       lawful = λ i. (rows i).0;
       in_range = λ i. (rows i).1;
       placed = λ i. (rows i).2;
-      whole = λ t merging. IsLawful-merged (row ts) t merging
-          (λ c i j a b. sym (code_placed count i c (row ts i) (rows i).2.placed a) ∙ code_placed count j c (row ts j) (rows j).2.placed b)
-          (λ i. (rows i).0);
+      whole = λ t merging. (
+        IsLawful-merged (row ts) t merging
+            (λ c i j a b. sym (code_placed count i c (row ts i) (rows i).2.placed a) ∙ code_placed count j c (row ts j) (rows j).2.placed b)
+            (λ i. (rows i).0),
+        new-merged count (row ts) t merging (λ i. (rows i).2.placed) (λ i. (rows i).2.new),
+      );
     }
 
 pub few_numbered : (shards : List LockedView) (numbers : List ℕ) → numbers_of shards ≡ numbers → IsNumbered numbers → length numbers ≤ 8 → All (λ (h : LockedView). h.index < 8) shards

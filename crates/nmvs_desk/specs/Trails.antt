@@ -3,6 +3,7 @@ use Rattle.std.specs.Prelude.{ℕ, ◌≡◌, List, length}
 use Rattle.nmvs_rules.specs.declared.entry.Entry.{Entry}
 use Rattle.nmvs_rules.specs.Entries.{AreEntries}
 use Rattle.nmvs_rules.specs.Laws.{IsMerging}
+use Rattle.nmvs_rules.specs.Repeats.{AreNew}
 use Rattle.nmvs_rules.specs.Rules.{IsLawful}
 use Rattle.nmvs_desk.specs.Views.{LockedView}
 use Rattle.nmvs_desk.specs.Placing.{IsPartOf}
@@ -16,10 +17,10 @@ pub record IsKept (count : ℕ) (h : LockedView) : Type 0 where
   pub placed : IsPartOf count h.index h.trail
 
 -- the trails of `count` shards, in order: each is lawful, its entries are in their grammars and ranges, each entry's product
--- code belongs to its shard, each question was new where it was put, and every merging of them is one lawful trail
+-- code belongs to its shard, each question was new where it was put, and every merging of them is one such trail
 pub record AreTrails (count : ℕ) (trails : List (List Entry)) : Type 0 where
   pub shards : length trails ≡ count
   pub lawful : (i : ℕ) → IsLawful (row trails i)
   pub in_range : (i : ℕ) → AreEntries (row trails i)
   pub placed : (i : ℕ) → IsPartOf count i (row trails i)
-  pub whole : (t : List Entry) → IsMerging (row trails) t → IsLawful t
+  pub whole : (t : List Entry) → IsMerging (row trails) t → IsLawful t × AreNew t
