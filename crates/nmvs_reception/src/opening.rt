@@ -1,7 +1,7 @@
 //! A repository as it is opened.
 ghost use Rattle.std.specs.Prelude.{◌≡◌, ◌≤◌, ℕ, length, map, vec_len, All, IfOk};
 ghost use Rattle.nmvs_desk.specs.Opening.{table_of, IsNew};
-ghost use Rattle.nmvs_desk.specs.Placing.{IsPlaced};
+ghost use Rattle.nmvs_desk.specs.Placing.{IsPartOf};
 ghost use Rattle.nmvs_desk.specs.Settlement.{row};
 
 use nmvs_desk::{Clerk, Keepers, MOST_CLERKS, Repository};
@@ -38,7 +38,7 @@ impl<'a, J: Naming> Opening<'a, J> {
         requires tables { (i : ℕ) → table_of self.keepers i ≡ H.tables i }
         requires named { (H.shards ≡ length self.keepers) × (H.clerks ≡ vec_len self.windows) × ((i : ℕ) → H.opening i ≡ row self.shards.items i) }
         requires many { vec_len self.shards ≡ length self.keepers }
-        requires placed { (i : ℕ) → IsPlaced (length self.keepers) i (row self.shards.items i) }
+        requires placed { (i : ℕ) → IsPartOf (length self.keepers) i (row self.shards.items i) }
         requires few { vec_len self.windows ≤ MOST_CLERKS }
         ensures many { IfOk result (λ opened. vec_len opened.clerks ≡ vec_len self.entry.windows) }
         ensures shards { IfOk result (λ opened. opened.repository.shards ≡ length self.entry.keepers) }

@@ -1,8 +1,8 @@
 //! How a test opens a repository, lets clerks work in it in threads of their own, and settles it.
-ghost use Rattle.std.specs.Prelude.{◌≡◌, ◌<◌, ◌≤◌, ℕ, length, vec_len, IfOk, OnOk};
+ghost use Rattle.std.specs.Prelude.{◌≡◌, ◌<◌, ◌≤◌, ℕ, length, vec_len, IfOk};
 ghost use Rattle.nmvs_directory.specs.Directory.{directory_book};
 ghost use Rattle.nmvs_desk.specs.Opening.{table_of};
-ghost use Rattle.nmvs_desk.specs.Placing.{IsPlaced};
+ghost use Rattle.nmvs_desk.specs.Placing.{IsPartOf};
 ghost use Rattle.nmvs_desk.specs.Settlement.{row};
 
 use crate::market::{actor, name, new_year, put, upload};
@@ -11,7 +11,7 @@ use nmvs_directory::{Directory, Look, Naming, Registrar, Window};
 use nmvs_history::Histories;
 use nmvs_identifier::{Moment, Name};
 use nmvs_rules::{Entry, Put, Question};
-use nmvs_shard::{HashKey, Shard, shard_number};
+use nmvs_shard::{HashKey, Shard, Shards};
 use std::alloc::{AllocError, Allocator, Global};
 use std::marker::Brand;
 use std::process::Abort;
@@ -37,32 +37,18 @@ pub fn shards_with<'a, B: Allocator>(
     codes: &[&str],
 ) -> Result<Vec<Shard<&'a B>, &'a B>, AllocError>
     ensures many { IfOk result (λ shards. vec_len shards ≡ count) }
-    ensures placed { IfOk result (λ shards. (i : ℕ) → IsPlaced count i (row shards.items i)) }
+    ensures placed { IfOk result (λ shards. (i : ℕ) → IsPartOf count i (row shards.items i)) }
 {
     assert!(rt; 0 < count);
-    let mut shards = Vec::with_capacity(alloc, count)?;
-    for _shard in 0..count {
-        shards.push_reserved(Shard::new(alloc, HashKey::of(1)));
-    }
+    let mut shards = Shards::new(alloc, count, HashKey::of(1))?;
     for digits in codes {
-        append(&mut shards, &put(rt, "mah1", upload(rt, digits)))?;
+        let put = put(rt, "mah1", upload(rt, digits));
+        let reply = shards.reply_to(&put);
+        if shards.store(&Entry { put, reply }).is_err() {
+            return Err(AllocError);
+        }
     }
-    Ok(shards)
-}
-
-/// Stores a question in the shard of its product code, with the reply of the rules.
-fn append<'a, B: Allocator>(
-    shards: &mut Vec<Shard<&'a B>, &'a B>,
-    put: &Put,
-) -> Result<(), AllocError>
-    requires some { 0 < vec_len shards.old }
-    requires placed { (i : ℕ) → IsPlaced (vec_len shards.old) i (row shards.old.items i) }
-    ensures many { vec_len shards.new ≡ vec_len shards.old }
-    ensures placed { OnOk result ((i : ℕ) → IsPlaced (vec_len shards.old) i (row shards.new.items i)) }
-{
-    let index = shard_number(&put.question.code(), shards.len());
-    let reply = shards[index].reply_to(put);
-    shards[index].store(&Entry { put: *put, reply })
+    Ok(shards.into_shards())
 }
 
 /// Enrols the users, and publishes them.
@@ -262,7 +248,7 @@ fn in_repository<
     requires named { (H.shards ≡ length keepers) × (H.clerks ≡ vec_len windows.old)
         × ((i : ℕ) → H.opening i ≡ row shards.items i) }
     requires many { vec_len shards ≡ length keepers }
-    requires placed { (i : ℕ) → IsPlaced (length keepers) i (row shards.items i) }
+    requires placed { (i : ℕ) → IsPartOf (length keepers) i (row shards.items i) }
     requires few { vec_len windows.old ≤ MOST_CLERKS }
 {
     let alloc = *windows.allocator();

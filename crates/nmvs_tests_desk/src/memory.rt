@@ -2,7 +2,7 @@
 ghost use Rattle.std.specs.Prelude.{◌≡◌, ◌≤◌, ℕ, length, vec_len};
 ghost use Rattle.nmvs_directory.specs.Directory.{directory_book};
 ghost use Rattle.nmvs_desk.specs.Opening.{table_of};
-ghost use Rattle.nmvs_desk.specs.Placing.{IsPlaced};
+ghost use Rattle.nmvs_desk.specs.Placing.{IsPartOf};
 ghost use Rattle.nmvs_desk.specs.Settlement.{row};
 
 use crate::asking::{Copied, Line};
@@ -222,7 +222,7 @@ fn is_opened<'a, J: Naming, H: Histories, R: Wait + Abort>(
     requires named { (H.shards ≡ length keepers) × (H.clerks ≡ vec_len windows.old)
         × ((i : ℕ) → H.opening i ≡ row shards.items i) }
     requires many { vec_len shards ≡ length keepers }
-    requires placed { (i : ℕ) → IsPlaced (length keepers) i (row shards.items i) }
+    requires placed { (i : ℕ) → IsPartOf (length keepers) i (row shards.items i) }
     requires few { vec_len windows.old ≤ MOST_CLERKS }
     ensures few { vec_len windows.new ≤ MOST_CLERKS }
 {

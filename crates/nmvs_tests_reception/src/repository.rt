@@ -2,7 +2,7 @@
 ghost use Rattle.std.specs.Prelude.{◌≡◌, ◌≤◌, ℕ, length, vec_len};
 ghost use Rattle.nmvs_directory.specs.Directory.{directory_book};
 ghost use Rattle.nmvs_desk.specs.Opening.{table_of};
-ghost use Rattle.nmvs_desk.specs.Placing.{IsPlaced};
+ghost use Rattle.nmvs_desk.specs.Placing.{IsPartOf};
 ghost use Rattle.nmvs_desk.specs.Settlement.{row};
 
 use log::Log;
@@ -77,7 +77,7 @@ fn in_repository<'r, 'a, J: Naming, H: Histories, V: Visit, R: Wait + Clock + Lo
     requires tables { (i : ℕ) → table_of opening.keepers i ≡ H.tables i }
     requires named { (H.shards ≡ length opening.keepers) × (H.clerks ≡ vec_len opening.windows) × ((i : ℕ) → H.opening i ≡ row opening.shards.items i) }
     requires many { vec_len opening.shards ≡ length opening.keepers }
-    requires placed { (i : ℕ) → IsPlaced (length opening.keepers) i (row opening.shards.items i) }
+    requires placed { (i : ℕ) → IsPartOf (length opening.keepers) i (row opening.shards.items i) }
     requires few { vec_len opening.windows ≤ MOST_CLERKS }
 {
     let alloc = *opening.windows.allocator();
