@@ -1,2 +1,3 @@
+mod KeptLines
 mod ShardExports
 mod Slicing

@@ -1,2 +1,4 @@
 pub mod Faults
 pub mod Exports
+pub mod KeptLines
+pub mod WholeLines

@@ -1,4 +1,5 @@
 pub mod Faults
 pub mod Announcements
 pub mod Bounds
+pub mod KeptUsers
 pub mod LogStart

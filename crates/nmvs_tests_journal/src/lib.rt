@@ -1,9 +1,16 @@
-//! Tests of `nmvs_journal`: what a crash leaves of a log, marks, and clerks that wait for their entries.
+//! Tests of `nmvs_journal` and `nmvs_recovery`: what a crash leaves of a log, marks, clerks that wait for their entries, the log of
+//! the users, and exports of a repository that is asked meanwhile.
 #![tactic(auto)]
 
+#[cfg(test)]
+mod exporting;
 #[cfg(test)]
 mod marks;
 #[cfg(test)]
 mod recovering;
+#[cfg(test)]
+mod stage;
+#[cfg(test)]
+mod users_file;
 #[cfg(test)]
 mod waiting;

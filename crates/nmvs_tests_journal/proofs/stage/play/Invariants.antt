@@ -1,4 +1,4 @@
-use Rattle.nmvs_tests_recovery.proofs.stage.play.Given as goal
+use Rattle.nmvs_tests_journal.proofs.stage.play.Given as goal
 
 -- the directory that was just made
 abbrev pub ghosts-in_directory : goal.ghosts-in_directory

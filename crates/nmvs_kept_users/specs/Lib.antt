@@ -1,2 +1,0 @@
-pub mod KeptUsers
-pub mod WholeLines
