@@ -1,5 +1,5 @@
 -- What is told of an export (own).
-use Rattle.std.specs.Prelude.{ℕ, List, [], ◌∷◌, ◌++◌, ◌-◌, ◌==◌, length, filter, codes, decimal, fold, if◌then◌else◌}
+use Rattle.std.specs.Prelude.{ℕ, Bool, true, false, List, [], ◌∷◌, ◌++◌, ◌+◌, ◌-◌, ◌==◌, length, filter, codes, decimal, fold, Option, None, Some, if◌then◌else◌}
 use Rattle.std.specs.List.{count_by, flat_map, list_any}
 use Rattle.std.specs.Option.{is_some}
 use Rattle.nmvs_identifier.specs.Texts.{same_text}
@@ -8,7 +8,10 @@ use Rattle.nmvs_identifier.specs.declared.pack.Pack.{Pack}
 use Rattle.nmvs_stream.specs.Delivery.{Delivers}
 use Rattle.nmvs_stream.specs.Sink.{Taken}
 use Rattle.nmvs_rules.specs.declared.entry.Entry.{Entry}
+use Rattle.nmvs_rules.specs.declared.repeat.Repeat.{Repeat}
+use Rattle.nmvs_rules.specs.declared.repeat.Repeat.TheVariants as repeat
 use Rattle.nmvs_rules.specs.Questions.{code_of}
+use Rattle.nmvs_rules.specs.Repeats.{repeat_of}
 use Rattle.nmvs_rules.specs.Trail.{is_about}
 use Rattle.nmvs_rules.specs.declared.reply.Reply.TheVariants.{Shown}
 use Rattle.nmvs_protocol.specs.Texts.{reply_text}
@@ -38,11 +41,27 @@ tagged_of t = count_by (λ e. is_some e.put.tag) t
 abbrev pub third_text : ℕ → List ℕ
 third_text n = if n == 0 then [] else codes "VERSION 3 " ++ (decimal n ++ codes "\n")
 
--- how many lines there are, and how many of them in each version
+-- whether a question was new, by what it is beside the entries before it
+abbrev pub is_new : Repeat → Bool
+is_new repeat.New = true
+is_new _ = false
+
+-- the place of the first of these entries, which follow the entries u, whose question was asked before with its tag
+abbrev pub first_repeated_after : List Entry → List Entry → Option ℕ
+first_repeated_after u [] = None
+first_repeated_after u (e ∷ es) = if is_new (repeat_of u e.put) then first_repeated_after (u ++ e ∷ []) es else Some (length u)
+
+-- the line that names the first entry whose question was asked before with its tag, and put all the same: by the number of
+-- its own line, counted from 1
+abbrev pub repeated_text : Option ℕ → List ℕ
+repeated_text None = []
+repeated_text (Some n) = codes "REPEATED " ++ (decimal (n + 1) ++ codes "\n")
+
+-- how many lines there are, how many of them in each version, and which is the first that repeats a question
 abbrev pub counts_text : Imported → List ℕ
 counts_text it =
     let tagged = tagged_of it.trail in
-    codes "LAWFUL " ++ (decimal (length it.trail) ++ (codes "\nVERSION 1 " ++ (decimal it.older ++ (codes "\nVERSION 2 " ++ (decimal (newer it - tagged) ++ (codes "\n" ++ third_text tagged))))))
+    codes "LAWFUL " ++ (decimal (length it.trail) ++ (codes "\nVERSION 1 " ++ (decimal it.older ++ (codes "\nVERSION 2 " ++ (decimal (newer it - tagged) ++ (codes "\n" ++ (third_text tagged ++ repeated_text (first_repeated_after [] it.trail))))))))
 
 -- these counts, and a line for each product code
 abbrev pub summary_text : Imported → List ℕ

@@ -1,5 +1,5 @@
 //! What is told of a lawful export.
-ghost use Rattle.std.specs.Prelude.{◌≡◌, ◌++◌, IfOk, OnOk, string_bytes};
+ghost use Rattle.std.specs.Prelude.{◌≡◌, ◌+◌, ◌<◌, ◌^◌, ◌++◌, IfOk, IfSome, OnOk, string_bytes};
 ghost use Rattle.std.specs.List.{flat_map};
 ghost use Rattle.nmvs_stream.specs.Delivery.{Delivers};
 ghost use Rattle.nmvs_record.specs.Report as told;
@@ -62,7 +62,7 @@ fn summary(alloc: Global, importer: &Importer<Shard<Global>>) -> Result<String, 
     Ok(text)
 }
 
-/// How many lines there are, and how many of them in each version.
+/// How many lines there are, how many of them in each version, and which is the first that repeats a question.
 fn counts_text(alloc: Global, importer: &Importer<Shard<Global>>) -> Result<String, AllocError>
     ensures { IfOk result (λ text. string_bytes text ≡ answers.counts_text importer.now) }
 {
@@ -71,7 +71,20 @@ fn counts_text(alloc: Global, importer: &Importer<Shard<Global>>) -> Result<Stri
     let tagged = tagged_of(trail);
     let newer = importer.newer().saturating_sub(tagged);
     let third = third_text(alloc, tagged)?;
-    format!(in alloc; "LAWFUL {lines}\nVERSION 1 {older}\nVERSION 2 {newer}\n{third}")
+    let repeated = repeated_text(alloc, importer.shard().first_repeated())?;
+    format!(in alloc; "LAWFUL {lines}\nVERSION 1 {older}\nVERSION 2 {newer}\n{third}{repeated}")
+}
+
+/// The line that names the first entry whose question was asked before with its tag, where there is one.
+fn repeated_text(alloc: Global, place: Option<usize>) -> Result<String, AllocError>
+    requires { IfSome place (λ place. place + 1 < 2 ^ 64) }
+    ensures { IfOk result (λ text. string_bytes text ≡ answers.repeated_text place) }
+{
+    let Some(place) = place else {
+        return Ok(String::new(alloc));
+    };
+    let line = place + 1;
+    format!(in alloc; "REPEATED {line}\n")
 }
 
 /// The line that tells of version 3, where there are such lines.

@@ -18,6 +18,7 @@ file_fault_text (faults.UsersLine number fault) = codes "users line " ++ decimal
 file_fault_text (faults.UsersEnd number) = codes "users line " ++ decimal number ++ codes ": it has no end: UNENDED"
 file_fault_text (faults.ImportLine number) = codes "import line " ++ decimal number
 file_fault_text (faults.ImportUnlawful number) = codes "import line " ++ decimal number ++ codes " is unlawful"
+file_fault_text (faults.ImportRepeated number) = codes "import line " ++ decimal number ++ codes " was asked before with its tag"
 file_fault_text (faults.JournalRefused path) = codes "journal " ++ path.now ++ codes " refused"
 file_fault_text (faults.ImportDigest path) = codes "the digest of " ++ path.now ++ codes " is not the one in " ++ path.now ++ codes ".sha256"
 file_fault_text (faults.NoDigest path) = path.now ++ codes ".sha256 is no digest of " ++ path.now
@@ -28,6 +29,7 @@ file_fault_text faults.Memory = codes "out of memory"
 abbrev pub file_fault_status : FileFault → ℕ
 file_fault_status (faults.ImportLine number) = 3
 file_fault_status (faults.ImportUnlawful number) = 3
+file_fault_status (faults.ImportRepeated number) = 3
 file_fault_status (faults.JournalRefused path) = 3
 file_fault_status (faults.ImportDigest path) = 3
 file_fault_status (faults.NoDigest path) = 3
@@ -40,6 +42,7 @@ import_text path findings.Read = codes "cannot read " ++ path
 import_text path (findings.Unended number) = codes "import line " ++ decimal number
 import_text path (findings.Line number objections.Memory) = codes "out of memory"
 import_text path (findings.Line number (objections.Unlawful stored rules)) = codes "import line " ++ decimal number ++ codes " is unlawful"
+import_text path (findings.Line number objections.Repeated) = codes "import line " ++ decimal number ++ codes " was asked before with its tag"
 import_text path (findings.Line number objection) = codes "import line " ++ decimal number
 
 -- what is told where it is not known which digest the import of this path has to have

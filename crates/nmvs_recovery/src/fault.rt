@@ -23,6 +23,8 @@ pub enum FileFault<'a> {
     ImportLine(usize),
     /// The reply in this line of the import is not that of the rules.
     ImportUnlawful(usize),
+    /// The question in this line of the import was asked before with its tag, and put all the same.
+    ImportRepeated(usize),
     /// The log in the folder of this path is not gone on from.
     JournalRefused(&'a str),
     /// The digest of the import of this path is not the one that stands beside it.
@@ -51,6 +53,9 @@ impl<'a> fmt::Display for FileFault<'a> {
             }
             FileFault::ImportLine(number) => write!(f, "import line {number}"),
             FileFault::ImportUnlawful(number) => write!(f, "import line {number} is unlawful"),
+            FileFault::ImportRepeated(number) => {
+                write!(f, "import line {number} was asked before with its tag")
+            }
             FileFault::JournalRefused(path) => write!(f, "journal {path} refused"),
             FileFault::ImportDigest(path) => {
                 write!(f, "the digest of {path} is not the one in {path}.sha256")
@@ -70,6 +75,7 @@ impl<'a> FileFault<'a> {
     {
         match self {
             FileFault::ImportLine(_) | FileFault::ImportUnlawful(_) => 3,
+            FileFault::ImportRepeated(_) => 3,
             FileFault::ImportDigest(_) | FileFault::NoDigest(_) => 3,
             FileFault::JournalRefused(_) => 3,
             FileFault::CannotWrite(_) => 4,
@@ -87,6 +93,7 @@ impl<'a> FileFault<'a> {
             Finding::Unended(number) => FileFault::ImportLine(number),
             Finding::Line(_, Objection::Memory) => FileFault::Memory,
             Finding::Line(number, Objection::Unlawful { .. }) => FileFault::ImportUnlawful(number),
+            Finding::Line(number, Objection::Repeated) => FileFault::ImportRepeated(number),
             Finding::Line(number, _) => FileFault::ImportLine(number),
         }
     }
