@@ -2,8 +2,9 @@
 use nmvs_digest::{DigestFault, Digested, stored_digest};
 use nmvs_stream::{Device, Source};
 use std::alloc::{AllocError, Global};
-use std::fs::{self, File};
+use std::fs::{self, File, Metadata};
 use std::io::{self, ErrorKind, Read};
+use std::os::unix::fs::MetadataExt;
 use std::rt::{HostRuntime, Stdin};
 
 /// Something that is read.
@@ -84,6 +85,18 @@ impl Inputs {
     /// The path of the file whose digest is not the one beside it, where a read failed for that.
     pub(crate) fn differing(&self) -> Option<&String> {
         self.differing.as_ref()
+    }
+
+    /// Whether this is one of the files that are still to be read, under whatever name.
+    pub(crate) fn have(&self, rt: &HostRuntime, found: &Metadata) -> bool {
+        for input in self.inputs.iter() {
+            if let Ok(other) = fs::metadata(rt, &input.path) {
+                if other.dev() == found.dev() && other.ino() == found.ino() {
+                    return true;
+                }
+            }
+        }
+        false
     }
 }
 

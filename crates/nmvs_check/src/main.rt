@@ -92,6 +92,10 @@ fn check(rt: &HostRuntime, alloc: Global, key: HashKey, options: &Options) -> Ex
                 let _ = eprintln!(rt; "the file {path} cannot be written");
                 ExitCode::from(TROUBLE)
             }
+            Err(PageFault::Export) => {
+                let _ = eprintln!(rt; "the file {path} is one of the exports");
+                ExitCode::from(TROUBLE)
+            }
         };
     }
     let inspected = {

@@ -18,6 +18,8 @@ pub(crate) enum PageFault {
     Inspect(InspectFault),
     /// The file cannot be written.
     File,
+    /// The file is one of the exports.
+    Export,
 }
 
 /// Writes the page that is asked of an export to the file of this path.
@@ -25,7 +27,7 @@ pub(crate) enum PageFault {
 /// # Errors
 ///
 /// What was found where the input is no export of a lawful trail, or so many reads did not reach its end; there is no
-/// memory; or the system refuses the file.
+/// memory; the file is one of the exports, by whatever name; or the system refuses it.
 pub(crate) fn write_page(
     rt: &HostRuntime,
     alloc: Global,
@@ -37,6 +39,9 @@ pub(crate) fn write_page(
 ) -> Result<(), PageFault> {
     let memory = PageFault::Inspect(InspectFault::Answer(AnswerFault::Memory));
     let part = format!(in alloc; "{path}.part").or(Err(memory))?;
+    if is_export(rt, path, inputs) {
+        return Err(PageFault::Export);
+    }
     let file = create(rt, path, &part).or(Err(PageFault::File))?;
     let (mut source, mut sink) = (Device::new(inputs), Device::new(file));
     let written = match inspect(alloc, key, &mut source, &mut sink, asked, reads) {
@@ -47,6 +52,14 @@ pub(crate) fn write_page(
         let _ = fs::remove_file(rt, &part);
     }
     written
+}
+
+/// Whether the file of this path is one of the exports.
+fn is_export(rt: &HostRuntime, path: &str, inputs: &Inputs) -> bool {
+    match fs::metadata(rt, path) {
+        Ok(found) => inputs.have(rt, &found),
+        Err(_) => false,
+    }
 }
 
 /// A new file beside the one of this path, which is a file or nothing.
