@@ -18,7 +18,7 @@ from terminal import Terminal
 
 PROGRAM = pathlib.Path(__file__).resolve().parent.parent / "crates/nmvs_serve/out/nmvs_serve"
 # What a terminal wrote wrong; what its person typed wrong.
-FORM, TYPED = ("LONG", "BYTES", "FIELDS", "WORD", "USER"), ("CODE", "SERIAL", "BATCH", "EXPIRY")
+FORM, TYPED = ("LONG", "RETURN", "BYTES", "FIELDS", "WORD", "USER"), ("CODE", "SERIAL", "BATCH", "EXPIRY")
 REPLIES = (
     "UPLOADED", "AUTHENTIC", "STATUS", "NOPACK", "DECOMMISSIONED", "HANDED_OVER", "REVERTED", "LOCKED", "STOLEN", "SHOWN", "PRODUCT",
     *(f"ALERT {cause}" for cause in "UNKNOWN RECALLED WITHDRAWN HELD SUPPLIED EXPORTED SAMPLED DESTROYED STOLEN".split()),
@@ -74,7 +74,7 @@ def main():
         if not given.lines:
             sys.stdin.read()
             return 0
-        # As the terminal wrote them: a line ends with LF alone, so one that ends with CR LF has a byte that no line may have.
+        # As the terminal wrote them: a line ends with LF alone, so one that ends with CR LF is wrong.
         lines = [line for path in given.lines for line in path.read_bytes().decode("latin-1").split("\n")[:-1]]
         return 0 if put(port, lines) else 1
     finally:

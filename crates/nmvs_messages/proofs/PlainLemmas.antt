@@ -7,7 +7,6 @@ use Rattle.std.proofs.lemmas.List.Elements.{All-from_recursion}
 use Rattle.std.proofs.lemmas.List.Folds.{list_all-append}
 use Rattle.std.proofs.lemmas.List.Splits.{slice_split_at, slice_split_none}
 use Rattle.nmvs_identifier.proofs.PlainTexts.{is_plain, IsPlain, all_weaker}
-use Rattle.nmvs_messages.specs.declared.limits.TheConstants.{LONGEST_LINE}
 use Rattle.nmvs_messages.specs.Fields.{is_printable, is_space, is_empty, fields_in, line_of_fields, line_fault}
 
 not_space : (b : ℕ) → is_plain b ≡ true → is_space b ≡ false
@@ -54,12 +53,12 @@ length-line_of_fields (f ∷ g ∷ fs) plain =
     let whole = length-append f (32 ∷ line_of_fields (g ∷ fs)) in
     omega (arith, short, rest, whole)
 
-pub not_long : (n : ℕ) → n ≤ LONGEST_LINE → nat_lt LONGEST_LINE n ≡ false
+pub not_long : (n : ℕ) → n ≤ 200 → nat_lt 200 n ≡ false
 not_long n short = grind (arith, nat_tests)
 
 -- a line of one to nine plain fields is short, printable, and has these fields, none of them empty
 pub record IsPlainLine (fs : List (List ℕ)) : Type 0 where
-  pub short : length (line_of_fields fs) ≤ LONGEST_LINE
+  pub short : length (line_of_fields fs) ≤ 200
   pub bound : length (line_of_fields fs) ≤ 21 * length fs
   pub printable : list_all is_printable (line_of_fields fs) ≡ true
   pub fields : fields_in (line_of_fields fs) ≡ fs

@@ -1,7 +1,6 @@
 -- The fields of a line: what stands between single spaces (own).
 use Rattle.std.specs.Prelude.{ℕ, Bool, List, length, ◌==◌, ◌&&◌, nat_le, nat_lt, not, Option, Some, if◌then◌else◌}
 use Rattle.std.specs.List.{list_all, list_any, slice_split, join_with_byte}
-use Rattle.nmvs_messages.specs.declared.limits.TheConstants.{LONGEST_LINE}
 
 -- a printable ASCII character, the space among them
 abbrev pub is_printable : ℕ → Bool
@@ -26,7 +25,7 @@ is_empty f = length f == 0
 -- the first fault of a line: one of three that any line can have, else that of its fields
 abbrev pub line_fault : {F : Type 0} → F → F → F → (List (List ℕ) → Option F) → List ℕ → Option F
 line_fault long bytes empty of_fields x =
-    if nat_lt LONGEST_LINE (length x) then Some long
+    if nat_lt 200 (length x) then Some long
     else if not (list_all is_printable x) then Some bytes
     else if list_any is_empty (fields_in x) then Some empty
     else of_fields (fields_in x)

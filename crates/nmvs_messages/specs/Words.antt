@@ -27,6 +27,7 @@ turn_word turns.Tag = codes "TAG"
 -- why a line cannot be read
 abbrev pub fault_word : LineFault → List ℕ
 fault_word faults.Long = codes "LONG"
+fault_word faults.Return = codes "RETURN"
 fault_word faults.Bytes = codes "BYTES"
 fault_word faults.Fields = codes "FIELDS"
 fault_word faults.Word = codes "WORD"

@@ -26,6 +26,10 @@ pub enum Content<'a> {
     Turned(Turn),
     /// The line cannot be read.
     Unread(LineFault),
+    /// The answer to PING.
+    Pong,
+    /// The answer to VERSION.
+    Version,
     /// The answer to QUIT.
     Bye,
 }

@@ -11,6 +11,10 @@ use thiserror::Error;
 pub enum Line {
     /// It asks something of the desk.
     Ask(Ask),
+    /// PING: whether anybody answers.
+    Ping,
+    /// VERSION: of which version the program is.
+    Version,
     /// QUIT: it ends the session.
     Quit,
 }
@@ -54,6 +58,8 @@ pub struct Unread {
 pub enum LineFault {
     #[error("the line has more than 200 bytes")]
     Long,
+    #[error("the line ends with CR LF, and not with LF alone")]
+    Return,
     #[error("the line has a byte that is no printable ASCII character")]
     Bytes,
     #[error("the line has an empty field or the wrong number of fields")]

@@ -27,6 +27,7 @@ pub fn word_of_fault(fault: LineFault) -> &'static str
 {
     match fault {
         LineFault::Long => "LONG",
+        LineFault::Return => "RETURN",
         LineFault::Bytes => "BYTES",
         LineFault::Fields => "FIELDS",
         LineFault::Word => "WORD",

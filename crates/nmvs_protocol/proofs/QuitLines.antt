@@ -1,5 +1,5 @@
 -- QUIT is the text of no ask.
-use Rattle.std.proofs.Common.{◌≡◌, ◌≢◌, ◌↔◌, IsTrue, Bool, true, false, subst, List, ℕ, [], ◌∷◌, ◌++◌, ◌||◌, None, Result, Ok, Err, refl, sym, ap, ◌∙◌}
+use Rattle.std.proofs.Common.{◌≡◌, ◌≢◌, ◌↔◌, IsTrue, Bool, true, false, subst, List, ℕ, [], ◌∷◌, ◌++◌, ◌||◌, None, Result, Ok, Err, get_or, refl, sym, ap, ◌∙◌, arith}
 use Rattle.std.proofs.Math.Bool.{or-true}
 use Rattle.std.specs.List.{list_any}
 use Rattle.std.proofs.lemmas.List.Folds.{list_any-append}
@@ -28,6 +28,8 @@ quit_is_no_fault = first_fault-text lines.Quit refl
 
 -- what is not read as QUIT is not its text
 pub not_quit : (x : List ℕ) (r : Result Line Unread) → ReadsLine x r → r ≢ Ok lines.Quit → x ≢ line_text lines.Quit
+not_quit x (Ok lines.Ping) h other e = let n : 80 ≡ 81 = ap (λ (t : List ℕ). get_or t 0 0) (sym h.0 ∙ e) in absurd (omega (arith, n))
+not_quit x (Ok lines.Version) h other e = let n : 86 ≡ 81 = ap (λ (t : List ℕ). get_or t 0 0) (sym h.0 ∙ e) in absurd (omega (arith, n))
 not_quit x (Ok lines.Quit) h other e = other refl
 not_quit x (Ok (lines.Ask a)) h other e = asks a.asked (sym h.0 ∙ e)
   where

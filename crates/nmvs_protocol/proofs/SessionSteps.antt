@@ -13,7 +13,6 @@ use Rattle.nmvs_messages.specs.declared.ask.Line.TheVariants as lines
 use Rattle.nmvs_messages.specs.declared.answer.Answer.{Answer}
 use Rattle.nmvs_messages.specs.declared.withheld.Withheld.{Withheld}
 use Rattle.nmvs_messages.specs.declared.limits.Limits.{Limits}
-use Rattle.nmvs_messages.specs.declared.limits.TheConstants.{READ_SIZE}
 use Rattle.nmvs_protocol.specs.declared.session.Session.{Session as TheSession}
 use Rattle.nmvs_protocol.specs.declared.session.Taking.{Taking}
 use Rattle.nmvs_messages.specs.declared.end.End.{End}
@@ -547,7 +546,7 @@ module _ {D : Type 0} (takes : D → Ask → Withheld → D → Type 0) where
     before_last_both xs ys a (inl b) = inl (no_quit_both xs ys a b)
     before_last_both xs ys a (inr b) = inr (ends_both xs ys a b)
 
-    breaks_off : (input chunk : List ℕ) (start sink sink' : Taken) (said more : List Answer) → length said ≡ length (input_lines input) → length chunk ≤ READ_SIZE
+    breaks_off : (input chunk : List ℕ) (start sink sink' : Taken) (said more : List Answer) → length said ≡ length (input_lines input) → length chunk ≤ 4096
         → DeliversAll start sink said → DeliversPart sink sink' (session_text more) → BreaksOff start sink' (input ++ chunk) (said ++ more)
     breaks_off input chunk start sink sink' said more whole one a b = record {
       earlier = input;
@@ -566,7 +565,7 @@ module _ {D : Type 0} (takes : D → Ask → Withheld → D → Type 0) where
     }
 
     closes : {limit : ℕ} {first now new : D} {start sink sink' : Taken} {session session' : TheSession} {input : List ℕ} (limits : Limits) (source source' : Told) (chunk : List ℕ) (end : End)
-        → length chunk ≤ READ_SIZE → limit ≡ limits.lines → (a : SoFar limit first start now sink session input)
+        → length chunk ≤ 4096 → limit ≡ limits.lines → (a : SoFar limit first start now sink session input)
         → (h : Served takes releases moves session now sink (lines_after (unfinished_line input) chunk) session' new sink' (Some end))
         → Closes end limits (input ++ chunk) (input_lines input ++ h.answered) h.left (a.said ++ h.said) source source' start sink'
     closes {start = start} {sink = sink} {sink' = sink'} {input = input} limits source source' chunk ends.Quit one is a h =
@@ -608,7 +607,7 @@ module _ {D : Type 0} (takes : D → Ask → Withheld → D → Type 0) where
 
     -- a session that ended with the lines of a read
     pub closed : {first now new : D} {start sink sink' : Taken} {session session' : TheSession} {input : List ℕ} (limits : Limits) (source source' : Told) (chunk : List ℕ) (end : End)
-        → length chunk ≤ READ_SIZE → (a : SoFar limits.lines first start now sink session input)
+        → length chunk ≤ 4096 → (a : SoFar limits.lines first start now sink session input)
         → Served takes releases moves session now sink (lines_after (unfinished_line input) chunk) session' new sink' (Some end)
         → source'.bytes ≡ source.bytes ++ (input ++ chunk) → source'.reads ≤ source.reads + limits.reads → source'.ended ≡ false → source'.failed ≡ false
         → Session takes releases moves limits first source start new source' sink' end

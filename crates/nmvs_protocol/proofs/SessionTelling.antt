@@ -39,6 +39,8 @@ short_of (contents.Replied r (e ∷ es)) short = absurd (cc short)
 short_of (contents.Reported t) short = refl
 short_of (contents.Turned turn) short = refl
 short_of (contents.Unread fault) short = refl
+short_of contents.Pong short = refl
+short_of contents.Version short = refl
 short_of contents.Bye short = refl
 
 -- what is short, and one more

@@ -1,5 +1,5 @@
 -- The text of a line is read, and is the text of no other.
-use Rattle.std.proofs.Common.{◌≡◌, ◌≢◌, ◌≤◌, ◌<◌, ◌==◌, ◌&&◌, not, ℕ, true, false, List, [], ◌∷◌, ◌++◌, length, map, take, drop, get_or, codes, Bor, Option, Some, None, inl, inr, refl, sym, ap, ◌∙◌, lit≤, cond, arith, Result, Ok, Err}
+use Rattle.std.proofs.Common.{◌≡◌, ◌≢◌, ◌≤◌, ◌<◌, ◌==◌, ◌&&◌, ◌||◌, not, ℕ, true, false, List, [], ◌∷◌, ◌++◌, length, map, take, drop, get_or, codes, Bor, Option, Some, None, inl, inr, refl, sym, ap, ◌∙◌, lit≤, cond, arith, Result, Ok, Err}
 use Rattle.std.specs.Prelude.{IfOk, IsTrue}
 use Rattle.std.specs.Result.{result_err}
 use Rattle.std.specs.List.{AllByRecursion}
@@ -23,10 +23,9 @@ use Rattle.nmvs_messages.specs.declared.ask.LineFault.TheVariants as fault
 use Rattle.nmvs_messages.specs.declared.ask.LineFault.{LineFault}
 use Rattle.nmvs_messages.specs.Fields.{fields_in, line_of_fields, line_fault}
 use Rattle.nmvs_protocol.specs.Tags.{tag_text, tag_of, behind_tag}
-use Rattle.nmvs_messages.specs.declared.limits.TheConstants.{LONGEST_LINE}
 use Rattle.nmvs_identifier.specs.Tag.{Tag}
 use Rattle.nmvs_rules.specs.Entries.{is_tag_or_none}
-use Rattle.nmvs_protocol.specs.Lines.{asked_fields, line_tag, fields, line_text, report_word, Grammar, grammars, report_grammars, all_read, first_misread, texts_fault, question_fault, ask_fault, asked_fault, fields_fault, asked_line_fault, fault_behind, first_fault, is_asked, is_line, ReadsLine, ReadsUntagged, OneReading, EachIsRead, OneSpelling, ShortLines}
+use Rattle.nmvs_protocol.specs.Lines.{asked_fields, line_tag, fields, line_text, report_word, Grammar, grammars, report_grammars, all_read, first_misread, texts_fault, question_fault, ask_fault, asked_fault, fields_fault, byte_fault, asked_line_fault, fault_behind, first_fault, is_asked, is_line, ReadsLine, ReadsUntagged, OneReading, EachIsRead, OneSpelling, ShortLines}
 use Rattle.nmvs_identifier.proofs.PlainTexts.{IsPlain, plain_name, plain_code, plain_serial, plain_batch, plain_expiry}
 use Rattle.nmvs_words.proofs.PlainWords.{word_plain}
 use Rattle.nmvs_protocol.proofs.QuestionLemmas.{written, same_question}
@@ -82,6 +81,8 @@ plain_ask (asked.Report user c) e =
 -- the text of a line is made of plain fields
 plain_text : (l : Line) → is_line l ≡ true → IsPlainLine (fields l)
 plain_text (lines.Ask a) e = plain_ask a.asked (and_parts (is_tag_or_none a.tag) (is_asked a.asked) e).1
+plain_text lines.Ping e = plain_line (fields lines.Ping) (lit≤ tt) (lit≤ tt) ((lit≤ tt, lit≤ tt, refl), tt)
+plain_text lines.Version e = plain_line (fields lines.Version) (lit≤ tt) (lit≤ tt) ((lit≤ tt, lit≤ tt, refl), tt)
 plain_text lines.Quit e = plain_line (fields lines.Quit) (lit≤ tt) (lit≤ tt) ((lit≤ tt, lit≤ tt, refl), tt)
 
 -- the fields of an ask are fewer than could be kept
@@ -97,6 +98,8 @@ few_asked_fields (asked.Report user c) e = lit≤ tt
 
 few_fields : (l : Line) → is_line l ≡ true → length (fields l) < 7
 few_fields (lines.Ask a) e = few_asked_fields a.asked (and_parts (is_tag_or_none a.tag) (is_asked a.asked) e).1
+few_fields lines.Ping e = lit≤ tt
+few_fields lines.Version e = lit≤ tt
 few_fields lines.Quit e = lit≤ tt
 
 -- the word of a report is that of no kind of question
@@ -106,9 +109,13 @@ not_report kind e = let own = kind_named-of_word kind in let same = ap kind_name
 question_or_report : (user user' : Name) (q : Question) (c : ProductCode) → asked_fields (asked.Question user q) ≡ asked_fields (asked.Report user' c) → ⊥
 question_or_report user user' q c e = not_report (kind_of q) (ap (λ fs. get_or fs 1 []) e)
 
-ask_or_quit : (a : Asked) → asked_fields a ≡ fields lines.Quit → ⊥
-ask_or_quit (asked.Question user q) e = let empty = ap (λ fs. drop 1 fs) e in cc
-ask_or_quit (asked.Report user c) e = let empty = ap (λ fs. drop 1 fs) e in cc
+ask_or_word : (a : Asked) (word : List ℕ) → asked_fields a ≡ word ∷ [] → ⊥
+ask_or_word (asked.Question user q) word e = let empty = ap (λ fs. drop 1 fs) e in cc
+ask_or_word (asked.Report user c) word e = let empty = ap (λ fs. drop 1 fs) e in cc
+
+-- the first byte of fields
+abbrev first_byte : List (List ℕ) → ℕ
+first_byte fs = get_or (get_or fs 0 []) 0 0
 
 -- different asks have different fields
 same_ask : (a b : Asked) → asked_fields a ≡ asked_fields b → a ≡ b
@@ -125,8 +132,20 @@ same_ask (asked.Report user c) (asked.Question user' q) e = absurd (question_or_
 
 same_line : (l m : Line) → line_tag l ≡ line_tag m → fields l ≡ fields m → l ≡ m
 same_line (lines.Ask a) (lines.Ask b) g e = let same = same_ask a.asked b.asked e in λ i. lines.Ask (record { tag = g i; asked = same i })
-same_line (lines.Ask a) lines.Quit g e = absurd (ask_or_quit a.asked e)
-same_line lines.Quit (lines.Ask a) g e = absurd (ask_or_quit a.asked (sym e))
+same_line (lines.Ask a) lines.Ping g e = absurd (ask_or_word a.asked (codes "PING") e)
+same_line (lines.Ask a) lines.Version g e = absurd (ask_or_word a.asked (codes "VERSION") e)
+same_line (lines.Ask a) lines.Quit g e = absurd (ask_or_word a.asked (codes "QUIT") e)
+same_line lines.Ping (lines.Ask a) g e = absurd (ask_or_word a.asked (codes "PING") (sym e))
+same_line lines.Ping lines.Ping g e = refl
+same_line lines.Ping lines.Version g e = let n : 80 ≡ 86 = ap first_byte e in absurd (omega (arith, n))
+same_line lines.Ping lines.Quit g e = let n : 80 ≡ 81 = ap first_byte e in absurd (omega (arith, n))
+same_line lines.Version (lines.Ask a) g e = absurd (ask_or_word a.asked (codes "VERSION") (sym e))
+same_line lines.Version lines.Ping g e = let n : 86 ≡ 80 = ap first_byte e in absurd (omega (arith, n))
+same_line lines.Version lines.Version g e = refl
+same_line lines.Version lines.Quit g e = let n : 86 ≡ 81 = ap first_byte e in absurd (omega (arith, n))
+same_line lines.Quit (lines.Ask a) g e = absurd (ask_or_word a.asked (codes "QUIT") (sym e))
+same_line lines.Quit lines.Ping g e = let n : 81 ≡ 80 = ap first_byte e in absurd (omega (arith, n))
+same_line lines.Quit lines.Version g e = let n : 81 ≡ 86 = ap first_byte e in absurd (omega (arith, n))
 same_line lines.Quit lines.Quit g e = refl
 
 -- what begins with a name begins with no tag
@@ -143,6 +162,14 @@ ask_tag : (g : Option Tag) (a : Asked) → is_tag_or_none g ≡ true → is_aske
 ask_tag None a tag e = asked_untagged a e
 ask_tag (Some g) a tag e = tag_back g (line_of_fields (asked_fields a)) tag
 
+ping_untagged : tag_of (line_text lines.Ping) ≡ None
+unfolding tag_of
+ping_untagged = refl
+
+version_untagged : tag_of (line_text lines.Version) ≡ None
+unfolding tag_of
+version_untagged = refl
+
 quit_untagged : tag_of (line_text lines.Quit) ≡ None
 unfolding tag_of
 quit_untagged = refl
@@ -150,6 +177,8 @@ quit_untagged = refl
 -- the text of a line begins with its tag
 pub text_tag : (l : Line) → is_line l ≡ true → tag_of (line_text l) ≡ line_tag l
 text_tag (lines.Ask a) e = let parts = and_parts (is_tag_or_none a.tag) (is_asked a.asked) e in ask_tag a.tag a.asked parts.0 parts.1
+text_tag lines.Ping e = ping_untagged
+text_tag lines.Version e = version_untagged
 text_tag lines.Quit e = quit_untagged
 
 behind : (l : Line) → drop (length (tag_text (line_tag l))) (line_text l) ≡ line_of_fields (fields l)
@@ -168,6 +197,8 @@ short_tag (Some g) e = omega (arith, (plain_name g.bytes e).1, length-append g.b
 
 line_has_tag : (l : Line) → is_line l ≡ true → is_tag_or_none (line_tag l) ≡ true
 line_has_tag (lines.Ask a) e = (and_parts (is_tag_or_none a.tag) (is_asked a.asked) e).0
+line_has_tag lines.Ping e = refl
+line_has_tag lines.Version e = refl
 line_has_tag lines.Quit e = refl
 
 -- no line is too long
@@ -212,9 +243,13 @@ texts_fault-none gs user ts e =
     let parts = and_parts (is_name user) (all_read gs ts) e in
     texts_fault-whole gs user ts (all_read-length gs ts parts.1) parts.0 ∙ all_read-none gs ts parts.1
 
+-- another word
+no_such_word : (word other : List ℕ) → word ≢ other → bytes_eq word other ≡ false
+no_such_word word other differs = false_from_ne_true (bytes_eq word other) (λ e. differs ((bytes_eq-Decides word other).0 e))
+
 -- a word that asks for no report
 no_report : (word : List ℕ) → word ≢ report_word → bytes_eq word report_word ≡ false
-no_report word other = false_from_ne_true (bytes_eq word report_word) (λ e. other ((bytes_eq-Decides word report_word).0 e))
+no_report word other = no_such_word word report_word other
 
 -- the fault of a word that asks for no report
 pub ask_fault-question : (user word : List ℕ) (ts : List (List ℕ)) → word ≢ report_word → ask_fault user word ts ≡ question_fault user (kind_named word) ts
@@ -237,19 +272,21 @@ same_fault (asked.Report user c) = refl
 
 -- what is asked has no fault behind its tag
 fault_behind-none : (g : Option Tag) (a : Asked) → is_tag_or_none g ≡ true → is_asked a ≡ true
-    → length (tag_text g ++ line_of_fields (asked_fields a)) ≤ LONGEST_LINE → fault_behind g (tag_text g ++ line_of_fields (asked_fields a)) ≡ None
+    → length (tag_text g ++ line_of_fields (asked_fields a)) ≤ 200 → fault_behind g (tag_text g ++ line_of_fields (asked_fields a)) ≡ None
 fault_behind-none None a tag e short =
-    line_fault-plain fault.Long fault.Bytes fault.Fields fields_fault (asked_fields a) (plain_ask a e) ∙ same_fault a ∙ ask_fault-none a e
+    line_fault-plain fault.Long (byte_fault (line_of_fields (asked_fields a))) fault.Fields fields_fault (asked_fields a) (plain_ask a e) ∙ same_fault a ∙ ask_fault-none a e
 fault_behind-none (Some g) a tag e short =
     let whole = tag_text (Some g) ++ line_of_fields (asked_fields a) in
     let fits = not_long (length whole) short in
-    (λ i. cond (fits i) (Some fault.Long) (line_fault fault.Long fault.Bytes fault.Fields asked_fault (behind_text g (line_of_fields (asked_fields a)) i)))
-    ∙ line_fault-plain fault.Long fault.Bytes fault.Fields asked_fault (asked_fields a) (plain_ask a e) ∙ ask_fault-none a e
+    (λ i. cond (fits i) (Some fault.Long) (line_fault fault.Long (byte_fault (behind_text g (line_of_fields (asked_fields a)) i)) fault.Fields asked_fault (behind_text g (line_of_fields (asked_fields a)) i)))
+    ∙ line_fault-plain fault.Long (byte_fault (line_of_fields (asked_fields a))) fault.Fields asked_fault (asked_fields a) (plain_ask a e) ∙ ask_fault-none a e
 
 line_fault-none : (l : Line) → is_line l ≡ true → fault_behind (line_tag l) (line_text l) ≡ None
 line_fault-none (lines.Ask a) e =
     let parts = and_parts (is_tag_or_none a.tag) (is_asked a.asked) e in
     fault_behind-none a.tag a.asked parts.0 parts.1 (short_lines (lines.Ask a) e)
+line_fault-none lines.Ping e = refl
+line_fault-none lines.Version e = refl
 line_fault-none lines.Quit e = refl
 
 -- the text of a line has no fault
@@ -331,9 +368,11 @@ asked_fault-few (f ∷ []) few = refl
 asked_fault-few (f ∷ g ∷ fs) few = absurd (omega (arith, few))
 
 -- one field alone that is not QUIT
-pub not_quit_fault : (ts : List (Bor (List ℕ))) (a : Bor (List ℕ)) → 1 ≤ length ts → length ts < 2 → (get_or ts 0 a).now ≢ codes "QUIT"
-    → fields_fault (map (λ t. t.now) ts) ≡ Some fault.Fields
-not_quit_fault ts a least most other =
+pub other_word_fault : (ts : List (Bor (List ℕ))) (a : Bor (List ℕ)) → 1 ≤ length ts → length ts < 2 → (get_or ts 0 a).now ≢ codes "PING"
+    → (get_or ts 0 a).now ≢ codes "VERSION" → (get_or ts 0 a).now ≢ codes "QUIT" → fields_fault (map (λ t. t.now) ts) ≡ Some fault.Fields
+other_word_fault ts a least most no_ping no_version no_quit =
     let word = (get_or ts 0 a).now in
-    let no = false_from_ne_true (bytes_eq word (codes "QUIT")) (λ e. other ((bytes_eq-Decides word (codes "QUIT")).0 e)) in
-    ap fields_fault (one ts a least most) ∙ (λ i. cond (no i) None (Some fault.Fields))
+    let ping = no_such_word word (codes "PING") no_ping in
+    let version = no_such_word word (codes "VERSION") no_version in
+    let quit = no_such_word word (codes "QUIT") no_quit in
+    ap fields_fault (one ts a least most) ∙ (λ i. cond (ping i || version i || quit i) None (Some fault.Fields))

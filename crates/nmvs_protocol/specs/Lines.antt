@@ -1,5 +1,6 @@
 -- The one text of each line, and the first fault of a line (own).
-use Rattle.std.specs.Prelude.{ℕ, Bool, true, false, List, [], ◌∷◌, ◌++◌, length, ◌==◌, ◌&&◌, not, nat_lt, codes, Option, Some, None, Result, Ok, Err, if◌then◌else◌, ◌≡◌, ◌≤◌, IsTrue}
+use Rattle.std.specs.Prelude.{ℕ, Bool, true, false, List, [], ◌∷◌, ◌++◌, length, ◌==◌, ◌-◌, ◌&&◌, ◌||◌, not, nat_lt, codes, Option, Some, None, Result, Ok, Err, if◌then◌else◌, ◌≡◌, ◌≤◌, IsTrue}
+use Rattle.std.specs.List.{slice_index}
 use Rattle.std.specs.Str.{bytes_eq}
 use Rattle.nmvs_identifier.specs.Tag.{Tag}
 use Rattle.nmvs_identifier.specs.Name.{is_name}
@@ -18,7 +19,6 @@ use Rattle.nmvs_messages.specs.declared.ask.Line.TheVariants as lines
 use Rattle.nmvs_messages.specs.declared.ask.LineFault.{LineFault}
 use Rattle.nmvs_messages.specs.declared.ask.LineFault.TheVariants as fault
 use Rattle.nmvs_messages.specs.declared.ask.Unread.{Unread}
-use Rattle.nmvs_messages.specs.declared.limits.TheConstants.{LONGEST_LINE}
 use Rattle.nmvs_messages.specs.Fields.{line_of_fields, line_fault}
 use Rattle.nmvs_protocol.specs.Tags.{tag_text, tag_of, behind_tag}
 
@@ -34,11 +34,15 @@ asked_fields (asked.Report user c) = user.bytes ∷ report_word ∷ c.bytes ∷ 
 -- the tag of a line, if it has one
 abbrev pub line_tag : Line → Option Tag
 line_tag (lines.Ask a) = a.tag
+line_tag lines.Ping = None
+line_tag lines.Version = None
 line_tag lines.Quit = None
 
 -- the fields behind it
 abbrev pub fields : Line → List (List ℕ)
 fields (lines.Ask a) = asked_fields a.asked
+fields lines.Ping = codes "PING" ∷ []
+fields lines.Version = codes "VERSION" ∷ []
 fields lines.Quit = codes "QUIT" ∷ []
 
 -- the text of a line, without LF
@@ -92,20 +96,28 @@ abbrev pub asked_fault : List (List ℕ) → Option LineFault
 asked_fault (user ∷ word ∷ texts) = ask_fault user word texts
 asked_fault _ = Some fault.Fields
 
+-- whether a word alone is a line
+abbrev pub stands_alone : List ℕ → Bool
+stands_alone word = bytes_eq word (codes "PING") || bytes_eq word (codes "VERSION") || bytes_eq word (codes "QUIT")
+
 -- the first fault of these fields
 abbrev pub fields_fault : List (List ℕ) → Option LineFault
-fields_fault (word ∷ []) = if bytes_eq word (codes "QUIT") then None else Some fault.Fields
+fields_fault (word ∷ []) = if stands_alone word then None else Some fault.Fields
 fields_fault fs = asked_fault fs
+
+-- the fault of a line with a byte that is not printable: one of its own where its last byte is CR (13)
+abbrev pub byte_fault : List ℕ → LineFault
+byte_fault x = if slice_index x (length x - 1) == 13 then fault.Return else fault.Bytes
 
 -- the first fault of a line of so many bytes, of which these are behind its tag
 abbrev pub asked_line_fault : ℕ → List ℕ → Option LineFault
 asked_line_fault count behind =
-    if nat_lt LONGEST_LINE count then Some fault.Long
-    else line_fault fault.Long fault.Bytes fault.Fields asked_fault behind
+    if nat_lt 200 count then Some fault.Long
+    else line_fault fault.Long (byte_fault behind) fault.Fields asked_fault behind
 
 -- the first fault of a line with this tag, or with none
 abbrev pub fault_behind : Option Tag → List ℕ → Option LineFault
-fault_behind None x = line_fault fault.Long fault.Bytes fault.Fields fields_fault x
+fault_behind None x = line_fault fault.Long (byte_fault x) fault.Fields fields_fault x
 fault_behind (Some g) x = asked_line_fault (length x) (behind_tag g x)
 
 -- the first fault of a line
@@ -126,6 +138,8 @@ is_asked (asked.Report user c) = is_name user.bytes && all_read report_grammars 
 -- whether the texts of a line are in their grammars
 abbrev pub is_line : Line → Bool
 is_line (lines.Ask a) = is_tag_or_none a.tag && is_asked a.asked
+is_line lines.Ping = true
+is_line lines.Version = true
 is_line lines.Quit = true
 
 -- a line that begins with no tag is read as what it says where it is the text of that, else with its first fault
@@ -152,4 +166,4 @@ OneSpelling = (l m : Line) → IsTrue (is_line l) → IsTrue (is_line m) → lin
 
 -- no line is too long
 abbrev pub ShortLines : Type 0
-ShortLines = (l : Line) → IsTrue (is_line l) → length (line_text l) ≤ LONGEST_LINE
+ShortLines = (l : Line) → IsTrue (is_line l) → length (line_text l) ≤ 200

@@ -11,7 +11,6 @@ use Rattle.nmvs_messages.specs.declared.answer.Answer.{Answer}
 use Rattle.nmvs_messages.specs.declared.answer.Content.TheVariants as contents
 use Rattle.nmvs_messages.specs.declared.withheld.Withheld.{Withheld}
 use Rattle.nmvs_messages.specs.declared.limits.Limits.{Limits}
-use Rattle.nmvs_messages.specs.declared.limits.TheConstants.{READ_SIZE}
 use Rattle.nmvs_messages.specs.declared.end.End.{End}
 use Rattle.nmvs_messages.specs.declared.end.End.TheVariants as ends
 use Rattle.nmvs_messages.specs.Withheld.{AreReleased, plain, tagged, takes_memory}
@@ -19,10 +18,12 @@ use Rattle.nmvs_protocol.specs.Lines.{line_text, ReadsLine}
 use Rattle.nmvs_protocol.specs.Texts.{text}
 use Rattle.nmvs_stream.specs.InputLines.{input_lines}
 
--- what is withheld where a line is read so, the desk going from old to new: it is asked all but QUIT, and what it answers gets the
--- line's tag
+-- what is withheld where a line is read so, the desk going from old to new: PING, VERSION and QUIT are answered
+-- without it, and what it answers to all else gets the line's tag
 abbrev pub Answers : {D : Type 0} → (D → Ask → Withheld → D → Type 0) → D → Result Line Unread → Withheld → D → Type 0
 Answers takes old (Ok (lines.Ask ask)) withheld new = (w : Withheld) × takes old ask w new × (withheld ≡ tagged ask.tag w)
+Answers takes old (Ok lines.Ping) withheld new = (withheld ≡ plain contents.Pong) × (new ≡ old)
+Answers takes old (Ok lines.Version) withheld new = (withheld ≡ plain contents.Version) × (new ≡ old)
 Answers takes old (Ok lines.Quit) withheld new = (withheld ≡ plain contents.Bye) × (new ≡ old)
 Answers takes old (Err unread) withheld new = (withheld ≡ tagged unread.tag (plain (contents.Unread unread.fault))) × (new ≡ old)
 
@@ -105,7 +106,7 @@ pub record BreaksOff (old new : Taken) (input : List ℕ) (said : List Answer) :
   pub earlier : List ℕ
   pub last : List ℕ
   pub reads : input ≡ earlier ++ last
-  pub one : length last ≤ READ_SIZE
+  pub one : length last ≤ 4096
   pub before : List Answer
   pub gathered : List Answer
   pub these : said ≡ before ++ gathered

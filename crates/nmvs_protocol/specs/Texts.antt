@@ -23,6 +23,8 @@ content_text (contents.Replied r shown) = reply_text r shown
 content_text (contents.Reported t) = t
 content_text (contents.Turned t) = spaced (codes "FAULT" ∷ turn_word t ∷ [])
 content_text (contents.Unread f) = spaced (codes "FAULT" ∷ fault_word f ∷ [])
+content_text contents.Pong = spaced (codes "PONG" ∷ [])
+content_text contents.Version = spaced (codes "VERSION" ∷ codes "0.9.0" ∷ [])
 content_text contents.Bye = spaced (codes "BYE" ∷ [])
 
 -- the lines of a text, each behind the same bytes

@@ -11,6 +11,6 @@ mod wording;
 
 pub use laws::lines_are_read;
 pub use lines::{line_text, read_line};
-pub use replies::reply_text;
+pub use replies::{VERSION, reply_text};
 pub use serving::serve;
 pub use session::{Session, Taking, write_texts};

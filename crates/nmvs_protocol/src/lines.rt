@@ -8,7 +8,7 @@ ghost use Rattle.nmvs_identifier.specs.Batch.{is_batch};
 ghost use Rattle.nmvs_identifier.specs.Expiry.{is_expiry};
 ghost use Rattle.nmvs_words.specs.Kinds.{kind_named, kind_word};
 ghost use Rattle.nmvs_messages.specs.Fields.{line_of_fields};
-ghost use Rattle.nmvs_protocol.specs.Lines.{ReadsLine, ReadsUntagged, fields as line_fields, line_tag, asked_fields, report_word, line_text as text_of_line, is_line, is_asked, asked_line_fault, fields_fault, asked_fault, ask_fault, question_fault, texts_fault, grammars, report_grammars};
+ghost use Rattle.nmvs_protocol.specs.Lines.{ReadsLine, ReadsUntagged, fields as line_fields, line_tag, byte_fault as fault_of_byte, asked_fields, report_word, line_text as text_of_line, is_line, is_asked, asked_line_fault, fields_fault, asked_fault, ask_fault, question_fault, texts_fault, grammars, report_grammars};
 
 use crate::tags::{cut_tag, tag_text};
 use nmvs_identifier::{Batch, Expiry, Name, Pack, ProductCode, Serial};
@@ -40,7 +40,7 @@ pub fn read_line(bytes: &[u8]) -> Result<Line, Unread>
 fn read_untagged(bytes: &[u8]) -> Result<Line, LineFault>
     ensures { ReadsUntagged bytes.now result }
 {
-    let fields = fields_of(bytes, LineFault::Long, LineFault::Bytes, LineFault::Fields)?;
+    let fields = fields_of(bytes, LineFault::Long, byte_fault(bytes), LineFault::Fields)?;
     read_fields(&fields)
 }
 
@@ -53,8 +53,23 @@ fn read_tagged(count: usize, behind: &[u8]) -> Result<Asked, LineFault>
     if count > LONGEST_LINE {
         return Err(LineFault::Long);
     }
-    let fields = fields_of(behind, LineFault::Long, LineFault::Bytes, LineFault::Fields)?;
+    let fields = fields_of(
+        behind,
+        LineFault::Long,
+        byte_fault(behind),
+        LineFault::Fields,
+    )?;
     read_asked(&fields)
+}
+
+/// The fault of a line with a byte that is not printable: it has one of its own where it ends with CR LF (own).
+fn byte_fault(line: &[u8]) -> LineFault
+    ensures { result ≡ fault_of_byte line.now }
+{
+    match line {
+        [.., b'\r'] => LineFault::Return,
+        _ => LineFault::Bytes,
+    }
 }
 
 /// The line without a tag that has these fields.
@@ -66,6 +81,8 @@ fn read_fields(fields: &[&str]) -> Result<Line, LineFault>
 {
     match fields {
         [word] => match *word {
+            "PING" => Ok(Line::Ping),
+            "VERSION" => Ok(Line::Version),
             "QUIT" => Ok(Line::Quit),
             _ => Err(LineFault::Fields),
         },
@@ -248,6 +265,8 @@ pub fn line_text<A: Allocator>(alloc: A, line: &Line) -> Result<String<A>, Alloc
             text.insert_str(0, front.as_str())?;
             Ok(text)
         }
+        Line::Ping => format!(in alloc; "PING"),
+        Line::Version => format!(in alloc; "VERSION"),
         Line::Quit => format!(in alloc; "QUIT"),
     }
 }

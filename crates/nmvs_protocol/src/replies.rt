@@ -19,6 +19,9 @@ use nmvs_words::{
 };
 use std::alloc::{AllocError, Global};
 
+/// The version of the program, which each of its programs says of itself (own).
+pub const VERSION: &str = "0.9.0";
+
 /// The most bytes that the text of a short answer has: those of a status with the longest words and
 /// values, and LF.
 pub(crate) const LONGEST_REPLY: usize = 67;
@@ -54,6 +57,8 @@ pub(crate) fn wording<'w>(
         Content::Reported(report) => Wording::Lent(report.text()),
         Content::Turned(turn) => Wording::Composed(in_words("FAULT", &[word_of_turn(*turn)])),
         Content::Unread(fault) => Wording::Composed(in_words("FAULT", &[word_of_fault(*fault)])),
+        Content::Pong => Wording::Composed(in_words("PONG", &[])),
+        Content::Version => Wording::Composed(in_words("VERSION", &[VERSION])),
         Content::Bye => Wording::Composed(in_words("BYE", &[])),
     })
 }

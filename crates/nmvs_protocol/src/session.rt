@@ -1,5 +1,5 @@
 //! A session that is fed bytes.
-ghost use Rattle.std.specs.Prelude.{◌≡◌, ◌≤◌, ◌<◌, ◌-◌, ◌++◌, ◌∷◌, ◌↔◌, [], List, ℕ, Ok, IsTrue, IfNone, OnOk, OnErr, length, take, drop};
+ghost use Rattle.std.specs.Prelude.{◌≡◌, ◌==◌, ◌≤◌, ◌<◌, ◌-◌, ◌++◌, ◌∷◌, ◌↔◌, [], List, ℕ, Ok, IsTrue, IfNone, OnOk, OnErr, not, length, take, drop};
 ghost use Rattle.nmvs_stream.specs.Delivery.{Writes, DeliversPart};
 ghost use Rattle.nmvs_stream.specs.InputLines.{lines_after, unfinished_line};
 ghost use Rattle.nmvs_protocol.specs.Lines.{line_text};
@@ -48,6 +48,13 @@ impl Session {
             answered: 0,
             limit,
         }
+    }
+
+    /// Whether a line was begun whose LF has not come.
+    pub fn has_pending_line(&self) -> bool
+        ensures { result ≡ not (length self.now.line == 0) }
+    {
+        !self.line.is_empty()
     }
 
     /// Answers the whole lines that these bytes of a peer complete, after what was fed before. The texts of the answers
@@ -179,7 +186,7 @@ fn take_line<'a, D: Desk<'a>>(line: &[u8], from: &Peer, desk: &mut D) -> (Withhe
     (withheld, is_quit(&reading))
 }
 
-/// The answer to what was read. The desk is asked all but QUIT.
+/// The answer to what was read. The desk is asked all but PING, VERSION and QUIT.
 fn answer<'a, D: Desk<'a>>(
     reading: &Result<Line, Unread>,
     from: &Peer,
@@ -193,6 +200,8 @@ fn answer<'a, D: Desk<'a>>(
             withheld.set_tag(ask.tag);
             withheld
         }
+        Ok(Line::Ping) => Withheld::new(Content::Pong),
+        Ok(Line::Version) => Withheld::new(Content::Version),
         Ok(Line::Quit) => Withheld::new(Content::Bye),
         Err(Unread { tag, fault }) => {
             let mut withheld = Withheld::new(Content::Unread(*fault));

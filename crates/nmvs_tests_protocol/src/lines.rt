@@ -21,6 +21,8 @@ fn lines_are_read_and_written(rt: HostRuntime) {
     let written = line_text(rt.alloc(), &verify).expect(&rt, "ample memory");
     assert!(rt; written.as_str() == line);
     assert!(rt; read_line(b"QUIT") == Ok(Line::Quit));
+    assert!(rt; read_line(b"PING") == Ok(Line::Ping));
+    assert!(rt; read_line(b"VERSION") == Ok(Line::Version));
 
     let holder = Name::read("mah1").expect(&rt, "a name");
     let serial = Serial::read("ABC/DEF%GHI/JKL%MN12").expect(&rt, "20 characters");
@@ -98,6 +100,8 @@ fn each_kind_of_line_has_its_text(rt: HostRuntime) {
         "au1 REPORT 09506000134352",
         "#1 au1 REPORT 09506000134352",
         "#a.b_c-d.e_f-g.h_i-j mah1 UPLOAD 09506000134352 ABC/DEF%GHI/JKL%MN12 B1 280200",
+        "PING",
+        "VERSION",
         "QUIT",
     ] {
         assert!(rt; is_written_again(rt.alloc(), line), "{line}");
@@ -110,7 +114,14 @@ fn faults_of_lines(rt: HostRuntime) {
         ("", LineFault::Fields),
         ("ph1  VERIFY 09506000134352 SN1", LineFault::Fields),
         ("ph1 VERIFY 09506000134352", LineFault::Fields),
-        ("ph1 VERIFY 09506000134352 SN1\r", LineFault::Bytes),
+        ("ph1 VERIFY 09506000134352 SN1\r", LineFault::Return),
+        ("\r", LineFault::Return),
+        ("QUIT\r", LineFault::Return),
+        ("ph1\tVERIFY  09506000134352 SN1\r", LineFault::Return),
+        ("ph1 VERIFY 09506000134352 SN1\r ", LineFault::Bytes),
+        ("ping", LineFault::Fields),
+        ("PING PING", LineFault::Word),
+        ("VERSION ", LineFault::Fields),
         ("ph1 VERIFY 09506000134352 SN1\u{7f}", LineFault::Bytes),
         ("ph1 verify 09506000134352 SN1", LineFault::Word),
         ("ph1 QUIT", LineFault::Word),
@@ -173,7 +184,9 @@ fn a_fault_has_the_tag_of_its_line(rt: HostRuntime) {
         ("#a17 ", LineFault::Fields),
         ("#a17  ph1 VERIFY 09506000134352 SN1", LineFault::Fields),
         ("#a17 QUIT", LineFault::Fields),
-        ("#a17 ph1 VERIFY 09506000134352 SN1\r", LineFault::Bytes),
+        ("#a17 PING", LineFault::Fields),
+        ("#a17 ph1 VERIFY 09506000134352 SN1\r", LineFault::Return),
+        ("#a17 \r", LineFault::Return),
         ("#a17 #b ph1 VERIFY 09506000134352 SN1", LineFault::Word),
         ("#a17 -x VERIFY 09506000134352 SN1", LineFault::User),
         ("#a17 ph1 VERIFY 09506000134353 SN1", LineFault::Code),
@@ -190,6 +203,7 @@ fn a_fault_has_the_tag_of_its_line(rt: HostRuntime) {
 fn what_is_no_tag_is_a_field(rt: HostRuntime) {
     for (line, fault) in [
         ("#a17", LineFault::Fields),
+        ("#a17\r", LineFault::Return),
         ("# ph1 VERIFY 09506000134352 SN1", LineFault::Word),
         ("#-x ph1 VERIFY 09506000134352 SN1", LineFault::Word),
         ("#a17\t ph1 VERIFY 09506000134352 SN1", LineFault::Bytes),
@@ -205,6 +219,10 @@ fn what_is_no_tag_is_a_field(rt: HostRuntime) {
 fn texts_of_faults_of_lines(rt: HostRuntime) {
     for (fault, text) in [
         (LineFault::Long, "the line has more than 200 bytes"),
+        (
+            LineFault::Return,
+            "the line ends with CR LF, and not with LF alone",
+        ),
         (
             LineFault::Bytes,
             "the line has a byte that is no printable ASCII character",

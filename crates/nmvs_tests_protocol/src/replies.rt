@@ -98,6 +98,7 @@ fn each_other_answer_has_its_text(rt: HostRuntime) {
         (Content::Turned(Turn::Journal), "FAULT JOURNAL\n"),
         (Content::Turned(Turn::Tag), "FAULT TAG\n"),
         (Content::Unread(LineFault::Long), "FAULT LONG\n"),
+        (Content::Unread(LineFault::Return), "FAULT RETURN\n"),
         (Content::Unread(LineFault::Bytes), "FAULT BYTES\n"),
         (Content::Unread(LineFault::Fields), "FAULT FIELDS\n"),
         (Content::Unread(LineFault::Word), "FAULT WORD\n"),
@@ -106,6 +107,8 @@ fn each_other_answer_has_its_text(rt: HostRuntime) {
         (Content::Unread(LineFault::Batch), "FAULT BATCH\n"),
         (Content::Unread(LineFault::Expiry), "FAULT EXPIRY\n"),
         (Content::Unread(LineFault::User), "FAULT USER\n"),
+        (Content::Pong, "PONG\n"),
+        (Content::Version, "VERSION 0.9.0\n"),
         (Content::Bye, "BYE\n"),
     ] {
         assert!(rt; is_told(rt.alloc(), answer, text), "{text}");

@@ -431,3 +431,32 @@ fn what_is_not_kept_is_not_told(rt: HostRuntime) {
         b"UPLOADED\nAUTHENTIC B1 280200 VALID\nFAULT JOURNAL\nBYE\n".as_slice()
     );
 }
+
+/// They are answered where nothing is kept, and the desk is not asked.
+#[test]
+fn ping_and_version_ask_nothing(rt: HostRuntime) {
+    let alloc = rt.alloc();
+    let mut desk = Shelf {
+        alloc: &alloc,
+        uploaded: None,
+        asked: 0,
+        kept: [0],
+    };
+    let mut taken = Vec::new(alloc);
+    let mut sink = Device::new(&mut taken);
+    let mut source = Device::new(b"PING\nVERSION\nPING\r\nPING\n".as_slice());
+    let end = serve(
+        alloc,
+        &mut source,
+        &mut sink,
+        &Peer::Anyone,
+        &mut desk,
+        AMPLE,
+    );
+    drop(sink);
+    assert_eq!(rt; (end, desk.asked), (End::Ended, 0));
+    assert_eq!(rt;
+        taken.as_slice(),
+        b"PONG\nVERSION 0.9.0\nFAULT RETURN\nPONG\n".as_slice()
+    );
+}

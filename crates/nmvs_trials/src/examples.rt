@@ -697,7 +697,7 @@ pub const SPELLINGS: &[Example] = &[
             ("ph1 verify 09506000134352 SN1", "FAULT WORD"),
             ("-x VERIFY 09506000134352 SN1", "FAULT USER"),
             ("zed VERIFY 09506000134352 SN1", "FAULT NOBODY"),
-            ("ph1 VERIFY 09506000134352 SN1\r", "FAULT BYTES"),
+            ("ph1 VERIFY 09506000134352 SN1\r", "FAULT RETURN"),
             ("ph1 VERIFY 09506000134352 SN1", "ALERT UNKNOWN FLAGGED 1"),
         ],
     },
