@@ -17,8 +17,11 @@ use std::rt::{Clock, Files};
 use std::time::{Duration, Instant};
 use std::{fs, io};
 
-/// How many clients are served at once at most; others wait until one has gone (own).
+/// How many clients are served at once at most: the next one takes the place of the first (own).
 const MOST_CLIENTS: usize = 16;
+
+/// How many clients are accepted one behind the other, before the others are looked at again (own).
+const MOST_ACCEPTED: u64 = 4_096;
 
 /// For how many seconds a client stays at most, answered or not (own).
 const TIMEOUT: u64 = 5;
@@ -73,8 +76,8 @@ impl MetricsListener {
 }
 
 /// Serves the metrics to clients, and counts and logs each step of the system's clock, until the metrics note that the server
-/// ends: then for less than a second. A client that stays for 5 seconds is closed, and while 16 are served no other is
-/// accepted.
+/// ends: then for less than a second. A client that stays for 5 seconds is closed, and so is the first of 16 where one more
+/// comes: who asks at once is answered at once, however many others stay silent.
 ///
 /// # Errors
 ///
@@ -117,49 +120,44 @@ impl MetricsListener {
             }
             check_clock(rt, metrics, &mut clock);
             let now = Instant::now(rt)?;
-            self.accept_all(rt, alloc, now, clients);
             let memory = self.memory.as_ref();
             let uptime = uptime().unwrap_or(Duration::ZERO);
             let mut service = MetricsService::new(alloc, metrics, memory, uptime);
             step_all(&mut service, now, clients);
+            self.accept_all(rt, alloc, now, &mut service, clients);
         }
         Ok(())
     }
 
-    /// Accepts the clients that wait, as far as there is room. One that can't be served is closed.
-    fn accept_all<R: RandomSource>(
+    /// Accepts the clients that wait, and answers each what it has asked already. Where there is no room for one more, the client
+    /// that was accepted first is closed.
+    fn accept_all<R: RandomSource, S: Service>(
         &self,
         rt: &R,
         alloc: Global,
         now: Instant,
+        service: &mut S,
         clients: &mut Vec<Client>,
     ) {
-        for _ in clients.len()..MOST_CLIENTS {
-            let is_accepted = match self.listener.accept() {
-                Ok((stream, _peer)) => self.add(rt, alloc, now, stream, clients).is_ok(),
-                Err(_) => false,
-            };
-            if !is_accepted {
+        for _ in 0..MOST_ACCEPTED {
+            let Some(mut client) = self.next_client(rt, alloc, now) else {
                 return;
+            };
+            if client.step(service) {
+                push_client(clients, client);
             }
         }
     }
 
-    /// Adds a client whose stream can be watched.
-    fn add<R: RandomSource>(
-        &self,
-        rt: &R,
-        alloc: Global,
-        now: Instant,
-        stream: TcpStream,
-        clients: &mut Vec<Client>,
-    ) -> io::Result<()> {
-        let keys = RandomState::new(rt)?;
-        if let Some(stream) = self.watched(stream) {
-            let connection = Connection::new(alloc, keys, config());
-            push_client(clients, stream, connection, now);
-        }
-        Ok(())
+    /// The next client that waits.
+    fn next_client<R: RandomSource>(&self, rt: &R, alloc: Global, now: Instant) -> Option<Client> {
+        let (stream, _peer) = self.listener.accept().ok()?;
+        let keys = RandomState::new(rt).ok()?;
+        Some(Client {
+            stream: self.watched(stream)?,
+            connection: Connection::new(alloc, keys, config()),
+            accepted: now,
+        })
     }
 
     /// The stream, where the system reports when it can be read or written.
@@ -187,17 +185,12 @@ fn check_clock<R: Clock + Log>(rt: &R, metrics: &Metrics, last: &mut Option<Cloc
     *last = Some(now);
 }
 
-fn push_client(
-    clients: &mut Vec<Client>,
-    stream: TcpStream,
-    connection: Connection,
-    accepted: Instant,
-) {
-    let _room_was_made = clients.push(Client {
-        stream,
-        connection,
-        accepted,
-    });
+/// Adds a client behind the others, in place of the first one where there are as many as may be.
+fn push_client(clients: &mut Vec<Client>, client: Client) {
+    if clients.len() >= MOST_CLIENTS {
+        clients.remove(0);
+    }
+    let _room_was_made = clients.push(client);
 }
 
 /// No request here has a body.
@@ -224,7 +217,7 @@ fn step_all<S: Service>(service: &mut S, now: Instant, clients: &mut Vec<Client>
 fn close(clients: &mut Vec<Client>, place: usize)
     requires { place < vec_len clients.old }
 {
-    clients.swap_remove(place);
+    clients.remove(place);
 }
 
 impl Client {
