@@ -3,7 +3,6 @@ use Rattle.std.specs.Prelude.{⊤, ◌≡◌, ◌<◌, ◌++◌, ℕ, List, leng
 use Rattle.nmvs_stream.specs.Source.{Told}
 use Rattle.nmvs_config.specs.declared.faults.ConfigFault.{ConfigFault}
 use Rattle.nmvs_config.specs.declared.faults.ConfigFault.TheVariants.{Memory, Open, Read, Long, Utf8, Syntax, Entry}
-use Rattle.nmvs_config.specs.declared.text.TheConstants.{LONGEST_CONFIG}
 
 -- a source gave these bytes
 abbrev pub GivesBytes : Told → Told → List ℕ → Type 0
@@ -18,7 +17,7 @@ abbrev pub ReadFails : Told → Told → ConfigFault → Type 0
 ReadFails source source' Memory = ⊤
 ReadFails source source' (Open error) = ⊥
 ReadFails source source' Read = source'.failed ≡ true
-ReadFails source source' Long = (bytes : List ℕ) × GivesBytes source source' bytes × (LONGEST_CONFIG < length bytes)
+ReadFails source source' Long = (bytes : List ℕ) × GivesBytes source source' bytes × (65536 < length bytes)
 ReadFails source source' Utf8 = (bytes : List ℕ) × GivesBytes source source' bytes × (source'.ended ≡ true) × ¬ IsUtf8 bytes
 ReadFails source source' (Syntax line) = ⊥
 ReadFails source source' (Entry key fault) = ⊥

@@ -18,7 +18,7 @@ pub fn read_config<S: Source>(alloc: Global, source: &mut S) -> Result<String, C
     requires source_open { (S.told source.old).ended ≡ false }
     ensures text { IfOk result (λ text.
         (S.told source.new).bytes ≡ (S.told source.old).bytes ++ string_bytes text) }
-    ensures short { IfOk result (λ text. length (string_bytes text) ≤ LONGEST_CONFIG) }
+    ensures short { IfOk result (λ text. length (string_bytes text) ≤ 65_536) }
     ensures ended { OnOk result ((S.told source.new).ended ≡ true) }
     ensures fault { IfErr result (ReadFails (S.told source.old) (S.told source.new)) }
 {

@@ -1,5 +1,5 @@
 -- How the replies of a connection grow by a turn.
-use Rattle.std.proofs.Common.{◌≡◌, ◌≤◌, ◌<◌, ◌+◌, ◌⊎◌, inl, inr, ℕ, List, [], ◌∷◌, ◌++◌, Option, Some, None, IfNone, length, take, drop, refl, sym, ap, subst, ◌∙◌, arith}
+use Rattle.std.proofs.Common.{◌≡◌, ◌==◌, ◌≤◌, ◌<◌, ◌+◌, ◌⊎◌, inl, inr, ℕ, List, [], ◌∷◌, ◌++◌, Option, Some, None, IfNone, length, take, drop, refl, sym, ap, subst, ◌∙◌, arith}
 use Rattle.std.proofs.lemmas.Grind.{flat_map-append}
 use Rattle.std.proofs.lemmas.List.{append-nil, append_assoc, length-append, drop-append-le, drop-drop, take-append-drop}
 use Rattle.std.specs.Option.{option_or}
@@ -25,6 +25,11 @@ taken_length takes old [] [] new a = refl
 taken_length takes old (x ∷ xs) (w ∷ held) new a = let n = taken_length takes a.0 xs held new a.2 in omega arith
 taken_length takes old [] (w ∷ held) new a = absurd a
 taken_length takes old (x ∷ xs) [] new a = absurd a
+
+-- a line of which no byte is kept was not begun
+pub none_kept : (x : List ℕ) → (length (kept_part x) == 0) ≡ (length x == 0)
+none_kept [] = refl
+none_kept (b ∷ x) = refl
 
 -- no line is left where no answer is waited for
 none_left : (xs : List (List ℕ)) → length xs ≡ 0 → xs ≡ []

@@ -1,6 +1,7 @@
 //! A session whose bytes others move.
-ghost use Rattle.std.specs.Prelude.{◌≡◌, ◌≤◌, ◌++◌, List, [], ℕ, None, length, take, drop};
+ghost use Rattle.std.specs.Prelude.{◌≡◌, ◌==◌, ◌≤◌, ◌++◌, List, [], ℕ, None, not, length, take, drop};
 ghost use Rattle.nmvs_messages.specs.Peers.{TakesFrom};
+ghost use Rattle.nmvs_stream.specs.InputLines.{unfinished_line};
 ghost use Rattle.nmvs_connections.specs.Replies.{Asked, LacksMemory, Replies, TellsPart, WordsPart};
 
 use crate::byte_tag::extended;
@@ -76,6 +77,13 @@ impl BufferedSession {
         ensures replies { Replies self.now.fed (self.now.sent ++ self.now.unsent) self.now.waiting self.now.ended }
     {
         &self.replies.bytes.as_slice()[self.gone..]
+    }
+
+    /// Whether a line was begun whose LF has not come.
+    pub fn has_pending_line(&self) -> bool
+        ensures { self.now.ended ≡ None → result ≡ not (length (unfinished_line self.now.fed) == 0) }
+    {
+        self.session.has_pending_line()
     }
 
     /// How many answers it waits for.

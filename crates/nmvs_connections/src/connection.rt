@@ -26,15 +26,18 @@ const PATIENCE: u64 = 1;
 /// For how many seconds the header of a gateway is waited for (own).
 const HEADER_TIMEOUT: u64 = 5;
 
+/// For how many seconds the LF of a line is waited for, from its first byte on (own).
+const LINE_TIMEOUT: u64 = 30;
+
 /// One connection of a worker: the session of its peer, and what the system reports of it.
 #[derive(Drop)]
 pub(crate) struct Connection {
     /// The number of the connection, in the order in which they were accepted.
     pub(crate) number: usize,
     session: PeerSession,
-    /// Whether the peer sent nothing for too long.
+    /// Whether the peer asked nothing for too long.
     was_idle: bool,
-    /// When bytes were moved last.
+    /// When bytes were moved last, but for those that end neither a header nor a line that was begun.
     moved: Instant,
     /// Whether the peer ended or broke the connection, so that it is read to its end.
     peer_closed: bool,
@@ -149,9 +152,11 @@ impl Connection {
             self.session.stop_serving();
             return Next::Again;
         }
+        let was_pending = self.session.has_pending_line();
         let buffer = &mut scratch.buffer;
         let next = self.session.take(rt, pool, buffer, withheld, desk);
-        self.note_moved(next.waits_for_release(), scratch.now);
+        let goes_on = was_pending && !self.session.is_waiting();
+        self.note_moved(next.waits_for_release() && !goes_on, scratch.now);
         next
     }
 
@@ -249,13 +254,22 @@ impl Connection {
         if !self.session.is_sent() {
             return close_after(age, if self.stopped { PATIENCE } else { SENDING });
         }
+        if stage == Stage::Serving && self.is_idle(age, idle) {
+            self.was_idle = true;
+            self.session.stop_serving();
+            return Next::Again;
+        }
+        Next::WaitIo
+    }
+
+    /// Whether it asked nothing for too long: a line that was begun has to end in time, whatever the operator chose.
+    fn is_idle(&self, age: Duration, idle: Option<Duration>) -> bool {
+        if self.session.has_pending_line() && age.as_secs() >= LINE_TIMEOUT {
+            return true;
+        }
         match idle {
-            Some(most) if stage == Stage::Serving && age >= most => {
-                self.was_idle = true;
-                self.session.stop_serving();
-                Next::Again
-            }
-            _ => Next::WaitIo,
+            Some(most) => age >= most,
+            None => false,
         }
     }
 }

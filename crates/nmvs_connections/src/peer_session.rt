@@ -21,7 +21,7 @@ use std::io;
 use std::marker::Model;
 use std::sync::Wait;
 
-/// The last reply to a connection that sent nothing for too long.
+/// The last reply to a connection that asked nothing for too long.
 const IDLE: &[u8] = b"FAULT IDLE\n";
 
 /// How far a connection has come.
@@ -119,6 +119,16 @@ impl PeerSession {
     /// Whether a line of it was served.
     pub(crate) fn is_served(&self) -> bool {
         self.served
+    }
+
+    /// Whether a line was begun whose LF has not come.
+    pub(crate) fn has_pending_line(&self) -> bool {
+        self.session.has_pending_line()
+    }
+
+    /// Whether answers wait to be released.
+    pub(crate) fn is_waiting(&self) -> bool {
+        self.session.waiting() != 0
     }
 
     /// Whether bytes were read that were not taken.
@@ -285,7 +295,7 @@ impl PeerSession {
         self.stage = Stage::Lingering;
     }
 
-    /// Tells the peer that it sent nothing for too long, and that no more is written.
+    /// Tells the peer that it asked nothing for too long, and that no more is written.
     pub(crate) fn shutdown_idle(&mut self)
         requires { self.old.stage ≡ stages.Ending }
         ensures session { self.new.session ≡ self.old.session }

@@ -14,7 +14,6 @@ use Rattle.nmvs_operator.specs.Orders.{ReadsOrder, first_order_fault}
 use Rattle.nmvs_operator.specs.Figures.{figure_lines}
 use Rattle.nmvs_operator.specs.Roll.{user_lines}
 use Rattle.nmvs_operator.specs.Users.{change_of}
-use Rattle.nmvs_operator.specs.declared.commands.TheConstants.{MOST_ORDER_READS}
 use Rattle.nmvs_operator.specs.declared.faults.ObeyFault.{ObeyFault}
 use Rattle.nmvs_operator.specs.declared.faults.ObeyFault.TheVariants as obey
 use Rattle.nmvs_operator.specs.declared.figures.Figure.{Figure}
@@ -226,7 +225,7 @@ GoesOn said = All (λ a. is_stop a ≡ false) said
 -- an input is at its end: its end was read, a read failed, or the most reads were made
 abbrev pub InputEnds : Told → Told → Type 0
 InputEnds source source' =
-    (source'.ended ≡ true) ⊎ ((source'.failed ≡ true) ⊎ (source'.reads ≡ source.reads + MOST_ORDER_READS))
+    (source'.ended ≡ true) ⊎ ((source'.failed ≡ true) ⊎ (source'.reads ≡ source.reads + 18446744073709551615))
 
 -- all lines of an input that have their LF were answered, and none stopped the server; what was begun behind them is
 -- answered, and not carried out

@@ -69,7 +69,7 @@ static OPTIONS: [Described; 23] = [
         name: "journal",
         value: Value::Text("DIR"),
         default: None,
-        help: "Folder of the journals: an answer goes out once its entry is on the disk there, and each start goes on from them",
+        help: "Folder of the log: an answer goes out once its entry is on the disk there, and each start goes on from it",
     },
     Described {
         name: "config",

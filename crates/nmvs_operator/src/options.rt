@@ -221,8 +221,8 @@ fn clash_of(matches: &ArgMatches<'_>) -> Option<&'static str> {
 
 /// The lines of a user at once, by the option or else those of a second.
 fn burst_of(alloc: Global, matches: &ArgMatches<'_>, rate: u64) -> Result<u64, OptionFault>
-    requires { rate ≤ MOST_RATE }
-    ensures { IfOk result (λ n. n ≤ MOST_RATE) }
+    requires { rate ≤ 1_000_000 }
+    ensures { IfOk result (λ n. n ≤ 1_000_000) }
 {
     if !matches.contains_id("burst") {
         return Ok(rate);

@@ -165,4 +165,6 @@ fn help_and_version_are_told(rt: HostRuntime) {
         let version = read(&rt, rt.alloc(), &[word]);
         assert!(rt; matches!(version, Err(OptionFault::Help(_))), "{word}");
     }
+    // A line VERSION is answered with the same number.
+    assert!(rt; nmvs_operator::VERSION.starts_with(nmvs_protocol::VERSION));
 }

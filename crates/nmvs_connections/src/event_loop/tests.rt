@@ -12,7 +12,7 @@ use std::io;
 use std::io::{Read, Write};
 use std::rt::Clock;
 use std::test::*;
-use std::time::Instant;
+use std::time::{Duration, Instant};
 
 /// Knows nobody but this peer, who is over the rate. It counts how often it released answers, and how many.
 #[derive(Drop)]
@@ -133,5 +133,41 @@ fn a_header_names_the_peer_of_its_lines(rt: HostRuntime) -> Result<(), Fail> {
     assert_eq!(rt; desk.answers, 2);
     assert!(rt; is_told(&mut named, b"FAULT FIELDS\nFAULT RATE\n")?);
     assert!(rt; is_told(&mut nameless, b"")?);
+    Ok(())
+}
+
+/// A line ends within 30 seconds of its first byte, however many bytes come; the next line has its own 30 seconds.
+#[test]
+fn a_line_has_a_deadline(rt: HostRuntime) -> Result<(), Fail> {
+    let alloc = rt.alloc();
+    let metrics = Metrics::new(alloc, 1, 1, false)?;
+    let (pool, _pollers, poller) = WorkerPool::open(&rt, alloc, 1, bounds(None), &metrics)?;
+    let mut scratch = Scratch::new(alloc, Instant::now(&rt)?);
+    let start = scratch.now;
+    let mut event_loop = EventLoop::new(alloc, 0, start);
+    let mut dripping = connect(&rt, &mut event_loop, &pool, &poller, &scratch)?;
+    let mut asking = connect(&rt, &mut event_loop, &pool, &poller, &scratch)?;
+    let mut desk = Counting {
+        peer: Peer::Anyone,
+        releases: 0,
+        answers: 0,
+    };
+    let mut withheld = WithheldAnswers::new();
+    for (second, drip, ask) in [
+        (0, b"p".as_slice(), b"p".as_slice()),
+        (29, b"h", b"h\nph"),
+        (30, b"1", b"1"),
+        (31, b"\n", b"\n"),
+    ] {
+        scratch.now = start + Duration::from_secs(second);
+        dripping.write_all(drip)?;
+        asking.write_all(ask)?;
+        event_loop.queue(0);
+        event_loop.queue(1);
+        event_loop.take_turns(&rt, &pool, &mut scratch, &mut withheld, &mut desk);
+        event_loop.check_timeouts(&rt, &pool, scratch.now);
+    }
+    assert!(rt; is_told(&mut dripping, b"FAULT IDLE\n")?);
+    assert!(rt; is_told(&mut asking, b"FAULT FIELDS\nFAULT FIELDS\n")?);
     Ok(())
 }
