@@ -19,7 +19,7 @@ use nmvs_words::{
 };
 use std::alloc::{AllocError, Global};
 
-/// The version of the programs, as their `--version` prints it first (own).
+/// The version of the program, which each of its programs says of itself (own).
 pub const VERSION: &str = "0.9.0";
 
 /// The most bytes that the text of a short answer has: those of a status with the longest words and
