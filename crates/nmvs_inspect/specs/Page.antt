@@ -1,5 +1,5 @@
 -- A page for a browser (own): a verdict, product codes with their counts, alerts by week, and the flagged alerts.
-use Rattle.std.specs.Prelude.{ℕ, List, [], ◌∷◌, ◌++◌, Option, Some, true}
+use Rattle.std.specs.Prelude.{ℕ, List, [], ◌∷◌, ◌++◌, codes, Option, Some, true}
 use Rattle.std.specs.List.{flat_map}
 use Rattle.nmvs_identifier.specs.Batch.{Batch}
 use Rattle.nmvs_identifier.specs.Name.{Name}
@@ -16,7 +16,7 @@ use Rattle.nmvs_inspect.specs.declared.by.By.{By}
 use Rattle.nmvs_inspect.specs.declared.by.By.TheVariants as by
 use Rattle.nmvs_inspect.specs.declared.filter.Filter.{Filter}
 use Rattle.nmvs_inspect.specs.declared.form.Form.TheVariants as form
-use Rattle.nmvs_inspect.specs.declared.page.TheConstants.{HEAD, PRODUCTS, BATCHES, CHART, WEEKS, ALERTS, FOOT}
+use Rattle.nmvs_inspect.specs.declared.page.TheConstants.{HEAD, FOOT}
 use Rattle.nmvs_inspect.specs.Filter.{every}
 use Rattle.nmvs_inspect.specs.Groups.{Group, group_row, groups_of}
 use Rattle.nmvs_inspect.specs.Html.{escaped, html_row}
@@ -50,23 +50,53 @@ batch_row t c b = record_row c b (record { lock = lock_of t c b; counts = counts
 abbrev pub batch_rows : List Entry → ProductCode → List ℕ
 batch_rows t c = flat_map (batch_row t c) (code_batches t c)
 
+-- the heads of a table's columns, of texts and behind them of numbers, and the beginning of its rows
+abbrev pub table_head : List (List ℕ) → List (List ℕ) → List ℕ
+table_head texts numbers =
+    codes "<thead><tr>" ++ (flat_map (λ t. codes "<th>" ++ (t ++ codes "</th>")) texts
+    ++ (flat_map (λ t. codes "<th class=n>" ++ (t ++ codes "</th>")) numbers ++ codes "</tr></thead><tbody>"))
+
+-- what stands before the rows of product codes, of their batches, of weeks and of flagged alerts
+abbrev pub products_head : List ℕ
+products_head =
+    codes "</pre>\n<p>Days, weeks and times are of UTC; a week is named by its Monday. A click on the head of a column sorts.</p>\n<h2>Product codes</h2>\n<div class=box><table>"
+    ++ table_head (codes "Product code" ∷ codes "Holder" ∷ []) (codes "Alerts" ∷ codes "Flagged" ∷ [])
+
+abbrev pub batches_head : List ℕ
+batches_head =
+    codes "</tbody></table></div>\n<h2>Batches</h2>\n<div class=box><table>"
+    ++ table_head (codes "Product code" ∷ codes "Batch" ∷ codes "Lock" ∷ [])
+    (codes "Active" ∷ codes "Held" ∷ codes "Supplied" ∷ codes "Exported" ∷ codes "Sampled" ∷ codes "Destroyed" ∷ codes "Stolen" ∷ [])
+
+abbrev pub chart_head : List ℕ
+chart_head = codes "</tbody></table></div>\n<h2>Alerts by week</h2>\n"
+
+abbrev pub weeks_head : List ℕ
+weeks_head = codes "<div class=box><table class=weeks>" ++ table_head (codes "Week" ∷ []) (codes "Alerts" ∷ [])
+
+abbrev pub alerts_head : List ℕ
+alerts_head =
+    codes "</tbody></table></div>\n<h2>Flagged alerts</h2>\n<div class=box><table>"
+    ++ table_head (codes "Moment" ∷ codes "User" ∷ codes "Role" ∷ codes "Authorisation" ∷ codes "Premises" ∷ codes "Question" ∷ codes "Product code"
+    ∷ codes "Serial number" ∷ codes "Batch" ∷ codes "Reply" ∷ []) []
+
 -- the verdict, the rows of product codes, and those of their batches
 unfoldable pub head_text : List ℕ → List ℕ
-head_text verdict = HEAD.now ++ (escaped verdict ++ PRODUCTS.now)
+head_text verdict = HEAD.now ++ (escaped verdict ++ products_head)
 
 unfoldable pub front_text : List ℕ → List Entry → List ProductCode → List ℕ
-front_text verdict t cs = head_text verdict ++ (flat_map (product_row t) cs ++ (BATCHES.now ++ flat_map (batch_rows t) cs))
+front_text verdict t cs = head_text verdict ++ (flat_map (product_row t) cs ++ (batches_head ++ flat_map (batch_rows t) cs))
 
 -- a picture of weeks, and their rows
 abbrev pub by_week : List By
 by_week = by.Week ∷ []
 
 unfoldable pub weeks_text : List Group → List ℕ
-weeks_text gs = CHART.now ++ (chart gs ++ (WEEKS.now ++ flat_map (group_row form.Html by_week) gs))
+weeks_text gs = chart_head ++ (chart gs ++ (weeks_head ++ flat_map (group_row form.Html by_week) gs))
 
 -- the rows of entries, and the end
 unfoldable pub alerts_text : List Dated → List ℕ
-alerts_text ds = ALERTS.now ++ (flat_map (entry_text form.Html) ds ++ FOOT.now)
+alerts_text ds = alerts_head ++ (flat_map (entry_text form.Html) ds ++ FOOT.now)
 
 -- the page of product codes, alerts, each as a group of one, and flagged alerts
 abbrev pub page_text : List ℕ → List Entry → List ProductCode → List Group → List Dated → List ℕ
