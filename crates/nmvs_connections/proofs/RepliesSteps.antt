@@ -1,7 +1,8 @@
 -- How the replies of a connection grow by a turn.
 use Rattle.std.proofs.Common.{◌≡◌, ◌==◌, ◌≤◌, ◌<◌, ◌+◌, ◌⊎◌, inl, inr, ℕ, List, [], ◌∷◌, ◌++◌, Option, Some, None, IfNone, length, take, drop, refl, sym, ap, subst, ◌∙◌, arith}
 use Rattle.std.proofs.lemmas.Grind.{flat_map-append}
-use Rattle.std.proofs.lemmas.List.{append-nil, append_assoc, length-append, drop-append-le, drop-drop, take-append-drop}
+use Rattle.std.proofs.lemmas.Bool.{ne_eqb}
+use Rattle.std.proofs.lemmas.List.{append-nil, append_assoc, length-append, length-take, drop-append-le, drop-drop, take-append-drop}
 use Rattle.std.specs.Option.{option_or}
 use Rattle.nmvs_stream.specs.Sink.{Taken}
 use Rattle.nmvs_messages.specs.declared.ask.Ask.{Ask}
@@ -29,7 +30,9 @@ taken_length takes old (x ∷ xs) [] new a = absurd a
 -- a line of which no byte is kept was not begun
 pub none_kept : (x : List ℕ) → (length (kept_part x) == 0) ≡ (length x == 0)
 none_kept [] = refl
-none_kept (b ∷ x) = refl
+none_kept (b ∷ x) =
+    let n = length-take 201 (b ∷ x) in
+    ne_eqb (length (kept_part (b ∷ x))) 0 (λ z. absurd (omega (arith, z, n))) ∙ sym (ne_eqb (length (b ∷ x)) 0 (λ z. absurd (omega (arith, z))))
 
 -- no line is left where no answer is waited for
 none_left : (xs : List (List ℕ)) → length xs ≡ 0 → xs ≡ []
