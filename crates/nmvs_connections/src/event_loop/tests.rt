@@ -159,7 +159,8 @@ fn a_line_has_a_deadline(rt: HostRuntime) -> Result<(), Fail> {
         (30, b"1", b"1"),
         (31, b"\n", b"\n"),
     ] {
-        scratch.now = start + Duration::from_secs(second);
+        let later = start.checked_add(Duration::from_secs(second));
+        scratch.now = later.expect(&rt, "a moment");
         dripping.write_all(drip)?;
         asking.write_all(ask)?;
         event_loop.queue(0);
