@@ -1,5 +1,5 @@
 -- What is told of an export, entry by entry.
-use Rattle.std.proofs.Common.{◌≡◌, ℕ, suc, ◌+◌, ◌<◌, Bool, true, false, cond, arith, List, [], ◌∷◌, ◌++◌, take, length, get_or, fold, Option, None, Some, refl, sym, ap, subst, ◌∙◌, append_assoc, length-append}
+use Rattle.std.proofs.Common.{◌≡◌, ℕ, suc, ◌+◌, ◌<◌, Bool, true, false, cond, arith, List, [], ◌∷◌, ◌++◌, take, length, get_or, fold, Option, None, Some, refl, sym, ap, subst, ◌∙◌, append_assoc, length-append, zero-add}
 use Rattle.std.specs.List.{flat_map}
 use Rattle.std.proofs.lemmas.List.{append-nil}
 use Rattle.std.proofs.lemmas.List.Concat.{flat_map-append}
@@ -51,7 +51,8 @@ first-some u (x ∷ before) e after new h =
 pub first_is : (t : List Entry) (o : Option ℕ) → FirstRepeated t o → o ≡ first_repeated_after [] t
 first_is t None new = sym (first-none [] t new)
 first_is t (Some n) first =
-    ap Some first.place ∙ sym (ap (first_repeated_after []) first.whole ∙ first-some [] first.before first.entry first.after first.new first.repeated)
+    let none : length first.before ≡ length {A = Entry} [] + length first.before = sym (zero-add (length first.before)) in
+    ap Some (first.place ∙ none) ∙ sym (ap (first_repeated_after []) first.whole ∙ first-some [] first.before first.entry first.after first.new first.repeated)
 
 -- and stands in the trail
 pub first_within : (t : List Entry) (n : ℕ) → FirstRepeated t (Some n) → n < length t
