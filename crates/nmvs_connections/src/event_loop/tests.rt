@@ -152,7 +152,6 @@ fn a_line_has_a_deadline(rt: HostRuntime) -> Result<(), Fail> {
         releases: 0,
         answers: 0,
     };
-    let mut withheld = WithheldAnswers::new();
     for (second, drip, ask) in [
         (0, b"p".as_slice(), b"p".as_slice()),
         (29, b"h", b"h\nph"),
@@ -165,6 +164,7 @@ fn a_line_has_a_deadline(rt: HostRuntime) -> Result<(), Fail> {
         asking.write_all(ask)?;
         event_loop.queue(0);
         event_loop.queue(1);
+        let mut withheld = WithheldAnswers::new();
         event_loop.take_turns(&rt, &pool, &mut scratch, &mut withheld, &mut desk);
         event_loop.check_timeouts(&rt, &pool, scratch.now);
     }
