@@ -1,0 +1,15 @@
+//! Sessions over HTTP/1.1. The bytes that a connection is fed are requests, a request asks the replies to lines, and its response
+//! has the texts of their answers, word for word.
+#![tactic(auto)]
+
+mod asked;
+mod body_lines;
+mod fault;
+mod gathered;
+mod request_reader;
+mod response;
+mod session;
+
+pub use asked::Asks;
+pub use fault::Fault;
+pub use session::HttpSession;

@@ -1,0 +1,136 @@
+//! The texts of responses.
+
+use crate::asked::Asks;
+use crate::fault::Fault;
+use itoa::Buffer;
+use nmvs_stream::{Failed, Sink, write_all};
+
+/// What a peer is told that waits with the body of its request (RFC 9110, section 15.2.1).
+const CONTINUE: &[u8] = b"HTTP/1.1 100 Continue\r\n\r\n";
+
+/// The last words to a peer whose request has not come whole in time, and to one that is not served.
+pub const TIMED_OUT: &[u8] =
+    b"HTTP/1.1 408 Request Timeout\r\ncontent-type: application/problem+json\r\ncache-control: no-store\r\nconnection: close\r\ncontent-length: 93\r\n\r\n{\"type\":\"about:blank\",\"title\":\"Request Timeout\",\"status\":408,\"fault\":\"TIMEOUT\",\"recorded\":\"no\"}\n";
+
+/// Invites the peer to send the body.
+pub(crate) fn write_invitation<W: Sink>(sink: &mut W) -> Result<(), Failed> {
+    write_all(sink, CONTINUE)
+}
+
+/// Writes the response to what was asked, with the replies that were gathered for it.
+pub(crate) fn write_response<W: Sink>(
+    sink: &mut W,
+    asks: Asks,
+    is_head: bool,
+    stays: bool,
+    replies: &[u8],
+) -> Result<(), Failed> {
+    let body = body_of(asks, replies);
+    let mut digits = Buffer::new();
+    let digits = digits.format(body.len());
+    let sent = if is_head { b"" } else { body };
+    let parts = [
+        front_of(asks),
+        connection_of(stays),
+        digits.as_bytes(),
+        b"\r\n\r\n",
+        sent,
+    ];
+    write_parts(sink, &parts)
+}
+
+/// The body of the response.
+fn body_of(asks: Asks, replies: &[u8]) -> &[u8] {
+    match asks {
+        Asks::Lines => replies,
+        Asks::Health => b"ok\n",
+        Asks::Refused(fault) => problem(fault),
+    }
+}
+
+/// The status line, and the fields that tell of the body.
+fn front_of(asks: Asks) -> &'static [u8] {
+    match asks {
+        Asks::Lines | Asks::Health =>
+            b"HTTP/1.1 200 OK\r\ncontent-type: text/plain; charset=utf-8\r\ncache-control: no-store\r\n",
+        Asks::Refused(fault) => front_of_fault(fault),
+    }
+}
+
+/// Whether the connection stays, and how many bytes the body has.
+fn connection_of(stays: bool) -> &'static [u8] {
+    if stays {
+        b"connection: keep-alive\r\ncontent-length: "
+    } else {
+        b"connection: close\r\ncontent-length: "
+    }
+}
+
+fn front_of_fault(fault: Fault) -> &'static [u8] {
+    match fault {
+        Fault::Request | Fault::LastLine =>
+            b"HTTP/1.1 400 Bad Request\r\ncontent-type: application/problem+json\r\ncache-control: no-store\r\n",
+        Fault::Site =>
+            b"HTTP/1.1 403 Forbidden\r\ncontent-type: application/problem+json\r\ncache-control: no-store\r\n",
+        Fault::Path =>
+            b"HTTP/1.1 404 Not Found\r\ncontent-type: application/problem+json\r\ncache-control: no-store\r\n",
+        Fault::MethodOfLines =>
+            b"HTTP/1.1 405 Method Not Allowed\r\nallow: POST\r\ncontent-type: application/problem+json\r\ncache-control: no-store\r\n",
+        Fault::MethodOfHealth =>
+            b"HTTP/1.1 405 Method Not Allowed\r\nallow: GET, HEAD\r\ncontent-type: application/problem+json\r\ncache-control: no-store\r\n",
+        Fault::Timeout =>
+            b"HTTP/1.1 408 Request Timeout\r\ncontent-type: application/problem+json\r\ncache-control: no-store\r\n",
+        Fault::Length =>
+            b"HTTP/1.1 411 Length Required\r\ncontent-type: application/problem+json\r\ncache-control: no-store\r\n",
+        Fault::Body =>
+            b"HTTP/1.1 413 Content Too Large\r\ncontent-type: application/problem+json\r\ncache-control: no-store\r\n",
+        Fault::Target =>
+            b"HTTP/1.1 414 URI Too Long\r\ncontent-type: application/problem+json\r\ncache-control: no-store\r\n",
+        Fault::Type =>
+            b"HTTP/1.1 415 Unsupported Media Type\r\ncontent-type: application/problem+json\r\ncache-control: no-store\r\n",
+        Fault::Head =>
+            b"HTTP/1.1 431 Request Header Fields Too Large\r\ncontent-type: application/problem+json\r\ncache-control: no-store\r\n",
+        Fault::Coding =>
+            b"HTTP/1.1 501 Not Implemented\r\ncontent-type: application/problem+json\r\ncache-control: no-store\r\n",
+    }
+}
+
+/// The problem that a fault is told as (RFC 9457).
+fn problem(fault: Fault) -> &'static [u8] {
+    match fault {
+        Fault::Request =>
+            b"{\"type\":\"about:blank\",\"title\":\"Bad Request\",\"status\":400,\"fault\":\"REQUEST\",\"recorded\":\"no\"}\n",
+        Fault::LastLine =>
+            b"{\"type\":\"about:blank\",\"title\":\"Bad Request\",\"status\":400,\"fault\":\"LAST_LINE\",\"recorded\":\"no\"}\n",
+        Fault::Site =>
+            b"{\"type\":\"about:blank\",\"title\":\"Forbidden\",\"status\":403,\"fault\":\"SITE\",\"recorded\":\"no\"}\n",
+        Fault::Path =>
+            b"{\"type\":\"about:blank\",\"title\":\"Not Found\",\"status\":404,\"fault\":\"PATH\",\"recorded\":\"no\"}\n",
+        Fault::MethodOfLines | Fault::MethodOfHealth =>
+            b"{\"type\":\"about:blank\",\"title\":\"Method Not Allowed\",\"status\":405,\"fault\":\"METHOD\",\"recorded\":\"no\"}\n",
+        Fault::Timeout =>
+            b"{\"type\":\"about:blank\",\"title\":\"Request Timeout\",\"status\":408,\"fault\":\"TIMEOUT\",\"recorded\":\"no\"}\n",
+        Fault::Length =>
+            b"{\"type\":\"about:blank\",\"title\":\"Length Required\",\"status\":411,\"fault\":\"LENGTH\",\"recorded\":\"no\"}\n",
+        Fault::Body =>
+            b"{\"type\":\"about:blank\",\"title\":\"Content Too Large\",\"status\":413,\"fault\":\"BODY\",\"recorded\":\"no\"}\n",
+        Fault::Target =>
+            b"{\"type\":\"about:blank\",\"title\":\"URI Too Long\",\"status\":414,\"fault\":\"TARGET\",\"recorded\":\"no\"}\n",
+        Fault::Type =>
+            b"{\"type\":\"about:blank\",\"title\":\"Unsupported Media Type\",\"status\":415,\"fault\":\"TYPE\",\"recorded\":\"no\"}\n",
+        Fault::Head =>
+            b"{\"type\":\"about:blank\",\"title\":\"Request Header Fields Too Large\",\"status\":431,\"fault\":\"HEAD\",\"recorded\":\"no\"}\n",
+        Fault::Coding =>
+            b"{\"type\":\"about:blank\",\"title\":\"Not Implemented\",\"status\":501,\"fault\":\"CODING\",\"recorded\":\"no\"}\n",
+    }
+}
+
+/// Writes parts of a text, one behind the other.
+fn write_parts<W: Sink>(sink: &mut W, parts: &[&[u8]]) -> Result<(), Failed> {
+    let mut rest = parts;
+    while let [part, later @ ..] = rest {
+        write_all(sink, part)?;
+        rest = later;
+    }
+    Ok(())
+}
