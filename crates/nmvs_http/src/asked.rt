@@ -1,4 +1,8 @@
 //! What requests ask.
+ghost use Rattle.std.specs.Prelude.{◌≡◌, codes, option_copied};
+ghost use Rattle.http.specs.Request.{body_of};
+ghost use Rattle.http_header.specs.Token.{lowercase};
+ghost use Rattle.nmvs_http.specs.Requests as specs;
 
 use crate::fault::Fault;
 use bytes::Bytes;
@@ -18,8 +22,16 @@ pub enum Asks {
 /// The type of a body of lines (RFC 2046, section 4.1.3).
 const TEXT_TYPE: &[u8] = b"text/plain";
 
+/// What a browser calls the site of the server itself, and a request that no page made (W3C Fetch Metadata, section 2.3).
+const SAME_ORIGIN: &[u8] = b"same-origin";
+
+const NO_SITE: &[u8] = b"none";
+
 /// What a request asks.
-pub(crate) fn asks_of(request: &Request<Bytes>) -> Asks {
+#[tactic(auto, unfolding(crate::specs::Requests::asks_of))]
+pub(crate) fn asks_of(request: &Request<Bytes>) -> Asks
+    ensures { result ≡ specs.asks_of request.now }
+{
     let method = request.method().as_str();
     match request.uri().path() {
         "/v1/lines" => asks_by_lines(method, request),
@@ -29,25 +41,31 @@ pub(crate) fn asks_of(request: &Request<Bytes>) -> Asks {
 }
 
 /// Whether a request wants the head of a response alone.
-pub(crate) fn is_head(request: &Request<Bytes>) -> bool {
+pub(crate) fn is_head(request: &Request<Bytes>) -> bool
+    ensures { result ≡ specs.wants_head request.now }
+{
     request.method().as_str() == "HEAD"
 }
 
-fn asks_by_health(method: &str) -> Asks {
+fn asks_by_health(method: &str) -> Asks
+    ensures { result ≡ specs.asks_by_health method.now }
+{
     match method {
         "GET" | "HEAD" => Asks::Health,
         _ => Asks::Refused(Fault::MethodOfHealth),
     }
 }
 
-fn asks_by_lines(method: &str, request: &Request<Bytes>) -> Asks {
+fn asks_by_lines(method: &str, request: &Request<Bytes>) -> Asks
+    ensures { result ≡ specs.asks_by_lines method.now (specs.field_value request.now (codes "sec-fetch-site")) (specs.field_value request.now (codes "content-type")) (specs.has_length request.now) (body_of request.now) }
+{
     if method != "POST" {
         return Asks::Refused(Fault::MethodOfLines);
     }
-    if is_foreign(field(request, "sec-fetch-site")) {
+    if is_foreign(request) {
         return Asks::Refused(Fault::Site);
     }
-    if !is_text(field(request, "content-type")) {
+    if !has_text(request) {
         return Asks::Refused(Fault::Type);
     }
     if !has_length(request) {
@@ -60,43 +78,69 @@ fn asks_by_lines(method: &str, request: &Request<Bytes>) -> Asks {
 }
 
 /// The value of a field, the first where it stands more than once.
-fn field<'r>(request: &'r Request<Bytes>, name: &str) -> Option<&'r [u8]> {
+fn field<'r>(request: &'r Request<Bytes>, name: &str) -> Option<&'r [u8]>
+    ensures { option_copied result ≡ specs.field_value request.now (lowercase name.now) }
+{
     match request.headers().get(name) {
         Some(value) => Some(value.as_bytes()),
         None => None,
     }
 }
 
-/// Whether a browser sent the request for a page of another site (W3C Fetch Metadata, section 2.3).
-fn is_foreign(site: Option<&[u8]>) -> bool {
-    match site {
-        None | Some(b"same-origin" | b"none") => false,
-        Some(_) => true,
-    }
-}
-
-/// Whether a media type is that of lines, whatever its parameters (RFC 9110, section 8.3.1).
-fn is_text(kind: Option<&[u8]>) -> bool {
-    let Some(kind) = kind else {
-        return false;
-    };
-    match kind.get(..TEXT_TYPE.len()) {
-        Some(name) => name.eq_ignore_ascii_case(TEXT_TYPE) && ends_name(&kind[TEXT_TYPE.len()..]),
+/// Whether a browser sent the request for a page of another site.
+fn is_foreign(request: &Request<Bytes>) -> bool
+    ensures { result ≡ specs.is_foreign (specs.field_value request.now (codes "sec-fetch-site")) }
+{
+    match field(request, "sec-fetch-site") {
+        Some(site) => is_foreign_site(site),
         None => false,
     }
 }
 
+fn is_foreign_site(site: &[u8]) -> bool
+    ensures { result ≡ specs.is_foreign_site site.now }
+{
+    site != SAME_ORIGIN && site != NO_SITE
+}
+
+/// Whether the body is of the type of lines.
+fn has_text(request: &Request<Bytes>) -> bool
+    ensures { result ≡ specs.is_text (specs.field_value request.now (codes "content-type")) }
+{
+    match field(request, "content-type") {
+        Some(kind) => is_text_type(kind),
+        None => false,
+    }
+}
+
+/// Whether a media type is that of lines, whatever its parameters.
+fn is_text_type(kind: &[u8]) -> bool
+    ensures { result ≡ specs.is_text_type kind.now }
+{
+    let count = TEXT_TYPE.len().min(kind.len());
+    kind[..count].eq_ignore_ascii_case(TEXT_TYPE) && ends_name(&kind[count..])
+}
+
 /// Whether no more of a media type's name follows.
-fn ends_name(rest: &[u8]) -> bool {
+fn ends_name(rest: &[u8]) -> bool
+    ensures { result ≡ specs.ends_name rest.now }
+{
     matches!(rest, [] | [b';' | b' ', ..])
 }
 
 /// Whether the head tells where the body ends.
-fn has_length(request: &Request<Bytes>) -> bool {
+fn has_length(request: &Request<Bytes>) -> bool
+    ensures { result ≡ specs.has_length request.now }
+{
     field(request, "content-length").is_some() || field(request, "transfer-encoding").is_some()
 }
 
 /// Whether no byte follows the last LF.
-fn ends_line(body: &[u8]) -> bool {
-    matches!(body.last(), None | Some(b'\n'))
+fn ends_line(body: &[u8]) -> bool
+    ensures { result ≡ specs.ends_line body.now }
+{
+    match body.split_last() {
+        Some((last, _)) => *last == b'\n',
+        None => true,
+    }
 }

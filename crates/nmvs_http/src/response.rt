@@ -1,4 +1,7 @@
 //! The texts of responses.
+ghost use Rattle.std.specs.Prelude.{◌≡◌, ◌++◌, [], if◌then◌else◌, OnOk, OnErr};
+ghost use Rattle.nmvs_stream.specs.Delivery.{Writes, DeliversPart};
+ghost use Rattle.nmvs_http.specs.Responses as specs;
 
 use crate::asked::Asks;
 use crate::fault::Fault;
@@ -13,7 +16,10 @@ pub const TIMED_OUT: &[u8] =
     b"HTTP/1.1 408 Request Timeout\r\ncontent-type: application/problem+json\r\ncache-control: no-store\r\nconnection: close\r\ncontent-length: 93\r\n\r\n{\"type\":\"about:blank\",\"title\":\"Request Timeout\",\"status\":408,\"fault\":\"TIMEOUT\",\"recorded\":\"no\"}\n";
 
 /// Invites the peer to send the body.
-pub(crate) fn write_invitation<W: Sink>(sink: &mut W) -> Result<(), Failed> {
+pub(crate) fn write_invitation<W: Sink>(sink: &mut W) -> Result<(), Failed>
+    ensures ok { OnOk result (Writes (W.taken sink.old) (W.taken sink.new) specs.invitation_text) }
+    ensures err { OnErr result (DeliversPart (W.taken sink.old) (W.taken sink.new) specs.invitation_text) }
+{
     write_all(sink, CONTINUE)
 }
 
@@ -24,23 +30,26 @@ pub(crate) fn write_response<W: Sink>(
     is_head: bool,
     stays: bool,
     replies: &[u8],
-) -> Result<(), Failed> {
+) -> Result<(), Failed>
+    ensures ok { OnOk result (Writes (W.taken sink.old) (W.taken sink.new) (specs.response_text asks is_head stays replies.now)) }
+    ensures err { OnErr result (DeliversPart (W.taken sink.old) (W.taken sink.new) (specs.response_text asks is_head stays replies.now)) }
+{
     let body = body_of(asks, replies);
-    let mut digits = Buffer::new();
-    let digits = digits.format(body.len());
-    let sent = if is_head { b"" } else { body };
-    let parts = [
-        front_of(asks),
-        connection_of(stays),
-        digits.as_bytes(),
-        b"\r\n\r\n",
-        sent,
-    ];
-    write_parts(sink, &parts)
+    write_head(sink, asks, stays, body.len())?;
+    write_all(sink, sent_of(body, is_head))
+}
+
+/// What is sent of the body: nothing where the head alone is wanted.
+fn sent_of(body: &[u8], is_head: bool) -> &[u8]
+    ensures { result.now ≡ (if is_head then [] else body.now) }
+{
+    if is_head { b"" } else { body }
 }
 
 /// The body of the response.
-fn body_of(asks: Asks, replies: &[u8]) -> &[u8] {
+fn body_of(asks: Asks, replies: &[u8]) -> &[u8]
+    ensures { result.now ≡ specs.body_text asks replies.now }
+{
     match asks {
         Asks::Lines => replies,
         Asks::Health => b"ok\n",
@@ -49,7 +58,10 @@ fn body_of(asks: Asks, replies: &[u8]) -> &[u8] {
 }
 
 /// The status line, and the fields that tell of the body.
-fn front_of(asks: Asks) -> &'static [u8] {
+#[tactic(auto, unfolding(crate::specs::Responses::front_text))]
+fn front_of(asks: Asks) -> &'static [u8]
+    ensures { result.now ≡ specs.front_text asks }
+{
     match asks {
         Asks::Lines | Asks::Health =>
             b"HTTP/1.1 200 OK\r\ncontent-type: text/plain; charset=utf-8\r\ncache-control: no-store\r\n",
@@ -58,7 +70,9 @@ fn front_of(asks: Asks) -> &'static [u8] {
 }
 
 /// Whether the connection stays, and how many bytes the body has.
-fn connection_of(stays: bool) -> &'static [u8] {
+fn connection_of(stays: bool) -> &'static [u8]
+    ensures { result.now ≡ specs.connection_text stays }
+{
     if stays {
         b"connection: keep-alive\r\ncontent-length: "
     } else {
@@ -66,7 +80,10 @@ fn connection_of(stays: bool) -> &'static [u8] {
     }
 }
 
-fn front_of_fault(fault: Fault) -> &'static [u8] {
+#[tactic(auto, unfolding(crate::specs::Responses::front_text))]
+fn front_of_fault(fault: Fault) -> &'static [u8]
+    ensures { result.now ≡ specs.front_text (Asks.Refused fault) }
+{
     match fault {
         Fault::Request | Fault::LastLine =>
             b"HTTP/1.1 400 Bad Request\r\ncontent-type: application/problem+json\r\ncache-control: no-store\r\n",
@@ -96,7 +113,10 @@ fn front_of_fault(fault: Fault) -> &'static [u8] {
 }
 
 /// The problem that a fault is told as (RFC 9457).
-fn problem(fault: Fault) -> &'static [u8] {
+#[tactic(auto, unfolding(crate::specs::Responses::problem))]
+fn problem(fault: Fault) -> &'static [u8]
+    ensures { result.now ≡ specs.problem fault }
+{
     match fault {
         Fault::Request =>
             b"{\"type\":\"about:blank\",\"title\":\"Bad Request\",\"status\":400,\"fault\":\"REQUEST\",\"recorded\":\"no\"}\n",
@@ -125,12 +145,22 @@ fn problem(fault: Fault) -> &'static [u8] {
     }
 }
 
-/// Writes parts of a text, one behind the other.
-fn write_parts<W: Sink>(sink: &mut W, parts: &[&[u8]]) -> Result<(), Failed> {
-    let mut rest = parts;
-    while let [part, later @ ..] = rest {
-        write_all(sink, part)?;
-        rest = later;
-    }
-    Ok(())
+/// Writes the head of a response whose body has so many bytes.
+fn write_head<W: Sink>(sink: &mut W, asks: Asks, stays: bool, count: usize) -> Result<(), Failed>
+    ensures ok { OnOk result (Writes (W.taken sink.old) (W.taken sink.new) (specs.head_text asks stays count)) }
+    ensures err { OnErr result (DeliversPart (W.taken sink.old) (W.taken sink.new) (specs.head_text asks stays count)) }
+{
+    let mut digits = Buffer::new();
+    let digits = digits.format(count).as_bytes();
+    write_both(sink, front_of(asks), connection_of(stays))?;
+    write_both(sink, digits, b"\r\n\r\n")
+}
+
+/// Writes one text, and another one behind it.
+fn write_both<W: Sink>(sink: &mut W, first: &[u8], second: &[u8]) -> Result<(), Failed>
+    ensures ok { OnOk result (Writes (W.taken sink.old) (W.taken sink.new) (first.now ++ second.now)) }
+    ensures err { OnErr result (DeliversPart (W.taken sink.old) (W.taken sink.new) (first.now ++ second.now)) }
+{
+    write_all(sink, first)?;
+    write_all(sink, second)
 }
