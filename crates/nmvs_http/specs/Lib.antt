@@ -1,2 +1,4 @@
 pub mod Requests
 pub mod Responses
+pub mod StreamState
+pub mod Streams
