@@ -52,9 +52,11 @@ same_calls config h answered text rest serves same =
 last_call : (config : Config) (h : History) (answered : List Call) (text mid rest : List ℕ) (c : Call) (message : Wire.Request) → Serves config h.received answered text mid
     → h.calls ≡ answered ++ c ∷ [] → ReadsCall config mid message c.0 rest → Requests config h
 last_call config h answered text mid rest c message serves calls reads =
-    let same = ap requests_of calls ∙ requests-append answered (c ∷ []) in
-    (rest, subst (λ (rs : List (Request (List ℕ))). ReadsRequests config h.received rs rest) (sym same)
-    (one_more config h.received (requests_of answered) message c.0 mid rest (served_requests config h.received answered text mid serves) reads))
+    let same = ap requests_of calls ∙ requests-append answered (c ∷ []) in (
+      rest,
+      subst (λ (rs : List (Request (List ℕ))). ReadsRequests config h.received rs rest) (sym same)
+          (one_more config h.received (requests_of answered) message c.0 mid rest (served_requests config h.received answered text mid serves) reads),
+    )
 
 refused : (why : Refusal) (config : Config) (h : History) (answered : List Call) (text rest : List ℕ) → Serves config h.received answered text rest
     → Justifies why config h answered rest → Requests config h
@@ -140,5 +142,5 @@ pub is_read : (result : Next) (asked : Option Asking) (c : Connection) → confi
     → IsRead (stream_state c) result
 is_read result asked c config x =
     read result (stream_state c) (λ there.
-      subst (λ (f : Config). ∥ Requests f (history c) ∥₁) config
-      (∥∥₁_map (always_served c) (requests_read (config_of c) (history c) (sound result asked (stream_state c) x there))))
+    subst (λ (f : Config). ∥ Requests f (history c) ∥₁) config
+    (∥∥₁_map (always_served c) (requests_read (config_of c) (history c) (sound result asked (stream_state c) x there))))

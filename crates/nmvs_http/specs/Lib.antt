@@ -1,4 +1,8 @@
 pub mod Requests
+pub mod RequestLines
 pub mod Responses
 pub mod StreamState
 pub mod Streams
+pub mod BodyLines
+pub mod HttpState
+pub mod Sessions

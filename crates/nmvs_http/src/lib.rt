@@ -6,9 +6,10 @@ mod asked;
 mod body_lines;
 mod fault;
 mod gathered;
-mod request_reader;
+mod request_stream;
 mod response;
 mod session;
+mod told;
 
 pub use asked::Asks;
 pub use fault::Fault;

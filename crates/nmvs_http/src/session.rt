@@ -1,49 +1,63 @@
 //! A session over HTTP that is fed bytes.
+ghost use Rattle.std.specs.Prelude.{◌≡◌, ◌≤◌, ◌++◌, [], None, IsTrue, length, take, false};
+ghost use Rattle.nmvs_stream.specs.Sink.{Taken};
+ghost use Rattle.nmvs_messages.specs.Peers.{TakesFrom};
+ghost use Rattle.nmvs_http.specs.HttpState.{HttpState};
+ghost use Rattle.nmvs_http.specs.Sessions.{IsAnsweredSession, TakesRequests, is_broken};
 
 use crate::asked::Asks;
+use crate::body_lines::BodyLines;
 use crate::fault::Fault;
 use crate::gathered::Gathered;
-use crate::request_reader::{Asked, RequestReader};
+use crate::request_stream::{Asked, Next, RequestStream};
 use crate::response::{write_invitation, write_response};
-use http_server::{Config, Connection, Reason, Refusal, State};
-use http1::ReadError;
+use crate::told::{invited, responded};
+use boxcar::tag::Tag;
+use bytes::Bytes;
 use nmvs_messages::{Desk, End, Peer, Released, WithheldAnswers};
 use nmvs_protocol::{Taking, write_texts};
 use nmvs_stream::{Failed, Sink};
 use std::alloc::Global;
 use std::hash::RandomState;
 
-/// The most bytes of a request's body (own).
-const LONGEST_BODY: usize = 128 * 1024;
-
-/// The bytes that invite a peer to send a body. What answers a request has more, so that no second request is read meanwhile.
-const INVITATION: usize = 25;
-
-/// A session over HTTP: what it was fed, and how far the request in hand is answered.
+/// A session over HTTP: the stream of its requests, and how far the request in hand is answered. The caller moves the bytes, and has
+/// the answers released that are withheld. Contracts see the bytes that it was fed, the requests that were read, the lines that are
+/// still to be taken, how many answers it waits for, the bytes that it told, and how it ended.
 #[derive(Drop)]
 pub struct HttpSession {
-    connection: Connection,
+    stream: RequestStream,
     hand: Option<Hand>,
+    /// The replies to the lines of the request in hand.
     gathered: Gathered,
     /// Whether the peer waits to be invited to send a body.
     invites: bool,
+    /// How many answers it waits for.
+    waiting: usize,
+    end: Option<End>,
+    told: Tag,
 }
 
-/// A request that is being answered, and whether the connection stays behind its response.
+/// A request that is being answered.
 #[derive(Drop)]
-struct Hand {
-    asked: Asked,
+pub(crate) struct Hand {
+    asks: Asks,
+    head_alone: bool,
+    /// Whether the connection stays behind the response.
     stays: bool,
+    lines: BodyLines,
 }
 
 impl HttpSession {
-    /// A session that nothing was fed.
+    /// A session that nothing was fed. The peer chooses the names of fields, so their maps take secret keys.
     pub fn new(alloc: Global, keys: RandomState) -> HttpSession {
         HttpSession {
-            connection: Connection::new(alloc, keys, config()),
+            stream: RequestStream::new(alloc, keys),
             hand: None,
             gathered: Gathered::new(alloc),
             invites: false,
+            waiting: 0,
+            end: None,
+            told: Tag::empty(),
         }
     }
 
@@ -52,8 +66,10 @@ impl HttpSession {
         self.hand.is_some()
     }
 
-    /// Takes these bytes of a peer, and the lines of the request in hand, whose answers are put behind those that are withheld.
+    /// Takes these bytes of a peer, and lines of the request in hand, whose answers are put behind those that are withheld.
     /// It stops after a line whose answer may be long, and before a line whose answer finds no room.
+    ///
+    /// Once those answers are told, the session goes on, or has ended.
     pub fn take<'a, D: Desk<'a>>(
         &mut self,
         more: &[u8],
@@ -61,155 +77,153 @@ impl HttpSession {
         from: &Peer,
         desk: &mut D,
     ) -> Taking {
-        let bytes = feed(&mut self.connection, more);
-        if bytes < more.len() {
-            return Taking {
-                bytes,
-                end: Some(End::Memory),
-            };
-        }
-        if self.hand.is_none() && !self.read_request() {
-            return Taking {
-                bytes,
-                end: Some(End::Memory),
-            };
-        }
-        let end = self.take_lines(withheld, from, desk);
+        let first = withheld.len();
+        let bytes = self.stream.feed(more);
+        let is_read = bytes == more.len() && self.read_request();
+        let end = take_lines(&mut self.hand, is_read, withheld, from, desk);
+        self.waiting = withheld.len() - first;
+        self.end = end;
         Taking { bytes, end }
     }
 
-    /// Takes the lines of the request in hand, and tells how the session ends once its response is told, where it does.
-    fn take_lines<'a, D: Desk<'a>>(
-        &mut self,
-        withheld: &mut WithheldAnswers<'a>,
-        from: &Peer,
-        desk: &mut D,
-    ) -> Option<End> {
-        let hand = self.hand.as_mut()?;
-        match hand.asked.lines.take(withheld, from, desk) {
-            None => {}
-            Some(End::Quit) => hand.stays = false,
-            Some(_) => return Some(End::Memory),
-        }
-        if hand.asked.lines.is_empty() && !hand.stays {
-            return Some(End::Quit);
-        }
-        None
-    }
-
-    /// Words the answers to the lines that were taken, and writes the response once none is left.
+    /// Words the answers that it waits for, which are these, and writes the response once no line is left to be taken.
     pub fn tell<W: Sink>(
         &mut self,
         alloc: Global,
         released: Released<'_, '_>,
         sink: &mut W,
     ) -> Option<End> {
+        if self.hand.is_none() && self.end.is_some() {
+            return self.end;
+        }
         if self.invites {
-            self.invites = false;
-            if write_invitation(sink).is_err() {
-                return Some(End::WriteFault);
+            match write_invitation(sink) {
+                Ok(()) => {
+                    self.invites = false;
+                    self.told = invited(&self.told);
+                }
+                Err(Failed) => return self.break_off(End::WriteFault),
             }
         }
-        let Some(hand) = &self.hand else {
-            return None;
-        };
-        match write_texts(alloc, released, &mut self.gathered) {
-            Some(_) => return Some(End::Memory),
-            None => {}
+        if write_texts(alloc, released, &mut self.gathered).is_some() {
+            return self.break_off(End::Memory);
         }
-        if !hand.asked.lines.is_empty() {
-            return None;
-        }
+        self.waiting = 0;
         self.respond(sink)
     }
 
-    /// Writes the response to the request in hand, and looks for the next request.
+    /// Writes the response to the request in hand, where no line of it is left, and reads the next request.
     fn respond<W: Sink>(&mut self, sink: &mut W) -> Option<End> {
-        let Some(Hand { asked, stays }) = self.hand.take() else {
-            return None;
+        match &self.hand {
+            Some(hand) if hand.lines.are_taken() => {}
+            _ => return self.end,
+        }
+        let Some(
+            Hand {
+                asks,
+                head_alone,
+                stays,
+                ..
+            },
+        ) = self.hand.take()
+        else {
+            return self.end;
         };
         let replies = self.gathered.bytes.as_slice();
-        match write_response(sink, asked.asks, asked.is_head, stays, replies) {
+        match write_response(sink, asks, head_alone, stays, replies) {
             Ok(()) => {}
-            Err(Failed) => return Some(End::WriteFault),
+            Err(Failed) => return self.break_off(End::WriteFault),
         }
+        self.told = responded(&self.told, asks, head_alone, stays, replies);
         self.gathered.clear();
-        if stays && !self.read_request() {
-            return Some(End::Memory);
+        if !stays {
+            self.end = Some(End::Quit);
+            return self.end;
         }
-        None
+        if !self.read_request() {
+            return self.break_off(End::Memory);
+        }
+        self.end
     }
 
-    /// Reads the next request, where it has come whole, and tells whether there was memory for it.
+    /// Reads the next request, where none is in hand and it has come whole, and tells whether there was memory for it.
     fn read_request(&mut self) -> bool {
-        let mut reader = RequestReader { asked: None };
-        self.connection.advance(&mut reader);
-        let state = self.connection.state();
-        let waits = self.connection.wants_write();
-        discard_output(&mut self.connection);
-        if let Some(asked) = reader.asked {
-            let stays = state == State::Open;
-            self.hand = Some(Hand { asked, stays });
+        if self.hand.is_some() {
             return true;
         }
-        match state {
-            State::Open => {
-                self.invites = waits;
+        match self.stream.next() {
+            Next::Nothing => true,
+            Next::Invitation => {
+                self.invites = true;
                 true
             }
-            State::Closing(Reason::Refused(refusal)) => {
-                let asked = Asked::without_lines(Asks::Refused(fault_of(refusal)), false);
-                self.hand = Some(Hand {
-                    asked,
-                    stays: false,
-                });
+            Next::Request(asked, stays) => {
+                self.hand = Some(Hand::of(asked, stays));
                 true
             }
-            _ => false,
+            Next::Refused(fault) => {
+                self.hand = Some(Hand::refusing(fault));
+                true
+            }
+            Next::Lost => false,
+        }
+    }
+
+    fn break_off(&mut self, end: End) -> Option<End> {
+        self.waiting = 0;
+        self.end = Some(end);
+        self.end
+    }
+}
+
+impl Hand {
+    /// What a request asks, and whether the connection stays behind its response.
+    fn of(asked: Asked, stays: bool) -> Hand {
+        let Asked {
+            asks,
+            head_alone,
+            body,
+        } = asked;
+        Hand {
+            asks,
+            head_alone,
+            stays,
+            lines: BodyLines::new(body),
+        }
+    }
+
+    /// What can be no request: the connection is closed.
+    fn refusing(fault: Fault) -> Hand {
+        Hand {
+            asks: Asks::Refused(fault),
+            head_alone: false,
+            stays: false,
+            lines: BodyLines::new(Bytes::new()),
         }
     }
 }
 
-fn config() -> Config {
-    let mut config = Config::default();
-    config.max_body_len = LONGEST_BODY;
-    config.max_pending = INVITATION;
-    config.read_size = 4096;
-    config
-}
-
-/// Has a connection read these bytes, and tells how many it read: all, where there is memory for them.
-fn feed(connection: &mut Connection, bytes: &[u8]) -> usize {
-    let mut rest = bytes;
-    while !rest.is_empty() {
-        match connection.read_from(&mut rest) {
-            Ok(0) | Err(_) => return bytes.len() - rest.len(),
-            Ok(_) => {}
-        }
+/// Takes lines of the request in hand, and tells how the session ends once its response is told, where it does.
+fn take_lines<'a, D: Desk<'a>>(
+    hand: &mut Option<Hand>,
+    is_read: bool,
+    withheld: &mut WithheldAnswers<'a>,
+    from: &Peer,
+    desk: &mut D,
+) -> Option<End> {
+    if !is_read {
+        return Some(End::Memory);
     }
-    bytes.len()
-}
-
-/// Lets go of what a connection would send.
-fn discard_output(connection: &mut Connection) {
-    for _ in 0..u64::MAX {
-        let count = connection.output().len();
-        if count == 0 {
-            return;
-        }
-        connection.sent(count);
+    let Some(hand) = hand else {
+        return None;
+    };
+    match hand.lines.take(withheld, from, desk) {
+        None => {}
+        Some(End::Quit) => hand.stays = false,
+        Some(_) => return Some(End::Memory),
     }
-}
-
-/// The fault of a request that a connection refuses.
-fn fault_of(refusal: Refusal) -> Fault {
-    match refusal {
-        Refusal::Unreadable(ReadError::UriTooLong) => Fault::Target,
-        Refusal::Unreadable(error) if error.status() == 431 => Fault::Head,
-        Refusal::InvalidPart(http::Error::HeaderName | http::Error::MaxSizeReached) => Fault::Head,
-        Refusal::InvalidPart(http::Error::Uri(error)) if error.is_too_long() => Fault::Target,
-        Refusal::BodyTooLarge => Fault::Body,
-        Refusal::UnknownCoding => Fault::Coding,
-        _ => Fault::Request,
+    if hand.lines.are_taken() && !hand.stays {
+        return Some(End::Quit);
     }
+    None
 }
