@@ -11,7 +11,7 @@ use crate::fault::Fault;
 use crate::gathered::Gathered;
 use crate::request_stream::{Asked, Next, RequestStream};
 use crate::response::{write_invitation, write_response};
-use crate::told::{invited, responded};
+use crate::told::{with_invitation, with_response};
 use boxcar::tag::Tag;
 use bytes::Bytes;
 use nmvs_messages::{Desk, End, Peer, Released, WithheldAnswers};
@@ -100,7 +100,7 @@ impl HttpSession {
             match write_invitation(sink) {
                 Ok(()) => {
                     self.invites = false;
-                    self.told = invited(&self.told);
+                    self.told = with_invitation(&self.told);
                 }
                 Err(Failed) => return self.break_off(End::WriteFault),
             }
@@ -134,7 +134,7 @@ impl HttpSession {
             Ok(()) => {}
             Err(Failed) => return self.break_off(End::WriteFault),
         }
-        self.told = responded(&self.told, asks, head_alone, stays, replies);
+        self.told = with_response(&self.told, asks, head_alone, stays, replies);
         self.gathered.clear();
         if !stays {
             self.end = Some(End::Quit);

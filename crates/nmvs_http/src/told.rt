@@ -32,14 +32,14 @@ impl<'t> Names<Responded<'t>> for Both {
 }
 
 /// The tag of what this one has, and an invitation.
-pub(crate) fn invited(tag: &Tag) -> Tag
+pub(crate) fn with_invitation(tag: &Tag) -> Tag
     ensures { result.numbers ≡ tag.now.numbers ++ invitation_text }
 {
     Tag::of::<Invited<'_>, Both>(&Invited { tag })
 }
 
 /// The tag of what this one has, and this response.
-pub(crate) fn responded(tag: &Tag, asks: Asks, head_alone: bool, stays: bool, replies: &[u8]) -> Tag
+pub(crate) fn with_response(tag: &Tag, asks: Asks, head_alone: bool, stays: bool, replies: &[u8]) -> Tag
     ensures { result.numbers ≡ tag.now.numbers ++ response_text asks head_alone stays replies.now }
 {
     Tag::of::<Responded<'_>, Both>(&Responded {
