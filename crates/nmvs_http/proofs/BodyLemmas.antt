@@ -65,8 +65,7 @@ unfolding lines_after
 none_left body taken all =
     ap (λ (t : List ℕ). up_to_quit (lines_after (unfinished_line (take taken body)) t)) (drop_all taken body all)
 
-abbrev pub NextLines : Type 0
-NextLines = (body : List ℕ) (taken count : ℕ)
-    → lines_after (unfinished_line (take taken body)) (drop taken body)
-    ≡ lines_after (unfinished_line (take taken body)) (take count (drop taken body))
-    ++ lines_after (unfinished_line (take (taken + count) body)) (drop (taken + count) body)
+-- no byte is no line
+pub no_lines : up_to_quit (lines_after [] []) ≡ []
+unfolding lines_after
+no_lines = refl

@@ -21,7 +21,7 @@ use Rattle.nmvs_http.specs.declared.request_stream.Next.{Next}
 use Rattle.nmvs_http.specs.declared.request_stream.Next.TheVariants as nexts
 use Rattle.nmvs_http.specs.declared.request_stream.Reader.{Reader}
 use Rattle.nmvs_http.specs.StreamState.{StreamState, request_limits, stream_state}
-use Rattle.nmvs_http.specs.Streams.{IsNext, IsNextOf, IsRead, ReadsAsked, ReadsRequests}
+use Rattle.nmvs_http.specs.Streams.{IsNext, IsNextOf, ReadsAsked, ReadsRequests}
 
 abbrev pub requests_of : List Call → List (Request (List ℕ))
 requests_of calls = map (λ (c : Call). c.0) calls
@@ -119,28 +119,12 @@ pub is_next : (result : Next) (asked : Option Asking) (old new : StreamState) �
     → IsNext old new result
 is_next nexts.Nothing asked old new x one = (none_read old.requests new.requests asked x.0 one, x.1)
 is_next nexts.Invitation asked old new x one = (none_read old.requests new.requests asked x.0 one, x.1)
-is_next (nexts.Request a stays) asked old new x one = (one_read old.requests new.requests asked a x.0 one, x.2)
+is_next (nexts.Request a stays) asked old new x one = (one_read old.requests new.requests asked a x.0 one, x.1, x.2)
 is_next (nexts.Refused fault) asked old new x one = (none_read old.requests new.requests asked x.0 one, x.1)
 is_next nexts.Lost asked old new x one = tt
 
--- the connection has lost nothing but where there was no memory
-sound : (result : Next) (asked : Option Asking) (new : StreamState) → IsNextOf asked new result → result ≢ nexts.Lost → new.state ≢ Aborted
-sound nexts.Nothing asked new x there lost = absurd (cc (x.1, lost))
-sound nexts.Invitation asked new x there lost = absurd (cc (x.1, lost))
-sound (nexts.Request a stays) asked new x there lost = x.1 lost
-sound (nexts.Refused fault) asked new x there lost = let closing = x.1.1 in absurd (cc (closing, lost))
-sound nexts.Lost asked new x there lost = there refl
-
-read : (result : Next) (new : StreamState) → (result ≢ nexts.Lost → ∥ ((rest : List ℕ) × ReadsRequests request_limits new.fed new.requests rest) ∥₁) → IsRead new result
-read nexts.Nothing new x = x (λ same. cc same)
-read nexts.Invitation new x = x (λ same. cc same)
-read (nexts.Request a stays) new x = x (λ same. cc same)
-read (nexts.Refused fault) new x = x (λ same. cc same)
-read nexts.Lost new x = tt
-
-pub is_read : (result : Next) (asked : Option Asking) (c : Connection) → config_of c ≡ request_limits → IsNextOf asked (stream_state c) result
-    → IsRead (stream_state c) result
-is_read result asked c config x =
-    read result (stream_state c) (λ there.
-    subst (λ (f : Config). ∥ Requests f (history c) ∥₁) config
-    (∥∥₁_map (always_served c) (requests_read (config_of c) (history c) (sound result asked (stream_state c) x there))))
+-- but for want of memory a stream is the requests that were read off it, and a rest
+pub stream_read : (c : Connection) → config_of c ≡ request_limits → (history c).state ≢ Aborted
+    → ∥ ((rest : List ℕ) × ReadsRequests request_limits (stream_state c).fed (stream_state c).requests rest) ∥₁
+stream_read c config sound =
+    subst (λ (f : Config). ∥ Requests f (history c) ∥₁) config (∥∥₁_map (always_served c) (requests_read (config_of c) (history c) sound))

@@ -8,15 +8,19 @@ use Rattle.nmvs_messages.specs.declared.ask.Ask.{Ask}
 use Rattle.nmvs_messages.specs.declared.end.End.{End}
 use Rattle.nmvs_messages.specs.declared.end.End.TheVariants as ends
 use Rattle.nmvs_messages.specs.declared.withheld.Withheld.{Withheld}
+use Rattle.nmvs_stream.specs.Delivery.{DeliversPart, Writes}
+use Rattle.nmvs_stream.specs.Sink.{Taken}
 use Rattle.nmvs_protocol.specs.Session.{TakesLines, session_text}
 use Rattle.nmvs_http.specs.declared.asked.Asks.TheVariants as asks
 use Rattle.nmvs_http.specs.declared.fault.Fault.{Fault}
 use Rattle.nmvs_http.specs.declared.session.Hand.{Hand}
+use Rattle.nmvs_http.specs.declared.session.Response.{Response}
+use Rattle.nmvs_http.specs.declared.session.Response.TheVariants as responses
 use Rattle.nmvs_http.specs.HttpState.{HttpState, left_in}
 use Rattle.nmvs_http.specs.RequestLines.{lines_of}
 use Rattle.nmvs_http.specs.Requests.{asks_of, wants_head}
 use Rattle.nmvs_http.specs.Responses.{invitation_text, response_text}
-use Rattle.nmvs_http.specs.StreamState.{request_limits}
+use Rattle.nmvs_http.specs.StreamState.{StreamState, request_limits}
 use Rattle.nmvs_http.specs.Streams.{ReadsRequests}
 
 -- a request and its answers: how often its peer was invited to send the body, and whether the connection stays
@@ -97,6 +101,65 @@ IsAnsweredSession s =
     is_broken s.ended ≡ false
     → Answered s.requests s.hand s.gathered s.waiting s.told s.ended × ∥ ((rest : List ℕ) × ReadsRequests request_limits s.fed s.requests rest) ∥₁
 
+-- what became of the request in hand: it is as it was; or one was read; or what came can be no request. The stream has lost nothing
+pub record TakesRequest (old new : StreamState) (h : Hand) : Type 0 where
+  pub request : Request (List ℕ)
+  pub requests : new.requests ≡ old.requests ++ request ∷ []
+  pub asks : h.asks ≡ asks_of request
+  pub head_alone : h.head_alone ≡ wants_head request
+  pub lines : h.lines ≡ lines_of request
+
+pub record RefusesRequest (old new : StreamState) (h : Hand) : Type 0 where
+  pub requests : new.requests ≡ old.requests
+  pub fault : Fault
+  pub asks : h.asks ≡ asks.Refused fault
+  pub lines : h.lines ≡ []
+
+abbrev pub ReadsHand : StreamState → StreamState → Option Hand → Option Hand → Type 0
+ReadsHand old new (Some h) hand' = (hand' ≡ Some h) × (new ≡ old)
+ReadsHand old new None None = (new.requests ≡ old.requests) × (new.state ≢ states.Aborted)
+ReadsHand old new None (Some h) = (TakesRequest old new h ⊎ RefusesRequest old new h) × (new.state ≢ states.Aborted)
+
+-- the request in hand goes on with the lines that are left of it
+abbrev pub GoesOnHand : Option Hand → Option Hand → List (List ℕ) → Type 0
+GoesOnHand None hand' lines = (hand' ≡ None) × (lines ≡ [])
+GoesOnHand (Some h) None lines = ⊥
+GoesOnHand (Some h) (Some h') lines = (h'.asks ≡ h.asks) × (h'.head_alone ≡ h.head_alone) × (h.lines ≡ lines ++ h'.lines)
+
+-- lines of the request in hand were taken, where it was read
+pub record TakesHandLines {D : Type 0} (takes : D → Ask → Withheld → D → Type 0) (is_read : Bool) (hand : Option Hand) (old : D) (withheld : List Withheld) (hand' : Option Hand) (new : D) (withheld' : List Withheld) (end : Option End) : Type 0 where
+  pub lines : List (List ℕ)
+  pub held : List Withheld
+  pub behind : withheld' ≡ withheld ++ held
+  pub answers : TakesLines takes old lines held new
+  pub goes : is_broken end ≡ false → (is_read ≡ true) × GoesOnHand hand hand' lines
+  pub ends : (end ≡ None) ⊎ ((end ≡ Some ends.Quit) ⊎ (is_broken end ≡ true))
+
+-- an invitation was told, or none
+pub record Invites (sink sink' : Taken) (told told' : List ℕ) : Type 0 where
+  pub count : ℕ
+  pub text : told' ≡ told ++ invitations count
+  pub written : Writes sink sink' (invitations count)
+
+-- the response to the request in hand was told, and it is no more in hand
+pub record RespondsTo (stays : Bool) (hand hand' : Option Hand) (gathered gathered' told told' : List ℕ) (sink sink' : Taken) : Type 0 where
+  pub h : Hand
+  pub was : hand ≡ Some h
+  pub done : h.lines ≡ []
+  pub none : hand' ≡ None
+  pub cleared : gathered' ≡ []
+  pub text : told' ≡ told ++ response_text h.asks h.head_alone stays gathered
+  pub written : Writes sink sink' (response_text h.asks h.head_alone stays gathered)
+
+-- what came of the request in hand, and what was written of it
+abbrev pub Responds : Option Hand → Option Hand → List ℕ → List ℕ → List ℕ → List ℕ → Taken → Taken → Response → Type 0
+Responds hand hand' gathered gathered' told told' sink sink' responses.Unfinished =
+    (hand' ≡ hand) × (gathered' ≡ gathered) × (told' ≡ told) × (sink' ≡ sink)
+Responds hand hand' gathered gathered' told told' sink sink' responses.Stays = RespondsTo true hand hand' gathered gathered' told told' sink sink'
+Responds hand hand' gathered gathered' told told' sink sink' responses.Closes = RespondsTo false hand hand' gathered gathered' told told' sink sink'
+Responds hand hand' gathered gathered' told told' sink sink' responses.Failed =
+    (told' ≡ told) × ((h : Hand) × (hand ≡ Some h) × DeliversPart sink sink' (response_text h.asks h.head_alone h.stays gathered))
+
 -- the lines that were taken are those that were left, and then those of the requests that were read meanwhile
 pub record TakesRequests {D : Type 0} (takes : D → Ask → Withheld → D → Type 0) (old : HttpState) (desk : D) (withheld : List Withheld) (new : HttpState) (desk' : D) (withheld' : List Withheld) : Type 0 where
   pub lines : List (List ℕ)
@@ -106,4 +169,12 @@ pub record TakesRequests {D : Type 0} (takes : D → Ask → Withheld → D → 
   pub waits : new.waiting ≡ length held
   pub told : new.told ≡ old.told
   pub reads : is_broken new.ended ≡ false → (fresh : List (Request (List ℕ))) × (new.requests ≡ old.requests ++ fresh)
-    × (left_in old.hand ++ flat_map lines_of fresh ≡ lines ++ left_in new.hand)
+      × (left_in old.hand ++ flat_map lines_of fresh ≡ lines ++ left_in new.hand)
+
+-- what was told is written, up to a failed write, and the session waits for no more
+pub record TellsSession (sink sink' : Taken) (old new : HttpState) : Type 0 where
+  pub text : List ℕ
+  pub told : new.told ≡ old.told ++ text
+  pub written : is_broken new.ended ≡ false → Writes sink sink' text
+  pub requests : is_broken new.ended ≡ false → (fresh : List (Request (List ℕ))) × (new.requests ≡ old.requests ++ fresh)
+      × (flat_map lines_of fresh ≡ left_in new.hand ⊎ (new.hand ≡ old.hand))

@@ -3,7 +3,6 @@ use Rattle.std.specs.Prelude.{◌≡◌, ◌≢◌, ◌↔◌, ◌==◌, ℕ, Bo
 use Rattle.http.specs.declared.error.Error.{Error}
 use Rattle.http.specs.declared.error.Error.TheVariants.{HeaderName, MaxSizeReached, Uri}
 use Rattle.http.specs.declared.request.Request.{Request}
-use Rattle.http.specs.Request.{body_of}
 use Rattle.http_uri.specs.Error.{is_too_long}
 use Rattle.http1.specs.Message as Wire
 use Rattle.http1.specs.ReadError.{status_of}
@@ -13,14 +12,15 @@ use Rattle.http_server.specs.declared.state.Refusal.{Refusal}
 use Rattle.http_server.specs.declared.state.Refusal.TheVariants.{Unreadable, BodyTooLarge, InvalidPart, UnknownCoding}
 use Rattle.http_server.specs.declared.state.State.TheVariants as states
 use Rattle.http_server.specs.Exchange.{ReadsCall}
-use Rattle.nmvs_http.specs.declared.asked.Asks.TheVariants as asks
 use Rattle.nmvs_http.specs.declared.fault.Fault.{Fault}
 use Rattle.nmvs_http.specs.declared.fault.Fault.TheVariants as faults
 use Rattle.nmvs_http.specs.declared.request_stream.Asked.{Asked}
 use Rattle.nmvs_http.specs.declared.request_stream.Next.{Next}
 use Rattle.nmvs_http.specs.declared.request_stream.Next.TheVariants as nexts
+use Rattle.nmvs_stream.specs.InputLines.{input_lines}
+use Rattle.nmvs_http.specs.RequestLines.{lines_of, up_to_quit}
 use Rattle.nmvs_http.specs.Requests.{asks_of, wants_head}
-use Rattle.nmvs_http.specs.StreamState.{StreamState, request_limits}
+use Rattle.nmvs_http.specs.StreamState.{StreamState}
 
 -- the stream is these requests of HTTP/1.1's grammar (RFC 9112), one after the other, and then the rest
 abbrev pub ReadsRequests : Config → List ℕ → List (Request (List ℕ)) → List ℕ → Type 0
@@ -32,7 +32,7 @@ ReadsRequests config stream (r ∷ requests) rest =
 abbrev pub ReadsAsked : Request (List ℕ) → Option Asked → Type 0
 ReadsAsked request None = ⊥
 ReadsAsked request (Some asked) =
-    (asked.asks ≡ asks_of request) × (asked.head_alone ≡ wants_head request) × (asked.asks ≡ asks.Lines → asked.body ≡ body_of request)
+    (asked.asks ≡ asks_of request) × (asked.head_alone ≡ wants_head request) × (up_to_quit (input_lines asked.body) ≡ lines_of request)
 
 -- the fault of a part of a head
 abbrev pub part_fault : Error → Fault
@@ -67,12 +67,7 @@ abbrev pub IsNext : StreamState → StreamState → Next → Type 0
 IsNext old new nexts.Nothing = (new.requests ≡ old.requests) × (new.state ≡ states.Open)
 IsNext old new nexts.Invitation = (new.requests ≡ old.requests) × (new.state ≡ states.Open)
 IsNext old new (nexts.Request asked stays) =
-    ((request : Request (List ℕ)) × (new.requests ≡ old.requests ++ request ∷ []) × ReadsAsked request (Some asked)) × (stays ≡ true ↔ new.state ≡ states.Open)
+    ((request : Request (List ℕ)) × (new.requests ≡ old.requests ++ request ∷ []) × ReadsAsked request (Some asked)) × (new.state ≢ states.Aborted) × (stays ≡ true ↔ new.state ≡ states.Open)
 IsNext old new (nexts.Refused fault) =
     (new.requests ≡ old.requests) × ((why : Refusal) × (new.state ≡ states.Closing (reasons.Refused why)) × (fault ≡ fault_of why))
 IsNext old new nexts.Lost = Unit {0}
-
--- but for want of memory, the stream is the requests that were read off it, and a rest
-abbrev pub IsRead : StreamState → Next → Type 0
-IsRead s nexts.Lost = Unit {0}
-IsRead s _ = ∥ ((rest : List ℕ) × ReadsRequests request_limits s.fed s.requests rest) ∥₁

@@ -1,8 +1,11 @@
 //! The requests of a stream of bytes.
-ghost use Rattle.std.specs.Prelude.{◌≡◌, ◌≤◌, ◌++◌, [], length, take, Some, IfOk};
+ghost use Rattle.std.specs.Prelude.{◌≡◌, ◌≢◌, ◌≤◌, ◌++◌, ℕ, List, [], length, take, Some, IfOk};
+ghost use Rattle.http_server.specs.declared.state.State.TheVariants as states;
+ghost use Rattle.nmvs_stream.specs.InputLines.{input_lines};
 ghost use Rattle.http_server.specs.Connection.{config_of};
 ghost use Rattle.nmvs_http.specs.StreamState.{StreamState, request_limits, stream_state};
-ghost use Rattle.nmvs_http.specs.Streams.{IsNext, IsNextOf, IsRead, ReadsAsked};
+ghost use Rattle.nmvs_http.specs.RequestLines.{lines_asked, up_to_quit};
+ghost use Rattle.nmvs_http.specs.Streams.{IsNext, IsNextOf, ReadsAsked, ReadsRequests};
 ghost use Rattle.nmvs_http.specs.Streams as specs;
 
 use crate::asked::{Asks, asks_of, is_head};
@@ -93,11 +96,17 @@ impl RequestStream {
         more.len()
     }
 
+    /// Notes what was read: but for want of memory the stream is the requests that were read off it, and a rest.
+    pub(crate) fn note_read(&self)
+        ensures { self.now.state ≢ states.Aborted → ∥ ((rest : List ℕ) × ReadsRequests request_limits self.now.fed self.now.requests rest) ∥₁ }
+    {
+        let _state = self.connection.state();
+    }
+
     /// What comes next.
     pub(crate) fn next(&mut self) -> Next
         ensures fed { self.new.fed ≡ self.old.fed }
         ensures next { IsNext self.old self.new result }
-        ensures read { IsRead self.new result }
     {
         let mut reader = Reader { asked: None };
         self.connection.advance(&mut reader);
@@ -154,15 +163,23 @@ fn read_request(request: &Request<Bytes>) -> Result<Asked, AllocError>
     ensures { IfOk result (λ asked. ReadsAsked request.now (Some asked)) }
 {
     let asks = asks_of(request);
-    let body = match asks {
-        Asks::Lines => request.body().clone()?,
-        _ => Bytes::new(),
-    };
+    let body = body_asked(asks, request.body())?;
     Ok(Asked {
         asks,
         head_alone: is_head(request),
         body,
     })
+}
+
+/// The body, where its lines are asked; else none.
+#[tactic(auto, using(crate::proofs::BodyLemmas::no_lines))]
+fn body_asked(asks: Asks, body: &Bytes) -> Result<Bytes, AllocError>
+    ensures { IfOk result (λ asked. up_to_quit (input_lines asked) ≡ lines_asked asks body.now) }
+{
+    match asks {
+        Asks::Lines => body.clone(),
+        Asks::Health | Asks::Refused(_) => Ok(Bytes::new()),
+    }
 }
 
 fn config() -> Config

@@ -1,9 +1,14 @@
 //! A session over HTTP that is fed bytes.
-ghost use Rattle.std.specs.Prelude.{◌≡◌, ◌≤◌, ◌++◌, [], None, IsTrue, length, take, false};
-ghost use Rattle.nmvs_stream.specs.Sink.{Taken};
+ghost use Rattle.std.specs.Prelude.{◌≡◌, ◌≢◌, ◌≤◌, ◌↔◌, ◌++◌, [], None, Some, IsTrue, OnOk, OnErr, IsSome, length, take, true, false};
+ghost use Rattle.http_server.specs.declared.state.State.TheVariants as states;
+ghost use Rattle.nmvs_stream.specs.Delivery.{DeliversPart};
+ghost use Rattle.nmvs_stream.specs.InputLines.{input_lines};
 ghost use Rattle.nmvs_messages.specs.Peers.{TakesFrom};
+ghost use Rattle.nmvs_protocol.specs.Session.{session_text};
 ghost use Rattle.nmvs_http.specs.HttpState.{HttpState};
-ghost use Rattle.nmvs_http.specs.Sessions.{IsAnsweredSession, TakesRequests, is_broken};
+ghost use Rattle.nmvs_http.specs.RequestLines.{up_to_quit};
+ghost use Rattle.nmvs_http.specs.Responses.{invitation_text};
+ghost use Rattle.nmvs_http.specs.Sessions.{IsAnsweredSession, Invites, ReadsHand, Responds, TakesHandLines, TakesRequests, TellsSession, is_broken};
 
 use crate::asked::Asks;
 use crate::body_lines::BodyLines;
@@ -19,6 +24,7 @@ use nmvs_protocol::{Taking, write_texts};
 use nmvs_stream::{Failed, Sink};
 use std::alloc::Global;
 use std::hash::RandomState;
+use std::marker::Model;
 
 /// A session over HTTP: the stream of its requests, and how far the request in hand is answered. The caller moves the bytes, and has
 /// the answers released that are withheld. Contracts see the bytes that it was fed, the requests that were read, the lines that are
@@ -47,9 +53,22 @@ pub(crate) struct Hand {
     lines: BodyLines,
 }
 
+impl Model for HttpSession {
+    ghost use Rattle.nmvs_http.specs.HttpState.{HttpState};
+    ghost use Rattle.nmvs_http.specs.Sessions.{IsSession};
+
+    ghost Value = { HttpState };
+
+    ghost view = { λ s. record { fed = s.stream.fed; requests = s.stream.requests; state = s.stream.state; hand = s.hand; gathered = s.gathered.bytes.items; invites = s.invites; waiting = s.waiting; told = s.told.numbers; ended = s.end } };
+
+    ghost invariant = { λ s. IsSession (record { fed = s.stream.fed; requests = s.stream.requests; state = s.stream.state; hand = s.hand; gathered = s.gathered.bytes.items; invites = s.invites; waiting = s.waiting; told = s.told.numbers; ended = s.end }) };
+}
+
 impl HttpSession {
     /// A session that nothing was fed. The peer chooses the names of fields, so their maps take secret keys.
-    pub fn new(alloc: Global, keys: RandomState) -> HttpSession {
+    pub fn new(alloc: Global, keys: RandomState) -> HttpSession
+        ensures { result ≡ record { fed = []; requests = []; state = states.Open; hand = None; gathered = []; invites = false; waiting = 0; told = []; ended = None } }
+    {
         HttpSession {
             stream: RequestStream::new(alloc, keys),
             hand: None,
@@ -62,8 +81,27 @@ impl HttpSession {
     }
 
     /// Whether it goes on without further bytes.
-    pub fn has_more(&self) -> bool {
+    pub fn has_more(&self) -> bool
+        ensures { IsTrue result ↔ IsSome self.now.hand }
+    {
         self.hand.is_some()
+    }
+
+    /// How many answers it waits for.
+    pub fn waiting(&self) -> usize
+        ensures { result ≡ self.now.waiting }
+    {
+        self.waiting
+    }
+
+    /// How it ended, where it has: it is fed no more then. What it told is the responses to the first requests that it was fed,
+    /// in order, each with the texts of the answers to its lines, one answer a line.
+    pub fn end(&self) -> Option<End>
+        ensures ended { result ≡ self.now.ended }
+        ensures answered { IsAnsweredSession self.now }
+    {
+        self.stream.note_read();
+        self.end
     }
 
     /// Takes these bytes of a peer, and lines of the request in hand, whose answers are put behind those that are withheld.
@@ -76,10 +114,18 @@ impl HttpSession {
         withheld: &mut WithheldAnswers<'a>,
         from: &Peer,
         desk: &mut D,
-    ) -> Taking {
+    ) -> Taking
+        requires goes_on { self.old.ended ≡ None }
+        requires told { self.old.waiting ≡ 0 }
+        ensures within { result.bytes ≤ length more.now }
+        ensures fed { self.new.fed ≡ self.old.fed ++ take result.bytes more.now }
+        ensures ended { result.end ≡ self.new.ended }
+        ensures takes { TakesRequests (TakesFrom D.takes from.now) self.old desk.old withheld.old self.new desk.new withheld.new }
+    {
         let first = withheld.len();
         let bytes = self.stream.feed(more);
-        let is_read = bytes == more.len() && self.read_request();
+        let whole = bytes == more.len();
+        let is_read = read_hand(whole, &mut self.stream, &mut self.hand, &mut self.invites);
         let end = take_lines(&mut self.hand, is_read, withheld, from, desk);
         self.waiting = withheld.len() - first;
         self.end = end;
@@ -92,93 +138,72 @@ impl HttpSession {
         alloc: Global,
         released: Released<'_, '_>,
         sink: &mut W,
-    ) -> Option<End> {
+    ) -> Option<End>
+        requires part { length released ≡ self.old.waiting }
+        ensures fed { self.new.fed ≡ self.old.fed }
+        ensures ended { result ≡ self.new.ended }
+        ensures waits { self.new.waiting ≡ 0 }
+        ensures tells { TellsSession (W.taken sink.old) (W.taken sink.new) self.old self.new }
+    {
         if self.hand.is_none() && self.end.is_some() {
+            self.waiting = 0;
             return self.end;
         }
-        if self.invites {
-            match write_invitation(sink) {
-                Ok(()) => {
-                    self.invites = false;
-                    self.told = with_invitation(&self.told);
-                }
-                Err(Failed) => return self.break_off(End::WriteFault),
-            }
-        }
-        if write_texts(alloc, released, &mut self.gathered).is_some() {
-            return self.break_off(End::Memory);
-        }
-        self.waiting = 0;
-        self.respond(sink)
-    }
-
-    /// Writes the response to the request in hand, where no line of it is left, and reads the next request.
-    fn respond<W: Sink>(&mut self, sink: &mut W) -> Option<End> {
-        match &self.hand {
-            Some(hand) if hand.lines.are_taken() => {}
-            _ => return self.end,
-        }
-        let Some(
-            Hand {
-                asks,
-                head_alone,
-                stays,
-                ..
-            },
-        ) = self.hand.take()
-        else {
-            return self.end;
-        };
-        let replies = self.gathered.bytes.as_slice();
-        match write_response(sink, asks, head_alone, stays, replies) {
+        match invite(&mut self.invites, &mut self.told, sink) {
             Ok(()) => {}
             Err(Failed) => return self.break_off(End::WriteFault),
         }
-        self.told = with_response(&self.told, asks, head_alone, stays, replies);
-        self.gathered.clear();
-        if !stays {
-            self.end = Some(End::Quit);
-            return self.end;
-        }
-        if !self.read_request() {
+        if !gather(alloc, released, &mut self.gathered) {
             return self.break_off(End::Memory);
         }
-        self.end
-    }
-
-    /// Reads the next request, where none is in hand and it has come whole, and tells whether there was memory for it.
-    fn read_request(&mut self) -> bool {
-        if self.hand.is_some() {
-            return true;
-        }
-        match self.stream.next() {
-            Next::Nothing => true,
-            Next::Invitation => {
-                self.invites = true;
-                true
+        self.waiting = 0;
+        match respond(&mut self.hand, &mut self.gathered, &mut self.told, sink) {
+            Response::Unfinished => self.end,
+            Response::Failed => self.break_off(End::WriteFault),
+            Response::Closes => {
+                self.end = Some(End::Quit);
+                self.end
             }
-            Next::Request(asked, stays) => {
-                self.hand = Some(Hand::of(asked, stays));
-                true
+            Response::Stays => {
+                if !read_hand(true, &mut self.stream, &mut self.hand, &mut self.invites) {
+                    return self.break_off(End::Memory);
+                }
+                self.end
             }
-            Next::Refused(fault) => {
-                self.hand = Some(Hand::refusing(fault));
-                true
-            }
-            Next::Lost => false,
         }
     }
+}
 
-    fn break_off(&mut self, end: End) -> Option<End> {
+impl HttpSession {
+    /// Ends the session so, whatever it waits for.
+    fn break_off(&mut self, end: End) -> Option<End>
+        requires { is_broken (Some end) ≡ true }
+        ensures { (result ≡ Some end) × (self.new ≡ record self.old { waiting = 0; ended = Some end }) }
+    {
         self.waiting = 0;
         self.end = Some(end);
         self.end
     }
 }
 
+/// What comes of a request in hand.
+#[derive(Clone, Copy, PartialEq, Eq)]
+pub(crate) enum Response {
+    /// There is none, or lines of it are still to be taken.
+    Unfinished,
+    /// Its response was written, and the connection stays.
+    Stays,
+    /// Its response was written, and the connection is closed.
+    Closes,
+    /// A write failed.
+    Failed,
+}
+
 impl Hand {
     /// What a request asks, and whether the connection stays behind its response.
-    fn of(asked: Asked, stays: bool) -> Hand {
+    fn of(asked: Asked, stays: bool) -> Hand
+        ensures { result ≡ record { asks = asked.asks; head_alone = asked.head_alone; stays = stays; lines = up_to_quit (input_lines asked.body) } }
+    {
         let Asked {
             asks,
             head_alone,
@@ -193,13 +218,49 @@ impl Hand {
     }
 
     /// What can be no request: the connection is closed.
-    fn refusing(fault: Fault) -> Hand {
+    fn refusing(fault: Fault) -> Hand
+        ensures { result ≡ record { asks = Asks.Refused fault; head_alone = false; stays = false; lines = [] } }
+    {
         Hand {
             asks: Asks::Refused(fault),
             head_alone: false,
             stays: false,
             lines: BodyLines::new(Bytes::new()),
         }
+    }
+}
+
+/// Reads the next request, where these bytes were fed whole and none is in hand, and tells whether there was memory for all.
+fn read_hand(
+    whole: bool,
+    stream: &mut RequestStream,
+    hand: &mut Option<Hand>,
+    invites: &mut bool,
+) -> bool
+    ensures fed { stream.new.fed ≡ stream.old.fed }
+    ensures reads { result ≡ true → ReadsHand stream.old stream.new hand.old hand.new }
+{
+    if !whole {
+        return false;
+    }
+    if hand.is_some() {
+        return true;
+    }
+    match stream.next() {
+        Next::Nothing => true,
+        Next::Invitation => {
+            *invites = true;
+            true
+        }
+        Next::Request(asked, stays) => {
+            *hand = Some(Hand::of(asked, stays));
+            true
+        }
+        Next::Refused(fault) => {
+            *hand = Some(Hand::refusing(fault));
+            true
+        }
+        Next::Lost => false,
     }
 }
 
@@ -210,20 +271,96 @@ fn take_lines<'a, D: Desk<'a>>(
     withheld: &mut WithheldAnswers<'a>,
     from: &Peer,
     desk: &mut D,
-) -> Option<End> {
+) -> Option<End>
+    ensures { TakesHandLines (TakesFrom D.takes from.now) is_read hand.old desk.old withheld.old hand.new desk.new withheld.new result }
+{
     if !is_read {
         return Some(End::Memory);
     }
-    let Some(hand) = hand else {
-        return None;
-    };
+    match hand {
+        Some(hand) => take_hand_lines(hand, withheld, from, desk),
+        None => None,
+    }
+}
+
+/// Takes lines of a request in hand, and tells how the session ends once its response is told, where it does.
+fn take_hand_lines<'a, D: Desk<'a>>(
+    hand: &mut Hand,
+    withheld: &mut WithheldAnswers<'a>,
+    from: &Peer,
+    desk: &mut D,
+) -> Option<End>
+    ensures { TakesHandLines (TakesFrom D.takes from.now) true (Some hand.old) desk.old withheld.old (Some hand.new) desk.new withheld.new result }
+{
     match hand.lines.take(withheld, from, desk) {
         None => {}
-        Some(End::Quit) => hand.stays = false,
+        Some(End::Quit) => {
+            hand.stays = false;
+            return Some(End::Quit);
+        }
         Some(_) => return Some(End::Memory),
     }
     if hand.lines.are_taken() && !hand.stays {
         return Some(End::Quit);
     }
     None
+}
+
+/// Invites the peer to send the body of its request, where it waits for that.
+fn invite<W: Sink>(invites: &mut bool, told: &mut Tag, sink: &mut W) -> Result<(), Failed>
+    ensures ok { OnOk result (Invites (W.taken sink.old) (W.taken sink.new) told.old.numbers told.new.numbers) }
+    ensures err { OnErr result ((told.new ≡ told.old) × DeliversPart (W.taken sink.old) (W.taken sink.new) invitation_text) }
+{
+    if !*invites {
+        return Ok(());
+    }
+    write_invitation(sink)?;
+    *invites = false;
+    *told = with_invitation(told);
+    Ok(())
+}
+
+/// Gathers the texts of answers, and tells whether there was memory for them.
+fn gather(alloc: Global, released: Released<'_, '_>, gathered: &mut Gathered) -> bool
+    ensures { result ≡ true → gathered.new.bytes.items ≡ gathered.old.bytes.items ++ session_text released }
+{
+    write_texts(alloc, released, gathered).is_none()
+}
+
+/// Writes the response to the request in hand, where no line of it is left to be taken.
+fn respond<W: Sink>(
+    hand: &mut Option<Hand>,
+    gathered: &mut Gathered,
+    told: &mut Tag,
+    sink: &mut W,
+) -> Response
+    ensures { Responds hand.old hand.new gathered.old.bytes.items gathered.new.bytes.items told.old.numbers told.new.numbers (W.taken sink.old) (W.taken sink.new) result }
+{
+    match hand {
+        Some(hand) if hand.lines.are_taken() => {}
+        _ => return Response::Unfinished,
+    }
+    let Some(
+        Hand {
+            asks,
+            head_alone,
+            stays,
+            ..
+        },
+    ) = hand.take()
+    else {
+        return Response::Unfinished;
+    };
+    let replies = gathered.bytes.as_slice();
+    match write_response(sink, asks, head_alone, stays, replies) {
+        Ok(()) => {}
+        Err(Failed) => return Response::Failed,
+    }
+    *told = with_response(told, asks, head_alone, stays, replies);
+    gathered.clear();
+    if stays {
+        Response::Stays
+    } else {
+        Response::Closes
+    }
 }

@@ -39,7 +39,13 @@ pub(crate) fn with_invitation(tag: &Tag) -> Tag
 }
 
 /// The tag of what this one has, and this response.
-pub(crate) fn with_response(tag: &Tag, asks: Asks, head_alone: bool, stays: bool, replies: &[u8]) -> Tag
+pub(crate) fn with_response(
+    tag: &Tag,
+    asks: Asks,
+    head_alone: bool,
+    stays: bool,
+    replies: &[u8],
+) -> Tag
     ensures { result.numbers ≡ tag.now.numbers ++ response_text asks head_alone stays replies.now }
 {
     Tag::of::<Responded<'_>, Both>(&Responded {

@@ -4,7 +4,7 @@ use Rattle.http_server.specs.Connection.{history}
 use Rattle.nmvs_http.specs.declared.request_stream.Reader.{Reader}
 use Rattle.nmvs_http.specs.StreamState.{StreamState, stream_state}
 use Rattle.nmvs_http.specs.Streams.{IsNext}
-use Rattle.nmvs_http.proofs.StreamLemmas.{ReadsOne, calls_one, is_next, is_read}
+use Rattle.nmvs_http.proofs.StreamLemmas.{ReadsOne, calls_one, is_next}
 use Rattle.nmvs_http.proofs.request_stream.RequestStream.next.Goals as goal
 
 pub returns-clause-next : goal.returns-clause-next
@@ -17,9 +17,3 @@ returns-clause-next c =
     let all = subst (λ (rs : List (Request (List ℕ))). ReadsOne old.requests rs asked) (sym (ap (λ (s : StreamState). s.requests) c.discard_output.ensures.stream)) one in
     let stands = c.next_of.ensures new (ap (λ (s : StreamState). s.state) c.discard_output.ensures.stream ∙ sym c.state-state.ensures) in
     subst (λ (s : StreamState). IsNext s new c.next_of.result) c.self.view_is (is_next c.next_of.result asked old new stands all)
-
-pub returns-clause-read : goal.returns-clause-read
-returns-clause-read c =
-    let new = stream_state c.discard_output.new.connection in
-    let stands = c.next_of.ensures new (ap (λ (s : StreamState). s.state) c.discard_output.ensures.stream ∙ sym c.state-state.ensures) in
-    is_read c.next_of.result c.advance.new.service.asked c.discard_output.new.connection (c.discard_output.ensures.config ∙ c.advance.ensures.config ∙ c.self.invariant) stands
