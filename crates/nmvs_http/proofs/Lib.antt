@@ -1,2 +1,4 @@
 pub mod StreamLemmas
 pub mod BodyLemmas
+pub mod BodySteps
+pub mod SessionSteps

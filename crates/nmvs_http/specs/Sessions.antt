@@ -58,6 +58,7 @@ pub record HasRefusal (h : Hand) (begun : List (Request (List ℕ))) (waiting : 
   pub none : begun ≡ []
   pub fault : Fault
   pub asks : h.asks ≡ asks.Refused fault
+  pub closes : h.stays ≡ false
   pub told : waiting ≡ 0
   pub lines : h.lines ≡ []
 
@@ -69,9 +70,9 @@ InHand (Some h) begun gathered waiting = HasRequest h begun gathered waiting ⊎
 pub record IsRefused (ended : Option End) (hand : Option Hand) (last : List ℕ) : Type 0 where
   pub ends : ended ≡ Some ends.Quit
   pub done : hand ≡ None
-  pub asks : Fault
+  pub fault : Fault
   pub head_alone : Bool
-  pub last_is : last ≡ response_text (asks.Refused asks) head_alone false []
+  pub last_is : last ≡ response_text (asks.Refused fault) head_alone false []
 
 -- what was told is the responses to the first requests, in order: to all of them but the one in hand
 pub record Answered (requests : List (Request (List ℕ))) (hand : Option Hand) (gathered : List ℕ) (waiting : ℕ) (told : List ℕ) (ended : Option End) : Type 0 where
@@ -113,6 +114,7 @@ pub record RefusesRequest (old new : StreamState) (h : Hand) : Type 0 where
   pub requests : new.requests ≡ old.requests
   pub fault : Fault
   pub asks : h.asks ≡ asks.Refused fault
+  pub closes : h.stays ≡ false
   pub lines : h.lines ≡ []
 
 abbrev pub ReadsHand : StreamState → StreamState → Option Hand → Option Hand → Type 0
@@ -124,7 +126,8 @@ ReadsHand old new None (Some h) = (TakesRequest old new h ⊎ RefusesRequest old
 abbrev pub GoesOnHand : Option Hand → Option Hand → List (List ℕ) → Type 0
 GoesOnHand None hand' lines = (hand' ≡ None) × (lines ≡ [])
 GoesOnHand (Some h) None lines = ⊥
-GoesOnHand (Some h) (Some h') lines = (h'.asks ≡ h.asks) × (h'.head_alone ≡ h.head_alone) × (h.lines ≡ lines ++ h'.lines)
+GoesOnHand (Some h) (Some h') lines =
+    (h'.asks ≡ h.asks) × (h'.head_alone ≡ h.head_alone) × (h.stays ≡ false → h'.stays ≡ false) × (h.lines ≡ lines ++ h'.lines)
 
 -- lines of the request in hand were taken, where it was read
 pub record TakesHandLines {D : Type 0} (takes : D → Ask → Withheld → D → Type 0) (is_read : Bool) (hand : Option Hand) (old : D) (withheld : List Withheld) (hand' : Option Hand) (new : D) (withheld' : List Withheld) (end : Option End) : Type 0 where
@@ -136,16 +139,16 @@ pub record TakesHandLines {D : Type 0} (takes : D → Ask → Withheld → D →
   pub ends : (end ≡ None) ⊎ ((end ≡ Some ends.Quit) ⊎ (is_broken end ≡ true))
 
 -- an invitation was told, or none
-pub record Invites (sink sink' : Taken) (told told' : List ℕ) : Type 0 where
-  pub count : ℕ
-  pub text : told' ≡ told ++ invitations count
-  pub written : Writes sink sink' (invitations count)
+abbrev pub Invites : Taken → Taken → List ℕ → List ℕ → Type 0
+Invites sink sink' told told' =
+    ((told' ≡ told) × (sink' ≡ sink)) ⊎ ((told' ≡ told ++ invitation_text) × Writes sink sink' invitation_text)
 
 -- the response to the request in hand was told, and it is no more in hand
 pub record RespondsTo (stays : Bool) (hand hand' : Option Hand) (gathered gathered' told told' : List ℕ) (sink sink' : Taken) : Type 0 where
   pub h : Hand
   pub was : hand ≡ Some h
   pub done : h.lines ≡ []
+  pub stays_is : h.stays ≡ stays
   pub none : hand' ≡ None
   pub cleared : gathered' ≡ []
   pub text : told' ≡ told ++ response_text h.asks h.head_alone stays gathered

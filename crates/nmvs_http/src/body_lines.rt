@@ -64,11 +64,19 @@ impl BodyLines {
         }
         let rest = &self.body.as_slice()[self.taken..];
         let Taking { bytes, end } = self.session.take(rest, withheld, from, desk);
-        if end == Some(End::Quit) {
-            self.taken = self.body.len();
-        } else {
-            self.taken += bytes;
+        match end {
+            Some(End::Quit) => {
+                self.taken = self.body.len();
+                Some(End::Quit)
+            }
+            Some(end) => {
+                self.taken += bytes;
+                Some(end)
+            }
+            None => {
+                self.taken += bytes;
+                None
+            }
         }
-        end
     }
 }

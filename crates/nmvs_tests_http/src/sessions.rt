@@ -185,3 +185,182 @@ fn pipelined_requests_are_answered_in_order(rt: HostRuntime) {
         Some(End::Quit),
     );
 }
+
+/// A problem, as it is told where the connection stays.
+fn problem(rt: &impl Abort, alloc: Global, front: &str, stays: bool, body: &str) -> Vec<u8> {
+    let kind = "content-type: application/problem+json\r\ncache-control: no-store\r\nconnection: ";
+    let connection = if stays { "keep-alive" } else { "close" };
+    let count = format!(in alloc; "{}", body.len()).expect(rt, "memory");
+    joined(
+        rt,
+        alloc,
+        &[
+            front,
+            "\r\n",
+            kind,
+            connection,
+            "\r\ncontent-length: ",
+            count.as_str(),
+            "\r\n\r\n",
+            body,
+        ],
+    )
+}
+
+/// Each fault that a request has: the request, the front of its response, whether the connection stays, and the body.
+const FAULTS: &[(&str, &str, bool, &str)] = &[
+    (
+        "GET / HTTP/1.1\r\nHost: nmvs.example\r\n\r\n",
+        "HTTP/1.1 404 Not Found",
+        true,
+        "{\"type\":\"about:blank\",\"title\":\"Not Found\",\"status\":404,\"fault\":\"PATH\",\"recorded\":\"no\"}\n",
+    ),
+    (
+        "GET /v1/lines HTTP/1.1\r\nHost: nmvs.example\r\n\r\n",
+        "HTTP/1.1 405 Method Not Allowed\r\nallow: POST",
+        true,
+        "{\"type\":\"about:blank\",\"title\":\"Method Not Allowed\",\"status\":405,\"fault\":\"METHOD\",\"recorded\":\"no\"}\n",
+    ),
+    (
+        "DELETE /healthz HTTP/1.1\r\nHost: nmvs.example\r\nConnection: close\r\n\r\n",
+        "HTTP/1.1 405 Method Not Allowed\r\nallow: GET, HEAD",
+        false,
+        "{\"type\":\"about:blank\",\"title\":\"Method Not Allowed\",\"status\":405,\"fault\":\"METHOD\",\"recorded\":\"no\"}\n",
+    ),
+    (
+        "POST /v1/lines HTTP/1.1\r\nHost: nmvs.example\r\nContent-Type: text/plain\r\nSec-Fetch-Site: cross-site\r\nContent-Length: 5\r\n\r\nQUIT\n",
+        "HTTP/1.1 403 Forbidden",
+        true,
+        "{\"type\":\"about:blank\",\"title\":\"Forbidden\",\"status\":403,\"fault\":\"SITE\",\"recorded\":\"no\"}\n",
+    ),
+    (
+        "POST /v1/lines HTTP/1.1\r\nHost: nmvs.example\r\nContent-Type: text/plainer\r\nContent-Length: 5\r\n\r\nQUIT\n",
+        "HTTP/1.1 415 Unsupported Media Type",
+        true,
+        "{\"type\":\"about:blank\",\"title\":\"Unsupported Media Type\",\"status\":415,\"fault\":\"TYPE\",\"recorded\":\"no\"}\n",
+    ),
+    (
+        "POST /v1/lines HTTP/1.1\r\nHost: nmvs.example\r\nContent-Type: TEXT/plain; charset=utf-8\r\n\r\n",
+        "HTTP/1.1 411 Length Required",
+        true,
+        "{\"type\":\"about:blank\",\"title\":\"Length Required\",\"status\":411,\"fault\":\"LENGTH\",\"recorded\":\"no\"}\n",
+    ),
+    (
+        "POST /v1/lines HTTP/1.1\r\nHost: nmvs.example\r\nContent-Type: text/plain\r\nContent-Length: 4\r\n\r\nQUIT",
+        "HTTP/1.1 400 Bad Request",
+        true,
+        "{\"type\":\"about:blank\",\"title\":\"Bad Request\",\"status\":400,\"fault\":\"LAST_LINE\",\"recorded\":\"no\"}\n",
+    ),
+    (
+        "POST /v1/lines HTTP/1.1\r\nHost: nmvs.example\r\nContent-Length: 131073\r\n\r\n",
+        "HTTP/1.1 413 Content Too Large",
+        false,
+        "{\"type\":\"about:blank\",\"title\":\"Content Too Large\",\"status\":413,\"fault\":\"BODY\",\"recorded\":\"no\"}\n",
+    ),
+    (
+        "POST /v1/lines HTTP/1.1\r\nHost: nmvs.example\r\nTransfer-Encoding: gzip, chunked\r\n\r\n",
+        "HTTP/1.1 501 Not Implemented",
+        false,
+        "{\"type\":\"about:blank\",\"title\":\"Not Implemented\",\"status\":501,\"fault\":\"CODING\",\"recorded\":\"no\"}\n",
+    ),
+    (
+        "ph1 VERIFY 09506000134352 SN1\r\n\r\n",
+        "HTTP/1.1 400 Bad Request",
+        false,
+        "{\"type\":\"about:blank\",\"title\":\"Bad Request\",\"status\":400,\"fault\":\"REQUEST\",\"recorded\":\"no\"}\n",
+    ),
+];
+
+#[test]
+fn each_fault_has_one_response(rt: HostRuntime) {
+    let alloc = rt.alloc();
+    for (request, front, stays, body) in FAULTS {
+        let output = problem(&rt, alloc, front, *stays, body);
+        let end = if *stays { None } else { Some(End::Quit) };
+        for piece in [1, 1_000_000] {
+            let (sent, ended) = run(&rt, alloc, request.as_bytes(), piece);
+            assert_eq!(rt;
+                str::from_utf8(sent.as_slice()),
+                str::from_utf8(output.as_slice()),
+                "{request}"
+            );
+            assert_eq!(rt; ended, end, "{request}");
+        }
+    }
+}
+
+/// A head that is too long is refused before it ends, and a target before its line ends.
+#[test]
+fn heads_too_long_are_refused(rt: HostRuntime) {
+    let alloc = rt.alloc();
+    let cases = [
+        (
+            "GET /healthz HTTP/1.1\r\nHost: nmvs.example\r\nX: ",
+            "HTTP/1.1 431 Request Header Fields Too Large",
+        ),
+        ("GET /", "HTTP/1.1 414 URI Too Long"),
+    ];
+    for (front, status) in cases {
+        let mut input = joined(&rt, alloc, &[front]);
+        for _ in 0..17_000 {
+            input.push(b'a').expect(&rt, "memory");
+        }
+        let (sent, ended) = run(&rt, alloc, input.as_slice(), 4_096);
+        assert!(rt; sent.as_slice().starts_with(status.as_bytes()), "{status}");
+        assert_eq!(rt; ended, Some(End::Quit), "{status}");
+    }
+}
+
+/// A peer that waits with the body is invited to send it, once its head has come.
+#[test]
+fn a_waiting_peer_is_invited(rt: HostRuntime) {
+    let alloc = rt.alloc();
+    let head =
+        "POST /v1/lines HTTP/1.1\r\nHost: nmvs.example\r\nContent-Type: text/plain\r\nExpect: 100-continue\r\nContent-Length: 41\r\n\r\n";
+    let input = joined(&rt, alloc, &[head, UPLOAD]);
+    let output = joined(
+        &rt,
+        alloc,
+        &["HTTP/1.1 100 Continue\r\n\r\n", KEPT, "9\r\n\r\nUPLOADED\n"],
+    );
+    let (sent, ended) = run(&rt, alloc, &input, head.len());
+    assert_eq!(rt;
+        str::from_utf8(sent.as_slice()),
+        str::from_utf8(output.as_slice())
+    );
+    assert_eq!(rt; ended, None);
+}
+
+/// QUIT is answered, ends the session, and leaves the lines behind it unasked.
+#[test]
+fn quit_ends_the_session(rt: HostRuntime) {
+    answers(
+        &rt,
+        rt.alloc(),
+        &[
+            LINES,
+            "Content-Length: 16\r\n\r\nPING\nQUIT\nQUIT\n\n",
+            "GET /healthz HTTP/1.1\r\nHost: nmvs.example\r\n\r\n",
+        ],
+        &[CLOSED, "9\r\n\r\nPONG\nBYE\n"],
+        Some(End::Quit),
+    );
+}
+
+/// More lines than may be withheld at once are answered in one response.
+#[test]
+fn a_request_may_ask_five_thousand_lines(rt: HostRuntime) {
+    let alloc = rt.alloc();
+    let mut input = joined(&rt, alloc, &[LINES, "Content-Length: 5000\r\n\r\n"]);
+    let mut output = joined(&rt, alloc, &[KEPT, "65000\r\n\r\n"]);
+    for _ in 0..5_000 {
+        input.push(b'\n').expect(&rt, "memory");
+        output
+            .extend_from_slice(b"FAULT FIELDS\n")
+            .expect(&rt, "memory");
+    }
+    let (sent, ended) = run(&rt, alloc, &input, 4_096);
+    assert_eq!(rt; sent.len(), output.len());
+    assert!(rt; sent == output);
+    assert_eq!(rt; ended, None);
+}

@@ -1,0 +1,100 @@
+-- How lines of a body are taken.
+use Rattle.std.proofs.Common.{◌≡◌, ◌≢◌, ◌≤◌, ◌<◌, ◌+◌, ◌-◌, ◌∙◌, ℕ, List, [], ◌∷◌, ◌++◌, Option, Some, None, length, take, drop, refl, sym, ap, subst, arith, length-drop}
+use Rattle.std.proofs.lemmas.List.{append-nil}
+use Rattle.nmvs_stream.specs.InputLines.{lines_after, rest_after, unfinished_line}
+use Rattle.nmvs_messages.specs.declared.ask.Ask.{Ask}
+use Rattle.nmvs_messages.specs.declared.end.End.{End}
+use Rattle.nmvs_messages.specs.declared.end.End.TheVariants as ends
+use Rattle.nmvs_messages.specs.declared.withheld.Withheld.{Withheld}
+use Rattle.nmvs_messages.specs.PendingLines.{kept_part}
+use Rattle.nmvs_protocol.specs.declared.session.Session.{Session}
+use Rattle.nmvs_protocol.specs.Progress.{Took}
+use Rattle.nmvs_protocol.specs.Session.{EndsWithQuit, NoQuit}
+use Rattle.nmvs_http.specs.BodyLines.{GoesOn, TakesBody}
+use Rattle.nmvs_http.specs.RequestLines.{lines_left, up_to_quit}
+use Rattle.nmvs_http.proofs.BodyLemmas.{next_begun, next_lines, no_quit_before, none_left, quit_last}
+
+-- the lines that the next bytes of a body complete
+abbrev pub now_lines : List ℕ → ℕ → ℕ → List (List ℕ)
+now_lines body taken count = lines_after (unfinished_line (take taken body)) (take count (drop taken body))
+
+goes_on : (body : List ℕ) (taken count : ℕ) → NoQuit (now_lines body taken count)
+    → lines_left body taken ≡ now_lines body taken count ++ lines_left body (taken + count)
+goes_on body taken count none =
+    ap up_to_quit (next_lines body taken count)
+    ∙ no_quit_before (now_lines body taken count) (lines_after (unfinished_line (take (taken + count) body)) (drop (taken + count) body)) none
+
+ends_there : (body : List ℕ) (taken count : ℕ) → EndsWithQuit (now_lines body taken count) → lines_left body taken ≡ now_lines body taken count ++ lines_left body (length body)
+ends_there body taken count quits =
+    let lines = now_lines body taken count in
+    ap up_to_quit (next_lines body taken count)
+    ∙ quit_last lines quits.before (lines_after (unfinished_line (take (taken + count) body)) (drop (taken + count) body)) quits.these quits.no_quit
+    ∙ sym (append-nil lines)
+    ∙ ap (λ (t : List (List ℕ)). lines ++ t) (sym (none_left body (length body) (omega arith)))
+
+-- a session took lines of a body, and goes on
+pub takes_some : {D : Type 0} (takes : D → Ask → Withheld → D → Type 0) (body : List ℕ) (taken count : ℕ) (session session' : Session) (old new : D) (withheld withheld' : List Withheld) (end : Option End)
+    → end ≢ Some ends.Quit
+    → Took takes session old withheld (unfinished_line (take taken body)) (take count (drop taken body)) (drop count (drop taken body)) session' new withheld' end
+    → TakesBody takes (lines_left body taken) old withheld (lines_left body (taken + count)) new withheld' end
+takes_some takes body taken count session session' old new withheld withheld' (None) other t = record {
+  lines = now_lines body taken count;
+  these = goes_on body taken count t.halts;
+  held = t.held;
+  behind = t.behind;
+  answers = t.answers;
+  ends = tt;
+}
+takes_some takes body taken count session session' old new withheld withheld' (Some ends.Limit) other t = record {
+  lines = now_lines body taken count;
+  these = goes_on body taken count t.halts.0;
+  held = t.held;
+  behind = t.behind;
+  answers = t.answers;
+  ends = tt;
+}
+takes_some takes body taken count session session' old new withheld withheld' (Some ends.Quit) other t = absurd (other refl)
+takes_some takes body taken count session session' old new withheld withheld' (Some ends.WriteFault) other t = absurd t.halts
+takes_some takes body taken count session session' old new withheld withheld' (Some ends.Memory) other t = absurd t.halts
+takes_some takes body taken count session session' old new withheld withheld' (Some ends.Ended) other t = absurd t.halts
+takes_some takes body taken count session session' old new withheld withheld' (Some ends.ReadFault) other t = absurd t.halts
+
+-- a session took lines of a body up to QUIT, behind which none is left
+pub takes_quit : {D : Type 0} (takes : D → Ask → Withheld → D → Type 0) (body : List ℕ) (taken count : ℕ) (session session' : Session) (old new : D) (withheld withheld' : List Withheld)
+    → Took takes session old withheld (unfinished_line (take taken body)) (take count (drop taken body)) (drop count (drop taken body)) session' new withheld' (Some ends.Quit)
+    → TakesBody takes (lines_left body taken) old withheld (lines_left body (length body)) new withheld' (Some ends.Quit)
+takes_quit takes body taken count session session' old new withheld withheld' t = record {
+  lines = now_lines body taken count;
+  these = ends_there body taken count t.halts;
+  held = t.held;
+  behind = t.behind;
+  answers = t.answers;
+  ends = none_left body (length body) (omega arith);
+}
+
+-- nothing was taken of a body of which nothing is left
+pub takes_none : {D : Type 0} (takes : D → Ask → Withheld → D → Type 0) (left : List (List ℕ)) (desk : D) (withheld : List Withheld) → TakesBody takes left desk withheld left desk withheld None
+takes_none takes left desk withheld = record {
+  lines = [];
+  these = refl;
+  held = [];
+  behind = sym (append-nil withheld);
+  answers = refl;
+  ends = tt;
+}
+
+-- and how the session stands then
+pub stands_behind : {D : Type 0} (takes : D → Ask → Withheld → D → Type 0) (body : List ℕ) (taken count : ℕ) (session session' : Session) (old new : D) (withheld withheld' : List Withheld) (end : Option End)
+    → taken ≤ length body → count ≤ length (drop taken body)
+    → Took takes session old withheld (unfinished_line (take taken body)) (take count (drop taken body)) (drop count (drop taken body)) session' new withheld' end
+    → GoesOn body (taken + count) session'.line session'.answered session'.limit
+stands_behind takes body taken count session session' old new withheld withheld' end fits some t = record {
+  within = let n = length-drop taken body in omega (arith, n, fits, some);
+  begun = λ _. (t.line ∙ ap kept_part (next_begun body taken count), subst (λ (n : ℕ). session'.answered ≤ n) (sym t.limit) t.within);
+}
+
+pub stands_at_end : (body line : List ℕ) (answered limit : ℕ) → GoesOn body (length body) line answered limit
+stands_at_end body line answered limit = record {
+  within = omega arith;
+  begun = λ less. absurd (omega (arith, less));
+}
