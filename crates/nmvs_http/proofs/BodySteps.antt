@@ -1,5 +1,6 @@
 -- How lines of a body are taken.
-use Rattle.std.proofs.Common.{◌≡◌, ◌≢◌, ◌≤◌, ◌<◌, ◌+◌, ◌-◌, ◌∙◌, ℕ, List, [], ◌∷◌, ◌++◌, Option, Some, None, length, take, drop, refl, sym, ap, subst, arith, length-drop}
+use Rattle.std.proofs.Common.{◌==◌, Bool, true, false, ◌≡◌, ◌≢◌, ◌≤◌, ◌<◌, ◌+◌, ◌-◌, ◌∙◌, ℕ, List, [], ◌∷◌, ◌++◌, Option, Some, None, length, take, drop, refl, sym, ap, subst, arith, length-drop}
+use Rattle.std.proofs.lemmas.Bool.{eqb-true, eqb-false}
 use Rattle.std.proofs.lemmas.List.{append-nil}
 use Rattle.nmvs_stream.specs.InputLines.{lines_after, rest_after, unfinished_line}
 use Rattle.nmvs_messages.specs.declared.ask.Ask.{Ask}
@@ -98,3 +99,21 @@ stands_at_end body line answered limit = record {
   within = omega arith;
   begun = λ less. absurd (omega (arith, less));
 }
+
+no_bytes : (xs : List ℕ) → length xs ≡ 0 → xs ≡ []
+no_bytes [] e = refl
+no_bytes (x ∷ xs) e = absurd (omega (arith, e))
+
+-- where no byte is left no line is
+pub nothing_left : (body rest : List ℕ) (taken : ℕ) (b : Bool) → rest ≡ drop taken body → b ≡ (length rest == 0) → b ≡ true → lines_left body taken ≡ []
+unfolding lines_after
+nothing_left body rest taken b these is_empty all =
+    let none : drop taken body ≡ [] = sym these ∙ no_bytes rest (eqb-true (length rest) 0 (sym is_empty ∙ all)) in
+    ap (λ (t : List ℕ). up_to_quit (lines_after (unfinished_line (take taken body)) t)) none
+
+-- where some byte is left, not all were taken
+pub some_left : (body rest : List ℕ) (taken : ℕ) (b : Bool) → rest ≡ drop taken body → b ≡ (length rest == 0) → b ≡ false → taken < length body
+some_left body rest taken b these is_empty some =
+    let there = eqb-false (length rest) 0 (sym is_empty ∙ some) in
+    let n = ap (λ (t : List ℕ). length t) these ∙ length-drop taken body in
+    omega (arith, n, there)

@@ -4,6 +4,10 @@ use Rattle.std.proofs.lemmas.Grind.{flat_map-append}
 use Rattle.std.proofs.lemmas.List.{append-nil, append_assoc, map-append}
 use Rattle.std.proofs.lemmas.List.Elements.{All-append, All-cons, All-nil}
 use Rattle.std.specs.List.{flat_map}
+use Rattle.std.specs.Option.{is_some}
+use Rattle.nmvs_stream.specs.InputLines.{input_lines}
+use Rattle.nmvs_messages.specs.declared.ask.Ask.{Ask}
+use Rattle.nmvs_messages.specs.declared.withheld.Withheld.{Withheld}
 use Rattle.http.specs.declared.request.Request.{Request}
 use Rattle.nmvs_messages.specs.declared.answer.Answer.{Answer}
 use Rattle.nmvs_messages.specs.declared.end.End.{End}
@@ -13,11 +17,16 @@ use Rattle.nmvs_protocol.specs.Texts.{text}
 use Rattle.nmvs_http.specs.declared.asked.Asks.{Asks}
 use Rattle.nmvs_http.specs.declared.asked.Asks.TheVariants as asks
 use Rattle.nmvs_http.specs.declared.session.Hand.{Hand}
-use Rattle.nmvs_http.specs.RequestLines.{lines_of}
+use Rattle.nmvs_http.specs.declared.fault.Fault.{Fault}
+use Rattle.nmvs_http.specs.declared.request_stream.Asked.{Asked}
+use Rattle.nmvs_http.specs.declared.request_stream.Next.TheVariants as nexts
+use Rattle.nmvs_http.specs.BodyLines.{TakesBody}
+use Rattle.nmvs_http.specs.RequestLines.{lines_of, up_to_quit}
+use Rattle.nmvs_http.specs.Streams.{IsNext}
 use Rattle.nmvs_http.specs.Requests.{asks_of, wants_head}
 use Rattle.nmvs_http.specs.Responses.{invitation_text, response_text}
 use Rattle.nmvs_http.specs.StreamState.{StreamState}
-use Rattle.nmvs_http.specs.Sessions.{Answered, Exchange, GoesOnHand, HasRefusal, HasRequest, InHand, IsAnswered, IsRefused, ReadsHand, RefusesRequest, TakesRequest, exchange_text, invitations, is_broken}
+use Rattle.nmvs_http.specs.Sessions.{Answered, Exchange, GoesOnHand, HasRefusal, HasRequest, InHand, IsAnswered, IsRefused, ReadsHand, RefusesRequest, TakesHandLines, TakesRequest, exchange_text, invitations, is_broken}
 
 abbrev Requests : Type 0
 Requests = List (Request (List ℕ))
@@ -69,7 +78,7 @@ hand_read None (Some h) old new gathered told a (inl x, sound) = record {
   answered = a.answered;
   begun = x.request ∷ [];
   requests_are = x.requests ∙ ap (λ (rs : Requests). rs ++ x.request ∷ [])
-    (a.requests_are ∙ ap (λ (rs : Requests). map (λ (e : Exchange). e.request) a.exchanges ++ rs) a.in_hand.0 ∙ append-nil (map (λ (e : Exchange). e.request) a.exchanges));
+      (a.requests_are ∙ ap (λ (rs : Requests). map (λ (e : Exchange). e.request) a.exchanges ++ rs) a.in_hand.0 ∙ append-nil (map (λ (e : Exchange). e.request) a.exchanges));
   in_hand = inl (request_in_hand h x.request gathered x.asks x.head_alone x.lines a.in_hand.1);
   invited = a.invited;
   last = a.last;
@@ -140,9 +149,9 @@ invitation_told requests hand gathered told waiting ended a sound =
       invited = suc a.invited;
       last = [];
       told_is = ap (λ (t : List ℕ). t ++ invitation_text)
-        (a.told_is ∙ ap (λ (t : List ℕ). before ++ (invitations a.invited ++ t)) none ∙ ap (λ (t : List ℕ). before ++ t) (append-nil (invitations a.invited)))
-        ∙ append_assoc before (invitations a.invited) invitation_text
-        ∙ ap (λ (t : List ℕ). before ++ t) (sym (append-nil (invitations a.invited ++ invitation_text)));
+          (a.told_is ∙ ap (λ (t : List ℕ). before ++ (invitations a.invited ++ t)) none ∙ ap (λ (t : List ℕ). before ++ t) (append-nil (invitations a.invited)))
+          ∙ append_assoc before (invitations a.invited) invitation_text
+          ∙ ap (λ (t : List ℕ). before ++ t) (sym (append-nil (invitations a.invited ++ invitation_text)));
       closes = inl refl;
     }
 
@@ -193,20 +202,20 @@ request_told requests h gathered told ended ended' a done x =
     (λ i. response_text (x.asks i) (x.head_alone i) h.stays (x.gathered_is i)) in record {
       exchanges = a.exchanges ++ this ∷ [];
       answered = All-append IsAnswered a.exchanges (this ∷ []) a.answered
-        (All-cons IsAnswered this [] (let n = ap (λ (l : List (List ℕ)). length l) done in let m = x.lines in omega (arith, n, m)) (All-nil IsAnswered));
+          (All-cons IsAnswered this [] (let n = ap (λ (l : List (List ℕ)). length l) done in let m = x.lines in omega (arith, n, m)) (All-nil IsAnswered));
       begun = [];
       requests_are = a.requests_are ∙ ap (λ (rs : Requests). map (λ (e : Exchange). e.request) a.exchanges ++ rs) x.one
-        ∙ sym (map-append (λ (e : Exchange). e.request) a.exchanges (this ∷ [])) ∙ sym (append-nil (map (λ (e : Exchange). e.request) (a.exchanges ++ this ∷ [])));
+          ∙ sym (map-append (λ (e : Exchange). e.request) a.exchanges (this ∷ [])) ∙ sym (append-nil (map (λ (e : Exchange). e.request) (a.exchanges ++ this ∷ [])));
       in_hand = (refl, refl, refl);
       invited = 0;
       last = [];
       told_is = ap (λ (t : List ℕ). t ++ response)
-        (a.told_is ∙ ap (λ (t : List ℕ). before ++ (invitations a.invited ++ t)) none ∙ ap (λ (t : List ℕ). before ++ t) (append-nil (invitations a.invited)))
-        ∙ append_assoc before (invitations a.invited) response
-        ∙ ap (λ (t : List ℕ). before ++ (invitations a.invited ++ t)) same
-        ∙ ap (λ (t : List ℕ). before ++ t) (sym (append-nil (exchange_text this)))
-        ∙ sym (flat_map-append exchange_text a.exchanges (this ∷ []))
-        ∙ sym (append-nil (flat_map exchange_text (a.exchanges ++ this ∷ [])));
+          (a.told_is ∙ ap (λ (t : List ℕ). before ++ (invitations a.invited ++ t)) none ∙ ap (λ (t : List ℕ). before ++ t) (append-nil (invitations a.invited)))
+          ∙ append_assoc before (invitations a.invited) response
+          ∙ ap (λ (t : List ℕ). before ++ (invitations a.invited ++ t)) same
+          ∙ ap (λ (t : List ℕ). before ++ t) (sym (append-nil (exchange_text this)))
+          ∙ sym (flat_map-append exchange_text a.exchanges (this ∷ []))
+          ∙ sym (append-nil (flat_map exchange_text (a.exchanges ++ this ∷ [])));
       closes = inl refl;
     }
 
@@ -225,8 +234,8 @@ refusal_told requests h gathered told ended a x =
       invited = a.invited;
       last = response;
       told_is = ap (λ (t : List ℕ). t ++ response)
-        (a.told_is ∙ ap (λ (t : List ℕ). before ++ (invitations a.invited ++ t)) none ∙ ap (λ (t : List ℕ). before ++ t) (append-nil (invitations a.invited)))
-        ∙ append_assoc before (invitations a.invited) response;
+          (a.told_is ∙ ap (λ (t : List ℕ). before ++ (invitations a.invited ++ t)) none ∙ ap (λ (t : List ℕ). before ++ t) (append-nil (invitations a.invited)))
+          ∙ append_assoc before (invitations a.invited) response;
       closes = inr (record {
         ends = refl;
         done = refl;
@@ -255,3 +264,76 @@ told_closes requests h gathered told ended a done =
     by_hand : HasRequest h a.begun gathered 0 ⊎ HasRefusal h a.begun 0 → Answered requests None [] 0 (told ++ response_text h.asks h.head_alone h.stays gathered) (Some ends.Quit)
     by_hand (inl x) = request_told requests h gathered told ended (Some ends.Quit) a done x
     by_hand (inr x) = refusal_told requests h gathered told ended a x
+
+-- how the request in hand is read
+pub hand_kept : (hand : Option Hand) (s : StreamState) → is_some hand ≡ true → ReadsHand s s hand hand
+hand_kept None s some = absurd (cc some)
+hand_kept (Some h) s some = (refl, refl)
+
+pub nothing_read : (hand : Option Hand) (old new : StreamState) → is_some hand ≡ false → IsNext old new nexts.Nothing → ReadsHand old new hand hand
+nothing_read None old new none x = (x.0, λ same. let open_still = x.1 in absurd (cc (open_still, same)))
+nothing_read (Some h) old new none x = absurd (cc none)
+
+pub request_read : (hand : Option Hand) (h : Hand) (old new : StreamState) (asked : Asked) (stays : Bool) → is_some hand ≡ false
+    → h ≡ record { asks = asked.asks; head_alone = asked.head_alone; stays = stays; lines = up_to_quit (input_lines asked.body) } → IsNext old new (nexts.Request asked stays)
+    → ReadsHand old new hand (Some h)
+request_read None h old new asked stays none is x =
+    let r = x.0 in
+    let one : TakesRequest old new h = record {
+      request = r.0;
+      requests = r.1;
+      asks = ap (λ (g : Hand). g.asks) is ∙ r.2.0;
+      head_alone = ap (λ (g : Hand). g.head_alone) is ∙ r.2.1;
+      lines = ap (λ (g : Hand). g.lines) is ∙ r.2.2;
+    } in
+    (inl one, x.1)
+request_read (Some g) h old new asked stays none is x = absurd (cc none)
+
+pub refusal_read : (hand : Option Hand) (h : Hand) (old new : StreamState) (fault : Fault) → is_some hand ≡ false
+    → h ≡ record { asks = asks.Refused fault; head_alone = false; stays = false; lines = [] } → IsNext old new (nexts.Refused fault) → ReadsHand old new hand (Some h)
+refusal_read None h old new fault none is x =
+    let one : RefusesRequest old new h = record {
+      requests = x.0;
+      fault = fault;
+      asks = ap (λ (g : Hand). g.asks) is;
+      closes = ap (λ (g : Hand). g.stays) is;
+      lines = ap (λ (g : Hand). g.lines) is;
+    } in
+    (inr one, λ same. let closing = x.1.1 in absurd (cc (closing, same)))
+refusal_read (Some g) h old new fault none is x = absurd (cc none)
+
+-- lines of a request were taken, and it goes on so
+pub hand_lines : {D : Type 0} (takes : D → Ask → Withheld → D → Type 0) (h g : Hand) (old new : D) (withheld withheld' : List Withheld) (taken end : Option End)
+    → TakesBody takes h.lines old withheld g.lines new withheld' taken → g.asks ≡ h.asks → g.head_alone ≡ h.head_alone → (h.stays ≡ false → g.stays ≡ false)
+    → (end ≡ None) ⊎ ((end ≡ Some ends.Quit) ⊎ (is_broken end ≡ true)) → TakesHandLines takes true (Some h) old withheld (Some g) new withheld' end
+hand_lines takes h g old new withheld withheld' taken end x asks head closes is = record {
+  lines = x.lines;
+  held = x.held;
+  behind = x.behind;
+  answers = x.answers;
+  goes = λ sound. (refl, asks, head, closes, x.these);
+  ends = is;
+}
+
+pub no_lines_taken : {D : Type 0} (takes : D → Ask → Withheld → D → Type 0) (is_read : Bool) (desk : D) (withheld : List Withheld) (end : Option End)
+    → (is_broken end ≡ false → is_read ≡ true) → (end ≡ None) ⊎ ((end ≡ Some ends.Quit) ⊎ (is_broken end ≡ true))
+    → TakesHandLines takes is_read None desk withheld None desk withheld end
+no_lines_taken takes is_read desk withheld end sound is = record {
+  lines = [];
+  held = [];
+  behind = sym (append-nil withheld);
+  answers = refl;
+  goes = λ whole. (sound whole, refl, refl);
+  ends = is;
+}
+
+pub not_read : {D : Type 0} (takes : D → Ask → Withheld → D → Type 0) (hand : Option Hand) (desk : D) (withheld : List Withheld)
+    → TakesHandLines takes false hand desk withheld hand desk withheld (Some ends.Memory)
+not_read takes hand desk withheld = record {
+  lines = [];
+  held = [];
+  behind = sym (append-nil withheld);
+  answers = refl;
+  goes = λ sound. absurd (cc sound);
+  ends = inr (inr refl);
+}

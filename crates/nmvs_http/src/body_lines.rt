@@ -1,5 +1,5 @@
 //! The lines of a request's body.
-ghost use Rattle.std.specs.Prelude.{◌≡◌, [], IsTrue};
+ghost use Rattle.std.specs.Prelude.{◌≡◌, ◌≤◌, ◌↔◌, [], Some, drop, length, true};
 ghost use Rattle.nmvs_messages.specs.Peers.{TakesFrom};
 ghost use Rattle.nmvs_stream.specs.InputLines.{input_lines};
 ghost use Rattle.nmvs_http.specs.BodyLines.{TakesBody};
@@ -45,9 +45,9 @@ impl BodyLines {
 
     /// Whether all were taken.
     pub(crate) fn are_taken(&self) -> bool
-        ensures { IsTrue result → self.now ≡ [] }
+        ensures { result ≡ true → self.now ≡ [] }
     {
-        self.taken >= self.body.len()
+        left_of(&self.body, self.taken).is_empty()
     }
 
     /// Takes lines, as [`Session::take`] does, and tells how the session ends behind them, where it does.
@@ -59,24 +59,30 @@ impl BodyLines {
     ) -> Option<End>
         ensures { TakesBody (TakesFrom D.takes from.now) self.old desk.old withheld.old self.new desk.new withheld.new result }
     {
-        if self.are_taken() {
+        let rest = left_of(&self.body, self.taken);
+        if rest.is_empty() {
             return None;
         }
-        let rest = &self.body.as_slice()[self.taken..];
         let Taking { bytes, end } = self.session.take(rest, withheld, from, desk);
-        match end {
-            Some(End::Quit) => {
-                self.taken = self.body.len();
-                Some(End::Quit)
-            }
-            Some(end) => {
-                self.taken += bytes;
-                Some(end)
-            }
-            None => {
-                self.taken += bytes;
-                None
-            }
+        if is_quit(end) {
+            self.taken = self.body.len();
+            return end;
         }
+        self.taken += bytes;
+        end
     }
+}
+
+/// The bytes of a body that are left.
+fn left_of(body: &Bytes, taken: usize) -> &[u8]
+    requires { taken ≤ length body.now }
+    ensures { result.now ≡ drop taken body.now }
+{
+    &body.as_slice()[taken..]
+}
+
+fn is_quit(end: Option<End>) -> bool
+    ensures { result ≡ true ↔ end ≡ Some End.Quit }
+{
+    matches!(end, Some(End::Quit))
 }
