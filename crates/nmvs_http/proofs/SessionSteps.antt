@@ -305,35 +305,22 @@ refusal_read (Some g) h old new fault none is x = absurd (cc none)
 -- lines of a request were taken, and it goes on so
 pub hand_lines : {D : Type 0} (takes : D → Ask → Withheld → D → Type 0) (h g : Hand) (old new : D) (withheld withheld' : List Withheld) (taken end : Option End)
     → TakesBody takes h.lines old withheld g.lines new withheld' taken → g.asks ≡ h.asks → g.head_alone ≡ h.head_alone → (h.stays ≡ false → g.stays ≡ false)
-    → (end ≡ None) ⊎ ((end ≡ Some ends.Quit) ⊎ (is_broken end ≡ true)) → TakesHandLines takes true (Some h) old withheld (Some g) new withheld' end
+    → (end ≡ None) ⊎ ((end ≡ Some ends.Quit) ⊎ (is_broken end ≡ true)) → TakesHandLines takes (Some h) old withheld (Some g) new withheld' end
 hand_lines takes h g old new withheld withheld' taken end x asks head closes is = record {
   lines = x.lines;
   held = x.held;
   behind = x.behind;
   answers = x.answers;
-  goes = λ sound. (refl, asks, head, closes, x.these);
+  goes = (asks, head, closes, x.these);
   ends = is;
 }
 
-pub no_lines_taken : {D : Type 0} (takes : D → Ask → Withheld → D → Type 0) (is_read : Bool) (desk : D) (withheld : List Withheld) (end : Option End)
-    → (is_broken end ≡ false → is_read ≡ true) → (end ≡ None) ⊎ ((end ≡ Some ends.Quit) ⊎ (is_broken end ≡ true))
-    → TakesHandLines takes is_read None desk withheld None desk withheld end
-no_lines_taken takes is_read desk withheld end sound is = record {
+pub no_lines_taken : {D : Type 0} (takes : D → Ask → Withheld → D → Type 0) (desk : D) (withheld : List Withheld) → TakesHandLines takes None desk withheld None desk withheld None
+no_lines_taken takes desk withheld = record {
   lines = [];
   held = [];
   behind = sym (append-nil withheld);
   answers = refl;
-  goes = λ whole. (sound whole, refl, refl);
-  ends = is;
-}
-
-pub not_read : {D : Type 0} (takes : D → Ask → Withheld → D → Type 0) (hand : Option Hand) (desk : D) (withheld : List Withheld)
-    → TakesHandLines takes false hand desk withheld hand desk withheld (Some ends.Memory)
-not_read takes hand desk withheld = record {
-  lines = [];
-  held = [];
-  behind = sym (append-nil withheld);
-  answers = refl;
-  goes = λ sound. absurd (cc sound);
-  ends = inr (inr refl);
+  goes = (refl, refl);
+  ends = inl refl;
 }

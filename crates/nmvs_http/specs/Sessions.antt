@@ -129,13 +129,13 @@ GoesOnHand (Some h) None lines = ⊥
 GoesOnHand (Some h) (Some h') lines =
     (h'.asks ≡ h.asks) × (h'.head_alone ≡ h.head_alone) × (h.stays ≡ false → h'.stays ≡ false) × (h.lines ≡ lines ++ h'.lines)
 
--- lines of the request in hand were taken, where it was read
-pub record TakesHandLines {D : Type 0} (takes : D → Ask → Withheld → D → Type 0) (is_read : Bool) (hand : Option Hand) (old : D) (withheld : List Withheld) (hand' : Option Hand) (new : D) (withheld' : List Withheld) (end : Option End) : Type 0 where
+-- lines of the request in hand were taken
+pub record TakesHandLines {D : Type 0} (takes : D → Ask → Withheld → D → Type 0) (hand : Option Hand) (old : D) (withheld : List Withheld) (hand' : Option Hand) (new : D) (withheld' : List Withheld) (end : Option End) : Type 0 where
   pub lines : List (List ℕ)
   pub held : List Withheld
   pub behind : withheld' ≡ withheld ++ held
   pub answers : TakesLines takes old lines held new
-  pub goes : is_broken end ≡ false → (is_read ≡ true) × GoesOnHand hand hand' lines
+  pub goes : GoesOnHand hand hand' lines
   pub ends : (end ≡ None) ⊎ ((end ≡ Some ends.Quit) ⊎ (is_broken end ≡ true))
 
 -- an invitation was told, or none
@@ -160,6 +160,7 @@ Responds hand hand' gathered gathered' told told' sink sink' responses.Unfinishe
     (hand' ≡ hand) × (gathered' ≡ gathered) × (told' ≡ told) × (sink' ≡ sink)
 Responds hand hand' gathered gathered' told told' sink sink' responses.Stays = RespondsTo true hand hand' gathered gathered' told told' sink sink'
 Responds hand hand' gathered gathered' told told' sink sink' responses.Closes = RespondsTo false hand hand' gathered gathered' told told' sink sink'
+Responds hand hand' gathered gathered' told told' sink sink' responses.Lost = ⊥
 Responds hand hand' gathered gathered' told told' sink sink' responses.Failed =
     (told' ≡ told) × ((h : Hand) × (hand ≡ Some h) × DeliversPart sink sink' (response_text h.asks h.head_alone h.stays gathered))
 

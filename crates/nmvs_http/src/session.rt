@@ -1,5 +1,5 @@
 //! A session over HTTP that is fed bytes.
-ghost use Rattle.std.specs.Prelude.{◌≡◌, ◌≢◌, ◌≤◌, ◌↔◌, ◌++◌, [], None, Some, IsTrue, OnOk, OnErr, IsSome, length, take, true, false};
+ghost use Rattle.std.specs.Prelude.{◌≡◌, ◌≤◌, ◌↔◌, ◌⊎◌, ◌++◌, [], None, Some, IsTrue, OnOk, OnErr, IsSome, length, take, true, false};
 ghost use Rattle.http_server.specs.declared.state.State.TheVariants as states;
 ghost use Rattle.nmvs_stream.specs.Delivery.{DeliversPart};
 ghost use Rattle.nmvs_stream.specs.InputLines.{input_lines};
@@ -124,9 +124,21 @@ impl HttpSession {
     {
         let first = withheld.len();
         let bytes = self.stream.feed(more);
-        let whole = bytes == more.len();
-        let is_read = read_hand(whole, &mut self.stream, &mut self.hand, &mut self.invites);
-        let end = take_lines(&mut self.hand, is_read, withheld, from, desk);
+        if bytes < more.len() {
+            self.end = Some(End::Memory);
+            return Taking {
+                bytes,
+                end: self.end,
+            };
+        }
+        if !read_hand(&mut self.stream, &mut self.hand, &mut self.invites) {
+            self.end = Some(End::Memory);
+            return Taking {
+                bytes,
+                end: self.end,
+            };
+        }
+        let end = take_lines(&mut self.hand, withheld, from, desk);
         self.waiting = withheld.len() - first;
         self.end = end;
         Taking { bytes, end }
@@ -146,42 +158,29 @@ impl HttpSession {
         ensures tells { TellsSession (W.taken sink.old) (W.taken sink.new) self.old self.new }
     {
         if self.hand.is_none() && self.end.is_some() {
-            self.waiting = 0;
             return self.end;
         }
-        match invite(&mut self.invites, &mut self.told, sink) {
-            Ok(()) => {}
-            Err(Failed) => return self.break_off(End::WriteFault),
-        }
-        if !gather(alloc, released, &mut self.gathered) {
-            return self.break_off(End::Memory);
-        }
         self.waiting = 0;
-        match respond(&mut self.hand, &mut self.gathered, &mut self.told, sink) {
-            Response::Unfinished => self.end,
-            Response::Failed => self.break_off(End::WriteFault),
-            Response::Closes => {
-                self.end = Some(End::Quit);
-                self.end
-            }
+        let told = tell_hand(
+            alloc,
+            released,
+            &mut self.invites,
+            &mut self.hand,
+            &mut self.gathered,
+            &mut self.told,
+            sink,
+        );
+        match told {
+            Response::Unfinished => {}
+            Response::Failed => self.end = Some(End::WriteFault),
+            Response::Lost => self.end = Some(End::Memory),
+            Response::Closes => self.end = Some(End::Quit),
             Response::Stays => {
-                if !read_hand(true, &mut self.stream, &mut self.hand, &mut self.invites) {
-                    return self.break_off(End::Memory);
+                if !read_hand(&mut self.stream, &mut self.hand, &mut self.invites) {
+                    self.end = Some(End::Memory);
                 }
-                self.end
             }
         }
-    }
-}
-
-impl HttpSession {
-    /// Ends the session so, whatever it waits for.
-    fn break_off(&mut self, end: End) -> Option<End>
-        requires { is_broken (Some end) ≡ true }
-        ensures { (result ≡ Some end) × (self.new ≡ record self.old { waiting = 0; ended = Some end }) }
-    {
-        self.waiting = 0;
-        self.end = Some(end);
         self.end
     }
 }
@@ -197,6 +196,8 @@ pub(crate) enum Response {
     Closes,
     /// A write failed.
     Failed,
+    /// There was no memory for the replies.
+    Lost,
 }
 
 impl Hand {
@@ -230,19 +231,11 @@ impl Hand {
     }
 }
 
-/// Reads the next request, where these bytes were fed whole and none is in hand, and tells whether there was memory for all.
-fn read_hand(
-    whole: bool,
-    stream: &mut RequestStream,
-    hand: &mut Option<Hand>,
-    invites: &mut bool,
-) -> bool
+/// Reads the next request, where none is in hand, and tells whether there was memory for it.
+fn read_hand(stream: &mut RequestStream, hand: &mut Option<Hand>, invites: &mut bool) -> bool
     ensures fed { stream.new.fed ≡ stream.old.fed }
     ensures reads { result ≡ true → ReadsHand stream.old stream.new hand.old hand.new }
 {
-    if !whole {
-        return false;
-    }
     if hand.is_some() {
         return true;
     }
@@ -267,16 +260,12 @@ fn read_hand(
 /// Takes lines of the request in hand, and tells how the session ends once its response is told, where it does.
 fn take_lines<'a, D: Desk<'a>>(
     hand: &mut Option<Hand>,
-    is_read: bool,
     withheld: &mut WithheldAnswers<'a>,
     from: &Peer,
     desk: &mut D,
 ) -> Option<End>
-    ensures { TakesHandLines (TakesFrom D.takes from.now) is_read hand.old desk.old withheld.old hand.new desk.new withheld.new result }
+    ensures { TakesHandLines (TakesFrom D.takes from.now) hand.old desk.old withheld.old hand.new desk.new withheld.new result }
 {
-    if !is_read {
-        return Some(End::Memory);
-    }
     match hand {
         Some(hand) => take_hand_lines(hand, withheld, from, desk),
         None => None,
@@ -290,20 +279,51 @@ fn take_hand_lines<'a, D: Desk<'a>>(
     from: &Peer,
     desk: &mut D,
 ) -> Option<End>
-    ensures { TakesHandLines (TakesFrom D.takes from.now) true (Some hand.old) desk.old withheld.old (Some hand.new) desk.new withheld.new result }
+    ensures { TakesHandLines (TakesFrom D.takes from.now) (Some hand.old) desk.old withheld.old (Some hand.new) desk.new withheld.new result }
 {
-    match hand.lines.take(withheld, from, desk) {
-        None => {}
-        Some(End::Quit) => {
-            hand.stays = false;
-            return Some(End::Quit);
-        }
-        Some(_) => return Some(End::Memory),
+    let end = hand.lines.take(withheld, from, desk);
+    hand.stays = stays_behind(hand.stays, end);
+    end_behind(end, hand.lines.are_taken(), hand.stays)
+}
+
+/// Whether a connection stays behind lines that ended a session so, or did not.
+fn stays_behind(stays: bool, end: Option<End>) -> bool
+    ensures { stays ≡ false → result ≡ false }
+{
+    stays && end.is_none()
+}
+
+/// How the session ends behind lines that ended so, whether all lines are taken, and whether the connection stays.
+fn end_behind(end: Option<End>, are_taken: bool, stays: bool) -> Option<End>
+    ensures { (result ≡ None) ⊎ ((result ≡ Some End.Quit) ⊎ (is_broken result ≡ true)) }
+{
+    match end {
+        Some(End::Quit) => Some(End::Quit),
+        Some(_) => Some(End::Memory),
+        None if are_taken && !stays => Some(End::Quit),
+        None => None,
     }
-    if hand.lines.are_taken() && !hand.stays {
-        return Some(End::Quit);
+}
+
+/// Invites a peer that waits for that, gathers the texts of answers to the request in hand, and writes its response once no line
+/// of it is left to be taken.
+fn tell_hand<W: Sink>(
+    alloc: Global,
+    released: Released<'_, '_>,
+    invites: &mut bool,
+    hand: &mut Option<Hand>,
+    gathered: &mut Gathered,
+    told: &mut Tag,
+    sink: &mut W,
+) -> Response {
+    match invite(invites, told, sink) {
+        Ok(()) => {}
+        Err(Failed) => return Response::Failed,
     }
-    None
+    if !gather(alloc, released, gathered) {
+        return Response::Lost;
+    }
+    respond(hand, gathered, told, sink)
 }
 
 /// Invites the peer to send the body of its request, where it waits for that.
