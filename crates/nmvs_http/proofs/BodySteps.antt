@@ -1,8 +1,8 @@
 -- How lines of a body are taken.
-use Rattle.std.proofs.Common.{◌==◌, Bool, true, false, ◌≡◌, ◌≢◌, ◌≤◌, ◌<◌, ◌+◌, ◌-◌, ◌∙◌, ℕ, List, [], ◌∷◌, ◌++◌, Option, Some, None, length, take, drop, refl, sym, ap, subst, arith, length-drop}
+use Rattle.std.proofs.Common.{◌==◌, Bool, true, false, ◌≡◌, ◌≢◌, ◌≤◌, ◌<◌, ◌+◌, ◌-◌, ◌∙◌, ℕ, zero, suc, List, [], ◌∷◌, ◌++◌, Option, Some, None, length, take, drop, refl, sym, ap, subst, arith, length-drop}
 use Rattle.std.proofs.lemmas.Bool.{eqb-true, eqb-false}
 use Rattle.std.proofs.lemmas.List.{append-nil}
-use Rattle.nmvs_stream.specs.InputLines.{lines_after, rest_after, unfinished_line}
+use Rattle.nmvs_stream.specs.InputLines.{input_lines, lines_after, rest_after, unfinished_line}
 use Rattle.nmvs_messages.specs.declared.ask.Ask.{Ask}
 use Rattle.nmvs_messages.specs.declared.end.End.{End}
 use Rattle.nmvs_messages.specs.declared.end.End.TheVariants as ends
@@ -117,3 +117,36 @@ some_left body rest taken b these is_empty some =
     let there = eqb-false (length rest) 0 (sym is_empty ∙ some) in
     let n = ap (λ (t : List ℕ). length t) these ∙ length-drop taken body in
     omega (arith, n, there)
+
+take_zero : (xs : List ℕ) → take 0 xs ≡ []
+take_zero [] = refl
+take_zero (x ∷ xs) = refl
+
+drop_zero : (xs : List ℕ) → drop 0 xs ≡ xs
+drop_zero [] = refl
+drop_zero (x ∷ xs) = refl
+
+take_nothing : (n : ℕ) → take {A = ℕ} n [] ≡ []
+take_nothing zero = refl
+take_nothing (suc n) = refl
+
+-- a body of which nothing was taken
+pub begins : (body : List ℕ) → lines_left body 0 ≡ up_to_quit (input_lines body)
+unfolding rest_after
+begins body = λ i. up_to_quit (lines_after (unfinished_line (take_zero body i)) (drop_zero body i))
+
+none_kept : (body : List ℕ) → kept_part (unfinished_line (take 0 body)) ≡ []
+unfolding rest_after
+none_kept body = ap (λ (t : List ℕ). kept_part (unfinished_line t)) (take_zero body) ∙ take_nothing 201
+
+pub stands_at_first : (body line : List ℕ) (answered limit : ℕ) → line ≡ [] → answered ≡ 0 → GoesOn body 0 line answered limit
+stands_at_first body line answered limit none zero_answered = record {
+  within = omega arith;
+  begun = λ _. (none ∙ sym (none_kept body), omega (arith, zero_answered));
+}
+
+-- the bytes that were taken fit
+pub taken_fits : (body rest : List ℕ) (taken count room : ℕ) → rest ≡ drop taken body → count ≤ length rest → taken ≤ length body → length body < room → taken + count < room
+taken_fits body rest taken count room these within fits bound =
+    let n = ap (λ (t : List ℕ). length t) these ∙ length-drop taken body in
+    omega (arith, n, within, fits, bound)

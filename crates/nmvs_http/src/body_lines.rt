@@ -59,13 +59,14 @@ impl BodyLines {
     ) -> Option<End>
         ensures { TakesBody (TakesFrom D.takes from.now) self.old desk.old withheld.old self.new desk.new withheld.new result }
     {
+        let count = self.body.len();
         let rest = left_of(&self.body, self.taken);
         if rest.is_empty() {
             return None;
         }
         let Taking { bytes, end } = self.session.take(rest, withheld, from, desk);
         if is_quit(end) {
-            self.taken = self.body.len();
+            self.taken = count;
             return end;
         }
         self.taken += bytes;
