@@ -145,8 +145,8 @@ stands_at_first body line answered limit none zero_answered = record {
   begun = λ _. (none ∙ sym (none_kept body), omega (arith, zero_answered));
 }
 
--- the bytes that were taken fit
-pub taken_fits : (body rest : List ℕ) (taken count room : ℕ) → rest ≡ drop taken body → count ≤ length rest → taken ≤ length body → length body < room → taken + count < room
-taken_fits body rest taken count room these within fits bound =
+-- no more bytes are taken than there are
+pub taken_fits : (body rest : List ℕ) (taken count : ℕ) → rest ≡ drop taken body → count ≤ length rest → taken ≤ length body → taken + count ≤ length body
+taken_fits body rest taken count these within fits =
     let n = ap (λ (t : List ℕ). length t) these ∙ length-drop taken body in
-    omega (arith, n, within, fits, bound)
+    omega (arith, n, within, fits)

@@ -1,4 +1,4 @@
-use Rattle.std.proofs.Common.{◌≡◌, ◌≢◌, ◌≤◌, ◌+◌, ◌∙◌, ℕ, List, Option, Some, None, length, take, drop, sym, subst}
+use Rattle.std.proofs.Common.{arith, ◌≡◌, ◌≢◌, ◌≤◌, ◌+◌, ◌∙◌, ℕ, List, Option, Some, None, length, take, drop, sym, subst}
 use Rattle.nmvs_stream.specs.InputLines.{unfinished_line}
 use Rattle.nmvs_messages.specs.declared.end.End.{End}
 use Rattle.nmvs_messages.specs.declared.end.End.TheVariants as ends
@@ -75,5 +75,7 @@ invariant_of-self g c =
 
 pub overflow_add-self : goal.overflow_add-self
 overflow_add-self g c =
-    taken_fits c.self.inside.body c.left_of-rest.result.now c.self.inside.taken c.take-bytes.result.bytes _ c.left_of-rest.ensures c.take-bytes.ensures.within c.self.invariant.within
-    (rw (← c.len-count.ensures.value) c.len-count.type_inv)
+    let fits = taken_fits c.self.inside.body c.left_of-rest.result.now c.self.inside.taken c.take-bytes.result.bytes c.left_of-rest.ensures c.take-bytes.ensures.within c.self.invariant.within in
+    let count = c.len-count.ensures.value in
+    let bound = c.len-count.type_inv in
+    omega (arith, fits, count, bound)
