@@ -13,4 +13,5 @@ mod told;
 
 pub use asked::Asks;
 pub use fault::Fault;
+pub use response::write_refusal;
 pub use session::HttpSession;

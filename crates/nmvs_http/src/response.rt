@@ -1,5 +1,5 @@
 //! The texts of responses.
-ghost use Rattle.std.specs.Prelude.{◌≡◌, ◌++◌, [], if◌then◌else◌, OnOk, OnErr};
+ghost use Rattle.std.specs.Prelude.{◌≡◌, ◌++◌, [], false, if◌then◌else◌, OnOk, OnErr};
 ghost use Rattle.nmvs_stream.specs.Delivery.{Writes, DeliversPart};
 ghost use Rattle.nmvs_http.specs.Responses as specs;
 
@@ -11,16 +11,20 @@ use nmvs_stream::{Failed, Sink, write_all};
 /// What a peer is told that waits with the body of its request (RFC 9110, section 15.2.1).
 const CONTINUE: &[u8] = b"HTTP/1.1 100 Continue\r\n\r\n";
 
-/// The last words to a peer whose request has not come whole in time, and to one that is not served.
-pub const TIMED_OUT: &[u8] =
-    b"HTTP/1.1 408 Request Timeout\r\ncontent-type: application/problem+json\r\ncache-control: no-store\r\nconnection: close\r\ncontent-length: 93\r\n\r\n{\"type\":\"about:blank\",\"title\":\"Request Timeout\",\"status\":408,\"fault\":\"TIMEOUT\",\"recorded\":\"no\"}\n";
-
 /// Invites the peer to send the body.
 pub(crate) fn write_invitation<W: Sink>(sink: &mut W) -> Result<(), Failed>
     ensures ok { OnOk result (Writes (W.taken sink.old) (W.taken sink.new) specs.invitation_text) }
     ensures err { OnErr result (DeliversPart (W.taken sink.old) (W.taken sink.new) specs.invitation_text) }
 {
     write_all(sink, CONTINUE)
+}
+
+/// Refuses for this fault what came of a request, as the last words to a peer: where it has not come whole in time, say.
+pub fn write_refusal<W: Sink>(sink: &mut W, fault: Fault) -> Result<(), Failed>
+    ensures ok { OnOk result (Writes (W.taken sink.old) (W.taken sink.new) (specs.response_text (Asks.Refused fault) false false [])) }
+    ensures err { OnErr result (DeliversPart (W.taken sink.old) (W.taken sink.new) (specs.response_text (Asks.Refused fault) false false [])) }
+{
+    write_response(sink, Asks::Refused(fault), false, false, b"")
 }
 
 /// Writes the response to what was asked, with the replies that were gathered for it.
