@@ -151,7 +151,7 @@ impl HttpSession {
         released: Released<'_, '_>,
         sink: &mut W,
     ) -> Option<End>
-        requires part { length released ≡ self.old.waiting }
+        requires part { length released.entry ≡ self.old.waiting }
         ensures fed { self.new.fed ≡ self.old.fed }
         ensures ended { result ≡ self.new.ended }
         ensures waits { self.new.waiting ≡ 0 }
@@ -342,7 +342,7 @@ fn invite<W: Sink>(invites: &mut bool, told: &mut Tag, sink: &mut W) -> Result<(
 
 /// Gathers the texts of answers, and tells whether there was memory for them.
 fn gather(alloc: Global, released: Released<'_, '_>, gathered: &mut Gathered) -> bool
-    ensures { result ≡ true → gathered.new.bytes.items ≡ gathered.old.bytes.items ++ session_text released }
+    ensures { result ≡ true → gathered.new.bytes.items ≡ gathered.old.bytes.items ++ session_text released.entry }
 {
     write_texts(alloc, released, gathered).is_none()
 }
