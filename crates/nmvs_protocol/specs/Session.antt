@@ -165,6 +165,10 @@ abbrev pub is_write_fault : End → Bool
 is_write_fault ends.WriteFault = true
 is_write_fault _ = false
 
+-- how far a session goes that no connection carries: 10,000 lines, and 4,000,000 reads (own)
+abbrev pub session_limits : Limits
+session_limits = record { lines = 10000; reads = 4000000 }
+
 -- a session that ended so, with the desk, the source and the sink before and after
 pub record Session {D : Type 0} (takes : D → Ask → Withheld → D → Type 0) (releases : D → D → Withheld → Answer → Type 0) (moves : D → D → Type 0) (limits : Limits) (desk : D) (source : Told) (sink : Taken) (desk' : D) (source' : Told) (sink' : Taken) (end : End) : Type 0 where
   -- these bytes were read

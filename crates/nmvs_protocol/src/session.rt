@@ -186,7 +186,7 @@ fn take_line<'a, D: Desk<'a>>(line: &[u8], from: &Peer, desk: &mut D) -> (Withhe
     (withheld, is_quit(&reading))
 }
 
-/// The answer to what was read. The desk is asked all but PING, VERSION and QUIT.
+/// The answer to what was read. PING, VERSION and QUIT are answered without the desk.
 fn answer<'a, D: Desk<'a>>(
     reading: &Result<Line, Unread>,
     from: &Peer,

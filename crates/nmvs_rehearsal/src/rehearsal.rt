@@ -2,7 +2,7 @@
 ghost use Rattle.nmvs_messages.specs.declared.answer.Content.TheVariants.{Replied};
 ghost use Rattle.std.specs.Prelude.{◌≡◌, ◌<◌, ◌∷◌, [], length};
 ghost use Rattle.nmvs_messages.specs.Withheld.{AtOnce, Stays};
-ghost use Rattle.nmvs_protocol.specs.Session.{Session};
+ghost use Rattle.nmvs_protocol.specs.Session.{session_limits, Session};
 ghost use Rattle.nmvs_stream.specs.Console.{IsFresh};
 ghost use Rattle.nmvs_rehearsal.specs.Rehearsal.{Rehearsal, Takes};
 
@@ -38,7 +38,7 @@ pub fn rehearse<R: Source, W: Sink>(
 ) -> End
     requires moments { 0 < length moments.now }
     requires fresh { IsFresh (R.told source.old) (W.taken sink.old) }
-    ensures { (last : Rehearsal) × Session Takes AtOnce Stays SESSION_LIMITS
+    ensures { (last : Rehearsal) × Session Takes AtOnce Stays session_limits
         (record { trail = []; moments = moments.now }) (R.told source.old) (W.taken sink.old)
         last (R.told source.new) (W.taken sink.new) result }
 {
@@ -60,7 +60,7 @@ pub fn rehearse<R: Source, W: Sink>(
 /// The rehearsal of a program: each of its lines is judged at 1 January 2026, 00:00:00 UTC (own).
 pub fn rehearse_at_new_year<R: Source, W: Sink>(alloc: Global, source: &mut R, sink: &mut W) -> End
     requires { IsFresh (R.told source.old) (W.taken sink.old) }
-    ensures { (last : Rehearsal) × Session Takes AtOnce Stays SESSION_LIMITS
+    ensures { (last : Rehearsal) × Session Takes AtOnce Stays session_limits
         (record { trail = []; moments = 1_767_225_600 ∷ [] }) (R.told source.old) (W.taken sink.old)
         last (R.told source.new) (W.taken sink.new) result }
 {

@@ -39,7 +39,7 @@ module _ {X : Type 0} (p c : X → Bool) (within : (x : X) → p x ≡ true → 
       by true false h k rest = let both : true ≡ false = sym (within x h) ∙ k in cc
       by false false h k rest = rw (k, h) rest
 
-  list_any-filter : (xs : List X) → list_any p (filter c xs) ≡ list_any p xs
+  pub list_any-filter : (xs : List X) → list_any p (filter c xs) ≡ list_any p xs
   list_any-filter [] = refl
   list_any-filter (x ∷ xs) = by (p x) (c x) refl refl (list_any-filter xs)
     where
@@ -48,7 +48,7 @@ module _ {X : Type 0} (p c : X → Bool) (within : (x : X) → p x ≡ true → 
       by true false h k rest = let both : true ≡ false = sym (within x h) ∙ k in cc
       by false false h k rest = rw (k, h) rest
 
-  count_by-filter : (xs : List X) → count_by p (filter c xs) ≡ count_by p xs
+  pub count_by-filter : (xs : List X) → count_by p (filter c xs) ≡ count_by p xs
   count_by-filter [] = refl
   count_by-filter (x ∷ xs) = by (p x) (c x) refl refl (count_by-filter xs)
     where

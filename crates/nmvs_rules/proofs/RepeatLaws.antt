@@ -185,11 +185,7 @@ passes-after p xs (y ∷ ys) h =
     passing true h = refl
     passing false h = cc
 
--- the last entry with a tag, behind which fewer than 16 others are about the pack, is the one that is found
-module _ (u v : List Entry) (e : Entry) (p : Pack) (user : Name) (g : Tag) (tagged : is_tagged p user g e ≡ true) (last : list_any (is_tagged p user g) v ≡ false) where
-  abbrev Trail : List Entry
-  Trail = u ++ e ∷ v
-
+module _ (p : Pack) (user : Name) (g : Tag) where
   abbrev Missed : Entry → Bool
   Missed x = not (is_tagged p user g x)
 
@@ -199,16 +195,23 @@ module _ (u v : List Entry) (e : Entry) (p : Pack) (user : Name) (g : Tag) (tagg
       let both = neither (is_tagged p user g x) (list_any (is_tagged p user g) xs) h in
       (λ i. not (not (both.0 i)) || list_any (λ x. not (Missed x)) xs) ∙ none-missed xs both.1
 
-  run : suffix_len Missed Trail ≡ length v
-  run =
-      let here : suffix_len Missed (u ++ e ∷ []) ≡ 0 = suffix_len-push Missed u e ∙ ap (λ c. cond (not c) (1 + suffix_len Missed u) 0) tagged in
-      omega (arith, ap (suffix_len Missed) (append_assoc u (e ∷ []) v), passes-after Missed (u ++ e ∷ []) v (none-missed v last), here)
+  -- no entry with a tag is found where there is none
+  pub found-none : (t : List Entry) → list_any (is_tagged p user g) t ≡ false → place_tagged t p user g ≡ None
+  found-none t none =
+      let all = passes-after Missed [] t (none-missed t none) in
+      let at : last_tagged t p user g ≡ 0 = omega (arith, all) in
+      ap (place_up_to t p) at
 
-  pub found-last : nat_lt (about_of v p) entries_looked_over ≡ true → place_tagged Trail p user g ≡ Some (length u)
-  found-last few =
-      let at : last_tagged Trail p user g ≡ suc (length u) = omega (arith, run, length-append u (e ∷ v)) in
-      ap (place_up_to Trail p) at ∙ ap (λ t. cond (nat_lt (about_of t p) entries_looked_over) (Some (length u)) None) (rest-at u v e)
-      ∙ ap (λ c. cond c (Some (length u)) None) few
+  -- and else the last one, where fewer than 16 others behind it are about the pack
+  pub found-last : (u v : List Entry) (e : Entry) → is_tagged p user g e ≡ true → list_any (is_tagged p user g) v ≡ false
+      → place_tagged (u ++ e ∷ v) p user g ≡ cond (nat_lt (about_of v p) entries_looked_over) (Some (length u)) None
+  found-last u v e tagged last =
+      let here : suffix_len Missed (u ++ e ∷ []) ≡ 0 = suffix_len-push Missed u e ∙ ap (λ c. cond (not c) (1 + suffix_len Missed u) 0) tagged in
+      let run : suffix_len Missed (u ++ e ∷ v) ≡ length v =
+      omega (arith, ap (suffix_len Missed) (append_assoc u (e ∷ []) v), passes-after Missed (u ++ e ∷ []) v (none-missed v last), here) in
+      let at : last_tagged (u ++ e ∷ v) p user g ≡ suc (length u) = omega (arith, run, length-append u (e ∷ v)) in
+      ap (place_up_to (u ++ e ∷ v) p) at
+      ∙ ap (λ (t : List Entry). cond (nat_lt (about_of t p) entries_looked_over) (Some (length u)) None) (rest-at u v e)
 
 -- a question within a day of an entry whose reply lasts is not new beside it
 beside-known : (q : Put) (place : ℕ) (e : Entry) → is_in_day e.put.moment q.moment ≡ true → tells_state e.reply ≡ false → beside q place e ≡ repeat.New → ⊥
@@ -244,7 +247,7 @@ at-most-once u v w e f p user g new first second last lasting day = late (nat_lt
     late : (b : Bool) → nat_lt (about_of v p) entries_looked_over ≡ b → 16 ≤ about_of v p
     late true few =
         let told : repeat_at t f.put (place_tagged t p user g) ≡ beside f.put (length u) e =
-        ap (repeat_at t f.put) (found-last u v e p user g first last few) ∙ ap (λ o. option_map_or (beside f.put (length u)) o repeat.New) (at-split u v e) in
+        ap (repeat_at t f.put) (found-last p user g u v e first last ∙ ap (λ c. cond c (Some (length u)) None) few) ∙ ap (λ o. option_map_or (beside f.put (length u)) o repeat.New) (at-split u v e) in
         let asked = (AreNewAfter-rest [] (u ++ e ∷ v) (f ∷ w) new).0 in
         absurd (beside-known f.put (length u) e (in-day e.put.moment f.put.moment day) lasting (sym told ∙ sym is ∙ asked))
     late false many = grind (arith, nat_tests)
@@ -261,7 +264,7 @@ answered-again u v e p g moment named tag last few lasting day =
     let tests : nat_lt (about_of v p) entries_looked_over ≡ true = grind (arith, nat_tests) in
     let same : asks_same q e.put ≡ true = both_true (same_actor-refl e.put.actor) (same_question-refl e.put.question) in
     (λ i. repeat_by t q (named i) (tag i))
-    ∙ ap (repeat_at t q) (found-last u v e p e.put.user g tagged last tests)
+    ∙ ap (repeat_at t q) (found-last p e.put.user g u v e tagged last ∙ ap (λ c. cond c (Some (length u)) None) tests)
     ∙ ap (λ o. option_map_or (beside q (length u)) o repeat.New) (at-split u v e)
     ∙ ap (λ c. cond c (cond (asks_same q e.put) (beside_same (length u) e) repeat.Other) repeat.New) (in-day e.put.moment moment day)
     ∙ ap (λ c. cond c (beside_same (length u) e) repeat.Other) same
