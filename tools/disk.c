@@ -7,7 +7,7 @@
  * DISK_NUMBER   which one of them, from 1 on
  * DISK_FAULT    how it fails: ENOSPC or EIO; of a write also TORN, where half of it is written first, and SHORT, where half of
  *               it is written and told as all that was
- * DISK_DELAY    microseconds that each sync takes longer
+ * DISK_DELAY    microseconds that each sync takes longer; with the fault SLOW the sync of this number alone, which does not fail
  *
  * The notes are five counts of calls, one a kind, and then for each file its name (120 bytes) and its length when the last
  * sync of it that succeeded began (8 bytes); of a folder 1. The folder itself has the name ".". */
@@ -108,13 +108,21 @@ ssize_t write(int fd, const void *bytes, size_t size) {
     return -1;
 }
 
+static void be_late(void) {
+    if (delay) nanosleep(&(struct timespec){delay / 1000000, delay % 1000000 * 1000}, NULL);
+}
+
 static int synced(int fd, int (*real)(int)) {
     char path[PATH_MAX];
     struct stat before = {0};
     const char *name = name_of(fd, path);
-    if (delay) nanosleep(&(struct timespec){delay / 1000000, delay % 1000000 * 1000}, NULL);
+    int slow = !strcmp(fault, "SLOW");
+    if (!slow) be_late();
     if (!name) return real(fd);
-    if (fails(SYNC)) return -1;
+    if (fails(SYNC)) {
+        if (!slow) return -1;
+        be_late();
+    }
     fstat(fd, &before);
     int failed = real(fd);
     if (!failed) note(name, S_ISREG(before.st_mode) ? before.st_size : 1);

@@ -24,8 +24,8 @@ use nmvs_shard::{Answered, Outcome, Shard};
 use nmvs_words::cause_word;
 use std::alloc::{AllocError, Global};
 use std::marker::Model;
+use std::rt;
 use std::sync::{Mutex, Wait};
-use std::{io, rt};
 
 /// Answers lines by a clerk of a repository, at the moments of a clock, which it asks once a line. A line is admitted first.
 /// Before that the clerk learns the latest notice (own).
@@ -218,23 +218,22 @@ impl<'r, 'a, R: Wait + rt::Clock + Log, J: Naming, H: Histories, K: Clock> Clerk
     ghost use Rattle.nmvs_journal.specs.Told.{IsTold, IsWithin};
     ghost use Rattle.nmvs_reception.specs.Desk.{LetsGo};
 
-    /// Releases answers by the log of the repository, once it has confirmed what they rest on. It tells why the log failed,
-    /// where it failed meanwhile.
+    /// Releases answers by the log of the repository, once it has confirmed what they rest on.
     pub(crate) fn release_by<'h, D: Store + Drop, L: LogName>(
         &mut self,
         log: &CommitLog<'_, 'a, D, H, L>,
         reach: &mut Reach,
         confirmed: &mut Confirmed<L>,
         withheld: &'h mut WithheldAnswers<'a>,
-    ) -> (Released<'h, 'a>, Option<io::Error>)
+    ) -> Released<'h, 'a>
         ensures reach { (sights : List (List TheEntry)) → IsWithin reach.new sights }
-        ensures released { AreReleased (IsTold H.shards confirmed.new self.old.clerk.sights) withheld.old result.0 }
+        ensures released { AreReleased (IsTold H.shards confirmed.new self.old.clerk.sights) withheld.old result }
         ensures longer { IsPrefix confirmed.old confirmed.new }
         ensures moves { LetsGo self.old self.new }
     {
-        let (released, waited) = log.release(self.rt, &mut self.clerk, reach, confirmed, withheld);
-        note_confirmed(&self.metrics, &waited.counts);
-        (released, waited.failure)
+        let (released, counts) = log.release(self.rt, &mut self.clerk, reach, confirmed, withheld);
+        note_confirmed(&self.metrics, &counts);
+        released
     }
 }
 

@@ -1,7 +1,7 @@
 //! The program's desk where answers wait for the log.
 ghost use Rattle.std.specs.Prelude.{◌≡◌};
 
-use crate::{Alarm, ClerkDesk, Clock};
+use crate::{ClerkDesk, Clock};
 use log::Log;
 use nmvs_desk::Clerk;
 use nmvs_directory::Naming;
@@ -9,11 +9,11 @@ use nmvs_history::Histories;
 use nmvs_journal::{CommitLog, Confirmed, LogName, Reach, Store};
 use nmvs_messages::{Ask, Desk, Peer, Released, Withheld, WithheldAnswers};
 use std::marker::Model;
+use std::rt;
 use std::sync::Wait;
-use std::{io, rt};
 
 /// Answers lines as a clerk's desk does, and lets an answer go only once the log of the repository has confirmed the entries
-/// on which it rests. The clerk's receipts are let go then. An alarm is told where the log fails meanwhile (own).
+/// on which it rests. The clerk's receipts are let go then (own).
 ///
 /// Contracts see the clerk's desk, and the trail that this desk knows to be confirmed.
 #[derive(Drop)]
@@ -28,28 +28,15 @@ pub struct JournalDesk<
     K: Clock,
     D: Store,
     L: LogName,
-    W: Alarm,
 > {
     desk: ClerkDesk<'r, 'a, R, J, H, K>,
     log: &'v CommitLog<'f, 'a, D, H, L>,
     reach: Reach,
     confirmed: Confirmed<L>,
-    alarm: W,
 }
 
-impl<
-    'r,
-    'v,
-    'f,
-    'a,
-    R: Wait,
-    J: Naming,
-    H: Histories,
-    K: Clock,
-    D: Store,
-    L: LogName,
-    W: Alarm,
-> Model for JournalDesk<'r, 'v, 'f, 'a, R, J, H, K, D, L, W> {
+impl<'r, 'v, 'f, 'a, R: Wait, J: Naming, H: Histories, K: Clock, D: Store, L: LogName> Model
+    for JournalDesk<'r, 'v, 'f, 'a, R, J, H, K, D, L> {
     ghost use Rattle.nmvs_journal.specs.Told.{IsWithin};
     ghost use Rattle.nmvs_reception.specs.Desk.{WaitingView};
 
@@ -71,15 +58,13 @@ impl<
     K: Clock,
     D: Store + Drop,
     L: LogName,
-    W: Alarm,
-> JournalDesk<'r, 'v, 'f, 'a, R, J, H, K, D, L, W> {
-    /// A desk over a clerk's, the log of its repository, what that has confirmed, and an alarm.
+> JournalDesk<'r, 'v, 'f, 'a, R, J, H, K, D, L> {
+    /// A desk over a clerk's, the log of its repository, and what that has confirmed.
     pub fn new(
         desk: ClerkDesk<'r, 'a, R, J, H, K>,
         log: &'v CommitLog<'f, 'a, D, H, L>,
         confirmed: Confirmed<L>,
-        alarm: W,
-    ) -> JournalDesk<'r, 'v, 'f, 'a, R, J, H, K, D, L, W>
+    ) -> JournalDesk<'r, 'v, 'f, 'a, R, J, H, K, D, L>
         ensures { result ≡ record { desk = desk.entry; confirmed = confirmed } }
     {
         JournalDesk {
@@ -87,7 +72,6 @@ impl<
             log,
             reach: Reach::none(),
             confirmed,
-            alarm,
         }
     }
 
@@ -95,7 +79,6 @@ impl<
     pub fn into_clerk(self) -> Clerk<'a, J, H>
     where
         K: Drop,
-        W: Drop,
         ensures { result ≡ self.entry.desk.clerk }
     {
         self.desk.into_clerk()
@@ -113,8 +96,7 @@ impl<
     K: Clock,
     D: Store + Drop,
     L: LogName,
-    W: Alarm,
-> Desk<'a> for JournalDesk<'r, 'v, 'f, 'a, R, J, H, K, D, L, W> {
+> Desk<'a> for JournalDesk<'r, 'v, 'f, 'a, R, J, H, K, D, L> {
     ghost use Rattle.nmvs_journal.specs.Told.{IsTold};
     ghost use Rattle.nmvs_reception.specs.Desk.{LearnsMore, TakesWaiting};
 
@@ -131,17 +113,7 @@ impl<
     }
 
     fn release<'h>(&mut self, withheld: &'h mut WithheldAnswers<'a>) -> Released<'h, 'a> {
-        let (released, failure) = self
-            .desk
-            .release_by(self.log, &mut self.reach, &mut self.confirmed, withheld);
-        tell_failure(&self.alarm, failure);
-        released
-    }
-}
-
-/// Tells an alarm why the log failed, where it did.
-fn tell_failure<W: Alarm>(alarm: &W, failure: Option<io::Error>) {
-    if let Some(fault) = failure {
-        alarm.tell(fault);
+        self.desk
+            .release_by(self.log, &mut self.reach, &mut self.confirmed, withheld)
     }
 }

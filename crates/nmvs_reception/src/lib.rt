@@ -1,16 +1,14 @@
 //! Where lines are answered.
 //!
 //! [`ClerkDesk`] answers lines by a clerk of a repository, at the moments of a [`Clock`]; over a [`JournalDesk`] each answer
-//! waits until the log has confirmed what it rests on. An [`Alarm`] is told of a log that failed. [`Opening`] is what a repository and its clerks are opened with.
+//! waits until the log has confirmed what it rests on. [`Opening`] is what a repository and its clerks are opened with.
 #![tactic(auto)]
 
-mod alarm;
 mod clock;
 mod desk;
 mod journal_desk;
 mod opening;
 
-pub use alarm::Alarm;
 pub use clock::{Clock, ProgramClock};
 pub use desk::ClerkDesk;
 pub use journal_desk::JournalDesk;

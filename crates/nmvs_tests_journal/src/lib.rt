@@ -9,6 +9,8 @@ mod marks;
 #[cfg(test)]
 mod recovering;
 #[cfg(test)]
+mod recovering_in_threads;
+#[cfg(test)]
 mod stage;
 #[cfg(test)]
 mod users_file;

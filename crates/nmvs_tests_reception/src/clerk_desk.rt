@@ -23,6 +23,7 @@ use std::process::Abort;
 use std::rt::Clock as SystemClock;
 use std::sync::{Mutex, Wait};
 use std::test::*;
+use std::thread::Threads;
 
 /// The users of the rehearsal, as commands.
 const USERS: &str =
@@ -217,7 +218,13 @@ struct AskLines<'e> {
 impl<'e> Visit for AskLines<'e> {
     type Output = Result<(), Fail>;
 
-    fn visit<'r, 'a, J: Naming, H: Histories, R: Wait + SystemClock + Log + Abort + Sync>(
+    fn visit<
+        'r,
+        'a,
+        J: Naming,
+        H: Histories + Send + Sync,
+        R: Threads + Wait + SystemClock + Log + Abort + Sync,
+    >(
         self,
         rt: &'r R,
         mut opened: Opened<'a, J, H>,
@@ -250,7 +257,7 @@ impl<'e> Visit for AskLines<'e> {
 }
 
 /// Runs each example at a desk of its own, over one shard.
-fn get_their_answers<R: Wait + SystemClock + Log + Abort + Sync>(
+fn get_their_answers<R: Threads + Wait + SystemClock + Log + Abort + Sync>(
     rt: &R,
     alloc: Global,
     examples: &[Example],
@@ -337,7 +344,13 @@ struct AskOfPeers;
 impl Visit for AskOfPeers {
     type Output = Result<(), Fail>;
 
-    fn visit<'r, 'a, J: Naming, H: Histories, R: Wait + SystemClock + Log + Abort + Sync>(
+    fn visit<
+        'r,
+        'a,
+        J: Naming,
+        H: Histories + Send + Sync,
+        R: Threads + Wait + SystemClock + Log + Abort + Sync,
+    >(
         self,
         rt: &'r R,
         mut opened: Opened<'a, J, H>,

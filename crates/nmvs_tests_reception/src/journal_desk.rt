@@ -12,28 +12,20 @@ use nmvs_journal::{CommitLog, Filed, LogName, UnnamedLog};
 use nmvs_messages::{Desk, Peer, SESSION_LIMITS};
 use nmvs_metrics::Metrics;
 use nmvs_protocol::serve;
-use nmvs_reception::{Alarm, ClerkDesk, JournalDesk, Opened, ProgramClock};
+use nmvs_reception::{ClerkDesk, JournalDesk, Opened, ProgramClock};
 use nmvs_shard::{HashKey, Shards};
 use nmvs_stream::Device;
 use nmvs_trials::examples::NEW_YEAR;
 use nmvs_trials::{Calls, FakeFile};
 use std::alloc::Global;
-use std::io;
 use std::marker::Brand;
 use std::process::Abort;
 use std::rt::Clock;
 use std::sync::{Mutex, Wait};
 use std::test::*;
+use std::thread::{Threads, join};
 
 const QUESTION: &[u8] = b"ph1 STATUS 09506000134352 S1\n";
-
-/// Tells nobody.
-#[derive(Drop)]
-struct Silent;
-
-impl Alarm for Silent {
-    fn tell(&self, _fault: io::Error) {}
-}
 
 /// Asks the question in a session of its own, and tells whether its reply was told; else its line was turned away.
 fn is_told<'a, D: Desk<'a>>(rt: &impl Abort, alloc: Global, desk: &mut D) -> bool {
@@ -54,7 +46,31 @@ fn is_told<'a, D: Desk<'a>>(rt: &impl Abort, alloc: Global, desk: &mut D) -> boo
 }
 
 /// Asks three times, and tells how many replies were told. When one is told the file has confirmed its line.
-fn ask_thrice<'a, 's, J: Naming, H: Histories, L: LogName, R: Wait + Clock + Log + Abort>(
+fn ask_thrice<'a, D: Desk<'a>>(
+    rt: &(impl Wait + Abort),
+    alloc: Global,
+    desk: &mut D,
+    calls: &Mutex<Calls>,
+) -> usize {
+    let mut told = 0usize;
+    for asked in 1..4usize {
+        if is_told(rt, alloc, desk) {
+            told = asked;
+            assert_eq!(rt; calls.lock(rt).synced, LINE.len().saturating_mul(asked));
+        }
+    }
+    told
+}
+
+/// Asks three times at a desk of the clerk, while another thread writes the log.
+fn ask_by_log<
+    'a,
+    's,
+    J: Naming,
+    H: Histories + Send + Sync,
+    L: LogName + Send + Sync,
+    R: Threads + Wait + Clock + Log + Abort + Sync,
+>(
     rt: &'s R,
     latest: &'s Mutex<Notice<J>>,
     repository: &'s Repository<'a, H>,
@@ -73,28 +89,29 @@ fn ask_thrice<'a, 's, J: Naming, H: Histories, L: LogName, R: Wait + Clock + Log
     let opened = CommitLog::<_, H, L>::open(rt, alloc, repository, store, history, &[0]);
     let log = opened.expect(rt, "memory");
     let clock = ProgramClock::new(rt, Moment::new(NEW_YEAR));
-    let desk = ClerkDesk::new(
+    let counts = metrics.worker(0);
+    let desk = ClerkDesk::new(rt, clerk, repository, latest, None, clock, counts);
+    let mut desk = JournalDesk::new(desk, &log, log.confirmed(rt));
+    let (_run, told) = join(
         rt,
-        clerk,
-        repository,
-        latest,
-        None,
-        clock,
-        metrics.worker(0),
+        || log.run(rt).is_ok(),
+        || {
+            let told = ask_thrice(rt, alloc, &mut desk, calls);
+            log.close(rt);
+            told
+        },
     );
-    let mut desk = JournalDesk::new(desk, &log, log.confirmed(rt), Silent);
-    let mut told = 0usize;
-    for asked in 1..4usize {
-        if is_told(rt, alloc, &mut desk) {
-            told = asked;
-            assert_eq!(rt; calls.lock(rt).synced, LINE.len().saturating_mul(asked));
-        }
-    }
     told
 }
 
 /// Asks by a log that is named here.
-fn ask_named<'a, 's, J: Naming, H: Histories, R: Wait + Clock + Log + Abort>(
+fn ask_named<
+    'a,
+    's,
+    J: Naming,
+    H: Histories + Send + Sync,
+    R: Threads + Wait + Clock + Log + Abort + Sync,
+>(
     rt: &'s R,
     latest: &'s Mutex<Notice<J>>,
     repository: &'s Repository<'a, H>,
@@ -105,7 +122,7 @@ fn ask_named<'a, 's, J: Naming, H: Histories, R: Wait + Clock + Log + Abort>(
 ) -> usize
     requires { history.seen.log ≡ [] ∷ [] }
 {
-    ask_thrice::<J, H, Brand, R>(rt, latest, repository, clerk, metrics, history, file)
+    ask_by_log::<J, H, Brand, R>(rt, latest, repository, clerk, metrics, history, file)
 }
 
 /// Asks over this file, and answers how many replies were told.
@@ -117,7 +134,13 @@ struct AskThrice<'f> {
 impl<'f> Visit for AskThrice<'f> {
     type Output = usize;
 
-    fn visit<'r, 'a, J: Naming, H: Histories, R: Wait + Clock + Log + Abort + Sync>(
+    fn visit<
+        'r,
+        'a,
+        J: Naming,
+        H: Histories + Send + Sync,
+        R: Threads + Wait + Clock + Log + Abort + Sync,
+    >(
         self,
         rt: &'r R,
         opened: Opened<'a, J, H>,
@@ -138,7 +161,7 @@ impl<'f> Visit for AskThrice<'f> {
 }
 
 /// How many replies were told over a file whose call of this number fails, and what was done with the file.
-fn told_until<R: Wait + Clock + Log + Abort + Sync>(
+fn told_until<R: Threads + Wait + Clock + Log + Abort + Sync>(
     rt: &R,
     alloc: Global,
     fails_at: usize,
