@@ -6,7 +6,7 @@ import textwrap
 # What a value's name in the help stands for when bash completes it.
 FILES = {"FILE": "-f", "PATH": "-f", "PAGE": "-f", "DIR": "-d"}
 # The options that a file of options can't have.
-COMMAND_LINE = {"config", "help", "version"}
+COMMAND_LINE = {"check", "config", "help", "version"}
 PROGRAMS = ("nmvs-check", "nmvs-ctl", "nmvs-serve")
 
 
@@ -91,8 +91,8 @@ def command_part(name, read):
     return [f".SS {roff(name)}", f".B {roff(read.usage)}", *prose(read.paragraphs), *definitions(rows)]
 
 
-def man_page(name, read, commands, version, date):
-    """A man page, with a part for each command: `commands` has their help texts by name."""
+def man_page(name, read, commands, more, version, date):
+    """A man page, with a part for each command: `commands` has their help texts by name. `more` has the rows of further sections."""
     lines = [
         f'.TH {roff(name.upper())} 1 {roff(date)} "nmvs {version}" "User Commands"',
         ".SH NAME", f"{roff(name)} \\- {roff(read.summary())}",
@@ -106,6 +106,8 @@ def man_page(name, read, commands, version, date):
         lines.append(".SH COMMANDS")
         for command, its in commands.items():
             lines += command_part(command, its)
+    for section, rows in more.items():
+        lines += [f".SH {section}", *definitions(rows)]
     lines += [".SH SEE ALSO", ", ".join(f"{roff(it)}(1)" for it in PROGRAMS if it != name)]
     return "\n".join(lines) + "\n"
 

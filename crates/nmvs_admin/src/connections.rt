@@ -1,5 +1,5 @@
 //! The connections of the socket.
-use crate::connection::{Connection, Sent};
+use crate::connection::{Connection, Sent, write};
 use mio::event::Event;
 use mio::net::{UnixListener, UnixStream};
 use mio::unix::SourceFd;
@@ -8,11 +8,10 @@ use nmvs_messages::PendingLine;
 use slab::Slab;
 use std::alloc::Global;
 use std::io;
-use std::io::{ErrorKind, Write};
+use std::io::ErrorKind;
 use std::net::Net;
 use std::os::fd::RawFd;
 use std::rt::Clock;
-use std::sync::Wait;
 use std::time::{Duration, Instant};
 
 /// The most connections that are open at once (own).
@@ -20,6 +19,9 @@ pub(crate) const MOST_CONNECTIONS: usize = 16;
 
 /// For how many seconds an answer waits for a connection to take all of it (own).
 const SEND_TIMEOUT: u64 = 5;
+
+/// After how many milliseconds it is looked again whether one waits too long (own).
+const TICK: u64 = 500;
 
 /// For how many milliseconds no connection is accepted behind one that could not be: as a rule for want of a descriptor
 /// (own).
@@ -99,27 +101,36 @@ impl Connections {
         self.is_standard_ready = watched.is_err();
     }
 
-    /// Waits until the system reports something, or does not wait where there is work; then accepts connections, and reads
-    /// from each once.
+    /// Waits until the system reports something, but no longer than this, or does not wait where there is work; then accepts
+    /// connections, sends each on with its answer, and reads from each once. One that is broken, or does not take its answer in
+    /// time, is closed.
     ///
     /// # Errors
     ///
     /// The system refuses to report.
-    pub(crate) fn wait(&mut self, has_work: bool) -> io::Result<()> {
-        let timeout = self.timeout(has_work);
+    pub(crate) fn wait<R: Clock>(
+        &mut self,
+        rt: &R,
+        has_work: bool,
+        longest: Option<Duration>,
+    ) -> io::Result<()> {
+        let timeout = self.timeout(has_work, longest);
         self.poll.poll(&mut self.events, timeout)?;
         self.note_all();
         self.accept_all();
         for number in 0..self.open.capacity() {
             if let Some(connection) = self.open.get_mut(number) {
                 connection.read();
+                if !connection.send_on() || connection.is_late(rt, SEND_TIMEOUT) {
+                    self.close(number);
+                }
             }
         }
         Ok(())
     }
 
-    /// How long the system's reports may be waited for.
-    fn timeout(&self, has_work: bool) -> Option<Duration> {
+    /// How long the system's reports may be waited for: no longer than this.
+    fn timeout(&self, has_work: bool, longest: Option<Duration>) -> Option<Duration> {
         if has_work
             || self
                 .open
@@ -129,8 +140,15 @@ impl Connections {
             Some(Duration::ZERO)
         } else if self.may_accept {
             Some(Duration::from_millis(ACCEPT_PAUSE))
+        } else if self
+            .open
+            .iter()
+            .any(|(_, connection)| connection.is_behind())
+        {
+            let tick = Duration::from_millis(TICK);
+            Some(longest.unwrap_or(tick).min(tick))
         } else {
-            None
+            longest
         }
     }
 
@@ -165,12 +183,11 @@ impl Connections {
         }
     }
 
-    fn admit(&mut self, stream: UnixStream) {
+    fn admit(&mut self, mut stream: UnixStream) {
         if self.open.len() >= MOST_CONNECTIONS {
-            let _unsent = Connection::new(stream).write(BUSY);
+            let _unsent = write(&mut stream, BUSY);
             return;
         }
-        let mut stream = stream;
         let token = Token(self.open.vacant_key());
         let both = Interest::READABLE | Interest::WRITABLE;
         let registry = self.poll.registry();
@@ -179,16 +196,20 @@ impl Connections {
         }
     }
 
-    /// The next line of the connection of this number, where it has one.
+    /// The next line of the connection of this number, where it has one, and took the answer to the one before.
     pub(crate) fn next_line(&mut self, number: usize) -> Option<PendingLine> {
-        self.open.get_mut(number)?.incoming.next_line()
+        let connection = self.open.get_mut(number)?;
+        if connection.is_behind() {
+            return None;
+        }
+        connection.incoming.next_line()
     }
 
     /// Takes a connection that is over, and all of which is looked through: its number, and what it began and did not end.
     pub(crate) fn next_over(&mut self) -> Option<(usize, PendingLine)> {
         for number in 0..self.open.capacity() {
             if let Some(connection) = self.open.get_mut(number) {
-                if connection.is_over {
+                if connection.is_over && !connection.is_behind() {
                     return Some((number, connection.incoming.take_begun()));
                 }
             }
@@ -201,55 +222,32 @@ impl Connections {
         let _closed = self.open.try_remove(number);
     }
 
-    /// Sends all of a text to the connection of this number, and answers whether it took it. One that does not take it in
-    /// time, or is broken, is closed.
-    pub(crate) fn send<R: Wait + Clock>(&mut self, rt: &R, number: usize, text: &[u8]) -> bool {
-        let is_taken = self.try_send(rt, number, text).unwrap_or(false);
+    /// Sends a text to the connection of this number, which takes it as it can, and answers whether it is whole. A broken one is
+    /// closed.
+    pub(crate) fn send<R: Clock>(&mut self, rt: &R, number: usize, text: Vec<u8>) -> bool {
+        let is_whole = match (self.open.get_mut(number), Instant::now(rt)) {
+            (Some(connection), Ok(now)) => connection.send(text, now),
+            _ => false,
+        };
+        if !is_whole {
+            self.close(number);
+        }
+        is_whole
+    }
+
+    /// Sends a short text to the connection of this number, and closes it where it does not take all of it at once.
+    pub(crate) fn send_now(&mut self, number: usize, text: &[u8]) -> bool {
+        let is_taken = match self.open.get_mut(number) {
+            Some(connection) => match write(&mut connection.stream, text) {
+                Sent::Bytes(count) => count == text.len(),
+                Sent::Blocked | Sent::Broken => false,
+            },
+            None => false,
+        };
         if !is_taken {
             self.close(number);
         }
         is_taken
-    }
-
-    /// Sends all of a text to the connection of this number, where it takes all of it in time.
-    fn try_send<R: Wait + Clock>(
-        &mut self,
-        rt: &R,
-        number: usize,
-        text: &[u8],
-    ) -> io::Result<bool> {
-        let begun = Instant::now(rt)?;
-        let mut rest = text;
-        for _ in rt.forever() {
-            let Some(connection) = self.open.get_mut(number) else {
-                return Ok(false);
-            };
-            match connection.write(rest) {
-                Sent::Bytes(count) => rest = &rest[count..],
-                Sent::Blocked => {
-                    if !self.wait_since(rt, begun)? {
-                        return Ok(false);
-                    }
-                }
-                Sent::Broken => return Ok(false),
-            }
-            if rest.is_empty() {
-                return Ok(true);
-            }
-        }
-        unreachable!()
-    }
-
-    /// Waits until the system reports something, where an answer that was begun then may wait still, and answers whether it may.
-    fn wait_since<R: Wait + Clock>(&mut self, rt: &R, begun: Instant) -> io::Result<bool> {
-        let timeout = Duration::from_secs(SEND_TIMEOUT);
-        let waited = begun.elapsed(rt)?;
-        if waited >= timeout {
-            return Ok(false);
-        }
-        self.poll.poll(&mut self.events, Some(timeout - waited))?;
-        self.note_all();
-        Ok(true)
     }
 }
 

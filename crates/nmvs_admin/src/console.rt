@@ -6,10 +6,12 @@ ghost use Rattle.nmvs_stream.specs.Device.{told_of, taken_of};
 
 use crate::connections::Connections;
 use crate::multiplexer::Multiplexer;
+use crate::signals::Signals;
 use crate::socket::listen_at;
 use log::{Log, error};
 use nmvs_stream::{Console, Device, Sink, Source};
 use std::alloc::{AllocError, Global};
+use std::fs::File;
 use std::io;
 use std::io::{ErrorKind, Read, Write};
 use std::net::Net;
@@ -59,13 +61,18 @@ pub type AdminSides<R, I, W> = (Device<Lines<R, I, W>>, Device<Answers<R, I, W>>
 ///
 /// It gives whole lines, each of one side, up to 201 bytes of one; a longer one is handed over as its first 201. What is
 /// written up to the next flush goes to the side whose line was given last, and else to standard output. A connection that
-/// takes its answer in 5 seconds not at all, or not to its end, is closed. With a socket the lines never end; else they
-/// end with standard input.
+/// takes its answer in 5 seconds not at all, or not to its end, is closed; it holds up no other. With a socket the lines never
+/// end; else they end with standard input. With a socket a SIGINT or SIGTERM that the process blocks is a line `STOP`, the
+/// first one alone.
 ///
 /// # Errors
 ///
 /// No socket can be made at the path, which is logged with the system's reason; or memory was refused.
-pub fn open<R: Log + Wait + Clock + Files + Net + Drop, I: Source + Drop, W: Sink + Drop>(
+pub fn open<
+    R: Log + Wait + Clock + Files<File = File> + Net + Drop,
+    I: Source + Drop,
+    W: Sink + Drop,
+>(
     rt: R,
     alloc: Global,
     standard: Console<(I, W)>,
@@ -74,12 +81,15 @@ pub fn open<R: Log + Wait + Clock + Files + Net + Drop, I: Source + Drop, W: Sin
     ensures source { IfOk result (λ console. told_of console.source ≡ untouched_source) }
     ensures sink { IfOk result (λ console. taken_of console.sink ≡ untouched_sink) }
 {
-    let connections = match path {
-        Some(path) => Some(connections_at(&rt, alloc, path)?),
-        None => None,
+    let (connections, signals) = match path {
+        Some(path) => (
+            Some(connections_at(&rt, alloc, path)?),
+            Signals::of_process(&rt),
+        ),
+        None => (None, Signals::none()),
     };
     let Console { source, sink } = standard;
-    let multiplexer = Mutex::new(Multiplexer::new(alloc, source, sink, connections));
+    let multiplexer = Mutex::new(Multiplexer::new(alloc, source, sink, connections, signals));
     match Arc::new(alloc, Shared { rt, multiplexer }) {
         Ok(shared) => console_of(shared),
         Err(_) => Err(AdminFault::Memory),

@@ -15,6 +15,8 @@ const HANDED: usize = LONGEST_LINE + 2;
 pub(crate) enum Side {
     /// Standard input and output.
     Standard,
+    /// A signal to end. The answer to it goes to standard output.
+    Signal,
     /// The connection of this number.
     Connection(usize),
 }
@@ -23,6 +25,7 @@ impl fmt::Display for Side {
     fn fmt<W: fmt::Write>(&self, f: &mut fmt::Formatter<W>) -> fmt::Result {
         match self {
             Side::Standard => f.write_str("stdin"),
+            Side::Signal => f.write_str("signal"),
             Side::Connection(number) => write!(f, "connection-{number}"),
         }
     }

@@ -2,7 +2,7 @@
 //!
 //! [`open`] makes one console of them. Its source gives whole lines, one at a time and each of one side. An answer that is
 //! written to its sink after a line goes to the side of that line. So one loop serves all sides alike, one command after
-//! another.
+//! another. Where the process blocks signals to end, one that comes is a line of its own, `STOP`.
 #![tactic(auto)]
 
 mod connection;
@@ -12,6 +12,7 @@ mod exchange;
 mod incoming;
 mod logged;
 mod multiplexer;
+mod signals;
 mod socket;
 #[cfg(test)]
 mod tests;

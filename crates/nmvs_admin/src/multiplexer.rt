@@ -2,9 +2,10 @@
 ghost use Rattle.std.specs.Io.{ReadsAtMost};
 
 use crate::connections::{Connections, MOST_CONNECTIONS};
-use crate::exchange::{Exchange, Side};
+use crate::exchange::{Answer, Exchange, Side};
 use crate::incoming::Incoming;
 use crate::logged::{Escaped, last_line};
+use crate::signals::Signals;
 use log::{Log, info};
 use nmvs_messages::{PendingLine, READ_SIZE};
 use nmvs_stream::{Failed, Sink, Source, deliver};
@@ -16,6 +17,9 @@ use std::sync::Wait;
 
 /// How many sides there may be: standard input, and each connection.
 const MOST_SIDES: usize = MOST_CONNECTIONS + 1;
+
+/// The command of a signal to end.
+const STOP: &[u8] = b"STOP";
 
 /// The answer to what a side began and did not end.
 const UNENDED: &[u8] = b"FAULT UNENDED\n";
@@ -33,6 +37,7 @@ pub(crate) struct Multiplexer<I, W> {
     /// Whether standard input ended.
     is_over: bool,
     connections: Option<Connections>,
+    signals: Signals,
     /// The side that is looked at first for the next line.
     first: usize,
 }
@@ -43,6 +48,7 @@ impl<I: Source, W: Sink> Multiplexer<I, W> {
         input: I,
         output: W,
         connections: Option<Connections>,
+        signals: Signals,
     ) -> Multiplexer<I, W> {
         Multiplexer {
             exchange: Exchange::new(alloc),
@@ -51,6 +57,7 @@ impl<I: Source, W: Sink> Multiplexer<I, W> {
             incoming: Incoming::new(),
             is_over: false,
             connections,
+            signals,
             first: 0,
         }
     }
@@ -77,7 +84,7 @@ impl<I: Source, W: Sink> Multiplexer<I, W> {
     /// Waits until a line of a side is handed over, or none can come any more.
     fn wait_for_line<R: Wait + Clock + Log>(&mut self, rt: &R) -> io::Result<()> {
         for _ in rt.forever() {
-            if self.begin_next() {
+            if self.begin_next() || self.begin_stop() {
                 return Ok(());
             }
             if self.is_over && self.connections.is_none() {
@@ -85,7 +92,7 @@ impl<I: Source, W: Sink> Multiplexer<I, W> {
                 return Ok(());
             }
             self.end_sides(rt);
-            self.poll()?;
+            self.poll(rt)?;
         }
         unreachable!()
     }
@@ -104,10 +111,22 @@ impl<I: Source, W: Sink> Multiplexer<I, W> {
         false
     }
 
+    /// Hands over `STOP` where a signal to end came, and answers whether one did.
+    fn begin_stop(&mut self) -> bool {
+        let has_come = self.signals.take();
+        if has_come {
+            let mut line = PendingLine::new();
+            line.extend(STOP);
+            self.exchange.begin(Side::Signal, line, b"\n");
+        }
+        has_come
+    }
+
     /// The next line of a side, where it has one.
     fn next_line(&mut self, side: Side) -> Option<PendingLine> {
         match side {
             Side::Standard => self.incoming.next_line(),
+            Side::Signal => None,
             Side::Connection(number) => self.connections.as_mut()?.next_line(number),
         }
     }
@@ -144,15 +163,15 @@ impl<I: Source, W: Sink> Multiplexer<I, W> {
     /// Answers what a side began and did not end.
     fn end_side<R: Wait + Clock + Log>(&mut self, rt: &R, side: Side, begun: PendingLine) {
         if !begun.is_empty() {
-            self.send_answer(rt, side, Some(&begun), UNENDED);
+            self.send_fault(rt, side, Some(&begun), UNENDED);
         }
     }
 
     /// Polls the sides. It waits where none has sent anything.
-    fn poll(&mut self) -> io::Result<()> {
+    fn poll<R: Clock>(&mut self, rt: &R) -> io::Result<()> {
         if let Some(connections) = &mut self.connections {
             let has_work = !self.is_over && connections.is_standard_ready();
-            connections.wait(has_work)?;
+            connections.wait(rt, has_work, self.signals.pause())?;
         }
         self.read_standard();
         Ok(())
@@ -187,45 +206,40 @@ impl<I: Source, W: Sink> Multiplexer<I, W> {
             return Ok(());
         }
         let answer = self.exchange.end();
-        self.send_answer(rt, answer.side, answer.line.as_ref(), NO_MEMORY);
+        self.send_fault(rt, answer.side, answer.line.as_ref(), NO_MEMORY);
         Err(io::Error::from(ErrorKind::OutOfMemory))
     }
 
-    /// Sends what was written since the last line was handed over to its side.
+    /// Sends what was written since the last line was handed over to its side. A connection takes it as it can.
     ///
     /// # Errors
     ///
     /// The side does not take it.
     pub(crate) fn end_exchange<R: Wait + Clock + Log>(&mut self, rt: &R) -> io::Result<()> {
-        let answer = self.exchange.end();
-        if self.send_answer(
-            rt,
-            answer.side,
-            answer.line.as_ref(),
-            answer.text.as_slice(),
-        ) {
+        let Answer { side, line, text } = self.exchange.end();
+        if let Some(line) = &line {
+            log_answer(rt, side, line.as_slice(), &text);
+        }
+        let is_sent = match (side, &mut self.connections) {
+            (Side::Connection(number), Some(connections)) => connections.send(rt, number, text),
+            _ => deliver(&mut self.output, &text).is_ok(),
+        };
+        if is_sent {
             Ok(())
         } else {
             Err(io::Error::from(ErrorKind::BrokenPipe))
         }
     }
 
-    /// Sends an answer to a side, logs it with the line that it answers, and answers whether the side took it.
-    fn send_answer<R: Wait + Clock + Log>(
-        &mut self,
-        rt: &R,
-        side: Side,
-        line: Option<&PendingLine>,
-        text: &[u8],
-    ) -> bool {
-        let is_taken = match (side, &mut self.connections) {
-            (Side::Connection(number), Some(connections)) => connections.send(rt, number, text),
-            _ => deliver(&mut self.output, text).is_ok(),
-        };
+    /// Sends a side a fault in place of an answer, and logs it with the line that it answers.
+    fn send_fault<R: Log>(&mut self, rt: &R, side: Side, line: Option<&PendingLine>, fault: &[u8]) {
         if let Some(line) = line {
-            log_answer(rt, side, line.as_slice(), text);
+            log_answer(rt, side, line.as_slice(), fault);
         }
-        is_taken
+        let _sent = match (side, &mut self.connections) {
+            (Side::Connection(number), Some(connections)) => connections.send_now(number, fault),
+            _ => deliver(&mut self.output, fault).is_ok(),
+        };
     }
 }
 

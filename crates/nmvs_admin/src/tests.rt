@@ -2,6 +2,7 @@ use crate::exchange::{Exchange, Side};
 use crate::incoming::Incoming;
 use crate::logged::{Escaped, last_line};
 use crate::multiplexer::Multiplexer;
+use crate::signals::{Signals, has_end};
 use nmvs_messages::PendingLine;
 use nmvs_stream::Device;
 use std::test::*;
@@ -83,7 +84,7 @@ fn an_answer_goes_to_the_side_of_its_line(rt: HostRuntime) -> Result<(), Fail> {
 fn standard_input_alone_ends_with_what_it_began(rt: HostRuntime) -> Result<(), Fail> {
     let input = Device::new(b"USERS\nHELP\nSTO".as_slice());
     let output = Device::new(Vec::new(rt.alloc()));
-    let mut multiplexer = Multiplexer::new(rt.alloc(), input, output, None);
+    let mut multiplexer = Multiplexer::new(rt.alloc(), input, output, None, Signals::none());
     let mut buffer = [0; 99];
     for (line, answer) in [
         (b"USERS\n".as_slice(), b"DONE\n".as_slice()),
@@ -116,4 +117,15 @@ fn the_last_line_of_a_text_is_cut_off(rt: HostRuntime) {
     ] {
         assert_eq!(rt; last_line(text), last);
     }
+}
+
+#[test]
+fn a_signal_to_end_is_found_in_its_line(rt: HostRuntime) {
+    let report =
+        "Name:\tnmvs_serve\nSigQ:\t1/95\nSigPnd:\t0000000000004000\nShdPnd:\t0000000000000001\nSigBlk:\t0000000000004003\n";
+    assert!(rt; !has_end(report, "ShdPnd:"));
+    assert!(rt; has_end(report, "SigBlk:"));
+    assert!(rt; has_end("ShdPnd:\t0000000000000002\n", "ShdPnd:"));
+    assert!(rt; !has_end("ShdPnd:\t000000000000bffd\n", "ShdPnd:"));
+    assert!(rt; !has_end("Name:\tShdPnd: 4000\nShdPnd:\n", "ShdPnd:"));
 }

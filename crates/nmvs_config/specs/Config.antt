@@ -2,8 +2,9 @@
 use Rattle.std.specs.Prelude.{⊤, ◌≡◌, ◌≤◌, ◌+◌, ◌==◌, ◌++◌, ℕ, List, Some, None, length, take, count_by, string_bytes}
 use Rattle.toml.specs.Data.{Members}
 use Rattle.toml.specs.Parse.{parse_document}
-use Rattle.nmvs_config.specs.Entries.{first_fault, file_words}
+use Rattle.nmvs_config.specs.Entries.{first_fault, file_words, all_faults}
 use Rattle.nmvs_config.specs.declared.faults.ConfigFault.{ConfigFault}
+use Rattle.nmvs_config.specs.declared.faults.EntryFault.{EntryFault}
 use Rattle.nmvs_config.specs.declared.faults.ConfigFault.TheVariants.{Memory, Open, Read, Long, Utf8, Syntax, Entry}
 
 -- the text is TOML whose entries are options, and these are their words that the command line doesn't name, then its own
@@ -12,6 +13,12 @@ pub record Gives (text : List ℕ) (line all : List (List ℕ)) : Type 0 where
   pub read : parse_document text ≡ Some entries
   pub faultless : first_fault entries ≡ None
   pub words : all ≡ file_words line entries ++ line
+
+-- the text is TOML whose entries have these faults
+pub record HasFaults (text : List ℕ) (faults : List (List ℕ × EntryFault)) : Type 0 where
+  pub entries : Members
+  pub read : parse_document text ≡ Some entries
+  pub all : faults ≡ all_faults entries
 
 -- the line, counted from 1, of a place in a text
 abbrev pub IsLineAt : List ℕ → ℕ → ℕ → Type 0

@@ -8,12 +8,13 @@ use Rattle.nmvs_config.specs.Names.{names}
 use Rattle.nmvs_config.specs.declared.faults.EntryFault.{EntryFault}
 use Rattle.nmvs_config.specs.declared.faults.EntryFault.TheVariants.{Unknown, Config, Nested, Mistyped}
 use Rattle.nmvs_config.specs.declared.kinds.Kind.{Kind}
-use Rattle.nmvs_config.specs.declared.kinds.Kind.TheVariants.{Text, Number, Flag}
+use Rattle.nmvs_config.specs.declared.kinds.Kind.TheVariants.{Text, Number, Address, Flag}
 
 -- what the value of an option is, in the words of TOML
 abbrev pub kind_text : Kind → List ℕ
 kind_text Text = codes "a string"
 kind_text Number = codes "an integer"
+kind_text Address = codes "a string or an integer"
 kind_text Flag = codes "a boolean"
 
 -- the kind of an option that a file may have
@@ -29,6 +30,8 @@ kind_of key =
     else if bytes_eq key (codes "admin") then Some Text
     else if bytes_eq key (codes "log-level") then Some Text
     else if bytes_eq key (codes "log-format") then Some Text
+    else if bytes_eq key (codes "listen") then Some Address
+    else if bytes_eq key (codes "metrics") then Some Address
     else if bytes_eq key (codes "shards") then Some Number
     else if bytes_eq key (codes "workers") then Some Number
     else if bytes_eq key (codes "sessions") then Some Number
@@ -37,7 +40,6 @@ kind_of key =
     else if bytes_eq key (codes "rate") then Some Number
     else if bytes_eq key (codes "burst") then Some Number
     else if bytes_eq key (codes "port") then Some Number
-    else if bytes_eq key (codes "metrics") then Some Number
     else if bytes_eq key (codes "moment") then Some Number
     else if bytes_eq key (codes "stdin") then Some Flag
     else if bytes_eq key (codes "rehearsal") then Some Flag
@@ -49,6 +51,8 @@ value_fault kind (array items) = Some Nested
 value_fault kind (table entries) = Some Nested
 value_fault Text (string text) = None
 value_fault Number (integer number) = None
+value_fault Address (string text) = None
+value_fault Address (integer number) = None
 value_fault Flag (boolean given) = None
 value_fault kind _ = Some (Mistyped kind)
 
@@ -77,6 +81,16 @@ first_of (Some x) other = Some x
 abbrev pub first_fault : Members → Option (List ℕ × EntryFault)
 first_fault no_members = None
 first_fault (member key value rest) = first_of (option_map (λ fault. (key, fault)) (entry_fault key value)) (first_fault rest)
+
+-- this fault of the entry of this key, where it is one
+abbrev pub fault_list : List ℕ → Option EntryFault → List (List ℕ × EntryFault)
+fault_list key None = []
+fault_list key (Some fault) = (key, fault) ∷ []
+
+-- the faults of all entries, each with its key
+abbrev pub all_faults : Members → List (List ℕ × EntryFault)
+all_faults no_members = []
+all_faults (member key value rest) = fault_list key (entry_fault key value) ++ all_faults rest
 
 -- the words of the entries whose options no word of this command line names
 abbrev pub file_words : List (List ℕ) → Members → List (List ℕ)

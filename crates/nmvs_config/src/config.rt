@@ -2,8 +2,8 @@
 ghost use Rattle.std.specs.Prelude.{◌≡◌, ◌++◌, ◌≤◌, map, option_map, length, IfOk, IfErr, string_bytes};
 ghost use Rattle.toml.specs.Errors.{IsMemory, IsWithin};
 ghost use Rattle.toml.specs.View.{table_view};
-ghost use Rattle.nmvs_config.specs.Config.{Gives, IsLineAt, Refuses, TellsText};
-ghost use Rattle.nmvs_config.specs.Entries.{first_fault as first_fault_of, file_words as words_of_file};
+ghost use Rattle.nmvs_config.specs.Config.{Gives, HasFaults, IsLineAt, Refuses, TellsText};
+ghost use Rattle.nmvs_config.specs.Entries.{first_fault as first_fault_of, file_words as words_of_file, all_faults as all_faults_of};
 
 use crate::entries::{entry_fault, push_entry};
 use crate::names::is_named;
@@ -36,6 +36,35 @@ pub fn with_config(
     let mut all = file_words(alloc, &table, &words)?;
     all.append(&mut words)?;
     Ok(all)
+}
+
+/// All faults of the entries of a file's text, each with its key, in the order of the keys.
+///
+/// # Errors
+///
+/// `Syntax` says that the text is no TOML.
+pub fn entry_faults(alloc: Global, text: &str) -> Result<Vec<(String, EntryFault)>, ConfigFault>
+    ensures faults { IfOk result (λ faults. HasFaults text.now (map (λ f. (string_bytes f.0, f.1)) faults.items)) }
+    ensures fault { IfErr result (Refuses text.now) }
+{
+    match toml::table_from_str(alloc, text) {
+        Ok(table) => Ok(all_faults(alloc, &table)?),
+        Err(error) => Err(no_toml(text, &error)),
+    }
+}
+
+/// All faults of the entries, in the order of their keys.
+fn all_faults(alloc: Global, table: &Table) -> Result<Vec<(String, EntryFault)>, AllocError>
+    ensures { IfOk result (λ faults. map (λ f. (string_bytes f.0, f.1)) faults.items ≡ all_faults_of (table_view table.now)) }
+{
+    let mut faults = Vec::new(alloc);
+    for (key, value) in table {
+        if let Some(fault) = entry_fault(key.as_str(), value) {
+            let key = String::from_str(alloc, key.as_str())?;
+            faults.push((key, fault))?;
+        }
+    }
+    Ok(faults)
 }
 
 /// The fault of a text that could not be read.

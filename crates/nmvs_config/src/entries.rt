@@ -29,6 +29,7 @@ fn value_fault(kind: Kind, value: &Value) -> Option<EntryFault>
         (_, Value::Array(_) | Value::Table(_)) => Some(EntryFault::Nested),
         (Kind::Text, Value::String(_)) => None,
         (Kind::Number, Value::Integer(_)) => None,
+        (Kind::Address, Value::String(_) | Value::Integer(_)) => None,
         (Kind::Flag, Value::Boolean(_)) => None,
         _ => Some(EntryFault::Mistyped(kind)),
     }

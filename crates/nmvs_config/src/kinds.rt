@@ -9,6 +9,8 @@ use std::fmt;
 pub enum Kind {
     Text,
     Number,
+    /// An address with its port, or a port alone.
+    Address,
     /// Given or not.
     Flag,
 }
@@ -21,6 +23,7 @@ impl fmt::Display for Kind {
         match self {
             Kind::Text => f.write_str("a string"),
             Kind::Number => f.write_str("an integer"),
+            Kind::Address => f.write_str("a string or an integer"),
             Kind::Flag => f.write_str("a boolean"),
         }
     }
@@ -34,6 +37,7 @@ pub(crate) fn kind_of(key: &str) -> Option<Kind>
     match key {
         "users" | "import" | "export" | "journal" | "bind" | "socket" | "proxy" => Some(Kind::Text),
         "admin" | "log-level" | "log-format" => Some(Kind::Text),
+        "listen" | "metrics" => Some(Kind::Address),
         "shards"
         | "workers"
         | "sessions"
@@ -42,7 +46,6 @@ pub(crate) fn kind_of(key: &str) -> Option<Kind>
         | "rate"
         | "burst"
         | "port"
-        | "metrics"
         | "moment" => Some(Kind::Number),
         "stdin" | "rehearsal" => Some(Kind::Flag),
         _ => None,

@@ -11,7 +11,7 @@ mod kinds;
 mod names;
 mod text;
 
-pub use config::with_config;
+pub use config::{entry_faults, with_config};
 pub use faults::{ConfigFault, EntryFault};
 pub use kinds::Kind;
 pub use names::config_path;

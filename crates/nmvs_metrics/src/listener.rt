@@ -11,7 +11,7 @@ use std::alloc::Global;
 use std::fs::File;
 use std::hash::RandomState;
 use std::io::ErrorKind;
-use std::net::{Ipv4Addr, Net, Shutdown, SocketAddr};
+use std::net::{Net, Shutdown, SocketAddr};
 use std::random::RandomSource;
 use std::rt::{Clock, Files};
 use std::time::{Duration, Instant};
@@ -38,7 +38,7 @@ const MEMORY: &str = "/proc/self/statm";
 /// The token of the listener and of each client: at each wake-up all of them are looked at.
 const ANY: Token = Token(0);
 
-/// A port of this machine alone, at which metrics are served.
+/// An address at which metrics are served.
 #[derive(Drop)]
 pub struct MetricsListener {
     listener: TcpListener,
@@ -48,13 +48,16 @@ pub struct MetricsListener {
 }
 
 impl MetricsListener {
-    /// Listens on this port of 127.0.0.1; port 0 is any that is free.
+    /// Listens on this address; port 0 is any that is free.
     ///
     /// # Errors
     ///
     /// The system refuses it.
-    pub fn open<R: Net + Files<File = File>>(rt: &R, port: u16) -> io::Result<MetricsListener> {
-        let mut listener = TcpListener::bind(rt, SocketAddr::from((Ipv4Addr::LOCALHOST, port)))?;
+    pub fn open<R: Net + Files<File = File>>(
+        rt: &R,
+        address: SocketAddr,
+    ) -> io::Result<MetricsListener> {
+        let mut listener = TcpListener::bind(rt, address)?;
         let poll = Poll::new(rt)?;
         poll.registry()
             .register(&mut listener, ANY, Interest::READABLE)?;

@@ -2,3 +2,4 @@ mod UsersFile
 mod CommandLemmas
 mod OrderLemmas
 mod UserLines
+mod FaultLemmas

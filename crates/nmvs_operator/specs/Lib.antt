@@ -5,3 +5,5 @@ pub mod Figures
 pub mod Roll
 pub mod Commands
 pub mod Progress
+pub mod Address
+pub mod UsersFaults

@@ -40,7 +40,7 @@ enum Value {
 }
 
 /// The options, in the order in which the help shows them.
-static OPTIONS: [Described; 23] = [
+static OPTIONS: [Described; 22] = [
     Described {
         name: "users",
         value: Value::Text("FILE"),
@@ -120,22 +120,11 @@ static OPTIONS: [Described; 23] = [
         help: "Lines that are taken from a user at once, 1 to 1000000, if there is a rate; by default as many as in a second",
     },
     Described {
-        name: "bind",
+        name: "listen",
         value: Value::Text("ADDRESS"),
-        default: Some("127.0.0.1"),
-        help: "Address that is listened on, of version 4 or 6",
-    },
-    Described {
-        name: "port",
-        value: Value::Number(0, 65_535),
-        default: Some("7161"),
-        help: "Port that is listened on, 0 to 65535; 0 is one that the system chooses",
-    },
-    Described {
-        name: "socket",
-        value: Value::Text("PATH"),
-        default: None,
-        help: "Unix socket that is listened on in place of address and port",
+        default: Some("127.0.0.1:7161"),
+        help: "Address and port, or path of a Unix socket, that is listened on; a port alone is one of 127.0.0.1, and port 0 one \
+        that the system chooses",
     },
     Described {
         name: "admin",
@@ -145,9 +134,10 @@ static OPTIONS: [Described; 23] = [
     },
     Described {
         name: "metrics",
-        value: Value::Number(0, 65_535),
+        value: Value::Text("ADDRESS"),
         default: None,
-        help: "Port of 127.0.0.1 for /metrics, /healthz and /readyz, 0 to 65535; 0 is one that the system chooses",
+        help: "Address and port for /metrics, /healthz and /readyz; a port alone is one of 127.0.0.1, and port 0 one that the \
+        system chooses",
     },
     Described {
         name: "log-level",
@@ -180,6 +170,34 @@ static OPTIONS: [Described; 23] = [
         default: None,
         help: "Serve one session over standard input and output in place of connections",
     },
+    Described {
+        name: "check",
+        value: Value::Nothing,
+        default: None,
+        help: "Start nothing: say all that is wrong with the file of options and the users file",
+    },
+];
+
+/// Options that the help leaves out: an older form of `listen`.
+static OLDER_OPTIONS: [Described; 3] = [
+    Described {
+        name: "bind",
+        value: Value::Text("ADDRESS"),
+        default: None,
+        help: "Address that is listened on, of version 4 or 6, in place of that of --listen",
+    },
+    Described {
+        name: "port",
+        value: Value::Number(0, 65_535),
+        default: None,
+        help: "Port that is listened on, in place of that of --listen",
+    },
+    Described {
+        name: "socket",
+        value: Value::Text("PATH"),
+        default: None,
+        help: "Unix socket that is listened on in place of an address",
+    },
 ];
 
 /// The command line, of the words after the program's own name.
@@ -191,6 +209,9 @@ pub(crate) fn command<'a>(alloc: Global) -> Result<Command<'a>, AllocError> {
         .no_binary_name(true);
     for option in &OPTIONS {
         command = command.arg(argument(alloc, option))?;
+    }
+    for option in &OLDER_OPTIONS {
+        command = command.arg(argument(alloc, option).hide(true))?;
     }
     Ok(command)
 }

@@ -1,12 +1,13 @@
 //! The operator's side of the server: options of the command line, a users file, commands.
 //!
 //! [`read_options`] reads a command line. [`load_users`] publishes the users of a file, all at once, by a
-//! `nmvs_directory::Registrar`. [`obey_all`] carries out the [`Order`]s of a [`Console`] as they come. It shows the notice of a
+//! `nmvs_directory::Registrar`; [`users_faults`] lists all that is wrong with one. [`obey_all`] carries out the [`Order`]s of a [`Console`] as they come. It shows the notice of a
 //! changed user by a [`Latest`] before it answers, and asks a [`Service`] for all that only a server can do or count.
 //!
 //! It serves no lines: `nmvs_server` decides what is served, and when commands are read.
 #![tactic(auto)]
 
+mod address;
 mod command_line;
 mod commands;
 mod faults;
@@ -17,6 +18,7 @@ mod order;
 mod roll;
 mod service;
 mod users;
+mod users_check;
 
 pub use command_line::VERSION;
 pub use commands::obey_all;
@@ -30,3 +32,4 @@ pub use options::{
 pub use order::{Order, read_order};
 pub use service::{Deed, Service, ServiceFault};
 pub use users::{load_users, users_trouble};
+pub use users_check::{UsersFault, users_faults};

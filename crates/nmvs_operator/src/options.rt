@@ -3,6 +3,7 @@ ghost use Rattle.std.specs.Prelude.{◌≤◌, IfOk, IfSome, OnOk};
 ghost use Rattle.nmvs_identifier.specs.Moment.{last_moment};
 ghost use Rattle.nmvs_operator.specs.Options.{AreInRange};
 
+use crate::address::{address_in, is_path, own_address};
 use crate::command_line::command;
 use clap::error::ErrorKind;
 use clap::{ArgMatches, Error};
@@ -11,7 +12,7 @@ use nmvs_identifier::{LAST_MOMENT, Moment};
 use nmvs_log::LogFormat;
 use nmvs_messages::NameOf;
 use std::alloc::{AllocError, Global};
-use std::net::IpAddr;
+use std::net::{IpAddr, SocketAddr};
 
 /// The most shards: a repository has at most so many locks, each of a type of its own.
 pub const MOST_SHARDS: u64 = 8;
@@ -59,11 +60,9 @@ pub struct Options {
     pub rate: u64,
     /// How many of them at once, 0 to 1,000,000: as many as in a second where the command line does not say.
     pub burst: u64,
-    /// The address that is listened on.
-    pub bind: IpAddr,
-    /// The port that is listened on, where 0 is one that the system chooses.
-    pub port: u16,
-    /// Path of a Unix socket that is listened on.
+    /// The address that is listened on, where no socket is; port 0 is one that the system chooses.
+    pub address: SocketAddr,
+    /// Path of a Unix socket that is listened on, in place of the address.
     pub socket: Option<String>,
     /// Whose name the gateway's header has that each connection begins with, where it begins with one.
     pub proxy: Option<NameOf>,
@@ -73,11 +72,13 @@ pub struct Options {
     pub stdin: bool,
     /// Path of a Unix socket that takes the operator's commands, in addition to standard input.
     pub admin: Option<String>,
-    /// The port of the metrics on this machine; 0 is one that the system chooses.
-    pub metrics: Option<u16>,
+    /// The address of the metrics; port 0 is one that the system chooses.
+    pub metrics: Option<SocketAddr>,
     /// What is logged: events of this level and above.
     pub log_level: LevelFilter,
     pub log_format: LogFormat,
+    /// Nothing is started: what is wrong with the options and the users file is said.
+    pub check: bool,
 }
 
 /// Why a command line gives no options.
@@ -133,8 +134,7 @@ fn values_of(alloc: Global, matches: &ArgMatches<'_>) -> Result<Options, OptionF
     let idle = within(alloc, matches, "idle", 0, MOST_IDLE)?;
     let rate = within(alloc, matches, "rate", 0, MOST_RATE)?;
     let burst = burst_of(alloc, matches, rate)?;
-    let bind = address_of(alloc, matches)?;
-    let port = within(alloc, matches, "port", 0, 65_535)? as u16;
+    let address = address_of(alloc, matches)?;
     let proxy = proxy_of(alloc, matches)?;
     let moment = moment_of(alloc, matches)?;
     let metrics = metrics_of(alloc, matches)?;
@@ -152,8 +152,7 @@ fn values_of(alloc: Global, matches: &ArgMatches<'_>) -> Result<Options, OptionF
         idle,
         rate,
         burst,
-        bind,
-        port,
+        address,
         socket: None,
         proxy,
         moment,
@@ -162,6 +161,7 @@ fn values_of(alloc: Global, matches: &ArgMatches<'_>) -> Result<Options, OptionF
         metrics,
         log_level,
         log_format,
+        check: matches.get_flag("check"),
     })
 }
 
@@ -178,7 +178,7 @@ fn take_paths(
     take_path(alloc, matches, "import", &mut options.import)?;
     take_path(alloc, matches, "export", &mut options.export)?;
     take_path(alloc, matches, "journal", &mut options.journal)?;
-    take_path(alloc, matches, "socket", &mut options.socket)?;
+    take_socket(alloc, matches, &mut options.socket)?;
     take_path(alloc, matches, "admin", &mut options.admin)
 }
 
@@ -193,6 +193,19 @@ fn take_path(
         *path = Some(String::from_str(alloc, text)?);
     }
     Ok(())
+}
+
+/// Takes the path of the socket that is listened on, where one is named: by `--socket`, or else by `--listen`.
+fn take_socket(
+    alloc: Global,
+    matches: &ArgMatches<'_>,
+    path: &mut Option<String>,
+) -> Result<(), AllocError> {
+    match matches.get_str("listen") {
+        Some(text) if is_path(text) => *path = Some(String::from_str(alloc, text)?),
+        _ => {}
+    }
+    take_path(alloc, matches, "socket", path)
 }
 
 /// The text for options that exclude each other, if there are such.
@@ -213,7 +226,7 @@ fn clash_of(matches: &ArgMatches<'_>) -> Option<&'static str> {
     }
     if stdin && matches.contains_id("metrics") {
         return Some(
-            "error: '--metrics <N>' is for connections, and can't be used with '--stdin'\n",
+            "error: '--metrics <ADDRESS>' is for connections, and can't be used with '--stdin'\n",
         );
     }
     None
@@ -230,20 +243,56 @@ fn burst_of(alloc: Global, matches: &ArgMatches<'_>, rate: u64) -> Result<u64, O
     within(alloc, matches, "burst", 1, MOST_RATE)
 }
 
-/// The address that is listened on.
-fn address_of(alloc: Global, matches: &ArgMatches<'_>) -> Result<IpAddr, OptionFault> {
+/// The address that is listened on, if no socket is: that of `--listen`. `--bind` and `--port` take the place of its parts.
+fn address_of(alloc: Global, matches: &ArgMatches<'_>) -> Result<SocketAddr, OptionFault> {
+    let mut address = listened_address(alloc, matches)?;
+    if matches.contains_id("bind") {
+        address.set_ip(bound_ip(alloc, matches)?);
+    }
+    if matches.contains_id("port") {
+        address.set_port(within(alloc, matches, "port", 0, 65_535)? as u16);
+    }
+    Ok(address)
+}
+
+/// The address of `--listen`. For the path of a socket it is one that is not listened on.
+fn listened_address(alloc: Global, matches: &ArgMatches<'_>) -> Result<SocketAddr, OptionFault> {
+    match matches.get_str("listen") {
+        Some(text) if !is_path(text) => spelled(alloc, text, "listen"),
+        _ => Ok(own_address(0)),
+    }
+}
+
+/// The address of `--bind`.
+fn bound_ip(alloc: Global, matches: &ArgMatches<'_>) -> Result<IpAddr, OptionFault> {
     matches.get_one::<IpAddr>("bind").ok_or_else(|| refused(
         alloc,
         "error: the value of '--bind <ADDRESS>' is no address\n",
     ))
 }
 
-/// The port of the metrics, if the option is given.
-fn metrics_of(alloc: Global, matches: &ArgMatches<'_>) -> Result<Option<u16>, OptionFault> {
-    if !matches.contains_id("metrics") {
-        return Ok(None);
+/// The address of the metrics, if the option is given.
+fn metrics_of(alloc: Global, matches: &ArgMatches<'_>) -> Result<Option<SocketAddr>, OptionFault> {
+    match matches.get_str("metrics") {
+        Some(text) => Ok(Some(spelled(alloc, text, "metrics")?)),
+        None => Ok(None),
     }
-    Ok(Some(within(alloc, matches, "metrics", 0, 65_535)? as u16))
+}
+
+/// The address that the value of an option spells.
+fn spelled(alloc: Global, text: &str, option: &str) -> Result<SocketAddr, OptionFault> {
+    address_in(text).ok_or_else(|| no_address(alloc, text, option))
+}
+
+/// The fault of a value that spells no address.
+fn no_address(alloc: Global, text: &str, option: &str) -> OptionFault {
+    let told = format!(in alloc;
+        "error: invalid value '{text}' for '--{option} <ADDRESS>': it is no address with a port, as 127.0.0.1:7161 or [::1]:7161\n"
+    );
+    match told {
+        Ok(told) => OptionFault::Refused(told),
+        Err(_) => OptionFault::Memory,
+    }
 }
 
 /// What is logged.

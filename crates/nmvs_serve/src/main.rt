@@ -1,13 +1,18 @@
 //! The program of the repository.
 #![tactic(auto)]
 
+mod check;
+mod report;
+
 ghost use Rattle.std.specs.Prelude.{IfOk};
 ghost use Rattle.nmvs_operator.specs.Options.{AreInRange};
 
+use crate::check::{asks_check, check_file, check_users};
+use crate::report::{ended, format_in, refuse_words, say};
 use log::info;
 use nmvs_admin::{AdminFault, open, remove_socket};
 use nmvs_config::{ConfigFault, config_path, read_config, with_config};
-use nmvs_log::EventLog;
+use nmvs_log::{EventLog, LogFormat};
 use nmvs_operator::{OptionFault, Options, read_options};
 use nmvs_rehearsal::rehearse_on_standard_input;
 use nmvs_server::{Fault, Host, Outcome, outcome_of, start};
@@ -15,31 +20,35 @@ use nmvs_stream::{Console, Device, Sink, Source};
 use std::alloc::Global;
 use std::io::{BufWriter, Eprint, Print};
 use std::process::ExitCode;
-use std::rt::{Env, Files};
+use std::rt::{Clock, Env, Files};
 use std::{env, fs, io};
 
 fn main(rt: HostRuntime) -> ExitCode {
     let alloc = rt.alloc();
     let Ok(words) = words(&rt) else {
-        return ended(&rt, &[Some(Fault::Memory)]);
+        return ended(&rt, LogFormat::Text, &[Some(Fault::Memory)]);
     };
     let Ok(output) = BufWriter::new(alloc, rt.stdout()) else {
-        return ended(&rt, &[Some(Fault::Memory)]);
+        return ended(&rt, format_in(&words), &[Some(Fault::Memory)]);
     };
     if words.is_empty() {
         let end = rehearse_on_standard_input(&rt, alloc, output);
-        return ended(&rt, &[outcome_of(end).err()]);
+        return ended(&rt, LogFormat::Text, &[outcome_of(end).err()]);
     }
     let mut console = Console::new(Device::new(rt.stdin()), Device::new(output));
     match options(&rt, words) {
         Ok(options) => {
-            let rt = EventLog::new(rt, options.log_level, options.log_format);
+            if options.check {
+                return check_users(&rt, &options);
+            }
+            let format = options.log_format;
+            let rt = EventLog::new(rt, options.log_level, format);
             let outcome = if options.stdin {
                 start(&rt, alloc, &options, &mut console)
             } else {
                 serve(rt, alloc, &options, console)
             };
-            let status = ended(&rt, &[outcome.session, outcome.program]);
+            let status = ended(&rt, format, &[outcome.session, outcome.program]);
             info!(rt; "end");
             status
         }
@@ -86,50 +95,60 @@ fn words<R: Env + AllocGlobal>(rt: &R) -> io::Result<Vec<String>> {
     Ok(words)
 }
 
-/// The options of the command line and of the file that it names. Where there are none it tells why, or the help that was
-/// asked for, and gives the status.
-fn options<R: Files + Print + Eprint + AllocGlobal>(
+/// The options of the command line and of the file that it names. Where there are none it says why, or prints the help that
+/// was asked for, and gives the status.
+fn options<R: Files + Print + Eprint + Clock + AllocGlobal>(
     rt: &R,
     words: Vec<String>,
 ) -> Result<Options, ExitCode>
     ensures { IfOk result AreInRange }
 {
     let words = with_file(rt, words)?;
+    let format = format_in(&words);
     match read_options(rt.alloc(), &words) {
         Ok(options) => Ok(options),
         Err(OptionFault::Help(text)) => {
             let _ = print!(rt; "{text}");
             Err(ExitCode::SUCCESS)
         }
-        Err(OptionFault::Refused(text)) => {
-            let _ = eprint!(rt; "{text}");
-            Err(ExitCode::from(2))
-        }
-        Err(OptionFault::Memory) => Err(ended(rt, &[Some(Fault::Memory)])),
+        Err(OptionFault::Refused(text)) => Err(refuse_words(rt, format, &text)),
+        Err(OptionFault::Memory) => Err(ended(rt, format, &[Some(Fault::Memory)])),
     }
 }
 
 /// The words of the file that the command line names, where it names one, and behind them those of the command line. One
-/// that asks for help or the version reads no file. Where the file is refused it tells why, and gives the status.
-fn with_file<R: Files + Eprint + AllocGlobal>(
+/// that asks for help or the version reads no file. Where the file is refused it says why, and gives the status.
+fn with_file<R: Files + Eprint + Clock + AllocGlobal>(
     rt: &R,
     words: Vec<String>,
 ) -> Result<Vec<String>, ExitCode> {
+    let format = format_in(&words);
     let named = match config_path(&words) {
         Some(path) if !asks_help(&words) => String::from_str(rt.alloc(), path),
         _ => return Ok(words),
     };
     let Ok(path) = named else {
-        return Err(ended(rt, &[Some(Fault::Memory)]));
+        return Err(ended(rt, format, &[Some(Fault::Memory)]));
     };
-    match read_words(rt, &path, words) {
-        Ok(words) => Ok(words),
-        Err(ConfigFault::Memory) => Err(ended(rt, &[Some(Fault::Memory)])),
-        Err(fault) => {
-            let _ = eprintln!(rt; "error: invalid value '{path}' for '--config <FILE>': {fault}");
-            Err(ExitCode::from(2))
-        }
+    if asks_check(&words) {
+        check_file(rt, format, &path)?;
     }
+    read_words(rt, &path, words).map_err(|fault| refuse_file(rt, format, &path, &fault))
+}
+
+/// Says why the file at this path is refused, and gives the status.
+pub(crate) fn refuse_file<R: Eprint + Clock>(
+    rt: &R,
+    format: LogFormat,
+    path: &str,
+    fault: &ConfigFault,
+) -> ExitCode {
+    if let ConfigFault::Memory = fault {
+        return ended(rt, format, &[Some(Fault::Memory)]);
+    }
+    let reason = format_args!("invalid value '{path}' for '--config <FILE>': {fault}");
+    say(rt, format, "error", reason);
+    ExitCode::from(2)
 }
 
 /// The words of the file at this path, and behind them those of the command line.
@@ -138,24 +157,17 @@ fn read_words<R: Files + AllocGlobal>(
     path: &str,
     words: Vec<String>,
 ) -> Result<Vec<String>, ConfigFault> {
-    let file = fs::open(rt, path).map_err(|error| ConfigFault::Open(error))?;
-    let text = read_config(rt.alloc(), &mut Device::new(file))?;
+    let text = read_text(rt, path)?;
     with_config(rt.alloc(), &text, words)
+}
+
+/// The text of the file at this path.
+pub(crate) fn read_text<R: Files + AllocGlobal>(rt: &R, path: &str) -> Result<String, ConfigFault> {
+    let file = fs::open(rt, path).map_err(|error| ConfigFault::Open(error))?;
+    read_config(rt.alloc(), &mut Device::new(file))
 }
 
 /// Whether one of the words asks for help or the version.
 fn asks_help(words: &[String]) -> bool {
     words.iter().any(|word| matches!(word.as_str(), "--help" | "-h" | "--version" | "-V"))
-}
-
-/// Tells the faults, and gives the status that the last one makes.
-fn ended(rt: &impl Eprint, faults: &[Option<Fault<'_>>]) -> ExitCode {
-    let mut status = ExitCode::SUCCESS;
-    for fault in faults {
-        if let Some(fault) = fault {
-            let _ = eprintln!(rt; "nmvs-serve: {fault}");
-            status = ExitCode::from(fault.status());
-        }
-    }
-    status
 }

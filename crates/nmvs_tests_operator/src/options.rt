@@ -4,7 +4,7 @@ use nmvs_log::LogFormat;
 use nmvs_messages::NameOf;
 use nmvs_operator::{OptionFault, Options, read_options};
 use std::alloc::Global;
-use std::net::{IpAddr, Ipv4Addr, Ipv6Addr};
+use std::net::{IpAddr, Ipv4Addr, Ipv6Addr, SocketAddr};
 use std::process::Abort;
 use std::test::*;
 
@@ -29,19 +29,26 @@ fn options_have_defaults(rt: HostRuntime) {
         (options.shards, options.workers, options.sessions),
         (8, 4, 0)
     );
-    assert_eq!(rt;
-        (options.port, options.moment, options.stdin),
-        (7161, None, false)
-    );
+    assert_eq!(rt; (options.moment, options.stdin), (None, false));
     assert_eq!(rt; (options.connections, options.idle), (10_000, 300));
     assert_eq!(rt; (options.rate, options.burst), (0, 0));
-    assert_eq!(rt; options.bind, IpAddr::V4(Ipv4Addr::new(127, 0, 0, 1)));
+    assert_eq!(rt; options.address, own(7161));
     assert!(rt; options.socket.is_none() && options.proxy.is_none() && options.journal.is_none());
     assert!(rt; options.admin.is_none() && options.metrics.is_none());
     assert_eq!(rt;
         (options.log_level, options.log_format),
         (LevelFilter::Info, LogFormat::Text)
     );
+}
+
+/// This port of 127.0.0.1.
+fn own(port: u16) -> SocketAddr {
+    SocketAddr::new(IpAddr::V4(Ipv4Addr::new(127, 0, 0, 1)), port)
+}
+
+/// This port of ::1.
+fn own_v6(port: u16) -> SocketAddr {
+    SocketAddr::new(IpAddr::V6(Ipv6Addr::new(0, 0, 0, 0, 0, 0, 0, 1)), port)
 }
 
 /// Whether a path is this one.
@@ -81,15 +88,12 @@ fn all_options_are_taken_together(rt: HostRuntime) {
         (options.shards, options.workers, options.sessions),
         (1, 8, 1_000_000)
     );
-    assert_eq!(rt; (options.port, options.stdin), (65_535, true));
+    assert!(rt; options.stdin);
     assert_eq!(rt; (options.connections, options.idle), (100_000, 86_400));
     assert_eq!(rt; (options.rate, options.burst), (1_000_000, 1));
     assert!(rt; is_path(&options.socket, "S"));
     assert_eq!(rt; options.proxy, Some(NameOf::Authorisation));
-    assert_eq!(rt;
-        options.bind,
-        IpAddr::V6(Ipv6Addr::new(0, 0, 0, 0, 0, 0, 0, 1))
-    );
+    assert_eq!(rt; options.address, own_v6(65_535));
     let words = [
         "--rehearsal",
         "--journal=D",
@@ -104,12 +108,39 @@ fn all_options_are_taken_together(rt: HostRuntime) {
         panic!(rt; "refused");
     };
     assert!(rt; is_path(&options.journal, "D") && is_path(&options.admin, "A"));
-    assert!(rt; options.users.is_none() && options.metrics == Some(9161));
+    assert!(rt; options.users.is_none() && options.metrics == Some(own(9161)));
     assert_eq!(rt; options.moment, Moment::new(1_767_225_600));
     assert_eq!(rt;
         (options.log_level, options.log_format),
         (LevelFilter::Debug, LogFormat::Json)
     );
+}
+
+#[test]
+fn places_to_listen_are_read(rt: HostRuntime) {
+    for (words, address, path) in [
+        (&["--listen=7162"][..], own(7162), None),
+        (&["--listen", "127.0.0.1:0"], own(0), None),
+        (&["--listen=[::1]:7161"], own_v6(7161), None),
+        (
+            &["--listen=10.0.0.1:7161", "--bind=127.0.0.1"],
+            own(7161),
+            None,
+        ),
+        (&["--listen=127.0.0.1:7161", "--port=1"], own(1), None),
+        (&["--bind=::1"], own_v6(7161), None),
+        (&["--listen=/run/sock"], own(0), Some("/run/sock")),
+        (&["--listen=/run/sock", "--socket=S"], own(0), Some("S")),
+    ] {
+        let mut given = Vec::new(rt.alloc());
+        given.push("--users=F").expect(&rt, "memory");
+        given.extend_from_slice(words).expect(&rt, "memory");
+        let Ok(options) = read(&rt, rt.alloc(), &given) else {
+            panic!(rt; "refused");
+        };
+        assert_eq!(rt; options.address, address);
+        assert_eq!(rt; options.socket.as_deref(), path);
+    }
 }
 
 #[test]
@@ -132,6 +163,14 @@ fn other_lines_are_refused(rt: HostRuntime) {
         "--proxy",
         "--proxy=users",
         "--metrics=65536",
+        "--metrics=localhost:9161",
+        "--metrics=/run/metrics",
+        "--listen",
+        "--listen=",
+        "--listen=65536",
+        "--listen=127.0.0.1",
+        "--listen=::1:7161",
+        "--listen=localhost:7161",
         "--log-level=trace",
         "--log-format=xml",
         "--rehearsal",
@@ -160,7 +199,8 @@ fn help_and_version_are_told(rt: HostRuntime) {
     let Err(OptionFault::Help(text)) = read(&rt, rt.alloc(), &["--help"]) else {
         panic!(rt; "no help");
     };
-    assert!(rt; text.contains("--users <FILE>") && text.contains("[default: 7161]"));
+    assert!(rt; text.contains("--users <FILE>") && text.contains("[default: 127.0.0.1:7161]"));
+    assert!(rt; text.contains("--listen <ADDRESS>") && !text.contains("--socket"));
     for word in ["--version", "-V"] {
         let version = read(&rt, rt.alloc(), &[word]);
         assert!(rt; matches!(version, Err(OptionFault::Help(_))), "{word}");

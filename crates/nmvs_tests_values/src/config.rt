@@ -1,4 +1,6 @@
-use nmvs_config::{ConfigFault, EntryFault, Kind, config_path, read_config, with_config};
+use nmvs_config::{
+    ConfigFault, EntryFault, Kind, config_path, entry_faults, read_config, with_config,
+};
 use nmvs_stream::Device;
 use std::alloc::Global;
 use std::process::Abort;
@@ -88,6 +90,27 @@ fn other_files_are_refused(rt: HostRuntime) {
             "{text}"
         );
     }
+}
+
+#[test]
+fn all_faults_of_a_file_are_found(rt: HostRuntime) {
+    let text = "users = 2\nshard = 2\nshards = 2\n";
+    let Ok(faults) = entry_faults(rt.alloc(), text) else {
+        panic!(rt; "refused");
+    };
+    assert_eq!(rt; faults.len(), 2);
+    for ((key, fault), (named, wanted)) in faults.iter().zip([
+        ("shard", EntryFault::Unknown),
+        ("users", EntryFault::Mistyped(Kind::Text)),
+    ]) {
+        assert!(rt; key.as_str() == named && *fault == wanted, "{key}");
+    }
+    assert!(rt;
+        matches!(
+            entry_faults(rt.alloc(), "users\n"),
+            Err(ConfigFault::Syntax(1))
+        )
+    );
 }
 
 #[test]

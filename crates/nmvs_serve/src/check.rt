@@ -1,0 +1,100 @@
+//! What `--check` says: all that is wrong with the file of options and with the users file. Nothing is started.
+use crate::report::{ended, say};
+use crate::{read_text, refuse_file};
+use nmvs_config::{ConfigFault, EntryFault, entry_faults};
+use nmvs_log::LogFormat;
+use nmvs_operator::{LoadFault, Options, UsersFault, users_faults, users_trouble};
+use nmvs_server::Fault;
+use std::fs;
+use std::process::ExitCode;
+use std::rt::{Clock, Files};
+
+/// Whether the words of a command line ask for it.
+pub(crate) fn asks_check(words: &[String]) -> bool {
+    words.iter().any(|word| word.as_str() == "--check")
+}
+
+/// Says each fault of the entries of the file of options at this path. Where there is one, it gives the status of a start.
+pub(crate) fn check_file<R: Files + Eprint + Clock + AllocGlobal>(
+    rt: &R,
+    format: LogFormat,
+    path: &str,
+) -> Result<(), ExitCode> {
+    match faults_of_file(rt, path) {
+        Ok(faults) if faults.is_empty() => Ok(()),
+        Ok(faults) => {
+            for (key, fault) in &faults {
+                let reason = format_args!(
+                    "invalid value '{path}' for '--config <FILE>': '{key}' {fault}"
+                );
+                say(rt, format, "error", reason);
+            }
+            Err(ExitCode::from(2))
+        }
+        Err(fault) => Err(refuse_file(rt, format, path, &fault)),
+    }
+}
+
+/// The faults of the entries of the file of options at this path.
+fn faults_of_file<R: Files + AllocGlobal>(
+    rt: &R,
+    path: &str,
+) -> Result<Vec<(String, EntryFault)>, ConfigFault> {
+    let text = read_text(rt, path)?;
+    entry_faults(rt.alloc(), &text)
+}
+
+/// Says each fault of the users file of the options, and gives the status of a start with it.
+pub(crate) fn check_users<R: Files + Eprint + Clock + AllocGlobal>(
+    rt: &R,
+    options: &Options,
+) -> ExitCode {
+    let format = options.log_format;
+    let Some(path) = &options.users else {
+        return ExitCode::SUCCESS;
+    };
+    let Ok(bytes) = fs::read(rt, path) else {
+        say(rt, format, "nmvs-serve", format_args!("cannot read {path}"));
+        return ExitCode::from(1);
+    };
+    match users_faults(rt.alloc(), &bytes) {
+        Ok(faults) => say_all(rt, format, &faults),
+        Err(_) => ended(rt, format, &[Some(Fault::Memory)]),
+    }
+}
+
+/// Says the faults of a users file, each with its line in quotes.
+fn say_all<R: Eprint + Clock>(rt: &R, format: LogFormat, faults: &[UsersFault<'_>]) -> ExitCode {
+    let mut status = ExitCode::SUCCESS;
+    for found in faults {
+        say_fault(rt, format, found);
+        status = ExitCode::from(1);
+    }
+    status
+}
+
+/// Says a fault of a users file, with its line in quotes.
+fn say_fault<R: Eprint + Clock>(rt: &R, format: LogFormat, found: &UsersFault<'_>) {
+    let line = found.line.escape_ascii();
+    let opening = "nmvs-serve";
+    match found.fault {
+        LoadFault::Line(number, fault) => {
+            let trouble = users_trouble(fault);
+            say(
+                rt,
+                format,
+                opening,
+                format_args!("users line {number}: {trouble}: \"{line}\""),
+            );
+        }
+        LoadFault::Unended(number) => {
+            say(
+                rt,
+                format,
+                opening,
+                format_args!("users line {number}: it has no end: UNENDED: \"{line}\""),
+            );
+        }
+        LoadFault::Memory | LoadFault::Read => {}
+    }
+}
