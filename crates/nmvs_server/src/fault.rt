@@ -91,7 +91,7 @@ impl<'a> Fault<'a> {
     pub(crate) fn of_listening(options: &'a Options) -> Fault<'a> {
         match &options.socket {
             Some(path) => Fault::CannotListenAt(path),
-            None => Fault::CannotListen(options.port),
+            None => Fault::CannotListen(options.address.port()),
         }
     }
 }

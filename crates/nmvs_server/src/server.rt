@@ -21,24 +21,19 @@ pub(crate) struct Config<'r, 'o, R> {
     pub(crate) metrics: &'r Metrics,
 }
 
-/// A server whose repository is open.
+/// An open server: what its workers share. `J` names its directory of users, `H` the histories of its shards, and its log.
 #[derive(Drop)]
-pub(crate) struct Server<'s, 'r, 'o, R, J: Naming, H: Histories> {
-    pub(crate) config: &'s Config<'r, 'o, R>,
-    pub(crate) listener: &'s Listener,
-    pub(crate) latest: &'s Mutex<Notice<J>>,
-    pub(crate) repository: &'s Repository<'r, H>,
-}
-
-/// What the workers of a server share.
-#[derive(Drop)]
-pub(crate) struct Shared<'s, 'f, 'r, 'o, R, J: Naming, H: Histories, L: LogName> {
-    pub(crate) server: &'s Server<'f, 'r, 'o, R, J, H>,
-    pub(crate) pool: &'s WorkerPool<'r>,
+pub(crate) struct Server<'f, 'r, 'o, R, J: Naming, H: Histories + LogName> {
+    pub(crate) config: &'f Config<'r, 'o, R>,
+    pub(crate) listener: &'f Listener,
+    /// The notice of the users that were published last.
+    pub(crate) latest: &'f Mutex<Notice<J>>,
+    pub(crate) repository: &'f Repository<'r, H>,
     /// The log that answers wait for, where there is one.
-    pub(crate) log: &'s Option<CommitLog<'f, 'r, LogStore<'r>, H, L>>,
+    pub(crate) log: Option<CommitLog<'f, 'r, LogStore<'r>, H, H>>,
+    pub(crate) pool: WorkerPool<'r>,
     /// How much each user may still ask, where there is a rate.
-    pub(crate) limiter: &'s Option<SharedLimiter<Global>>,
+    pub(crate) limiter: Option<SharedLimiter<Global>>,
     /// Whether the workers may begin: it is locked until all of them are there.
-    pub(crate) ready: &'s Mutex<bool>,
+    pub(crate) ready: Mutex<bool>,
 }

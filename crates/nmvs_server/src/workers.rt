@@ -3,15 +3,15 @@ ghost use Rattle.std.specs.Prelude.{◌≡◌};
 ghost use Rattle.nmvs_server.specs.Bounds.{sessions_of};
 
 use crate::announcements::{listening_at, listening_on};
-use crate::log_start::LogAlarm;
-use crate::server::{Config, Shared};
+use crate::confirming::{close_log, write_log};
+use crate::server::{Config, Server};
 use crate::service::Running;
 use log::{Log, info};
 use nmvs_connections::{Bounds, Listener, Poller, accept_loop, serve};
 use nmvs_desk::Clerk;
 use nmvs_directory::{Naming, Registrar};
 use nmvs_history::Histories;
-use nmvs_journal::LogName;
+use nmvs_journal::{LogName, Unconfirmed};
 use nmvs_messages::Desk;
 use nmvs_operator::{Latest, Options, obey_all};
 use nmvs_reception::{ClerkDesk, JournalDesk, ProgramClock};
@@ -46,44 +46,43 @@ pub(crate) fn bounds_of(options: &Options, workers: usize) -> Bounds
 
 /// Serves the connections that are dealt to the worker of this number, and gives the clerk back. Where it can't go on it
 /// ends the service.
-fn work<'r, R: Wait + Clock + Log, J: Naming, H: Histories, L: LogName>(
-    shared: &Shared<'_, '_, 'r, '_, R, J, H, L>,
+fn work<'r, R: Wait + Clock + Log, J: Naming, H: Histories + LogName>(
+    server: &Server<'_, 'r, '_, R, J, H>,
     clerk: Clerk<'r, J, H>,
     number: usize,
     poller: Poller,
 ) -> Clerk<'r, J, H> {
-    if !may_begin(shared) {
+    if !may_begin(server) {
         return clerk;
     }
-    let desk = desk_of(shared, clerk, number);
-    match shared.log {
-        None => serve_by_desk(shared, number, poller, desk).into_clerk(),
+    let desk = desk_of(server, clerk, number);
+    match &server.log {
+        None => serve_by_desk(server, number, poller, desk).into_clerk(),
         Some(log) => {
-            let config = shared.server.config;
+            let config = server.config;
             let confirmed = log.confirmed(config.run.rt);
-            let desk = JournalDesk::new(desk, log, confirmed, LogAlarm::new(config));
-            serve_by_desk(shared, number, poller, desk).into_clerk()
+            let desk = JournalDesk::new(desk, log, confirmed);
+            serve_by_desk(server, number, poller, desk).into_clerk()
         }
     }
 }
 
 /// Whether all workers are there. It waits until that is known.
-fn may_begin<R: Wait, J: Naming, H: Histories, L: LogName>(
-    shared: &Shared<'_, '_, '_, '_, R, J, H, L>,
+fn may_begin<R: Wait, J: Naming, H: Histories + LogName>(
+    server: &Server<'_, '_, '_, R, J, H>,
 ) -> bool {
-    let run = &shared.server.config.run;
-    *shared.ready.lock(run.rt)
+    let run = &server.config.run;
+    *server.ready.lock(run.rt)
 }
 
 /// The desk of the clerk of the worker of this number. The clerk keeps no receipts: at the end its places alone are looked at.
-fn desk_of<'s, 'r, R: Wait + Clock + Log, J: Naming, H: Histories, L: LogName>(
-    shared: &Shared<'s, '_, 'r, '_, R, J, H, L>,
+fn desk_of<'s, 'r, R: Wait + Clock + Log, J: Naming, H: Histories + LogName>(
+    server: &'s Server<'_, 'r, '_, R, J, H>,
     clerk: Clerk<'r, J, H>,
     number: usize,
 ) -> ClerkDesk<'s, 'r, R, J, H, ProgramClock<'s, R>> {
     let mut clerk = clerk;
     clerk.keep_no_receipts();
-    let server = shared.server;
     let run = &server.config.run;
     let clock = ProgramClock::new(run.rt, run.options.moment);
     let metrics = server.config.metrics.worker(number);
@@ -92,40 +91,42 @@ fn desk_of<'s, 'r, R: Wait + Clock + Log, J: Naming, H: Histories, L: LogName>(
         clerk,
         server.repository,
         server.latest,
-        shared.limiter.as_ref(),
+        server.limiter.as_ref(),
         clock,
         metrics,
     )
 }
 
 /// Serves connections by a desk, and gives the desk back. Where it can't go on it ends the service.
-fn serve_by_desk<'r, R: Wait + Clock + Log, J: Naming, H: Histories, L: LogName, D: Desk<'r>>(
-    shared: &Shared<'_, '_, 'r, '_, R, J, H, L>,
+fn serve_by_desk<'r, R: Wait + Clock + Log, J: Naming, H: Histories + LogName, D: Desk<'r>>(
+    server: &Server<'_, 'r, '_, R, J, H>,
     number: usize,
     poller: Poller,
     mut desk: D,
 ) -> D {
-    let run = &shared.server.config.run;
-    if serve(run.rt, *run.alloc, shared.pool, number, poller, &mut desk).is_err() {
-        shared.pool.stop(run.rt);
+    let run = &server.config.run;
+    if serve(run.rt, *run.alloc, &server.pool, number, poller, &mut desk).is_err() {
+        server.pool.stop(run.rt);
     }
     desk
 }
 
 /// Accepts connections for the workers. Where it can't go on it ends the service.
-fn accept<R: Wait + Log, J: Naming, H: Histories, L: LogName>(
-    shared: &Shared<'_, '_, '_, '_, R, J, H, L>,
+fn accept<R: Wait + Log, J: Naming, H: Histories + LogName>(
+    server: &Server<'_, '_, '_, R, J, H>,
     acceptor: Poller,
 ) {
-    let server = shared.server;
     let run = &server.config.run;
-    if accept_loop(run.rt, shared.pool, server.listener, acceptor).is_err() {
-        shared.pool.stop(run.rt);
+    if accept_loop(run.rt, &server.pool, server.listener, acceptor).is_err() {
+        server.pool.stop(run.rt);
     }
 }
 
-/// Serves connections in as many threads as there are clerks, accepts them in one more, and carries out the operator's
-/// commands in this one. It returns the clerks once the commands have ended and the pool has closed.
+/// The clerks of a server whose workers have ended, and how many entries its log has confirmed, where these are all.
+pub(crate) type Served<'r, J, H> = (Vec<Clerk<'r, J, H>, &'r Global>, Result<usize, Unconfirmed>);
+
+/// Serves connections in as many threads as there are clerks, accepts them in one more, writes the log in another, and carries
+/// out the operator's commands in this one. It returns once the commands have ended and the pool has closed.
 ///
 /// # Errors
 ///
@@ -135,45 +136,50 @@ pub(crate) fn serve_connections<
     // Not `Host`: what a thread runs may rest on traits of the library alone.
     R: Threads + Wait + Clock + Files<File = File> + Eprint + Log + Sync,
     J: Naming + Send + Sync,
-    H: Histories + Send + Sync,
-    L: LogName + Send + Sync,
+    H: Histories + LogName + Send + Sync,
     T: Sides,
 >(
-    shared: &Shared<'_, '_, 'r, '_, R, J, H, L>,
+    server: &Server<'_, 'r, '_, R, J, H>,
     clerks: Vec<Clerk<'r, J, H>, &'r Global>,
     pollers: (Vec<Poller>, Poller),
-    service: &mut Running<'_, '_, 'r, '_, R, J, H, L>,
+    running: &mut Running<'_, '_, 'r, '_, R, J, H>,
     registrar: &mut Registrar<J, &'r R, &'r Global>,
     console: &mut Console<T>,
-) -> Result<Vec<Clerk<'r, J, H>, &'r Global>, AllocError> {
-    let run = &shared.server.config.run;
+) -> Result<Served<'r, J, H>, AllocError> {
+    let run = &server.config.run;
     let (pollers, acceptor) = pollers;
     thread::scope(thread::scope_env(), run.rt, |scope| {
-        let mut ready = shared.ready.lock(run.rt);
+        let mut ready = server.ready.lock(run.rt);
         let mut workers = Vec::with_capacity(*run.alloc, clerks.len())?;
         // room for the clerks is made before anything is served, so that no trail is lost for want of it
         let mut back = Vec::with_capacity(run.alloc, clerks.len())?;
         let mut number = 0usize;
         for (clerk, poller) in clerks.into_iter().zip(pollers) {
             let place = number;
-            let kept = match scope.spawn(move || work(shared, clerk, place, poller)) {
+            let kept = match scope.spawn(move || work(server, clerk, place, poller)) {
                 Ok(worker) => workers.push(worker).or(Err(AllocError)),
                 Err(_) => Err(AllocError),
             };
             kept?;
             number = number.saturating_add(1);
         }
-        let Ok(accepting) = scope.spawn(move || accept(shared, acceptor)) else {
+        let Ok(accepting) = scope.spawn(move || accept(server, acceptor)) else {
+            return Err(AllocError);
+        };
+        let Ok(writing) = scope.spawn(move || write_log(server)) else {
+            server.pool.stop(run.rt);
             return Err(AllocError);
         };
         *ready = true;
         drop(ready);
-        take_commands(service, registrar, console);
+        take_commands(running, registrar, console);
         for worker in workers {
-            back.push(worker.join(run.rt))?;
+            let _room_was_made = back.push(worker.join(run.rt));
         }
         accepting.join(run.rt);
-        Ok(back)
+        let confirmed = close_log(server, &mut back);
+        writing.join(run.rt);
+        Ok((back, confirmed))
     })
 }
 
@@ -182,20 +188,19 @@ fn take_commands<
     'r,
     R: Wait + Clock + Files<File = File> + Eprint + Log,
     J: Naming,
-    H: Histories,
-    L: LogName,
+    H: Histories + LogName,
     T: Sides,
 >(
-    service: &mut Running<'_, '_, 'r, '_, R, J, H, L>,
+    running: &mut Running<'_, '_, 'r, '_, R, J, H>,
     registrar: &mut Registrar<J, &'r R, &'r Global>,
     console: &mut Console<T>,
 ) {
-    let server = service.shared.server;
+    let server = running.server;
     let config = server.config;
     config.metrics.note_ready();
     tell_place(config, server.listener, &mut console.sink);
     let mut latest = Latest::new(config.run.rt, server.latest);
-    obey_all(*config.run.alloc, console, registrar, &mut latest, service);
+    obey_all(*config.run.alloc, console, registrar, &mut latest, running);
 }
 
 /// Tells on which port the program listens, or where its socket is. A failed write changes nothing.

@@ -1,0 +1,98 @@
+//! The end of a server: its trail is marked, exported and settled.
+ghost use Rattle.std.specs.Prelude.{◌≡◌, OnOk};
+
+use crate::announcements::settled_text;
+use crate::server::Config;
+use crate::{Fault, Host};
+use log::{Log, info};
+use nmvs_desk::{Clerk, Repository, settle};
+use nmvs_directory::Naming;
+use nmvs_history::Histories;
+use nmvs_journal::Unconfirmed;
+use nmvs_recovery::{Paths, Run, Unwaited, export, mark, mark_users};
+use nmvs_shard::Shard;
+use nmvs_stream::{Sink, deliver};
+use std::alloc::Global;
+
+/// Marks how far the log, where there is one, has confirmed the trail: all of it.
+pub(crate) fn mark_all<'r, 'o, R: Host>(
+    config: &Config<'r, 'o, R>,
+    paths: Option<&Paths<'o>>,
+    confirmed: Result<usize, Unconfirmed>,
+) -> Result<(), Fault<'o>> {
+    let Some(paths) = paths else {
+        return Ok(());
+    };
+    match confirmed {
+        Ok(count) => {
+            config.metrics.note_all_confirmed();
+            mark_end(config, paths, count)
+        }
+        Err(Unconfirmed) => Err(Fault::JournalUnwritten(paths.folder)),
+    }
+}
+
+/// Marks all of the log, and of the changes of the users.
+fn mark_end<'r, 'o, R: Host>(
+    config: &Config<'r, 'o, R>,
+    paths: &Paths<'o>,
+    count: usize,
+) -> Result<(), Fault<'o>> {
+    let marked = mark(&config.run, paths, &paths.mark, count);
+    match marked.and_then(|_| mark_users(&config.run, paths)) {
+        Ok(()) => Ok(()),
+        Err(fault) => Err(Fault::File(fault)),
+    }
+}
+
+/// Writes the export, settles the repository, and tells how long the trail of each shard is.
+pub(crate) fn close<'r, 'o, J: Naming, H: Histories, R: Host, W: Sink>(
+    config: &Config<'r, 'o, R>,
+    repository: Repository<'r, H>,
+    clerks: Vec<Clerk<'r, J, H>, &'r Global>,
+    out: &mut W,
+) -> Result<(), Fault<'o>> {
+    prepare_settlement(config, &repository, clerks.len())?;
+    match settle(config.run.alloc, repository, clerks) {
+        Ok(settled) => {
+            tell_settled(&config.run, &settled.shards, out);
+            Ok(())
+        }
+        Err(_) => Err(Fault::Memory),
+    }
+}
+
+/// Writes the export, and refuses to settle where not all clerks are back.
+fn prepare_settlement<'r, 'o, H: Histories, R: Host>(
+    config: &Config<'r, 'o, R>,
+    repository: &Repository<'r, H>,
+    clerks: usize,
+) -> Result<(), Fault<'o>>
+    ensures { OnOk result (clerks ≡ repository.now.clerks) }
+{
+    export_at_end(config, repository)?;
+    if clerks != repository.clerks() {
+        return Err(Fault::LostClerk);
+    }
+    Ok(())
+}
+
+/// Writes the export to the file of the options, where they name one.
+pub(crate) fn export_at_end<'r, 'o, H: Histories, R: Host>(
+    config: &Config<'r, 'o, R>,
+    repository: &Repository<'r, H>,
+) -> Result<(), Fault<'o>> {
+    // All of the trail is confirmed before the end.
+    match export(&config.run, repository, &Unwaited) {
+        Ok(()) => Ok(()),
+        Err(fault) => Err(Fault::File(fault)),
+    }
+}
+
+/// Tells that the repository is settled, with the length of each trail. A failed write changes nothing.
+fn tell_settled<R: Log, W: Sink>(run: &Run<'_, '_, R>, shards: &[Shard<&Global>], out: &mut W) {
+    info!(run.rt; shards = shards.len(); "settled");
+    if let Ok(text) = settled_text(*run.alloc, shards) {
+        let _failed = deliver(out, text.as_bytes());
+    }
+}

@@ -1,0 +1,65 @@
+//! Where a server listens.
+use crate::{Fault, Host};
+use libc::types::rlimit;
+use log::{Log, error, info, warn};
+use nmvs_connections::Listener;
+use nmvs_operator::Options;
+use std::io;
+use std::net::Net;
+use std::rt::Files;
+
+/// How many descriptors a server takes beside those of its connections, at most (own).
+const FURTHER_DESCRIPTORS: u64 = 48;
+
+/// Listens on the socket of the options, or else on their address. Where one session is served over the console it listens
+/// nowhere.
+///
+/// # Errors
+///
+/// The system refused it, which is logged.
+pub(crate) fn listen<'o, R: Host>(
+    rt: &R,
+    options: &'o Options,
+) -> Result<Option<Listener>, Fault<'o>> {
+    if options.stdin {
+        return Ok(None);
+    }
+    tell_descriptors(rt, options);
+    match open_listener(rt, options) {
+        Ok(listener) => Ok(Some(listener)),
+        Err(error) => Err(refused(rt, options, error)),
+    }
+}
+
+/// Listens on the socket of the options, or else on their address.
+fn open_listener<R: Files + Net>(rt: &R, options: &Options) -> io::Result<Listener> {
+    match &options.socket {
+        Some(path) => Listener::on_path(rt, path),
+        None => Listener::on_port(rt, options.address),
+    }
+}
+
+/// Logs why it can't be listened where the options say.
+fn refused<'o, R: Log>(rt: &R, options: &'o Options, error: io::Error) -> Fault<'o> {
+    let fault = Fault::of_listening(options);
+    error!(rt; "{fault}: {error}");
+    fault
+}
+
+/// Logs how many descriptors the process may have, and that they are too few, where they are.
+fn tell_descriptors<R: Log>(rt: &R, options: &Options) {
+    let mut limit = rlimit {
+        rlim_cur: 0,
+        rlim_max: 0,
+    };
+    if libc::getrlimit(libc::RLIMIT_NOFILE, &mut limit) != 0 {
+        return;
+    }
+    let most = limit.rlim_cur;
+    let connections = options.connections;
+    if most < (connections as u64).saturating_add(FURTHER_DESCRIPTORS) {
+        warn!(rt; most, connections; "fewer descriptors than connections may be open: raise ulimit -n");
+    } else {
+        info!(rt; most; "descriptors");
+    }
+}
