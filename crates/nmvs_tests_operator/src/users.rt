@@ -4,7 +4,7 @@ ghost use Rattle.nmvs_directory.specs.Directory.{directory_book};
 use nmvs_directory::{Directory, Look, Naming, Notice, Registrar};
 use nmvs_identifier::Name;
 use nmvs_messages::CommandFault;
-use nmvs_operator::{LoadFault, load_users, users_faults};
+use nmvs_operator::{LoadFault, UsersFault, load_users, users_faults};
 use nmvs_rules::{Actor, Role};
 use nmvs_stream::Device;
 use std::alloc::Global;
@@ -71,24 +71,34 @@ fn a_users_file_is_published_or_refused(rt: HostRuntime) {
     users_are_loaded::<Brand, _>(&rt, rt.alloc(), Directory::new());
 }
 
+/// Asserts what fault stands at this place, and of which line.
+fn assert_fault(
+    rt: &impl Abort,
+    faults: &[UsersFault<'_>],
+    place: usize,
+    fault: LoadFault,
+    line: &str,
+) {
+    let found = faults.get(place).expect(rt, "a fault");
+    assert_eq!(rt; found.fault, fault);
+    assert_eq!(rt; found.line, line.as_bytes());
+}
+
 #[test]
 fn all_faults_of_a_users_file_are_found(rt: HostRuntime) {
     let text = b"SUSPEND p/1\n#\n\nSUSPEND ph1\nENROL ph9 DOCTOR PH-9 P9\nSUSPEND ph2";
     let faults = users_faults(rt.alloc(), text).expect(&rt, "memory");
     assert_eq!(rt; faults.len(), 3);
-    for (found, (fault, line)) in faults.iter().zip([
-        (
-            LoadFault::Line(1, CommandFault::Name),
-            b"SUSPEND p/1".as_slice(),
-        ),
-        (
-            LoadFault::Line(5, CommandFault::Role),
-            b"ENROL ph9 DOCTOR PH-9 P9",
-        ),
-        (LoadFault::Unended(6), b"SUSPEND ph2"),
-    ]) {
-        assert_eq!(rt; (found.fault, found.line), (fault, line));
-    }
+    let (name, role) = (CommandFault::Name, CommandFault::Role);
+    assert_fault(&rt, &faults, 0, LoadFault::Line(1, name), "SUSPEND p/1");
+    assert_fault(
+        &rt,
+        &faults,
+        1,
+        LoadFault::Line(5, role),
+        "ENROL ph9 DOCTOR PH-9 P9",
+    );
+    assert_fault(&rt, &faults, 2, LoadFault::Unended(6), "SUSPEND ph2");
     let none = users_faults(rt.alloc(), USERS.as_bytes()).expect(&rt, "memory");
     assert!(rt; none.is_empty());
 }
