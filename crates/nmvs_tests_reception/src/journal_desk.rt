@@ -62,7 +62,38 @@ fn ask_thrice<'a, D: Desk<'a>>(
     told
 }
 
-/// Asks three times at a desk of the clerk, while another thread writes the log.
+/// Asks three times at a desk, while another thread writes its log.
+fn ask_while_written<
+    'l,
+    'r,
+    'v,
+    's,
+    'f,
+    'a,
+    J: Naming,
+    H: Histories + Send + Sync,
+    L: LogName + Send + Sync,
+    R: Threads + Wait + Clock + Log + Abort + Sync,
+>(
+    rt: &'l R,
+    alloc: Global,
+    log: &'l CommitLog<'s, 'a, Filed<FakeFile<'f>>, H, L>,
+    desk: &'l mut JournalDesk<'r, 'v, 's, 'a, R, J, H, ProgramClock<'r, R>, Filed<FakeFile<'f>>, L>,
+    calls: &'l Mutex<Calls>,
+) -> usize {
+    let (_run, told) = join(
+        rt,
+        || log.run(rt).is_ok(),
+        || {
+            let told = ask_thrice(rt, alloc, desk, calls);
+            log.close(rt);
+            told
+        },
+    );
+    told
+}
+
+/// Asks three times at a desk of the clerk.
 fn ask_by_log<
     'a,
     's,
@@ -92,16 +123,7 @@ fn ask_by_log<
     let counts = metrics.worker(0);
     let desk = ClerkDesk::new(rt, clerk, repository, latest, None, clock, counts);
     let mut desk = JournalDesk::new(desk, &log, log.confirmed(rt));
-    let (_run, told) = join(
-        rt,
-        || log.run(rt).is_ok(),
-        || {
-            let told = ask_thrice(rt, alloc, &mut desk, calls);
-            log.close(rt);
-            told
-        },
-    );
-    told
+    ask_while_written(rt, alloc, &log, &mut desk, calls)
 }
 
 /// Asks by a log that is named here.
