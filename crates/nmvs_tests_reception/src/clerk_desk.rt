@@ -23,7 +23,6 @@ use std::process::Abort;
 use std::rt::Clock as SystemClock;
 use std::sync::{Mutex, Wait};
 use std::test::*;
-use std::thread::Threads;
 
 /// The users of the rehearsal, as commands.
 const USERS: &str =
@@ -218,13 +217,7 @@ struct AskLines<'e> {
 impl<'e> Visit for AskLines<'e> {
     type Output = Result<(), Fail>;
 
-    fn visit<
-        'r,
-        'a,
-        J: Naming,
-        H: Histories + Send + Sync,
-        R: Threads + Wait + SystemClock + Log + Abort + Sync,
-    >(
+    fn visit<'r, 'a, J: Naming, H: Histories, R: Wait + SystemClock + Log + Abort + Sync>(
         self,
         rt: &'r R,
         mut opened: Opened<'a, J, H>,
@@ -257,7 +250,7 @@ impl<'e> Visit for AskLines<'e> {
 }
 
 /// Runs each example at a desk of its own, over one shard.
-fn get_their_answers<R: Threads + Wait + SystemClock + Log + Abort + Sync>(
+fn get_their_answers<R: Wait + SystemClock + Log + Abort + Sync>(
     rt: &R,
     alloc: Global,
     examples: &[Example],
@@ -344,13 +337,7 @@ struct AskOfPeers;
 impl Visit for AskOfPeers {
     type Output = Result<(), Fail>;
 
-    fn visit<
-        'r,
-        'a,
-        J: Naming,
-        H: Histories + Send + Sync,
-        R: Threads + Wait + SystemClock + Log + Abort + Sync,
-    >(
+    fn visit<'r, 'a, J: Naming, H: Histories, R: Wait + SystemClock + Log + Abort + Sync>(
         self,
         rt: &'r R,
         mut opened: Opened<'a, J, H>,

@@ -18,19 +18,12 @@ use std::marker::Brand;
 use std::process::Abort;
 use std::rt::Clock;
 use std::sync::{Mutex, Wait};
-use std::thread::Threads;
 
 /// What a test does at a repository that was just opened.
 pub trait Visit {
     type Output;
 
-    fn visit<
-        'r,
-        'a,
-        J: Naming,
-        H: Histories + Send + Sync,
-        R: Threads + Wait + Clock + Log + Abort + Sync,
-    >(
+    fn visit<'r, 'a, J: Naming, H: Histories, R: Wait + Clock + Log + Abort + Sync>(
         self,
         rt: &'r R,
         opened: Opened<'a, J, H>,
@@ -40,7 +33,7 @@ pub trait Visit {
 }
 
 /// Makes the visit to a repository whose trail is empty, and whose directory has the users of this file.
-pub fn at_repository<V: Visit, R: Threads + Wait + Clock + Log + Abort + Sync>(
+pub fn at_repository<V: Visit, R: Wait + Clock + Log + Abort + Sync>(
     rt: &R,
     alloc: &Global,
     users: &str,
@@ -49,7 +42,7 @@ pub fn at_repository<V: Visit, R: Threads + Wait + Clock + Log + Abort + Sync>(
     in_directory::<Brand, V, R>(rt, alloc, Directory::new(), users.as_bytes(), visit)
 }
 
-fn in_directory<J: Naming, V: Visit, R: Threads + Wait + Clock + Log + Abort + Sync>(
+fn in_directory<J: Naming, V: Visit, R: Wait + Clock + Log + Abort + Sync>(
     rt: &R,
     alloc: &Global,
     directory: Directory,
@@ -74,14 +67,7 @@ fn in_directory<J: Naming, V: Visit, R: Threads + Wait + Clock + Log + Abort + S
     output
 }
 
-fn in_repository<
-    'r,
-    'a,
-    J: Naming,
-    H: Histories + Send + Sync,
-    V: Visit,
-    R: Threads + Wait + Clock + Log + Abort + Sync,
->(
+fn in_repository<'r, 'a, J: Naming, H: Histories, V: Visit, R: Wait + Clock + Log + Abort + Sync>(
     rt: &'r R,
     opening: Opening<'a, J>,
     registrar: &mut Registrar<J, &'r R, &'a Global>,
