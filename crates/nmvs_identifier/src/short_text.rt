@@ -72,7 +72,8 @@ impl<const CAP: usize> ShortText<CAP> {
     pub fn as_str(&self) -> &str
         ensures { result.now ≡ self.now.bytes }
     {
-        str::from_utf8(&self.cells[..self.len as usize]).unwrap()
+        // That they are UTF-8 is proved, so no run looks for it.
+        unsafe { str::from_utf8_unchecked(&self.cells[..self.len as usize]) }
     }
 }
 

@@ -37,7 +37,8 @@ fn printable_text(bytes: &[u8]) -> Option<&str>
     if !are_printable(bytes) {
         return None;
     }
-    Some(str::from_utf8(bytes).unwrap())
+    // Printable ASCII is UTF-8, which is proved, so no run looks for it.
+    Some(unsafe { str::from_utf8_unchecked(bytes) })
 }
 
 fn are_printable(bytes: &[u8]) -> bool
