@@ -54,7 +54,8 @@ def put(port, lines):
         except ValueError as fault:
             reply = [f"NOT SENT: {fault}"]
         told = kind(reply[0])
-        wrong = told.startswith("NOT") or told in [f"FAULT {word}" for word in FORM]
+        # HELP is for a person: a terminal has no use for its lines.
+        wrong = told.startswith("NOT") or told in ["HELP", *(f"FAULT {word}" for word in FORM)]
         well = well and not wrong
         met.add(told)
         print(f"{'WRONG ' if wrong else ''}{line}", *(f"    {text}" for text in reply), sep="\n")

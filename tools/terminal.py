@@ -12,7 +12,7 @@ except ModuleNotFoundError:
 
 
 class Terminal:
-    """One session. Each line gets one reply, in order; the replies to an audit and to a report have several lines."""
+    """One session. Each line gets one reply, in order; those to an audit, a report and HELP have several lines."""
 
     def __init__(self, port, host="127.0.0.1", timeout=60):
         self.connection = socket.create_connection((host, port), timeout)
@@ -38,7 +38,8 @@ class Terminal:
         word, _, number = reply[0].removeprefix(tag).partition(" ")
         if word == "SHOWN":
             reply += [self.read() for _ in range(int(number))]
-        while word == "PRODUCT" and reply[-1] != tag + "END":
+        end = {"PRODUCT": tag + "END", "HELP": "HELP END"}.get(word, reply[-1])
+        while reply[-1] != end:
             reply.append(self.read())
         return reply
 

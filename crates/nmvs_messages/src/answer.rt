@@ -30,6 +30,8 @@ pub enum Content<'a> {
     Pong,
     /// The answer to VERSION.
     Version,
+    /// The answer to HELP, several lines.
+    Help,
     /// The answer to QUIT.
     Bye,
 }

@@ -15,6 +15,8 @@ pub enum Line {
     Ping,
     /// VERSION: of which version the program is.
     Version,
+    /// HELP: which lines there are.
+    Help,
     /// QUIT: it ends the session.
     Quit,
 }

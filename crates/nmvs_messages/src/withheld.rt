@@ -56,13 +56,13 @@ impl<'a> Withheld<'a> {
         self.answer.tag = tag;
     }
 
-    /// Whether its text may be long: that of an audit which shows entries, or of a report.
+    /// Whether its text may be long: that of an audit which shows entries, of a report, or of the help.
     pub fn is_long(&self) -> bool
         ensures { result ≡ is_long self.now.answer }
     {
         match &self.answer.content {
             Content::Replied(_, shown) => !shown.entries().is_empty(),
-            Content::Reported(_) => true,
+            Content::Reported(_) | Content::Help => true,
             _ => false,
         }
     }

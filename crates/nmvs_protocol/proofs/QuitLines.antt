@@ -30,6 +30,7 @@ quit_is_no_fault = first_fault-text lines.Quit refl
 pub not_quit : (x : List ℕ) (r : Result Line Unread) → ReadsLine x r → r ≢ Ok lines.Quit → x ≢ line_text lines.Quit
 not_quit x (Ok lines.Ping) h other e = let n : 80 ≡ 81 = ap (λ (t : List ℕ). get_or t 0 0) (sym h.0 ∙ e) in absurd (omega (arith, n))
 not_quit x (Ok lines.Version) h other e = let n : 86 ≡ 81 = ap (λ (t : List ℕ). get_or t 0 0) (sym h.0 ∙ e) in absurd (omega (arith, n))
+not_quit x (Ok lines.Help) h other e = let n : 72 ≡ 81 = ap (λ (t : List ℕ). get_or t 0 0) (sym h.0 ∙ e) in absurd (omega (arith, n))
 not_quit x (Ok lines.Quit) h other e = other refl
 not_quit x (Ok (lines.Ask a)) h other e = asks a.asked (sym h.0 ∙ e)
   where

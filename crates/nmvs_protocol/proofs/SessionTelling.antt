@@ -41,6 +41,7 @@ short_of (contents.Turned turn) short = refl
 short_of (contents.Unread fault) short = refl
 short_of contents.Pong short = refl
 short_of contents.Version short = refl
+short_of contents.Help short = refl
 short_of contents.Bye short = refl
 
 -- what is short, and one more

@@ -83,6 +83,7 @@ plain_text : (l : Line) → is_line l ≡ true → IsPlainLine (fields l)
 plain_text (lines.Ask a) e = plain_ask a.asked (and_parts (is_tag_or_none a.tag) (is_asked a.asked) e).1
 plain_text lines.Ping e = plain_line (fields lines.Ping) (lit≤ tt) (lit≤ tt) ((lit≤ tt, lit≤ tt, refl), tt)
 plain_text lines.Version e = plain_line (fields lines.Version) (lit≤ tt) (lit≤ tt) ((lit≤ tt, lit≤ tt, refl), tt)
+plain_text lines.Help e = plain_line (fields lines.Help) (lit≤ tt) (lit≤ tt) ((lit≤ tt, lit≤ tt, refl), tt)
 plain_text lines.Quit e = plain_line (fields lines.Quit) (lit≤ tt) (lit≤ tt) ((lit≤ tt, lit≤ tt, refl), tt)
 
 -- the fields of an ask are fewer than could be kept
@@ -100,6 +101,7 @@ few_fields : (l : Line) → is_line l ≡ true → length (fields l) < 7
 few_fields (lines.Ask a) e = few_asked_fields a.asked (and_parts (is_tag_or_none a.tag) (is_asked a.asked) e).1
 few_fields lines.Ping e = lit≤ tt
 few_fields lines.Version e = lit≤ tt
+few_fields lines.Help e = lit≤ tt
 few_fields lines.Quit e = lit≤ tt
 
 -- the word of a report is that of no kind of question
@@ -134,18 +136,27 @@ same_line : (l m : Line) → line_tag l ≡ line_tag m → fields l ≡ fields m
 same_line (lines.Ask a) (lines.Ask b) g e = let same = same_ask a.asked b.asked e in λ i. lines.Ask (record { tag = g i; asked = same i })
 same_line (lines.Ask a) lines.Ping g e = absurd (ask_or_word a.asked (codes "PING") e)
 same_line (lines.Ask a) lines.Version g e = absurd (ask_or_word a.asked (codes "VERSION") e)
+same_line (lines.Ask a) lines.Help g e = absurd (ask_or_word a.asked (codes "HELP") e)
 same_line (lines.Ask a) lines.Quit g e = absurd (ask_or_word a.asked (codes "QUIT") e)
 same_line lines.Ping (lines.Ask a) g e = absurd (ask_or_word a.asked (codes "PING") (sym e))
 same_line lines.Ping lines.Ping g e = refl
 same_line lines.Ping lines.Version g e = let n : 80 ≡ 86 = ap first_byte e in absurd (omega (arith, n))
+same_line lines.Ping lines.Help g e = let n : 80 ≡ 72 = ap first_byte e in absurd (omega (arith, n))
 same_line lines.Ping lines.Quit g e = let n : 80 ≡ 81 = ap first_byte e in absurd (omega (arith, n))
 same_line lines.Version (lines.Ask a) g e = absurd (ask_or_word a.asked (codes "VERSION") (sym e))
 same_line lines.Version lines.Ping g e = let n : 86 ≡ 80 = ap first_byte e in absurd (omega (arith, n))
 same_line lines.Version lines.Version g e = refl
+same_line lines.Version lines.Help g e = let n : 86 ≡ 72 = ap first_byte e in absurd (omega (arith, n))
 same_line lines.Version lines.Quit g e = let n : 86 ≡ 81 = ap first_byte e in absurd (omega (arith, n))
+same_line lines.Help (lines.Ask a) g e = absurd (ask_or_word a.asked (codes "HELP") (sym e))
+same_line lines.Help lines.Ping g e = let n : 72 ≡ 80 = ap first_byte e in absurd (omega (arith, n))
+same_line lines.Help lines.Version g e = let n : 72 ≡ 86 = ap first_byte e in absurd (omega (arith, n))
+same_line lines.Help lines.Help g e = refl
+same_line lines.Help lines.Quit g e = let n : 72 ≡ 81 = ap first_byte e in absurd (omega (arith, n))
 same_line lines.Quit (lines.Ask a) g e = absurd (ask_or_word a.asked (codes "QUIT") (sym e))
 same_line lines.Quit lines.Ping g e = let n : 81 ≡ 80 = ap first_byte e in absurd (omega (arith, n))
 same_line lines.Quit lines.Version g e = let n : 81 ≡ 86 = ap first_byte e in absurd (omega (arith, n))
+same_line lines.Quit lines.Help g e = let n : 81 ≡ 72 = ap first_byte e in absurd (omega (arith, n))
 same_line lines.Quit lines.Quit g e = refl
 
 -- what begins with a name begins with no tag
@@ -170,6 +181,10 @@ version_untagged : tag_of (line_text lines.Version) ≡ None
 unfolding tag_of
 version_untagged = refl
 
+help_untagged : tag_of (line_text lines.Help) ≡ None
+unfolding tag_of
+help_untagged = refl
+
 quit_untagged : tag_of (line_text lines.Quit) ≡ None
 unfolding tag_of
 quit_untagged = refl
@@ -179,6 +194,7 @@ pub text_tag : (l : Line) → is_line l ≡ true → tag_of (line_text l) ≡ li
 text_tag (lines.Ask a) e = let parts = and_parts (is_tag_or_none a.tag) (is_asked a.asked) e in ask_tag a.tag a.asked parts.0 parts.1
 text_tag lines.Ping e = ping_untagged
 text_tag lines.Version e = version_untagged
+text_tag lines.Help e = help_untagged
 text_tag lines.Quit e = quit_untagged
 
 behind : (l : Line) → drop (length (tag_text (line_tag l))) (line_text l) ≡ line_of_fields (fields l)
@@ -199,6 +215,7 @@ line_has_tag : (l : Line) → is_line l ≡ true → is_tag_or_none (line_tag l)
 line_has_tag (lines.Ask a) e = (and_parts (is_tag_or_none a.tag) (is_asked a.asked) e).0
 line_has_tag lines.Ping e = refl
 line_has_tag lines.Version e = refl
+line_has_tag lines.Help e = refl
 line_has_tag lines.Quit e = refl
 
 -- no line is too long
@@ -287,6 +304,7 @@ line_fault-none (lines.Ask a) e =
     fault_behind-none a.tag a.asked parts.0 parts.1 (short_lines (lines.Ask a) e)
 line_fault-none lines.Ping e = refl
 line_fault-none lines.Version e = refl
+line_fault-none lines.Help e = refl
 line_fault-none lines.Quit e = refl
 
 -- the text of a line has no fault
@@ -367,12 +385,13 @@ asked_fault-few [] few = refl
 asked_fault-few (f ∷ []) few = refl
 asked_fault-few (f ∷ g ∷ fs) few = absurd (omega (arith, few))
 
--- one field alone that is not QUIT
+-- one field alone that is none of the words that stand alone
 pub other_word_fault : (ts : List (Bor (List ℕ))) (a : Bor (List ℕ)) → 1 ≤ length ts → length ts < 2 → (get_or ts 0 a).now ≢ codes "PING"
-    → (get_or ts 0 a).now ≢ codes "VERSION" → (get_or ts 0 a).now ≢ codes "QUIT" → fields_fault (map (λ t. t.now) ts) ≡ Some fault.Fields
-other_word_fault ts a least most no_ping no_version no_quit =
+    → (get_or ts 0 a).now ≢ codes "VERSION" → (get_or ts 0 a).now ≢ codes "HELP" → (get_or ts 0 a).now ≢ codes "QUIT" → fields_fault (map (λ t. t.now) ts) ≡ Some fault.Fields
+other_word_fault ts a least most no_ping no_version no_help no_quit =
     let word = (get_or ts 0 a).now in
     let ping = no_such_word word (codes "PING") no_ping in
     let version = no_such_word word (codes "VERSION") no_version in
+    let help = no_such_word word (codes "HELP") no_help in
     let quit = no_such_word word (codes "QUIT") no_quit in
-    ap fields_fault (one ts a least most) ∙ (λ i. cond (ping i || version i || quit i) None (Some fault.Fields))
+    ap fields_fault (one ts a least most) ∙ (λ i. cond (ping i || version i || help i || quit i) None (Some fault.Fields))

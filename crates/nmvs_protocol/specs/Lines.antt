@@ -36,6 +36,7 @@ abbrev pub line_tag : Line → Option Tag
 line_tag (lines.Ask a) = a.tag
 line_tag lines.Ping = None
 line_tag lines.Version = None
+line_tag lines.Help = None
 line_tag lines.Quit = None
 
 -- the fields behind it
@@ -43,6 +44,7 @@ abbrev pub fields : Line → List (List ℕ)
 fields (lines.Ask a) = asked_fields a.asked
 fields lines.Ping = codes "PING" ∷ []
 fields lines.Version = codes "VERSION" ∷ []
+fields lines.Help = codes "HELP" ∷ []
 fields lines.Quit = codes "QUIT" ∷ []
 
 -- the text of a line, without LF
@@ -98,7 +100,7 @@ asked_fault _ = Some fault.Fields
 
 -- whether a word alone is a line
 abbrev pub stands_alone : List ℕ → Bool
-stands_alone word = bytes_eq word (codes "PING") || bytes_eq word (codes "VERSION") || bytes_eq word (codes "QUIT")
+stands_alone word = bytes_eq word (codes "PING") || bytes_eq word (codes "VERSION") || bytes_eq word (codes "HELP") || bytes_eq word (codes "QUIT")
 
 -- the first fault of these fields
 abbrev pub fields_fault : List (List ℕ) → Option LineFault
@@ -140,6 +142,7 @@ abbrev pub is_line : Line → Bool
 is_line (lines.Ask a) = is_tag_or_none a.tag && is_asked a.asked
 is_line lines.Ping = true
 is_line lines.Version = true
+is_line lines.Help = true
 is_line lines.Quit = true
 
 -- a line that begins with no tag is read as what it says where it is the text of that, else with its first fault

@@ -18,12 +18,13 @@ use Rattle.nmvs_protocol.specs.Lines.{line_text, ReadsLine}
 use Rattle.nmvs_protocol.specs.Texts.{text}
 use Rattle.nmvs_stream.specs.InputLines.{input_lines}
 
--- what is withheld where a line is read so, the desk going from old to new: PING, VERSION and QUIT are answered
+-- what is withheld where a line is read so, the desk going from old to new: PING, VERSION, HELP and QUIT are answered
 -- without it, and what it answers to all else gets the line's tag
 abbrev pub Answers : {D : Type 0} → (D → Ask → Withheld → D → Type 0) → D → Result Line Unread → Withheld → D → Type 0
 Answers takes old (Ok (lines.Ask ask)) withheld new = (w : Withheld) × takes old ask w new × (withheld ≡ tagged ask.tag w)
 Answers takes old (Ok lines.Ping) withheld new = (withheld ≡ plain contents.Pong) × (new ≡ old)
 Answers takes old (Ok lines.Version) withheld new = (withheld ≡ plain contents.Version) × (new ≡ old)
+Answers takes old (Ok lines.Help) withheld new = (withheld ≡ plain contents.Help) × (new ≡ old)
 Answers takes old (Ok lines.Quit) withheld new = (withheld ≡ plain contents.Bye) × (new ≡ old)
 Answers takes old (Err unread) withheld new = (withheld ≡ tagged unread.tag (plain (contents.Unread unread.fault))) × (new ≡ old)
 

@@ -17,6 +17,34 @@ use Rattle.nmvs_protocol.specs.Tags.{tag_text}
 abbrev pub reply_text : Reply → List Entry → List ℕ
 reply_text r shown = spaced (reply_words r) ++ export_text shown
 
+-- what the answer to HELP lists: each line that there is by an example and what it is for, and END
+abbrev pub help_lines : List (List ℕ)
+help_lines =
+    codes "mah1 UPLOAD 09506000134352 SN1 B1 280200  a new pack"
+    ∷ codes "ph1 VERIFY 09506000134352 SN1             is it authentic?"
+    ∷ codes "ph1 STATUS 09506000134352 SN1             without an alert"
+    ∷ codes "ph1 SUPPLY 09506000134352 SN1             to the public"
+    ∷ codes "ph1 HOLD 09506000134352 SN1               for a later supply"
+    ∷ codes "ph1 HANDOVER 09506000134352 SN1           held, to the public"
+    ∷ codes "wh1 EXPORT 09506000134352 SN1             out of the Union"
+    ∷ codes "ph1 SAMPLE 09506000134352 SN1             for an authority"
+    ∷ codes "ph1 DESTROY 09506000134352 SN1            it is destroyed"
+    ∷ codes "ph1 REVERT 09506000134352 SN1             back to stock"
+    ∷ codes "mah1 THEFT 09506000134352 SN1             it was stolen"
+    ∷ codes "mah1 RECALL 09506000134352 B1             a batch is recalled"
+    ∷ codes "mah1 WITHDRAW 09506000134352 B1           or is withdrawn"
+    ∷ codes "au1 AUDIT 09506000134352 SN1              its audit trail"
+    ∷ codes "au1 REPORT 09506000134352                 a product's batches"
+    ∷ codes "PING                                      answers PONG"
+    ∷ codes "VERSION                                   of the program"
+    ∷ codes "QUIT                                      ends the session"
+    ∷ codes "END"
+    ∷ []
+
+-- the answer to HELP: each of its lines begins with HELP, as no reply does
+unfoldable pub help_text : List ℕ
+help_text = flat_map (λ line. codes "HELP " ++ (line ++ 10 ∷ [])) help_lines
+
 -- the text of what is answered to a line without a tag
 unfoldable pub content_text : Content → List ℕ
 content_text (contents.Replied r shown) = reply_text r shown
@@ -25,6 +53,7 @@ content_text (contents.Turned t) = spaced (codes "FAULT" ∷ turn_word t ∷ [])
 content_text (contents.Unread f) = spaced (codes "FAULT" ∷ fault_word f ∷ [])
 content_text contents.Pong = spaced (codes "PONG" ∷ [])
 content_text contents.Version = spaced (codes "VERSION" ∷ codes "0.9.0" ∷ [])
+content_text contents.Help = help_text
 content_text contents.Bye = spaced (codes "BYE" ∷ [])
 
 -- the lines of a text, each behind the same bytes

@@ -1,6 +1,7 @@
 //! The lines of users, the replies, and sessions.
 #![tactic(auto)]
 
+mod help;
 mod laws;
 mod lines;
 mod replies;

@@ -83,6 +83,7 @@ fn read_fields(fields: &[&str]) -> Result<Line, LineFault>
         [word] => match *word {
             "PING" => Ok(Line::Ping),
             "VERSION" => Ok(Line::Version),
+            "HELP" => Ok(Line::Help),
             "QUIT" => Ok(Line::Quit),
             _ => Err(LineFault::Fields),
         },
@@ -267,6 +268,7 @@ pub fn line_text<A: Allocator>(alloc: A, line: &Line) -> Result<String<A>, Alloc
         }
         Line::Ping => format!(in alloc; "PING"),
         Line::Version => format!(in alloc; "VERSION"),
+        Line::Help => format!(in alloc; "HELP"),
         Line::Quit => format!(in alloc; "QUIT"),
     }
 }

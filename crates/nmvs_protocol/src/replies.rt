@@ -7,6 +7,7 @@ ghost use Rattle.nmvs_messages.specs.Words.{reply_words};
 ghost use Rattle.nmvs_protocol.specs.Texts.{content_text, reply_text as text_of_reply};
 ghost use Rattle.nmvs_protocol.specs.Wordings.{wording_text};
 
+use crate::help::help;
 use crate::wording::Wording;
 use arrayvec::ArrayString;
 use itoa::Buffer;
@@ -59,6 +60,7 @@ pub(crate) fn wording<'w>(
         Content::Unread(fault) => Wording::Composed(in_words("FAULT", &[word_of_fault(*fault)])),
         Content::Pong => Wording::Composed(in_words("PONG", &[])),
         Content::Version => Wording::Composed(in_words("VERSION", &[VERSION])),
+        Content::Help => Wording::Lent(help()),
         Content::Bye => Wording::Composed(in_words("BYE", &[])),
     })
 }

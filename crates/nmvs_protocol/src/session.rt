@@ -62,8 +62,8 @@ impl Session {
     /// and then those are released together.
     ///
     /// A line of more than 200 bytes is answered once, at its LF, and takes no memory. Memory is taken for the
-    /// text of a shown audit alone, which may be of any length; a report is written as it is, and all other
-    /// texts are composed in place.
+    /// text of a shown audit alone, which may be of any length; a report and the help are written as they are, and
+    /// all other texts are composed in place.
     ///
     /// `None` is to go on; else the session has ended so, and is fed no more.
     pub fn feed<'a, W: Sink, D: Desk<'a>>(
@@ -186,7 +186,7 @@ fn take_line<'a, D: Desk<'a>>(line: &[u8], from: &Peer, desk: &mut D) -> (Withhe
     (withheld, is_quit(&reading))
 }
 
-/// The answer to what was read. PING, VERSION and QUIT are answered without the desk.
+/// The answer to what was read. PING, VERSION, HELP and QUIT are answered without the desk.
 fn answer<'a, D: Desk<'a>>(
     reading: &Result<Line, Unread>,
     from: &Peer,
@@ -202,6 +202,7 @@ fn answer<'a, D: Desk<'a>>(
         }
         Ok(Line::Ping) => Withheld::new(Content::Pong),
         Ok(Line::Version) => Withheld::new(Content::Version),
+        Ok(Line::Help) => Withheld::new(Content::Help),
         Ok(Line::Quit) => Withheld::new(Content::Bye),
         Err(Unread { tag, fault }) => {
             let mut withheld = Withheld::new(Content::Unread(*fault));

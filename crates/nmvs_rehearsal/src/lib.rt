@@ -3,7 +3,6 @@
 //! [`rehearse_on_standard_input`] is what a program makes of it; [`rehearse`] is the session over any source and sink.
 #![tactic(auto)]
 
-mod helped;
 mod rehearsal;
 mod roster;
 mod standard_input;

@@ -23,6 +23,7 @@ fn lines_are_read_and_written(rt: HostRuntime) {
     assert!(rt; read_line(b"QUIT") == Ok(Line::Quit));
     assert!(rt; read_line(b"PING") == Ok(Line::Ping));
     assert!(rt; read_line(b"VERSION") == Ok(Line::Version));
+    assert!(rt; read_line(b"HELP") == Ok(Line::Help));
 
     let holder = Name::read("mah1").expect(&rt, "a name");
     let serial = Serial::read("ABC/DEF%GHI/JKL%MN12").expect(&rt, "20 characters");
@@ -102,6 +103,7 @@ fn each_kind_of_line_has_its_text(rt: HostRuntime) {
         "#a.b_c-d.e_f-g.h_i-j mah1 UPLOAD 09506000134352 ABC/DEF%GHI/JKL%MN12 B1 280200",
         "PING",
         "VERSION",
+        "HELP",
         "QUIT",
     ] {
         assert!(rt; is_written_again(rt.alloc(), line), "{line}");
@@ -122,6 +124,8 @@ fn faults_of_lines(rt: HostRuntime) {
         ("ping", LineFault::Fields),
         ("PING PING", LineFault::Word),
         ("VERSION ", LineFault::Fields),
+        ("help", LineFault::Fields),
+        ("HELP ph1", LineFault::Word),
         ("ph1 VERIFY 09506000134352 SN1\u{7f}", LineFault::Bytes),
         ("ph1 verify 09506000134352 SN1", LineFault::Word),
         ("ph1 QUIT", LineFault::Word),
@@ -185,6 +189,7 @@ fn a_fault_has_the_tag_of_its_line(rt: HostRuntime) {
         ("#a17  ph1 VERIFY 09506000134352 SN1", LineFault::Fields),
         ("#a17 QUIT", LineFault::Fields),
         ("#a17 PING", LineFault::Fields),
+        ("#a17 HELP", LineFault::Fields),
         ("#a17 ph1 VERIFY 09506000134352 SN1\r", LineFault::Return),
         ("#a17 \r", LineFault::Return),
         ("#a17 #b ph1 VERIFY 09506000134352 SN1", LineFault::Word),

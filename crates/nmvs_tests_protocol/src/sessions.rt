@@ -4,7 +4,7 @@ use nmvs_messages::{
     Ask, Asked, Basis, Content, Desk, End, Entries, Limits, Peer, Released, Text, Turn, Withheld,
     WithheldAnswers,
 };
-use nmvs_protocol::{Session, serve};
+use nmvs_protocol::{Session, read_line, serve};
 use nmvs_rules::{Question, Reply};
 use nmvs_stream::Device;
 use std::alloc::Global;
@@ -359,6 +359,40 @@ fn kind_at(released: &Released<'_, '_>, place: usize) -> &'static str {
         Content::Bye => "bye",
         _ => "other",
     }
+}
+
+/// Each line of the help but the last has an example, which is a line that is read, and is no longer than a reply of one line.
+#[test]
+fn help_lists_lines_that_are_read(rt: HostRuntime) {
+    let alloc = rt.alloc();
+    let mut desk = Shelf {
+        alloc: &alloc,
+        uploaded: None,
+        asked: 0,
+        kept: [0],
+    };
+    let mut taken = Vec::new(alloc);
+    let mut sink = Device::new(&mut taken);
+    let mut source = Device::new(b"HELP\n".as_slice());
+    let end = serve(
+        alloc,
+        &mut source,
+        &mut sink,
+        &Peer::Anyone,
+        &mut desk,
+        AMPLE,
+    );
+    drop(sink);
+    assert_eq!(rt; (end, desk.asked), (End::Ended, 0));
+    let mut examples = 0;
+    let help = str::from_utf8(taken.as_slice()).expect(&rt, "ASCII");
+    for line in help.lines() {
+        let shown = line.strip_prefix("HELP ").expect(&rt, "its first word");
+        let (example, _) = shown.split_once("  ").unwrap_or((shown, ""));
+        assert!(rt; line.len() < 67 && (read_line(example.as_bytes()).is_ok() || shown == "END"), "{line}");
+        examples += 1;
+    }
+    assert!(rt; examples == 19 && help.ends_with("\nHELP END\n"));
 }
 
 /// The lines after a report wait until it is told.
