@@ -43,6 +43,7 @@ kind_of key =
     else if bytes_eq key (codes "moment") then Some Number
     else if bytes_eq key (codes "stdin") then Some Flag
     else if bytes_eq key (codes "rehearsal") then Some Flag
+    else if bytes_eq key (codes "log-users") then Some Flag
     else None
 
 -- the fault of a value of an option of this kind

@@ -47,7 +47,7 @@ pub(crate) fn kind_of(key: &str) -> Option<Kind>
         | "burst"
         | "port"
         | "moment" => Some(Kind::Number),
-        "stdin" | "rehearsal" => Some(Kind::Flag),
+        "stdin" | "rehearsal" | "log-users" => Some(Kind::Flag),
         _ => None,
     }
 }

@@ -222,7 +222,7 @@ not_stop (orders.Count topic) other = refl
 not_stop orders.Stop other = absurd (other refl)
 not_stop orders.Help other = refl
 
--- another order than USERS, STATS and CONNECTIONS lists nothing
+-- another order than USERS, STATS, CONNECTIONS and ALERTS lists nothing
 pub no_lines : {S : Type 0} (counts : Counts S) (office : Office S) (order : Order) → order ≢ orders.Users → ((topic : Topic) → order ≢ orders.Count topic)
     → Lists counts office (Ok order) []
 no_lines counts office (orders.Change command) users counted = refl

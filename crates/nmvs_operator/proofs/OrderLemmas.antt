@@ -46,7 +46,8 @@ listing_fault-take [] = refl
 listing_fault-take (word ∷ texts) = λ i.
     cond (bytes_eq word (codes "USERS")) (alone_fault-take texts i)
     (cond (bytes_eq word (codes "STATS")) (alone_fault-take texts i)
-    (cond (bytes_eq word (codes "CONNECTIONS")) (alone_fault-take texts i) (fields_fault-take (word ∷ texts) i)))
+    (cond (bytes_eq word (codes "CONNECTIONS")) (alone_fault-take texts i)
+    (cond (bytes_eq word (codes "ALERTS")) (alone_fault-take texts i) (fields_fault-take (word ∷ texts) i))))
 
 -- what is kept of a line's fields tells their fault
 pub order_fault-take : (fs : List (List ℕ)) → order_fault (take 7 fs) ≡ order_fault fs

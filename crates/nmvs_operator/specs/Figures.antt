@@ -3,7 +3,7 @@ use Rattle.std.specs.Prelude.{ℕ, List, [], ◌∷◌, codes, decimal}
 use Rattle.std.specs.List.{flat_map}
 use Rattle.nmvs_words.specs.Words.{spaced}
 use Rattle.nmvs_operator.specs.declared.figures.Figure.{Figure}
-use Rattle.nmvs_operator.specs.declared.figures.Figure.TheVariants.{Connections, Sessions, Entries, Worker}
+use Rattle.nmvs_operator.specs.declared.figures.Figure.TheVariants.{Connections, Sessions, Entries, Worker, Alerts}
 
 -- the line of a figure, with LF
 abbrev pub figure_line : Figure → List ℕ
@@ -11,6 +11,7 @@ figure_line (Connections number) = spaced (codes "CONNECTIONS" ∷ decimal numbe
 figure_line (Sessions number) = spaced (codes "SESSIONS" ∷ decimal number ∷ [])
 figure_line (Entries shard number) = spaced (codes "ENTRIES" ∷ decimal shard ∷ decimal number ∷ [])
 figure_line (Worker worker number) = spaced (codes "WORKER" ∷ decimal worker ∷ decimal number ∷ [])
+figure_line (Alerts user premises number) = spaced (codes "ALERTS" ∷ user.bytes ∷ premises.bytes ∷ decimal number ∷ [])
 
 -- the lines of figures, in their order
 abbrev pub figure_lines : List Figure → List ℕ

@@ -6,7 +6,7 @@ use Rattle.nmvs_messages.specs.Fields.{line_of_fields, line_fault}
 use Rattle.nmvs_messages.specs.declared.command.CommandFault.{CommandFault}
 use Rattle.nmvs_messages.specs.declared.command.CommandFault.TheVariants as fault
 use Rattle.nmvs_operator.specs.declared.figures.Topic.{Topic}
-use Rattle.nmvs_operator.specs.declared.figures.Topic.TheVariants.{Stats, Connections}
+use Rattle.nmvs_operator.specs.declared.figures.Topic.TheVariants.{Stats, Connections, Alerts}
 use Rattle.nmvs_operator.specs.declared.order.Order.{Order}
 use Rattle.nmvs_operator.specs.declared.order.Order.TheVariants as orders
 
@@ -14,6 +14,7 @@ use Rattle.nmvs_operator.specs.declared.order.Order.TheVariants as orders
 abbrev pub topic_word : Topic → List ℕ
 topic_word Stats = codes "STATS"
 topic_word Connections = codes "CONNECTIONS"
+topic_word Alerts = codes "ALERTS"
 
 -- the fields of an order
 abbrev pub order_fields : Order → List (List ℕ)
@@ -54,6 +55,7 @@ listing_fault (word ∷ texts) =
     if bytes_eq word (codes "USERS") then alone_fault texts
     else if bytes_eq word (codes "STATS") then alone_fault texts
     else if bytes_eq word (codes "CONNECTIONS") then alone_fault texts
+    else if bytes_eq word (codes "ALERTS") then alone_fault texts
     else fields_fault (word ∷ texts)
 
 -- the first fault of these fields

@@ -40,7 +40,7 @@ enum Value {
 }
 
 /// The options, in the order in which the help shows them.
-static OPTIONS: [Described; 22] = [
+static OPTIONS: [Described; 23] = [
     Described {
         name: "users",
         value: Value::Text("FILE"),
@@ -150,6 +150,12 @@ static OPTIONS: [Described; 22] = [
         value: Value::Word("FORMAT", &["text", "json"]),
         default: Some("text"),
         help: "How the log on standard error is written",
+    },
+    Described {
+        name: "log-users",
+        value: Value::Nothing,
+        default: None,
+        help: "An alert is logged with the user and the premises that raised it",
     },
     Described {
         name: "proxy",

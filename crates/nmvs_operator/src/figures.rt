@@ -3,6 +3,7 @@ ghost use Rattle.std.specs.Prelude.{◌≡◌, ◌++◌, IfOk, OnOk, string_byte
 ghost use Rattle.std.specs.List.{flat_map};
 ghost use Rattle.nmvs_operator.specs.Figures.{figure_line as line_of_figure, figure_lines};
 
+use nmvs_identifier::Name;
 use std::alloc::{AllocError, Global};
 
 /// What the operator asks numbers about (own).
@@ -12,6 +13,8 @@ pub enum Topic {
     Stats,
     /// The connections of each worker.
     Connections,
+    /// Who has raised most flagged alerts.
+    Alerts,
 }
 
 /// One number that a server counts (own).
@@ -25,6 +28,8 @@ pub enum Figure {
     Entries(u64, u64),
     /// How many connections the worker of this number has.
     Worker(u64, u64),
+    /// How many flagged alerts this user has raised, the last of them at these premises.
+    Alerts(Name, Name, u64),
 }
 
 /// The lines of figures, one a line.
@@ -51,5 +56,8 @@ fn figure_line(alloc: Global, figure: &Figure) -> Result<String, AllocError>
         Figure::Sessions(number) => format!(in alloc; "SESSIONS {number}\n"),
         Figure::Entries(shard, number) => format!(in alloc; "ENTRIES {shard} {number}\n"),
         Figure::Worker(worker, number) => format!(in alloc; "WORKER {worker} {number}\n"),
+        Figure::Alerts(user, premises, number) => {
+            format!(in alloc; "ALERTS {} {} {number}\n", user.text(), premises.text())
+        }
     }
 }

@@ -77,6 +77,8 @@ pub struct Options {
     /// What is logged: events of this level and above.
     pub log_level: LevelFilter,
     pub log_format: LogFormat,
+    /// The event of an alert has the user and the premises that raised it.
+    pub log_users: bool,
     /// Nothing is started: what is wrong with the options and the users file is said.
     pub check: bool,
 }
@@ -161,6 +163,7 @@ fn values_of(alloc: Global, matches: &ArgMatches<'_>) -> Result<Options, OptionF
         metrics,
         log_level,
         log_format,
+        log_users: matches.get_flag("log-users"),
         check: matches.get_flag("check"),
     })
 }

@@ -84,6 +84,10 @@ fn read_listing<'l>(fields: &[&'l str]) -> Result<Order<'l>, CommandFault>
                 stands_alone(texts)?;
                 Ok(Order::Count(Topic::Connections))
             }
+            "ALERTS" => {
+                stands_alone(texts)?;
+                Ok(Order::Count(Topic::Alerts))
+            }
             _ => read_change(fields),
         },
     }

@@ -1,1 +1,2 @@
+pub mod Alerts
 pub mod Desk

@@ -5,8 +5,8 @@ ghost use Rattle.nmvs_messages.specs.declared.answer.Turn.TheVariants as turns;
 ghost use Rattle.nmvs_rules.specs.declared.entry.Entry.{Entry as TheEntry};
 ghost use Rattle.nmvs_reception.specs.Desk.{may_ask_this, RestsOnAll, Says};
 
-use crate::Clock;
-use log::{Log, info};
+use crate::{Alerts, Clock};
+use log::Log;
 use nmvs_desk::{Clerk, Reader, Repository};
 use nmvs_directory::{Look, Naming, Notice};
 use nmvs_history::Histories;
@@ -21,7 +21,6 @@ use nmvs_rate::SharedLimiter;
 use nmvs_record::report;
 use nmvs_rules::{Actor, Put, Reply, Role, may_report};
 use nmvs_shard::{Answered, Outcome, Shard};
-use nmvs_words::cause_word;
 use std::alloc::{AllocError, Global};
 use std::marker::Model;
 use std::rt;
@@ -38,6 +37,7 @@ pub struct ClerkDesk<'r, 'a, R: Wait, J: Naming, H: Histories, K: Clock> {
     limiter: Option<&'r SharedLimiter<Global>>,
     clock: K,
     metrics: WorkerMetrics<'r>,
+    alerts: &'r Alerts,
 }
 
 impl<'r, 'a, R: Wait, J: Naming, H: Histories, K: Clock> Model for ClerkDesk<'r, 'a, R, J, H, K> {
@@ -65,7 +65,7 @@ impl<'r, 'a, R: Wait + rt::Clock + Log, J: Naming, H: Histories, K: Clock> Clerk
     ghost use Rattle.nmvs_reception.specs.Desk.{Admits, AnswersAdmitted, AnswersQuestion, AnswersReport, Refuses, RestsOnAll, SeesShard, Serves};
 
     /// A desk over a clerk of this repository, the lock of the latest notice, and the limiter of the users' rate, if they have
-    /// one. Its answers are counted in the metrics.
+    /// one. Its answers are counted in the metrics, and its flagged alerts noted.
     ///
     /// Condition: the clerk is one that `open` gave with the repository, which the names of their histories say.
     pub fn new(
@@ -76,6 +76,7 @@ impl<'r, 'a, R: Wait + rt::Clock + Log, J: Naming, H: Histories, K: Clock> Clerk
         limiter: Option<&'r SharedLimiter<Global>>,
         clock: K,
         metrics: WorkerMetrics<'r>,
+        alerts: &'r Alerts,
     ) -> ClerkDesk<'r, 'a, R, J, H, K>
         ensures { result ≡ record { clerk = clerk.entry; shards = repository.now.shards; rated = is_some limiter.entry; asked = K.asked clock; gave = K.gave clock } }
     {
@@ -87,6 +88,7 @@ impl<'r, 'a, R: Wait + rt::Clock + Log, J: Naming, H: Histories, K: Clock> Clerk
             limiter,
             clock,
             metrics,
+            alerts,
         }
     }
 
@@ -170,7 +172,7 @@ impl<'r, 'a, R: Wait + rt::Clock + Log, J: Naming, H: Histories, K: Clock> Clerk
         let shard = repository.shard_of(&put.question.code());
         match self.clerk.ask(rt, repository, put) {
             Ok(outcome) => {
-                note_put(rt, &self.metrics, shard, put, &outcome);
+                note_put(rt, &self.metrics, self.alerts, shard, put, &outcome);
                 answer_by(shard, outcome)
             }
             Err(AllocError) => (Content::Turned(Turn::Memory), None),
@@ -281,10 +283,11 @@ fn answer_by<'a>(shard: usize, outcome: Outcome<&'a Global>) -> (Content<'a>, Op
     }
 }
 
-/// Counts a question that was put, and logs an alert that is flagged as a potential falsification (Article 36).
-fn note_put<R: Log>(
+/// Counts a question that was put, and notes an alert that is flagged as a potential falsification.
+fn note_put<R: Wait + Log>(
     rt: &R,
     metrics: &WorkerMetrics<'_>,
+    alerts: &Alerts,
     shard: usize,
     put: &Put,
     outcome: &Outcome<&Global>,
@@ -299,8 +302,7 @@ fn note_put<R: Log>(
         number,
     } = &answered.reply
     {
-        let (code, cause) = (put.question.code(), cause_word(*cause));
-        info!(rt; code = code.text(), cause, number = *number; "alert");
+        alerts.note(rt, put, *cause, *number);
     }
 }
 

@@ -7,6 +7,7 @@ use nmvs_history::Histories;
 use nmvs_journal::{CommitLog, LogName};
 use nmvs_metrics::Metrics;
 use nmvs_rate::SharedLimiter;
+use nmvs_reception::Alerts;
 use nmvs_recovery::Run;
 use std::alloc::Global;
 use std::sync::Mutex;
@@ -19,6 +20,8 @@ pub(crate) struct Config<'r, 'o, R> {
     pub(crate) listener: Option<&'r Listener>,
     /// What the run does is counted here.
     pub(crate) metrics: &'r Metrics,
+    /// Who raises flagged alerts.
+    pub(crate) alerts: Alerts,
 }
 
 /// An open server: what its workers share. `J` names its directory of users, `H` the histories of its shards, and its log.

@@ -82,7 +82,10 @@ fn serve_session<'s, 'r, J: Naming, H: Histories, R: Host, T: Sides>(
     let run = &config.run;
     let clock = ProgramClock::new(run.rt, run.options.moment);
     let metrics = config.metrics.worker(0);
-    let mut desk = ClerkDesk::new(run.rt, clerk, repository, latest, None, clock, metrics);
+    let alerts = &config.alerts;
+    let mut desk = ClerkDesk::new(
+        run.rt, clerk, repository, latest, None, clock, metrics, alerts,
+    );
     serve(
         *run.alloc,
         &mut console.source,

@@ -83,9 +83,10 @@ fn desk_of<'s, 'r, R: Wait + Clock + Log, J: Naming, H: Histories + LogName>(
 ) -> ClerkDesk<'s, 'r, R, J, H, ProgramClock<'s, R>> {
     let mut clerk = clerk;
     clerk.keep_no_receipts();
-    let run = &server.config.run;
+    let config = server.config;
+    let run = &config.run;
     let clock = ProgramClock::new(run.rt, run.options.moment);
-    let metrics = server.config.metrics.worker(number);
+    let metrics = config.metrics.worker(number);
     ClerkDesk::new(
         run.rt,
         clerk,
@@ -94,6 +95,7 @@ fn desk_of<'s, 'r, R: Wait + Clock + Log, J: Naming, H: Histories + LogName>(
         server.limiter.as_ref(),
         clock,
         metrics,
+        &config.alerts,
     )
 }
 

@@ -23,12 +23,12 @@ const COMMANDS: &[u8] =
 
 /// What stops the server, and a command behind it.
 const STOP: &[u8] =
-    b"EXPORT full\nEXPORT trail.txt\nHELP\nUSERS\nSTATS\nCONNECTIONS\nSUSPEND ph9\nSTOP\nENROL ph9 PHARMACY PH-9 P9\n";
+    b"EXPORT full\nEXPORT trail.txt\nHELP\nUSERS\nSTATS\nCONNECTIONS\nALERTS\nSUSPEND ph9\nSTOP\nENROL ph9 PHARMACY PH-9 P9\n";
 
 const HELPED: &[u8] =
     b"FAULT WRITE\nDONE\nENROL user role authorisation premises\nSUSPEND user\nEXPORT file\nUSERS\nSTATS\nCONNECTIONS\n\
-    STOP\nHELP\nDONE\nUSER ph9 PHARMACY PH-9 P9 SUSPENDED\nDONE\nCONNECTIONS 2\nSESSIONS 3\nENTRIES 0 5\nENTRIES 1 0\nDONE\n\
-    WORKER 0 2\nDONE\nFAULT JOURNAL\nDONE\n.";
+    ALERTS\nSTOP\nHELP\nDONE\nUSER ph9 PHARMACY PH-9 P9 SUSPENDED\nDONE\nCONNECTIONS 2\nSESSIONS 3\nENTRIES 0 5\nENTRIES 1 0\nDONE\n\
+    WORKER 0 2\nDONE\nALERTS ph9 P9 3\nDONE\nFAULT JOURNAL\nDONE\n.";
 
 const STATS: &[Figure] = &[
     Figure::Connections(2),
@@ -37,11 +37,13 @@ const STATS: &[Figure] = &[
     Figure::Entries(1, 0),
 ];
 
-/// A server that keeps so many changes, and writes no file named `full`.
+/// A server that keeps so many changes, and writes no file named `full`. One user has raised three alerts at its premises.
 #[derive(Drop)]
 struct Narrow {
     keeps: u64,
     stopped: bool,
+    user: Name,
+    premises: Name,
 }
 
 impl Service for Narrow {
@@ -65,6 +67,7 @@ impl Service for Narrow {
         match topic {
             Topic::Stats => Vec::from_slice(alloc, STATS),
             Topic::Connections => Vec::from_slice(alloc, &[Figure::Worker(0, 2)]),
+            Topic::Alerts => Vec::from_slice(alloc, &[Figure::Alerts(self.user, self.premises, 3)]),
         }
     }
 }
@@ -124,6 +127,8 @@ fn commands_come<J: Naming, R: Wait + Abort + Sync>(rt: &R, alloc: Global, direc
     let mut service = Narrow {
         keeps: 2,
         stopped: false,
+        user: ph9,
+        premises: Name::read("P9").expect(rt, "a name"),
     };
     has_answers(
         rt,

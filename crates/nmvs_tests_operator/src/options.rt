@@ -34,7 +34,7 @@ fn options_have_defaults(rt: HostRuntime) {
     assert_eq!(rt; (options.rate, options.burst), (0, 0));
     assert_eq!(rt; options.address, own(7161));
     assert!(rt; options.socket.is_none() && options.proxy.is_none() && options.journal.is_none());
-    assert!(rt; options.admin.is_none() && options.metrics.is_none());
+    assert!(rt; options.admin.is_none() && options.metrics.is_none() && !options.log_users);
     assert_eq!(rt;
         (options.log_level, options.log_format),
         (LevelFilter::Info, LogFormat::Text)
@@ -103,12 +103,13 @@ fn all_options_are_taken_together(rt: HostRuntime) {
         "--metrics=9161",
         "--log-level=debug",
         "--log-format=json",
+        "--log-users",
     ];
     let Ok(options) = read(&rt, rt.alloc(), &words) else {
         panic!(rt; "refused");
     };
     assert!(rt; is_path(&options.journal, "D") && is_path(&options.admin, "A"));
-    assert!(rt; options.users.is_none() && options.metrics == Some(own(9161)));
+    assert!(rt; options.users.is_none() && options.metrics == Some(own(9161)) && options.log_users);
     assert_eq!(rt; options.moment, Moment::new(1_767_225_600));
     assert_eq!(rt;
         (options.log_level, options.log_format),

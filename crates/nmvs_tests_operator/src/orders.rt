@@ -32,6 +32,7 @@ fn orders_and_faults_are_read(rt: HostRuntime) {
             Ok(Order::Count(Topic::Connections))
         )
     );
+    assert!(rt; matches!(read_order(b"ALERTS"), Ok(Order::Count(Topic::Alerts))));
     assert!(rt; matches!(read_order(b"STOP"), Ok(Order::Stop)));
     assert!(rt; matches!(read_order(b"HELP"), Ok(Order::Help)));
     for (line, fault) in [
@@ -40,6 +41,7 @@ fn orders_and_faults_are_read(rt: HostRuntime) {
         ("EXPORT ", CommandFault::Fields),
         ("STOP now", CommandFault::Fields),
         ("USERS ph1", CommandFault::Fields),
+        ("ALERTS 20", CommandFault::Fields),
         ("stop", CommandFault::Word),
         ("SUSPEND", CommandFault::Fields),
         ("STOP\r", CommandFault::Bytes),

@@ -12,7 +12,7 @@ use nmvs_metrics::Metrics;
 use nmvs_operator::{Deed, Figure, Latest, Service, ServiceFault, Topic, obey_all};
 use nmvs_protocol::serve;
 use nmvs_rate::{Rate, SharedLimiter};
-use nmvs_reception::{ClerkDesk, Clock, Opened};
+use nmvs_reception::{Alerts, ClerkDesk, Clock, Opened};
 use nmvs_stream::{Console, Device, deliver};
 use nmvs_trials::examples;
 use nmvs_trials::examples::{Example, NEW_YEAR};
@@ -228,10 +228,11 @@ impl<'e> Visit for AskLines<'e> {
         let clerk = opened.clerks.pop().ok_or("a clerk")?;
         let alloc = *clerk.allocator();
         let clock = Seconds::new(example.moments);
-        let metrics = Metrics::new(alloc, 1, 1, false)?;
+        let (metrics, alerts) = (Metrics::new(alloc, 1, 1, false)?, Alerts::new(alloc, false));
         let (limiter, counts) = (None::<SharedLimiter<Global>>, metrics.worker(0));
         let (repository, limiter) = (&opened.repository, limiter.as_ref());
-        let mut desk = ClerkDesk::new(rt, clerk, repository, latest, limiter, clock, counts);
+        let mut desk =
+            ClerkDesk::new(rt, clerk, repository, latest, limiter, clock, counts, &alerts);
         for (line, answer) in example.lines {
             let wanted = format!(in alloc; "{answer}\n")?;
             if *line == "SUSPEND ph1" {
@@ -347,14 +348,15 @@ impl Visit for AskOfPeers {
         let clerk = opened.clerks.pop().ok_or("a clerk")?;
         let alloc = *clerk.allocator();
         let limiter = SharedLimiter::new(rt, alloc, Rate::new(1, 1).ok_or("a rate")?);
-        let metrics = Metrics::new(alloc, 1, 1, false)?;
+        let (metrics, alerts) = (Metrics::new(alloc, 1, 1, false)?, Alerts::new(alloc, false));
         let (clock, limiter, counts) = (
             Seconds::new(&[NEW_YEAR]),
             Some(&limiter),
             metrics.worker(0),
         );
         let repository = &opened.repository;
-        let mut desk = ClerkDesk::new(rt, clerk, repository, latest, limiter, clock, counts);
+        let mut desk =
+            ClerkDesk::new(rt, clerk, repository, latest, limiter, clock, counts, &alerts);
         for (of, name, line, answer) in OF_PEERS {
             let wanted = format!(in alloc; "{answer}\n")?;
             let said = asked(alloc, &mut desk, &of.peer(Name::read(name)?), line)?;

@@ -16,7 +16,7 @@ use nmvs_messages::{Desk, Peer, SESSION_LIMITS};
 use nmvs_metrics::Metrics;
 use nmvs_operator::load_users;
 use nmvs_protocol::serve;
-use nmvs_reception::{ClerkDesk, JournalDesk, Opened, Opening, ProgramClock};
+use nmvs_reception::{Alerts, ClerkDesk, JournalDesk, Opened, Opening, ProgramClock};
 use nmvs_shard::{HashKey, Shards};
 use nmvs_stream::Device;
 use nmvs_trials::examples::NEW_YEAR;
@@ -125,7 +125,8 @@ fn ask_by_log<
     let log = opened.expect(rt, "memory");
     let clock = ProgramClock::new(rt, Moment::new(NEW_YEAR));
     let counts = metrics.worker(0);
-    let desk = ClerkDesk::new(rt, clerk, repository, latest, None, clock, counts);
+    let alerts = Alerts::new(alloc, true);
+    let desk = ClerkDesk::new(rt, clerk, repository, latest, None, clock, counts, &alerts);
     let mut desk = JournalDesk::new(desk, &log, log.confirmed(rt));
     ask_while_written(rt, alloc, &log, &mut desk, calls)
 }

@@ -14,3 +14,5 @@ mod journal_desk;
 mod journal_file;
 #[cfg(test)]
 mod repository;
+#[cfg(test)]
+mod tally;

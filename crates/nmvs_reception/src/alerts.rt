@@ -1,0 +1,65 @@
+//! Flagged alerts, as the workers of a server raise them.
+ghost use Rattle.std.specs.Prelude.{IfOk, List};
+ghost use Rattle.nmvs_identifier.specs.Name.{Name as TheName};
+ghost use Rattle.nmvs_reception.specs.Alerts.{FindsMost};
+ghost use Rattle.nmvs_reception.specs.declared.tally.Raised.{Raised as TheRaised};
+
+use crate::tally::{Raised, Tally, keep_most};
+use log::{Log, info};
+use nmvs_identifier::Name;
+use nmvs_rules::{Cause, Put};
+use nmvs_words::cause_word;
+use std::alloc::{AllocError, Global};
+use std::sync::{Mutex, Wait};
+
+/// Who has raised flagged alerts since the start. All workers share it, and take its lock at a flagged alert alone.
+#[derive(Drop)]
+pub struct Alerts {
+    tally: Mutex<Tally<Global>>,
+    logs_users: bool,
+}
+
+impl Alerts {
+    /// None yet. The event of an alert has its user and premises where these are to be logged.
+    pub fn new(alloc: Global, logs_users: bool) -> Alerts {
+        Alerts {
+            tally: Mutex::new(Tally::new(alloc)),
+            logs_users,
+        }
+    }
+
+    /// Counts and logs an alert that is flagged as a potential falsification (Article 36). It waits for the lock. Where memory
+    /// for its user is refused the alert is not counted; its reply stays.
+    pub(crate) fn note<R: Wait + Log>(&self, rt: &R, put: &Put, cause: Cause, number: u64) {
+        let (user, premises) = (&put.user, &put.actor.premises);
+        let _uncounted = self.tally.lock(rt).note(user, premises);
+        let (code, cause) = (put.question.code(), cause_word(cause));
+        let code = code.text();
+        if self.logs_users {
+            let (user, premises) = (user.text(), premises.text());
+            info!(rt; code, cause, number, user, premises; "alert");
+        } else {
+            info!(rt; code, cause, number; "alert");
+        }
+    }
+
+    /// The users who have raised most, most first, so many of them at most. It waits for the lock, and lets it go before it
+    /// sorts.
+    ///
+    /// # Errors
+    ///
+    /// Memory for a list of all such users was refused.
+    pub fn most<R: Wait>(
+        &self,
+        rt: &R,
+        alloc: Global,
+        most: usize,
+    ) -> Result<Vec<(Name, Raised)>, AllocError>
+        ensures { IfOk result (λ found. (users : List (TheName × TheRaised)) × FindsMost most users found.items) }
+    {
+        let listed = self.tally.lock(rt).list(alloc);
+        let mut list = listed?;
+        keep_most(&mut list, most)?;
+        Ok(list)
+    }
+}
