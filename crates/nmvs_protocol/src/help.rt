@@ -3,8 +3,7 @@ ghost use Rattle.std.specs.Prelude.{◌≡◌};
 ghost use Rattle.nmvs_protocol.specs.Texts.{help_text};
 
 /// The answer to `HELP`. No line of it is longer than the longest reply of one line.
-const HELP: &str =
-    "HELP mah1 UPLOAD 09506000134352 SN1 B1 280200  a new pack\n\
+const HELP: &str = "HELP mah1 UPLOAD 09506000134352 SN1 B1 280200  a new pack\n\
     HELP ph1 VERIFY 09506000134352 SN1             is it authentic?\n\
     HELP ph1 STATUS 09506000134352 SN1             without an alert\n\
     HELP ph1 SUPPLY 09506000134352 SN1             to the public\n\

@@ -389,7 +389,10 @@ fn help_lists_lines_that_are_read(rt: HostRuntime) {
     for line in help.lines() {
         let shown = line.strip_prefix("HELP ").expect(&rt, "its first word");
         let (example, _) = shown.split_once("  ").unwrap_or((shown, ""));
-        assert!(rt; line.len() < 67 && (read_line(example.as_bytes()).is_ok() || shown == "END"), "{line}");
+        assert!(rt;
+            line.len() < 67 && (read_line(example.as_bytes()).is_ok() || shown == "END"),
+            "{line}"
+        );
         examples += 1;
     }
     assert!(rt; examples == 19 && help.ends_with("\nHELP END\n"));
