@@ -231,8 +231,9 @@ impl<'e> Visit for AskLines<'e> {
         let (metrics, alerts) = (Metrics::new(alloc, 1, 1, false)?, Alerts::new(alloc, false));
         let (limiter, counts) = (None::<SharedLimiter<Global>>, metrics.worker(0));
         let (repository, limiter) = (&opened.repository, limiter.as_ref());
-        let mut desk =
-            ClerkDesk::new(rt, clerk, repository, latest, limiter, clock, counts, &alerts);
+        let mut desk = ClerkDesk::new(
+            rt, clerk, repository, latest, limiter, clock, counts, &alerts,
+        );
         for (line, answer) in example.lines {
             let wanted = format!(in alloc; "{answer}\n")?;
             if *line == "SUSPEND ph1" {
@@ -355,8 +356,9 @@ impl Visit for AskOfPeers {
             metrics.worker(0),
         );
         let repository = &opened.repository;
-        let mut desk =
-            ClerkDesk::new(rt, clerk, repository, latest, limiter, clock, counts, &alerts);
+        let mut desk = ClerkDesk::new(
+            rt, clerk, repository, latest, limiter, clock, counts, &alerts,
+        );
         for (of, name, line, answer) in OF_PEERS {
             let wanted = format!(in alloc; "{answer}\n")?;
             let said = asked(alloc, &mut desk, &of.peer(Name::read(name)?), line)?;

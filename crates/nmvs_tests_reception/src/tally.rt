@@ -35,7 +35,10 @@ fn who_has_raised_most_is_first(rt: HostRuntime) {
             premises: name(&rt, premises),
             count,
         };
-        assert!(rt; list.get(place) == Some(&(name(&rt, user), raised)), "{user}");
+        assert!(rt;
+            list.get(place) == Some(&(name(&rt, user), raised)),
+            "{user}"
+        );
     }
 }
 
