@@ -2,17 +2,18 @@
 """For vendors: a server with the users of the rehearsal and a pack for each status, over a port of this machine (build first:
 ./nmvs-serve --help). docs/TERMINALS.md lists the packs.
 
-    tools/conformance.py [--port N]            serves a terminal that is under test, until the end of standard input
-    tools/conformance.py [--port N] LINES..    puts the lines of these files, as a terminal wrote them, one after another,
-                                               prints each with its reply, and tells what was not met
+    tools/conformance.py [--port N]    serves terminals that are under test, until the end of standard input
+    tools/conformance.py LINES..       puts the lines of these files, as a terminal wrote them, one after another
 
-With files it ends with status 1 where a line is none of the format, or says what no terminal may say. What the packs are
-changes with the lines, and is as before at the next start.
+Either prints each line with its reply, and at the end what was not met. It ends with status 1 where a line is none of the
+format, or says what no terminal may say. What the packs are changes with the lines, and is as before at the next start.
 """
 import argparse
 import pathlib
+import socket
 import subprocess
 import sys
+import threading
 
 from terminal import Terminal
 
@@ -27,9 +28,9 @@ REPLIES = (
 )
 
 
-def start(port):
-    """The server, which listens on this port or on one that is free, and its port."""
-    options = ["--rehearsal", "--port", str(port), "--log-level", "warn"]
+def start():
+    """The server, and its port."""
+    options = ["--rehearsal", "--port", "0", "--log-level", "warn"]
     process = subprocess.Popen([PROGRAM, *options], stdin=subprocess.PIPE, stdout=subprocess.PIPE, text=True)
     told = process.stdout.readline()
     if not told.startswith("LISTENING "):
@@ -45,23 +46,65 @@ def kind(reply):
     return " ".join(words[:2]) if words[0] in ("ALERT", "REFUSED", "FAULT") else words[0]
 
 
-def put(port, lines):
-    """Puts the lines, tells each with its reply, and whether all are lines of the format."""
-    terminal, met, well = Terminal(port), set(), True
+class Verdict:
+    """What the lines of a terminal and their replies say of it."""
+
+    def __init__(self):
+        self.met, self.well, self.lock = set(), True, threading.Lock()
+
+    def note(self, line, reply):
+        """Prints a line with its reply. HELP is for a person: a terminal has no use for its lines."""
+        told = kind(reply[0])
+        wrong = told.startswith("NOT") or told in ["HELP", *(f"FAULT {word}" for word in FORM)]
+        with self.lock:
+            self.well = self.well and not wrong
+            self.met.add(told)
+            print(f"{'WRONG ' if wrong else ''}{line}", *(f"    {text}" for text in reply), sep="\n", flush=True)
+
+    def end(self):
+        """Prints what was not met: the status."""
+        with self.lock:
+            print("NOT MET:", ", ".join(reply for reply in REPLIES if reply not in self.met) or "none")
+            return 0 if self.well else 1
+
+
+def put(port, lines, verdict):
+    """Puts the lines, one after another."""
+    terminal = Terminal(port)
     for line in lines:
         try:
             reply = terminal.ask(line)
         except ValueError as fault:
             reply = [f"NOT SENT: {fault}"]
-        told = kind(reply[0])
-        # HELP is for a person: a terminal has no use for its lines.
-        wrong = told.startswith("NOT") or told in ["HELP", *(f"FAULT {word}" for word in FORM)]
-        well = well and not wrong
-        met.add(told)
-        print(f"{'WRONG ' if wrong else ''}{line}", *(f"    {text}" for text in reply), sep="\n")
+        verdict.note(line, reply)
     terminal.close()
-    print("NOT MET:", ", ".join(reply for reply in REPLIES if reply not in met) or "none")
-    return well
+
+
+def relay(connection, port, verdict):
+    """Hands each line of a terminal to the server byte for byte, and its reply back, until either ends the session."""
+    server = Terminal(port)
+    try:
+        with connection, connection.makefile("rb") as lines:
+            for line in lines:
+                if not line.endswith(b"\n"):
+                    return
+                server.connection.sendall(line)
+                reply = server.reply()
+                verdict.note(line[:-1].decode("latin-1"), reply)
+                connection.sendall("".join(f"{text}\n" for text in reply).encode("ascii"))
+                if reply[-1] == "BYE":
+                    return
+    except ConnectionError:
+        pass
+    finally:
+        server.close()
+
+
+def accept(listener, port, verdict):
+    """Serves each terminal that connects."""
+    while True:
+        connection, _ = listener.accept()
+        threading.Thread(target=relay, args=(connection, port, verdict), daemon=True).start()
 
 
 def main():
@@ -69,15 +112,18 @@ def main():
     reader.add_argument("--port", type=int, default=0)
     reader.add_argument("lines", nargs="*", type=pathlib.Path)
     given = reader.parse_args()
-    process, port = start(given.port)
+    process, port = start()
     try:
-        print(f"LISTENING {port}", flush=True)
-        if not given.lines:
-            sys.stdin.read()
-            return 0
-        # As the terminal wrote them: a line ends with LF alone, so one that ends with CR LF is wrong.
-        lines = [line for path in given.lines for line in path.read_bytes().decode("latin-1").split("\n")[:-1]]
-        return 0 if put(port, lines) else 1
+        verdict = Verdict()
+        if given.lines:
+            # As the terminal wrote them: a line ends with LF alone, so one that ends with CR LF is wrong.
+            put(port, [line for path in given.lines for line in path.read_bytes().decode("latin-1").split("\n")[:-1]], verdict)
+            return verdict.end()
+        listener = socket.create_server(("127.0.0.1", given.port))
+        print(f"LISTENING {listener.getsockname()[1]}", flush=True)
+        threading.Thread(target=accept, args=(listener, port, verdict), daemon=True).start()
+        sys.stdin.read()
+        return verdict.end()
     finally:
         process.communicate("STOP\n")
 

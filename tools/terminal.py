@@ -24,6 +24,19 @@ class Terminal:
         self.send(line)
         return self.reply()
 
+    def ask_many(self, lines, ahead=64):
+        """The lines of the reply to each of these, in their order. So many are sent before the first reply is read, which saves
+        the way there and back of each."""
+        waiting = 0
+        for line in lines:
+            self.send(line)
+            waiting += 1
+            if waiting == ahead:
+                yield self.reply()
+                waiting -= 1
+        for _ in range(waiting):
+            yield self.reply()
+
     def send(self, line):
         """Puts a line, whose reply is read behind those of the lines before.
         ValueError: the line has a character that no line may have. An LF within it would be answered by one reply more, and
