@@ -10,6 +10,9 @@ except ModuleNotFoundError:
     # From the top of a checkout, as `from tools.terminal import Terminal`.
     from tools.scans import line_of
 
+# Faults after which the same line is sent again, with its tag (docs/TERMINALS.md).
+AGAIN = ("FAULT RATE", "FAULT JOURNAL")
+
 
 class Terminal:
     """One session. Each line gets one reply, in order; those to an audit, a report and HELP have several lines."""
@@ -81,18 +84,22 @@ class TaggedTerminal:
         self.connect, self.session = connect, None
 
     def ask(self, line, patience=60):
-        """The lines of the reply to this one, without its tag. Where none comes, the line is sent again with the same tag, over
-        a new connection, after a pause that grows. ConnectionError: none came for so many seconds."""
+        """The lines of the reply to this one, without its tag. Where none comes, or a fault of AGAIN, the line is sent again with
+        the same tag after a pause that grows. ConnectionError: nothing else came for so many seconds."""
         tag, until, pause = f"#{secrets.token_hex(8)} ", time.monotonic() + patience, 1
         while True:
             try:
                 reply = self.ask_once(tag + line)
-                if reply[0].startswith(tag):
-                    return [text.removeprefix(tag) for text in reply]
+                answers_this = reply[0].startswith(tag)
+                reply = [text.removeprefix(tag) for text in reply]
+                if answers_this and reply[0] not in AGAIN:
+                    return reply
+                if not answers_this:
+                    self.close()
                 fault, cause = reply[0], None
             except OSError as failed:
+                self.close()
                 fault = cause = failed
-            self.close()
             if time.monotonic() + pause > until:
                 raise ConnectionError(f"no reply: {fault}") from cause
             time.sleep(pause * random.uniform(0.8, 1.2))
