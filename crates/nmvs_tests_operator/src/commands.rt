@@ -30,13 +30,6 @@ const HELPED: &[u8] =
     ALERTS\nSTOP\nHELP\nDONE\nUSER ph9 PHARMACY PH-9 P9 SUSPENDED\nDONE\nCONNECTIONS 2\nSESSIONS 3\nENTRIES 0 5\nENTRIES 1 0\nDONE\n\
     WORKER 0 2\nDONE\nALERTS ph9 P9 3\nDONE\nFAULT JOURNAL\nDONE\n.";
 
-const STATS: &[Figure] = &[
-    Figure::Connections(2),
-    Figure::Sessions(3),
-    Figure::Entries(0, 5),
-    Figure::Entries(1, 0),
-];
-
 /// A server that keeps so many changes, and writes no file named `full`. One user has raised three alerts at its premises.
 #[derive(Drop)]
 struct Narrow {
@@ -65,7 +58,15 @@ impl Service for Narrow {
 
     fn count(&self, alloc: Global, topic: Topic) -> Result<Vec<Figure>, AllocError> {
         match topic {
-            Topic::Stats => Vec::from_slice(alloc, STATS),
+            Topic::Stats => Vec::from_slice(
+                alloc,
+                &[
+                    Figure::Connections(2),
+                    Figure::Sessions(3),
+                    Figure::Entries(0, 5),
+                    Figure::Entries(1, 0),
+                ],
+            ),
             Topic::Connections => Vec::from_slice(alloc, &[Figure::Worker(0, 2)]),
             Topic::Alerts => Vec::from_slice(alloc, &[Figure::Alerts(self.user, self.premises, 3)]),
         }
