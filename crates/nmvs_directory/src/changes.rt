@@ -1,7 +1,7 @@
 //! The pending changes of a directory.
 ghost use Rattle.std.specs.Prelude.{◌≡◌, ◌+◌, ◌<◌, ◌≤◌, ◌++◌, [], ◌∷◌, take, length, Some, None, OnOk, OnErr, IfSome, IfNone, MatchBool};
 
-use crate::Change;
+use crate::{Change, Effect};
 use nmvs_identifier::Name;
 use nmvs_rules::Actor;
 use std::alloc::{AllocError, Allocator};
@@ -36,7 +36,7 @@ impl<A: Allocator> Changes<A> {
         ensures full { OnErr result (IsFull self.old) }
     {
         // For the proof alone: the type is named before the list is of it.
-        let _actor: Option<Actor> = change.actor;
+        let _effect: Effect = change.effect;
         self.pending.push(change)?;
         Ok(())
     }
@@ -47,13 +47,13 @@ impl<A: Allocator> Changes<A> {
     pub fn enrol(&mut self, user: Name, actor: Actor) -> Result<(), AllocError>
         ensures entered { KeepsEntered self.old self.new }
         ensures ok { OnOk result (pending_changes self.new
-            ≡ pending_changes self.old ++ record { user = user; actor = Some actor } ∷ []) }
+            ≡ pending_changes self.old ++ record { user = user; effect = Effect.Enrol actor } ∷ []) }
         ensures err { OnErr result (pending_changes self.new ≡ pending_changes self.old) }
         ensures full { OnErr result (IsFull self.old) }
     {
         self.add(Change {
             user,
-            actor: Some(actor),
+            effect: Effect::Enrol(actor),
         })
     }
 
@@ -63,11 +63,30 @@ impl<A: Allocator> Changes<A> {
     pub fn suspend(&mut self, user: Name) -> Result<(), AllocError>
         ensures entered { KeepsEntered self.old self.new }
         ensures ok { OnOk result (pending_changes self.new
-            ≡ pending_changes self.old ++ record { user = user; actor = None } ∷ []) }
+            ≡ pending_changes self.old ++ record { user = user; effect = Effect.Suspend } ∷ []) }
         ensures err { OnErr result (pending_changes self.new ≡ pending_changes self.old) }
         ensures full { OnErr result (IsFull self.old) }
     {
-        self.add(Change { user, actor: None })
+        self.add(Change {
+            user,
+            effect: Effect::Suspend,
+        })
+    }
+
+    /// Adds one pending change: the user is removed.
+    ///
+    /// It answers `AllocError` where the changes have no room for one more and memory for it is refused.
+    pub fn remove(&mut self, user: Name) -> Result<(), AllocError>
+        ensures entered { KeepsEntered self.old self.new }
+        ensures ok { OnOk result (pending_changes self.new
+            ≡ pending_changes self.old ++ record { user = user; effect = Effect.Remove } ∷ []) }
+        ensures err { OnErr result (pending_changes self.new ≡ pending_changes self.old) }
+        ensures full { OnErr result (IsFull self.old) }
+    {
+        self.add(Change {
+            user,
+            effect: Effect::Remove,
+        })
     }
 
     /// Whether a change is pending.

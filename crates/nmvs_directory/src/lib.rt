@@ -1,4 +1,4 @@
-//! The users of a repository: one registrar enrols and suspends them, and windows look them up, each in a thread of its
+//! The users of a repository: one registrar enrols, suspends and removes them, and windows look them up, each in a thread of its
 //! own if need be, with no lock and no wait.
 //!
 //! A [`Directory`] is made, gets its name and is opened, which gives the [`Registrar`] and the [`Window`]s. What the
@@ -31,7 +31,7 @@ mod standing;
 mod users;
 mod window;
 
-pub use change::Change;
+pub use change::{Change, Effect};
 pub use changes::Changes;
 pub use directory::{Directory, DirectoryFault, MOST_WINDOWS};
 pub use look::Look;

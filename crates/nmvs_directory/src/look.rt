@@ -3,7 +3,7 @@ use nmvs_rules::Actor;
 /// What a window answers about a user.
 #[derive(Clone, Copy, Debug, PartialEq, Eq)]
 pub enum Look {
-    /// No change named the user.
+    /// No change named the user, or the last one that did removed it.
     Nobody,
     /// The last change that named the user suspended it.
     Suspended,

@@ -22,7 +22,7 @@ pub struct Registrar<J: Naming, R: Wait + Drop, A: Allocator>
 where
     Users<J, A>: Absorb<History<J>, State = [Change; 0]>,
 {
-    /// Where users are enrolled and suspended, which waits for nobody.
+    /// Where users are enrolled, suspended and removed, which waits for nobody.
     pub changes: Changes<A>,
     tail: Tail<J>,
     /// The list up to the last change that is published.
@@ -111,6 +111,17 @@ impl<J: Naming, R: Wait + Drop, A: Allocator> Registrar<J, R, A> {
         Ok(())
     }
 
+    /// Has the copy that windows no longer read take what is published too, so that the next publication has only its own
+    /// changes to take. Where there is no memory for that, the next publication does it. It waits for windows that are
+    /// looking.
+    fn catch_up(&mut self)
+        requires shown { Handles.pending self.old.writer ≡ [] }
+        ensures published { published self.new ≡ published self.old }
+        ensures pending { pending self.new ≡ pending self.old }
+    {
+        let _refused = self.writer.publish();
+    }
+
     /// Publishes all pending changes at once, and waits for windows that are looking. Where none is pending it does
     /// nothing, and the notice tells what was published before.
     ///
@@ -129,6 +140,7 @@ impl<J: Naming, R: Wait + Drop, A: Allocator> Registrar<J, R, A> {
             self.writer.publish()?;
             self.published = self.list.again();
             self.changes.clear();
+            self.catch_up();
         }
         Ok(Notice::new(self.published.again()))
     }

@@ -1,6 +1,7 @@
 ghost use Rattle.std.specs.Prelude.{◌≡◌};
 ghost use Rattle.nmvs_directory.specs.Users.{standing_after};
 
+use crate::Effect;
 use nmvs_rules::Actor;
 
 /// How a user stands after the changes that name it.
@@ -8,20 +9,24 @@ use nmvs_rules::Actor;
 pub enum Standing {
     /// The last change enrolled it as this actor.
     Enrolled(Actor),
-    /// The last change suspended it; the last one that enrolled it, if one did, made it this actor.
+    /// The last change suspended it; before, it was this actor, if it was one.
     Suspended(Option<Actor>),
+    /// The last change removed it.
+    Removed,
 }
 
 impl Standing {
-    /// How a user stands after one change more, which enrols it as this actor, or suspends it where there is none.
-    pub(crate) fn after(was: Option<Standing>, actor: Option<Actor>) -> Standing
-        ensures { result ≡ standing_after was actor }
+    /// How a user stands after one change more, which has this effect.
+    pub(crate) fn after(was: Option<Standing>, effect: Effect) -> Standing
+        ensures { result ≡ standing_after was effect }
     {
-        match (actor, was) {
-            (Some(actor), _) => Standing::Enrolled(actor),
-            (None, None) => Standing::Suspended(None),
-            (None, Some(Standing::Enrolled(actor))) => Standing::Suspended(Some(actor)),
-            (None, Some(Standing::Suspended(actor))) => Standing::Suspended(actor),
+        match (effect, was) {
+            (Effect::Enrol(actor), _) => Standing::Enrolled(actor),
+            (Effect::Remove, _) => Standing::Removed,
+            (Effect::Suspend, None) => Standing::Suspended(None),
+            (Effect::Suspend, Some(Standing::Enrolled(actor))) => Standing::Suspended(Some(actor)),
+            (Effect::Suspend, Some(Standing::Suspended(actor))) => Standing::Suspended(actor),
+            (Effect::Suspend, Some(Standing::Removed)) => Standing::Suspended(None),
         }
     }
 }

@@ -25,8 +25,8 @@ impl<J: Naming, A: Allocator> Model for Users<J, A> {
     ghost use Rattle.indexmap.specs.IndexMap.{get};
     ghost use Rattle.nmvs_identifier.specs.Name.{Name};
     ghost use Rattle.nmvs_identifier.specs.Texts.{same_text};
-    ghost use Rattle.nmvs_directory.specs.Known.{last_actor};
-    ghost use Rattle.nmvs_directory.specs.Users.{users_of, actor_of};
+    ghost use Rattle.nmvs_directory.specs.Known.{last_effect};
+    ghost use Rattle.nmvs_directory.specs.Users.{users_of, effect_of};
     ghost use Rattle.nmvs_directory.specs.declared.change.Change.{Change};
 
     ghost Value = { List Change };
@@ -34,7 +34,7 @@ impl<J: Naming, A: Allocator> Model for Users<J, A> {
     ghost view = { λ u. u.history };
 
     ghost invariant = { λ u. (u.standings.entries ≡ users_of u.history)
-        × ((user : Name) → option_map actor_of (get same_text u.standings user) ≡ last_actor u.history user) };
+        × ((user : Name) → option_map effect_of (get same_text u.standings user) ≡ last_effect u.history user) };
 }
 
 impl<J: Naming, A: Allocator + Copy> Users<J, A> {
@@ -63,6 +63,7 @@ impl<J: Naming, A: Allocator> Users<J, A> {
     {
         match self.standings.get(user) {
             None => Look::Nobody,
+            Some(Standing::Removed) => Look::Nobody,
             Some(Standing::Suspended(_)) => Look::Suspended,
             Some(Standing::Enrolled(actor)) => Look::Known(*actor),
         }
@@ -109,8 +110,8 @@ impl<J: Naming, A: Allocator> Absorb<History<J>> for Users<J, A> {
         operation: &History<J>,
         _other: &Users<J, A>,
     ) -> Result<(), AllocError> {
-        let Change { user, actor } = next(&self.history, operation).ok_or(AllocError)?;
-        let standing = Standing::after(self.standings.get(&user).copied(), actor);
+        let Change { user, effect } = next(&self.history, operation).ok_or(AllocError)?;
+        let standing = Standing::after(self.standings.get(&user).copied(), effect);
         self.standings
             .insert(user, standing)
             .map_err(|_| AllocError)?;

@@ -117,6 +117,51 @@ fn suspend<J: Naming, A: Allocator, R: Wait + Abort>(
     registrar.changes.suspend(user).expect(rt, "memory");
 }
 
+/// A removed user is nobody, and stands as removed; a suspension does not bring back what it was, and an enrolment does.
+fn removes_a_user<J: Naming, R: Wait + Abort>(
+    rt: &R,
+    registrar: &mut Registrar<J, &R, Global>,
+    window: &mut Window<J, Global>,
+) {
+    enrol(rt, registrar, "ph1", "PH-1");
+    remove(rt, registrar, "ph1");
+    tell(rt, registrar, window);
+    shows(rt, window, "ph1", Look::Nobody);
+    stands(rt, registrar, 0, "ph1", Standing::Removed);
+    suspend(rt, registrar, "ph1");
+    tell(rt, registrar, window);
+    shows(rt, window, "ph1", Look::Suspended);
+    stands(rt, registrar, 0, "ph1", Standing::Suspended(None));
+    remove(rt, registrar, "ph1");
+    enrol(rt, registrar, "ph1", "PH-2");
+    tell(rt, registrar, window);
+    shows(rt, window, "ph1", Look::Known(pharmacy(rt, "PH-2")));
+    assert_eq!(rt; registrar.user_count(), 1);
+}
+
+fn remove<J: Naming, A: Allocator, R: Wait + Abort>(
+    rt: &R,
+    registrar: &mut Registrar<J, &R, A>,
+    user: &str,
+) {
+    let user = name(rt, user);
+    registrar.changes.remove(user).expect(rt, "memory");
+}
+
+fn users_are_removed<J: Naming, R: Wait + Abort + Sync>(rt: &R, alloc: Global, directory: Directory)
+    requires { directory_book directory ≡ J.book }
+{
+    let (mut registrar, mut windows) = directory.open::<J, _, _>(rt, alloc, 1).expect(rt, "memory");
+    let mut window = windows.pop().expect(rt, "a window");
+    removes_a_user(rt, &mut registrar, &mut window);
+    registrar.close();
+}
+
+#[test]
+fn a_removed_user_is_nobody(rt: HostRuntime) {
+    users_are_removed::<Brand, _>(&rt, rt.alloc(), Directory::new());
+}
+
 /// Five changes name `zed` and `ph1` twice, and `new`, which is suspended and never enrolled. None is listed before they
 /// are published.
 fn lists_users<J: Naming, R: Wait + Abort>(rt: &R, registrar: &mut Registrar<J, &R, Global>) {

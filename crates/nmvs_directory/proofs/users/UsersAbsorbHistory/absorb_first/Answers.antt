@@ -14,7 +14,7 @@ invariant_of-self-2 g c =
     let standings = c.self.inside.standings in
     let was = lookup (same_text change.user) standings.entries in
     let copied : c.copied.result ≡ was = search rules in
-    let now : c.after-standing.result ≡ standing_after was change.actor = c.after-standing.ensures ∙ ap (λ w. standing_after w change.actor) copied in
+    let now : c.after-standing.result ≡ standing_after was change.effect = c.after-standing.ensures ∙ ap (λ w. standing_after w change.effect) copied in
     let entries : c.insert.new.self.entries ≡ insert_entry same_text standings.entries change.user c.after-standing.result = search rules in (
       users_of-add before after change standings.entries c.insert.new.self.entries (search rules) c.self.invariant.0
           (entries ∙ ap (insert_entry same_text standings.entries change.user) now),
