@@ -11,11 +11,11 @@ use Rattle.nmvs_rules.specs.declared.actor.Actor.{Actor}
 use Rattle.nmvs_words.proofs.WordLemmas.{role_named-of_word, role_word-one}
 use Rattle.nmvs_words.proofs.PlainWords.{role_plain}
 use Rattle.nmvs_messages.specs.declared.command.Command.{Command}
-use Rattle.nmvs_messages.specs.declared.command.Command.TheVariants.{Enrol, Suspend}
+use Rattle.nmvs_messages.specs.declared.command.Command.TheVariants.{Enrol, Suspend, Remove}
 use Rattle.nmvs_messages.specs.declared.command.CommandFault.{CommandFault}
 use Rattle.nmvs_messages.specs.declared.command.CommandFault.TheVariants as fault
 use Rattle.nmvs_messages.specs.Fields.{fields_in}
-use Rattle.nmvs_messages.specs.Commands.{command_fields, command_line, enrol_fault, suspend_fault, fields_fault, first_command_fault, is_role, is_command, ReadsCommand, EachCommandIsRead, OneCommandSpelling}
+use Rattle.nmvs_messages.specs.Commands.{command_fields, command_line, enrol_fault, user_fault, fields_fault, first_command_fault, is_role, is_command, ReadsCommand, EachCommandIsRead, OneCommandSpelling}
 use Rattle.nmvs_identifier.proofs.PlainTexts.{IsPlain, plain_name}
 use Rattle.nmvs_messages.proofs.PlainLemmas.{IsPlainLine, plain_line, line_fault-plain}
 use Rattle.nmvs_messages.proofs.FieldLemmas.{line_of_kept}
@@ -36,11 +36,13 @@ fields_plain (Enrol user actor) e =
       (plain_name user.bytes names.0, (role_plain actor.role, (plain_name actor.authorisation.bytes names.1, (plain_name actor.premises.bytes names.2, tt)))),
     )
 fields_plain (Suspend user) e = ((lit≤ tt, lit≤ tt, refl), (plain_name user.bytes e, tt))
+fields_plain (Remove user) e = ((lit≤ tt, lit≤ tt, refl), (plain_name user.bytes e, tt))
 
 -- the line of a command is made of plain fields
 plain_command : (c : Command) → is_command c ≡ true → IsPlainLine (command_fields c)
 plain_command (Enrol user actor) e = plain_line (command_fields (Enrol user actor)) (lit≤ tt) (lit≤ tt) (fields_plain (Enrol user actor) e)
 plain_command (Suspend user) e = plain_line (command_fields (Suspend user)) (lit≤ tt) (lit≤ tt) (fields_plain (Suspend user) e)
+plain_command (Remove user) e = plain_line (command_fields (Remove user)) (lit≤ tt) (lit≤ tt) (fields_plain (Remove user) e)
 
 abbrev name_of : List ℕ → Name
 name_of x = record { bytes = x }
@@ -53,8 +55,13 @@ same_fields (Enrol user a) (Enrol user' b) e =
     let premises : a.premises ≡ b.premises = ap (λ fs. name_of (get_or fs 4 [])) e in
     λ i. Enrol (name i) (record { role = role i; authorisation = authorisation i; premises = premises i })
 same_fields (Suspend user) (Suspend user') e = ap (λ fs. Suspend (name_of (get_or fs 1 []))) e
+same_fields (Remove user) (Remove user') e = ap (λ fs. Remove (name_of (get_or fs 1 []))) e
 same_fields (Enrol user a) (Suspend user') e = let shorter = ap (λ fs. drop 2 fs) e in absurd cc
 same_fields (Suspend user) (Enrol user' b) e = let shorter = ap (λ fs. drop 2 fs) e in absurd cc
+same_fields (Enrol user a) (Remove user') e = let shorter = ap (λ fs. drop 2 fs) e in absurd cc
+same_fields (Remove user) (Enrol user' b) e = let shorter = ap (λ fs. drop 2 fs) e in absurd cc
+same_fields (Suspend user) (Remove user') e = let other = ap (λ fs. drop 6 (get_or fs 0 [])) e in absurd cc
+same_fields (Remove user) (Suspend user') e = let other = ap (λ fs. drop 6 (get_or fs 0 [])) e in absurd cc
 
 -- different commands have different lines
 pub one_spelling : OneCommandSpelling
@@ -65,11 +72,16 @@ first_fault-line : (c : Command) → is_command c ≡ true → first_command_fau
 unfolding first_command_fault is_role
 first_fault-line (Enrol user actor) e =
     let named = ap is_some (role_named-of_word actor.role) in
+    let names = three_names user actor e in
     line_fault-plain fault.Long fault.Bytes fault.Fields fields_fault (command_fields (Enrol user actor)) (plain_command (Enrol user actor) e)
-    ∙ (λ i. cond (not (named i)) (Some fault.Role) (cond (not (e i)) (Some fault.Name) None))
+    ∙ (λ i. cond (not (named i)) (Some fault.Role)
+    (cond (not (names.0 i)) (Some fault.User) (cond (not (names.1 i)) (Some fault.Authorisation) (cond (not (names.2 i)) (Some fault.Premises) None))))
 first_fault-line (Suspend user) e =
     line_fault-plain fault.Long fault.Bytes fault.Fields fields_fault (command_fields (Suspend user)) (plain_command (Suspend user) e)
-    ∙ (λ i. cond (e i) None (Some fault.Name))
+    ∙ (λ i. cond (e i) None (Some fault.User))
+first_fault-line (Remove user) e =
+    line_fault-plain fault.Long fault.Bytes fault.Fields fields_fault (command_fields (Remove user)) (plain_command (Remove user) e)
+    ∙ (λ i. cond (e i) None (Some fault.User))
 
 -- the line of a command is read as that command
 pub each_is_read : EachCommandIsRead
@@ -78,6 +90,7 @@ each_is_read c is_c = (refl, first_fault-line c is_c, is_c)
 few_fields : (c : Command) → length (command_fields c) < 7
 few_fields (Enrol user actor) = lit≤ tt
 few_fields (Suspend user) = lit≤ tt
+few_fields (Remove user) = lit≤ tt
 
 -- a line whose fields are read as a command, or have this fault, is read so
 pub reads_fields : (x : List ℕ) (fs : List (List ℕ)) (r : Result Command CommandFault) → fs ≡ take 7 (fields_in x)
@@ -102,14 +115,15 @@ enrol_fault-take (a ∷ b ∷ c ∷ []) = refl
 enrol_fault-take (a ∷ b ∷ c ∷ d ∷ []) = refl
 enrol_fault-take (a ∷ b ∷ c ∷ d ∷ e ∷ texts) = refl
 
-suspend_fault-take : (texts : List (List ℕ)) → suspend_fault (take 6 texts) ≡ suspend_fault texts
-suspend_fault-take [] = refl
-suspend_fault-take (a ∷ []) = refl
-suspend_fault-take (a ∷ b ∷ texts) = refl
+user_fault-take : (texts : List (List ℕ)) → user_fault (take 6 texts) ≡ user_fault texts
+user_fault-take [] = refl
+user_fault-take (a ∷ []) = refl
+user_fault-take (a ∷ b ∷ texts) = refl
 
 -- what is kept of a line's fields tells their fault
 pub fields_fault-take : (fs : List (List ℕ)) → fields_fault (take 7 fs) ≡ fields_fault fs
 fields_fault-take [] = refl
 fields_fault-take (word ∷ texts) = λ i.
     cond (bytes_eq word (codes "ENROL")) (enrol_fault-take texts i)
-    (cond (bytes_eq word (codes "SUSPEND")) (suspend_fault-take texts i) (Some fault.Word))
+    (cond (bytes_eq word (codes "SUSPEND")) (user_fault-take texts i)
+    (cond (bytes_eq word (codes "REMOVE")) (user_fault-take texts i) (Some fault.Word)))

@@ -5,7 +5,7 @@ use Rattle.std.specs.Str.{bytes_eq}
 use Rattle.nmvs_identifier.specs.Name.{is_name}
 use Rattle.nmvs_words.specs.Words.{role_word, role_named}
 use Rattle.nmvs_messages.specs.declared.command.Command.{Command}
-use Rattle.nmvs_messages.specs.declared.command.Command.TheVariants.{Enrol, Suspend}
+use Rattle.nmvs_messages.specs.declared.command.Command.TheVariants.{Enrol, Suspend, Remove}
 use Rattle.nmvs_messages.specs.declared.command.CommandFault.{CommandFault}
 use Rattle.nmvs_messages.specs.declared.command.CommandFault.TheVariants as fault
 use Rattle.nmvs_messages.specs.Fields.{line_of_fields, line_fault}
@@ -15,6 +15,7 @@ abbrev pub command_fields : Command → List (List ℕ)
 command_fields (Enrol user actor) =
     codes "ENROL" ∷ user.bytes ∷ role_word actor.role ∷ actor.authorisation.bytes ∷ actor.premises.bytes ∷ []
 command_fields (Suspend user) = codes "SUSPEND" ∷ user.bytes ∷ []
+command_fields (Remove user) = codes "REMOVE" ∷ user.bytes ∷ []
 
 -- the line of a command, without LF
 abbrev pub command_line : Command → List ℕ
@@ -28,21 +29,24 @@ is_role word = is_some (role_named word)
 abbrev pub enrol_fault : List (List ℕ) → Option CommandFault
 enrol_fault (user ∷ role ∷ authorisation ∷ premises ∷ []) =
     if not (is_role role) then Some fault.Role
-    else if not (is_name user && is_name authorisation && is_name premises) then Some fault.Name
+    else if not (is_name user) then Some fault.User
+    else if not (is_name authorisation) then Some fault.Authorisation
+    else if not (is_name premises) then Some fault.Premises
     else None
 enrol_fault _ = Some fault.Fields
 
--- the first fault of a suspension with these texts after its word
-abbrev pub suspend_fault : List (List ℕ) → Option CommandFault
-suspend_fault (user ∷ []) = if is_name user then None else Some fault.Name
-suspend_fault _ = Some fault.Fields
+-- the first fault of a command that names a user alone, with these texts after its word
+abbrev pub user_fault : List (List ℕ) → Option CommandFault
+user_fault (user ∷ []) = if is_name user then None else Some fault.User
+user_fault _ = Some fault.Fields
 
 -- the first fault of these fields
 abbrev pub fields_fault : List (List ℕ) → Option CommandFault
 fields_fault [] = Some fault.Word
 fields_fault (word ∷ texts) =
     if bytes_eq word (codes "ENROL") then enrol_fault texts
-    else if bytes_eq word (codes "SUSPEND") then suspend_fault texts
+    else if bytes_eq word (codes "SUSPEND") then user_fault texts
+    else if bytes_eq word (codes "REMOVE") then user_fault texts
     else Some fault.Word
 
 -- the first fault of a command
@@ -53,6 +57,7 @@ first_command_fault x = line_fault fault.Long fault.Bytes fault.Fields fields_fa
 abbrev pub is_command : Command → Bool
 is_command (Enrol user actor) = is_name user.bytes && is_name actor.authorisation.bytes && is_name actor.premises.bytes
 is_command (Suspend user) = is_name user.bytes
+is_command (Remove user) = is_name user.bytes
 
 -- a line is read as the command whose line it is, else with its first fault
 abbrev pub ReadsCommand : List ℕ → Result Command CommandFault → Type 0

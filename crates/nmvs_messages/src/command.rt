@@ -10,6 +10,8 @@ pub enum Command {
     Enrol(Name, Actor),
     /// Turns a user away from now on.
     Suspend(Name),
+    /// Has a user be unknown from now on.
+    Remove(Name),
 }
 
 /// Why a command cannot be read.
@@ -25,6 +27,10 @@ pub enum CommandFault {
     Word,
     #[error("the command's role is unknown")]
     Role,
-    #[error("the command's user, authorisation or premises is no name")]
-    Name,
+    #[error("the command's user is no name")]
+    User,
+    #[error("the command's authorisation is no name")]
+    Authorisation,
+    #[error("the command's premises are no name")]
+    Premises,
 }

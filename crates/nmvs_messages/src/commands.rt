@@ -3,7 +3,7 @@ ghost use Rattle.std.specs.Prelude.{◌≡◌, ◌↔◌, [], ◌∷◌, map, Is
 ghost use Rattle.std.specs.Result.{result_err};
 ghost use Rattle.nmvs_identifier.specs.Name.{is_name};
 ghost use Rattle.nmvs_words.specs.Words.{role_word};
-ghost use Rattle.nmvs_messages.specs.Commands.{ReadsCommand, command_fields, is_command, fields_fault, is_role, enrol_fault, suspend_fault};
+ghost use Rattle.nmvs_messages.specs.Commands.{ReadsCommand, command_fields, is_command, fields_fault, is_role, enrol_fault, user_fault};
 
 use crate::fields::fields_of;
 use crate::{Command, CommandFault};
@@ -40,7 +40,8 @@ pub fn command_of(fields: &[&str]) -> Result<Command, CommandFault>
         [] => Err(CommandFault::Word),
         [word, texts @ ..] => match *word {
             "ENROL" => read_enrol(texts),
-            "SUSPEND" => read_suspend(texts),
+            "SUSPEND" => Ok(Command::Suspend(read_user(texts)?)),
+            "REMOVE" => Ok(Command::Remove(read_user(texts)?)),
             _ => Err(CommandFault::Word),
         },
     }
@@ -58,16 +59,16 @@ fn read_enrol(texts: &[&str]) -> Result<Command, CommandFault>
     read_enrolment(texts[0], texts[1], texts[2], texts[3])
 }
 
-fn read_suspend(texts: &[&str]) -> Result<Command, CommandFault>
-    ensures fields { IfOk result (λ command.
-        command_fields command ≡ codes "SUSPEND" ∷ map (λ t. t.now) texts.now) }
-    ensures valid { IfOk result (λ command. IsTrue (is_command command)) }
-    ensures fault { result_err result ≡ suspend_fault (map (λ t. t.now) texts.now) }
+/// The user that alone stands after the word of a command.
+fn read_user(texts: &[&str]) -> Result<Name, CommandFault>
+    ensures texts { IfOk result (λ user. user.bytes ∷ [] ≡ map (λ t. t.now) texts.now) }
+    ensures valid { IfOk result (λ user. IsTrue (is_name user.bytes)) }
+    ensures fault { result_err result ≡ user_fault (map (λ t. t.now) texts.now) }
 {
     let [user] = texts else {
         return Err(CommandFault::Fields);
     };
-    Ok(Command::Suspend(read_name(user)?))
+    read_name(user, CommandFault::User)
 }
 
 fn read_enrolment(
@@ -83,9 +84,9 @@ fn read_enrolment(
         ≡ enrol_fault (user.now ∷ role.now ∷ authorisation.now ∷ premises.now ∷ []) }
 {
     let role = read_role(role)?;
-    let user = read_name(user)?;
-    let authorisation = read_name(authorisation)?;
-    let premises = read_name(premises)?;
+    let user = read_name(user, CommandFault::User)?;
+    let authorisation = read_name(authorisation, CommandFault::Authorisation)?;
+    let premises = read_name(premises, CommandFault::Premises)?;
     let actor = Actor {
         role,
         authorisation,
@@ -104,11 +105,10 @@ fn read_role(word: &str) -> Result<Role, CommandFault>
     role_named(word).ok_or(CommandFault::Role)
 }
 
-fn read_name(text: &str) -> Result<Name, CommandFault>
+fn read_name(text: &str, fault: CommandFault) -> Result<Name, CommandFault>
     ensures accepts { IsOk result ↔ IsTrue (is_name text.now) }
     ensures kept { IfOk result (λ name. name.bytes ≡ text.now) }
-    ensures fault { IfErr result (λ fault.
-        (fault ≡ CommandFault.Name) × (is_name text.now ≡ false)) }
+    ensures fault { IfErr result (λ told. (told ≡ fault) × (is_name text.now ≡ false)) }
 {
-    Name::read(text).or(Err(CommandFault::Name))
+    Name::read(text).or(Err(fault))
 }

@@ -14,12 +14,19 @@ fn commands_and_faults_are_read(rt: HostRuntime) {
     };
     assert!(rt; read_command(b"ENROL ph9 PHARMACY PH-9 P9") == Ok(Command::Enrol(user, actor)));
     assert!(rt; read_command(b"SUSPEND ph9") == Ok(Command::Suspend(user)));
+    assert!(rt; read_command(b"REMOVE ph9") == Ok(Command::Remove(user)));
     for (line, fault) in [
         ("ENROL ph9 DOCTOR PH-9 P9", CommandFault::Role),
         ("ENROL -x DOCTOR P/9 P9", CommandFault::Role),
         ("SUSPEND", CommandFault::Fields),
         ("enrol x", CommandFault::Word),
-        ("SUSPEND -x", CommandFault::Name),
+        ("SUSPEND -x", CommandFault::User),
+        ("REMOVE", CommandFault::Fields),
+        ("REMOVE ph9 ph9", CommandFault::Fields),
+        ("REMOVE -x", CommandFault::User),
+        ("ENROL -x PHARMACY P/9 P9", CommandFault::User),
+        ("ENROL ph9 PHARMACY P/9 -x", CommandFault::Authorisation),
+        ("ENROL ph9 PHARMACY PH-9 -x", CommandFault::Premises),
         ("SUSPEND ph9\r", CommandFault::Bytes),
         ("SUSPEND ph9\u{7f}", CommandFault::Bytes),
     ] {
@@ -42,10 +49,12 @@ fn texts_of_faults_of_commands(rt: HostRuntime) {
         ),
         (CommandFault::Word, "the command's word is unknown"),
         (CommandFault::Role, "the command's role is unknown"),
+        (CommandFault::User, "the command's user is no name"),
         (
-            CommandFault::Name,
-            "the command's user, authorisation or premises is no name",
+            CommandFault::Authorisation,
+            "the command's authorisation is no name",
         ),
+        (CommandFault::Premises, "the command's premises are no name"),
     ] {
         let written = format!(in rt.alloc(); "{fault}").expect(&rt, "ample memory");
         assert!(rt; written.as_str() == text, "{text}");
