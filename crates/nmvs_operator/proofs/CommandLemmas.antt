@@ -1,5 +1,5 @@
 -- The operator's orders go on, line by line.
-use Rattle.std.proofs.Common.{◌≡◌, ◌≢◌, ◌∙◌, ◌++◌, ◌∷◌, ◌<◌, ◌==◌, ◌||◌, ◌⊎◌, [], inl, inr, refl, sym, ap, subst, arith, ℕ, true, false, List, length, take, codes, Option, Some, None, Result, Ok, Err}
+use Rattle.std.proofs.Common.{◌≡◌, ◌≢◌, ◌∙◌, ◌++◌, ◌∷◌, ◌<◌, ◌==◌, ◌||◌, [], inl, inr, refl, sym, ap, subst, arith, ℕ, true, false, List, length, take, codes, None, Result, Ok, Err}
 use Rattle.std.proofs.lemmas.List.{append-nil, append_assoc, length-take}
 use Rattle.std.proofs.lemmas.Bool.{eqb-true}
 use Rattle.std.proofs.lemmas.List.Elements.{All-append, All-cons, All-nil}
@@ -22,7 +22,7 @@ use Rattle.nmvs_operator.specs.declared.order.Order.TheVariants as orders
 use Rattle.nmvs_operator.specs.Orders.{ReadsOrder}
 use Rattle.nmvs_operator.specs.Figures.{figure_lines}
 use Rattle.nmvs_operator.specs.Roll.{user_lines}
-use Rattle.nmvs_operator.specs.Commands.{Office, Does, Counts, Ways, Said, saying, Ends, Lists, AnswersOrder, AnswersOrders, Tries, TellsAnswers, CarriesOut, answer_text, order_text, last_answer, stops, is_stop, GoesOn}
+use Rattle.nmvs_operator.specs.Commands.{Office, Does, Counts, Ways, Said, saying, Ends, Lists, AnswersOrder, AnswersOrders, Tries, TellsAnswers, CarriesOut, answer_text, order_text, last_answer, stops, is_stop}
 use Rattle.nmvs_operator.specs.Progress.{AnsweredOrders, StoppedIn, CarriesOutLines, StoppedBy}
 use Rattle.nmvs_operator.proofs.OrderLemmas.{kept_reads_order}
 
@@ -40,8 +40,17 @@ kept_ends does old x (Err obey.Memory) new (inl h) = inl (record {
   pending = h.pending;
   latest = h.latest;
 })
-kept_ends does old x (Err obey.Memory) new (inr h) =
-    inr (record { order = h.order; read = kept_reads_order x (Ok h.order) h.read; asks = h.asks; stays = h.stays })
+kept_ends does old x (Err obey.Memory) new (inr (inl h)) = inr (inl (record {
+  read = kept_reads_order x (Ok orders.Reload) h.read;
+  bytes = h.bytes;
+  kept = h.kept;
+  published = h.published;
+  pending = h.pending;
+  latest = h.latest;
+}))
+kept_ends does old x (Err obey.Memory) new (inr (inr h)) =
+    inr (inr (record { order = h.order; read = kept_reads_order x (Ok h.order) h.read; asks = h.asks; stays = h.stays }))
+kept_ends does old x (Err obey.Users) new h = (kept_reads_order x (Ok orders.Reload) h.0, h.1)
 kept_ends does old x (Err obey.Unended) new h = absurd h
 
 -- what is kept of an order is answered as the order is
@@ -76,6 +85,7 @@ stop_lines : {S : Type 0} (counts : Counts S) (old : Office S) (ends : Result Or
     → saying lines ends ≡ saying [] (Ok orders.Stop)
 stop_lines counts old (Ok orders.Stop) lines none stop = ap (λ (l : List ℕ). saying l (Ok orders.Stop)) none
 stop_lines counts old (Ok (orders.Change c)) lines none stop = absurd cc
+stop_lines counts old (Ok orders.Reload) lines none stop = absurd cc
 stop_lines counts old (Ok (orders.Export p)) lines none stop = absurd cc
 stop_lines counts old (Ok orders.Users) lines none stop = absurd cc
 stop_lines counts old (Ok (orders.Count t)) lines none stop = absurd cc
@@ -216,6 +226,7 @@ tells {old} {new} e tries = subst (λ (t : List ℕ). Tries old new t) e tries
 -- another order than STOP does not stop the server
 pub not_stop : (order : Order) → order ≢ orders.Stop → stops (Ok order) ≡ false
 not_stop (orders.Change command) other = refl
+not_stop orders.Reload other = refl
 not_stop (orders.Export path) other = refl
 not_stop orders.Users other = refl
 not_stop (orders.Count topic) other = refl
@@ -226,11 +237,20 @@ not_stop orders.Help other = refl
 pub no_lines : {S : Type 0} (counts : Counts S) (office : Office S) (order : Order) → order ≢ orders.Users → ((topic : Topic) → order ≢ orders.Count topic)
     → Lists counts office (Ok order) []
 no_lines counts office (orders.Change command) users counted = refl
+no_lines counts office orders.Reload users counted = refl
 no_lines counts office (orders.Export path) users counted = refl
 no_lines counts office orders.Users users counted = absurd (users refl)
 no_lines counts office (orders.Count topic) users counted = absurd (counted topic refl)
 no_lines counts office orders.Stop users counted = refl
 no_lines counts office orders.Help users counted = refl
+
+-- of the faults those of a users file alone are listed
+pub no_fault_lines : {S : Type 0} (counts : Counts S) (office : Office S) (fault : ObeyFault) → fault ≢ obey.Users → Lists counts office (Err fault) []
+no_fault_lines counts office (obey.Unread fault) other = refl
+no_fault_lines counts office (obey.Undone fault) other = refl
+no_fault_lines counts office obey.Memory other = refl
+no_fault_lines counts office obey.Users other = absurd (other refl)
+no_fault_lines counts office obey.Unended other = refl
 
 -- USERS is answered by the lines of the published users, or there was no memory for them
 pub users_told : {S T E : Type 0} (ways : Ways S) (office : Office S) (line : List ℕ) (before after : Taken) (bytes : T → List ℕ) (text : Result T E)
@@ -245,7 +265,7 @@ users_told ways office line before after bytes (Ok t) read made tries = (
 )
 users_told ways office line before after bytes (Err e) read made tries = (
   saying [] (Err obey.Memory),
-  (inr (record { order = orders.Users; read = read; asks = refl; stays = refl }), refl),
+  (inr (inr (record { order = orders.Users; read = read; asks = refl; stays = refl })), refl),
   tries,
   refl,
 )
@@ -264,7 +284,7 @@ figures_told ways office line before after topic bytes (Ok t) read made tries = 
 )
 figures_told ways office line before after topic bytes (Err e) read made tries = (
   saying [] (Err obey.Memory),
-  (inr (record { order = orders.Count topic; read = read; asks = refl; stays = refl }), refl),
+  (inr (inr (record { order = orders.Count topic; read = read; asks = refl; stays = refl })), refl),
   tries,
   refl,
 )

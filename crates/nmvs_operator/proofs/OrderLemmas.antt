@@ -1,11 +1,13 @@
 -- The line of an order is read, of as much of it as is kept too.
-use Rattle.std.proofs.Common.{◌≡◌, ◌<◌, ◌+◌, ℕ, cond, List, [], ◌∷◌, length, take, Some, None, Result, Ok, Err, refl, sym, ap, ◌∙◌, subst, inl, inr, arith, lit≤, codes}
+use Rattle.std.proofs.Common.{◌≡◌, ◌≢◌, ◌<◌, ◌≤◌, ℕ, Bool, true, false, cond, List, [], ◌∷◌, length, get_or, map, take, Some, Result, Ok, Err, refl, sym, ◌∙◌, subst, inl, inr, arith, lit≤, codes}
 use Rattle.std.specs.Prelude.{IfOk, IsTrue}
 use Rattle.std.specs.Str.{bytes_eq}
 use Rattle.std.specs.Result.{result_err}
+use Rattle.std.specs.Bool.{Decides}
 use Rattle.std.proofs.lemmas.Bool.{lt-ltb, cases_lt}
+use Rattle.std.proofs.lemmas.Slice.Eq.{bytes_eq-Decides}
 use Rattle.std.proofs.lemmas.List.{take_all, length-take-le}
-use Rattle.nmvs_messages.specs.declared.command.Command.TheVariants.{Enrol, Suspend}
+use Rattle.nmvs_messages.specs.declared.command.Command.TheVariants.{Enrol, Suspend, Remove}
 use Rattle.nmvs_messages.specs.declared.command.CommandFault.{CommandFault}
 use Rattle.nmvs_messages.specs.declared.command.CommandFault.TheVariants as fault
 use Rattle.nmvs_messages.specs.Fields.{fields_in}
@@ -14,11 +16,13 @@ use Rattle.nmvs_messages.proofs.CommandLemmas.{fields_fault-take}
 use Rattle.nmvs_messages.proofs.FieldLemmas.{line_of_kept}
 use Rattle.nmvs_operator.specs.declared.order.Order.{Order}
 use Rattle.nmvs_operator.specs.declared.order.Order.TheVariants as orders
-use Rattle.nmvs_operator.specs.Orders.{ReadsOrder, order_fields, is_order, order_fault, listing_fault, export_fault, alone_fault, first_order_fault}
+use Rattle.nmvs_operator.specs.Orders.{ReadsOrder, order_fields, is_order, order_fault, listing_fault, change_fault, export_fault, alone_fault, first_order_fault}
 
 few_fields : (o : Order) → length (order_fields o) < 7
 few_fields (orders.Change (Enrol user actor)) = lit≤ tt
 few_fields (orders.Change (Suspend user)) = lit≤ tt
+few_fields (orders.Change (Remove user)) = lit≤ tt
+few_fields orders.Reload = lit≤ tt
 few_fields (orders.Export path) = lit≤ tt
 few_fields orders.Users = lit≤ tt
 few_fields (orders.Count topic) = lit≤ tt
@@ -40,14 +44,18 @@ alone_fault-take : (texts : List (List ℕ)) → alone_fault (take 6 texts) ≡ 
 alone_fault-take [] = refl
 alone_fault-take (a ∷ texts) = refl
 
+change_fault-take : (fs : List (List ℕ)) → change_fault (take 7 fs) ≡ change_fault fs
+unfolding change_fault
+change_fault-take [] = refl
+change_fault-take (word ∷ texts) = λ i. cond (bytes_eq word (codes "RELOAD")) (alone_fault-take texts i) (fields_fault-take (word ∷ texts) i)
+
 listing_fault-take : (fs : List (List ℕ)) → listing_fault (take 7 fs) ≡ listing_fault fs
 unfolding listing_fault
 listing_fault-take [] = refl
 listing_fault-take (word ∷ texts) = λ i.
     cond (bytes_eq word (codes "USERS")) (alone_fault-take texts i)
     (cond (bytes_eq word (codes "STATS")) (alone_fault-take texts i)
-    (cond (bytes_eq word (codes "CONNECTIONS")) (alone_fault-take texts i)
-    (cond (bytes_eq word (codes "ALERTS")) (alone_fault-take texts i) (fields_fault-take (word ∷ texts) i))))
+    (cond (bytes_eq word (codes "CONNECTIONS")) (alone_fault-take texts i) (change_fault-take (word ∷ texts) i)))
 
 -- what is kept of a line's fields tells their fault
 pub order_fault-take : (fs : List (List ℕ)) → order_fault (take 7 fs) ≡ order_fault fs
@@ -56,6 +64,29 @@ order_fault-take (word ∷ texts) = λ i.
     cond (bytes_eq word (codes "EXPORT")) (export_fault-take texts i)
     (cond (bytes_eq word (codes "STOP")) (alone_fault-take texts i)
     (cond (bytes_eq word (codes "HELP")) (alone_fault-take texts i) (listing_fault-take (word ∷ texts) i)))
+
+-- different texts are not equal
+differs : (xs ys : List ℕ) → xs ≢ ys → bytes_eq xs ys ≡ false
+differs xs ys other = by (bytes_eq xs ys) (bytes_eq-Decides xs ys)
+  where
+    by : (b : Bool) → Decides b (xs ≡ ys) → b ≡ false
+    by true d = absurd (other (d.0 refl))
+    by false d = refl
+
+-- an order that asks for no lines has the fault of a change
+pub listing_fault-change : {B : Type 0} (now : B → List ℕ) (fields : List B) (d : B) → 1 ≤ length fields → now (get_or fields 0 d) ≢ codes "USERS"
+    → now (get_or fields 0 d) ≢ codes "STATS" → now (get_or fields 0 d) ≢ codes "CONNECTIONS" → change_fault (map now fields) ≡ listing_fault (map now fields)
+unfolding listing_fault
+listing_fault-change now [] d some users stats connections = absurd (omega (arith, some))
+listing_fault-change now (word ∷ texts) d some users stats connections =
+    rw (differs (now word) (codes "USERS") users, differs (now word) (codes "STATS") stats, differs (now word) (codes "CONNECTIONS") connections) refl
+
+-- an order that is none of three has the fault of one that asks for lines or changes the users
+pub order_fault-listing : {B : Type 0} (now : B → List ℕ) (fields : List B) (d : B) → 1 ≤ length fields → now (get_or fields 0 d) ≢ codes "EXPORT"
+    → now (get_or fields 0 d) ≢ codes "STOP" → now (get_or fields 0 d) ≢ codes "HELP" → listing_fault (map now fields) ≡ order_fault (map now fields)
+order_fault-listing now [] d some exports stops helps = absurd (omega (arith, some))
+order_fault-listing now (word ∷ texts) d some exports stops helps =
+    rw (differs (now word) (codes "EXPORT") exports, differs (now word) (codes "STOP") stops, differs (now word) (codes "HELP") helps) refl
 
 long_fault : (x : List ℕ) → 200 < length x → first_order_fault x ≡ Some fault.Long
 unfolding first_order_fault

@@ -1,6 +1,6 @@
 -- How a users file is gone through, line by line.
-use Rattle.std.proofs.Common.{◌≡◌, ◌∙◌, ◌++◌, ◌∷◌, ◌+◌, ◌<◌, ◌⊎◌, [], inl, inr, refl, sym, ap, arith, ℕ, List, length, map, Some, Ok, true, false}
-use Rattle.std.specs.Prelude.{IsTrue, filter}
+use Rattle.std.proofs.Common.{◌≡◌, ◌∙◌, ◌++◌, ◌∷◌, ◌+◌, ◌<◌, ◌⊎◌, [], inl, inr, refl, sym, ap, arith, ℕ, List, length, map, Some, Result, Ok, Err, true, false}
+use Rattle.std.specs.Prelude.{IsTrue, MatchResult, IfOk}
 use Rattle.std.proofs.lemmas.List.{append-nil, append_assoc, length-append, map-append}
 use Rattle.std.proofs.lemmas.List.Elements.{All-append, All-cons, All-nil, filter-append}
 use Rattle.nmvs_directory.specs.declared.change.Change.{Change}
@@ -9,7 +9,7 @@ use Rattle.nmvs_stream.specs.InputLines.{input_lines, unfinished_line}
 use Rattle.nmvs_messages.specs.declared.command.Command.{Command}
 use Rattle.nmvs_messages.specs.declared.command.CommandFault.{CommandFault}
 use Rattle.nmvs_stream.specs.Source.{Told}
-use Rattle.nmvs_operator.specs.Users.{change_of, says, AreCommands, AreLinesOf, Adds, AddsAll, AddsFirst, StopsAt, StopsShort, Tells, ReadFails, LoadFails}
+use Rattle.nmvs_operator.specs.Users.{change_of, says, AreLinesOf, Adds, AddsAll, AddsFirst, StopsShort, Tells, ReadFails, LoadFails}
 use Rattle.nmvs_operator.specs.declared.faults.LoadFault.{LoadFault}
 use Rattle.nmvs_operator.specs.declared.faults.LoadFault.TheVariants as load
 
@@ -155,3 +155,20 @@ not_added source source' reads bytes before after load.Memory read ended h = (by
 not_added source source' reads bytes before after load.Read read ended h = absurd h
 not_added source source' reads bytes before after (load.Line number fault) read ended h = (bytes, read, ended, h)
 not_added source source' reads bytes before after (load.Unended number) read ended h = (bytes, read, ended, h)
+
+-- what a fault tells of a file whose changes are added is that those of its first lines are
+pub tells_first : (bytes : List ℕ) (before after : List Change) (f : LoadFault) → Tells bytes before after f → AddsFirst bytes before after
+tells_first bytes before after (load.Line number fault) h =
+    record { first = h.first; rest = h.line ∷ h.rest; these = h.these; commands = h.commands; file = h.file; changes = h.changes }
+tells_first bytes before after (load.Unended number) h =
+    record { first = input_lines bytes; rest = []; these = sym (append-nil (input_lines bytes)); commands = h.commands; file = h.file; changes = h.changes }
+tells_first bytes before after load.Read h = absurd h
+tells_first bytes before after load.Memory h = h
+
+-- the changes of a file that were added are published, or all of them are pending
+pub published_or_pending : {N E : Type 0} (r : Result N E) (told : N → List Change) (bytes : List ℕ) (before added after shown shown' : List Change) → AddsAll bytes before added
+    → MatchResult r (λ _. shown' ≡ shown ++ added) (λ _. shown' ≡ shown) → MatchResult r (λ _. after ≡ []) (λ _. after ≡ added)
+    → IfOk r (λ n. told n ≡ shown')
+    → MatchResult r (λ n. (x : List Change) × AddsAll bytes before x × (shown' ≡ shown ++ x) × (after ≡ []) × (told n ≡ shown')) (λ _. (shown' ≡ shown) × AddsFirst bytes before after)
+published_or_pending (Ok n) told bytes before added after shown shown' adds all none tells = (added, adds, all, none, tells)
+published_or_pending (Err e) told bytes before added after shown shown' adds all none tells = (all, adds_first-adds after adds none)

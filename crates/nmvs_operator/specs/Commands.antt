@@ -1,5 +1,5 @@
 -- Orders of the operator, and their answers (own).
-use Rattle.std.specs.Prelude.{◌≡◌, ◌+◌, ◌⊎◌, ℕ, Bool, true, false, List, [], ◌∷◌, ◌++◌, All, codes, Option, Some, None, Result, Ok, Err}
+use Rattle.std.specs.Prelude.{◌≡◌, ◌+◌, ◌<◌, ◌⊎◌, ℕ, Bool, true, false, List, [], ◌∷◌, ◌++◌, All, length, codes, Option, Some, None, Result, Ok, Err}
 use Rattle.nmvs_directory.specs.Registrar.{Register}
 use Rattle.nmvs_directory.specs.Users.{users_of}
 use Rattle.nmvs_directory.specs.declared.change.Change.{Change}
@@ -13,7 +13,8 @@ use Rattle.nmvs_stream.specs.Delivery.{Delivers, DeliversPart}
 use Rattle.nmvs_operator.specs.Orders.{ReadsOrder, first_order_fault}
 use Rattle.nmvs_operator.specs.Figures.{figure_lines}
 use Rattle.nmvs_operator.specs.Roll.{user_lines}
-use Rattle.nmvs_operator.specs.Users.{change_of}
+use Rattle.nmvs_operator.specs.Users.{change_of, AddsAll, AddsFirst}
+use Rattle.nmvs_operator.specs.UsersFaults.{faults_from, fault_lines}
 use Rattle.nmvs_operator.specs.declared.faults.ObeyFault.{ObeyFault}
 use Rattle.nmvs_operator.specs.declared.faults.ObeyFault.TheVariants as obey
 use Rattle.nmvs_operator.specs.declared.figures.Figure.{Figure}
@@ -50,11 +51,27 @@ pub record Ways (S : Type 0) : Type 1 where
 abbrev pub ways : {S : Type 0} → Does S → Counts S → Ways S
 ways does counts = record { does = does; counts = counts }
 
+-- a deed is to keep the changes of a users file of these bytes
+abbrev pub IsKeepFile : Deed → List ℕ → Type 0
+IsKeepFile (deeds.KeepFile file) bytes = file.now ≡ bytes
+IsKeepFile (deeds.Keep command) bytes = ⊥
+IsKeepFile (deeds.Export path) bytes = ⊥
+IsKeepFile deeds.Stop bytes = ⊥
+
+-- the server kept the changes of a users file that has no fault, where no fault is that it did
+pub record KeepsFile {S : Type 0} (does : Does S) (old : S) (bytes : List ℕ) (fault : Option ServiceFault) (new : S) : Type 0 where
+  pub faultless : faults_from 1 bytes ≡ []
+  pub deed : Deed
+  pub file : IsKeepFile deed bytes
+  pub done : does old deed fault new
+
 -- the server did what an order asks of it, where no fault is that it did
 abbrev pub Performs : {S : Type 0} → Does S → S → Order → Option ServiceFault → S → Type 0
 Performs does old (orders.Change command) fault new = does old (deeds.Keep command) fault new
 Performs does old (orders.Export path) fault new = does old (deeds.Export path) fault new
 Performs does old orders.Stop fault new = does old deeds.Stop fault new
+Performs does old orders.Reload None new = (bytes : List ℕ) × KeepsFile does old bytes None new
+Performs does old orders.Reload (Some fault) new = (new ≡ old) ⊎ ((bytes : List ℕ) × KeepsFile does old bytes (Some fault) new)
 Performs does old orders.Users None new = new ≡ old
 Performs does old orders.Users (Some fault) new = ⊥
 Performs does old (orders.Count topic) None new = new ≡ old
@@ -68,24 +85,36 @@ pub record Publishes {S : Type 0} (old : Office S) (command : Command) (new : Of
   pub none_left : new.register.pending ≡ []
   pub told : new.latest ≡ Some new.register.published
 
+-- the changes of a users file that the server keeps are published behind all that were pending, and the latest notice
+-- tells all that is published
+pub record Reloads {S : Type 0} (does : Does S) (old : Office S) (new : Office S) : Type 0 where
+  pub bytes : List ℕ
+  pub kept : KeepsFile does old.service bytes None new.service
+  pub added : List Change
+  pub adds : AddsAll bytes old.register.pending added
+  pub all : new.register.published ≡ old.register.published ++ added
+  pub none_left : new.register.pending ≡ []
+  pub told : new.latest ≡ Some new.register.published
+
 -- the users stay as they are, and so does the latest notice
 abbrev pub UsersStay : {S : Type 0} → Office S → Office S → Type 0
 UsersStay old new = (new.register ≡ old.register) × (new.latest ≡ old.latest)
 
 -- what is done of an order beside the server
-abbrev pub Changes : {S : Type 0} → Office S → Order → Office S → Type 0
-Changes old (orders.Change command) new = Publishes old command new
-Changes old (orders.Export path) new = UsersStay old new
-Changes old orders.Users new = UsersStay old new
-Changes old (orders.Count topic) new = UsersStay old new
-Changes old orders.Stop new = UsersStay old new
-Changes old orders.Help new = UsersStay old new
+abbrev pub Changes : {S : Type 0} → Does S → Office S → Order → Office S → Type 0
+Changes does old (orders.Change command) new = Publishes old command new
+Changes does old orders.Reload new = Reloads does old new
+Changes does old (orders.Export path) new = UsersStay old new
+Changes does old orders.Users new = UsersStay old new
+Changes does old (orders.Count topic) new = UsersStay old new
+Changes does old orders.Stop new = UsersStay old new
+Changes does old orders.Help new = UsersStay old new
 
 -- an order was carried out
 pub record Obeys {S : Type 0} (does : Does S) (old : Office S) (line : List ℕ) (order : Order) (new : Office S) : Type 0 where
   pub read : ReadsOrder line (Ok order)
   pub performs : Performs does old.service order None new.service
-  pub changes : Changes old order new
+  pub changes : Changes does old order new
 
 -- the server did not do what an order asks, and nothing was published
 pub record Fails {S : Type 0} (does : Does S) (old : Office S) (line : List ℕ) (fault : ServiceFault) (new : Office S) : Type 0 where
@@ -103,9 +132,20 @@ pub record Lacks {S : Type 0} (does : Does S) (old : Office S) (line : List ℕ)
   pub pending : (new.register.pending ≡ old.register.pending) ⊎ (new.register.pending ≡ old.register.pending ++ change_of command ∷ [])
   pub latest : new.latest ≡ old.latest
 
+-- memory was wanting for changes of a users file that the server keeps: nothing was published, and the changes of its
+-- first lines are pending
+pub record LacksUsers {S : Type 0} (does : Does S) (old : Office S) (line : List ℕ) (new : Office S) : Type 0 where
+  pub read : ReadsOrder line (Ok orders.Reload)
+  pub bytes : List ℕ
+  pub kept : KeepsFile does old.service bytes None new.service
+  pub published : new.register.published ≡ old.register.published
+  pub pending : AddsFirst bytes old.register.pending new.register.pending
+  pub latest : new.latest ≡ old.latest
+
 -- whether an order asks for lines that take memory
 abbrev pub asks_lines : Order → Bool
 asks_lines (orders.Change command) = false
+asks_lines orders.Reload = true
 asks_lines (orders.Export path) = false
 asks_lines orders.Users = true
 asks_lines (orders.Count topic) = true
@@ -119,11 +159,13 @@ pub record LacksLines {S : Type 0} (old : Office S) (line : List ℕ) (new : Off
   pub asks : asks_lines order ≡ true
   pub stays : new ≡ old
 
--- an order was not carried out: it can't be read, and nothing changed; the server failed; or memory was wanting
+-- an order was not carried out: it can't be read, or the users file has faults, and nothing changed; the server failed; or
+-- memory was wanting
 abbrev pub Refuses : {S : Type 0} → Does S → Office S → List ℕ → ObeyFault → Office S → Type 0
 Refuses does old line (obey.Unread fault) new = (first_order_fault line ≡ Some fault) × (new ≡ old)
 Refuses does old line (obey.Undone fault) new = Fails does old line fault new
-Refuses does old line obey.Memory new = Lacks does old line new ⊎ LacksLines old line new
+Refuses does old line obey.Memory new = Lacks does old line new ⊎ (LacksUsers does old line new ⊎ LacksLines old line new)
+Refuses does old line obey.Users new = ReadsOrder line (Ok orders.Reload) × (new ≡ old)
 Refuses does old line obey.Unended new = ⊥
 
 -- an order ended so: as the order that was carried out, or by a fault
@@ -131,16 +173,22 @@ abbrev pub Ends : {S : Type 0} → Does S → Office S → List ℕ → Result O
 Ends does old line (Ok order) new = Obeys does old line order new
 Ends does old line (Err fault) new = Refuses does old line fault new
 
--- the lines that an order that ended so asked for: those of the published users, those of some of the figures that the
--- server may count, and else none
+-- the lines that are told to an order that ended so: those of the published users, those of some of the figures that the
+-- server may count, those of the faults of a users file, and else none
 abbrev pub Lists : {S : Type 0} → Counts S → Office S → Result Order ObeyFault → List ℕ → Type 0
 Lists counts old (Ok orders.Users) lines = lines ≡ user_lines (users_of old.register.published)
 Lists counts old (Ok (orders.Count topic)) lines = (figures : List Figure) × counts old.service topic figures × (lines ≡ figure_lines figures)
 Lists counts old (Ok (orders.Change command)) lines = lines ≡ []
+Lists counts old (Ok orders.Reload) lines = lines ≡ []
 Lists counts old (Ok (orders.Export path)) lines = lines ≡ []
 Lists counts old (Ok orders.Stop) lines = lines ≡ []
 Lists counts old (Ok orders.Help) lines = lines ≡ []
-Lists counts old (Err fault) lines = lines ≡ []
+Lists counts old (Err obey.Users) lines =
+    (bytes : List ℕ) × (0 < length (faults_from 1 bytes)) × (lines ≡ fault_lines (faults_from 1 bytes))
+Lists counts old (Err (obey.Unread fault)) lines = lines ≡ []
+Lists counts old (Err (obey.Undone fault)) lines = lines ≡ []
+Lists counts old (Err obey.Memory) lines = lines ≡ []
+Lists counts old (Err obey.Unended) lines = lines ≡ []
 
 -- what is said to an order: the lines that it asked for, and how it ended
 pub record Said : Type 0 where
@@ -168,7 +216,9 @@ command_word commands.Bytes = codes "BYTES"
 command_word commands.Fields = codes "FIELDS"
 command_word commands.Word = codes "WORD"
 command_word commands.Role = codes "ROLE"
-command_word commands.Name = codes "NAME"
+command_word commands.User = codes "NAME"
+command_word commands.Authorisation = codes "NAME"
+command_word commands.Premises = codes "NAME"
 
 -- why the server did not do what was asked
 abbrev pub service_word : ServiceFault → List ℕ
@@ -176,10 +226,12 @@ service_word service.Journal = codes "JOURNAL"
 service_word service.Write = codes "WRITE"
 service_word service.Memory = codes "MEMORY"
 service_word service.Clock = codes "CLOCK"
+service_word service.Read = codes "READ"
+service_word service.NoFile = codes "NOFILE"
 
 -- the lines that there are
 abbrev pub help_text : List ℕ
-help_text = codes "ENROL user role authorisation premises\nSUSPEND user\nEXPORT file\nUSERS\nSTATS\nCONNECTIONS\nALERTS\nSTOP\nHELP\nDONE\n"
+help_text = codes "ENROL user role authorisation premises\nSUSPEND user\nREMOVE user\nRELOAD\nEXPORT file\nUSERS\nSTATS\nCONNECTIONS\nSTOP\nHELP\nDONE\n"
 
 -- the last line that is said to an order; and to HELP all of them
 abbrev pub order_text : Result Order ObeyFault → List ℕ
@@ -188,6 +240,7 @@ order_text (Ok _) = codes "DONE\n"
 order_text (Err (obey.Unread fault)) = codes "FAULT " ++ command_word fault ++ codes "\n"
 order_text (Err (obey.Undone fault)) = codes "FAULT " ++ service_word fault ++ codes "\n"
 order_text (Err obey.Memory) = codes "FAULT MEMORY\n"
+order_text (Err obey.Users) = codes "FAULT USERS\n"
 order_text (Err obey.Unended) = codes "FAULT UNENDED\n"
 
 -- a text was delivered, but for what a failed write left of it

@@ -3,7 +3,7 @@ pub mod Users
 pub mod Orders
 pub mod Figures
 pub mod Roll
+pub mod UsersFaults
 pub mod Commands
 pub mod Progress
 pub mod Address
-pub mod UsersFaults

@@ -1,5 +1,5 @@
 -- The one line of each order of the operator, and the first fault of a line (own).
-use Rattle.std.specs.Prelude.{◌≡◌, ◌||◌, ℕ, Bool, true, List, [], ◌∷◌, codes, Option, Some, None, Result, Ok, Err, if◌then◌else◌, IsTrue}
+use Rattle.std.specs.Prelude.{◌≡◌, ℕ, Bool, true, List, [], ◌∷◌, codes, Option, Some, None, Result, Ok, Err, if◌then◌else◌, IsTrue}
 use Rattle.std.specs.Str.{bytes_eq}
 use Rattle.nmvs_messages.specs.Commands.{command_fields, is_command, fields_fault}
 use Rattle.nmvs_messages.specs.Fields.{line_of_fields, line_fault}
@@ -19,6 +19,7 @@ topic_word Alerts = codes "ALERTS"
 -- the fields of an order
 abbrev pub order_fields : Order → List (List ℕ)
 order_fields (orders.Change command) = command_fields command
+order_fields orders.Reload = codes "RELOAD" ∷ []
 order_fields (orders.Export path) = codes "EXPORT" ∷ path.now ∷ []
 order_fields orders.Users = codes "USERS" ∷ []
 order_fields (orders.Count topic) = topic_word topic ∷ []
@@ -32,6 +33,7 @@ order_line o = line_of_fields (order_fields o)
 -- whether the texts of an order are in their grammars
 abbrev pub is_order : Order → Bool
 is_order (orders.Change command) = is_command command
+is_order orders.Reload = true
 is_order (orders.Export path) = true
 is_order orders.Users = true
 is_order (orders.Count topic) = true
@@ -48,6 +50,13 @@ abbrev pub alone_fault : List (List ℕ) → Option CommandFault
 alone_fault [] = None
 alone_fault _ = Some fault.Fields
 
+-- the first fault of these fields, of an order that changes the users
+unfoldable pub change_fault : List (List ℕ) → Option CommandFault
+change_fault [] = Some fault.Word
+change_fault (word ∷ texts) =
+    if bytes_eq word (codes "RELOAD") then alone_fault texts
+    else fields_fault (word ∷ texts)
+
 -- the first fault of these fields, of an order that asks for lines or changes the users
 unfoldable pub listing_fault : List (List ℕ) → Option CommandFault
 listing_fault [] = Some fault.Word
@@ -55,8 +64,7 @@ listing_fault (word ∷ texts) =
     if bytes_eq word (codes "USERS") then alone_fault texts
     else if bytes_eq word (codes "STATS") then alone_fault texts
     else if bytes_eq word (codes "CONNECTIONS") then alone_fault texts
-    else if bytes_eq word (codes "ALERTS") then alone_fault texts
-    else fields_fault (word ∷ texts)
+    else change_fault (word ∷ texts)
 
 -- the first fault of these fields
 abbrev pub order_fault : List (List ℕ) → Option CommandFault

@@ -1,5 +1,5 @@
 -- How the operator's orders stand between two bytes of them (own).
-use Rattle.std.specs.Prelude.{◌≡◌, ℕ, List, [], ◌∷◌, ◌++◌}
+use Rattle.std.specs.Prelude.{◌≡◌, ℕ, List, ◌++◌}
 use Rattle.nmvs_stream.specs.InputLines.{input_lines, unfinished_line}
 use Rattle.nmvs_messages.specs.PendingLines.{kept_part}
 use Rattle.nmvs_stream.specs.Source.{Told}

@@ -5,7 +5,7 @@ use Rattle.nmvs_identifier.specs.Name.{Name}
 use Rattle.nmvs_rules.specs.declared.actor.Actor.{Actor}
 use Rattle.nmvs_words.specs.Words.{role_word, spaced}
 use Rattle.nmvs_directory.specs.declared.standing.Standing.{Standing}
-use Rattle.nmvs_directory.specs.declared.standing.Standing.TheVariants.{Enrolled, Suspended}
+use Rattle.nmvs_directory.specs.declared.standing.Standing.TheVariants.{Enrolled, Suspended, Removed}
 
 -- the line of a user of this name that is enrolled as this actor
 abbrev pub enrolled : List ℕ → Actor → List ℕ
@@ -16,11 +16,12 @@ abbrev pub suspended : List ℕ → Actor → List ℕ
 suspended name actor =
     spaced (codes "USER" ∷ name ∷ role_word actor.role ∷ actor.authorisation.bytes ∷ actor.premises.bytes ∷ codes "SUSPENDED" ∷ [])
 
--- the line of a user, with LF: one that was never enrolled has no role
+-- the line of a user, with LF: one that was never enrolled has no role; one that was removed has no line
 abbrev pub user_line : Name × Standing → List ℕ
 user_line (name, Enrolled actor) = enrolled name.bytes actor
 user_line (name, Suspended (Some actor)) = suspended name.bytes actor
 user_line (name, Suspended None) = spaced (codes "USER" ∷ name.bytes ∷ codes "SUSPENDED" ∷ [])
+user_line (name, Removed) = []
 
 -- the lines of users, in their order
 abbrev pub user_lines : List (Name × Standing) → List ℕ

@@ -1,10 +1,11 @@
 -- Users files (own).
-use Rattle.std.specs.Prelude.{◌≡◌, ◌+◌, ◌<◌, ◌==◌, ◌⊎◌, ℕ, Bool, List, [], ◌∷◌, ◌++◌, length, map, filter, not, codes, All, IsTrue, Some, None, true, false}
+use Rattle.std.specs.Prelude.{◌≡◌, ◌+◌, ◌<◌, ◌==◌, ◌⊎◌, ℕ, Bool, List, [], ◌∷◌, ◌++◌, length, map, filter, not, codes, All, IsTrue, Some, true, false}
 use Rattle.nmvs_directory.specs.declared.change.Change.{Change}
+use Rattle.nmvs_directory.specs.declared.change.Effect.TheVariants as effects
 use Rattle.nmvs_messages.specs.Commands.{command_line, first_command_fault, is_command}
 use Rattle.nmvs_stream.specs.InputLines.{input_lines, unfinished_line}
 use Rattle.nmvs_messages.specs.declared.command.Command.{Command}
-use Rattle.nmvs_messages.specs.declared.command.Command.TheVariants.{Enrol, Suspend}
+use Rattle.nmvs_messages.specs.declared.command.Command.TheVariants.{Enrol, Suspend, Remove}
 use Rattle.nmvs_messages.specs.declared.command.CommandFault.{CommandFault}
 use Rattle.nmvs_messages.specs.declared.command.CommandFault.TheVariants as commands
 use Rattle.nmvs_stream.specs.Source.{Told}
@@ -13,8 +14,9 @@ use Rattle.nmvs_operator.specs.declared.faults.LoadFault.TheVariants as load
 
 -- the change that a command makes
 abbrev pub change_of : Command → Change
-change_of (Enrol user actor) = record { user = user; actor = Some actor }
-change_of (Suspend user) = record { user = user; actor = None }
+change_of (Enrol user actor) = record { user = user; effect = effects.Enrol actor }
+change_of (Suspend user) = record { user = user; effect = effects.Suspend }
+change_of (Remove user) = record { user = user; effect = effects.Remove }
 
 -- the texts of these commands are names
 abbrev pub AreCommands : List Command → Type 0
@@ -115,6 +117,8 @@ abbrev pub users_trouble : CommandFault → List ℕ
 users_trouble commands.Long = codes "it has more than 200 bytes: LONG"
 users_trouble commands.Bytes = codes "it has a byte that is no printable ASCII character: BYTES"
 users_trouble commands.Fields = codes "it has an empty field, or too few or too many: FIELDS"
-users_trouble commands.Word = codes "it begins neither with ENROL nor with SUSPEND: WORD"
+users_trouble commands.Word = codes "it begins with none of ENROL, SUSPEND and REMOVE: WORD"
 users_trouble commands.Role = codes "its role is none of the five: ROLE"
-users_trouble commands.Name = codes "a user, an authorisation or premises is no name: NAME"
+users_trouble commands.User = codes "its user is no name: NAME"
+users_trouble commands.Authorisation = codes "its authorisation is no name: NAME"
+users_trouble commands.Premises = codes "its premises are no name: NAME"

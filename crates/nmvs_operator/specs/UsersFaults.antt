@@ -1,11 +1,14 @@
 -- All faults of a users file (own).
-use Rattle.std.specs.Prelude.{◌+◌, if◌then◌else◌, ℕ, List, [], ◌∷◌, ◌++◌, length, Option, Some, None}
+use Rattle.std.specs.Prelude.{◌+◌, if◌then◌else◌, ℕ, Bool, true, not, ◌&&◌, List, [], ◌∷◌, ◌++◌, length, Option, Some, None, codes, decimal}
+use Rattle.std.specs.List.{flat_map}
 use Rattle.nmvs_messages.specs.Commands.{first_command_fault}
 use Rattle.nmvs_messages.specs.declared.command.CommandFault.{CommandFault}
+use Rattle.nmvs_messages.specs.declared.command.CommandFault.TheVariants as commands
+use Rattle.nmvs_words.specs.Words.{spaced}
 use Rattle.nmvs_stream.specs.InputLines.{input_lines, unfinished_line}
 use Rattle.nmvs_operator.specs.Users.{says}
 use Rattle.nmvs_operator.specs.declared.faults.LoadFault.{LoadFault}
-use Rattle.nmvs_operator.specs.declared.faults.LoadFault.TheVariants.{Line, Unended}
+use Rattle.nmvs_operator.specs.declared.faults.LoadFault.TheVariants.{Line, Unended, Read, Memory}
 use Rattle.nmvs_operator.specs.declared.users_check.UsersFault.{UsersFault}
 
 -- what a fault says, and the line that it is about
@@ -35,3 +38,43 @@ end_faults number (b ∷ bs) = (Unended number, b ∷ bs) ∷ []
 abbrev pub faults_from : ℕ → List ℕ → List (LoadFault × List ℕ)
 faults_from number bytes =
     lines_faults number (input_lines bytes) ++ end_faults (number + length (input_lines bytes)) (unfinished_line bytes)
+
+-- the word of the fault of a line, which names a field that is no name
+abbrev pub line_word : CommandFault → List ℕ
+line_word commands.Long = codes "LONG"
+line_word commands.Bytes = codes "BYTES"
+line_word commands.Fields = codes "FIELDS"
+line_word commands.Word = codes "WORD"
+line_word commands.Role = codes "ROLE"
+line_word commands.User = codes "USER"
+line_word commands.Authorisation = codes "AUTHORISATION"
+line_word commands.Premises = codes "PREMISES"
+
+-- what the operator is told of one fault: the number of its line, and its word
+abbrev pub fault_line : LoadFault × List ℕ → List ℕ
+fault_line (Line number fault, line) = spaced (codes "LINE" ∷ decimal number ∷ line_word fault ∷ [])
+fault_line (Unended number, line) = spaced (codes "LINE" ∷ decimal number ∷ codes "UNENDED" ∷ [])
+fault_line (Read, line) = []
+fault_line (Memory, line) = []
+
+-- the same of the faults that a check found
+abbrev pub told_faults : List UsersFault → List ℕ
+told_faults faults = flat_map (λ f. fault_line (shown f)) faults
+
+-- what the operator is told of faults
+abbrev pub fault_lines : List (LoadFault × List ℕ) → List ℕ
+fault_lines faults = flat_map fault_line faults
+
+-- the answer to one who asks that a users file with these faults be taken: none where it has none
+abbrev pub faults_text : List (LoadFault × List ℕ) → List ℕ
+faults_text [] = []
+faults_text (f ∷ fs) = fault_lines (f ∷ fs) ++ codes "FAULT USERS\n"
+
+-- whether none of these lines says something
+abbrev pub say_nothing : List (List ℕ) → Bool
+say_nothing [] = true
+say_nothing (line ∷ lines) = not (says line) && say_nothing lines
+
+-- whether a users file of these bytes changes nothing: each of its lines is blank or a comment
+abbrev pub changes_nothing : List ℕ → Bool
+changes_nothing bytes = say_nothing (input_lines bytes)

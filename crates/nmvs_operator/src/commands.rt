@@ -1,5 +1,5 @@
 //! The operator's orders, carried out.
-ghost use Rattle.std.specs.Prelude.{◌≡◌, ◌⊎◌, ◌<◌, ◌++◌, ◌∷◌, [], ℕ, List, length, OnOk, OnErr, IfOk, IfErr, IfSome, IfNone, MatchBool, MatchResult, Ok, Err, codes, string_bytes};
+ghost use Rattle.std.specs.Prelude.{◌≡◌, ◌≢◌, ◌⊎◌, ◌<◌, ◌++◌, ◌∷◌, [], ℕ, List, length, OnOk, OnErr, IfOk, IfErr, IfSome, IfNone, MatchBool, MatchResult, Ok, Err, codes, string_bytes};
 ghost use Rattle.std.specs.Result.{result_err};
 ghost use Rattle.nmvs_directory.specs.Changes.{pending_changes, KeepsEntered, IsFull};
 ghost use Rattle.nmvs_directory.specs.Registrar.{register_of, published, pending};
@@ -16,6 +16,7 @@ ghost use Rattle.nmvs_operator.specs.Commands.{Office, office, ways, Performs, O
 ghost use Rattle.nmvs_operator.specs.Progress.{AnsweredOrders, StoppedIn, CarriesOutLines, StoppedBy};
 
 use crate::figures::figures_text;
+use crate::reload::reload;
 use crate::roll::users_text;
 use crate::{Deed, Latest, ObeyFault, Order, Service, ServiceFault, Topic, read_order};
 use nmvs_directory::{Changes, Naming, Notice, Registrar};
@@ -28,11 +29,11 @@ use std::sync::Wait;
 const MOST_ORDER_READS: u64 = u64::MAX;
 
 /// The last line of the answer to an order that was carried out.
-const DONE: &str = "DONE\n";
+pub(crate) const DONE: &str = "DONE\n";
 
 /// The answer to `HELP`.
 const HELP: &str =
-    "ENROL user role authorisation premises\nSUSPEND user\nEXPORT file\nUSERS\nSTATS\nCONNECTIONS\nALERTS\nSTOP\nHELP\nDONE\n";
+    "ENROL user role authorisation premises\nSUSPEND user\nREMOVE user\nRELOAD\nEXPORT file\nUSERS\nSTATS\nCONNECTIONS\nSTOP\nHELP\nDONE\n";
 
 /// Carries out the orders of a console one by one, as they come, and answers each. A change of the users is kept by the
 /// server first, then published at once, and its notice shown as the latest.
@@ -164,6 +165,10 @@ fn obey_line<'r, J: Naming, R: Wait, A: Allocator, W: Sink, S: Service>(
                 tell_made(listed_text(alloc, registrar), sink);
                 false
             }
+            Order::Reload => {
+                reload(alloc, sink, registrar, latest, service);
+                false
+            }
             Order::Count(topic) => {
                 tell_made(counted_text(alloc, topic, service), sink);
                 false
@@ -182,7 +187,7 @@ fn obey_line<'r, J: Naming, R: Wait, A: Allocator, W: Sink, S: Service>(
     }
 }
 
-/// Carries out an order.
+/// Carries out an order other than `RELOAD`.
 ///
 /// # Errors
 ///
@@ -195,6 +200,7 @@ fn carry_out<'r, J: Naming, R: Wait, A: Allocator, S: Service>(
     latest: &mut Latest<'_, J, R>,
     service: &mut S,
 ) -> Result<(), ObeyFault>
+    requires other { order.now ≢ Order.Reload }
     ensures answers { (line : List ℕ) → ReadsOrder line (Ok order.now) → MatchResult result
         (λ _. Obeys S.does (office (register_of registrar.old) latest.old service.old) line order.now
         (office (register_of registrar.new) latest.new service.new))
@@ -202,6 +208,7 @@ fn carry_out<'r, J: Naming, R: Wait, A: Allocator, S: Service>(
         (office (register_of registrar.new) latest.new service.new)) }
     ensures memory { IfErr result (λ fault. fault ≡ ObeyFault.Memory
         → IsFull registrar.old.changes ⊎ (0 < length (pending registrar.new))) }
+    ensures listed { IfErr result (λ fault. fault ≢ ObeyFault.Users) }
 {
     perform(order, service).map_err(ObeyFault::Undone)?;
     if let Order::Change(command) = order {
@@ -213,15 +220,16 @@ fn carry_out<'r, J: Naming, R: Wait, A: Allocator, S: Service>(
     Ok(())
 }
 
-/// Has the server do what an order asks of it.
+/// Has the server do what an order other than `RELOAD` asks of it.
 fn perform<S: Service>(order: &Order<'_>, service: &mut S) -> Result<(), ServiceFault>
+    requires other { order.now ≢ Order.Reload }
     ensures { Performs S.does service.old order.now (result_err result) service.new }
 {
     match order {
         Order::Change(command) => service.perform(&Deed::Keep(*command)),
         Order::Export(path) => service.perform(&Deed::Export(path)),
         Order::Stop => service.perform(&Deed::Stop),
-        Order::Users | Order::Count(_) | Order::Help => Ok(()),
+        Order::Users | Order::Count(_) | Order::Reload | Order::Help => Ok(()),
     }
 }
 
@@ -255,6 +263,7 @@ pub(crate) fn add<A: Allocator>(
     match command {
         Command::Enrol(user, actor) => changes.enrol(user, actor),
         Command::Suspend(user) => changes.suspend(user),
+        Command::Remove(user) => changes.remove(user),
     }
 }
 
@@ -294,7 +303,7 @@ fn tell_made<W: Sink>(text: Result<String, AllocError>, sink: &mut W)
 }
 
 /// Answers an order.
-fn tell<W: Sink>(text: &str, sink: &mut W)
+pub(crate) fn tell<W: Sink>(text: &str, sink: &mut W)
     ensures { Tries (W.taken sink.old) (W.taken sink.new) text.now }
 {
     let _failed = deliver(sink, text.as_bytes());
@@ -311,7 +320,7 @@ fn done_text(order: &Order<'_>) -> &'static str
 }
 
 /// The answer to an order that was not carried out.
-fn fault_text(fault: ObeyFault) -> &'static str
+pub(crate) fn fault_text(fault: ObeyFault) -> &'static str
     ensures { result.now ≡ text_of_answer (Err fault) }
 {
     match fault {
@@ -320,12 +329,17 @@ fn fault_text(fault: ObeyFault) -> &'static str
         ObeyFault::Unread(CommandFault::Fields) => "FAULT FIELDS\n",
         ObeyFault::Unread(CommandFault::Word) => "FAULT WORD\n",
         ObeyFault::Unread(CommandFault::Role) => "FAULT ROLE\n",
-        ObeyFault::Unread(CommandFault::Name) => "FAULT NAME\n",
+        ObeyFault::Unread(CommandFault::User) => "FAULT NAME\n",
+        ObeyFault::Unread(CommandFault::Authorisation) => "FAULT NAME\n",
+        ObeyFault::Unread(CommandFault::Premises) => "FAULT NAME\n",
         ObeyFault::Undone(ServiceFault::Journal) => "FAULT JOURNAL\n",
         ObeyFault::Undone(ServiceFault::Write) => "FAULT WRITE\n",
         ObeyFault::Undone(ServiceFault::Memory) => "FAULT MEMORY\n",
         ObeyFault::Undone(ServiceFault::Clock) => "FAULT CLOCK\n",
+        ObeyFault::Undone(ServiceFault::Read) => "FAULT READ\n",
+        ObeyFault::Undone(ServiceFault::NoFile) => "FAULT NOFILE\n",
         ObeyFault::Memory => "FAULT MEMORY\n",
+        ObeyFault::Users => "FAULT USERS\n",
         ObeyFault::Unended => "FAULT UNENDED\n",
     }
 }

@@ -38,6 +38,9 @@ pub enum ObeyFault {
     Undone(ServiceFault),
     #[error("there is no memory for the change")]
     Memory,
+    /// A line of the users file is no command.
+    #[error("the users file has faults")]
+    Users,
     /// The orders ended before its LF came.
     #[error("the command has no end")]
     Unended,

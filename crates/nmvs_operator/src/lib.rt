@@ -1,8 +1,9 @@
 //! The operator's side of the server: options of the command line, a users file, commands.
 //!
 //! [`read_options`] reads a command line. [`load_users`] publishes the users of a file, all at once, by a
-//! `nmvs_directory::Registrar`; [`users_faults`] lists all that is wrong with one. [`obey_all`] carries out the [`Order`]s of a [`Console`] as they come. It shows the notice of a
-//! changed user by a [`Latest`] before it answers, and asks a [`Service`] for all that only a server can do or count.
+//! `nmvs_directory::Registrar`; [`users_faults`] lists all that is wrong with one. [`obey_all`] carries out the
+//! [`Order`]s of a [`Console`] as they come. It shows the notice of changed users by a [`Latest`] before it answers, and
+//! asks a [`Service`] for all that only a server can do or count.
 //!
 //! It serves no lines: `nmvs_server` decides what is served, and when commands are read.
 #![tactic(auto)]
@@ -15,6 +16,7 @@ mod figures;
 mod latest;
 mod options;
 mod order;
+mod reload;
 mod roll;
 mod service;
 mod users;
@@ -31,5 +33,5 @@ pub use options::{
 };
 pub use order::{Order, read_order};
 pub use service::{Deed, Service, ServiceFault};
-pub use users::{load_users, users_trouble};
-pub use users_check::{UsersFault, users_faults};
+pub use users::{load_users, read_all, users_trouble};
+pub use users_check::{UsersFault, changes_nothing, users_faults};

@@ -2,7 +2,7 @@
 ghost use Rattle.std.specs.Prelude.{◌≡◌, [], ◌∷◌, map, IfOk, OnOk, IsTrue, codes};
 ghost use Rattle.std.specs.Result.{result_err};
 ghost use Rattle.nmvs_messages.specs.Commands.{fields_fault};
-ghost use Rattle.nmvs_operator.specs.Orders.{ReadsOrder, order_fields, is_order, order_fault, listing_fault, alone_fault, export_fault};
+ghost use Rattle.nmvs_operator.specs.Orders.{ReadsOrder, order_fields, is_order, order_fault, listing_fault, change_fault, alone_fault, export_fault};
 
 use crate::Topic;
 use nmvs_messages::{Command, CommandFault, command_of, fields_of};
@@ -12,6 +12,8 @@ use nmvs_messages::{Command, CommandFault, command_of, fields_of};
 pub enum Order<'l> {
     /// A change of the users.
     Change(Command),
+    /// The changes of the users file as it is now.
+    Reload,
     /// The audit trail as it is now, written to the file of this path.
     Export(&'l str),
     /// The users that were published, and how they stand.
@@ -116,7 +118,26 @@ fn stands_alone(texts: &[&str]) -> Result<(), CommandFault>
     }
 }
 
-fn read_change<'l>(fields: &[&str]) -> Result<Order<'l>, CommandFault>
+/// The order that has these fields, where it changes the users.
+#[tactic(auto, unfolding(crate::specs::Orders::change_fault))]
+fn read_change<'l>(fields: &[&'l str]) -> Result<Order<'l>, CommandFault>
+    ensures fields { IfOk result (λ order. order_fields order ≡ map (λ f. f.now) fields.now) }
+    ensures valid { IfOk result (λ order. IsTrue (is_order order)) }
+    ensures fault { result_err result ≡ change_fault (map (λ f. f.now) fields.now) }
+{
+    match fields {
+        [] => Err(CommandFault::Word),
+        [word, texts @ ..] => match *word {
+            "RELOAD" => {
+                stands_alone(texts)?;
+                Ok(Order::Reload)
+            }
+            _ => read_command_fields(fields),
+        },
+    }
+}
+
+fn read_command_fields<'l>(fields: &[&str]) -> Result<Order<'l>, CommandFault>
     ensures fields { IfOk result (λ order. order_fields order ≡ map (λ f. f.now) fields.now) }
     ensures valid { IfOk result (λ order. IsTrue (is_order order)) }
     ensures fault { result_err result ≡ fields_fault (map (λ f. f.now) fields.now) }

@@ -11,7 +11,7 @@ use nmvs_words::role_word;
 use std::alloc::{AllocError, Allocator, Global};
 use std::sync::Wait;
 
-/// The lines of the published users, one a user, in the order in which they were first named.
+/// The lines of the published users, one for each that is not removed, in the order in which they were first named.
 ///
 /// # Errors
 ///
@@ -43,6 +43,7 @@ fn user_line(alloc: Global, name: &Name, standing: &Standing) -> Result<String, 
         Standing::Enrolled(actor) => enrolled_line(alloc, name, actor),
         Standing::Suspended(Some(actor)) => suspended_line(alloc, name, actor),
         Standing::Suspended(None) => format!(in alloc; "USER {name} SUSPENDED\n"),
+        Standing::Removed => Ok(String::new(alloc)),
     }
 }
 

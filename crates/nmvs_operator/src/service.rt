@@ -16,6 +16,8 @@ use thiserror::Error;
 pub enum Deed<'l> {
     /// To keep a change of the users beyond its own end.
     Keep(Command),
+    /// To keep the changes of a users file, which has these bytes, in the same way.
+    KeepFile(&'l [u8]),
     /// To write the audit trail as it is now to the file of this path.
     Export(&'l str),
     /// To end.
@@ -33,6 +35,10 @@ pub enum ServiceFault {
     Memory,
     #[error("the clock gives no moment")]
     Clock,
+    #[error("the users file cannot be read")]
+    Read,
+    #[error("there is no users file")]
+    NoFile,
 }
 
 /// A server, as its operator's orders see it.
@@ -46,6 +52,9 @@ pub trait Service {
     /// Does what an order asks.
     fn perform(&mut self, deed: &Deed<'_>) -> Result<(), ServiceFault>
         ensures { does self.old deed.now (result_err result) self.new };
+
+    /// The bytes of the users file, as it is now.
+    fn read_users(&self, alloc: Global) -> Result<Vec<u8>, ServiceFault>;
 
     /// Counts what an order asks numbers about.
     ///

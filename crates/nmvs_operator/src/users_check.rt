@@ -1,10 +1,10 @@
 //! All that is wrong with a users file, for an operator who corrects it.
-ghost use Rattle.std.specs.Prelude.{◌≡◌, ◌++◌, map, IfOk, OnOk};
-ghost use Rattle.nmvs_operator.specs.UsersFaults.{shown, line_faults, faults_from};
+ghost use Rattle.std.specs.Prelude.{◌≡◌, ◌++◌, map, IfOk, OnOk, string_bytes};
+ghost use Rattle.nmvs_operator.specs.UsersFaults.{shown, line_faults, faults_from, fault_line as line_of_fault, told_faults as lines_of_faults, faults_text as text_of_faults, line_word as word_of_fault, changes_nothing as is_silent};
 
 use crate::LoadFault;
 use crate::users::says;
-use nmvs_messages::read_command;
+use nmvs_messages::{CommandFault, read_command};
 use nmvs_stream::cut_line;
 use std::alloc::{AllocError, Global};
 
@@ -58,4 +58,77 @@ fn push_fault<'f>(
         faults.push(UsersFault { fault, line })?;
     }
     Ok(())
+}
+
+/// The answer to one who asks that a users file of these bytes be taken: nothing where it has no fault.
+///
+/// # Errors
+///
+/// There is no memory for the text.
+pub(crate) fn faults_text(alloc: Global, bytes: &[u8]) -> Result<String, AllocError>
+    ensures { IfOk result (λ text. string_bytes text ≡ text_of_faults (faults_from 1 bytes.now)) }
+{
+    let faults = users_faults(alloc, bytes)?;
+    if faults.is_empty() {
+        return Ok(String::new(alloc));
+    }
+    let mut text = fault_lines(alloc, &faults)?;
+    text.push_str("FAULT USERS\n")?;
+    Ok(text)
+}
+
+/// What the operator is told of faults, one a line.
+fn fault_lines(alloc: Global, faults: &[UsersFault<'_>]) -> Result<String, AllocError>
+    ensures { IfOk result (λ text. string_bytes text ≡ lines_of_faults faults.now) }
+{
+    let mut text = String::new(alloc);
+    for found in faults {
+        let line = fault_line(alloc, found)?;
+        text.push_str(&line)?;
+    }
+    Ok(text)
+}
+
+/// What the operator is told of one fault: the number of its line, and its word.
+fn fault_line(alloc: Global, found: &UsersFault<'_>) -> Result<String, AllocError>
+    ensures { IfOk result (λ text. string_bytes text ≡ line_of_fault (shown found.now)) }
+{
+    match found.fault {
+        LoadFault::Line(number, fault) => {
+            let word = fault_word(fault);
+            format!(in alloc; "LINE {number} {word}\n")
+        }
+        LoadFault::Unended(number) => format!(in alloc; "LINE {number} UNENDED\n"),
+        LoadFault::Memory | LoadFault::Read => Ok(String::new(alloc)),
+    }
+}
+
+/// Whether a users file of these bytes changes nothing: each of its lines is blank or a comment.
+pub fn changes_nothing(bytes: &[u8]) -> bool
+    ensures { result ≡ is_silent bytes.now }
+{
+    let mut rest = bytes;
+    while let Some((line, behind)) = cut_line(rest) {
+        if says(line) {
+            return false;
+        }
+        rest = behind;
+    }
+    true
+}
+
+/// The word of the fault of a line, which names a field that is no name.
+fn fault_word(fault: CommandFault) -> &'static str
+    ensures { result.now ≡ word_of_fault fault }
+{
+    match fault {
+        CommandFault::Long => "LONG",
+        CommandFault::Bytes => "BYTES",
+        CommandFault::Fields => "FIELDS",
+        CommandFault::Word => "WORD",
+        CommandFault::Role => "ROLE",
+        CommandFault::User => "USER",
+        CommandFault::Authorisation => "AUTHORISATION",
+        CommandFault::Premises => "PREMISES",
+    }
 }

@@ -26,14 +26,22 @@ const STOP: &[u8] =
     b"EXPORT full\nEXPORT trail.txt\nHELP\nUSERS\nSTATS\nCONNECTIONS\nALERTS\nSUSPEND ph9\nSTOP\nENROL ph9 PHARMACY PH-9 P9\n";
 
 const HELPED: &[u8] =
-    b"FAULT WRITE\nDONE\nENROL user role authorisation premises\nSUSPEND user\nEXPORT file\nUSERS\nSTATS\nCONNECTIONS\n\
-    ALERTS\nSTOP\nHELP\nDONE\nUSER ph9 PHARMACY PH-9 P9 SUSPENDED\nDONE\nCONNECTIONS 2\nSESSIONS 3\nENTRIES 0 5\nENTRIES 1 0\nDONE\n\
-    WORKER 0 2\nDONE\nALERTS ph9 P9 3\nDONE\nFAULT JOURNAL\nDONE\n.";
+    b"FAULT WRITE\nDONE\nENROL user role authorisation premises\nSUSPEND user\nREMOVE user\nRELOAD\nEXPORT file\nUSERS\nSTATS\nCONNECTIONS\n\
+    STOP\nHELP\nDONE\nUSER ph9 PHARMACY PH-9 P9 SUSPENDED\nDONE\nCONNECTIONS 2\nSESSIONS 3\nENTRIES 0 5\nENTRIES 1 0\nDONE\n\
+    WORKER 0 2\nDONE\nFAULT JOURNAL\nDONE\n.";
 
-/// A server that keeps so many changes, and writes no file named `full`. One user has raised three alerts at its premises.
+const STATS: &[Figure] = &[
+    Figure::Connections(2),
+    Figure::Sessions(3),
+    Figure::Entries(0, 5),
+    Figure::Entries(1, 0),
+];
+
+/// A server that keeps so many changes, has this users file, if any, and writes no file named `full`.
 #[derive(Drop)]
 struct Narrow {
     keeps: u64,
+    file: Option<&'static [u8]>,
     stopped: bool,
     user: Name,
     premises: Name,
@@ -46,7 +54,7 @@ impl Service for Narrow {
 
     fn perform(&mut self, deed: &Deed<'_>) -> Result<(), ServiceFault> {
         match deed {
-            Deed::Keep(_) => {
+            Deed::Keep(_) | Deed::KeepFile(_) => {
                 self.keeps = self.keeps.checked_sub(1).ok_or(ServiceFault::Journal)?;
             }
             Deed::Export("full") => return Err(ServiceFault::Write),
@@ -54,6 +62,11 @@ impl Service for Narrow {
             Deed::Stop => self.stopped = true,
         }
         Ok(())
+    }
+
+    fn read_users(&self, alloc: Global) -> Result<Vec<u8>, ServiceFault> {
+        let file = self.file.ok_or(ServiceFault::NoFile)?;
+        Vec::from_slice(alloc, file).map_err(|_| ServiceFault::Memory)
     }
 
     fn count(&self, alloc: Global, topic: Topic) -> Result<Vec<Figure>, AllocError> {
@@ -127,6 +140,7 @@ fn commands_come<J: Naming, R: Wait + Abort + Sync>(rt: &R, alloc: Global, direc
     let latest = Mutex::new(registrar.publish().expect(rt, "memory"));
     let mut service = Narrow {
         keeps: 2,
+        file: None,
         stopped: false,
         user: ph9,
         premises: Name::read("P9").expect(rt, "a name"),
@@ -171,4 +185,59 @@ fn commands_come<J: Naming, R: Wait + Abort + Sync>(rt: &R, alloc: Global, direc
 #[test]
 fn commands_are_carried_out_as_they_come(rt: HostRuntime) {
     commands_come::<Brand, _>(&rt, rt.alloc(), Directory::new());
+}
+
+/// A users file of which the second and the last line have faults.
+const FAULTY: &[u8] = b"ENROL ph9 PHARMACY PH-9 P9\nENROL ph9 DOCTOR PH-9 P9\n\nSUSPEND ph9";
+
+/// A users file without fault.
+const WHOLE: &[u8] = b"# ph9\nENROL ph9 PHARMACY PH-9 P9\nSUSPEND ph8\n";
+
+/// Sends `RELOAD` to a server with this users file, which has room to keep one more change, and this answer.
+fn reloads<'r, J: Naming, R: Wait + Abort + Sync>(
+    rt: &'r R,
+    alloc: Global,
+    registrar: &mut Registrar<J, &'r R, Global>,
+    latest: &Mutex<Notice<J>>,
+    file: Option<&'static [u8]>,
+    answer: &'static [u8],
+) {
+    let mut service = Narrow {
+        keeps: 1,
+        file,
+        stopped: false,
+    };
+    has_answers(
+        rt,
+        alloc,
+        registrar,
+        latest,
+        &mut service,
+        b"RELOAD\n",
+        answer,
+    );
+}
+
+fn files_come<J: Naming, R: Wait + Abort + Sync>(rt: &R, alloc: Global, directory: Directory)
+    requires { directory_book directory ≡ J.book }
+{
+    let ph9 = Name::read("ph9").expect(rt, "a name");
+    let (mut registrar, mut windows) = directory.open::<J, _, _>(rt, alloc, 1).expect(rt, "memory");
+    let mut window = windows.pop().expect(rt, "a window");
+    let latest = Mutex::new(registrar.publish().expect(rt, "memory"));
+    let faults = b"LINE 2 ROLE\nLINE 4 UNENDED\nFAULT USERS\n.";
+    reloads(rt, alloc, &mut registrar, &latest, None, b"FAULT NOFILE\n.");
+    reloads(rt, alloc, &mut registrar, &latest, Some(FAULTY), faults);
+    window.learn(&*latest.lock(rt));
+    assert_eq!(rt; window.look(&ph9), Look::Nobody);
+    reloads(rt, alloc, &mut registrar, &latest, Some(WHOLE), b"DONE\n.");
+    window.learn(&*latest.lock(rt));
+    assert!(rt; matches!(window.look(&ph9), Look::Known(_)));
+    assert_eq!(rt; registrar.user_count(), 2);
+    registrar.close();
+}
+
+#[test]
+fn a_users_file_is_taken_anew(rt: HostRuntime) {
+    files_come::<Brand, _>(&rt, rt.alloc(), Directory::new());
 }

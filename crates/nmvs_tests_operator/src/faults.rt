@@ -37,6 +37,7 @@ fn faults_of_orders_have_their_texts(rt: HostRuntime) {
             "the command's word is unknown",
         ),
         (ObeyFault::Memory, "there is no memory for the change"),
+        (ObeyFault::Users, "the users file has faults"),
         (ObeyFault::Unended, "the command has no end"),
         (
             ObeyFault::Undone(ServiceFault::Journal),
@@ -53,6 +54,14 @@ fn faults_of_orders_have_their_texts(rt: HostRuntime) {
         (
             ObeyFault::Undone(ServiceFault::Clock),
             "the clock gives no moment",
+        ),
+        (
+            ObeyFault::Undone(ServiceFault::Read),
+            "the users file cannot be read",
+        ),
+        (
+            ObeyFault::Undone(ServiceFault::NoFile),
+            "there is no users file",
         ),
     ] {
         assert!(rt; is_shown(&rt, rt.alloc(), &fault, text), "{text}");

@@ -24,6 +24,7 @@ fn orders_and_faults_are_read(rt: HostRuntime) {
             Ok(Order::Export("/srv/trail.txt"))
         )
     );
+    assert!(rt; matches!(read_order(b"RELOAD"), Ok(Order::Reload)));
     assert!(rt; matches!(read_order(b"USERS"), Ok(Order::Users)));
     assert!(rt; matches!(read_order(b"STATS"), Ok(Order::Count(Topic::Stats))));
     assert!(rt;
@@ -41,7 +42,7 @@ fn orders_and_faults_are_read(rt: HostRuntime) {
         ("EXPORT ", CommandFault::Fields),
         ("STOP now", CommandFault::Fields),
         ("USERS ph1", CommandFault::Fields),
-        ("ALERTS 20", CommandFault::Fields),
+        ("RELOAD users.txt", CommandFault::Fields),
         ("stop", CommandFault::Word),
         ("SUSPEND", CommandFault::Fields),
         ("STOP\r", CommandFault::Bytes),

@@ -4,7 +4,7 @@ ghost use Rattle.nmvs_directory.specs.Directory.{directory_book};
 use nmvs_directory::{Directory, Look, Naming, Notice, Registrar};
 use nmvs_identifier::Name;
 use nmvs_messages::CommandFault;
-use nmvs_operator::{LoadFault, UsersFault, load_users, users_faults};
+use nmvs_operator::{LoadFault, UsersFault, changes_nothing, load_users, users_faults};
 use nmvs_rules::{Actor, Role};
 use nmvs_stream::Device;
 use std::alloc::Global;
@@ -89,7 +89,7 @@ fn all_faults_of_a_users_file_are_found(rt: HostRuntime) {
     let text = b"SUSPEND p/1\n#\n\nSUSPEND ph1\nENROL ph9 DOCTOR PH-9 P9\nSUSPEND ph2";
     let faults = users_faults(rt.alloc(), text).expect(&rt, "memory");
     assert_eq!(rt; faults.len(), 3);
-    let (name, role) = (CommandFault::Name, CommandFault::Role);
+    let (name, role) = (CommandFault::User, CommandFault::Role);
     assert_fault(&rt, &faults, 0, LoadFault::Line(1, name), "SUSPEND p/1");
     assert_fault(
         &rt,
@@ -101,4 +101,16 @@ fn all_faults_of_a_users_file_are_found(rt: HostRuntime) {
     assert_fault(&rt, &faults, 2, LoadFault::Unended(6), "SUSPEND ph2");
     let none = users_faults(rt.alloc(), USERS.as_bytes()).expect(&rt, "memory");
     assert!(rt; none.is_empty());
+}
+
+#[test]
+fn comments_and_blank_lines_change_nothing(rt: HostRuntime) {
+    for (text, nothing) in [
+        ("", true),
+        ("# SUSPEND ph1\n\n", true),
+        ("\n#\nSUSPEND ph1\n", false),
+        (" \n", false),
+    ] {
+        assert_eq!(rt; changes_nothing(text.as_bytes()), nothing, "{text}");
+    }
 }

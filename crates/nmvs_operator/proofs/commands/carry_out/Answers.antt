@@ -1,7 +1,6 @@
 use Rattle.std.proofs.Common.{inl, subst, refl, Option, Ok}
 use Rattle.std.specs.Result.{result_err}
 use Rattle.nmvs_operator.specs.declared.order.Order.{Order}
-use Rattle.nmvs_operator.specs.declared.order.Order.TheVariants as orders
 use Rattle.nmvs_operator.specs.declared.service.Deed.TheVariants as deeds
 use Rattle.nmvs_operator.specs.declared.service.ServiceFault.{ServiceFault}
 use Rattle.nmvs_operator.specs.Orders.{ReadsOrder}

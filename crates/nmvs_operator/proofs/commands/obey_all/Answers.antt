@@ -1,7 +1,7 @@
-use Rattle.std.proofs.Common.{arith, rules}
+use Rattle.std.proofs.Common.{arith}
 use Rattle.std.proofs.lemmas.Bool.Decides.{nat_tests}
 use Rattle.nmvs_operator.specs.Commands.{ways}
-use Rattle.nmvs_operator.proofs.CommandLemmas.{carried-begun, carried-all, carried-stopped, tells}
+use Rattle.nmvs_operator.proofs.CommandLemmas.{carried-begun, tells}
 use Rattle.nmvs_operator.proofs.commands.obey_all.Goals as goal
 
 pub returns-then-not-is_empty : goal.returns-then-not-is_empty

@@ -2,10 +2,9 @@ use Rattle.std.proofs.Common.{rules, subst, [], Ok, Err, refl, sym, string_bytes
 use Rattle.nmvs_directory.specs.Registrar.{register_of}
 use Rattle.nmvs_operator.specs.declared.faults.ObeyFault.TheVariants as obey
 use Rattle.nmvs_operator.specs.declared.order.Order.{Order}
-use Rattle.nmvs_operator.specs.declared.order.Order.TheVariants as orders
 use Rattle.nmvs_operator.specs.Orders.{ReadsOrder}
 use Rattle.nmvs_operator.specs.Commands.{office, ways, saying}
-use Rattle.nmvs_operator.proofs.CommandLemmas.{tells, not_stop, no_lines, users_told, figures_told}
+use Rattle.nmvs_operator.proofs.CommandLemmas.{tells, not_stop, no_lines, no_fault_lines, users_told, figures_told}
 use Rattle.nmvs_operator.proofs.commands.obey_line.Goals as goal
 
 pub returns-in-Err : goal.returns-in-Err
@@ -22,6 +21,9 @@ returns-in-Users g c =
     users_told (ways g.S.Service.does g.S.Service.counts) now c.args.line.now (g.W.Sink.taken c.args.sink.now) (g.W.Sink.taken c.tell_made.new.sink)
     string_bytes c.listed_text.result (subst (λ (o : Order). ReadsOrder c.args.line.now (Ok o)) c.in-Users.is c.in-Ok.ensures) c.listed_text.ensures c.tell_made.ensures
 
+pub returns-in-Reload : goal.returns-in-Reload
+returns-in-Reload g c = c.reload.ensures c.args.line.now (subst (λ (o : Order). ReadsOrder c.args.line.now (Ok o)) c.in-Reload.is c.in-Ok.ensures)
+
 pub returns-in-Count : goal.returns-in-Count
 returns-in-Count g c =
     let now = office (register_of c.args.registrar.now) c.args.latest.now c.args.service.now in
@@ -32,7 +34,7 @@ returns-in-Count g c =
 pub returns-in-Err-carry_out : goal.returns-in-Err-carry_out
 returns-in-Err-carry_out g c = (
   saying [] (Err c.in-Err-carry_out.fault),
-  (c.in-Err-carry_out.ensures.answers c.args.line.now c.in-Ok.ensures, refl),
+  (c.in-Err-carry_out.ensures.answers c.args.line.now c.in-Ok.ensures, no_fault_lines g.S.Service.counts (office (register_of c.args.registrar.now) c.args.latest.now c.args.service.now) c.in-Err-carry_out.fault c.in-Err-carry_out.ensures.listed),
   tells c.fault_text-in-Err-carry_out.ensures c.tell-in-Err-carry_out.ensures,
   refl,
 )

@@ -1,5 +1,5 @@
 use Rattle.std.proofs.Common.{rules}
-use Rattle.nmvs_operator.proofs.UsersFile.{says_nothing, says_command}
+use Rattle.nmvs_operator.proofs.UsersFile.{says_command}
 use Rattle.nmvs_operator.proofs.users.add_line.Goals as goal
 
 pub returns-clause-added : goal.returns-clause-added
