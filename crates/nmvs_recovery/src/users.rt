@@ -3,12 +3,20 @@ use crate::imports::{MOST_FILE_READS, open};
 use crate::marks::refused;
 use crate::rehearsal_packs::USERS;
 use crate::{FileFault, Host, Paths, Run};
-use nmvs_directory::{Naming, Notice, Registrar};
-use nmvs_operator::{LoadFault, load_users};
+use log::{Log, error, info, warn};
+use nmvs_directory::{Naming, Notice, Registrar, Standing};
+use nmvs_operator::{
+    LoadFault, ServiceFault, UsersFault, changes_nothing, load_users, read_all, users_faults,
+    users_trouble,
+};
 use nmvs_stream::Device;
-use std::alloc::Global;
+use std::alloc::{AllocError, Global};
+use std::fs::File;
 use std::rt::Files;
 use std::sync::Wait;
+
+/// How many users are logged by name whom a kept command has stand otherwise than the users file (own).
+const MOST_DIFFERING: usize = 10;
 
 /// Publishes the users of the users file, or those of the rehearsal where the options name none.
 pub(crate) fn publish_users<'r, 'o, J: Naming, H: Host>(
@@ -19,11 +27,126 @@ pub(crate) fn publish_users<'r, 'o, J: Naming, H: Host>(
         return publish_rehearsal(run, registrar);
     };
     match load_file(run, registrar, path) {
-        Ok(notice) => Ok(notice),
+        Ok(notice) => {
+            if registrar.user_count() == 0 {
+                tell_no_users(run.rt, path);
+            }
+            Ok(notice)
+        }
         Err(LoadFault::Memory) => Err(FileFault::Memory),
         Err(LoadFault::Read) => Err(FileFault::CannotRead(path)),
-        Err(LoadFault::Line(number, fault)) => Err(FileFault::UsersLine(number, fault)),
+        Err(LoadFault::Line(number, fault)) => {
+            tell_first_fault(run);
+            Err(FileFault::UsersLine(number, fault))
+        }
         Err(LoadFault::Unended(number)) => Err(FileFault::UsersEnd(number)),
+    }
+}
+
+/// The bytes of the users file, as it is now. If it names no user, that is logged.
+///
+/// # Errors
+///
+/// The options name none; it cannot be read to its end; or there is no memory for it.
+pub fn read_users<H: Files<File = File> + Log>(
+    run: &Run<'_, '_, H>,
+    alloc: Global,
+) -> Result<Vec<u8>, ServiceFault> {
+    let Some(path) = &run.options.users else {
+        return Err(ServiceFault::NoFile);
+    };
+    let Ok(file) = open(run.rt, path) else {
+        return Err(ServiceFault::Read);
+    };
+    match read_all(alloc, &mut Device::new(file), MOST_FILE_READS) {
+        Ok(bytes) => {
+            if changes_nothing(&bytes) {
+                tell_no_users(run.rt, path);
+            }
+            Ok(bytes)
+        }
+        Err(LoadFault::Memory) => Err(ServiceFault::Memory),
+        Err(_) => Err(ServiceFault::Read),
+    }
+}
+
+/// Logs the first fault of the users file, with its line in quotes.
+fn tell_first_fault<H: Host>(run: &Run<'_, '_, H>) {
+    let Ok(bytes) = read_users(run, *run.alloc) else {
+        return;
+    };
+    let Ok(faults) = users_faults(*run.alloc, &bytes) else {
+        return;
+    };
+    if let Some(found) = faults.first() {
+        tell_fault(run.rt, found);
+    }
+}
+
+/// Logs a fault of the users file, with its line in quotes.
+fn tell_fault<R: Log>(rt: &R, found: &UsersFault<'_>) {
+    if let LoadFault::Line(number, fault) = found.fault {
+        let (trouble, line) = (users_trouble(fault), found.line.escape_ascii());
+        error!(rt; "users line {number}: {trouble}: \"{line}\"");
+    }
+}
+
+/// Logs that the users file of this path names no user.
+fn tell_no_users<R: Log>(rt: &R, path: &str) {
+    warn!(rt; "the users file {path} names no user");
+}
+
+/// Logs how many users are enrolled, and how many suspended.
+pub(crate) fn tell_users<'r, J: Naming, H: Host>(
+    run: &Run<'r, '_, H>,
+    registrar: &Registrar<J, &'r H, &'r Global>,
+) {
+    let (mut enrolled, mut suspended) = (0usize, 0usize);
+    for place in 0..registrar.user_count() {
+        match registrar.user(place) {
+            Some((_, Standing::Enrolled(_))) => enrolled = enrolled.saturating_add(1),
+            Some((_, Standing::Suspended(_))) => suspended = suspended.saturating_add(1),
+            Some((_, Standing::Removed)) | None => {}
+        }
+    }
+    info!(run.rt; enrolled, suspended; "users");
+}
+
+/// How the users that are published stand, in the order in which they were first named.
+fn standings<'r, J: Naming, H: Host>(
+    run: &Run<'r, '_, H>,
+    registrar: &Registrar<J, &'r H, &'r Global>,
+) -> Result<Vec<Standing>, AllocError> {
+    let mut standings = Vec::new(*run.alloc);
+    for place in 0..registrar.user_count() {
+        if let Some((_, standing)) = registrar.user(place) {
+            standings.push(standing)?;
+        }
+    }
+    Ok(standings)
+}
+
+/// Logs which users do not stand as the users file says, since a kept command names them: some by name, and if there are
+/// more, how many they are in all.
+fn tell_differing<'r, J: Naming, H: Host>(
+    run: &Run<'r, '_, H>,
+    registrar: &Registrar<J, &'r H, &'r Global>,
+    file: &[Standing],
+) {
+    let mut differing = 0usize;
+    for (place, standing) in file.iter().enumerate() {
+        if let Some((user, now)) = registrar.user(place) {
+            if now != *standing {
+                differing = differing.saturating_add(1);
+                if differing <= MOST_DIFFERING {
+                    let user = user.text();
+                    warn!(run.rt; user; "a kept command wins over the users file");
+                }
+            }
+        }
+    }
+    if differing > MOST_DIFFERING {
+        warn!(run.rt; users = differing; "kept commands win over the users file");
     }
 }
 
@@ -39,14 +162,20 @@ fn publish_rehearsal<'r, 'o, J: Naming, H: Files + Wait>(
     }
 }
 
-/// Publishes the users that the folder of the log keeps.
+/// Publishes the users that the folder of the log keeps. Those that then do not stand as before are logged.
 pub(crate) fn publish_kept<'r, 'o, J: Naming, H: Host>(
     run: &Run<'r, 'o, H>,
     registrar: &mut Registrar<J, &'r H, &'r Global>,
     paths: &Paths<'o>,
 ) -> Result<Notice<J>, FileFault<'o>> {
+    let Ok(file) = standings(run, registrar) else {
+        return Err(FileFault::Memory);
+    };
     match load_file(run, registrar, &paths.users) {
-        Ok(notice) => Ok(notice),
+        Ok(notice) => {
+            tell_differing(run, registrar, &file);
+            Ok(notice)
+        }
         Err(LoadFault::Memory) => Err(FileFault::Memory),
         Err(fault) => Err(refused(run.rt, paths, &paths.users, &fault)),
     }

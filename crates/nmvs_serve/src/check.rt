@@ -3,7 +3,7 @@ use crate::report::{ended, say};
 use crate::{read_text, refuse_file};
 use nmvs_config::{ConfigFault, EntryFault, entry_faults};
 use nmvs_log::LogFormat;
-use nmvs_operator::{LoadFault, Options, UsersFault, users_faults, users_trouble};
+use nmvs_operator::{LoadFault, Options, UsersFault, changes_nothing, users_faults, users_trouble};
 use nmvs_server::Fault;
 use std::fs;
 use std::process::ExitCode;
@@ -44,7 +44,7 @@ fn faults_of_file<R: Files + AllocGlobal>(
     entry_faults(rt.alloc(), &text)
 }
 
-/// Says each fault of the users file of the options, and gives the status of a start with it.
+/// Says each fault of the users file of the options, and if it names no user, and gives the status of a start with it.
 pub(crate) fn check_users<R: Files + Eprint + Clock + AllocGlobal>(
     rt: &R,
     options: &Options,
@@ -58,7 +58,13 @@ pub(crate) fn check_users<R: Files + Eprint + Clock + AllocGlobal>(
         return ExitCode::from(1);
     };
     match users_faults(rt.alloc(), &bytes) {
-        Ok(faults) => say_all(rt, format, &faults),
+        Ok(faults) => {
+            if changes_nothing(&bytes) {
+                let warning = format_args!("the users file {path} names no user");
+                say(rt, format, "nmvs-serve", warning);
+            }
+            say_all(rt, format, &faults)
+        }
         Err(_) => ended(rt, format, &[Some(Fault::Memory)]),
     }
 }
