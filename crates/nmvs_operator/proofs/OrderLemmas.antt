@@ -55,7 +55,8 @@ listing_fault-take [] = refl
 listing_fault-take (word ∷ texts) = λ i.
     cond (bytes_eq word (codes "USERS")) (alone_fault-take texts i)
     (cond (bytes_eq word (codes "STATS")) (alone_fault-take texts i)
-    (cond (bytes_eq word (codes "CONNECTIONS")) (alone_fault-take texts i) (change_fault-take (word ∷ texts) i)))
+    (cond (bytes_eq word (codes "CONNECTIONS")) (alone_fault-take texts i)
+    (cond (bytes_eq word (codes "ALERTS")) (alone_fault-take texts i) (change_fault-take (word ∷ texts) i))))
 
 -- what is kept of a line's fields tells their fault
 pub order_fault-take : (fs : List (List ℕ)) → order_fault (take 7 fs) ≡ order_fault fs
@@ -75,11 +76,16 @@ differs xs ys other = by (bytes_eq xs ys) (bytes_eq-Decides xs ys)
 
 -- an order that asks for no lines has the fault of a change
 pub listing_fault-change : {B : Type 0} (now : B → List ℕ) (fields : List B) (d : B) → 1 ≤ length fields → now (get_or fields 0 d) ≢ codes "USERS"
-    → now (get_or fields 0 d) ≢ codes "STATS" → now (get_or fields 0 d) ≢ codes "CONNECTIONS" → change_fault (map now fields) ≡ listing_fault (map now fields)
+    → now (get_or fields 0 d) ≢ codes "STATS" → now (get_or fields 0 d) ≢ codes "CONNECTIONS" → now (get_or fields 0 d) ≢ codes "ALERTS" → change_fault (map now fields) ≡ listing_fault (map now fields)
 unfolding listing_fault
-listing_fault-change now [] d some users stats connections = absurd (omega (arith, some))
-listing_fault-change now (word ∷ texts) d some users stats connections =
-    rw (differs (now word) (codes "USERS") users, differs (now word) (codes "STATS") stats, differs (now word) (codes "CONNECTIONS") connections) refl
+listing_fault-change now [] d some users stats connections alerts = absurd (omega (arith, some))
+listing_fault-change now (word ∷ texts) d some users stats connections alerts =
+    rw (
+      differs (now word) (codes "USERS") users,
+      differs (now word) (codes "STATS") stats,
+      differs (now word) (codes "CONNECTIONS") connections,
+      differs (now word) (codes "ALERTS") alerts,
+    ) refl
 
 -- an order that is none of three has the fault of one that asks for lines or changes the users
 pub order_fault-listing : {B : Type 0} (now : B → List ℕ) (fields : List B) (d : B) → 1 ≤ length fields → now (get_or fields 0 d) ≢ codes "EXPORT"

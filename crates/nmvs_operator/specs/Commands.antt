@@ -231,7 +231,7 @@ service_word service.NoFile = codes "NOFILE"
 
 -- the lines that there are
 abbrev pub help_text : List ℕ
-help_text = codes "ENROL user role authorisation premises\nSUSPEND user\nREMOVE user\nRELOAD\nEXPORT file\nUSERS\nSTATS\nCONNECTIONS\nSTOP\nHELP\nDONE\n"
+help_text = codes "ENROL user role authorisation premises\nSUSPEND user\nREMOVE user\nRELOAD\nEXPORT file\nUSERS\nSTATS\nCONNECTIONS\nALERTS\nSTOP\nHELP\nDONE\n"
 
 -- the last line that is said to an order; and to HELP all of them
 abbrev pub order_text : Result Order ObeyFault → List ℕ

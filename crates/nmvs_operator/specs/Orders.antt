@@ -64,6 +64,7 @@ listing_fault (word ∷ texts) =
     if bytes_eq word (codes "USERS") then alone_fault texts
     else if bytes_eq word (codes "STATS") then alone_fault texts
     else if bytes_eq word (codes "CONNECTIONS") then alone_fault texts
+    else if bytes_eq word (codes "ALERTS") then alone_fault texts
     else change_fault (word ∷ texts)
 
 -- the first fault of these fields

@@ -33,7 +33,7 @@ pub(crate) const DONE: &str = "DONE\n";
 
 /// The answer to `HELP`.
 const HELP: &str =
-    "ENROL user role authorisation premises\nSUSPEND user\nREMOVE user\nRELOAD\nEXPORT file\nUSERS\nSTATS\nCONNECTIONS\nSTOP\nHELP\nDONE\n";
+    "ENROL user role authorisation premises\nSUSPEND user\nREMOVE user\nRELOAD\nEXPORT file\nUSERS\nSTATS\nCONNECTIONS\nALERTS\nSTOP\nHELP\nDONE\n";
 
 /// Carries out the orders of a console one by one, as they come, and answers each. A change of the users is kept by the
 /// server first, then published at once, and its notice shown as the latest.

@@ -27,17 +27,11 @@ const STOP: &[u8] =
 
 const HELPED: &[u8] =
     b"FAULT WRITE\nDONE\nENROL user role authorisation premises\nSUSPEND user\nREMOVE user\nRELOAD\nEXPORT file\nUSERS\nSTATS\nCONNECTIONS\n\
-    STOP\nHELP\nDONE\nUSER ph9 PHARMACY PH-9 P9 SUSPENDED\nDONE\nCONNECTIONS 2\nSESSIONS 3\nENTRIES 0 5\nENTRIES 1 0\nDONE\n\
-    WORKER 0 2\nDONE\nFAULT JOURNAL\nDONE\n.";
+    ALERTS\nSTOP\nHELP\nDONE\nUSER ph9 PHARMACY PH-9 P9 SUSPENDED\nDONE\nCONNECTIONS 2\nSESSIONS 3\nENTRIES 0 5\nENTRIES 1 0\nDONE\n\
+    WORKER 0 2\nDONE\nALERTS ph9 P9 3\nDONE\nFAULT JOURNAL\nDONE\n.";
 
-const STATS: &[Figure] = &[
-    Figure::Connections(2),
-    Figure::Sessions(3),
-    Figure::Entries(0, 5),
-    Figure::Entries(1, 0),
-];
-
-/// A server that keeps so many changes, has this users file, if any, and writes no file named `full`.
+/// A server that keeps so many changes, has this users file, if any, and writes no file named `full`. One user has raised three
+/// alerts at its premises.
 #[derive(Drop)]
 struct Narrow {
     keeps: u64,
@@ -202,10 +196,13 @@ fn reloads<'r, J: Naming, R: Wait + Abort + Sync>(
     file: Option<&'static [u8]>,
     answer: &'static [u8],
 ) {
+    let ph9 = Name::read("ph9").expect(rt, "a name");
     let mut service = Narrow {
         keeps: 1,
         file,
         stopped: false,
+        user: ph9,
+        premises: ph9,
     };
     has_answers(
         rt,

@@ -43,6 +43,7 @@ fn orders_and_faults_are_read(rt: HostRuntime) {
         ("STOP now", CommandFault::Fields),
         ("USERS ph1", CommandFault::Fields),
         ("RELOAD users.txt", CommandFault::Fields),
+        ("ALERTS 20", CommandFault::Fields),
         ("stop", CommandFault::Word),
         ("SUSPEND", CommandFault::Fields),
         ("STOP\r", CommandFault::Bytes),

@@ -384,7 +384,7 @@ fn help_lists_lines_that_are_read(rt: HostRuntime) {
     );
     drop(sink);
     assert_eq!(rt; (end, desk.asked), (End::Ended, 0));
-    let mut examples = 0;
+    let mut examples = 0usize;
     let help = str::from_utf8(taken.as_slice()).expect(&rt, "ASCII");
     for line in help.lines() {
         let shown = line.strip_prefix("HELP ").expect(&rt, "its first word");
@@ -393,7 +393,7 @@ fn help_lists_lines_that_are_read(rt: HostRuntime) {
             line.len() < 67 && (read_line(example.as_bytes()).is_ok() || shown == "END"),
             "{line}"
         );
-        examples += 1;
+        examples = examples.saturating_add(1);
     }
     assert!(rt; examples == 19 && help.ends_with("\nHELP END\n"));
 }

@@ -140,6 +140,10 @@ impl Service for Willing {
         Ok(())
     }
 
+    fn read_users(&self, _alloc: Global) -> Result<Vec<u8>, ServiceFault> {
+        Err(ServiceFault::NoFile)
+    }
+
     fn count(&self, alloc: Global, _topic: Topic) -> Result<Vec<Figure>, AllocError> {
         Ok(Vec::new(alloc))
     }
