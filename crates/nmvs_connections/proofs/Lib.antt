@@ -1,4 +1,5 @@
 mod RepliesSteps
 mod PeerSteps
+mod LineSteps
 mod ConnectionLemmas
 mod TurnSteps

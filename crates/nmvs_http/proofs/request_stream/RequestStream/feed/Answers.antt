@@ -1,0 +1,1 @@
+use Rattle.nmvs_http.proofs.request_stream.RequestStream.feed.Goals as goal
