@@ -157,7 +157,10 @@ impl Connection {
         let next = self.session.take(rt, pool, buffer, withheld, desk);
         let goes_on = was_pending && !self.session.is_waiting();
         let begins = !was_pending && self.session.has_pending_line();
-        self.note_moved((next.waits_for_release() && !goes_on) || begins, scratch.now);
+        self.note_moved(
+            (next.waits_for_release() && !goes_on) || begins,
+            scratch.now,
+        );
         next
     }
 
@@ -171,7 +174,9 @@ impl Connection {
         if self.stopped {
             return Next::Close;
         }
-        let next = self.session.read_header(scratch.alloc, name_of, &mut scratch.buffer);
+        let next = self
+            .session
+            .read_header(scratch.alloc, name_of, &mut scratch.buffer);
         let is_whole = self.session.awaited_header().is_none();
         self.note_moved(is_whole, scratch.now);
         next

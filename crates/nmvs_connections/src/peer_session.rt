@@ -216,12 +216,7 @@ impl PeerSession {
     }
 
     /// Reads on in the header of a gateway, and no byte after it. A connection that has none with a name ends.
-    pub(crate) fn read_header(
-        &mut self,
-        alloc: Global,
-        name_of: NameOf,
-        buffer: &mut [u8],
-    ) -> Next
+    pub(crate) fn read_header(&mut self, alloc: Global, name_of: NameOf, buffer: &mut [u8]) -> Next
         requires awaited { self.old.peer ≡ None }
         requires proxy { self.old.proxy ≡ Some name_of }
         requires serving { self.old.stage ≡ stages.Serving }

@@ -1,21 +1,21 @@
 -- How a codec stays one that carries its requests, from one step to the next.
-use Rattle.std.proofs.Common.{◌≡◌, ◌≢◌, ◌≤◌, ◌+◌, ◌⊎◌, inl, inr, ℕ, Bool, true, false, cond, List, [], ◌∷◌, ◌++◌, length, take, drop, Option, Some, None, refl, sym, ap, subst, ◌∙◌}
-use Rattle.std.proofs.lemmas.List.{append-nil, append_assoc, drop-append-le, drop-drop, take-append-drop}
+use Rattle.std.proofs.Common.{◌≡◌, ◌≢◌, ◌≤◌, ◌+◌, inl, inr, ℕ, Bool, true, false, cond, List, [], ◌∷◌, ◌++◌, length, take, drop, Option, Some, None, refl, sym, ap, subst, arith, ◌∙◌}
+use Rattle.std.proofs.lemmas.List.{append-nil, append_assoc, drop-append-le, drop-drop, length-append, take-append-drop}
 use Rattle.http.specs.declared.request.Request.{Request}
 use Rattle.http_server.specs.declared.state.State.TheVariants as states
 use Rattle.nmvs_http.specs.declared.asked.Asks.TheVariants as asks
 use Rattle.nmvs_http.specs.declared.codec.CodecStage.{CodecStage}
 use Rattle.nmvs_http.specs.declared.codec.CodecStage.TheVariants as stages
+use Rattle.nmvs_http.specs.declared.codec.Decoded.{Decoded}
+use Rattle.nmvs_http.specs.declared.codec.Decoded.TheVariants as decoded
 use Rattle.nmvs_http.specs.declared.codec.Hand.{Hand}
 use Rattle.nmvs_http.specs.declared.fault.Fault.{Fault}
 use Rattle.nmvs_http.specs.declared.request_stream.Asked.{Asked}
 use Rattle.nmvs_http.specs.declared.request_stream.Next.TheVariants as nexts
-use Rattle.nmvs_http.specs.RequestLines.{carried_by}
-use Rattle.nmvs_http.specs.Requests.{asks_of, wants_head}
 use Rattle.nmvs_http.specs.Responses.{invitation_text, response_text}
 use Rattle.nmvs_http.specs.StreamState.{StreamState}
 use Rattle.nmvs_http.specs.Streams.{IsNext}
-use Rattle.nmvs_http.specs.Codecs.{AnswersLines, AreTold, Carries, CodecState, Exchange, GoesOn, HasRequest, InHand, IsCarried, IsCodec, Message, StaysOpen, Tells, lines_in, message_text, replies_in, requests_in, text_of}
+use Rattle.nmvs_http.specs.Codecs.{AnswersLines, AreTold, Carries, CodecState, Decodes, Exchange, Fits, GoesOn, HasRequest, InHand, HandGives, IsCarried, IsCodec, Message, StaysOpen, Tells, bytes_given, lines_in, message_text, replies_in, requests_in, text_of}
 use Rattle.nmvs_http.specs.Codecs as specs
 
 -- a text behind what is told
@@ -274,3 +274,62 @@ goes_on_told old new gone items items' text stands stage within fed replies sent
     goes_on old new text fed replies sent (now ∙ ap (λ (i : List ℕ). drop gone i) t.0 ∙ unsent_more gone items text within ∙ ap (λ (u : List ℕ). u ++ text) (sym was))
 goes_on_told old new gone items items' text stands stage within fed replies sent was now (inr t) =
     goes_on_still old new fed replies sent (now ∙ ap (λ (i : List ℕ). drop gone i) t.0 ∙ sym was)
+
+-- reading on gave lines of the request in hand, or none
+pub is_read : (c : CodecState) (old hand : Option Hand) (given bytes : List ℕ) → c.hand ≡ old → HandGives old hand bytes → given ≡ c.given ++ bytes → IsCodec c → IsCodec (record c { hand = hand; given = given })
+is_read c (Some h) (Some h') given bytes was gives more is = is_given c h h' given bytes was gives.1 gives.2 gives.0 more is
+is_read c (Some h) None given bytes was gives more is = absurd gives
+is_read c None (Some h') given bytes was gives more is = absurd gives
+is_read c None None given bytes was gives more is =
+    λ sound. let x = (is sound).0 in (
+      record {
+        messages = x.messages;
+        told = x.told;
+        open_still = x.open_still;
+        begun = x.begun;
+        in_hand = subst (λ (o : Option Hand). InHand o x.begun (requests_in x.messages) c.stream.requests) was x.in_hand;
+        given_is = more ∙ ap (λ (t : List ℕ). c.given ++ t) gives ∙ append-nil c.given ∙ x.given_is;
+        replies_is = x.replies_is;
+        text_is = x.text_is;
+      },
+      (is sound).1,
+    )
+
+-- what a step gave, as it is told
+pub decodes : (old new : CodecState) (buffer : List ℕ) (d : Decoded) → Fits d buffer → GoesOn old new → new.given ≡ old.given ++ bytes_given d buffer → Decodes old new buffer d
+decodes old new buffer (decoded.Lines count) fits goes given = (goes, fits, given)
+decodes old new buffer decoded.Whole fits goes given = (goes, given ∙ append-nil old.given)
+decodes old new buffer decoded.Nothing fits goes given = (goes, given ∙ append-nil old.given)
+decodes old new buffer decoded.Over fits goes given = (goes, given ∙ append-nil old.given)
+
+-- two steps together
+goes_on_twice : (old mid new : CodecState) → GoesOn old mid → GoesOn mid new → GoesOn old new
+goes_on_twice old mid new x y = record {
+  fed = y.fed ∙ x.fed;
+  replies = y.replies ∙ x.replies;
+  sent = y.sent ∙ x.sent;
+  text = x.text ++ y.text;
+  unsent = y.unsent ∙ ap (λ (t : List ℕ). t ++ y.text) x.unsent ∙ append_assoc old.unsent x.text y.text;
+}
+
+pub decodes_later : (old mid new : CodecState) (buffer : List ℕ) (d : Decoded) → GoesOn old mid → mid.given ≡ old.given → Decodes mid new buffer d → Decodes old new buffer d
+decodes_later old mid new buffer (decoded.Lines count) goes same x = (goes_on_twice old mid new goes x.0, x.1, x.2 ∙ ap (λ (t : List ℕ). t ++ take count buffer) same)
+decodes_later old mid new buffer decoded.Whole goes same x = (goes_on_twice old mid new goes x.0, x.1 ∙ same)
+decodes_later old mid new buffer decoded.Nothing goes same x = (goes_on_twice old mid new goes x.0, x.1 ∙ same)
+decodes_later old mid new buffer decoded.Over goes same x = (goes_on_twice old mid new goes x.0, x.1 ∙ same)
+
+-- what is told grows behind what was sent
+pub tells_within : (gone : ℕ) (items items' text : List ℕ) (stands stage : CodecStage) → gone ≤ length items → Tells items items' text stands stage → gone ≤ length items'
+tells_within gone items items' text stands stage within (inr t) = subst (λ (i : List ℕ). gone ≤ length i) (sym t.0) within
+tells_within gone items items' text stands stage within (inl t) =
+    let more = length-append items text in
+    subst (λ (i : List ℕ). gone ≤ length i) (sym t.0) (omega (arith, more, within))
+
+-- the same, by how it was told
+pub is_told : (c : CodecState) (h : Hand) (ended stays : Bool) (stage : CodecStage) (gone : ℕ) (items items' replies gathered : List ℕ) → c.stage ≡ stages.Open → c.hand ≡ Some h → c.unsent ≡ drop gone items → gone ≤ length items
+    → AnswersLines c.given c.replies ended → (ended ≡ false → h.lines ≡ []) → (ended ≡ true → stays ≡ false) → replies ≡ c.gathered
+    → Tells items items' (response_text h.asks h.head_alone stays replies) (cond stays stages.Open stages.Closing) stage → stage ≢ stages.Lost → gathered ≡ []
+    → IsCodec c → IsCodec (record c { stage = stage; hand = None; gathered = gathered; unsent = drop gone items' })
+is_told c h ended stays stage gone items items' replies gathered opens some unsent within answers whole closes these (inl t) sound none is =
+    is_responded c h ended stays stage gone items items' opens some unsent within answers whole closes (t.0 ∙ ap (λ (r : List ℕ). items ++ response_text h.asks h.head_alone stays r) these) t.1 gathered none is
+is_told c h ended stays stage gone items items' replies gathered opens some unsent within answers whole closes these (inr t) sound none is = absurd (sound t.1)

@@ -1,5 +1,5 @@
 -- HTTP as a carrier of lines: what requests carried, and what their senders were told (own).
-use Rattle.std.specs.Prelude.{◌≡◌, ◌≢◌, ◌≤◌, ◌⊎◌, ℕ, Bool, true, false, List, [], ◌∷◌, ◌++◌, length, take, drop, Option, Some, None}
+use Rattle.std.specs.Prelude.{◌≡◌, ◌≢◌, ◌≤◌, ◌⊎◌, ℕ, Bool, true, false, List, [], ◌∷◌, ◌++◌, length, take, Option, Some, None}
 use Rattle.http.specs.declared.request.Request.{Request}
 use Rattle.http_server.specs.declared.state.State.TheVariants as states
 use Rattle.nmvs_messages.specs.declared.answer.Answer.{Answer}
@@ -155,3 +155,18 @@ Decodes old new buffer _ = GoesOn old new × (new.given ≡ old.given)
 -- the text was told, and the codec stands so; or there was no memory for it
 abbrev pub Tells : List ℕ → List ℕ → List ℕ → CodecStage → CodecStage → Type 0
 Tells old new text stands result = ((new ≡ old ++ text) × (result ≡ stands)) ⊎ ((new ≡ old) × (result ≡ stages.Lost))
+
+-- the bytes of lines that reading on gave, at the front of the buffer
+abbrev pub bytes_given : Decoded → List ℕ → List ℕ
+bytes_given (decoded.Lines count) buffer = take count buffer
+bytes_given _ buffer = []
+
+abbrev pub Fits : Decoded → List ℕ → Type 0
+Fits (decoded.Lines count) buffer = count ≤ length buffer
+Fits _ buffer = Unit {0}
+
+-- these were given of the request in hand
+abbrev pub HandGives : Option Hand → Option Hand → List ℕ → Type 0
+HandGives (Some old) (Some new) bytes = (old.lines ≡ bytes ++ new.lines) × (new.asks ≡ old.asks) × (new.head_alone ≡ old.head_alone)
+HandGives None None bytes = bytes ≡ []
+HandGives _ _ bytes = ⊥

@@ -1,7 +1,6 @@
 -- A stream of requests, as contracts see it (own).
 use Rattle.std.specs.Prelude.{ℕ, List, map}
 use Rattle.http.specs.declared.request.Request.{Request}
-use Rattle.http1.specs.declared.conn.Limits.{Limits}
 use Rattle.http_server.specs.declared.connection.Connection.{Connection}
 use Rattle.http_server.specs.declared.state.Config.{Config}
 use Rattle.http_server.specs.declared.state.State.{State}

@@ -1,5 +1,5 @@
 -- How requests are read off a stream of bytes (own).
-use Rattle.std.specs.Prelude.{◌≡◌, ◌≢◌, ◌↔◌, ◌==◌, ℕ, Bool, true, List, [], ◌∷◌, ◌++◌, Option, Some, None, if◌then◌else◌}
+use Rattle.std.specs.Prelude.{◌≡◌, ◌≢◌, ◌↔◌, ◌==◌, ℕ, true, List, [], ◌∷◌, ◌++◌, Option, Some, None, if◌then◌else◌}
 use Rattle.http.specs.declared.error.Error.{Error}
 use Rattle.http.specs.declared.error.Error.TheVariants.{HeaderName, MaxSizeReached, Uri}
 use Rattle.http.specs.declared.request.Request.{Request}

@@ -1,6 +1,7 @@
 //! What requests ask.
 ghost use Rattle.std.specs.Prelude.{◌≡◌, codes, option_copied};
 ghost use Rattle.http_header.specs.Token.{lowercase};
+ghost use Rattle.std.specs.Str.{bytes_eq};
 ghost use Rattle.nmvs_http.specs.Requests as specs;
 
 use crate::fault::Fault;
@@ -111,11 +112,19 @@ fn has_lines(request: &Request<Bytes>) -> bool
 }
 
 /// Whether a media type is that of lines, whatever its parameters.
+#[tactic(auto, using(std::proofs::lemmas::List::take_min, std::proofs::lemmas::List::drop_min))]
 fn is_lines_type(kind: &[u8]) -> bool
     ensures { result ≡ specs.is_lines_type kind.now }
 {
     let count = LINES_TYPE.len().min(kind.len());
-    kind[..count].eq_ignore_ascii_case(LINES_TYPE) && ends_name(&kind[count..])
+    is_lines_name(&kind[..count]) && ends_name(&kind[count..])
+}
+
+/// Whether a media type without parameters is that of lines.
+fn is_lines_name(name: &[u8]) -> bool
+    ensures { result ≡ bytes_eq (lowercase name.now) (codes "application/vnd.nmvs.lines") }
+{
+    name.eq_ignore_ascii_case(LINES_TYPE)
 }
 
 /// Whether no more of a media type's name follows.

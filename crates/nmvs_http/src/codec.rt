@@ -1,7 +1,7 @@
 //! The codec between a socket and a session of lines.
 ghost use Rattle.std.specs.Prelude.{◌≡◌, ◌≢◌, ◌≤◌, ◌<◌, ◌↔◌, ◌++◌, [], ℕ, List, None, Some, IsTrue, IsSome, OnOk, OnErr, if◌then◌else◌, length, take, drop, true, false};
 ghost use Rattle.http_server.specs.declared.state.State.TheVariants as states;
-ghost use Rattle.nmvs_http.specs.Codecs.{AnswersLines, CarriesRequests, CodecState, Decodes, GoesOn, Tells};
+ghost use Rattle.nmvs_http.specs.Codecs.{AnswersLines, CarriesRequests, CodecState, Decodes, Fits, GoesOn, HandGives, Tells, bytes_given};
 ghost use Rattle.nmvs_http.specs.Responses.{invitation_text, response_text};
 
 use crate::asked::Asks;
@@ -176,15 +176,9 @@ impl HttpCodec {
     fn give(&mut self, buffer: &mut [u8]) -> Decoded
         ensures { Decodes self.old self.new buffer.new result }
     {
-        let Some(hand) = &mut self.hand else {
-            return Decoded::Nothing;
-        };
-        if hand.lines.is_empty() {
-            return Decoded::Whole;
-        }
-        let count = give_lines(&mut hand.lines, buffer);
-        self.given = extended(&self.given, &buffer[..count]);
-        Decoded::Lines(count)
+        let decoded = give_of(&mut self.hand, buffer);
+        self.given = given_behind(&self.given, buffer, decoded);
+        decoded
     }
 
     /// Refuses for this fault what came of a request, or would have, where none is in hand: the connection is closed then.
@@ -226,10 +220,10 @@ impl HttpCodec {
         let Some(hand) = &self.hand else {
             return;
         };
-        if !ended && !hand.lines.is_empty() {
+        if !may_respond(hand, ended) {
             return;
         }
-        let stays = hand.stays && !ended;
+        let stays = stays_behind(hand.stays, ended);
         let replies = self.gathered.as_slice();
         self.stage = tell_response(&mut self.told, hand, stays, replies);
         if self.stage != CodecStage::Lost {
@@ -282,6 +276,38 @@ impl Hand {
     }
 }
 
+/// The tag of what was given, and of what reading on gave behind it.
+fn given_behind(given: &Tag, buffer: &[u8], decoded: Decoded) -> Tag
+    requires { Fits decoded buffer.now }
+    ensures { result.numbers ≡ given.now.numbers ++ bytes_given decoded buffer.now }
+{
+    match decoded {
+        Decoded::Lines(count) => extended(given, &buffer[..count]),
+        Decoded::Whole | Decoded::Nothing | Decoded::Over => extended(given, b""),
+    }
+}
+
+/// Gives bytes of lines of the request in hand.
+fn give_of(hand: &mut Option<Hand>, buffer: &mut [u8]) -> Decoded
+    ensures fits { Fits result buffer.new }
+    ensures gives { HandGives hand.old hand.new (bytes_given result buffer.new) }
+{
+    match hand {
+        None => Decoded::Nothing,
+        Some(hand) => give_of_hand(hand, buffer),
+    }
+}
+
+fn give_of_hand(hand: &mut Hand, buffer: &mut [u8]) -> Decoded
+    ensures fits { Fits result buffer.new }
+    ensures gives { HandGives (Some hand.old) (Some hand.new) (bytes_given result buffer.new) }
+{
+    if hand.lines.is_empty() {
+        return Decoded::Whole;
+    }
+    Decoded::Lines(give_lines(&mut hand.lines, buffer))
+}
+
 /// Gives bytes of these lines, as many as the buffer has room for, and tells how many.
 fn give_lines(lines: &mut Bytes, buffer: &mut [u8]) -> usize
     ensures within { result ≤ length buffer.new }
@@ -291,6 +317,20 @@ fn give_lines(lines: &mut Bytes, buffer: &mut [u8]) -> usize
     buffer[..count].copy_from_slice(&lines.as_slice()[..count]);
     lines.advance(count);
     count
+}
+
+/// Whether a request may be responded to: all its lines were given, or the session of lines has ended.
+fn may_respond(hand: &Hand, ended: bool) -> bool
+    ensures { result ≡ true → ended ≡ false → hand.now.lines ≡ [] }
+{
+    ended || hand.lines.is_empty()
+}
+
+/// Whether a connection stays behind a response.
+fn stays_behind(stays: bool, ended: bool) -> bool
+    ensures { ended ≡ true → result ≡ false }
+{
+    stays && !ended
 }
 
 /// Invites the sender of a request to send its body, and tells how the codec stands behind it.

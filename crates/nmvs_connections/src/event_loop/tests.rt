@@ -189,9 +189,11 @@ fn a_line_has_a_deadline(rt: HostRuntime) -> Result<(), Fail> {
 }
 
 /// A request with a body of lines.
-const LINES: &str = "POST /v1/lines HTTP/1.1\r\nhost: nmvs.example\r\ncontent-type: application/vnd.nmvs.lines\r\n";
+const LINES: &str =
+    "POST /v1/lines HTTP/1.1\r\nhost: nmvs.example\r\ncontent-type: application/vnd.nmvs.lines\r\n";
 
-const REPLIES: &str = "HTTP/1.1 200 OK\r\ncontent-type: application/vnd.nmvs.lines\r\ncache-control: no-store\r\n";
+const REPLIES: &str =
+    "HTTP/1.1 200 OK\r\ncontent-type: application/vnd.nmvs.lines\r\ncache-control: no-store\r\n";
 
 const PROBLEM: &str = "content-type: application/problem+json\r\ncache-control: no-store\r\n";
 
@@ -272,18 +274,28 @@ fn lines_are_carried_over_http(rt: HostRuntime) -> Result<(), Fail> {
     is_told_over_http(
         &rt,
         &[
-            LINES, "content-length: 30\r\n\r\nph1 STATUS 09506000134352 SN1\n",
-            LINES, "content-length: 4\r\n\r\nPING",
-            LINES, "content-length: 9\r\n\r\nPING\nph1\n",
-            LINES, "content-length: 0\r\n\r\n",
-            LINES, "transfer-encoding: chunked\r\n\r\n2\r\nPI\r\n3\r\nNG\n\r\n0\r\n\r\n",
+            LINES,
+            "content-length: 30\r\n\r\nph1 STATUS 09506000134352 SN1\n",
+            LINES,
+            "content-length: 4\r\n\r\nPING",
+            LINES,
+            "content-length: 9\r\n\r\nPING\nph1\n",
+            LINES,
+            "content-length: 0\r\n\r\n",
+            LINES,
+            "transfer-encoding: chunked\r\n\r\n2\r\nPI\r\n3\r\nNG\n\r\n0\r\n\r\n",
         ],
         &[
-            REPLIES, "connection: keep-alive\r\ncontent-length: 11\r\n\r\nFAULT RATE\n",
-            REPLIES, "connection: keep-alive\r\ncontent-length: 5\r\n\r\nPONG\n",
-            REPLIES, "connection: keep-alive\r\ncontent-length: 18\r\n\r\nPONG\nFAULT FIELDS\n",
-            REPLIES, "connection: keep-alive\r\ncontent-length: 0\r\n\r\n",
-            REPLIES, "connection: keep-alive\r\ncontent-length: 5\r\n\r\nPONG\n",
+            REPLIES,
+            "connection: keep-alive\r\ncontent-length: 11\r\n\r\nFAULT RATE\n",
+            REPLIES,
+            "connection: keep-alive\r\ncontent-length: 5\r\n\r\nPONG\n",
+            REPLIES,
+            "connection: keep-alive\r\ncontent-length: 18\r\n\r\nPONG\nFAULT FIELDS\n",
+            REPLIES,
+            "connection: keep-alive\r\ncontent-length: 0\r\n\r\n",
+            REPLIES,
+            "connection: keep-alive\r\ncontent-length: 5\r\n\r\nPONG\n",
         ],
     )
 }
@@ -291,23 +303,29 @@ fn lines_are_carried_over_http(rt: HostRuntime) -> Result<(), Fail> {
 /// What asks no lines is answered between them; behind QUIT, and behind a request that closes, no more is told.
 #[test]
 fn requests_without_lines_are_answered(rt: HostRuntime) -> Result<(), Fail> {
-    let health = "HTTP/1.1 200 OK\r\ncontent-type: text/plain; charset=utf-8\r\ncache-control: no-store\r\nconnection: keep-alive\r\ncontent-length: 3\r\n\r\n";
+    let health =
+        "HTTP/1.1 200 OK\r\ncontent-type: text/plain; charset=utf-8\r\ncache-control: no-store\r\nconnection: keep-alive\r\ncontent-length: 3\r\n\r\n";
     is_told_over_http(
         &rt,
         &[
             "GET /healthz HTTP/1.1\r\nhost: nmvs.example\r\n\r\n",
             "HEAD /healthz HTTP/1.1\r\nhost: nmvs.example\r\n\r\n",
             "GET /other HTTP/1.1\r\nhost: nmvs.example\r\n\r\n",
-            LINES, "content-length: 10\r\n\r\nQUIT\nPING\n",
-            LINES, "content-length: 5\r\n\r\nPING\n",
+            LINES,
+            "content-length: 10\r\n\r\nQUIT\nPING\n",
+            LINES,
+            "content-length: 5\r\n\r\nPING\n",
         ],
         &[
-            health, "ok\n",
             health,
-            "HTTP/1.1 404 Not Found\r\n", PROBLEM,
+            "ok\n",
+            health,
+            "HTTP/1.1 404 Not Found\r\n",
+            PROBLEM,
             "connection: keep-alive\r\ncontent-length: 87\r\n\r\n",
             "{\"type\":\"about:blank\",\"title\":\"Not Found\",\"status\":404,\"fault\":\"PATH\",\"recorded\":\"no\"}\n",
-            REPLIES, "connection: close\r\ncontent-length: 4\r\n\r\nBYE\n",
+            REPLIES,
+            "connection: close\r\ncontent-length: 4\r\n\r\nBYE\n",
         ],
     )
 }
@@ -319,8 +337,10 @@ fn what_is_no_request_is_refused(rt: HostRuntime) -> Result<(), Fail> {
         &rt,
         &[LINES, "content-length: 5\r\n\r\nPING\n", "PING\n\r\n\r\n"],
         &[
-            REPLIES, "connection: keep-alive\r\ncontent-length: 5\r\n\r\nPONG\n",
-            "HTTP/1.1 400 Bad Request\r\n", PROBLEM,
+            REPLIES,
+            "connection: keep-alive\r\ncontent-length: 5\r\n\r\nPONG\n",
+            "HTTP/1.1 400 Bad Request\r\n",
+            PROBLEM,
             "connection: close\r\ncontent-length: 92\r\n\r\n",
             "{\"type\":\"about:blank\",\"title\":\"Bad Request\",\"status\":400,\"fault\":\"REQUEST\",\"recorded\":\"no\"}\n",
         ],
@@ -331,14 +351,22 @@ fn what_is_no_request_is_refused(rt: HostRuntime) -> Result<(), Fail> {
 #[test]
 fn a_sender_that_waits_is_invited(rt: HostRuntime) -> Result<(), Fail> {
     let alloc = rt.alloc();
-    let input = joined(&rt, alloc, &[LINES, "content-length: 5\r\nexpect: 100-continue\r\n\r\nPING\n"]);
+    let input = joined(
+        &rt,
+        alloc,
+        &[
+            LINES,
+            "content-length: 5\r\nexpect: 100-continue\r\n\r\nPING\n",
+        ],
+    );
     let head = input.len() - 5;
     let told = told_over_http(&rt, Peer::Anyone, None, &input, head)?;
     let wanted = joined(
         &rt,
         alloc,
         &[
-            "HTTP/1.1 100 Continue\r\n\r\n", REPLIES,
+            "HTTP/1.1 100 Continue\r\n\r\n",
+            REPLIES,
             "connection: keep-alive\r\ncontent-length: 5\r\n\r\nPONG\n",
         ],
     );
@@ -351,16 +379,32 @@ fn a_sender_that_waits_is_invited(rt: HostRuntime) -> Result<(), Fail> {
 fn a_header_names_the_peer_of_requests(rt: HostRuntime) -> Result<(), Fail> {
     let alloc = rt.alloc();
     let peer = NameOf::User.peer(Name::read("ph1").expect(&rt, "a name"));
-    let ask = joined(&rt, alloc, &[LINES, "content-length: 30\r\n\r\nph1 STATUS 09506000134352 SN1\n"]);
+    let ask = joined(
+        &rt,
+        alloc,
+        &[
+            LINES,
+            "content-length: 30\r\n\r\nph1 STATUS 09506000134352 SN1\n",
+        ],
+    );
     let mut behind = Vec::new(alloc);
     behind.extend_from_slice(HEADER)?;
     behind.extend_from_slice(&ask)?;
     let proxy = Some(NameOf::User);
     let named = told_over_http(&rt, peer, proxy, &behind, 4_096)?;
-    let wanted = joined(&rt, alloc, &[REPLIES, "connection: keep-alive\r\ncontent-length: 11\r\n\r\nFAULT RATE\n"]);
-    assert_eq!(rt; str::from_utf8(named.as_slice()), str::from_utf8(wanted.as_slice()));
+    let wanted = joined(
+        &rt,
+        alloc,
+        &[
+            REPLIES,
+            "connection: keep-alive\r\ncontent-length: 11\r\n\r\nFAULT RATE\n",
+        ],
+    );
+    assert_eq!(rt;
+        str::from_utf8(named.as_slice()),
+        str::from_utf8(wanted.as_slice())
+    );
     let nameless = told_over_http(&rt, peer, proxy, &ask, 4_096)?;
     assert!(rt; nameless.is_empty());
     Ok(())
 }
-
