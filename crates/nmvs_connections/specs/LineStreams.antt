@@ -5,6 +5,8 @@ use Rattle.nmvs_messages.specs.declared.peer.Peer.{Peer}
 use Rattle.nmvs_connections.specs.declared.line_stream.Http.{Http}
 use Rattle.nmvs_connections.specs.declared.peer_session.Stage.{Stage}
 use Rattle.nmvs_connections.specs.declared.peer_session.Stage.TheVariants as stages
+use Rattle.nmvs_connections.specs.declared.socket.Moved.{Moved}
+use Rattle.nmvs_connections.specs.declared.socket.Moved.TheVariants as moves
 use Rattle.nmvs_connections.specs.Traffic.{Traffic}
 
 -- a stream of lines: the bytes of its socket, and what carries its lines over HTTP, if something does
@@ -12,12 +14,16 @@ pub record LineStreamState : Type 0 where
   pub raw : Traffic
   pub http : Option Http
 
+-- the bytes of lines and replies that are carried over HTTP: those that came before the first request, and then those that the codec
+-- gave; and the replies that it took
+abbrev pub carried_over : Http → Traffic
+carried_over h = record { received = h.before.numbers ++ h.codec.given; sent = h.codec.replies }
+
 abbrev pub carried_by : Traffic → Option Http → Traffic
 carried_by raw None = raw
-carried_by raw (Some h) = record { received = h.before.numbers ++ h.codec.given; sent = h.codec.replies }
+carried_by raw (Some h) = carried_over h
 
--- the bytes of the lines and their replies: those of the socket; or, over HTTP, those that came before the first request, and then
--- those that the codec gave, and the replies that it took
+-- the bytes of lines and replies: those of the socket, or those that are carried over HTTP
 abbrev pub carried : LineStreamState → Traffic
 carried s = carried_by s.raw s.http
 
@@ -69,3 +75,8 @@ pub record AnswersCarried (before : List ℕ) (carried : Traffic) (ended : Bool)
 abbrev pub AnswersOver : Option (List ℕ) → Traffic → Bool → Type 0
 AnswersOver None carried ended = Unit {0}
 AnswersOver (Some before) carried ended = AnswersCarried before carried ended
+
+-- what came of a step that may have moved no byte
+abbrev pub moved_of : Option Moved → Moved
+moved_of None = moves.Blocked
+moved_of (Some moved) = moved

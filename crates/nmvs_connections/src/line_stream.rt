@@ -1,7 +1,9 @@
 //! The stream of lines of a connection: over its socket, or over HTTP.
-ghost use Rattle.std.specs.Prelude.{◌≡◌, ◌⊎◌, [], None, IfSome};
-ghost use Rattle.nmvs_connections.specs.LineStreams.{AnswersOver, CarriesLines, before_of, carried};
+ghost use Rattle.std.specs.Prelude.{◌≡◌, ◌⊎◌, ◌++◌, [], None, IfSome};
+ghost use Rattle.nmvs_http.specs.Codecs.{AnswersLines};
+ghost use Rattle.nmvs_connections.specs.LineStreams.{AnswersOver, CarriesLines, IsFed, before_of, carried, carried_over, moved_of};
 ghost use Rattle.nmvs_connections.specs.Streams.{Reads, Writes};
+ghost use Rattle.nmvs_connections.specs.Traffic.{Traffic};
 
 use crate::socket::{Moved, Socket};
 use crate::stream::Stream;
@@ -85,7 +87,7 @@ impl LineStream {
     {
         match &mut self.http {
             None => self.stream.read(buffer),
-            Some(http) => read_lines(&mut self.stream, http, buffer),
+            Some(http) => read_over(&mut self.stream, http, buffer),
         }
     }
 
@@ -96,7 +98,7 @@ impl LineStream {
     {
         match &mut self.http {
             None => self.stream.write(replies),
-            Some(http) => write_replies(http, replies),
+            Some(http) => write_over(http, replies),
         }
     }
 
@@ -106,8 +108,9 @@ impl LineStream {
         ensures carried { carried self.new ≡ carried self.old }
         ensures before { before_of self.new.http ≡ before_of self.old.http }
     {
-        if let Some(http) = &mut self.http {
-            http.codec.respond(ended);
+        match &mut self.http {
+            None => {}
+            Some(http) => respond_over(http, ended),
         }
     }
 
@@ -116,10 +119,9 @@ impl LineStream {
         ensures carried { carried self.new ≡ carried self.old }
         ensures before { before_of self.new.http ≡ before_of self.old.http }
     {
-        if let Some(http) = &mut self.http {
-            if http.codec.has_pending_request() {
-                http.codec.refuse(Fault::Timeout);
-            }
+        match &mut self.http {
+            None => {}
+            Some(http) => refuse_over(http),
         }
     }
 
@@ -130,7 +132,7 @@ impl LineStream {
     {
         match &mut self.http {
             None => Moved::Bytes(0),
-            Some(http) => send_told(&mut self.stream, http),
+            Some(http) => flush_over(&mut self.stream, http),
         }
     }
 
@@ -192,20 +194,46 @@ impl LineStream {
         ensures reads { Reads (carried self.old) (carried self.new) buffer.new result ⊎ (carried self.new ≡ carried self.old) }
         ensures before { before_of self.new.http ≡ before_of self.old.http }
     {
-        if let Some(http) = &mut self.http {
-            http.discards = true;
+        match &mut self.http {
+            None => self.stream.read(buffer),
+            Some(http) => discard_over(&mut self.stream, http, buffer),
         }
-        self.stream.read(buffer)
     }
 }
 
 /// Reads bytes of lines of the requests that have come, or that one read of the socket completes.
-fn read_lines(stream: &mut Stream, http: &mut Http, buffer: &mut [u8]) -> Moved {
-    match http.codec.read(buffer) {
-        Decoded::Lines(count) => return Moved::Bytes(count),
-        Decoded::Whole | Decoded::Over => return Moved::Blocked,
-        Decoded::Nothing => {}
+fn read_over(stream: &mut Stream, http: &mut Http, buffer: &mut [u8]) -> Moved
+    requires { IsFed stream.old http.old }
+    ensures fed { IsFed stream.new http.new }
+    ensures before { http.new.before ≡ http.old.before }
+    ensures reads { Reads (carried_over http.old) (carried_over http.new) buffer.new result }
+{
+    match decode(http, buffer) {
+        Some(moved) => moved,
+        None => read_on(stream, http, buffer),
     }
+}
+
+/// Reads bytes of lines of the requests that have come. There is none where more has to come first.
+fn decode(http: &mut Http, buffer: &mut [u8]) -> Option<Moved>
+    ensures fed { (raw : Traffic) → IsFed raw http.old → IsFed raw http.new }
+    ensures before { http.new.before ≡ http.old.before }
+    ensures reads { Reads (carried_over http.old) (carried_over http.new) buffer.new (moved_of result) }
+{
+    match http.codec.read(buffer) {
+        Decoded::Lines(count) => Some(Moved::Bytes(count)),
+        Decoded::Whole | Decoded::Over => Some(Moved::Blocked),
+        Decoded::Nothing => None,
+    }
+}
+
+/// Reads bytes of lines of the requests that one read of the socket completes.
+fn read_on(stream: &mut Stream, http: &mut Http, buffer: &mut [u8]) -> Moved
+    requires { IsFed stream.old http.old }
+    ensures fed { IsFed stream.new http.new }
+    ensures before { http.new.before ≡ http.old.before }
+    ensures reads { Reads (carried_over http.old) (carried_over http.new) buffer.new result }
+{
     let count = match stream.read(buffer) {
         Moved::Bytes(count) => count,
         Moved::Blocked => {
@@ -214,18 +242,19 @@ fn read_lines(stream: &mut Stream, http: &mut Http, buffer: &mut [u8]) -> Moved 
         }
         Moved::Over => return Moved::Over,
     };
-    http.may_have_more = true;
     if !feed(http, &buffer[..count]) {
         return Moved::Over;
     }
-    match http.codec.read(buffer) {
-        Decoded::Lines(count) => Moved::Bytes(count),
-        Decoded::Whole | Decoded::Over | Decoded::Nothing => Moved::Blocked,
-    }
+    decode(http, buffer).unwrap_or(Moved::Blocked)
 }
 
 /// Feeds the codec these bytes, and tells whether there was memory for them. Where there is not, no more are fed.
-fn feed(http: &mut Http, bytes: &[u8]) -> bool {
+fn feed(http: &mut Http, bytes: &[u8]) -> bool
+    ensures fed { (raw : Traffic) → IsFed raw http.old → IsFed (record raw { received = raw.received ++ bytes.now }) http.new }
+    ensures before { http.new.before ≡ http.old.before }
+    ensures carried { carried_over http.new ≡ carried_over http.old }
+{
+    http.may_have_more = true;
     if http.discards {
         return false;
     }
@@ -235,7 +264,11 @@ fn feed(http: &mut Http, bytes: &[u8]) -> bool {
 }
 
 /// Gathers replies for the response to the request in hand.
-fn write_replies(http: &mut Http, replies: &[u8]) -> Moved {
+fn write_over(http: &mut Http, replies: &[u8]) -> Moved
+    ensures fed { (raw : Traffic) → IsFed raw http.old → IsFed raw http.new }
+    ensures before { http.new.before ≡ http.old.before }
+    ensures writes { Writes (carried_over http.old) (carried_over http.new) replies.now result }
+{
     if http.codec.write(replies) {
         Moved::Bytes(replies.len())
     } else {
@@ -243,8 +276,34 @@ fn write_replies(http: &mut Http, replies: &[u8]) -> Moved {
     }
 }
 
+/// Responds to the request in hand.
+fn respond_over(http: &mut Http, ended: bool)
+    requires { AnswersLines http.old.codec.given http.old.codec.replies ended }
+    ensures fed { (raw : Traffic) → IsFed raw http.old → IsFed raw http.new }
+    ensures before { http.new.before ≡ http.old.before }
+    ensures carried { carried_over http.new ≡ carried_over http.old }
+{
+    http.codec.respond(ended);
+}
+
+/// Tells a request that has not come whole that it comes too late.
+fn refuse_over(http: &mut Http)
+    ensures fed { (raw : Traffic) → IsFed raw http.old → IsFed raw http.new }
+    ensures before { http.new.before ≡ http.old.before }
+    ensures carried { carried_over http.new ≡ carried_over http.old }
+{
+    if http.codec.has_pending_request() {
+        http.codec.refuse(Fault::Timeout);
+    }
+}
+
 /// Sends as much as the system takes of what the codec tells.
-fn send_told(stream: &mut Stream, http: &mut Http) -> Moved {
+fn flush_over(stream: &mut Stream, http: &mut Http) -> Moved
+    requires { IsFed stream.old http.old }
+    ensures fed { IsFed stream.new http.new }
+    ensures before { http.new.before ≡ http.old.before }
+    ensures carried { carried_over http.new ≡ carried_over http.old }
+{
     if http.codec.unsent().is_empty() {
         return Moved::Bytes(0);
     }
@@ -253,4 +312,15 @@ fn send_told(stream: &mut Stream, http: &mut Http) -> Moved {
         http.codec.advance(count);
     }
     moved
+}
+
+/// Reads on from the socket, and lets the bytes go.
+fn discard_over(stream: &mut Stream, http: &mut Http, buffer: &mut [u8]) -> Moved
+    requires { IsFed stream.old http.old }
+    ensures fed { IsFed stream.new http.new }
+    ensures before { http.new.before ≡ http.old.before }
+    ensures carried { carried_over http.new ≡ carried_over http.old }
+{
+    http.discards = true;
+    stream.read(buffer)
 }
