@@ -1,6 +1,8 @@
 -- Streams of lines: over the bytes of a socket, or over HTTP (own).
-use Rattle.std.specs.Prelude.{◌≡◌, ℕ, Bool, false, List, [], ◌++◌, Option, Some, None}
+use Rattle.std.specs.Prelude.{◌≡◌, ◌≢◌, ℕ, Bool, true, false, List, [], ◌++◌, Option, Some, None}
 use Rattle.nmvs_http.specs.Codecs.{AnswersLines, CarriesRequests}
+use Rattle.nmvs_messages.specs.declared.end.End.{End}
+use Rattle.nmvs_messages.specs.declared.end.End.TheVariants as ends
 use Rattle.nmvs_messages.specs.declared.peer.Peer.{Peer}
 use Rattle.nmvs_connections.specs.declared.line_stream.Http.{Http}
 use Rattle.nmvs_connections.specs.declared.peer_session.Stage.{Stage}
@@ -80,3 +82,10 @@ AnswersOver (Some before) carried ended = AnswersCarried before carried ended
 abbrev pub moved_of : Option Moved → Moved
 moved_of None = moves.Blocked
 moved_of (Some moved) = moved
+
+-- a connection that is not let go has come so far, and its session so, where the request in hand may be responded to: all bytes that
+-- were read were taken, or the session was ended by QUIT
+pub record EndsIn (stage : Stage) (end : Option End) (all ended : Bool) : Type 0 where
+  pub stays : stage ≢ stages.Lingering
+  pub goes_on : ended ≡ false → (stage ≡ stages.Serving) × (end ≡ None) × (all ≡ true)
+  pub quits : ended ≡ true → end ≡ Some ends.Quit

@@ -69,6 +69,7 @@ impl LineStream {
         requires silent { self.old.raw.sent ≡ [] }
         ensures carried { carried self.new ≡ carried self.old }
         ensures before { IfSome (before_of self.new.http) (λ before. before ≡ (carried self.old).received) }
+        ensures none { keys ≡ None → self.new ≡ self.old }
     {
         if let Some(keys) = keys {
             self.http = Some(Http {

@@ -1,9 +1,12 @@
 //! The session of the peer of a connection, over its bytes.
-ghost use Rattle.std.specs.Prelude.{◌≡◌, ◌≤◌, ◌++◌, if◌then◌else◌, List, ℕ, Some, None, IfSome, length, take};
+ghost use Rattle.std.specs.Prelude.{◌≡◌, ◌≢◌, ◌≤◌, ◌++◌, [], if◌then◌else◌, List, ℕ, Some, None, IfSome, IsSome, is_some, length, take, true};
 ghost use Rattle.nmvs_messages.specs.Peers.{TakesFrom};
+ghost use Rattle.nmvs_messages.specs.declared.peer.Peer.TheVariants as peers;
 ghost use Rattle.nmvs_connections.specs.declared.next.Next.{Next as TheNext};
 ghost use Rattle.nmvs_connections.specs.declared.peer_session.Stage.TheVariants as stages;
+ghost use Rattle.nmvs_connections.specs.LineStreams.{EndsIn, before_of, carried};
 ghost use Rattle.nmvs_connections.specs.Peers.{IsConnection, StaysPeer};
+ghost use Rattle.nmvs_connections.specs.Replies.{Replies};
 ghost use Rattle.nmvs_connections.specs.Turns.{ConnectionSteps, Kept, LinesStep, TellsOwn, WaitsForRelease};
 
 use crate::buffered_session::BufferedSession;
@@ -11,7 +14,7 @@ use crate::line_stream::LineStream;
 use crate::next::Next;
 use crate::proxy_header::{ProxyHeader, read_proxy_header};
 use crate::scratch::Scratch;
-use crate::socket::Moved;
+use crate::socket::{Moved, Socket};
 use crate::worker_pool::{Accepted, WorkerPool};
 use memchr::memchr;
 use mio::{Registry, Token};
@@ -76,13 +79,9 @@ impl PeerSession {
         ensures { result.proxy ≡ proxy }
     {
         let Accepted { socket, http, .. } = accepted;
-        let mut stream = LineStream::new(socket);
         let peer = anyone_where_known(proxy);
-        if peer.is_some() {
-            stream.begin(alloc, http);
-        }
         PeerSession {
-            stream,
+            stream: lines_of(alloc, socket, keys_where_known(proxy, http)),
             session: BufferedSession::new(alloc, NO_LIMITS.lines),
             proxy,
             http,
@@ -196,13 +195,12 @@ impl PeerSession {
     fn respond(&mut self)
         ensures { self.new ≡ self.old }
     {
-        if !self.session.unsent().is_empty() || self.session.waiting() != 0 {
+        if !is_answered(&self.session) {
             return;
         }
-        match (self.stage, self.session.end()) {
-            (Stage::Serving, None) if self.unread.is_empty() => self.stream.respond(false),
-            (Stage::Serving | Stage::Ending, Some(End::Quit)) => self.stream.respond(true),
-            _ => {}
+        let all = self.unread.is_empty();
+        if let Some(ended) = ends_in(self.stage, self.session.end(), all) {
+            self.stream.respond(ended);
         }
     }
 
@@ -413,6 +411,46 @@ fn anyone_where_known(proxy: Option<NameOf>) -> Option<Peer>
     match proxy {
         Some(_) => None,
         None => Some(Peer::Anyone),
+    }
+}
+
+/// The keys of what carries lines over HTTP from the start, where no header comes first.
+fn keys_where_known(proxy: Option<NameOf>, http: Option<RandomState>) -> Option<RandomState>
+    ensures { IsSome proxy → result ≡ None }
+{
+    match proxy {
+        Some(_) => None,
+        None => http,
+    }
+}
+
+/// The lines of a socket, which are carried over HTTP from the start where there are keys.
+fn lines_of(alloc: Global, socket: Socket, keys: Option<RandomState>) -> LineStream
+    ensures carried { carried result ≡ record { received = []; sent = [] } }
+    ensures before { IfSome (before_of result.http) (λ before. before ≡ []) }
+    ensures none { keys ≡ None → before_of result.http ≡ None }
+{
+    let mut stream = LineStream::new(socket);
+    stream.begin(alloc, keys);
+    stream
+}
+
+/// Whether all lines that the session was fed are answered, and the replies were taken.
+fn is_answered(session: &BufferedSession) -> bool
+    ensures { result ≡ true → Replies session.now.fed session.now.sent 0 session.now.ended }
+{
+    session.unsent().is_empty() && session.waiting() == 0
+}
+
+/// Whether the session has ended in the request in hand, where that may be responded to: all bytes that were read of it were taken,
+/// or the session was ended by QUIT.
+fn ends_in(stage: Stage, end: Option<End>, all: bool) -> Option<bool>
+    ensures { IfSome result (λ ended. EndsIn stage end all ended) }
+{
+    match (stage, end) {
+        (Stage::Serving, None) if all => Some(false),
+        (Stage::Serving | Stage::Ending, Some(End::Quit)) => Some(true),
+        _ => None,
     }
 }
 
