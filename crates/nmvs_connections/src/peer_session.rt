@@ -198,7 +198,7 @@ impl PeerSession {
         if !is_answered(&self.session) {
             return;
         }
-        let all = self.unread.is_empty();
+        let all = self.unread.as_slice().is_empty();
         if let Some(ended) = ends_in(self.stage, self.session.end(), all) {
             self.stream.respond(ended);
         }
@@ -418,10 +418,7 @@ fn anyone_where_known(proxy: Option<NameOf>) -> Option<Peer>
 fn keys_where_known(proxy: Option<NameOf>, http: Option<RandomState>) -> Option<RandomState>
     ensures { IsSome proxy → result ≡ None }
 {
-    match proxy {
-        Some(_) => None,
-        None => http,
-    }
+    if proxy.is_some() { None } else { http }
 }
 
 /// The lines of a socket, which are carried over HTTP from the start where there are keys.
