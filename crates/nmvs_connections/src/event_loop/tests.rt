@@ -421,3 +421,52 @@ fn a_header_names_the_peer_of_requests(rt: HostRuntime) -> Result<(), Fail> {
     assert!(rt; nameless.is_empty());
     Ok(())
 }
+
+/// A request comes whole within 30 seconds of its first byte, however many bytes come, or is told that it is late.
+#[test]
+fn a_request_has_a_deadline(rt: HostRuntime) -> Result<(), Fail> {
+    let alloc = rt.alloc();
+    let metrics = Metrics::new(alloc, 1, 1, false)?;
+    let (pool, _pollers, poller) = WorkerPool::open(&rt, alloc, 1, bounds(None), &metrics)?;
+    let mut scratch = Scratch::new(alloc, Instant::now(&rt)?);
+    let start = scratch.now;
+    let mut event_loop = EventLoop::new(alloc, 0, start);
+    let keys = Some(RandomState::new(&rt)?);
+    let mut dripping = connect_over(&rt, &mut event_loop, &pool, &poller, &scratch, keys)?;
+    let mut desk = Counting {
+        peer: Peer::Anyone,
+        releases: 0,
+        answers: 0,
+    };
+    let mut told = Vec::new(alloc);
+    for (second, drip, most) in [
+        (60, b"POST".as_slice(), 0),
+        (89, b" /v1", 0),
+        (90, b"/lin", 0),
+        (91, b"es", 400),
+    ] {
+        let later = start.checked_add(Duration::from_secs(second));
+        scratch.now = later.expect(&rt, "a moment");
+        dripping.write_all(drip)?;
+        event_loop.queue(0);
+        for _ in 0..8 {
+            let mut withheld = WithheldAnswers::new();
+            event_loop.take_turns(&rt, &pool, &mut scratch, &mut withheld, &mut desk);
+        }
+        read_all(&mut dripping, &mut told)?;
+        assert!(rt; told.len() <= most, "{second}");
+        event_loop.check_timeouts(&rt, &pool, scratch.now);
+    }
+    let wanted = joined(
+        &rt,
+        alloc,
+        &[
+            "HTTP/1.1 408 Request Timeout\r\n",
+            PROBLEM,
+            "connection: close\r\ncontent-length: 96\r\n\r\n",
+            "{\"type\":\"about:blank\",\"title\":\"Request Timeout\",\"status\":408,\"fault\":\"TIMEOUT\",\"recorded\":\"no\"}\n",
+        ],
+    );
+    assert_eq!(rt; str::from_utf8(told.as_slice()), str::from_utf8(wanted.as_slice()));
+    Ok(())
+}
