@@ -1,6 +1,6 @@
 -- How the lines of a connection stay those that its stream carries, from one step to the next.
-use Rattle.std.proofs.Common.{◌≡◌, ◌≤◌, ◌⊎◌, inl, inr, ℕ, Bool, true, false, cond, List, [], ◌++◌, length, Option, Some, None, take, drop, codes, refl, sym, ap, subst, ◌∙◌}
-use Rattle.std.proofs.lemmas.List.{append-nil, append_assoc, take-append-drop}
+use Rattle.std.proofs.Common.{◌≡◌, ◌≤◌, ◌⊎◌, inl, inr, ℕ, Bool, true, false, cond, List, [], ◌++◌, length, Option, Some, None, take, drop, codes, arith, refl, sym, ap, subst, ◌∙◌}
+use Rattle.std.proofs.lemmas.List.{append-nil, append_assoc, length-append, take-append-drop}
 use Rattle.nmvs_messages.specs.declared.peer.NameOf.{NameOf}
 use Rattle.nmvs_messages.specs.declared.peer.Peer.{Peer}
 use Rattle.nmvs_connections.specs.declared.peer_session.Stage.{Stage}
@@ -9,21 +9,19 @@ use Rattle.nmvs_connections.specs.declared.line_stream.Http.{Http}
 use Rattle.nmvs_connections.specs.Traffic.{Traffic}
 use Rattle.nmvs_connections.specs.LineStreams.{AnswersOver, Behind, EndsIn, IsBehind, LineStreamState, before_of, carried}
 use Rattle.nmvs_connections.specs.Peers.{Holds, NamesPeer}
-use Rattle.std.specs.Prelude.{IfSome, IsSome}
-use Rattle.std.specs.Option.{is_some}
+use Rattle.std.specs.Prelude.{IfSome}
 use Rattle.nmvs_connections.specs.Streams.{Reads, Writes}
 use Rattle.nmvs_connections.specs.Replies.{Leaves, Replies}
 use Rattle.nmvs_messages.specs.declared.answer.Answer.{Answer}
 use Rattle.nmvs_messages.specs.declared.end.End.{End}
 use Rattle.nmvs_messages.specs.declared.end.End.TheVariants as ends
-use Rattle.nmvs_messages.specs.declared.peer.Peer.TheVariants as peers
 use Rattle.nmvs_protocol.specs.Session.{session_text}
-use Rattle.nmvs_stream.specs.InputLines.{input_lines}
+use Rattle.nmvs_stream.specs.InputLines.{input_lines, lines_after}
 use Rattle.nmvs_connections.specs.declared.socket.Moved.{Moved}
 use Rattle.nmvs_connections.specs.declared.socket.Moved.TheVariants as moved
 use Rattle.nmvs_connections.specs.ProxyHeader.{ReadsProxyHeader}
 use Rattle.nmvs_connections.specs.declared.proxy_header.ProxyHeader.TheVariants as proxy_headers
-use Rattle.nmvs_connections.proofs.PeerSteps.{holds_awaiting, holds_lingering, holds_named, holds_new, holds_notice, holds_over, holds_quiet, holds_read, holds_sent, holds_taken, nothing, quiet}
+use Rattle.nmvs_connections.proofs.PeerSteps.{holds_lingering, holds_named, holds_notice, holds_over, holds_quiet, holds_read, holds_sent, holds_taken, nothing, quiet}
 
 -- what holds of a peer's session: its bytes are those of its header, its lines and its replies, and its lines are carried so
 abbrev pub Stands : Option NameOf → Option Peer → Stage → Traffic → Option (List ℕ) → List ℕ → List ℕ → List ℕ → Type 0
@@ -196,20 +194,6 @@ answers_over (Some peer) {stage = stage} {fed = fed} {replies = replies} {unread
       };
     }
 
--- a connection from which nothing was read
-pub stands_new : (proxy : Option NameOf) (peer : Option Peer) (t : Traffic) (before : Option (List ℕ)) → t ≡ record { received = []; sent = [] } → peer ≡ cond (is_some proxy) None (Some peers.Anyone)
-    → (IsSome proxy → before ≡ None) → IfSome before (λ b. b ≡ []) → Stands proxy peer stages.Serving t before [] [] []
-stands_new None peer t None fresh known awaits is =
-    subst (λ (p : Option Peer). Stands None p stages.Serving t None [] [] []) (sym known) (subst (λ (u : Traffic). Stands None (Some peers.Anyone) stages.Serving u None [] [] []) (sym fresh) (holds_new, tt))
-stands_new None peer t (Some before) fresh known awaits is =
-    subst (λ (p : Option Peer). Stands None p stages.Serving t (Some before) [] [] []) (sym known)
-    (subst (λ (u : Traffic). Stands None (Some peers.Anyone) stages.Serving u (Some before) [] [] []) (sym fresh)
-    (holds_new, record { rest = []; received_is = sym (append-nil before ∙ is); left = λ _. refl }))
-stands_new (Some name_of) peer t before fresh known awaits is =
-    subst (λ (b : Option (List ℕ)). Stands (Some name_of) peer stages.Serving t b [] [] []) (sym (awaits tt))
-    (subst (λ (p : Option Peer). Stands (Some name_of) p stages.Serving t None [] [] []) (sym known)
-    (subst (λ (u : Traffic). Stands (Some name_of) None stages.Serving u None [] [] []) (sym fresh) (holds_awaiting name_of, tt)))
-
 -- bytes are let go, or none came
 pub stands_discarded : {proxy : Option NameOf} {peer : Option Peer} {stage : Stage} {fed replies unread : List ℕ} (t t' : Traffic) (before before' : Option (List ℕ)) (buffer : List ℕ) (m : Moved) → stage ≡ stages.Lingering
     → Reads t t' buffer m ⊎ (t' ≡ t) → before' ≡ before → Stands proxy peer stage t before fed replies unread → Stands proxy peer stage t' before' fed replies unread
@@ -217,3 +201,21 @@ stands_discarded t t' before before' buffer m lingers (inr same) kept s = stands
 stands_discarded t t' before before' buffer (moved.Bytes count) lingers (inl r) kept s = stands_lingering t t' before before' (take count buffer) lingers r.1 kept s
 stands_discarded t t' before before' buffer moved.Blocked lingers (inl r) kept s = stands_same t t' before before' r kept s
 stands_discarded t t' before before' buffer moved.Over lingers (inl r) kept s = stands_same t t' before before' r kept s
+
+no_lines : input_lines [] ≡ []
+unfolding lines_after
+no_lines = refl
+
+-- a session that was fed nothing has told nothing
+pub told_nothing : {proxy : Option NameOf} (peer : Option Peer) (stage : Stage) (fed replies unsent unread : List ℕ) (waiting : ℕ) (end : Option End) (t : Traffic) (before : Option (List ℕ)) → peer ≡ None → stage ≡ stages.Serving
+    → Replies fed (replies ++ unsent) waiting end → Stands proxy peer stage t before fed replies unread → t.sent ≡ []
+told_nothing {proxy = proxy} peer stage fed replies unsent unread waiting end t before none serving r s =
+    let empty : fed ≡ [] = fed_nothing proxy peer s.0.header fed none s.0.named in
+    let lines : r.answered ++ r.left ≡ [] = sym r.these ∙ ap input_lines empty ∙ no_lines in
+    let answered : length r.answered ≡ 0 = let n = length-append r.answered r.left in let m = ap (λ (l : List (List ℕ)). length l) lines in omega (arith, n, m) in
+    let said : r.said ≡ [] = nothing r.said (r.one ∙ answered) in
+    let text : (replies ++ unsent) ++ r.untold ≡ [] = sym r.text_is ∙ ap session_text said in
+    let all : length (replies ++ (unsent ++ r.untold)) ≡ 0 = ap (λ (l : List ℕ). length l) (sym (append_assoc replies unsent r.untold) ∙ text) in
+    let gone : replies ≡ [] = nothing replies (let n = length-append replies (unsent ++ r.untold) in omega (arith, n, all)) in
+    let goes_on : stage ≡ stages.Lingering → ⊥ = λ lingers. absurd (cc (serving, lingers)) in
+    s.0.sent_is ∙ (λ i. gone i ++ quiet stage s.0.notice goes_on s.0.ended i)
