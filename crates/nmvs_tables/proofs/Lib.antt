@@ -2,6 +2,8 @@ pub mod BoolLemmas
 pub mod CodesLemmas
 pub mod PacksLemmas
 pub mod LinkLemmas
+pub mod OnwardLemmas
+pub mod CursorLemmas
 pub mod BatchTableLemmas
 pub mod CountLemmas
 pub mod OwnLemmas

@@ -7,12 +7,15 @@
 mod batches;
 mod codes;
 mod counts;
+mod cursor;
 mod hash_key;
+mod links;
 mod listing;
 mod packs;
 mod tables;
 mod writes;
 
+pub use cursor::{Cursor, cursors_stay};
 pub use hash_key::HashKey;
 pub use packs::PackRecord;
 pub use tables::{Found, Tables};
