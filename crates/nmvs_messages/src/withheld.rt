@@ -21,29 +21,29 @@ pub struct Basis {
 /// A desk's answer that can't be put in words before the desk has released it, and what it rests on: that has to be kept
 /// first, where answers wait for a journal.
 #[derive(Drop)]
-pub struct Withheld<'a> {
-    answer: Answer<'a>,
+pub struct Withheld {
+    answer: Answer,
     basis: Option<Basis>,
 }
 
 /// An unused place of a list has it.
-impl<'a> Default for Withheld<'a> {
-    fn default() -> Withheld<'a> {
+impl Default for Withheld {
+    fn default() -> Withheld {
         Withheld::new(Content::Bye)
     }
 }
 
-impl<'a> Withheld<'a> {
+impl Withheld {
     /// Holds an answer that rests on no entry, to a line without a tag.
-    pub fn new(content: Content<'a>) -> Withheld<'a>
-        ensures { result ≡ plain content.entry }
+    pub fn new(content: Content) -> Withheld
+        ensures { result ≡ plain content }
     {
         Withheld::resting_on(None, content)
     }
 
     /// Holds an answer that rests on these entries, if on any, to a line without a tag.
-    pub fn resting_on(basis: Option<Basis>, content: Content<'a>) -> Withheld<'a>
-        ensures { result ≡ withheld_on basis content.entry }
+    pub fn resting_on(basis: Option<Basis>, content: Content) -> Withheld
+        ensures { result ≡ withheld_on basis content }
     {
         let answer = Answer { tag: None, content };
         Withheld { answer, basis }
@@ -56,19 +56,15 @@ impl<'a> Withheld<'a> {
         self.answer.tag = tag;
     }
 
-    /// Whether its text may be long: that of an audit which shows entries, or of a report.
+    /// Whether its text may be long: that of a report.
     pub fn is_long(&self) -> bool
         ensures { result ≡ is_long self.now.answer }
     {
-        match &self.answer.content {
-            Content::Replied(_, shown) => !shown.entries().is_empty(),
-            Content::Reported(_) => true,
-            _ => false,
-        }
+        matches!(self.answer.content, Content::Reported(_))
     }
 
     /// The answer, once it is released.
-    pub(crate) fn answer(&self) -> &Answer<'a>
+    pub(crate) fn answer(&self) -> &Answer
         ensures { result.now ≡ self.now.answer }
     {
         &self.answer
@@ -94,7 +90,7 @@ fn is_basis_kept(basis: Option<Basis>, kept: &[usize]) -> bool
     }
 }
 
-fn is_of_repository(answer: &Answer<'_>) -> bool
+fn is_of_repository(answer: &Answer) -> bool
     ensures { result ≡ of_repository answer.now }
 {
     matches!(answer.content, Content::Replied(..) | Content::Reported(_))
@@ -102,11 +98,11 @@ fn is_of_repository(answer: &Answer<'_>) -> bool
 
 /// Answers that are withheld, in the order of their lines. A desk releases them together.
 #[derive(Drop)]
-pub struct WithheldAnswers<'a> {
-    list: ArrayVec<Withheld<'a>, MOST_WITHHELD>,
+pub struct WithheldAnswers {
+    list: ArrayVec<Withheld, MOST_WITHHELD>,
 }
 
-impl<'a> Model for WithheldAnswers<'a> {
+impl Model for WithheldAnswers {
     ghost use Rattle.std.specs.Prelude.{List};
     ghost use Rattle.nmvs_messages.specs.declared.withheld.Withheld.{Withheld as TheWithheld};
 
@@ -115,9 +111,9 @@ impl<'a> Model for WithheldAnswers<'a> {
     ghost view = { λ h. h.list.items };
 }
 
-impl<'a> WithheldAnswers<'a> {
+impl WithheldAnswers {
     /// None yet.
-    pub fn new() -> WithheldAnswers<'a>
+    pub fn new() -> WithheldAnswers
         ensures { result ≡ [] }
     {
         WithheldAnswers {
@@ -126,9 +122,9 @@ impl<'a> WithheldAnswers<'a> {
     }
 
     /// Holds one more.
-    pub fn push(&mut self, withheld: Withheld<'a>)
+    pub fn push(&mut self, withheld: Withheld)
         requires { length self.old < MOST_WITHHELD }
-        ensures { self.new ≡ self.old ++ withheld.entry ∷ [] }
+        ensures { self.new ≡ self.old ++ withheld ∷ [] }
     {
         self.list.push(withheld);
     }
@@ -173,7 +169,7 @@ impl<'a> WithheldAnswers<'a> {
     }
 
     /// The answers, for telling. A desk that lets them be told calls it.
-    pub fn release(&self) -> Released<'_, 'a>
+    pub fn release(&self) -> Released<'_>
         ensures { AreReleased (λ withheld said. said ≡ withheld.answer) self.now result }
     {
         Released {
@@ -183,7 +179,7 @@ impl<'a> WithheldAnswers<'a> {
 
     /// The answers, for telling, where so many entries of each shard are kept. Of a reply or a report that rests on more the
     /// line is turned away.
-    pub fn release_kept(&mut self, kept: &[usize]) -> Released<'_, 'a>
+    pub fn release_kept(&mut self, kept: &[usize]) -> Released<'_>
         ensures { AreReleased (λ withheld said. said ≡ told_where kept.now withheld) self.old result }
     {
         turn_all_unkept(self.list.as_mut_slice(), kept);
@@ -193,7 +189,7 @@ impl<'a> WithheldAnswers<'a> {
     }
 }
 
-fn turn_all_unkept(list: &mut [Withheld<'_>], kept: &[usize])
+fn turn_all_unkept(list: &mut [Withheld], kept: &[usize])
     ensures { map answer_of list.new ≡ map (told_where kept.now) list.old }
 {
     for withheld in list.iter_mut() {
@@ -203,11 +199,11 @@ fn turn_all_unkept(list: &mut [Withheld<'_>], kept: &[usize])
 
 /// Answers that their desk has released, in the order of their lines.
 #[derive(Drop)]
-pub struct Released<'h, 'a> {
-    list: &'h [Withheld<'a>],
+pub struct Released<'h> {
+    list: &'h [Withheld],
 }
 
-impl<'h, 'a> Model for Released<'h, 'a> {
+impl<'h> Model for Released<'h> {
     ghost use Rattle.std.specs.Prelude.{List, map};
     ghost use Rattle.nmvs_messages.specs.declared.answer.Answer.{Answer as TheAnswer};
     ghost use Rattle.nmvs_messages.specs.Withheld.{answer_of};
@@ -217,9 +213,9 @@ impl<'h, 'a> Model for Released<'h, 'a> {
     ghost view = { λ r. map answer_of r.list.now };
 }
 
-impl<'h, 'a> Released<'h, 'a> {
+impl<'h> Released<'h> {
     /// So many of them from this place on, where there are so many.
-    pub fn part(&self, first: usize, count: usize) -> Option<Released<'h, 'a>>
+    pub fn part(&self, first: usize, count: usize) -> Option<Released<'h>>
         ensures there { IsSome result ↔ (first + count ≤ length self.now) }
         ensures part { IfSome result (λ part. part ≡ take count (drop first self.now)) }
     {
@@ -235,7 +231,7 @@ impl<'h, 'a> Released<'h, 'a> {
     }
 
     /// The answer at this place, where there is one.
-    pub fn answer(&self, place: usize) -> Option<&Answer<'a>>
+    pub fn answer(&self, place: usize) -> Option<&Answer>
         ensures { option_copied result ≡ slice_get self.now place }
     {
         match self.list.get(place) {
@@ -245,7 +241,7 @@ impl<'h, 'a> Released<'h, 'a> {
     }
 
     /// The first of them and those behind it, where there is one.
-    pub fn split_first(&self) -> Option<(&'h Answer<'a>, Released<'h, 'a>)>
+    pub fn split_first(&self) -> Option<(&'h Answer, Released<'h>)>
         ensures first { IfSome result (λ cut. self.now ≡ cut.0.now ∷ cut.1) }
         ensures none { IfNone result (self.now ≡ []) }
     {
