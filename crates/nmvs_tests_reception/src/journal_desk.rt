@@ -111,6 +111,7 @@ fn ask_by_log<
     repository: &'s Repository<'a, H>,
     clerk: Clerk<'a, J, H>,
     metrics: &'s Metrics,
+    alerts: &'s Alerts,
     history: UnnamedLog,
     file: FakeFile<'_>,
 ) -> usize
@@ -125,8 +126,7 @@ fn ask_by_log<
     let log = opened.expect(rt, "memory");
     let clock = ProgramClock::new(rt, Moment::new(NEW_YEAR));
     let counts = metrics.worker(0);
-    let alerts = Alerts::new(alloc, true);
-    let desk = ClerkDesk::new(rt, clerk, repository, latest, None, clock, counts, &alerts);
+    let desk = ClerkDesk::new(rt, clerk, repository, latest, None, clock, counts, alerts);
     let mut desk = JournalDesk::new(desk, &log, log.confirmed(rt));
     ask_while_written(rt, alloc, &log, &mut desk, calls)
 }
@@ -159,7 +159,17 @@ fn in_repository<
     } = opened;
     let clerk = clerks.pop().expect(rt, "a clerk");
     let metrics = Metrics::new(*alloc, 1, 1, true).expect(rt, "memory");
-    ask_by_log::<J, H, Brand, R>(rt, latest, &repository, clerk, &metrics, history, file)
+    let alerts = Alerts::new(*alloc, true);
+    ask_by_log::<J, H, Brand, R>(
+        rt,
+        latest,
+        &repository,
+        clerk,
+        &metrics,
+        &alerts,
+        history,
+        file,
+    )
 }
 
 /// Asks at a repository whose directory has one user.
