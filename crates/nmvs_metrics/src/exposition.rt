@@ -3,7 +3,7 @@ ghost use Rattle.std.specs.Prelude.{◌≡◌, IfOk, string_bytes};
 ghost use Rattle.std.specs.List.{flat_map};
 ghost use Rattle.nmvs_metrics.specs.Page as specs;
 
-use crate::{Answered, Bucket, Counted, LogSnapshot, Numbered, Snapshot};
+use crate::{Answered, Bucket, Counted, Histogram, LogSnapshot, Numbered, Snapshot};
 use itoa::Buffer;
 use std::alloc::{AllocError, Global};
 
@@ -70,11 +70,6 @@ fn resident_text(alloc: Global, bytes: Option<u64>) -> Result<String, AllocError
 fn lines_text(alloc: Global, snapshot: &Snapshot) -> Result<String, AllocError>
     ensures { IfOk result (λ text. string_bytes text ≡ specs.lines_text snapshot.now) }
 {
-    let reports = Family {
-        name: "nmvs_reports_total",
-        kind: "counter",
-        help: "Reports on product codes.",
-    };
     let faults = Family {
         name: "nmvs_faults_total",
         kind: "counter",
@@ -82,9 +77,29 @@ fn lines_text(alloc: Global, snapshot: &Snapshot) -> Result<String, AllocError>
     };
     let questions = questions_text(alloc, &snapshot.answered)?;
     let warnings = warnings_text(alloc, snapshot)?;
-    let reports = single(alloc, reports, snapshot.reports)?;
+    let replies = replies_text(alloc, snapshot)?;
     let faults = worded(alloc, faults, "fault", &snapshot.faults)?;
-    format!(in alloc; "{questions}{warnings}{reports}{faults}")
+    format!(in alloc; "{questions}{warnings}{replies}{faults}")
+}
+
+/// How many reports there were, and how long replies took.
+#[tactic(auto, unfolding(crate::specs::Page::replies_text))]
+fn replies_text(alloc: Global, snapshot: &Snapshot) -> Result<String, AllocError>
+    ensures { IfOk result (λ text. string_bytes text ≡ specs.replies_text snapshot.now) }
+{
+    let reports = Family {
+        name: "nmvs_reports_total",
+        kind: "counter",
+        help: "Reports on product codes.",
+    };
+    let replies = Family {
+        name: "nmvs_reply_seconds",
+        kind: "histogram",
+        help: "Seconds from a line to the release of its reply, or more.",
+    };
+    let reports = single(alloc, reports, snapshot.reports)?;
+    let replies = histogram_text(alloc, replies, &snapshot.replies)?;
+    format!(in alloc; "{reports}{replies}")
 }
 
 #[tactic(auto, unfolding(crate::specs::Page::warnings_text))]
@@ -169,7 +184,12 @@ fn log_text(alloc: Global, log: &Option<LogSnapshot>) -> Result<String, AllocErr
     };
     let confirmed = numbered(alloc, confirmed, "shard", &log.confirmed)?;
     let waiting = numbered(alloc, waiting, "shard", &log.waiting)?;
-    let syncs = syncs_text(alloc, &log.syncs, log.nanoseconds)?;
+    let syncs = Family {
+        name: "nmvs_journal_sync_seconds",
+        kind: "histogram",
+        help: "Seconds that a sync of a journal's file took.",
+    };
+    let syncs = histogram_text(alloc, syncs, &log.syncs)?;
     let health = log_health_text(alloc, log)?;
     format!(in alloc; "{confirmed}{waiting}{syncs}{health}")
 }
@@ -354,33 +374,28 @@ fn answered_line(alloc: Global, answered: &Answered) -> Result<String, AllocErro
     format!(in alloc; "nmvs_questions_total{{question=\"{question}\",reply=\"{reply}\"}} {count}\n")
 }
 
-/// The histogram of syncs, by how long they took.
-#[tactic(auto, unfolding(crate::specs::Page::syncs_text))]
-fn syncs_text(alloc: Global, syncs: &[Bucket], nanoseconds: u64) -> Result<String, AllocError>
-    ensures { IfOk result (λ text. string_bytes text ≡ specs.syncs_text syncs.now nanoseconds) }
+/// A histogram of one name: its buckets, the seconds of all, and how often there were any.
+#[tactic(auto, unfolding(crate::specs::Page::histogram_text))]
+fn histogram_text(alloc: Global, family: Family, times: &Histogram) -> Result<String, AllocError>
+    ensures { IfOk result (λ text. string_bytes text ≡ specs.histogram_text family.name.now family.kind.now family.help.now times.now) }
 {
-    let family = Family {
-        name: "nmvs_journal_sync_seconds",
-        kind: "histogram",
-        help: "Seconds that a sync of a journal's file took.",
-    };
+    let (name, nanoseconds) = (family.name, times.nanoseconds);
     let head = heading(alloc, family)?;
-    let (buckets, count) = bucket_lines(alloc, syncs)?;
-    let count = sample(alloc, "nmvs_journal_sync_seconds_count", count)?;
-    format!(in alloc; "{head}{buckets}nmvs_journal_sync_seconds_sum {nanoseconds}e-9\n{count}")
+    let (buckets, count) = bucket_lines(alloc, name, &times.buckets)?;
+    format!(in alloc; "{head}{buckets}{name}_sum {nanoseconds}e-9\n{name}_count {count}\n")
 }
 
 /// The lines of the buckets, each with what those before it count, and what all of them count.
-fn bucket_lines(alloc: Global, syncs: &[Bucket]) -> Result<(String, u64), AllocError>
-    ensures lines { IfOk result (λ made. string_bytes made.0 ≡ specs.bucket_lines 0 syncs.now) }
-    ensures count { IfOk result (λ made. made.1 ≡ specs.sync_count 0 syncs.now) }
+fn bucket_lines(alloc: Global, name: &str, buckets: &[Bucket]) -> Result<(String, u64), AllocError>
+    ensures lines { IfOk result (λ made. string_bytes made.0 ≡ specs.bucket_lines name.now 0 buckets.now) }
+    ensures count { IfOk result (λ made. made.1 ≡ specs.bucket_count 0 buckets.now) }
 {
     let mut text = String::new(alloc);
     let mut count = 0u64;
-    let mut rest = syncs;
+    let mut rest = buckets;
     while let [bucket, later @ ..] = rest {
         count = count.saturating_add(bucket.count);
-        let line = bucket_line(alloc, bucket.bound, count)?;
+        let line = bucket_line(alloc, name, bucket.bound, count)?;
         text.push_str(&line)?;
         rest = later;
     }
@@ -388,14 +403,8 @@ fn bucket_lines(alloc: Global, syncs: &[Bucket]) -> Result<(String, u64), AllocE
 }
 
 #[tactic(auto, unfolding(crate::specs::Page::bucket_line))]
-fn bucket_line(alloc: Global, bound: &str, count: u64) -> Result<String, AllocError>
-    ensures { IfOk result (λ line. string_bytes line ≡ specs.bucket_line bound.now count) }
+fn bucket_line(alloc: Global, name: &str, bound: &str, count: u64) -> Result<String, AllocError>
+    ensures { IfOk result (λ line. string_bytes line ≡ specs.bucket_line name.now bound.now count) }
 {
-    labelled(
-        alloc,
-        "nmvs_journal_sync_seconds_bucket",
-        "le",
-        bound,
-        count,
-    )
+    format!(in alloc; "{name}_bucket{{le=\"{bound}\"}} {count}\n")
 }
