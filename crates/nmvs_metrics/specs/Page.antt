@@ -131,14 +131,23 @@ log_health_text j =
     ++ (single (codes "nmvs_log_failed") (codes "gauge") (codes "Whether the log failed, 1 or 0.") (if j.has_failed then 1 else 0)
     ++ writing_text j.writing)
 
+-- how many entries a log has confirmed, and how many it has not yet
+unfoldable pub log_entries_text : LogSnapshot → List ℕ
+log_entries_text j =
+    numbered (codes "nmvs_journal_confirmed_entries") (codes "gauge") (codes "Entries that the journals have confirmed, by shard.") (codes "shard") j.confirmed.items
+    ++ numbered (codes "nmvs_journal_waiting_entries") (codes "gauge") (codes "Entries that the journals have not confirmed yet, by shard.") (codes "shard") j.waiting.items
+
+-- the samples of a log
+unfoldable pub log_lines : LogSnapshot → List ℕ
+log_lines j =
+    log_entries_text j
+    ++ (histogram_text (codes "nmvs_journal_sync_seconds") (codes "histogram") (codes "Seconds that a sync of a journal's file took.") j.syncs
+    ++ log_health_text j)
+
 -- the samples of the log, where there is one
 unfoldable pub log_text : Option LogSnapshot → List ℕ
 log_text None = []
-log_text (Some j) =
-    numbered (codes "nmvs_journal_confirmed_entries") (codes "gauge") (codes "Entries that the journals have confirmed, by shard.") (codes "shard") j.confirmed.items
-    ++ (numbered (codes "nmvs_journal_waiting_entries") (codes "gauge") (codes "Entries that the journals have not confirmed yet, by shard.") (codes "shard") j.waiting.items
-    ++ (histogram_text (codes "nmvs_journal_sync_seconds") (codes "histogram") (codes "Seconds that a sync of a journal's file took.") j.syncs
-    ++ log_health_text j))
+log_text (Some j) = log_lines j
 
 -- the sample of the memory of the process, where the system reports it
 unfoldable pub resident_text : Option ℕ → List ℕ
