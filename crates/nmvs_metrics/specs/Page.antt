@@ -7,6 +7,7 @@ use Rattle.nmvs_metrics.specs.declared.snapshot.Answered.{Answered}
 use Rattle.nmvs_metrics.specs.declared.snapshot.Counted.{Counted}
 use Rattle.nmvs_metrics.specs.declared.snapshot.Numbered.{Numbered}
 use Rattle.nmvs_metrics.specs.declared.snapshot.Bucket.{Bucket}
+use Rattle.nmvs_metrics.specs.declared.snapshot.Histogram.{Histogram}
 use Rattle.nmvs_metrics.specs.declared.snapshot.LogSnapshot.{LogSnapshot}
 use Rattle.nmvs_metrics.specs.declared.snapshot.Snapshot.{Snapshot}
 
@@ -54,28 +55,29 @@ numbered name type help label numbers = heading name type help ++ flat_map (numb
 abbrev pub together : ℕ → ℕ → ℕ
 together one other = min (one + other) (2 ^ 64 - 1)
 
--- the line of a bucket of syncs that take no longer than this
-unfoldable pub bucket_line : List ℕ → ℕ → List ℕ
-bucket_line bound count = labelled (codes "nmvs_journal_sync_seconds_bucket") (codes "le") bound count
+-- the line of a bucket of what takes no longer than this
+unfoldable pub bucket_line : List ℕ → List ℕ → ℕ → List ℕ
+bucket_line name bound count =
+    name ++ (codes "_bucket{le=\"" ++ (bound ++ (codes "\"} " ++ (decimal count ++ codes "\n"))))
 
--- the lines of the buckets of syncs, where so many are below the first: each counts what those before it count, too
-abbrev pub bucket_lines : ℕ → List Bucket → List ℕ
-bucket_lines below [] = []
-bucket_lines below (b ∷ bs) =
-    bucket_line b.bound.now (together below b.count) ++ bucket_lines (together below b.count) bs
+-- the lines of the buckets of one name, where so many are below the first: each counts what those before it count, too
+abbrev pub bucket_lines : List ℕ → ℕ → List Bucket → List ℕ
+bucket_lines name below [] = []
+bucket_lines name below (b ∷ bs) =
+    bucket_line name b.bound.now (together below b.count) ++ bucket_lines name (together below b.count) bs
 
--- how many syncs there are, where so many are below the first of these buckets
-abbrev pub sync_count : ℕ → List Bucket → ℕ
-sync_count below [] = below
-sync_count below (b ∷ bs) = sync_count (together below b.count) bs
+-- how many there are in buckets, where so many are below the first of them
+abbrev pub bucket_count : ℕ → List Bucket → ℕ
+bucket_count below [] = below
+bucket_count below (b ∷ bs) = bucket_count (together below b.count) bs
 
--- the histogram of syncs: their buckets, the seconds of all of them, and how many there were
-unfoldable pub syncs_text : List Bucket → ℕ → List ℕ
-syncs_text buckets nanoseconds =
-    heading (codes "nmvs_journal_sync_seconds") (codes "histogram") (codes "Seconds that a sync of a journal's file took.")
-    ++ (bucket_lines 0 buckets
-    ++ (codes "nmvs_journal_sync_seconds_sum " ++ (decimal nanoseconds ++ (codes "e-9\n"
-    ++ sample (codes "nmvs_journal_sync_seconds_count") (sync_count 0 buckets)))))
+-- a histogram of one name: its buckets, the seconds of all, and how many there were
+unfoldable pub histogram_text : List ℕ → List ℕ → List ℕ → Histogram → List ℕ
+histogram_text name type help h =
+    heading name type help
+    ++ (bucket_lines name 0 h.buckets.items
+    ++ (name ++ (codes "_sum " ++ (decimal h.nanoseconds ++ (codes "e-9\n"
+    ++ (name ++ (codes "_count " ++ (decimal (bucket_count 0 h.buckets.items) ++ codes "\n"))))))))
 
 -- the questions that were answered, by kind and reply
 unfoldable pub questions_text : List Answered → List ℕ
@@ -89,12 +91,18 @@ warnings_text f =
     worded (codes "nmvs_refusals_total") (codes "counter") (codes "Questions that the repository refused, by the word of the refusal.") (codes "refusal") f.refusals.items
     ++ worded (codes "nmvs_alerts_flagged_total") (codes "counter") (codes "Alerts that were flagged as potential falsifications, by their cause.") (codes "cause") f.alerts.items
 
+-- how many reports there were, and how long replies took
+unfoldable pub replies_text : Snapshot → List ℕ
+replies_text f =
+    single (codes "nmvs_reports_total") (codes "counter") (codes "Reports on product codes.") f.reports
+    ++ histogram_text (codes "nmvs_reply_seconds") (codes "histogram") (codes "Seconds from a line to the release of its reply, or more.") f.replies
+
 -- the samples of lines
 unfoldable pub lines_text : Snapshot → List ℕ
 lines_text f =
     questions_text f.answered.items
     ++ (warnings_text f
-    ++ (single (codes "nmvs_reports_total") (codes "counter") (codes "Reports on product codes.") f.reports
+    ++ (replies_text f
     ++ worded (codes "nmvs_faults_total") (codes "counter") (codes "Lines and connections that were answered with a fault, by its word.") (codes "fault") f.faults.items))
 
 -- the samples of connections
@@ -123,14 +131,23 @@ log_health_text j =
     ++ (single (codes "nmvs_log_failed") (codes "gauge") (codes "Whether the log failed, 1 or 0.") (if j.has_failed then 1 else 0)
     ++ writing_text j.writing)
 
+-- how many entries a log has confirmed, and how many it has not yet
+unfoldable pub log_entries_text : LogSnapshot → List ℕ
+log_entries_text j =
+    numbered (codes "nmvs_journal_confirmed_entries") (codes "gauge") (codes "Entries that the journals have confirmed, by shard.") (codes "shard") j.confirmed.items
+    ++ numbered (codes "nmvs_journal_waiting_entries") (codes "gauge") (codes "Entries that the journals have not confirmed yet, by shard.") (codes "shard") j.waiting.items
+
+-- the samples of a log
+unfoldable pub log_lines : LogSnapshot → List ℕ
+log_lines j =
+    log_entries_text j
+    ++ (histogram_text (codes "nmvs_journal_sync_seconds") (codes "histogram") (codes "Seconds that a sync of a journal's file took.") j.syncs
+    ++ log_health_text j)
+
 -- the samples of the log, where there is one
 unfoldable pub log_text : Option LogSnapshot → List ℕ
 log_text None = []
-log_text (Some j) =
-    numbered (codes "nmvs_journal_confirmed_entries") (codes "gauge") (codes "Entries that the journals have confirmed, by shard.") (codes "shard") j.confirmed.items
-    ++ (numbered (codes "nmvs_journal_waiting_entries") (codes "gauge") (codes "Entries that the journals have not confirmed yet, by shard.") (codes "shard") j.waiting.items
-    ++ (syncs_text j.syncs.items j.nanoseconds
-    ++ log_health_text j))
+log_text (Some j) = log_lines j
 
 -- the sample of the memory of the process, where the system reports it
 unfoldable pub resident_text : Option ℕ → List ℕ

@@ -1,9 +1,9 @@
 //! The page of metrics.
-ghost use Rattle.std.specs.Prelude.{◌≡◌, IfOk, string_bytes};
+ghost use Rattle.std.specs.Prelude.{◌≡◌, ◌++◌, ℕ, List, IfOk, OnOk, if◌then◌else◌, string_bytes};
 ghost use Rattle.std.specs.List.{flat_map};
 ghost use Rattle.nmvs_metrics.specs.Page as specs;
 
-use crate::{Answered, Bucket, Counted, LogSnapshot, Numbered, Snapshot};
+use crate::{Answered, Bucket, Counted, Histogram, LogSnapshot, Numbered, Snapshot};
 use itoa::Buffer;
 use std::alloc::{AllocError, Global};
 
@@ -23,32 +23,57 @@ struct Family {
 pub fn encode(alloc: Global, snapshot: &Snapshot) -> Result<String, AllocError>
     ensures { IfOk result (λ text. string_bytes text ≡ specs.page snapshot.now) }
 {
-    let process = process_text(alloc, snapshot)?;
-    let lines = lines_text(alloc, snapshot)?;
-    let connections = connections_text(alloc, snapshot)?;
-    let trail = trail_text(alloc, snapshot)?;
-    let log = log_text(alloc, &snapshot.log)?;
-    format!(in alloc; "{process}{lines}{connections}{trail}{log}")
+    let mut text = String::new(alloc);
+    append_page(alloc, snapshot, &mut text)?;
+    Ok(text)
+}
+
+/// Puts a part at the end of a text, where there was memory for it.
+fn append(part: Result<String, AllocError>, text: &mut String) -> Result<(), AllocError>
+    ensures { (bytes : List ℕ) → IfOk part (λ made. string_bytes made ≡ bytes) → OnOk result (string_bytes text.new ≡ string_bytes text.old ++ bytes) }
+{
+    let part = part?;
+    text.push_str(&part)?;
+    Ok(())
+}
+
+fn as_number(holds: bool) -> u64
+    ensures { result ≡ (if holds then 1 else 0) }
+{
+    if holds { 1 } else { 0 }
+}
+
+/// Puts the page at the end of a text, as the functions below do with their parts of it.
+#[tactic(auto, using(crate::proofs::Texts::appended))]
+fn append_page(alloc: Global, snapshot: &Snapshot, text: &mut String) -> Result<(), AllocError>
+    ensures { OnOk result (string_bytes text.new ≡ string_bytes text.old ++ specs.page snapshot.now) }
+{
+    append_process(alloc, snapshot, text)?;
+    append_lines(alloc, snapshot, text)?;
+    append_connections(alloc, snapshot, text)?;
+    append_trail(alloc, snapshot, text)?;
+    append_log(alloc, &snapshot.log, text)?;
+    Ok(())
 }
 
 #[tactic(auto, unfolding(crate::specs::Page::process_text))]
-fn process_text(alloc: Global, snapshot: &Snapshot) -> Result<String, AllocError>
-    ensures { IfOk result (λ text. string_bytes text ≡ specs.process_text snapshot.now) }
+fn append_process(alloc: Global, snapshot: &Snapshot, text: &mut String) -> Result<(), AllocError>
+    ensures { OnOk result (string_bytes text.new ≡ string_bytes text.old ++ specs.process_text snapshot.now) }
 {
     let ready = Family {
         name: "nmvs_ready",
         kind: "gauge",
         help: "Whether the server listens, 1 or 0.",
     };
-    let ready = single(alloc, ready, if snapshot.ready { 1 } else { 0 })?;
     let steps = Family {
         name: "nmvs_clock_steps_total",
         kind: "counter",
         help: "Steps of the system's clock by more than 2 seconds.",
     };
-    let steps = single(alloc, steps, snapshot.clock_steps)?;
-    let resident = resident_text(alloc, snapshot.resident)?;
-    format!(in alloc; "{ready}{steps}{resident}")
+    append(single(alloc, ready, as_number(snapshot.ready)), text)?;
+    append(single(alloc, steps, snapshot.clock_steps), text)?;
+    append(resident_text(alloc, snapshot.resident), text)?;
+    Ok(())
 }
 
 #[tactic(auto, unfolding(crate::specs::Page::resident_text))]
@@ -66,30 +91,45 @@ fn resident_text(alloc: Global, bytes: Option<u64>) -> Result<String, AllocError
     single(alloc, resident, bytes)
 }
 
-#[tactic(auto, unfolding(crate::specs::Page::lines_text))]
-fn lines_text(alloc: Global, snapshot: &Snapshot) -> Result<String, AllocError>
-    ensures { IfOk result (λ text. string_bytes text ≡ specs.lines_text snapshot.now) }
+#[tactic(auto, using(crate::proofs::Texts::appended), unfolding(crate::specs::Page::lines_text))]
+fn append_lines(alloc: Global, snapshot: &Snapshot, text: &mut String) -> Result<(), AllocError>
+    ensures { OnOk result (string_bytes text.new ≡ string_bytes text.old ++ specs.lines_text snapshot.now) }
+{
+    let faults = Family {
+        name: "nmvs_faults_total",
+        kind: "counter",
+        help: "Lines and connections that were answered with a fault, by its word.",
+    };
+    append(questions_text(alloc, &snapshot.answered), text)?;
+    append_warnings(alloc, snapshot, text)?;
+    append_replies(alloc, snapshot, text)?;
+    append(worded(alloc, faults, "fault", &snapshot.faults), text)?;
+    Ok(())
+}
+
+/// How many reports there were, and how long replies took.
+#[tactic(auto, using(crate::proofs::Texts::appended), unfolding(crate::specs::Page::replies_text))]
+fn append_replies(alloc: Global, snapshot: &Snapshot, text: &mut String) -> Result<(), AllocError>
+    ensures { OnOk result (string_bytes text.new ≡ string_bytes text.old ++ specs.replies_text snapshot.now) }
 {
     let reports = Family {
         name: "nmvs_reports_total",
         kind: "counter",
         help: "Reports on product codes.",
     };
-    let faults = Family {
-        name: "nmvs_faults_total",
-        kind: "counter",
-        help: "Lines and connections that were answered with a fault, by its word.",
+    let replies = Family {
+        name: "nmvs_reply_seconds",
+        kind: "histogram",
+        help: "Seconds from a line to the release of its reply, or more.",
     };
-    let questions = questions_text(alloc, &snapshot.answered)?;
-    let warnings = warnings_text(alloc, snapshot)?;
-    let reports = single(alloc, reports, snapshot.reports)?;
-    let faults = worded(alloc, faults, "fault", &snapshot.faults)?;
-    format!(in alloc; "{questions}{warnings}{reports}{faults}")
+    append(single(alloc, reports, snapshot.reports), text)?;
+    append(histogram_text(alloc, replies, &snapshot.replies), text)?;
+    Ok(())
 }
 
 #[tactic(auto, unfolding(crate::specs::Page::warnings_text))]
-fn warnings_text(alloc: Global, snapshot: &Snapshot) -> Result<String, AllocError>
-    ensures { IfOk result (λ text. string_bytes text ≡ specs.warnings_text snapshot.now) }
+fn append_warnings(alloc: Global, snapshot: &Snapshot, text: &mut String) -> Result<(), AllocError>
+    ensures { OnOk result (string_bytes text.new ≡ string_bytes text.old ++ specs.warnings_text snapshot.now) }
 {
     let refusals = Family {
         name: "nmvs_refusals_total",
@@ -101,14 +141,18 @@ fn warnings_text(alloc: Global, snapshot: &Snapshot) -> Result<String, AllocErro
         kind: "counter",
         help: "Alerts that were flagged as potential falsifications, by their cause.",
     };
-    let refusals = worded(alloc, refusals, "refusal", &snapshot.refusals)?;
-    let alerts = worded(alloc, alerts, "cause", &snapshot.alerts)?;
-    format!(in alloc; "{refusals}{alerts}")
+    append(worded(alloc, refusals, "refusal", &snapshot.refusals), text)?;
+    append(worded(alloc, alerts, "cause", &snapshot.alerts), text)?;
+    Ok(())
 }
 
 #[tactic(auto, unfolding(crate::specs::Page::connections_text))]
-fn connections_text(alloc: Global, snapshot: &Snapshot) -> Result<String, AllocError>
-    ensures { IfOk result (λ text. string_bytes text ≡ specs.connections_text snapshot.now) }
+fn append_connections(
+    alloc: Global,
+    snapshot: &Snapshot,
+    text: &mut String,
+) -> Result<(), AllocError>
+    ensures { OnOk result (string_bytes text.new ≡ string_bytes text.old ++ specs.connections_text snapshot.now) }
 {
     let open = Family {
         name: "nmvs_connections_open",
@@ -125,15 +169,18 @@ fn connections_text(alloc: Global, snapshot: &Snapshot) -> Result<String, AllocE
         kind: "counter",
         help: "Sessions that have begun in which a line is served.",
     };
-    let open = numbered(alloc, open, "worker", &snapshot.open)?;
-    let accepted = numbered(alloc, accepted, "worker", &snapshot.accepted)?;
-    let sessions = single(alloc, sessions, snapshot.sessions)?;
-    format!(in alloc; "{open}{accepted}{sessions}")
+    append(numbered(alloc, open, "worker", &snapshot.open), text)?;
+    append(
+        numbered(alloc, accepted, "worker", &snapshot.accepted),
+        text,
+    )?;
+    append(single(alloc, sessions, snapshot.sessions), text)?;
+    Ok(())
 }
 
-#[tactic(auto, unfolding(crate::specs::Page::trail_text))]
-fn trail_text(alloc: Global, snapshot: &Snapshot) -> Result<String, AllocError>
-    ensures { IfOk result (λ text. string_bytes text ≡ specs.trail_text snapshot.now) }
+#[tactic(auto, using(crate::proofs::Texts::appended), unfolding(crate::specs::Page::trail_text))]
+fn append_trail(alloc: Global, snapshot: &Snapshot, text: &mut String) -> Result<(), AllocError>
+    ensures { OnOk result (string_bytes text.new ≡ string_bytes text.old ++ specs.trail_text snapshot.now) }
 {
     let entries = Family {
         name: "nmvs_entries",
@@ -145,18 +192,41 @@ fn trail_text(alloc: Global, snapshot: &Snapshot) -> Result<String, AllocError>
         kind: "gauge",
         help: "Packs that the repository knows, by shard.",
     };
-    let entries = numbered(alloc, entries, "shard", &snapshot.entries)?;
-    let packs = numbered(alloc, packs, "shard", &snapshot.packs)?;
-    format!(in alloc; "{entries}{packs}")
+    append(numbered(alloc, entries, "shard", &snapshot.entries), text)?;
+    append(numbered(alloc, packs, "shard", &snapshot.packs), text)?;
+    Ok(())
 }
 
 #[tactic(auto, unfolding(crate::specs::Page::log_text))]
-fn log_text(alloc: Global, log: &Option<LogSnapshot>) -> Result<String, AllocError>
-    ensures { IfOk result (λ text. string_bytes text ≡ specs.log_text log.now) }
+fn append_log(alloc: Global, log: &Option<LogSnapshot>, text: &mut String) -> Result<(), AllocError>
+    ensures { OnOk result (string_bytes text.new ≡ string_bytes text.old ++ specs.log_text log.now) }
 {
-    let Some(log) = log else {
-        return Ok(String::new(alloc));
+    match log {
+        Some(log) => append_log_lines(alloc, log, text),
+        None => Ok(()),
+    }
+}
+
+#[tactic(auto, unfolding(crate::specs::Page::log_lines))]
+fn append_log_lines(alloc: Global, log: &LogSnapshot, text: &mut String) -> Result<(), AllocError>
+    ensures { OnOk result (string_bytes text.new ≡ string_bytes text.old ++ specs.log_lines log.now) }
+{
+    let syncs = Family {
+        name: "nmvs_journal_sync_seconds",
+        kind: "histogram",
+        help: "Seconds that a sync of a journal's file took.",
     };
+    append_log_entries(alloc, log, text)?;
+    append(histogram_text(alloc, syncs, &log.syncs), text)?;
+    append_log_health(alloc, log, text)?;
+    Ok(())
+}
+
+/// How many entries the log has confirmed, and how many it has not yet.
+#[tactic(auto, using(crate::proofs::Texts::appended), unfolding(crate::specs::Page::log_entries_text))]
+fn append_log_entries(alloc: Global, log: &LogSnapshot, text: &mut String) -> Result<(), AllocError>
+    ensures { OnOk result (string_bytes text.new ≡ string_bytes text.old ++ specs.log_entries_text log.now) }
+{
     let confirmed = Family {
         name: "nmvs_journal_confirmed_entries",
         kind: "gauge",
@@ -167,17 +237,15 @@ fn log_text(alloc: Global, log: &Option<LogSnapshot>) -> Result<String, AllocErr
         kind: "gauge",
         help: "Entries that the journals have not confirmed yet, by shard.",
     };
-    let confirmed = numbered(alloc, confirmed, "shard", &log.confirmed)?;
-    let waiting = numbered(alloc, waiting, "shard", &log.waiting)?;
-    let syncs = syncs_text(alloc, &log.syncs, log.nanoseconds)?;
-    let health = log_health_text(alloc, log)?;
-    format!(in alloc; "{confirmed}{waiting}{syncs}{health}")
+    append(numbered(alloc, confirmed, "shard", &log.confirmed), text)?;
+    append(numbered(alloc, waiting, "shard", &log.waiting), text)?;
+    Ok(())
 }
 
 /// Whether the log failed, and for how long it writes.
 #[tactic(auto, unfolding(crate::specs::Page::log_health_text))]
-fn log_health_text(alloc: Global, log: &LogSnapshot) -> Result<String, AllocError>
-    ensures { IfOk result (λ text. string_bytes text ≡ specs.log_health_text log.now) }
+fn append_log_health(alloc: Global, log: &LogSnapshot, text: &mut String) -> Result<(), AllocError>
+    ensures { OnOk result (string_bytes text.new ≡ string_bytes text.old ++ specs.log_health_text log.now) }
 {
     let failures = Family {
         name: "nmvs_journal_failures_total",
@@ -189,11 +257,11 @@ fn log_health_text(alloc: Global, log: &LogSnapshot) -> Result<String, AllocErro
         kind: "gauge",
         help: "Whether the log failed, 1 or 0.",
     };
-    let count = if log.has_failed { 1 } else { 0 };
-    let failures = single(alloc, failures, count)?;
-    let failed = single(alloc, failed, count)?;
-    let writing = writing_text(alloc, log.writing)?;
-    format!(in alloc; "{failures}{failed}{writing}")
+    let count = as_number(log.has_failed);
+    append(single(alloc, failures, count), text)?;
+    append(single(alloc, failed, count), text)?;
+    append(writing_text(alloc, log.writing), text)?;
+    Ok(())
 }
 
 /// For how long the write or sync of the log that is under way has taken.
@@ -354,33 +422,28 @@ fn answered_line(alloc: Global, answered: &Answered) -> Result<String, AllocErro
     format!(in alloc; "nmvs_questions_total{{question=\"{question}\",reply=\"{reply}\"}} {count}\n")
 }
 
-/// The histogram of syncs, by how long they took.
-#[tactic(auto, unfolding(crate::specs::Page::syncs_text))]
-fn syncs_text(alloc: Global, syncs: &[Bucket], nanoseconds: u64) -> Result<String, AllocError>
-    ensures { IfOk result (λ text. string_bytes text ≡ specs.syncs_text syncs.now nanoseconds) }
+/// A histogram of one name: its buckets, the seconds of all, and how often there were any.
+#[tactic(auto, unfolding(crate::specs::Page::histogram_text))]
+fn histogram_text(alloc: Global, family: Family, times: &Histogram) -> Result<String, AllocError>
+    ensures { IfOk result (λ text. string_bytes text ≡ specs.histogram_text family.name.now family.kind.now family.help.now times.now) }
 {
-    let family = Family {
-        name: "nmvs_journal_sync_seconds",
-        kind: "histogram",
-        help: "Seconds that a sync of a journal's file took.",
-    };
+    let (name, nanoseconds) = (family.name, times.nanoseconds);
     let head = heading(alloc, family)?;
-    let (buckets, count) = bucket_lines(alloc, syncs)?;
-    let count = sample(alloc, "nmvs_journal_sync_seconds_count", count)?;
-    format!(in alloc; "{head}{buckets}nmvs_journal_sync_seconds_sum {nanoseconds}e-9\n{count}")
+    let (buckets, count) = bucket_lines(alloc, name, &times.buckets)?;
+    format!(in alloc; "{head}{buckets}{name}_sum {nanoseconds}e-9\n{name}_count {count}\n")
 }
 
 /// The lines of the buckets, each with what those before it count, and what all of them count.
-fn bucket_lines(alloc: Global, syncs: &[Bucket]) -> Result<(String, u64), AllocError>
-    ensures lines { IfOk result (λ made. string_bytes made.0 ≡ specs.bucket_lines 0 syncs.now) }
-    ensures count { IfOk result (λ made. made.1 ≡ specs.sync_count 0 syncs.now) }
+fn bucket_lines(alloc: Global, name: &str, buckets: &[Bucket]) -> Result<(String, u64), AllocError>
+    ensures lines { IfOk result (λ made. string_bytes made.0 ≡ specs.bucket_lines name.now 0 buckets.now) }
+    ensures count { IfOk result (λ made. made.1 ≡ specs.bucket_count 0 buckets.now) }
 {
     let mut text = String::new(alloc);
     let mut count = 0u64;
-    let mut rest = syncs;
+    let mut rest = buckets;
     while let [bucket, later @ ..] = rest {
         count = count.saturating_add(bucket.count);
-        let line = bucket_line(alloc, bucket.bound, count)?;
+        let line = bucket_line(alloc, name, bucket.bound, count)?;
         text.push_str(&line)?;
         rest = later;
     }
@@ -388,14 +451,8 @@ fn bucket_lines(alloc: Global, syncs: &[Bucket]) -> Result<(String, u64), AllocE
 }
 
 #[tactic(auto, unfolding(crate::specs::Page::bucket_line))]
-fn bucket_line(alloc: Global, bound: &str, count: u64) -> Result<String, AllocError>
-    ensures { IfOk result (λ line. string_bytes line ≡ specs.bucket_line bound.now count) }
+fn bucket_line(alloc: Global, name: &str, bound: &str, count: u64) -> Result<String, AllocError>
+    ensures { IfOk result (λ line. string_bytes line ≡ specs.bucket_line name.now bound.now count) }
 {
-    labelled(
-        alloc,
-        "nmvs_journal_sync_seconds_bucket",
-        "le",
-        bound,
-        count,
-    )
+    format!(in alloc; "{name}_bucket{{le=\"{bound}\"}} {count}\n")
 }

@@ -15,7 +15,7 @@ mod readiness;
 mod registry;
 mod service;
 mod snapshot;
-mod syncs;
+mod times;
 
 pub use clock::{ClockReading, uptime};
 pub use exposition::encode;
@@ -23,4 +23,4 @@ pub use kinds::Fault;
 pub use listener::{MetricsListener, serve_metrics};
 pub use registry::{Metrics, WorkerMetrics};
 pub use service::{MetricsService, resident_in};
-pub use snapshot::{Answered, Bucket, Counted, LogSnapshot, Numbered, Snapshot};
+pub use snapshot::{Answered, Bucket, Counted, Histogram, LogSnapshot, Numbered, Snapshot};

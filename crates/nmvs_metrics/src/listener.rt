@@ -7,7 +7,7 @@ use http_server::{Config, Connection, Service};
 use log::{Log, warn};
 use mio::net::{TcpListener, TcpStream};
 use mio::{Events, Interest, Poll, Token};
-use std::alloc::Global;
+use std::alloc::{AllocError, Global};
 use std::fs::File;
 use std::hash::RandomState;
 use std::io::ErrorKind;
@@ -93,7 +93,7 @@ pub fn serve_metrics<R: Clock + RandomSource + Log>(
 ) -> io::Result<()> {
     let mut listener = listener;
     let mut events = Events::with_capacity(alloc, MOST_CLIENTS)?;
-    let mut clients = Vec::with_capacity(alloc, MOST_CLIENTS)?;
+    let mut clients = Vec::with_capacity(alloc, MOST_CLIENTS.saturating_add(1))?;
     listener.serve(rt, alloc, metrics, &mut events, &mut clients)
 }
 
@@ -143,12 +143,10 @@ impl MetricsListener {
         clients: &mut Vec<Client>,
     ) {
         for _ in 0..MOST_ACCEPTED {
-            let Some(mut client) = self.next_client(rt, alloc, now) else {
+            let Some(client) = self.next_client(rt, alloc, now) else {
                 return;
             };
-            if client.step(service) {
-                push_client(clients, client);
-            }
+            let _room_was_made = admit(service, now, clients, client);
         }
     }
 
@@ -188,12 +186,20 @@ fn check_clock<R: Clock + Log>(rt: &R, metrics: &Metrics, last: &mut Option<Cloc
     *last = Some(now);
 }
 
-/// Adds a client behind the others, in place of the first one where there are as many as may be.
-fn push_client(clients: &mut Vec<Client>, client: Client) {
-    if clients.len() >= MOST_CLIENTS {
-        clients.remove(0);
+/// Adds a client behind the others, and answers what it has asked already. Where one more stays than may be, the first one is
+/// closed.
+fn admit<S: Service>(
+    service: &mut S,
+    now: Instant,
+    clients: &mut Vec<Client>,
+    client: Client,
+) -> Result<(), AllocError> {
+    clients.push(client)?;
+    step_at(service, now, clients, clients.len().saturating_sub(1));
+    if clients.len() > MOST_CLIENTS {
+        close(clients, 0);
     }
-    let _room_was_made = clients.push(client);
+    Ok(())
 }
 
 /// No request here has a body.
@@ -206,13 +212,18 @@ fn config() -> Config {
 /// Goes on with each client, and closes those that are done or stayed too long.
 fn step_all<S: Service>(service: &mut S, now: Instant, clients: &mut Vec<Client>) {
     for place in (0..clients.len()).rev() {
-        let stays = match clients.get_mut(place) {
-            Some(client) => client.step(service) && !client.is_late(now),
-            None => continue,
-        };
-        if !stays {
-            close(clients, place);
-        }
+        step_at(service, now, clients, place);
+    }
+}
+
+/// Goes on with the client at this place, and closes it where it is done or stayed too long.
+fn step_at<S: Service>(service: &mut S, now: Instant, clients: &mut Vec<Client>, place: usize) {
+    let stays = match clients.get_mut(place) {
+        Some(client) => client.step(service) && !client.is_late(now),
+        None => return,
+    };
+    if !stays {
+        close(clients, place);
     }
 }
 
@@ -220,7 +231,7 @@ fn step_all<S: Service>(service: &mut S, now: Instant, clients: &mut Vec<Client>
 fn close(clients: &mut Vec<Client>, place: usize)
     requires { place < vec_len clients.old }
 {
-    clients.remove(place);
+    drop(clients.remove(place));
 }
 
 impl Client {

@@ -5,8 +5,8 @@ use crate::kinds::{
     place_of_fault, place_of_question, place_of_refusal, place_of_reply, word_of,
 };
 use crate::readiness::{Readiness, readiness_of};
-use crate::syncs::{BOUNDS, bucket_of, push_buckets};
-use crate::{Answered, Counted, LogSnapshot, Numbered, Snapshot};
+use crate::times::{Times, empty};
+use crate::{Answered, Counted, Histogram, LogSnapshot, Numbered, Snapshot, uptime};
 use nmvs_messages::{Content, Released};
 use nmvs_rules::{Question, Reply};
 use nmvs_words::{QuestionKind, cause_word, refusal_word};
@@ -14,75 +14,82 @@ use std::alloc::{AllocError, Global};
 use std::sync::atomic::{AtomicBool, AtomicU64, Ordering};
 use std::time::Duration;
 
-/// What is counted in one row.
-#[derive(Clone, Copy)]
-enum Row {
-    /// Questions by their kind and the kind of their reply.
-    Answered,
-    /// Refusals, in the order of their numbers.
-    Refusals,
-    /// Alerts that were flagged, by cause.
-    Alerts,
-    Faults,
-    /// How many entries of each shard were confirmed when answers were released last that waited for them.
-    Confirmed,
-    /// What has one counter alone.
-    Single,
-}
+/// Where the rows of a worker's counters begin: questions by their kind and the kind of their reply.
+const ANSWERED: usize = 0;
 
-/// The places of the row `Single`.
-const REPORTS: usize = 0;
+/// Refusals, in the order of their numbers.
+const REFUSED: usize = ANSWERED + QUESTIONS.len() * REPLIES.len();
 
-const ACCEPTED: usize = 1;
+/// Alerts that were flagged, by cause.
+const FLAGGED: usize = REFUSED + REFUSALS.len();
 
-const ENDED: usize = 2;
+const FAULTED: usize = FLAGGED + CAUSES.len();
 
-/// What is counted of one worker, by itself alone: no two workers write to one row.
+const REPORTS: usize = FAULTED + FAULTS.len();
+
+const ACCEPTED: usize = REPORTS + 1;
+
+const ENDED: usize = ACCEPTED + 1;
+
+/// How many entries of each shard were confirmed when answers were released last that waited for them.
+const CONFIRMED: usize = ENDED + 1;
+
+/// What is counted of one worker, by itself alone: no two workers write to one counter.
 #[derive(Drop)]
 struct WorkerCounts {
-    answered: Counters,
-    refusals: Counters,
-    alerts: Counters,
-    faults: Counters,
-    confirmed: Counters,
-    single: Counters,
+    rows: Counters,
+    replies: Times,
+    /// How many lines the worker's desk has taken since its last release.
+    taken: AtomicU64,
+    /// When it took the first of them, in nanoseconds since the machine runs.
+    began: AtomicU64,
 }
 
 impl WorkerCounts {
     fn new(alloc: Global, shards: usize) -> Result<WorkerCounts, AllocError> {
+        let rows = Counters::new(alloc, CONFIRMED.saturating_add(shards))?;
+        let replies = Times::new(alloc)?;
         Ok(WorkerCounts {
-            answered: Counters::new(alloc, QUESTIONS.len() * REPLIES.len())?,
-            refusals: Counters::new(alloc, REFUSALS.len())?,
-            alerts: Counters::new(alloc, CAUSES.len())?,
-            faults: Counters::new(alloc, FAULTS.len())?,
-            confirmed: Counters::new(alloc, shards)?,
-            single: Counters::new(alloc, ENDED + 1)?,
+            rows,
+            replies,
+            taken: AtomicU64::new(0),
+            began: AtomicU64::new(0),
         })
     }
+}
 
-    fn row(&self, row: Row) -> &Counters {
-        match row {
-            Row::Answered => &self.answered,
-            Row::Refusals => &self.refusals,
-            Row::Alerts => &self.alerts,
-            Row::Faults => &self.faults,
-            Row::Confirmed => &self.confirmed,
-            Row::Single => &self.single,
-        }
+/// The counters of so many workers.
+fn workers_counts(
+    alloc: Global,
+    workers: usize,
+    shards: usize,
+) -> Result<Vec<WorkerCounts>, AllocError> {
+    let mut counts = Vec::with_capacity(alloc, workers)?;
+    for _ in 0..workers {
+        counts.push(WorkerCounts::new(alloc, shards)?)?;
     }
+    Ok(counts)
 }
 
 /// What is counted of the log.
 #[derive(Drop)]
 struct LogCounts {
-    syncs: Counters,
-    nanoseconds: AtomicU64,
+    syncs: Times,
     has_failed: AtomicBool,
     /// When the write or sync that is under way began, in nanoseconds since the machine runs, or 0 where none is.
     began: AtomicU64,
 }
 
 impl LogCounts {
+    fn new(alloc: Global) -> Result<LogCounts, AllocError> {
+        let syncs = Times::new(alloc)?;
+        Ok(LogCounts {
+            syncs,
+            has_failed: AtomicBool::new(false),
+            began: AtomicU64::new(0),
+        })
+    }
+
     /// How many nanoseconds the write or sync that is under way has taken, when the machine runs for this long.
     fn writing(&self, uptime: Duration) -> u64 {
         match self.began.load(Ordering::SeqCst) {
@@ -119,26 +126,20 @@ impl Metrics {
         shards: usize,
         has_log: bool,
     ) -> Result<Metrics, AllocError> {
-        let mut counts = Vec::with_capacity(alloc, workers)?;
-        for _ in 0..workers {
-            counts.push(WorkerCounts::new(alloc, shards)?)?;
-        }
+        let entries = Counters::new(alloc, shards)?;
+        let packs = Counters::new(alloc, shards)?;
+        let workers = workers_counts(alloc, workers, shards)?;
         let log = if has_log {
-            Some(LogCounts {
-                syncs: Counters::new(alloc, BOUNDS.len() + 1)?,
-                nanoseconds: AtomicU64::new(0),
-                has_failed: AtomicBool::new(false),
-                began: AtomicU64::new(0),
-            })
+            Some(LogCounts::new(alloc)?)
         } else {
             None
         };
         Ok(Metrics {
             is_ready: AtomicBool::new(false),
             has_ended: AtomicBool::new(false),
-            workers: counts,
-            entries: Counters::new(alloc, shards)?,
-            packs: Counters::new(alloc, shards)?,
+            workers,
+            entries,
+            packs,
             shards,
             sessions: AtomicU64::new(0),
             clock_steps: AtomicU64::new(0),
@@ -210,9 +211,7 @@ impl Metrics {
     /// Notes that a sync of the log succeeded and took so long.
     pub fn note_sync(&self, time: Duration) {
         if let Some(log) = &self.log {
-            let nanoseconds = nanoseconds_of(time);
-            log.syncs.add(bucket_of(nanoseconds), 1);
-            log.nanoseconds.fetch_add(nanoseconds, Ordering::SeqCst);
+            log.syncs.add(nanoseconds_of(time), 1);
         }
     }
 
@@ -244,6 +243,11 @@ fn nanoseconds_of(time: Duration) -> u64 {
     u64::try_from(time.as_nanos()).unwrap_or(u64::MAX)
 }
 
+/// How many nanoseconds the machine runs, or 0 where its clock cannot be read.
+fn now() -> u64 {
+    nanoseconds_of(uptime().unwrap_or(Duration::ZERO))
+}
+
 /// The metrics of one worker.
 #[derive(Clone, Copy)]
 pub struct WorkerMetrics<'p> {
@@ -261,9 +265,30 @@ impl<'p> WorkerMetrics<'p> {
         }
     }
 
+    /// Notes that the worker's desk takes a line.
+    pub fn note_line(&self) {
+        if let Some(counts) = self.counts {
+            if counts.taken.fetch_add(1, Ordering::SeqCst) == 0 {
+                counts.began.store(now(), Ordering::SeqCst);
+            }
+        }
+    }
+
+    /// Notes that the worker's desk releases the replies to all lines that it took since its last release. Each of them is
+    /// counted with the time since the first was taken, so none with less than its own.
+    pub fn note_release(&self) {
+        if let Some(counts) = self.counts {
+            let count = counts.taken.swap(0, Ordering::SeqCst);
+            if count > 0 {
+                let began = counts.began.load(Ordering::SeqCst);
+                counts.replies.add(now().saturating_sub(began), count);
+            }
+        }
+    }
+
     /// Counts a report.
     pub fn note_report(&self) {
-        self.add(Row::Single, REPORTS);
+        self.add(REPORTS);
     }
 
     /// Counts the faults among answers that are sent.
@@ -282,30 +307,30 @@ impl<'p> WorkerMetrics<'p> {
 
     /// Counts a fault.
     pub fn note_fault(&self, fault: Fault) {
-        self.add(Row::Faults, place_of_fault(fault));
+        self.add(FAULTED + place_of_fault(fault));
     }
 
     /// Notes that the log has confirmed so many entries of a shard, as the worker learns: no fewer than before.
     pub fn note_confirmed(&self, shard: usize, count: u64) {
         if let Some(counts) = self.counts {
-            counts.confirmed.set(shard, count);
+            counts.rows.set(CONFIRMED.saturating_add(shard), count);
         }
     }
 
     /// Counts a connection that was accepted for the worker.
     pub fn note_accepted(&self) {
-        self.add(Row::Single, ACCEPTED);
+        self.add(ACCEPTED);
     }
 
     /// Counts a connection of the worker that ended.
     pub fn note_ended(&self) {
-        self.add(Row::Single, ENDED);
+        self.add(ENDED);
     }
 
     /// Counts one more.
-    fn add(&self, row: Row, place: usize) {
+    fn add(&self, place: usize) {
         if let Some(counts) = self.counts {
-            counts.row(row).add(place, 1);
+            counts.rows.add(place, 1);
         }
     }
 
@@ -313,14 +338,14 @@ impl<'p> WorkerMetrics<'p> {
     fn note_reply(&self, question: &Question, reply: &Reply) {
         let asked = place_of_question(QuestionKind::of(question));
         let replied = place_of_reply(kind_of_reply(reply));
-        self.add(Row::Answered, asked * REPLIES.len() + replied);
+        self.add(ANSWERED + asked * REPLIES.len() + replied);
         match reply {
             Reply::Alert {
                 cause,
                 flagged: true,
                 ..
-            } => self.add(Row::Alerts, place_of_cause(*cause)),
-            Reply::Refused(refusal) => self.add(Row::Refusals, place_of_refusal(*refusal)),
+            } => self.add(FLAGGED + place_of_cause(*cause)),
+            Reply::Refused(refusal) => self.add(REFUSED + place_of_refusal(*refusal)),
             _ => {}
         }
     }
@@ -339,19 +364,22 @@ impl Metrics {
         resident: Option<u64>,
         uptime: Duration,
     ) -> Result<Snapshot, AllocError> {
+        let log = self.log_snapshot(alloc, uptime)?;
+        let replies = self.replies(alloc)?;
         let mut snapshot = Snapshot {
             ready: self.is_ready(),
             answered: Vec::new(alloc),
             refusals: Vec::new(alloc),
             alerts: Vec::new(alloc),
-            reports: self.total(Row::Single, REPORTS),
+            reports: self.total(REPORTS),
             faults: Vec::new(alloc),
+            replies,
             open: Vec::new(alloc),
             accepted: Vec::new(alloc),
             sessions: self.sessions.load(Ordering::SeqCst),
             entries: Vec::new(alloc),
             packs: Vec::new(alloc),
-            log: self.log_snapshot(alloc, uptime)?,
+            log,
             clock_steps: self.clock_steps.load(Ordering::SeqCst),
             resident,
         };
@@ -371,13 +399,22 @@ impl Metrics {
         self.push_shards(&mut snapshot.packs, &self.packs)
     }
 
-    /// What all workers have counted at this place of a row.
-    fn total(&self, row: Row, place: usize) -> u64 {
+    /// What all workers have counted at this place.
+    fn total(&self, place: usize) -> u64 {
         let mut total = 0u64;
         for counts in &self.workers {
-            total = total.wrapping_add(counts.row(row).at(place));
+            total = total.wrapping_add(counts.rows.at(place));
         }
         total
+    }
+
+    /// The replies that all workers have released.
+    fn replies(&self, alloc: Global) -> Result<Histogram, AllocError> {
+        let mut histogram = empty(alloc)?;
+        for counts in &self.workers {
+            counts.replies.add_to(&mut histogram);
+        }
+        Ok(histogram)
     }
 
     /// Adds the questions by their kind and the kind of their reply, of which there has been one.
@@ -385,7 +422,7 @@ impl Metrics {
         for question in QUESTIONS {
             for reply in REPLIES {
                 let place = place_of_question(question) * REPLIES.len() + place_of_reply(reply);
-                let count = self.total(Row::Answered, place);
+                let count = self.total(ANSWERED + place);
                 if count > 0 {
                     answered.push(Answered {
                         question,
@@ -402,7 +439,7 @@ impl Metrics {
         for refusal in REFUSALS {
             refusals.push(Counted {
                 word: refusal_word(refusal),
-                count: self.total(Row::Refusals, place_of_refusal(refusal)),
+                count: self.total(REFUSED + place_of_refusal(refusal)),
             })?;
         }
         Ok(())
@@ -412,7 +449,7 @@ impl Metrics {
         for cause in CAUSES {
             alerts.push(Counted {
                 word: cause_word(cause),
-                count: self.total(Row::Alerts, place_of_cause(cause)),
+                count: self.total(FLAGGED + place_of_cause(cause)),
             })?;
         }
         Ok(())
@@ -422,7 +459,7 @@ impl Metrics {
         for fault in FAULTS {
             faults.push(Counted {
                 word: word_of(fault),
-                count: self.total(Row::Faults, place_of_fault(fault)),
+                count: self.total(FAULTED + place_of_fault(fault)),
             })?;
         }
         Ok(())
@@ -432,10 +469,10 @@ impl Metrics {
     fn push_open(&self, open: &mut Vec<Numbered>) -> Result<(), AllocError> {
         let mut number = 0u64;
         for counts in &self.workers {
-            let accepted = counts.single.at(ACCEPTED);
+            let accepted = counts.rows.at(ACCEPTED);
             open.push(Numbered {
                 number,
-                value: accepted.saturating_sub(counts.single.at(ENDED)),
+                value: accepted.saturating_sub(counts.rows.at(ENDED)),
             })?;
             number = number.saturating_add(1);
         }
@@ -447,7 +484,7 @@ impl Metrics {
         for counts in &self.workers {
             accepted.push(Numbered {
                 number,
-                value: counts.single.at(ACCEPTED),
+                value: counts.rows.at(ACCEPTED),
             })?;
             number = number.saturating_add(1);
         }
@@ -473,7 +510,7 @@ impl Metrics {
     fn confirmed(&self, shard: usize) -> u64 {
         let mut confirmed = 0u64;
         for counts in &self.workers {
-            confirmed = confirmed.max(counts.confirmed.at(shard));
+            confirmed = confirmed.max(counts.rows.at(CONFIRMED.saturating_add(shard)));
         }
         confirmed
     }
@@ -486,20 +523,21 @@ impl Metrics {
         let Some(log) = &self.log else {
             return Ok(None);
         };
+        let mut syncs = empty(alloc)?;
+        log.syncs.add_to(&mut syncs);
         let mut snapshot = LogSnapshot {
             confirmed: Vec::new(alloc),
             waiting: Vec::new(alloc),
-            syncs: Vec::new(alloc),
-            nanoseconds: log.nanoseconds.load(Ordering::SeqCst),
+            syncs,
             has_failed: log.has_failed.load(Ordering::SeqCst),
             writing: log.writing(uptime),
         };
-        self.push_log(&mut snapshot, log)?;
+        self.push_log(&mut snapshot)?;
         Ok(Some(snapshot))
     }
 
-    /// Adds what the log has confirmed of each shard, and the syncs.
-    fn push_log(&self, snapshot: &mut LogSnapshot, log: &LogCounts) -> Result<(), AllocError> {
+    /// Adds what the log has confirmed of each shard.
+    fn push_log(&self, snapshot: &mut LogSnapshot) -> Result<(), AllocError> {
         for shard in 0..self.shards {
             let (number, kept) = (shard as u64, self.confirmed(shard));
             let value = self.entries.at(shard).saturating_sub(kept);
@@ -509,6 +547,6 @@ impl Metrics {
             })?;
             snapshot.waiting.push(Numbered { number, value })?;
         }
-        push_buckets(&mut snapshot.syncs, &log.syncs)
+        Ok(())
     }
 }

@@ -23,12 +23,21 @@ pub struct Numbered {
     pub value: u64,
 }
 
-/// How many syncs took no longer than this, and longer than the bucket before it says.
+/// What took no longer than this, and longer than the bucket before it says.
 #[derive(Clone, Copy)]
 pub struct Bucket {
     /// In seconds, as the page has it.
     pub bound: &'static str,
     pub count: u64,
+}
+
+/// How often something took how long.
+#[derive(Drop)]
+pub struct Histogram {
+    /// The shortest times first; the last bucket has no bound.
+    pub buckets: Vec<Bucket>,
+    /// How many nanoseconds all of them took.
+    pub nanoseconds: u64,
 }
 
 /// What a server has counted of its log.
@@ -38,10 +47,8 @@ pub struct LogSnapshot {
     pub confirmed: Vec<Numbered>,
     /// How many entries of each shard are not confirmed yet.
     pub waiting: Vec<Numbered>,
-    /// The syncs that succeeded, by how long they took, the shortest first; the last bucket has no bound.
-    pub syncs: Vec<Bucket>,
-    /// How many nanoseconds all of them took.
-    pub nanoseconds: u64,
+    /// The syncs that succeeded.
+    pub syncs: Histogram,
     /// Whether it failed.
     pub has_failed: bool,
     /// How many nanoseconds the write or sync that is under way has taken, or 0 where none is.
@@ -63,6 +70,8 @@ pub struct Snapshot {
     pub reports: u64,
     /// The lines that were answered with a fault, by its word.
     pub faults: Vec<Counted>,
+    /// The lines whose replies were released, by the time from the first of them to their release.
+    pub replies: Histogram,
     /// How many connections of each worker are open.
     pub open: Vec<Numbered>,
     /// How many connections each worker has been dealt.

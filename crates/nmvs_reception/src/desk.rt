@@ -105,6 +105,7 @@ impl<'r, 'a, R: Wait + rt::Clock + Log, J: Naming, H: Histories, K: Clock> Clerk
     pub(crate) fn answer(&mut self, from: &Peer, ask: &Ask) -> (Content<'a>, Option<Basis>)
         ensures { Serves self.old from.now ask.now result.0 result.1 self.new }
     {
+        self.metrics.note_line();
         let notice = self.latest.lock(self.rt).again();
         match self.admit(&notice, from, ask) {
             Ok((moment, actor)) => self.answer_admitted(moment, actor, ask),
@@ -235,6 +236,7 @@ impl<'r, 'a, R: Wait + rt::Clock + Log, J: Naming, H: Histories, K: Clock> Clerk
     {
         let (released, counts) = log.release(self.rt, &mut self.clerk, reach, confirmed, withheld);
         note_confirmed(&self.metrics, &counts);
+        self.metrics.note_release();
         released
     }
 }
@@ -366,6 +368,7 @@ impl<'r, 'a, R: Wait + rt::Clock + Log, J: Naming, H: Histories, K: Clock> Desk<
     }
 
     fn release<'h>(&mut self, withheld: &'h mut WithheldAnswers<'a>) -> Released<'h, 'a> {
+        self.metrics.note_release();
         withheld.release()
     }
 }

@@ -3,8 +3,8 @@ use nmvs_messages::{
     Ask, Asked, Content, Desk, Line, Peer, Released, Turn, Withheld, WithheldAnswers,
 };
 use nmvs_metrics::{
-    Answered, Bucket, ClockReading, Counted, Fault, LogSnapshot, Metrics, MetricsService, Numbered,
-    Snapshot, encode, resident_in,
+    Answered, Bucket, ClockReading, Counted, Fault, Histogram, LogSnapshot, Metrics,
+    MetricsService, Numbered, Snapshot, encode, resident_in,
 };
 use nmvs_protocol::{Session, read_line};
 use nmvs_rules::{Cause, Question, Refusal, Reply};
@@ -38,6 +38,12 @@ nmvs_alerts_flagged_total{cause="UNKNOWN"} 4
 # HELP nmvs_reports_total Reports on product codes.
 # TYPE nmvs_reports_total counter
 nmvs_reports_total 5
+# HELP nmvs_reply_seconds Seconds from a line to the release of its reply, or more.
+# TYPE nmvs_reply_seconds histogram
+nmvs_reply_seconds_bucket{le="0.0001"} 6
+nmvs_reply_seconds_bucket{le="+Inf"} 7
+nmvs_reply_seconds_sum 2000000003e-9
+nmvs_reply_seconds_count 7
 # HELP nmvs_faults_total Lines and connections that were answered with a fault, by its word.
 # TYPE nmvs_faults_total counter
 nmvs_faults_total{fault="LONG"} 6
@@ -117,6 +123,10 @@ fn snapshot(alloc: Global) -> Result<Snapshot, AllocError> {
         alerts: vec![in alloc; counted("UNKNOWN", 4)]?,
         reports: 5,
         faults: vec![in alloc; counted("LONG", 6)]?,
+        replies: Histogram {
+            buckets: vec![in alloc; bucket("0.0001", 6), bucket("+Inf", 1)]?,
+            nanoseconds: 2_000_000_003,
+        },
         open: vec![in alloc; numbered(0, 1), numbered(1, 0)]?,
         accepted: vec![in alloc; numbered(0, 7)]?,
         sessions: 9,
@@ -133,8 +143,10 @@ fn log_snapshot(alloc: Global) -> Result<LogSnapshot, AllocError> {
     Ok(LogSnapshot {
         confirmed: vec![in alloc; numbered(0, 4)]?,
         waiting: vec![in alloc; numbered(0, 1)]?,
-        syncs: vec![in alloc; bucket("0.001", 2), bucket("0.1", 0), bucket("+Inf", 3)]?,
-        nanoseconds: 6_000_000_001,
+        syncs: Histogram {
+            buckets: vec![in alloc; bucket("0.001", 2), bucket("0.1", 0), bucket("+Inf", 3)]?,
+            nanoseconds: 6_000_000_001,
+        },
         has_failed: true,
         writing: 7_000_000_002,
     })
@@ -292,6 +304,27 @@ fn connections_and_syncs_are_counted(rt: HostRuntime) {
     ] {
         assert!(rt; has_line(rt.alloc(), &metrics, line), "{line}");
     }
+}
+
+#[test]
+fn each_line_has_the_time_of_its_release(rt: HostRuntime) {
+    let metrics = Metrics::new(rt.alloc(), 2, 1, false).expect(&rt, "memory");
+    metrics.worker(0).note_release();
+    for worker in [0, 1, 0, 0, 2] {
+        metrics.worker(worker).note_line();
+    }
+    assert!(rt; has_line(rt.alloc(), &metrics, "nmvs_reply_seconds_count 0"));
+    metrics.worker(0).note_release();
+    metrics.worker(0).note_release();
+    for line in [
+        "nmvs_reply_seconds_count 3",
+        "nmvs_reply_seconds_bucket{le=\"10\"} 3",
+    ] {
+        assert!(rt; has_line(rt.alloc(), &metrics, line), "{line}");
+    }
+    assert!(rt; !has_line(rt.alloc(), &metrics, "nmvs_reply_seconds_sum 0e-9"));
+    metrics.worker(1).note_release();
+    assert!(rt; has_line(rt.alloc(), &metrics, "nmvs_reply_seconds_count 4"));
 }
 
 /// What a request is answered with.
