@@ -14,8 +14,6 @@ mod front;
 mod identifiers;
 mod laws;
 mod scan;
-#[cfg(test)]
-mod tests;
 mod values;
 
 pub use elements::{Elements, NationalNumber};

@@ -6,8 +6,6 @@ mod laws;
 mod limiter;
 mod rate;
 mod shared_limiter;
-#[cfg(test)]
-mod tests;
 
 pub use bucket::Bucket;
 pub use laws::rates_are_kept;

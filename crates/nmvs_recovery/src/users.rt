@@ -109,7 +109,12 @@ pub(crate) fn tell_users<'r, J: Naming, H: Host>(
             Some((_, Standing::Removed)) | None => {}
         }
     }
-    info!(run.rt; enrolled, suspended; "users");
+    tell_counts(run.rt, enrolled, suspended);
+}
+
+/// Logs how many users there are.
+fn tell_counts<R: Log>(rt: &R, enrolled: usize, suspended: usize) {
+    info!(rt; enrolled, suspended; "users");
 }
 
 /// How the users that are published stand, in the order in which they were first named.

@@ -15,7 +15,7 @@ fn commands_and_faults_are_read(rt: HostRuntime) {
     assert!(rt; read_command(b"ENROL ph9 PHARMACY PH-9 P9") == Ok(Command::Enrol(user, actor)));
     assert!(rt; read_command(b"SUSPEND ph9") == Ok(Command::Suspend(user)));
     assert!(rt; read_command(b"REMOVE ph9") == Ok(Command::Remove(user)));
-    for (line, fault) in [
+    for &(line, fault) in &[
         ("ENROL ph9 DOCTOR PH-9 P9", CommandFault::Role),
         ("ENROL -x DOCTOR P/9 P9", CommandFault::Role),
         ("SUSPEND", CommandFault::Fields),
@@ -37,7 +37,7 @@ fn commands_and_faults_are_read(rt: HostRuntime) {
 
 #[test]
 fn texts_of_faults_of_commands(rt: HostRuntime) {
-    for (fault, text) in [
+    for &(fault, text) in &[
         (CommandFault::Long, "the command has more than 200 bytes"),
         (
             CommandFault::Bytes,

@@ -11,36 +11,38 @@ use std::rt::HostRuntime;
 #[test]
 fn lines_are_read_and_written(rt: HostRuntime) {
     let user = Name::read("ph1").expect(&rt, "a name");
-    let code = ProductCode::read("09506000134352").expect(&rt, "a code");
-    let serial = Serial::read("SN1").expect(&rt, "a serial number");
     let tag = Some(Tag::read("a17").expect(&rt, "a tag"));
-    let asked = Asked::Question(user, Question::Verify(Pack { code, serial }));
+    let asked = Asked::Question(user, Question::Verify(pack(&rt, "SN1")));
     let verify = Line::Ask(Ask { tag, asked });
-    let line = "#a17 ph1 VERIFY 09506000134352 SN1";
-    assert!(rt; read_line(line.as_bytes()) == Ok(verify));
-    let written = line_text(rt.alloc(), &verify).expect(&rt, "ample memory");
-    assert!(rt; written.as_str() == line);
-    assert!(rt; read_line(b"QUIT") == Ok(Line::Quit));
-    assert!(rt; read_line(b"PING") == Ok(Line::Ping));
-    assert!(rt; read_line(b"VERSION") == Ok(Line::Version));
-    assert!(rt; read_line(b"HELP") == Ok(Line::Help));
-
     let holder = Name::read("mah1").expect(&rt, "a name");
-    let serial = Serial::read("ABC/DEF%GHI/JKL%MN12").expect(&rt, "20 characters");
-    let batch = Batch::read("B1").expect(&rt, "a batch number");
-    let expiry = Expiry::read("280200").expect(&rt, "an expiry date");
-    let pack = Pack { code, serial };
-    let asked = Asked::Question(
-        holder,
-        Question::Upload {
-            pack,
-            batch,
-            expiry,
-        },
-    );
-    let upload = Line::Ask(Ask { tag: None, asked });
-    let line = "mah1 UPLOAD 09506000134352 ABC/DEF%GHI/JKL%MN12 B1 280200";
-    assert!(rt; read_line(line.as_bytes()) == Ok(upload));
+    let upload = Question::Upload {
+        pack: pack(&rt, "ABC/DEF%GHI/JKL%MN12"),
+        batch: Batch::read("B1").expect(&rt, "a batch number"),
+        expiry: Expiry::read("280200").expect(&rt, "an expiry date"),
+    };
+    let asked = Asked::Question(holder, upload);
+    for &(text, line) in &[
+        ("#a17 ph1 VERIFY 09506000134352 SN1", verify),
+        ("QUIT", Line::Quit),
+        ("PING", Line::Ping),
+        ("VERSION", Line::Version),
+        ("HELP", Line::Help),
+        (
+            "mah1 UPLOAD 09506000134352 ABC/DEF%GHI/JKL%MN12 B1 280200",
+            Line::Ask(Ask { tag: None, asked }),
+        ),
+    ] {
+        assert!(rt; read_line(text.as_bytes()) == Ok(line), "{text}");
+    }
+    let written = line_text(rt.alloc(), &verify).expect(&rt, "ample memory");
+    assert!(rt; written.as_str() == "#a17 ph1 VERIFY 09506000134352 SN1");
+}
+
+fn pack(rt: &impl Abort, serial: &str) -> Pack {
+    Pack {
+        code: ProductCode::read("09506000134352").expect(rt, "a code"),
+        serial: Serial::read(serial).expect(rt, "a serial number"),
+    }
 }
 
 /// Whether the line is read, and written again as it was.
@@ -83,7 +85,7 @@ fn each_growth_of_a_text_is_refused_in_turn(rt: HostRuntime) {
 
 #[test]
 fn each_kind_of_line_has_its_text(rt: HostRuntime) {
-    for line in [
+    for &line in &[
         "mah1 UPLOAD 09506000134352 SN1 B1 280200",
         "ph1 VERIFY 04012345678901 SN1",
         "au1 STATUS 09506000134352 SN1",
@@ -112,7 +114,7 @@ fn each_kind_of_line_has_its_text(rt: HostRuntime) {
 
 #[test]
 fn faults_of_lines(rt: HostRuntime) {
-    for (line, fault) in [
+    for &(line, fault) in &[
         ("", LineFault::Fields),
         ("ph1  VERIFY 09506000134352 SN1", LineFault::Fields),
         ("ph1 VERIFY 09506000134352", LineFault::Fields),
@@ -184,7 +186,7 @@ fn a_line_has_200_bytes_at_most(rt: HostRuntime) {
 
 #[test]
 fn a_fault_has_the_tag_of_its_line(rt: HostRuntime) {
-    for (line, fault) in [
+    for &(line, fault) in &[
         ("#a17 ", LineFault::Fields),
         ("#a17  ph1 VERIFY 09506000134352 SN1", LineFault::Fields),
         ("#a17 QUIT", LineFault::Fields),
@@ -206,7 +208,7 @@ fn a_fault_has_the_tag_of_its_line(rt: HostRuntime) {
 
 #[test]
 fn what_is_no_tag_is_a_field(rt: HostRuntime) {
-    for (line, fault) in [
+    for &(line, fault) in &[
         ("#a17", LineFault::Fields),
         ("#a17\r", LineFault::Return),
         ("# ph1 VERIFY 09506000134352 SN1", LineFault::Word),
@@ -222,7 +224,7 @@ fn what_is_no_tag_is_a_field(rt: HostRuntime) {
 
 #[test]
 fn texts_of_faults_of_lines(rt: HostRuntime) {
-    for (fault, text) in [
+    for &(fault, text) in &[
         (LineFault::Long, "the line has more than 200 bytes"),
         (
             LineFault::Return,

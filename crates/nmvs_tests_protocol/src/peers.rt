@@ -16,14 +16,14 @@ fn name(rt: &impl Abort, text: &str) -> Name {
 #[test]
 fn a_peer_speaks_for_its_own_users(rt: HostRuntime) {
     let own = name(&rt, "ph1");
-    for (user, authorisation, by_user, by_authorisation) in [
+    for &(user, authorisation, by_user, by_authorisation) in &[
         ("ph1", "ph1", true, true),
         ("ph1", "ph2", true, false),
         ("ph1b", "ph1", false, true),
         ("ph2", "ph2", false, false),
     ] {
         let (named, enrolled) = (name(&rt, user), name(&rt, authorisation));
-        for (peer, speaks) in [
+        for &(peer, speaks) in &[
             (Peer::Anyone, true),
             (NameOf::User.peer(own), by_user),
             (NameOf::Authorisation.peer(own), by_authorisation),
@@ -67,7 +67,7 @@ impl<'a> Desk<'a> for Own {
 #[test]
 fn a_session_asks_as_its_peer(rt: HostRuntime) {
     let own = NameOf::User.peer(name(&rt, "ph1"));
-    for (from, wanted) in [
+    for &(from, wanted) in &[
         (own, b"FAULT RATE\nFAULT RATE\n".as_slice()),
         (Peer::Anyone, b"FAULT NOBODY\nFAULT NOBODY\n"),
     ] {

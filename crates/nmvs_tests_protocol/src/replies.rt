@@ -7,7 +7,6 @@ use nmvs_stream::Device;
 use std::alloc::Global;
 use std::process::Abort;
 use std::rt::HostRuntime;
-use std::test::Fail;
 
 /// Whether the answer is told as this text.
 fn is_told(alloc: Global, answer: Content<'_>, text: &str) -> bool {
@@ -29,7 +28,7 @@ fn is_replied(rt: &impl Abort, alloc: Global, reply: Reply, text: &str) -> bool 
 fn replies_with_a_batch_or_a_cause_have_their_texts(rt: HostRuntime) {
     let batch = Batch::read("ABC/DEF%GHI/JKL%MN12").expect(&rt, "a batch number");
     let expiry = Expiry::read("280200").expect(&rt, "an expiry date");
-    for (reply, text) in [
+    for &(reply, text) in &[
         (
             Reply::Authentic {
                 batch,
@@ -63,7 +62,7 @@ fn replies_with_a_batch_or_a_cause_have_their_texts(rt: HostRuntime) {
 
 #[test]
 fn replies_of_a_word_a_number_or_a_refusal_have_their_texts(rt: HostRuntime) {
-    for (reply, text) in [
+    for &(reply, text) in &[
         (Reply::Uploaded, "UPLOADED\n"),
         (Reply::NoPack, "NOPACK\n"),
         (Reply::Decommissioned, "DECOMMISSIONED\n"),
@@ -86,40 +85,52 @@ fn replies_of_a_word_a_number_or_a_refusal_have_their_texts(rt: HostRuntime) {
 }
 
 #[test]
-fn each_other_answer_has_its_text(rt: HostRuntime) {
-    for (answer, text) in [
-        (Content::Turned(Turn::Clock), "FAULT CLOCK\n"),
-        (Content::Turned(Turn::Nobody), "FAULT NOBODY\n"),
-        (Content::Turned(Turn::Suspended), "FAULT SUSPENDED\n"),
-        (Content::Turned(Turn::Closed), "FAULT CLOSED\n"),
-        (Content::Turned(Turn::Role), "FAULT ROLE\n"),
-        (Content::Turned(Turn::Memory), "FAULT MEMORY\n"),
-        (Content::Turned(Turn::Rate), "FAULT RATE\n"),
-        (Content::Turned(Turn::Journal), "FAULT JOURNAL\n"),
-        (Content::Turned(Turn::Tag), "FAULT TAG\n"),
-        (Content::Unread(LineFault::Long), "FAULT LONG\n"),
-        (Content::Unread(LineFault::Return), "FAULT RETURN\n"),
-        (Content::Unread(LineFault::Bytes), "FAULT BYTES\n"),
-        (Content::Unread(LineFault::Fields), "FAULT FIELDS\n"),
-        (Content::Unread(LineFault::Word), "FAULT WORD\n"),
-        (Content::Unread(LineFault::Code), "FAULT CODE\n"),
-        (Content::Unread(LineFault::Serial), "FAULT SERIAL\n"),
-        (Content::Unread(LineFault::Batch), "FAULT BATCH\n"),
-        (Content::Unread(LineFault::Expiry), "FAULT EXPIRY\n"),
-        (Content::Unread(LineFault::User), "FAULT USER\n"),
-        (Content::Pong, "PONG\n"),
-        (Content::Version, "VERSION 0.9.0\n"),
-        (Content::Bye, "BYE\n"),
+fn each_turn_has_its_text(rt: HostRuntime) {
+    for &(turn, text) in &[
+        (Turn::Clock, "FAULT CLOCK\n"),
+        (Turn::Nobody, "FAULT NOBODY\n"),
+        (Turn::Suspended, "FAULT SUSPENDED\n"),
+        (Turn::Closed, "FAULT CLOSED\n"),
+        (Turn::Role, "FAULT ROLE\n"),
+        (Turn::Memory, "FAULT MEMORY\n"),
+        (Turn::Rate, "FAULT RATE\n"),
+        (Turn::Journal, "FAULT JOURNAL\n"),
+        (Turn::Tag, "FAULT TAG\n"),
     ] {
-        assert!(rt; is_told(rt.alloc(), answer, text), "{text}");
+        assert!(rt; is_told(rt.alloc(), Content::Turned(turn), text), "{text}");
     }
 }
 
 #[test]
-fn a_report_is_told_as_it_is(rt: HostRuntime) -> Result<(), Fail> {
+fn each_fault_of_a_line_has_its_text(rt: HostRuntime) {
+    for &(fault, text) in &[
+        (LineFault::Long, "FAULT LONG\n"),
+        (LineFault::Return, "FAULT RETURN\n"),
+        (LineFault::Bytes, "FAULT BYTES\n"),
+        (LineFault::Fields, "FAULT FIELDS\n"),
+        (LineFault::Word, "FAULT WORD\n"),
+        (LineFault::Code, "FAULT CODE\n"),
+        (LineFault::Serial, "FAULT SERIAL\n"),
+        (LineFault::Batch, "FAULT BATCH\n"),
+        (LineFault::Expiry, "FAULT EXPIRY\n"),
+        (LineFault::User, "FAULT USER\n"),
+    ] {
+        assert!(rt; is_told(rt.alloc(), Content::Unread(fault), text), "{text}");
+    }
+}
+
+#[test]
+fn each_other_answer_has_its_text(rt: HostRuntime) {
+    assert!(rt; is_told(rt.alloc(), Content::Pong, "PONG\n"));
+    assert!(rt; is_told(rt.alloc(), Content::Version, "VERSION 0.9.0\n"));
+    assert!(rt; is_told(rt.alloc(), Content::Bye, "BYE\n"));
+}
+
+#[test]
+fn a_report_is_told_as_it_is(rt: HostRuntime) {
     let report = "PRODUCT 04012345678901 HOLDER - ALERTS 0 FLAGGED 0\nEND\n";
-    let text = Text::new(String::from_str(rt.alloc(), report)?);
+    let text = String::from_str(rt.alloc(), report).expect(&rt, "memory");
+    let text = Text::new(text);
     assert!(rt; text.text() == report);
     assert!(rt; is_told(rt.alloc(), Content::Reported(text), report));
-    Ok(())
 }

@@ -259,7 +259,7 @@ fn a_failed_read_or_the_last_allowed_ends_after_the_whole_lines(rt: HostRuntime)
         );
         assert_eq!(rt; taken.as_slice(), answers_to(calls), "{calls}");
     }
-    for (reads, end) in [(105, End::Limit), (106, End::Quit)] {
+    for &(reads, end) in &[(105, End::Limit), (106, End::Quit)] {
         let reader = Pieces {
             inner: INPUT,
             piece: 1,
@@ -320,7 +320,7 @@ fn a_session_is_fed_in_any_pieces(rt: HostRuntime) {
     }
     input.extend_from_slice(INPUT).expect(&rt, "memory");
     output.extend_from_slice(OUTPUT).expect(&rt, "memory");
-    for piece in [1, 7, 65_536] {
+    for &piece in &[1, 7, 65_536] {
         let mut taken = Vec::new(alloc);
         let mut sink = Device::new(&mut taken);
         let mut session = Session::new(1_000);

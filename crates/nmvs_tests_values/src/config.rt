@@ -61,9 +61,27 @@ fn the_command_line_comes_first(rt: HostRuntime) {
     assert!(rt; gives(&rt, rt.alloc(), "# none\nstdin = false\n", &[], &[]));
 }
 
+/// The fault of the entry of this key, for which a file with this text is refused.
+fn entry_fault(alloc: Global, text: &str, key: &str) -> Option<EntryFault> {
+    let read = with_config(alloc, text, Vec::new(alloc));
+    match &read {
+        Err(ConfigFault::Entry(named, fault)) if named.as_str() == key => Some(*fault),
+        _ => None,
+    }
+}
+
+/// The line for which a file with this text is no TOML.
+fn syntax_fault(alloc: Global, text: &str) -> Option<usize> {
+    let read = with_config(alloc, text, Vec::new(alloc));
+    match &read {
+        Err(ConfigFault::Syntax(line)) => Some(*line),
+        _ => None,
+    }
+}
+
 #[test]
 fn other_files_are_refused(rt: HostRuntime) {
-    for (text, key, wanted) in [
+    for &(text, key, wanted) in &[
         ("[journal]\n", "journal", EntryFault::Nested),
         ("shards = [2]\n", "shards", EntryFault::Nested),
         ("shard = 2\n", "shard", EntryFault::Unknown),
@@ -76,56 +94,72 @@ fn other_files_are_refused(rt: HostRuntime) {
         ("users = 2\n", "users", EntryFault::Mistyped(Kind::Text)),
         ("stdin = 1\n", "stdin", EntryFault::Mistyped(Kind::Flag)),
     ] {
-        match with_config(rt.alloc(), text, Vec::new(rt.alloc())) {
-            Err(ConfigFault::Entry(named, fault)) => {
-                assert!(rt; named.as_str() == key && fault == wanted, "{text}");
-            }
-            _ => panic!(rt; "{text}"),
-        }
-    }
-    for (text, line) in [("users\n", 1), ("rate = 1\n\nrate = 2\n", 3)] {
-        let refused = with_config(rt.alloc(), text, Vec::new(rt.alloc()));
         assert!(rt;
-            matches!(refused, Err(ConfigFault::Syntax(at)) if at == line),
+            entry_fault(rt.alloc(), text, key) == Some(wanted),
             "{text}"
         );
     }
+    for &(text, line) in &[("users\n", 1), ("rate = 1\n\nrate = 2\n", 3)] {
+        assert!(rt; syntax_fault(rt.alloc(), text) == Some(line), "{text}");
+    }
+}
+
+/// Whether these are the faults of a file, in order.
+fn are_faults(faults: &[(String, EntryFault)], wanted: &[(&str, EntryFault)]) -> bool {
+    if faults.len() != wanted.len() {
+        return false;
+    }
+    for ((key, fault), (named, other)) in faults.iter().zip(wanted) {
+        if key.as_str() != *named || fault != other {
+            return false;
+        }
+    }
+    true
 }
 
 #[test]
 fn all_faults_of_a_file_are_found(rt: HostRuntime) {
     let text = "users = 2\nshard = 2\nshards = 2\n";
-    let Ok(faults) = entry_faults(rt.alloc(), text) else {
-        panic!(rt; "refused");
-    };
-    assert_eq!(rt; faults.len(), 2);
-    for ((key, fault), (named, wanted)) in faults.iter().zip([
+    let wanted = [
         ("shard", EntryFault::Unknown),
         ("users", EntryFault::Mistyped(Kind::Text)),
-    ]) {
-        assert!(rt; key.as_str() == named && *fault == wanted, "{key}");
-    }
-    assert!(rt;
-        matches!(
-            entry_faults(rt.alloc(), "users\n"),
-            Err(ConfigFault::Syntax(1))
-        )
-    );
+    ];
+    let found = entry_faults(rt.alloc(), text);
+    assert!(rt; matches!(&found, Ok(faults) if are_faults(faults, &wanted)));
+    let refused = entry_faults(rt.alloc(), "users\n");
+    assert!(rt; matches!(refused, Err(ConfigFault::Syntax(1))));
 }
 
 #[test]
-fn the_path_is_found_and_the_text_is_bounded(rt: HostRuntime) {
-    let words = texts(&rt, rt.alloc(), &["--users", "F", "--config", "C"]);
-    assert!(rt; config_path(&words) == Some("C"));
-    let words = texts(&rt, rt.alloc(), &["--config=C", "--config=D"]);
-    assert!(rt; config_path(&words) == Some("C"));
-    let words = texts(&rt, rt.alloc(), &["--configs", "--config"]);
-    assert!(rt; config_path(&words).is_none());
+fn the_path_is_found(rt: HostRuntime) {
+    for &(words, path) in &[
+        (&["--users", "F", "--config", "C"][..], Some("C")),
+        (&["--config=C", "--config=D"], Some("C")),
+        (&["--configs", "--config"], None),
+    ] {
+        let words = texts(&rt, rt.alloc(), words);
+        assert!(rt; config_path(&words) == path);
+    }
+}
+
+/// How a file of these bytes is read.
+fn reading(alloc: Global, bytes: &[u8]) -> &'static str {
+    match read_config(alloc, &mut Device::new(bytes)) {
+        Ok(_) => "read",
+        Err(ConfigFault::Long) => "too long",
+        Err(ConfigFault::Utf8) => "no text",
+        Err(_) => "another fault",
+    }
+}
+
+#[test]
+fn the_text_is_bounded(rt: HostRuntime) {
     let most = [b'#'; 65_537];
-    let text = read_config(rt.alloc(), &mut Device::new(&most[..65_536]));
-    assert!(rt; text.is_ok());
-    let long = read_config(rt.alloc(), &mut Device::new(&most[..]));
-    assert!(rt; matches!(long, Err(ConfigFault::Long)));
-    let bytes = read_config(rt.alloc(), &mut Device::new(&b"\xff"[..]));
-    assert!(rt; matches!(bytes, Err(ConfigFault::Utf8)));
+    for &(bytes, wanted) in &[
+        (&most[..65_536], "read"),
+        (&most[..], "too long"),
+        (&b"\xff"[..], "no text"),
+    ] {
+        assert!(rt; reading(rt.alloc(), bytes) == wanted);
+    }
 }

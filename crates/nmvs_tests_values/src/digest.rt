@@ -28,7 +28,7 @@ fn other_lines_are_not_read(rt: HostRuntime) {
     let alloc = rt.alloc();
     let upper = LINE.replace(alloc, "ba78", "BA78").expect(&rt, "memory");
     let one_blank = LINE.replace(alloc, "  ", " ").expect(&rt, "memory");
-    for (text, name) in [
+    for &(text, name) in &[
         (LINE, "abd.txt"),
         (&LINE[1..], "abc.txt"),
         (LINE.trim_end(), "abc.txt"),

@@ -29,10 +29,10 @@ const LOCAL: &[u8] =
 #[test]
 fn headers_of_a_gateway_are_read(rt: HostRuntime) {
     let name = Name::read("ph1").expect(&rt, "a name");
-    for (bytes, length) in [(OVER_IPV4, 52), (OVER_IPV6, 76), (ALL_VALUES, 127)] {
+    for &(bytes, length) in &[(OVER_IPV4, 52), (OVER_IPV6, 76), (ALL_VALUES, 127)] {
         assert!(rt; read_header(bytes) == Header::Whole { name, length });
     }
-    for bytes in [
+    for &bytes in &[
         RESUMED,
         NO_CERTIFICATE,
         LOCAL,
@@ -44,7 +44,7 @@ fn headers_of_a_gateway_are_read(rt: HostRuntime) {
 
 #[test]
 fn a_header_comes_in_pieces(rt: HostRuntime) {
-    for (come, missing) in [(0, 16), (1, 15), (13, 3), (15, 1), (16, 36), (51, 1)] {
+    for &(come, missing) in &[(0, 16), (1, 15), (13, 3), (15, 1), (16, 36), (51, 1)] {
         assert!(rt; read_header(&OVER_IPV4[..come]) == Header::Begun { missing });
     }
     assert!(rt; read_header(b"QUIT\n") == Header::Broken);

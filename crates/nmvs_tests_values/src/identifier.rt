@@ -78,30 +78,51 @@ fn characters_of_texts_are_those_of_the_tables(rt: HostRuntime) {
         let bytes = [b'x', code];
         let text = str::from_utf8(&bytes).expect(&rt, "ASCII");
         let first = str::from_utf8(&bytes[1..]).expect(&rt, "ASCII");
-        assert!(rt; Serial::read(text).is_ok() == is_listed(&SET_82, code));
-        assert!(rt; Batch::read(first).is_ok() == is_listed(&SET_82, code));
-        assert!(rt; Name::read(text).is_ok() == is_listed(&NAMES, code));
-        assert!(rt; Name::read(first).is_ok() == is_listed(&FIRST_OF_NAMES, code));
+        let taken = [
+            Serial::read(text).is_ok(),
+            Batch::read(first).is_ok(),
+            Name::read(text).is_ok(),
+            Name::read(first).is_ok(),
+        ];
+        let listed = [
+            is_listed(&SET_82, code),
+            is_listed(&SET_82, code),
+            is_listed(&NAMES, code),
+            is_listed(&FIRST_OF_NAMES, code),
+        ];
+        assert!(rt; taken == listed, "{code}");
     }
     assert!(rt; Serial::read("\u{E9}") == Err(Set82Fault::Character));
     assert!(rt; Name::read("\u{E9}") == Err(NameFault::Character));
 }
 
+/// The day of an expiry date that is read.
+fn day_of(text: &str) -> Option<i32> {
+    match Expiry::read(text) {
+        Ok(expiry) => Some(expiry.day()),
+        Err(_) => None,
+    }
+}
+
 #[test]
 fn expiries(rt: HostRuntime) {
-    assert!(rt; Expiry::read("28022") == Err(ExpiryFault::Length));
-    assert!(rt; Expiry::read("2802a0") == Err(ExpiryFault::Digit));
-    assert!(rt; Expiry::read("281300") == Err(ExpiryFault::Month));
-    assert!(rt; Expiry::read("270229") == Err(ExpiryFault::Day));
-    assert!(rt;
-        Expiry::read("280200")
-            .expect(&rt, "the last of February")
-            .day()
-            == 21_243
-    );
-    assert!(rt; Expiry::read("280229").expect(&rt, "a leap day").day() == 21_243);
-    assert!(rt; Expiry::read("000100").expect(&rt, "the first month").day() == 10_987);
-    assert!(rt; Expiry::read("991231").expect(&rt, "the last day").day() == 47_481);
+    for &(text, fault) in &[
+        ("28022", ExpiryFault::Length),
+        ("2802a0", ExpiryFault::Digit),
+        ("281300", ExpiryFault::Month),
+        ("270229", ExpiryFault::Day),
+    ] {
+        assert!(rt; Expiry::read(text) == Err(fault), "{text}");
+    }
+    // The last of February, a leap day, the first month and the last day.
+    for &(text, day) in &[
+        ("280200", 21_243),
+        ("280229", 21_243),
+        ("000100", 10_987),
+        ("991231", 47_481),
+    ] {
+        assert!(rt; day_of(text) == Some(day), "{text}");
+    }
     assert!(rt; &*Expiry::read("280200").expect(&rt, "as written").text() == "280200");
 }
 
@@ -156,7 +177,7 @@ fn shows<T: Display>(alloc: Global, value: &T, text: &str) -> bool {
 #[test]
 fn faults_of_product_codes_and_expiry_dates_are_shown(rt: HostRuntime) {
     let alloc = rt.alloc();
-    for (fault, text) in [
+    for &(fault, text) in &[
         (
             ProductCodeFault::Length,
             "the product code does not have 14 characters",
@@ -172,7 +193,7 @@ fn faults_of_product_codes_and_expiry_dates_are_shown(rt: HostRuntime) {
     ] {
         assert!(rt; shows(alloc, &fault, text));
     }
-    for (fault, text) in [
+    for &(fault, text) in &[
         (
             ExpiryFault::Length,
             "the expiry date does not have 6 characters",
@@ -197,7 +218,7 @@ fn faults_of_product_codes_and_expiry_dates_are_shown(rt: HostRuntime) {
 #[test]
 fn faults_of_texts_and_names_are_shown(rt: HostRuntime) {
     let alloc = rt.alloc();
-    for (fault, text) in [
+    for &(fault, text) in &[
         (Set82Fault::Empty, "the text is empty"),
         (Set82Fault::Long, "the text has more than 20 characters"),
         (
@@ -207,7 +228,7 @@ fn faults_of_texts_and_names_are_shown(rt: HostRuntime) {
     ] {
         assert!(rt; shows(alloc, &fault, text));
     }
-    for (fault, text) in [
+    for &(fault, text) in &[
         (NameFault::Empty, "the name is empty"),
         (NameFault::Long, "the name has more than 20 characters"),
         (

@@ -1,4 +1,4 @@
-//! Tests of the values, words, rules and tables, and of the crates of bytes.
+//! Tests of the values, words, rules, tables, scans and rates, and of the crates of bytes.
 #![tactic(auto)]
 
 #[cfg(test)]
@@ -6,9 +6,13 @@ mod config;
 #[cfg(test)]
 mod digest;
 #[cfg(test)]
+mod elements;
+#[cfg(test)]
 mod gateway;
 #[cfg(test)]
 mod identifier;
+#[cfg(test)]
+mod rate;
 #[cfg(test)]
 mod rules;
 #[cfg(test)]

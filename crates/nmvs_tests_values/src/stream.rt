@@ -2,6 +2,7 @@ use nmvs_stream::{Device, Failed, Sink, Source, cut_line};
 use std::cell::Cell;
 use std::io;
 use std::io::{ErrorKind, Read, Write};
+use std::process::Abort;
 use std::test::*;
 
 /// Answers each call with this error.
@@ -62,36 +63,39 @@ impl<'a, D: Write> Write for InterruptedOnce<'a, D> {
     }
 }
 
+/// The source gives these bytes next, and no more.
+fn gives(rt: &impl Abort, source: &mut impl Source, wanted: &[u8]) {
+    let mut buffer = [0; 3];
+    let count = source.read(&mut buffer);
+    assert!(rt; count == Ok(wanted.len()) && buffer.starts_with(wanted));
+}
+
 #[test]
 fn a_source_gives_the_bytes_and_the_end(rt: HostRuntime) {
     let mut source = Device::new(b"QUIT\n".as_slice());
-    let mut buffer = [0; 3];
-    assert_eq!(rt; source.read(&mut buffer), Ok(3));
-    assert_eq!(rt; &buffer, b"QUI");
-    assert_eq!(rt; source.read(&mut buffer), Ok(2));
-    assert_eq!(rt; &buffer[..2], b"T\n".as_slice());
-    assert_eq!(rt; source.read(&mut buffer), Ok(0));
+    gives(&rt, &mut source, b"QUI");
+    gives(&rt, &mut source, b"T\n");
+    gives(&rt, &mut source, b"");
 }
 
 #[test]
 fn a_sink_takes_the_bytes(rt: HostRuntime) {
     let mut bytes = Vec::new(rt.alloc());
     let mut sink = Device::new(&mut bytes);
-    assert_eq!(rt; sink.write(b"BYE"), Ok(3));
-    assert_eq!(rt; sink.write(b"\n"), Ok(1));
-    assert_eq!(rt; sink.flush(), Ok(()));
+    let written = [sink.write(b"BYE"), sink.write(b"\n")];
+    let flushed = sink.flush();
     drop(sink);
-    assert_eq!(rt; bytes.as_slice(), b"BYE\n".as_slice());
+    assert!(rt; written == [Ok(3), Ok(1)] && flushed == Ok(()));
+    assert!(rt; bytes.as_slice() == b"BYE\n".as_slice());
 }
 
 #[test]
 fn an_error_and_an_interruption_are_failures(rt: HostRuntime) {
-    for kind in [ErrorKind::BrokenPipe, ErrorKind::Interrupted] {
-        let mut source = Device::new(Broken(kind));
-        assert_eq!(rt; source.read(&mut [0; 3]), Err(Failed));
+    for &kind in &[ErrorKind::BrokenPipe, ErrorKind::Interrupted] {
+        let read = Device::new(Broken(kind)).read(&mut [0; 3]);
         let mut sink = Device::new(Broken(kind));
-        assert_eq!(rt; sink.write(b"BYE\n"), Err(Failed));
-        assert_eq!(rt; sink.flush(), Err(Failed));
+        let (written, flushed) = (sink.write(b"BYE\n"), sink.flush());
+        assert!(rt; read == Err(Failed) && written == Err(Failed) && flushed == Err(Failed));
     }
 }
 
@@ -111,7 +115,7 @@ fn an_empty_write_is_no_failure(rt: HostRuntime) {
 }
 
 #[test]
-fn an_interrupted_call_is_not_tried_again(rt: HostRuntime) {
+fn an_interrupted_read_is_not_tried_again(rt: HostRuntime) {
     let flushes = Cell::new(0);
     let mut source = Device::new(InterruptedOnce {
         inner: b"QUIT\n".as_slice(),
@@ -119,30 +123,35 @@ fn an_interrupted_call_is_not_tried_again(rt: HostRuntime) {
         flushes: &flushes,
     });
     let mut buffer = [0; 9];
-    assert_eq!(rt; source.read(&mut buffer), Err(Failed));
-    assert_eq!(rt; source.read(&mut buffer), Ok(5));
-    assert_eq!(rt; &buffer[..5], b"QUIT\n".as_slice());
+    let read = [source.read(&mut buffer), source.read(&mut buffer)];
+    assert!(rt; read == [Err(Failed), Ok(5)] && buffer.starts_with(b"QUIT\n"));
+}
 
+#[test]
+fn an_interrupted_write_is_not_tried_again(rt: HostRuntime) {
+    let flushes = Cell::new(0);
     let mut bytes = Vec::new(rt.alloc());
     let mut sink = Device::new(InterruptedOnce {
         inner: &mut bytes,
         interrupted: false,
         flushes: &flushes,
     });
-    assert_eq!(rt; sink.write(b"BYE\n"), Err(Failed));
-    assert_eq!(rt; sink.write(b"BYE\n"), Ok(4));
-    assert_eq!(rt; sink.flush(), Ok(()));
+    let written = [sink.write(b"BYE\n"), sink.write(b"BYE\n")];
+    let flushed = sink.flush();
     drop(sink);
-    assert_eq!(rt; bytes.as_slice(), b"BYE\n".as_slice());
-    assert_eq!(rt; flushes.get(), 1);
+    assert!(rt; written == [Err(Failed), Ok(4)] && flushed == Ok(()));
+    assert!(rt; bytes.as_slice() == b"BYE\n".as_slice() && flushes.get() == 1);
+}
 
+#[test]
+fn an_interrupted_flush_is_not_tried_again(rt: HostRuntime) {
+    let flushes = Cell::new(0);
     let mut sink = Device::new(InterruptedOnce {
         inner: io::sink(),
         interrupted: false,
         flushes: &flushes,
     });
-    assert_eq!(rt; sink.flush(), Err(Failed));
-    assert_eq!(rt; flushes.get(), 1);
+    assert!(rt; sink.flush() == Err(Failed) && flushes.get() == 0);
 }
 
 #[test]
@@ -153,11 +162,15 @@ fn a_failure_has_its_text(rt: HostRuntime) {
 
 #[test]
 fn a_line_is_cut_off_at_its_first_lf(rt: HostRuntime) {
-    let (line, behind) = cut_line(b"SUSPEND ph1\n\nQUIT\n").unwrap_or((&[], &[]));
-    assert_eq!(rt; line, b"SUSPEND ph1".as_slice());
-    assert_eq!(rt; behind, b"\nQUIT\n".as_slice());
-    let (line, behind) = cut_line(behind).unwrap_or((b"none", &[]));
-    assert!(rt; line.is_empty());
-    assert_eq!(rt; behind, b"QUIT\n".as_slice());
+    for &(bytes, line, behind) in &[
+        (
+            &b"SUSPEND ph1\n\nQUIT\n"[..],
+            &b"SUSPEND ph1"[..],
+            &b"\nQUIT\n"[..],
+        ),
+        (b"\nQUIT\n", b"", b"QUIT\n"),
+    ] {
+        assert!(rt; cut_line(bytes) == Some((line, behind)));
+    }
     assert!(rt; cut_line(b"QUIT").is_none());
 }

@@ -9,16 +9,20 @@ use std::rt::HostRuntime;
 
 #[test]
 fn words_of_replies(rt: HostRuntime) {
-    assert!(rt; own_word(OwnStatus::Held) == "HELD");
-    assert!(rt; lock_word(BatchLock::Recalled) == "RECALLED");
-    assert!(rt; onward_word(Onward::Disposal) == "DISPOSAL");
-    assert!(rt; cause_word(Cause::Unknown) == "UNKNOWN");
-    assert!(rt; refusal_word(Refusal::NotHolder) == "NOT_HOLDER");
-    assert!(rt; reason_word(Reason::Destroy) == "DESTROY");
-    assert!(rt; validity_word(false) == "VALID");
-    assert!(rt; flag_word(true) == "FLAGGED");
-    assert!(rt; ReplyKind::Locked.word() == "LOCKED");
-    assert!(rt; ReplyKind::HandedOver.word() == "HANDED_OVER");
+    for &(word, wanted) in &[
+        (own_word(OwnStatus::Held), "HELD"),
+        (lock_word(BatchLock::Recalled), "RECALLED"),
+        (onward_word(Onward::Disposal), "DISPOSAL"),
+        (cause_word(Cause::Unknown), "UNKNOWN"),
+        (refusal_word(Refusal::NotHolder), "NOT_HOLDER"),
+        (reason_word(Reason::Destroy), "DESTROY"),
+        (validity_word(false), "VALID"),
+        (flag_word(true), "FLAGGED"),
+        (ReplyKind::Locked.word(), "LOCKED"),
+        (ReplyKind::HandedOver.word(), "HANDED_OVER"),
+    ] {
+        assert!(rt; word == wanted, "{wanted}");
+    }
 }
 
 #[test]

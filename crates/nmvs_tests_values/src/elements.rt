@@ -1,4 +1,6 @@
-use crate::{ApplicationIdentifier, Elements, National, NationalNumber, ScanFault, read_scan};
+use nmvs_elements::{
+    ApplicationIdentifier, Elements, National, NationalNumber, ScanFault, read_scan,
+};
 use std::rt::HostRuntime;
 
 /// One pack in several printed forms (GS1 General Specifications, chapter 5 and sections 3.2 and 7.8): each symbology identifier,
@@ -91,7 +93,7 @@ const REFUSED: [(&[u8], ScanFault); 22] = [
 
 #[test]
 fn printed_forms_are_read(rt: HostRuntime) {
-    for form in FORMS {
+    for &form in &FORMS {
         let read = read_scan(form, None).expect(&rt, "a pack");
         assert!(rt; read.code.text() == "09506000134352" && read.serial.text() == "SN1");
         assert!(rt; read.batch.text() == "10A1" && read.expiry.text().as_str() == "280200");
@@ -128,7 +130,7 @@ fn a_national_number_is_read_where_it_is_required(rt: HostRuntime) {
 
 #[test]
 fn each_fault_is_told(rt: HostRuntime) {
-    for (scan, fault) in REFUSED {
+    for &(scan, fault) in &REFUSED {
         assert!(rt; read_scan(scan, None) == Err(fault));
     }
     assert!(rt; read_scan(&[b'0'; 101], None) == Err(ScanFault::Long));

@@ -1,7 +1,7 @@
 //! Rates, buckets and the limiter.
-use crate::{Bucket, Rate, RateLimiter, SharedLimiter, admit};
 use linked_list_allocator::LocalHeap;
 use nmvs_identifier::Name;
+use nmvs_rate::{Bucket, Rate, RateLimiter, SharedLimiter, admit};
 use std::alloc::Global;
 use std::process::Abort;
 use std::test::*;
@@ -19,7 +19,7 @@ fn rates_have_lines_and_a_burst(rt: HostRuntime) {
     let most = u64::from(u32::MAX);
     let wide = rate(&rt, 1, most);
     assert_eq!(rt; (wide.lines(), wide.burst()), (1, most));
-    for (lines, burst) in [(0, 1), (1, 0), (most + 1, 1), (1, most + 1)] {
+    for &(lines, burst) in &[(0, 1), (1, 0), (most + 1, 1), (1, most + 1)] {
         assert!(rt; Rate::new(lines, burst).is_none(), "{lines} {burst}");
     }
 }
@@ -29,7 +29,7 @@ fn rates_have_lines_and_a_burst(rt: HostRuntime) {
 fn a_bucket_gives_what_comes_in(rt: HostRuntime) {
     let rate = rate(&rt, 2, 3);
     let mut bucket = Bucket::full(rate, 0);
-    for (now, taken) in [
+    for &(now, taken) in &[
         (0, true),
         (0, true),
         (0, true),
@@ -53,7 +53,7 @@ fn a_bucket_gives_what_comes_in(rt: HostRuntime) {
 #[test]
 fn each_user_has_a_bucket_of_its_own(rt: HostRuntime) {
     let mut limiter = RateLimiter::new(rt.alloc(), rate(&rt, 1, 1));
-    for (user, now, passes) in [
+    for &(user, now, passes) in &[
         ("ph1", 0, true),
         ("ph1", 0, false),
         ("ph2", 0, true),
@@ -66,17 +66,24 @@ fn each_user_has_a_bucket_of_its_own(rt: HostRuntime) {
     }
 }
 
+/// Whether a user gets a bucket on a heap of so many bytes, which then gives one line.
+fn has_bucket_on(rt: &impl Abort, alloc: Global, bytes: usize) -> bool {
+    let heap = LocalHeap::new(alloc, bytes).expect(rt, "memory");
+    let mut limiter = RateLimiter::new(&heap, rate(rt, 1, 1));
+    let user = name(rt, "ph1");
+    let has_bucket = limiter.admit(&user, 0).is_ok();
+    assert!(rt; !has_bucket || limiter.admit(&user, 0) == Ok(false));
+    has_bucket
+}
+
 /// Heaps grow by 16 bytes until one is large enough. A user who was refused a bucket gets one later.
 #[test]
-fn each_growth_is_refused_in_turn(rt: HostRuntime) -> Result<(), Fail> {
-    let user = name(&rt, "ph1");
+fn each_growth_is_refused_in_turn(rt: HostRuntime) {
     let mut refused = false;
     for sixteens in 2..1_000usize {
-        let heap = LocalHeap::new(rt.alloc(), sixteens * 16)?;
-        let mut limiter = RateLimiter::new(&heap, rate(&rt, 1, 1));
-        if limiter.admit(&user, 0).is_ok() {
-            assert!(rt; refused && limiter.admit(&user, 0) == Ok(false));
-            return Ok(());
+        if has_bucket_on(&rt, rt.alloc(), sixteens * 16) {
+            assert!(rt; refused);
+            return;
         }
         refused = true;
     }
@@ -88,7 +95,7 @@ fn each_growth_is_refused_in_turn(rt: HostRuntime) -> Result<(), Fail> {
 fn a_shared_limiter_counts_by_the_machines_clock(rt: HostRuntime) {
     let ph1 = name(&rt, "ph1");
     let limiter = SharedLimiter::new(&rt, rt.alloc(), rate(&rt, 1, 2));
-    for passes in [true, true, false] {
+    for &passes in &[true, true, false] {
         assert!(rt; admit(&rt, Some(&limiter), &ph1) == Ok(passes));
     }
     for _ in 0..4 {
