@@ -56,10 +56,10 @@ impl Connection {
     ) -> Connection
         ensures { result.session.proxy ≡ proxy }
     {
-        let Accepted { number, socket } = accepted;
+        let number = accepted.number;
         Connection {
             number,
-            session: PeerSession::new(alloc, socket, proxy),
+            session: PeerSession::new(alloc, accepted, proxy),
             was_idle: false,
             moved: now,
             peer_closed: false,
@@ -156,7 +156,11 @@ impl Connection {
         let buffer = &mut scratch.buffer;
         let next = self.session.take(rt, pool, buffer, withheld, desk);
         let goes_on = was_pending && !self.session.is_waiting();
-        self.note_moved(next.waits_for_release() && !goes_on, scratch.now);
+        let begins = !was_pending && self.session.has_pending_line();
+        self.note_moved(
+            (next.waits_for_release() && !goes_on) || begins,
+            scratch.now,
+        );
         next
     }
 
@@ -170,7 +174,9 @@ impl Connection {
         if self.stopped {
             return Next::Close;
         }
-        let next = self.session.read_header(name_of, &mut scratch.buffer);
+        let next = self
+            .session
+            .read_header(scratch.alloc, name_of, &mut scratch.buffer);
         let is_whole = self.session.awaited_header().is_none();
         self.note_moved(is_whole, scratch.now);
         next
@@ -256,7 +262,7 @@ impl Connection {
         }
         if stage == Stage::Serving && self.is_idle(age, idle) {
             self.was_idle = true;
-            self.session.stop_serving();
+            self.session.stop_idle();
             return Next::Again;
         }
         Next::WaitIo

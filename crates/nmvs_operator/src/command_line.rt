@@ -127,6 +127,13 @@ static OPTIONS: [Described; 23] = [
         that the system chooses",
     },
     Described {
+        name: "http",
+        value: Value::Text("ADDRESS"),
+        default: None,
+        help: "Address and port, or path of a Unix socket, at which lines come over HTTP; a port alone is one of 127.0.0.1, and \
+        port 0 one that the system chooses",
+    },
+    Described {
         name: "admin",
         value: Value::Text("PATH"),
         default: None,
