@@ -40,7 +40,7 @@ enum Value {
 }
 
 /// The options, in the order in which the help shows them.
-static OPTIONS: [Described; 23] = [
+static OPTIONS: [Described; 24] = [
     Described {
         name: "users",
         value: Value::Text("FILE"),
