@@ -1,5 +1,6 @@
 -- Streams of lines: over the bytes of a socket, or over HTTP (own).
 use Rattle.std.specs.Prelude.{◌≡◌, ◌≢◌, ℕ, Bool, true, false, List, [], ◌++◌, Option, Some, None}
+use Rattle.std.specs.Global.{Box}
 use Rattle.nmvs_http.specs.Codecs.{AnswersLines, CarriesRequests}
 use Rattle.nmvs_messages.specs.declared.end.End.{End}
 use Rattle.nmvs_messages.specs.declared.end.End.TheVariants as ends
@@ -15,6 +16,10 @@ use Rattle.nmvs_connections.specs.Traffic.{Traffic}
 pub record LineStreamState : Type 0 where
   pub raw : Traffic
   pub http : Option Http
+
+abbrev pub unboxed : Option (Box Http) → Option Http
+unboxed None = None
+unboxed (Some boxed) = Some boxed.value
 
 -- the bytes of lines and replies that are carried over HTTP: those that came before the first request, and then those that the codec
 -- gave; and the replies that it took

@@ -1,5 +1,5 @@
 //! One connection of a worker.
-ghost use Rattle.std.specs.Prelude.{◌≡◌, None, Some};
+ghost use Rattle.std.specs.Prelude.{◌≡◌, None, Some, IfOk};
 ghost use Rattle.nmvs_connections.specs.declared.peer_session.Stage.TheVariants as stages;
 ghost use Rattle.nmvs_connections.specs.Peers.{IsConnection};
 ghost use Rattle.nmvs_connections.specs.Turns.{ConnectionSteps, Kept, TellsOwn};
@@ -11,7 +11,7 @@ use crate::socket::Moved;
 use crate::worker_pool::{Accepted, WorkerPool};
 use mio::Registry;
 use nmvs_messages::{Desk, End, NameOf, Released, WithheldAnswers};
-use std::alloc::Global;
+use std::alloc::{AllocError, Global};
 use std::io;
 use std::sync::Wait;
 use std::time::{Duration, Instant};
@@ -48,24 +48,29 @@ pub(crate) struct Connection {
 
 impl Connection {
     /// A connection, which begins with a gateway's header where that has this name.
+    ///
+    /// # Errors
+    ///
+    /// There is no memory for it.
     pub(crate) fn new(
         alloc: Global,
         accepted: Accepted,
         proxy: Option<NameOf>,
         now: Instant,
-    ) -> Connection
-        ensures { result.session.proxy ≡ proxy }
+    ) -> Result<Connection, AllocError>
+        ensures { IfOk result (λ connection. connection.session.proxy ≡ proxy) }
     {
         let number = accepted.number;
-        Connection {
+        let session = PeerSession::new(alloc, accepted, proxy)?;
+        Ok(Connection {
             number,
-            session: PeerSession::new(alloc, accepted, proxy),
+            session,
             was_idle: false,
             moved: now,
             peer_closed: false,
             stopped: false,
             queued: false,
-        }
+        })
     }
 
     /// Has a poll report the connection under the key.

@@ -1,5 +1,5 @@
 //! The stream of lines of a connection: over its socket, or over HTTP.
-ghost use Rattle.std.specs.Prelude.{◌≡◌, ◌⊎◌, ◌++◌, [], None, IfSome};
+ghost use Rattle.std.specs.Prelude.{◌≡◌, ◌⊎◌, ◌++◌, [], None, IfSome, OnErr};
 ghost use Rattle.nmvs_http.specs.Codecs.{AnswersLines};
 ghost use Rattle.nmvs_connections.specs.LineStreams.{AnswersOver, CarriesLines, IsFed, before_of, carried, carried_over, moved_of};
 ghost use Rattle.nmvs_connections.specs.Streams.{Reads, Writes};
@@ -10,7 +10,7 @@ use crate::stream::Stream;
 use boxcar::tag::Tag;
 use mio::{Registry, Token};
 use nmvs_http::{CodecStage, Decoded, Fault, HttpCodec, extended};
-use std::alloc::Global;
+use std::alloc::{AllocError, Global};
 use std::hash::RandomState;
 use std::io;
 use std::marker::Model;
@@ -32,17 +32,18 @@ pub(crate) struct Http {
 #[derive(Drop)]
 pub(crate) struct LineStream {
     stream: Stream,
-    http: Option<Http>,
+    /// In a box, so that a connection without it keeps no room for it.
+    http: Option<Box<Http>>,
 }
 
 impl Model for LineStream {
-    ghost use Rattle.nmvs_connections.specs.LineStreams.{LineStreamState, IsLineStream};
+    ghost use Rattle.nmvs_connections.specs.LineStreams.{LineStreamState, IsLineStream, unboxed};
 
     ghost Value = { LineStreamState };
 
-    ghost view = { λ s. record { raw = s.stream; http = s.http } };
+    ghost view = { λ s. record { raw = s.stream; http = unboxed s.http } };
 
-    ghost invariant = { λ s. IsLineStream s.stream s.http };
+    ghost invariant = { λ s. IsLineStream s.stream (unboxed s.http) };
 }
 
 impl LineStream {
@@ -64,21 +65,32 @@ impl LineStream {
     }
 
     /// Carries the lines over HTTP from here on, where there are keys for the fields of its requests.
-    pub(crate) fn begin(&mut self, alloc: Global, keys: Option<RandomState>)
+    ///
+    /// # Errors
+    ///
+    /// There is no memory for it. The lines are those of the socket, as before.
+    pub(crate) fn begin(
+        &mut self,
+        alloc: Global,
+        keys: Option<RandomState>,
+    ) -> Result<(), AllocError>
         requires plain { self.old.http ≡ None }
         requires silent { self.old.raw.sent ≡ [] }
         ensures carried { carried self.new ≡ carried self.old }
         ensures before { IfSome (before_of self.new.http) (λ before. before ≡ (carried self.old).received) }
         ensures none { keys ≡ None → self.new ≡ self.old }
+        ensures err { OnErr result (self.new ≡ self.old) }
     {
         if let Some(keys) = keys {
-            self.http = Some(Http {
+            let http = Http {
                 codec: HttpCodec::new(alloc, keys),
                 before: self.stream.received(),
                 may_have_more: true,
                 discards: false,
-            });
+            };
+            self.http = Some(Box::new(alloc, http)?);
         }
+        Ok(())
     }
 
     /// Reads bytes to the front of the buffer.

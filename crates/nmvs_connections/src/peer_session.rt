@@ -1,5 +1,5 @@
 //! The session of the peer of a connection, over its bytes.
-ghost use Rattle.std.specs.Prelude.{◌≡◌, ◌≢◌, ◌≤◌, ◌++◌, [], if◌then◌else◌, List, ℕ, Some, None, IfSome, IsSome, is_some, length, take, true};
+ghost use Rattle.std.specs.Prelude.{◌≡◌, ◌≢◌, ◌≤◌, ◌++◌, [], if◌then◌else◌, List, ℕ, Some, None, IfOk, IfSome, IsSome, is_some, length, take, true};
 ghost use Rattle.nmvs_messages.specs.Peers.{TakesFrom};
 ghost use Rattle.nmvs_messages.specs.declared.peer.Peer.TheVariants as peers;
 ghost use Rattle.nmvs_connections.specs.declared.next.Next.{Next as TheNext};
@@ -19,7 +19,7 @@ use crate::worker_pool::{Accepted, WorkerPool};
 use memchr::memchr;
 use mio::{Registry, Token};
 use nmvs_messages::{Desk, End, NO_LIMITS, NameOf, Peer, READ_SIZE, Released, WithheldAnswers};
-use std::alloc::Global;
+use std::alloc::{AllocError, Global};
 use std::hash::RandomState;
 use std::io;
 use std::marker::Model;
@@ -75,13 +75,22 @@ impl Model for PeerSession {
 
 impl PeerSession {
     /// The session of anyone over what was accepted, or of the peer that a header names.
-    pub(crate) fn new(alloc: Global, accepted: Accepted, proxy: Option<NameOf>) -> PeerSession
-        ensures { result.proxy ≡ proxy }
+    ///
+    /// # Errors
+    ///
+    /// There is no memory for what carries its lines.
+    pub(crate) fn new(
+        alloc: Global,
+        accepted: Accepted,
+        proxy: Option<NameOf>,
+    ) -> Result<PeerSession, AllocError>
+        ensures { IfOk result (λ session. session.proxy ≡ proxy) }
     {
         let Accepted { socket, http, .. } = accepted;
         let peer = anyone_where_known(proxy);
-        PeerSession {
-            stream: lines_of(alloc, socket, keys_where_known(proxy, http)),
+        let stream = lines_of(alloc, socket, keys_where_known(proxy, http))?;
+        Ok(PeerSession {
+            stream,
             session: BufferedSession::new(alloc, NO_LIMITS.lines),
             proxy,
             http,
@@ -90,7 +99,7 @@ impl PeerSession {
             stage: Stage::Serving,
             filled: false,
             served: false,
-        }
+        })
     }
 
     /// Has a poll report the connection under the key.
@@ -225,7 +234,10 @@ impl PeerSession {
             ProxyHeader::Begun { missing } => missing.min(READ_SIZE),
             ProxyHeader::Whole(peer) => {
                 self.note_silent();
-                self.stream.begin(alloc, self.http);
+                if self.stream.begin(alloc, self.http).is_err() {
+                    self.stage = Stage::Ending;
+                    return Next::Close;
+                }
                 self.peer = Some(peer);
                 self.unread.clear();
                 return Next::Again;
@@ -408,9 +420,10 @@ impl PeerSession {
 fn anyone_where_known(proxy: Option<NameOf>) -> Option<Peer>
     ensures { result ≡ (if is_some proxy then None else Some peers.Anyone) }
 {
-    match proxy {
-        Some(_) => None,
-        None => Some(Peer::Anyone),
+    if proxy.is_some() {
+        None
+    } else {
+        Some(Peer::Anyone)
     }
 }
 
@@ -422,14 +435,18 @@ fn keys_where_known(proxy: Option<NameOf>, http: Option<RandomState>) -> Option<
 }
 
 /// The lines of a socket, which are carried over HTTP from the start where there are keys.
-fn lines_of(alloc: Global, socket: Socket, keys: Option<RandomState>) -> LineStream
-    ensures carried { carried result ≡ record { received = []; sent = [] } }
-    ensures before { IfSome (before_of result.http) (λ before. before ≡ []) }
-    ensures none { keys ≡ None → before_of result.http ≡ None }
+fn lines_of(
+    alloc: Global,
+    socket: Socket,
+    keys: Option<RandomState>,
+) -> Result<LineStream, AllocError>
+    ensures carried { IfOk result (λ stream. carried stream ≡ record { received = []; sent = [] }) }
+    ensures before { IfOk result (λ stream. IfSome (before_of stream.http) (λ before. before ≡ [])) }
+    ensures none { IfOk result (λ stream. keys ≡ None → before_of stream.http ≡ None) }
 {
     let mut stream = LineStream::new(socket);
-    stream.begin(alloc, keys);
-    stream
+    stream.begin(alloc, keys)?;
+    Ok(stream)
 }
 
 /// Whether all lines that the session was fed are answered, and the replies were taken.

@@ -467,6 +467,9 @@ fn a_request_has_a_deadline(rt: HostRuntime) -> Result<(), Fail> {
             "{\"type\":\"about:blank\",\"title\":\"Request Timeout\",\"status\":408,\"fault\":\"TIMEOUT\",\"recorded\":\"no\"}\n",
         ],
     );
-    assert_eq!(rt; str::from_utf8(told.as_slice()), str::from_utf8(wanted.as_slice()));
+    assert_eq!(rt;
+        str::from_utf8(told.as_slice()),
+        str::from_utf8(wanted.as_slice())
+    );
     Ok(())
 }
