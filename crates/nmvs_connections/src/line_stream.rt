@@ -1,5 +1,5 @@
 //! The stream of lines of a connection: over its socket, or over HTTP.
-ghost use Rattle.std.specs.Prelude.{◌≡◌, ◌⊎◌, ◌++◌, [], None, IfSome, OnErr};
+ghost use Rattle.std.specs.Prelude.{◌≡◌, ◌⊎◌, ◌++◌, [], None, IfSome, false};
 ghost use Rattle.nmvs_http.specs.Codecs.{AnswersLines};
 ghost use Rattle.nmvs_connections.specs.LineStreams.{AnswersOver, CarriesLines, IsFed, before_of, carried, carried_over, moved_of};
 ghost use Rattle.nmvs_connections.specs.Streams.{Reads, Writes};
@@ -10,7 +10,7 @@ use crate::stream::Stream;
 use boxcar::tag::Tag;
 use mio::{Registry, Token};
 use nmvs_http::{CodecStage, Decoded, Fault, HttpCodec, extended};
-use std::alloc::{AllocError, Global};
+use std::alloc::Global;
 use std::hash::RandomState;
 use std::io;
 use std::marker::Model;
@@ -64,33 +64,32 @@ impl LineStream {
         self.stream.register(registry, token)
     }
 
-    /// Carries the lines over HTTP from here on, where there are keys for the fields of its requests.
-    ///
-    /// # Errors
-    ///
-    /// There is no memory for it. The lines are those of the socket, as before.
-    pub(crate) fn begin(
-        &mut self,
-        alloc: Global,
-        keys: Option<RandomState>,
-    ) -> Result<(), AllocError>
+    /// Carries the lines over HTTP from here on, where there are keys for the fields of its requests. The result is whether there was
+    /// memory for it.
+    pub(crate) fn begin(&mut self, alloc: Global, keys: Option<RandomState>) -> bool
         requires plain { self.old.http ≡ None }
         requires silent { self.old.raw.sent ≡ [] }
         ensures carried { carried self.new ≡ carried self.old }
         ensures before { IfSome (before_of self.new.http) (λ before. before ≡ (carried self.old).received) }
         ensures none { keys ≡ None → self.new ≡ self.old }
-        ensures err { OnErr result (self.new ≡ self.old) }
+        ensures refused { result ≡ false → self.new ≡ self.old }
     {
-        if let Some(keys) = keys {
-            let http = Http {
-                codec: HttpCodec::new(alloc, keys),
-                before: self.stream.received(),
-                may_have_more: true,
-                discards: false,
-            };
-            self.http = Some(Box::new(alloc, http)?);
+        let Some(keys) = keys else {
+            return true;
+        };
+        let http = Http {
+            codec: HttpCodec::new(alloc, keys),
+            before: self.stream.received(),
+            may_have_more: true,
+            discards: false,
+        };
+        match Box::new(alloc, http) {
+            Ok(http) => {
+                self.http = Some(http);
+                true
+            }
+            Err(_) => false,
         }
-        Ok(())
     }
 
     /// Reads bytes to the front of the buffer.
@@ -138,7 +137,7 @@ impl LineStream {
         }
     }
 
-    /// Sends as much as the system takes of what HTTP tells beside the replies, which goes with them.
+    /// Sends as much as the system takes of the responses.
     pub(crate) fn flush(&mut self) -> Moved
         ensures carried { carried self.new ≡ carried self.old }
         ensures before { before_of self.new.http ≡ before_of self.old.http }

@@ -234,7 +234,7 @@ impl PeerSession {
             ProxyHeader::Begun { missing } => missing.min(READ_SIZE),
             ProxyHeader::Whole(peer) => {
                 self.note_silent();
-                if self.stream.begin(alloc, self.http).is_err() {
+                if !self.stream.begin(alloc, self.http) {
                     self.stage = Stage::Ending;
                     return Next::Close;
                 }
@@ -445,7 +445,9 @@ fn lines_of(
     ensures none { IfOk result (λ stream. keys ≡ None → before_of stream.http ≡ None) }
 {
     let mut stream = LineStream::new(socket);
-    stream.begin(alloc, keys)?;
+    if !stream.begin(alloc, keys) {
+        return Err(AllocError);
+    }
     Ok(stream)
 }
 

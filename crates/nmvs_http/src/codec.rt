@@ -25,7 +25,7 @@ const LONGEST_REPLIES: usize = 16 * 1024 * 1024;
 pub enum CodecStage {
     /// Requests are read.
     Open,
-    /// No more requests are read: the connection is closed behind what is unsent.
+    /// No more requests are read. The connection is closed after the unsent bytes.
     Closing,
     /// There was no memory: the connection is closed.
     Lost,
@@ -49,14 +49,14 @@ pub enum Decoded {
 pub(crate) struct Hand {
     asks: Asks,
     head_alone: bool,
-    /// Whether the connection stays behind the response.
+    /// Whether the connection stays open after the response.
     stays: bool,
     /// The bytes of lines that were not given yet.
     lines: Bytes,
 }
 
-/// Carries a session of lines over HTTP. It is fed the bytes of requests, and gives the lines of their bodies, one request behind
-/// the other. It takes the replies to these, and tells each request its response. The caller moves the bytes.
+/// Carries a session of lines over HTTP. It takes the bytes of requests, and gives the lines of their bodies, request by request. It
+/// takes the replies to these, and composes the response to each request. The caller moves the bytes.
 #[derive(Drop)]
 pub struct HttpCodec {
     alloc: Global,
@@ -67,7 +67,7 @@ pub struct HttpCodec {
     hand: Option<Hand>,
     /// The replies to the request in hand.
     gathered: Vec<u8>,
-    /// What is told.
+    /// The bytes for the peer.
     told: WriteBuffer,
     /// How many bytes of that were sent.
     gone: usize,
@@ -125,7 +125,7 @@ impl HttpCodec {
         self.begun
     }
 
-    /// Goes on with these bytes, and tells how many of them it took: all, where there is memory for them.
+    /// Goes on with these bytes. The result is the number that it took: all, if there is memory for them.
     pub fn feed(&mut self, more: &[u8]) -> usize
         ensures within { result ≤ length more.now }
         ensures fed { self.new ≡ record self.old { stream = record self.old.stream { fed = self.old.stream.fed ++ take result more.now } } }
@@ -232,7 +232,7 @@ impl HttpCodec {
         }
     }
 
-    /// What is told and unsent. With what was sent it is, in order, the responses to the requests that it was fed, each with the
+    /// The unsent bytes. With those that were sent they are, in order, the responses to the requests that it was fed, each with the
     /// text of the answers to its lines.
     pub fn unsent(&self) -> &[u8]
         ensures bytes { result.now ≡ self.now.unsent }
@@ -242,7 +242,7 @@ impl HttpCodec {
         &self.told.bytes.as_slice()[self.gone..]
     }
 
-    /// Notes that so many unsent bytes were sent, from the front.
+    /// Notes that this number of unsent bytes was sent, from the front.
     pub fn advance(&mut self, count: usize)
         requires { count ≤ length self.old.unsent }
         ensures { self.new ≡ record self.old { sent = self.old.sent ++ take count self.old.unsent; unsent = drop count self.old.unsent } }
@@ -258,7 +258,7 @@ impl HttpCodec {
 }
 
 impl Hand {
-    /// What a request asks, and whether the connection stays behind its response.
+    /// A request, and whether the connection stays open after its response.
     fn of(asked: Asked, stays: bool) -> Hand
         ensures { result ≡ record { asks = asked.asks; head_alone = asked.head_alone; stays = stays; lines = asked.lines } }
     {
@@ -276,7 +276,7 @@ impl Hand {
     }
 }
 
-/// The tag of what was given, and of what reading on gave behind it.
+/// The tag of what was given, with what reading on gave after it.
 fn given_behind(given: &Tag, buffer: &[u8], decoded: Decoded) -> Tag
     requires { Fits decoded buffer.now }
     ensures { result.numbers ≡ given.now.numbers ++ bytes_given decoded buffer.now }
@@ -308,7 +308,7 @@ fn give_of_hand(hand: &mut Hand, buffer: &mut [u8]) -> Decoded
     Decoded::Lines(give_lines(&mut hand.lines, buffer))
 }
 
-/// Gives bytes of these lines, as many as the buffer has room for, and tells how many.
+/// Gives bytes of these lines, as many as the buffer has room for. The result is their number.
 fn give_lines(lines: &mut Bytes, buffer: &mut [u8]) -> usize
     ensures within { result ≤ length buffer.new }
     ensures given { lines.old ≡ take result buffer.new ++ lines.new }
@@ -326,14 +326,14 @@ fn may_respond(hand: &Hand, ended: bool) -> bool
     ended || hand.lines.is_empty()
 }
 
-/// Whether a connection stays behind a response.
+/// Whether a connection stays open after a response.
 fn stays_behind(stays: bool, ended: bool) -> bool
     ensures { ended ≡ true → result ≡ false }
 {
     stays && !ended
 }
 
-/// Invites the sender of a request to send its body, and tells how the codec stands behind it.
+/// Invites the sender of a request to send its body. The result is how the codec stands then.
 fn tell_invitation(told: &mut WriteBuffer) -> CodecStage
     ensures { Tells told.old.bytes.items told.new.bytes.items invitation_text CodecStage.Open result }
 {
@@ -344,7 +344,7 @@ fn tell_invitation(told: &mut WriteBuffer) -> CodecStage
     }
 }
 
-/// Refuses for this fault what is no request, and tells how the codec stands behind it.
+/// Refuses for this fault what is no request. The result is how the codec stands then.
 fn tell_refusal(told: &mut WriteBuffer, fault: Fault) -> CodecStage
     ensures { Tells told.old.bytes.items told.new.bytes.items (response_text (Asks.Refused fault) false false []) CodecStage.Closing result }
 {
@@ -355,7 +355,7 @@ fn tell_refusal(told: &mut WriteBuffer, fault: Fault) -> CodecStage
     }
 }
 
-/// Responds to the request in hand with these replies, and tells how the codec stands behind it.
+/// Responds to the request in hand with these replies. The result is how the codec stands then.
 fn tell_response(told: &mut WriteBuffer, hand: &Hand, stays: bool, replies: &[u8]) -> CodecStage
     ensures { Tells told.old.bytes.items told.new.bytes.items (response_text hand.now.asks hand.now.head_alone stays replies.now) (if stays then CodecStage.Open else CodecStage.Closing) result }
 {
@@ -376,7 +376,7 @@ fn stage_behind(stays: bool) -> CodecStage
     }
 }
 
-/// Forgets what is told behind so many bytes: there was no memory for all of it.
+/// Forgets what was written after this number of bytes: there was no memory for all of it.
 fn forget(told: &mut WriteBuffer, count: usize) -> CodecStage
     ensures lost { result ≡ CodecStage.Lost }
     ensures first { told.new.bytes.items ≡ take count told.old.bytes.items }

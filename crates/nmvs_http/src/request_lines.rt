@@ -16,7 +16,7 @@ pub(crate) fn lines_asked(alloc: Global, asks: Asks, body: &Bytes) -> Result<Byt
     }
 }
 
-/// A body, and LF behind it where its last line has none.
+/// A body, and LF after it if its last line has none.
 fn whole_lines(alloc: Global, body: &Bytes) -> Result<Bytes, AllocError>
     ensures { IfOk result (λ lines. lines ≡ specs.whole_lines body.now) }
 {
@@ -29,7 +29,7 @@ fn whole_lines(alloc: Global, body: &Bytes) -> Result<Bytes, AllocError>
     }
 }
 
-/// These bytes, and LF behind them.
+/// These bytes, and LF after them.
 fn with_lf(alloc: Global, bytes: &[u8]) -> Result<BytesMut, AllocError>
     ensures { IfOk result (λ lines. lines.items ≡ bytes.now ++ 10 ∷ []) }
 {

@@ -44,7 +44,7 @@ pub(crate) enum Next {
     Nothing,
     /// A peer that waits to be invited to send a body.
     Invitation,
-    /// A request, and whether the connection stays behind its response.
+    /// A request, and whether the connection stays open after its response.
     Request(Asked, bool),
     /// What can be no request.
     Refused(Fault),
@@ -82,7 +82,7 @@ impl RequestStream {
         }
     }
 
-    /// Goes on with these bytes, and tells how many of them it took: all, where there is memory for them.
+    /// Goes on with these bytes. The result is the number that it took: all, if there is memory for them.
     pub(crate) fn feed(&mut self, more: &[u8]) -> usize
         ensures within { result ≤ length more.now }
         ensures fed { self.new ≡ record self.old { fed = self.old.fed ++ take result more.now } }

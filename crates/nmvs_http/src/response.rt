@@ -8,7 +8,7 @@ use crate::fault::Fault;
 use itoa::Buffer;
 use nmvs_stream::{Failed, Sink, write_all};
 
-/// What a peer is told that waits with the body of its request (RFC 9110, section 15.2.1).
+/// Invites a peer that waits with the body of its request (RFC 9110, section 15.2.1).
 const CONTINUE: &[u8] = b"HTTP/1.1 100 Continue\r\n\r\n";
 
 /// Invites the peer to send the body.
@@ -43,7 +43,7 @@ pub(crate) fn write_response<W: Sink>(
     write_all(sink, sent_of(body, is_head))
 }
 
-/// What is sent of the body: nothing where the head alone is wanted.
+/// The part of the body that is sent: nothing if the head alone is wanted.
 fn sent_of(body: &[u8], is_head: bool) -> &[u8]
     ensures { result.now ≡ (if is_head then [] else body.now) }
 {
@@ -120,7 +120,7 @@ fn front_of_fault(fault: Fault) -> &'static [u8]
     }
 }
 
-/// The problem that a fault is told as (RFC 9457).
+/// The problem that says what the fault is (RFC 9457).
 #[tactic(auto, unfolding(crate::specs::Responses::problem))]
 fn problem(fault: Fault) -> &'static [u8]
     ensures { result.now ≡ specs.problem fault }
@@ -153,7 +153,7 @@ fn problem(fault: Fault) -> &'static [u8]
     }
 }
 
-/// Writes the head of a response whose body has so many bytes.
+/// Writes the head of a response whose body has this number of bytes.
 fn write_head<W: Sink>(sink: &mut W, asks: Asks, stays: bool, count: usize) -> Result<(), Failed>
     ensures ok { OnOk result (Writes (W.taken sink.old) (W.taken sink.new) (specs.head_text asks stays count)) }
     ensures err { OnErr result (DeliversPart (W.taken sink.old) (W.taken sink.new) (specs.head_text asks stays count)) }
@@ -164,7 +164,7 @@ fn write_head<W: Sink>(sink: &mut W, asks: Asks, stays: bool, count: usize) -> R
     write_both(sink, digits, b"\r\n\r\n")
 }
 
-/// Writes one text, and another one behind it.
+/// Writes one text, and another one after it.
 fn write_both<W: Sink>(sink: &mut W, first: &[u8], second: &[u8]) -> Result<(), Failed>
     ensures ok { OnOk result (Writes (W.taken sink.old) (W.taken sink.new) (first.now ++ second.now)) }
     ensures err { OnErr result (DeliversPart (W.taken sink.old) (W.taken sink.new) (first.now ++ second.now)) }

@@ -29,6 +29,15 @@ struct Counting {
     answers: usize,
 }
 
+/// One that has released nothing.
+fn counting_desk(peer: Peer) -> Counting {
+    Counting {
+        peer,
+        releases: 0,
+        answers: 0,
+    }
+}
+
 impl<'a> Desk<'a> for Counting {
     ghost use Rattle.nmvs_messages.specs.Withheld.{AtOnce};
 
@@ -113,11 +122,7 @@ fn connections_of_a_turn_share_one_release(rt: HostRuntime) -> Result<(), Fail> 
     event_loop.queue(0);
     event_loop.queue(1);
     let mut withheld = WithheldAnswers::new();
-    let mut desk = Counting {
-        peer: Peer::Anyone,
-        releases: 0,
-        answers: 0,
-    };
+    let mut desk = counting_desk(Peer::Anyone);
     event_loop.take_turns(&rt, &pool, &mut scratch, &mut withheld, &mut desk);
     assert_eq!(rt; (desk.releases, desk.answers), (1, 3));
     assert!(rt; is_told(&mut one, b"FAULT RATE\nFAULT FIELDS\n")?);
@@ -141,11 +146,7 @@ fn a_header_names_the_peer_of_its_lines(rt: HostRuntime) -> Result<(), Fail> {
     nameless.write_all(b"ph1 STATUS 09506000134352 SN1\n")?;
     event_loop.queue(0);
     event_loop.queue(1);
-    let mut desk = Counting {
-        peer: NameOf::User.peer(Name::read("ph1").expect(&rt, "a name")),
-        releases: 0,
-        answers: 0,
-    };
+    let mut desk = counting_desk(NameOf::User.peer(Name::read("ph1").expect(&rt, "a name")));
     for _ in 0..8 {
         let mut withheld = WithheldAnswers::new();
         event_loop.take_turns(&rt, &pool, &mut scratch, &mut withheld, &mut desk);
@@ -167,11 +168,7 @@ fn a_line_has_a_deadline(rt: HostRuntime) -> Result<(), Fail> {
     let mut event_loop = EventLoop::new(alloc, 0, start);
     let mut dripping = connect(&rt, &mut event_loop, &pool, &poller, &scratch)?;
     let mut asking = connect(&rt, &mut event_loop, &pool, &poller, &scratch)?;
-    let mut desk = Counting {
-        peer: Peer::Anyone,
-        releases: 0,
-        answers: 0,
-    };
+    let mut desk = counting_desk(Peer::Anyone);
     for (second, drip, ask) in [
         (0, b"p".as_slice(), b"p".as_slice()),
         (29, b"h", b"h\nph"),
@@ -201,6 +198,14 @@ const REPLIES: &str =
     "HTTP/1.1 200 OK\r\ncontent-type: application/vnd.nmvs.lines\r\ncache-control: no-store\r\n";
 
 const PROBLEM: &str = "content-type: application/problem+json\r\ncache-control: no-store\r\n";
+
+/// What a request is told that has not come whole in time.
+const LATE: [&str; 4] = [
+    "HTTP/1.1 408 Request Timeout\r\n",
+    PROBLEM,
+    "connection: close\r\ncontent-length: 96\r\n\r\n",
+    "{\"type\":\"about:blank\",\"title\":\"Request Timeout\",\"status\":408,\"fault\":\"TIMEOUT\",\"recorded\":\"no\"}\n",
+];
 
 /// The bytes of these texts, one behind the other.
 fn joined(rt: &impl Abort, alloc: Global, parts: &[&str]) -> Vec<u8> {
@@ -238,11 +243,7 @@ fn told_over_http(
     let mut event_loop = EventLoop::new(alloc, 0, scratch.now);
     let keys = Some(RandomState::new(rt)?);
     let mut far = connect_over(rt, &mut event_loop, &pool, &poller, &scratch, keys)?;
-    let mut desk = Counting {
-        peer,
-        releases: 0,
-        answers: 0,
-    };
+    let mut desk = counting_desk(peer);
     let mut told = Vec::new(alloc);
     let mut rest = input;
     while let Some((chunk, more)) = rest.split_at_checked(piece.min(rest.len()).max(1)) {
@@ -433,11 +434,7 @@ fn a_request_has_a_deadline(rt: HostRuntime) -> Result<(), Fail> {
     let mut event_loop = EventLoop::new(alloc, 0, start);
     let keys = Some(RandomState::new(&rt)?);
     let mut dripping = connect_over(&rt, &mut event_loop, &pool, &poller, &scratch, keys)?;
-    let mut desk = Counting {
-        peer: Peer::Anyone,
-        releases: 0,
-        answers: 0,
-    };
+    let mut desk = counting_desk(Peer::Anyone);
     let mut told = Vec::new(alloc);
     for (second, drip, most) in [
         (60, b"POST".as_slice(), 0),
@@ -457,16 +454,7 @@ fn a_request_has_a_deadline(rt: HostRuntime) -> Result<(), Fail> {
         assert!(rt; told.len() <= most, "{second}");
         event_loop.check_timeouts(&rt, &pool, scratch.now);
     }
-    let wanted = joined(
-        &rt,
-        alloc,
-        &[
-            "HTTP/1.1 408 Request Timeout\r\n",
-            PROBLEM,
-            "connection: close\r\ncontent-length: 96\r\n\r\n",
-            "{\"type\":\"about:blank\",\"title\":\"Request Timeout\",\"status\":408,\"fault\":\"TIMEOUT\",\"recorded\":\"no\"}\n",
-        ],
-    );
+    let wanted = joined(&rt, alloc, &LATE);
     assert_eq!(rt;
         str::from_utf8(told.as_slice()),
         str::from_utf8(wanted.as_slice())
