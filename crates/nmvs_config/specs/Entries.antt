@@ -32,6 +32,7 @@ kind_of key =
     else if bytes_eq key (codes "log-format") then Some Text
     else if bytes_eq key (codes "listen") then Some Address
     else if bytes_eq key (codes "metrics") then Some Address
+    else if bytes_eq key (codes "http") then Some Address
     else if bytes_eq key (codes "shards") then Some Number
     else if bytes_eq key (codes "workers") then Some Number
     else if bytes_eq key (codes "sessions") then Some Number

@@ -37,7 +37,7 @@ pub(crate) fn kind_of(key: &str) -> Option<Kind>
     match key {
         "users" | "import" | "export" | "journal" | "bind" | "socket" | "proxy" => Some(Kind::Text),
         "admin" | "log-level" | "log-format" => Some(Kind::Text),
-        "listen" | "metrics" => Some(Kind::Address),
+        "listen" | "http" | "metrics" => Some(Kind::Address),
         "shards"
         | "workers"
         | "sessions"

@@ -1,4 +1,6 @@
 mod RepliesSteps
 mod PeerSteps
+mod HttpSteps
+mod LineSteps
 mod ConnectionLemmas
 mod TurnSteps

@@ -16,12 +16,12 @@ use Rattle.nmvs_connections.specs.Streams.{Writes}
 use Rattle.nmvs_connections.specs.Peers.{EndsWith, Holds, IsNotice, NamesPeer}
 
 -- what has no byte
-nil : (xs : List ℕ) → length xs ≡ 0 → xs ≡ []
-nil [] e = refl
-nil (x ∷ xs) e = absurd (cc e)
+pub nothing : {A : Type 0} (xs : List A) → length xs ≡ 0 → xs ≡ []
+nothing [] e = refl
+nothing (x ∷ xs) e = absurd (cc e)
 
 pub empty : (xs : List ℕ) → (length xs == 0) ≡ true → xs ≡ []
-empty xs e = nil xs (elim (eqb_tells (length xs) 0) [ inl is ↦ is.1 | inr apart ↦ absurd (cc (apart.0, e)) ])
+empty xs e = nothing xs (elim (eqb_tells (length xs) 0) [ inl is ↦ is.1 | inr apart ↦ absurd (cc (apart.0, e)) ])
 
 -- what is left of bytes whose front is moved behind them and cut off
 pub cut_front : (n : ℕ) (xs : List ℕ) (count : ℕ) → n ≤ length xs → count ≡ length xs → take (count - n) (drop n xs ++ take n xs) ≡ drop n xs
@@ -44,7 +44,7 @@ pub holds_awaiting : (name_of : NameOf) → Holds (Some name_of) None stages.Ser
 holds_awaiting name_of = record { header = []; rest = []; received_is = refl; named = (refl, refl); left = λ _. refl; notice = []; sent_is = refl; ended = refl }
 
 -- before a connection lingers nothing is sent but replies
-quiet : (stage : Stage) (notice : List ℕ) → (stage ≡ stages.Lingering → ⊥) → EndsWith stage notice → notice ≡ []
+pub quiet : (stage : Stage) (notice : List ℕ) → (stage ≡ stages.Lingering → ⊥) → EndsWith stage notice → notice ≡ []
 quiet stages.Serving notice goes_on e = e
 quiet stages.Ending notice goes_on e = e
 quiet stages.Lingering notice goes_on e = absurd (goes_on refl)

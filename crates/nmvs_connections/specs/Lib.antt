@@ -1,5 +1,6 @@
 pub mod Traffic
 pub mod Streams
+pub mod LineStreams
 pub mod Replies
 pub mod ProxyHeader
 pub mod Peers

@@ -3,14 +3,20 @@ use crate::socket::{Listener, Moved, Socket};
 use crate::worker_pool::{Accepted, Poller, WorkerPool};
 use log::{Log, debug};
 use mio::unix::SourceFd;
-use mio::{Interest, Token};
+use mio::{Interest, Poll, Token};
+use nmvs_http::{Fault, WriteBuffer, write_refusal};
+use nmvs_stream::Failed;
+use std::alloc::{AllocError, Global};
+use std::hash::RandomState;
 use std::io;
 use std::io::ErrorKind;
 use std::sync::Wait;
 use std::time::Duration;
 
-/// The token of the listener.
-const LISTENER: Token = Token(0);
+/// The tokens of the listeners.
+const LINES: Token = Token(0);
+
+const HTTP: Token = Token(1);
 
 /// For how many milliseconds no connection is accepted behind one that could not be: as a rule for want of a descriptor
 /// (own).
@@ -19,24 +25,88 @@ const PAUSE: u64 = 100;
 /// What the connection is told that is one too many.
 const BUSY: &[u8] = b"FAULT BUSY\n";
 
+/// Where connections are accepted whose lines are carried over HTTP.
+#[derive(Drop)]
+pub struct HttpListener {
+    pub listener: Listener,
+    /// The keys for the fields of requests, whose names the peer chooses.
+    pub keys: RandomState,
+}
+
+/// Where connections are accepted, and how they carry lines.
+#[derive(Clone, Copy)]
+struct Entrance<'l> {
+    listener: &'l Listener,
+    /// The keys for the fields of requests, where lines are carried over HTTP.
+    http: Option<RandomState>,
+    /// What the connection is told that is one too many.
+    busy: &'l [u8],
+}
+
 /// Accepts connections and hands them to the workers in turn, until the pool closes. One too many is told so, and closed.
 ///
 /// # Errors
 ///
-/// The system refused to report the listener, or to wait.
+/// The system refused to report a listener, or to wait.
 pub fn accept_loop<R: Wait + Log>(
     rt: &R,
+    alloc: Global,
     pool: &WorkerPool<'_>,
     listener: &Listener,
+    http: Option<&HttpListener>,
+    poller: Poller,
+) -> io::Result<()> {
+    let busy = busy_response(alloc)?;
+    let lines = Entrance {
+        listener,
+        http: None,
+        busy: BUSY,
+    };
+    match http {
+        None => accept_by(rt, pool, lines, None, poller),
+        Some(HttpListener { listener, keys }) => {
+            let http = Entrance {
+                listener,
+                http: Some(*keys),
+                busy: busy.as_slice(),
+            };
+            accept_by(rt, pool, lines, Some(http), poller)
+        }
+    }
+}
+
+/// What the connection is told over HTTP that is one too many.
+fn busy_response(alloc: Global) -> Result<Vec<u8>, AllocError> {
+    let mut text = WriteBuffer::new(Vec::new(alloc));
+    match write_refusal(&mut text, Fault::Busy) {
+        Ok(()) => Ok(text.bytes),
+        Err(Failed) => Err(AllocError),
+    }
+}
+
+/// Has a poll report an entrance under the token.
+fn register(poll: &Poll, entrance: Entrance<'_>, token: Token) -> io::Result<()> {
+    let descriptor = entrance.listener.descriptor();
+    poll.registry()
+        .register(&mut SourceFd(&descriptor), token, Interest::READABLE)
+}
+
+/// Accepts connections by one entrance or two, until the pool closes.
+fn accept_by<R: Wait + Log>(
+    rt: &R,
+    pool: &WorkerPool<'_>,
+    lines: Entrance<'_>,
+    http: Option<Entrance<'_>>,
     poller: Poller,
 ) -> io::Result<()> {
     let Poller {
         mut poll,
         mut events,
     } = poller;
-    let descriptor = listener.descriptor();
-    poll.registry()
-        .register(&mut SourceFd(&descriptor), LISTENER, Interest::READABLE)?;
+    register(&poll, lines, LINES)?;
+    if let Some(http) = http {
+        register(&poll, http, HTTP)?;
+    }
     let mut next = 0usize;
     let mut pause = None;
     for _ in 0..u64::MAX {
@@ -44,7 +114,10 @@ pub fn accept_loop<R: Wait + Log>(
         if pool.is_closing(rt) {
             return Ok(());
         }
-        pause = accept_all(rt, pool, listener, &mut next);
+        pause = accept_all(rt, pool, lines, &mut next);
+        if let Some(http) = http {
+            pause = accept_all(rt, pool, http, &mut next).or(pause);
+        }
     }
     Ok(())
 }
@@ -53,19 +126,29 @@ pub fn accept_loop<R: Wait + Log>(
 fn accept_all<R: Wait + Log>(
     rt: &R,
     pool: &WorkerPool<'_>,
-    listener: &Listener,
+    entrance: Entrance<'_>,
     next: &mut usize,
 ) -> Option<Duration> {
+    let Entrance {
+        listener,
+        http,
+        busy,
+    } = entrance;
     for _ in 0..u64::MAX {
         match listener.accept() {
             Ok(socket) => {
                 let (number, worker) = (*next, pool.worker_of(*next));
                 if pool.enter(rt, worker) {
                     debug!(rt; connection = number, worker; "connection begins");
-                    pool.assign(rt, worker, Accepted { number, socket });
+                    let accepted = Accepted {
+                        number,
+                        socket,
+                        http,
+                    };
+                    pool.assign(rt, worker, accepted);
                     *next = number.wrapping_add(1);
                 } else {
-                    turn_away(socket);
+                    turn_away(socket, busy);
                 }
             }
             Err(error) if error.kind() == ErrorKind::WouldBlock => return None,
@@ -76,8 +159,8 @@ fn accept_all<R: Wait + Log>(
 }
 
 /// Tells a connection that it is one too many, and closes it.
-fn turn_away(mut socket: Socket) {
-    match socket.write(BUSY) {
+fn turn_away(mut socket: Socket, busy: &[u8]) {
+    match socket.write(busy) {
         Moved::Bytes(_) => socket.shutdown_write(),
         Moved::Blocked | Moved::Over => {}
     }

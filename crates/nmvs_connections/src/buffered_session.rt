@@ -4,9 +4,8 @@ ghost use Rattle.nmvs_messages.specs.Peers.{TakesFrom};
 ghost use Rattle.nmvs_stream.specs.InputLines.{unfinished_line};
 ghost use Rattle.nmvs_connections.specs.Replies.{Asked, LacksMemory, Replies, TellsPart, WordsPart};
 
-use crate::byte_tag::extended;
-use crate::write_buffer::WriteBuffer;
 use boxcar::tag::Tag;
+use nmvs_http::{WriteBuffer, extended};
 use nmvs_messages::{Desk, End, Peer, Released, WithheldAnswers};
 use nmvs_protocol::{Session, write_texts};
 use std::alloc::Global;

@@ -1,5 +1,5 @@
 //! One connection of a worker.
-ghost use Rattle.std.specs.Prelude.{◌≡◌, None, Some};
+ghost use Rattle.std.specs.Prelude.{◌≡◌, None, Some, IfOk};
 ghost use Rattle.nmvs_connections.specs.declared.peer_session.Stage.TheVariants as stages;
 ghost use Rattle.nmvs_connections.specs.Peers.{IsConnection};
 ghost use Rattle.nmvs_connections.specs.Turns.{ConnectionSteps, Kept, TellsOwn};
@@ -11,7 +11,7 @@ use crate::socket::Moved;
 use crate::worker_pool::{Accepted, WorkerPool};
 use mio::Registry;
 use nmvs_messages::{Desk, End, NameOf, Released, WithheldAnswers};
-use std::alloc::Global;
+use std::alloc::{AllocError, Global};
 use std::io;
 use std::sync::Wait;
 use std::time::{Duration, Instant};
@@ -48,24 +48,29 @@ pub(crate) struct Connection {
 
 impl Connection {
     /// A connection, which begins with a gateway's header where that has this name.
+    ///
+    /// # Errors
+    ///
+    /// There is no memory for it.
     pub(crate) fn new(
         alloc: Global,
         accepted: Accepted,
         proxy: Option<NameOf>,
         now: Instant,
-    ) -> Connection
-        ensures { result.session.proxy ≡ proxy }
+    ) -> Result<Connection, AllocError>
+        ensures { IfOk result (λ connection. connection.session.proxy ≡ proxy) }
     {
-        let Accepted { number, socket } = accepted;
-        Connection {
+        let number = accepted.number;
+        let session = PeerSession::new(alloc, accepted, proxy)?;
+        Ok(Connection {
             number,
-            session: PeerSession::new(alloc, socket, proxy),
+            session,
             was_idle: false,
             moved: now,
             peer_closed: false,
             stopped: false,
             queued: false,
-        }
+        })
     }
 
     /// Has a poll report the connection under the key.
@@ -156,7 +161,11 @@ impl Connection {
         let buffer = &mut scratch.buffer;
         let next = self.session.take(rt, pool, buffer, withheld, desk);
         let goes_on = was_pending && !self.session.is_waiting();
-        self.note_moved(next.waits_for_release() && !goes_on, scratch.now);
+        let begins = !was_pending && self.session.has_pending_line();
+        self.note_moved(
+            (next.waits_for_release() && !goes_on) || begins,
+            scratch.now,
+        );
         next
     }
 
@@ -170,7 +179,9 @@ impl Connection {
         if self.stopped {
             return Next::Close;
         }
-        let next = self.session.read_header(name_of, &mut scratch.buffer);
+        let next = self
+            .session
+            .read_header(scratch.alloc, name_of, &mut scratch.buffer);
         let is_whole = self.session.awaited_header().is_none();
         self.note_moved(is_whole, scratch.now);
         next
@@ -256,7 +267,7 @@ impl Connection {
         }
         if stage == Stage::Serving && self.is_idle(age, idle) {
             self.was_idle = true;
-            self.session.stop_serving();
+            self.session.stop_idle();
             return Next::Again;
         }
         Next::WaitIo

@@ -175,7 +175,7 @@ impl EventLoop {
         self.turns.reserve(most)?;
         self.later.reserve(most)?;
         self.awaiting.reserve(most)?;
-        let mut connection = Connection::new(scratch.alloc, accepted, pool.proxy(), scratch.now);
+        let mut connection = Connection::new(scratch.alloc, accepted, pool.proxy(), scratch.now)?;
         connection.register(registry, self.connections.vacant_key())?;
         match self.connections.insert(connection) {
             Ok(_key) => Ok(()),

@@ -9,10 +9,10 @@
 
 mod acceptor;
 mod buffered_session;
-mod byte_tag;
 mod connection;
 mod event_loop;
 mod keepalive;
+mod line_stream;
 mod next;
 mod peer_session;
 mod proxy_header;
@@ -20,9 +20,8 @@ mod scratch;
 mod socket;
 mod stream;
 mod worker_pool;
-mod write_buffer;
 
-pub use acceptor::accept_loop;
+pub use acceptor::{HttpListener, accept_loop};
 pub use buffered_session::BufferedSession;
 pub use event_loop::serve;
 pub use socket::Listener;

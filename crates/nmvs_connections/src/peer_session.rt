@@ -1,22 +1,26 @@
 //! The session of the peer of a connection, over its bytes.
-ghost use Rattle.std.specs.Prelude.{◌≡◌, ◌≤◌, ◌++◌, if◌then◌else◌, List, ℕ, Some, None, IfSome, length, take};
+ghost use Rattle.std.specs.Prelude.{◌≡◌, ◌≢◌, ◌≤◌, ◌++◌, [], if◌then◌else◌, List, ℕ, Some, None, IfOk, IfSome, IsSome, is_some, length, take, true};
 ghost use Rattle.nmvs_messages.specs.Peers.{TakesFrom};
+ghost use Rattle.nmvs_messages.specs.declared.peer.Peer.TheVariants as peers;
 ghost use Rattle.nmvs_connections.specs.declared.next.Next.{Next as TheNext};
 ghost use Rattle.nmvs_connections.specs.declared.peer_session.Stage.TheVariants as stages;
+ghost use Rattle.nmvs_connections.specs.LineStreams.{EndsIn, before_of, carried};
 ghost use Rattle.nmvs_connections.specs.Peers.{IsConnection, StaysPeer};
+ghost use Rattle.nmvs_connections.specs.Replies.{Replies};
 ghost use Rattle.nmvs_connections.specs.Turns.{ConnectionSteps, Kept, LinesStep, TellsOwn, WaitsForRelease};
 
 use crate::buffered_session::BufferedSession;
+use crate::line_stream::LineStream;
 use crate::next::Next;
 use crate::proxy_header::{ProxyHeader, read_proxy_header};
 use crate::scratch::Scratch;
 use crate::socket::{Moved, Socket};
-use crate::stream::Stream;
-use crate::worker_pool::WorkerPool;
+use crate::worker_pool::{Accepted, WorkerPool};
 use memchr::memchr;
 use mio::{Registry, Token};
 use nmvs_messages::{Desk, End, NO_LIMITS, NameOf, Peer, READ_SIZE, Released, WithheldAnswers};
-use std::alloc::Global;
+use std::alloc::{AllocError, Global};
+use std::hash::RandomState;
 use std::io;
 use std::marker::Model;
 use std::sync::Wait;
@@ -40,10 +44,12 @@ pub(crate) enum Stage {
 /// gateway the stream begins with a header, which names the peer. No line is taken before the peer is known.
 #[derive(Drop)]
 pub(crate) struct PeerSession {
-    stream: Stream,
+    stream: LineStream,
     session: BufferedSession,
     /// Whose name the header has that the stream begins with, if it begins with one.
     proxy: Option<NameOf>,
+    /// The keys of what carries the lines over HTTP, where they are.
+    http: Option<RandomState>,
     /// Who is at the other end, once that is known.
     peer: Option<Peer>,
     /// What was read, and is taken once the replies to what was taken are sent; first what has come of a header.
@@ -56,33 +62,44 @@ pub(crate) struct PeerSession {
 }
 
 impl Model for PeerSession {
+    ghost use Rattle.nmvs_connections.specs.LineStreams.{Behind, before_of, carried};
     ghost use Rattle.nmvs_connections.specs.Peers.{PeerState, Holds};
 
     ghost Value = { PeerState };
 
-    ghost view = { λ p. record { proxy = p.proxy; peer = p.peer; stage = p.stage; stream = p.stream; session = p.session } };
+    ghost view = { λ p. record { proxy = p.proxy; peer = p.peer; stage = p.stage; stream = carried p.stream; session = p.session } };
 
-    ghost invariant = { λ p. Holds p.proxy p.peer p.stage p.stream.received p.stream.sent p.session.fed p.session.sent p.unread.items };
+    ghost invariant = { λ p. Holds p.proxy p.peer p.stage (carried p.stream).received (carried p.stream).sent p.session.fed p.session.sent p.unread.items
+        × Behind (before_of p.stream.http) p.peer (carried p.stream).received p.session.fed p.unread.items p.stage };
 }
 
 impl PeerSession {
-    /// The session of anyone over the socket, or of the peer that a header names.
-    pub(crate) fn new(alloc: Global, socket: Socket, proxy: Option<NameOf>) -> PeerSession
-        ensures { result.proxy ≡ proxy }
+    /// The session of anyone over what was accepted, or of the peer that a header names.
+    ///
+    /// # Errors
+    ///
+    /// There is no memory for what carries its lines.
+    pub(crate) fn new(
+        alloc: Global,
+        accepted: Accepted,
+        proxy: Option<NameOf>,
+    ) -> Result<PeerSession, AllocError>
+        ensures { IfOk result (λ session. session.proxy ≡ proxy) }
     {
-        PeerSession {
-            stream: Stream::new(socket),
+        let Accepted { socket, http, .. } = accepted;
+        let peer = anyone_where_known(proxy);
+        let stream = lines_of(alloc, socket, keys_where_known(proxy, http))?;
+        Ok(PeerSession {
+            stream,
             session: BufferedSession::new(alloc, NO_LIMITS.lines),
             proxy,
-            peer: match proxy {
-                Some(_) => None,
-                None => Some(Peer::Anyone),
-            },
+            http,
+            peer,
             unread: Vec::new(alloc),
             stage: Stage::Serving,
             filled: false,
             served: false,
-        }
+        })
     }
 
     /// Has a poll report the connection under the key.
@@ -121,9 +138,9 @@ impl PeerSession {
         self.served
     }
 
-    /// Whether a line was begun whose LF has not come.
+    /// Whether a line was begun whose LF has not come, or a request that has not come whole.
     pub(crate) fn has_pending_line(&self) -> bool {
-        self.session.has_pending_line()
+        self.session.has_pending_line() || self.stream.has_pending_request()
     }
 
     /// Whether answers wait to be released.
@@ -131,9 +148,9 @@ impl PeerSession {
         self.session.waiting() != 0
     }
 
-    /// Whether bytes were read that were not taken.
+    /// Whether bytes were read that were not taken, or that are not answered.
     pub(crate) fn has_unread(&self) -> bool {
-        !self.unread.is_empty()
+        !self.unread.is_empty() || self.stream.has_request()
     }
 
     /// Whether more may be there to be taken at once.
@@ -145,7 +162,7 @@ impl PeerSession {
     pub(crate) fn is_sent(&self) -> bool
         ensures { IsConnection self.now }
     {
-        self.session.unsent().is_empty()
+        self.session.unsent().is_empty() && self.stream.is_flushed()
     }
 
     /// Sends as much of what is unsent as the system takes.
@@ -156,6 +173,26 @@ impl PeerSession {
         if self.stage == Stage::Lingering {
             return Moved::Over;
         }
+        let moved = self.send_replies();
+        if !self.stream.is_http() {
+            return moved;
+        }
+        match moved {
+            Moved::Bytes(_) => {
+                self.respond();
+                self.stream.flush()
+            }
+            Moved::Blocked | Moved::Over => moved,
+        }
+    }
+
+    /// Sends as much of the replies that are unsent as the stream takes.
+    fn send_replies(&mut self) -> Moved
+        requires { self.old.stage ≢ stages.Lingering }
+        ensures kept { Kept self.old.session self.new.session }
+        ensures peer { self.new.peer ≡ self.old.peer }
+        ensures stage { self.new.stage ≡ self.old.stage }
+    {
         let moved = self.stream.write(self.session.unsent());
         if let Moved::Bytes(count) = moved {
             self.session.advance(count);
@@ -163,8 +200,30 @@ impl PeerSession {
         moved
     }
 
+    /// Responds to the request in hand, where all its lines are answered.
+    fn respond(&mut self)
+        ensures { self.new ≡ self.old }
+    {
+        if !is_answered(&self.session) {
+            return;
+        }
+        let all = self.unread.as_slice().is_empty();
+        if let Some(ended) = ends_in(self.stage, self.session.end(), all) {
+            self.stream.respond(ended);
+        }
+    }
+
+    /// Notes that nothing was sent yet.
+    fn note_silent(&self)
+        requires awaited { self.now.peer ≡ None }
+        requires serving { self.now.stage ≡ stages.Serving }
+        ensures { self.now.stream.sent ≡ [] }
+    {
+        let _unsent = self.session.unsent();
+    }
+
     /// Reads on in the header of a gateway, and no byte after it. A connection that has none with a name ends.
-    pub(crate) fn read_header(&mut self, name_of: NameOf, buffer: &mut [u8]) -> Next
+    pub(crate) fn read_header(&mut self, alloc: Global, name_of: NameOf, buffer: &mut [u8]) -> Next
         requires awaited { self.old.peer ≡ None }
         requires proxy { self.old.proxy ≡ Some name_of }
         requires serving { self.old.stage ≡ stages.Serving }
@@ -174,6 +233,11 @@ impl PeerSession {
         let missing = match read_proxy_header(self.unread.as_slice(), name_of) {
             ProxyHeader::Begun { missing } => missing.min(READ_SIZE),
             ProxyHeader::Whole(peer) => {
+                self.note_silent();
+                if !self.stream.begin(alloc, self.http) {
+                    self.stage = Stage::Ending;
+                    return Next::Close;
+                }
                 self.peer = Some(peer);
                 self.unread.clear();
                 return Next::Again;
@@ -215,7 +279,7 @@ impl PeerSession {
         }
         let count = match self.stream.read(buffer) {
             Moved::Bytes(count) => count,
-            Moved::Blocked => return Next::WaitIo,
+            Moved::Blocked => return self.pause(),
             Moved::Over => return Next::Close,
         };
         let chunk = &buffer[..count];
@@ -224,7 +288,7 @@ impl PeerSession {
             return Next::Close;
         };
         self.served = served;
-        self.filled = count == READ_SIZE;
+        self.filled = count == READ_SIZE || self.stream.is_http();
         let taken = take_lines(&mut self.session, &self.peer, chunk, withheld, desk);
         let next = next_of(taken == count, withheld);
         if is_lost(&mut self.unread, &chunk[taken..]) {
@@ -232,6 +296,25 @@ impl PeerSession {
             return next;
         }
         next
+    }
+
+    /// Responds to the request in hand, where all its lines are answered, and tells what becomes of a connection that has no lines
+    /// now.
+    fn pause(&mut self) -> Next
+        requires { self.old.stage ≡ stages.Serving }
+        ensures session { self.new.session ≡ self.old.session }
+        ensures peer { self.new.peer ≡ self.old.peer }
+    {
+        self.respond();
+        if self.stream.is_over() {
+            self.stop_serving();
+            return Next::Again;
+        }
+        if self.stream.may_go_on() {
+            Next::Again
+        } else {
+            Next::WaitIo
+        }
     }
 
     /// Takes the lines of what is unread.
@@ -295,12 +378,25 @@ impl PeerSession {
         self.stage = Stage::Lingering;
     }
 
-    /// Tells the peer that it asked nothing for too long, and that no more is written.
+    /// Answers no more lines: the peer asked nothing for too long. A request that has not come whole is told so.
+    pub(crate) fn stop_idle(&mut self)
+        ensures session { self.new.session ≡ self.old.session }
+        ensures peer { self.new.peer ≡ self.old.peer }
+    {
+        self.stream.refuse_late();
+        self.stop_serving();
+    }
+
+    /// Tells the peer that it asked nothing for too long, and that no more is written. Over HTTP a request was told so before.
     pub(crate) fn shutdown_idle(&mut self)
         requires { self.old.stage ≡ stages.Ending }
         ensures session { self.new.session ≡ self.old.session }
         ensures peer { self.new.peer ≡ self.old.peer }
     {
+        if self.stream.is_http() {
+            self.shutdown_write();
+            return;
+        }
         let _moved = self.stream.write(IDLE);
         self.stream.shutdown_write();
         self.stage = Stage::Lingering;
@@ -312,11 +408,65 @@ impl PeerSession {
         ensures session { self.new.session ≡ self.old.session }
         ensures peer { self.new.peer ≡ self.old.peer }
     {
-        match self.stream.read(buffer) {
+        match self.stream.discard(buffer) {
             Moved::Bytes(_) => Next::Again,
             Moved::Blocked => Next::WaitIo,
             Moved::Over => Next::Close,
         }
+    }
+}
+
+/// Who is at the other end, where no header names him.
+fn anyone_where_known(proxy: Option<NameOf>) -> Option<Peer>
+    ensures { result ≡ (if is_some proxy then None else Some peers.Anyone) }
+{
+    if proxy.is_some() {
+        None
+    } else {
+        Some(Peer::Anyone)
+    }
+}
+
+/// The keys of what carries lines over HTTP from the start, where no header comes first.
+fn keys_where_known(proxy: Option<NameOf>, http: Option<RandomState>) -> Option<RandomState>
+    ensures { IsSome proxy → result ≡ None }
+{
+    if proxy.is_some() { None } else { http }
+}
+
+/// The lines of a socket, which are carried over HTTP from the start where there are keys.
+fn lines_of(
+    alloc: Global,
+    socket: Socket,
+    keys: Option<RandomState>,
+) -> Result<LineStream, AllocError>
+    ensures carried { IfOk result (λ stream. carried stream ≡ record { received = []; sent = [] }) }
+    ensures before { IfOk result (λ stream. IfSome (before_of stream.http) (λ before. before ≡ [])) }
+    ensures none { IfOk result (λ stream. keys ≡ None → before_of stream.http ≡ None) }
+{
+    let mut stream = LineStream::new(socket);
+    if !stream.begin(alloc, keys) {
+        return Err(AllocError);
+    }
+    Ok(stream)
+}
+
+/// Whether all lines that the session was fed are answered, and the replies were taken.
+fn is_answered(session: &BufferedSession) -> bool
+    ensures { result ≡ true → Replies session.now.fed session.now.sent 0 session.now.ended }
+{
+    session.unsent().is_empty() && session.waiting() == 0
+}
+
+/// Whether the session has ended in the request in hand, where that may be responded to: all bytes that were read of it were taken,
+/// or the session was ended by QUIT.
+fn ends_in(stage: Stage, end: Option<End>, all: bool) -> Option<bool>
+    ensures { IfSome result (λ ended. EndsIn stage end all ended) }
+{
+    match (stage, end) {
+        (Stage::Serving, None) if all => Some(false),
+        (Stage::Serving | Stage::Ending, Some(End::Quit)) => Some(true),
+        _ => None,
     }
 }
 

@@ -2,10 +2,10 @@
 ghost use Rattle.std.specs.Prelude.{◌≡◌, []};
 ghost use Rattle.nmvs_connections.specs.Streams.{Reads, Writes};
 
-use crate::byte_tag::extended;
 use crate::socket::{Moved, Socket};
 use boxcar::tag::Tag;
 use mio::{Registry, Token};
+use nmvs_http::extended;
 use std::io;
 use std::marker::Model;
 
@@ -65,6 +65,13 @@ impl Stream {
             self.sent = extended(&self.sent, &bytes[..count]);
         }
         moved
+    }
+
+    /// The bytes that were read.
+    pub(crate) fn received(&self) -> Tag
+        ensures { result.numbers ≡ self.now.received }
+    {
+        extended(&self.received, b"")
     }
 
     /// Tells the peer that no more is written.

@@ -4,6 +4,7 @@ use mio::{Events, Poll, Token, Waker};
 use nmvs_messages::NameOf;
 use nmvs_metrics::{Fault, Metrics, WorkerMetrics};
 use std::alloc::{AllocError, Global};
+use std::hash::RandomState;
 use std::io;
 use std::net::Net;
 use std::sync::{Mutex, Wait};
@@ -15,8 +16,8 @@ pub(crate) const WAKE: Token = Token(usize::MAX);
 /// How many events of a worker are taken at once (own).
 const WORKER_EVENTS: usize = 1_024;
 
-/// How many events of the thread that accepts are taken at once: the listener's and a wake-up (own).
-const ACCEPTOR_EVENTS: usize = 2;
+/// How many events of the thread that accepts are taken at once: those of two listeners and a wake-up (own).
+const ACCEPTOR_EVENTS: usize = 3;
 
 /// How far connections may go.
 #[derive(Clone, Copy)]
@@ -84,11 +85,14 @@ pub struct Load {
     pub sessions: u64,
 }
 
-/// A connection that was accepted, and its number, in the order in which they were accepted.
+/// A connection that was accepted.
 #[derive(Drop)]
 pub(crate) struct Accepted {
+    /// Its number, in the order in which they were accepted.
     pub(crate) number: usize,
     pub(crate) socket: Socket,
+    /// The keys for the fields of its requests, where its lines are carried over HTTP.
+    pub(crate) http: Option<RandomState>,
 }
 
 /// How a worker is reached: the connections that were accepted for it, and what ends its wait.

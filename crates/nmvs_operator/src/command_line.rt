@@ -40,7 +40,7 @@ enum Value {
 }
 
 /// The options, in the order in which the help shows them.
-static OPTIONS: [Described; 23] = [
+static OPTIONS: [Described; 24] = [
     Described {
         name: "users",
         value: Value::Text("FILE"),
@@ -125,6 +125,13 @@ static OPTIONS: [Described; 23] = [
         default: Some("127.0.0.1:7161"),
         help: "Address and port, or path of a Unix socket, that is listened on; a port alone is one of 127.0.0.1, and port 0 one \
         that the system chooses",
+    },
+    Described {
+        name: "http",
+        value: Value::Text("ADDRESS"),
+        default: None,
+        help: "Address and port, or path of a Unix socket, at which lines come over HTTP; a port alone is one of 127.0.0.1, and \
+        port 0 one that the system chooses",
     },
     Described {
         name: "admin",

@@ -64,6 +64,10 @@ pub struct Options {
     pub address: SocketAddr,
     /// Path of a Unix socket that is listened on, in place of the address.
     pub socket: Option<String>,
+    /// The address at which lines come over HTTP, if they do; port 0 is one that the system chooses.
+    pub http: Option<SocketAddr>,
+    /// Path of a Unix socket at which lines come over HTTP, in place of the address.
+    pub http_socket: Option<String>,
     /// Whose name the gateway's header has that each connection begins with, where it begins with one.
     pub proxy: Option<NameOf>,
     /// The moment of every line, in place of the clock's.
@@ -137,6 +141,7 @@ fn values_of(alloc: Global, matches: &ArgMatches<'_>) -> Result<Options, OptionF
     let rate = within(alloc, matches, "rate", 0, MOST_RATE)?;
     let burst = burst_of(alloc, matches, rate)?;
     let address = address_of(alloc, matches)?;
+    let http = http_of(alloc, matches)?;
     let proxy = proxy_of(alloc, matches)?;
     let moment = moment_of(alloc, matches)?;
     let metrics = metrics_of(alloc, matches)?;
@@ -156,6 +161,8 @@ fn values_of(alloc: Global, matches: &ArgMatches<'_>) -> Result<Options, OptionF
         burst,
         address,
         socket: None,
+        http,
+        http_socket: None,
         proxy,
         moment,
         stdin: matches.get_flag("stdin"),
@@ -181,7 +188,9 @@ fn take_paths(
     take_path(alloc, matches, "import", &mut options.import)?;
     take_path(alloc, matches, "export", &mut options.export)?;
     take_path(alloc, matches, "journal", &mut options.journal)?;
-    take_socket(alloc, matches, &mut options.socket)?;
+    take_socket(alloc, matches, "listen", &mut options.socket)?;
+    take_path(alloc, matches, "socket", &mut options.socket)?;
+    take_socket(alloc, matches, "http", &mut options.http_socket)?;
     take_path(alloc, matches, "admin", &mut options.admin)
 }
 
@@ -198,17 +207,18 @@ fn take_path(
     Ok(())
 }
 
-/// Takes the path of the socket that is listened on, where one is named: by `--socket`, or else by `--listen`.
+/// Takes the path of a socket that is listened on, where an option names one and no address.
 fn take_socket(
     alloc: Global,
     matches: &ArgMatches<'_>,
+    name: &str,
     path: &mut Option<String>,
 ) -> Result<(), AllocError> {
-    match matches.get_str("listen") {
+    match matches.get_str(name) {
         Some(text) if is_path(text) => *path = Some(String::from_str(alloc, text)?),
         _ => {}
     }
-    take_path(alloc, matches, "socket", path)
+    Ok(())
 }
 
 /// The text for options that exclude each other, if there are such.
@@ -225,6 +235,11 @@ fn clash_of(matches: &ArgMatches<'_>) -> Option<&'static str> {
     if stdin && matches.contains_id("admin") {
         return Some(
             "error: '--admin <PATH>' is for connections, and can't be used with '--stdin'\n",
+        );
+    }
+    if stdin && matches.contains_id("http") {
+        return Some(
+            "error: '--http <ADDRESS>' is for connections, and can't be used with '--stdin'\n",
         );
     }
     if stdin && matches.contains_id("metrics") {
@@ -263,6 +278,14 @@ fn listened_address(alloc: Global, matches: &ArgMatches<'_>) -> Result<SocketAdd
     match matches.get_str("listen") {
         Some(text) if !is_path(text) => spelled(alloc, text, "listen"),
         _ => Ok(own_address(0)),
+    }
+}
+
+/// The address of `--http`. For the path of a socket there is none.
+fn http_of(alloc: Global, matches: &ArgMatches<'_>) -> Result<Option<SocketAddr>, OptionFault> {
+    match matches.get_str("http") {
+        Some(text) if !is_path(text) => Ok(Some(spelled(alloc, text, "http")?)),
+        _ => Ok(None),
     }
 }
 

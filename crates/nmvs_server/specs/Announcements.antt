@@ -7,6 +7,10 @@ use Rattle.nmvs_rules.specs.declared.entry.Entry.{Entry}
 abbrev pub listening_text : List ℕ → List ℕ
 listening_text place = codes "LISTENING " ++ (place ++ codes "\n")
 
+-- that the server listens for HTTP at this place
+abbrev pub http_text : List ℕ → List ℕ
+http_text place = codes "LISTENING HTTP " ++ (place ++ codes "\n")
+
 -- the length of a trail, behind a blank
 abbrev pub length_text : List Entry → List ℕ
 length_text trail = codes " " ++ decimal (length trail)

@@ -28,6 +28,28 @@ pub(crate) fn listening_at(alloc: Global, path: &str) -> Result<String, AllocErr
     format!(in alloc; "LISTENING {path}\n")
 }
 
+/// Tells on which port a server listens for HTTP.
+///
+/// # Errors
+///
+/// There is no memory for the text.
+pub(crate) fn http_on(alloc: Global, port: u16) -> Result<String, AllocError>
+    ensures { IfOk result (λ text. string_bytes text ≡ specs.http_text (decimal port)) }
+{
+    format!(in alloc; "LISTENING HTTP {port}\n")
+}
+
+/// Tells where the socket of a server is at which it listens for HTTP.
+///
+/// # Errors
+///
+/// There is no memory for the text.
+pub(crate) fn http_at(alloc: Global, path: &str) -> Result<String, AllocError>
+    ensures { IfOk result (λ text. string_bytes text ≡ specs.http_text path.now) }
+{
+    format!(in alloc; "LISTENING HTTP {path}\n")
+}
+
 /// Tells that the shards are settled, with the length of each one's trail.
 ///
 /// # Errors

@@ -6,6 +6,7 @@ use nmvs_messages::End;
 use nmvs_operator::Options;
 use nmvs_recovery::FileFault;
 use std::fmt;
+use std::net::SocketAddr;
 
 /// Why the program ends in failure (own). It is told on standard error.
 #[derive(Clone, Copy)]
@@ -89,9 +90,18 @@ impl<'a> Fault<'a> {
 
     /// That it can't be listened where the options say: on their socket, or else on their port.
     pub(crate) fn of_listening(options: &'a Options) -> Fault<'a> {
-        match &options.socket {
+        Fault::of_place(&options.socket, options.address)
+    }
+
+    /// That it can't be listened for HTTP where the options say: on their socket, or else on the port of this address.
+    pub(crate) fn of_http(options: &'a Options, address: SocketAddr) -> Fault<'a> {
+        Fault::of_place(&options.http_socket, address)
+    }
+
+    fn of_place(socket: &'a Option<String>, address: SocketAddr) -> Fault<'a> {
+        match socket {
             Some(path) => Fault::CannotListenAt(path),
-            None => Fault::CannotListen(options.address.port()),
+            None => Fault::CannotListen(address.port()),
         }
     }
 }

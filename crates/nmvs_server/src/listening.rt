@@ -2,10 +2,11 @@
 use crate::{Fault, Host};
 use libc::types::rlimit;
 use log::{Log, error, info, warn};
-use nmvs_connections::Listener;
+use nmvs_connections::{HttpListener, Listener};
 use nmvs_operator::Options;
+use std::hash::RandomState;
 use std::io;
-use std::net::Net;
+use std::net::{Net, SocketAddr};
 use std::rt::Files;
 
 /// How many descriptors a server takes beside those of its connections, at most (own).
@@ -25,23 +26,49 @@ pub(crate) fn listen<'o, R: Host>(
         return Ok(None);
     }
     tell_descriptors(rt, options);
-    match open_listener(rt, options) {
+    match open_listener(rt, &options.socket, options.address) {
         Ok(listener) => Ok(Some(listener)),
-        Err(error) => Err(refused(rt, options, error)),
+        Err(error) => Err(refused(rt, Fault::of_listening(options), error)),
     }
 }
 
-/// Listens on the socket of the options, or else on their address.
-fn open_listener<R: Files + Net>(rt: &R, options: &Options) -> io::Result<Listener> {
-    match &options.socket {
+/// Listens for HTTP where the options say, if they do.
+///
+/// # Errors
+///
+/// The system refused it, which is logged, or gives no random bytes.
+pub(crate) fn listen_http<'o, R: Host>(
+    rt: &R,
+    options: &'o Options,
+) -> Result<Option<HttpListener>, Fault<'o>> {
+    let address = match (&options.http_socket, options.http) {
+        (None, None) => return Ok(None),
+        (_, Some(address)) => address,
+        (Some(_), None) => options.address,
+    };
+    let Ok(keys) = RandomState::new(rt) else {
+        return Err(Fault::Random);
+    };
+    match open_listener(rt, &options.http_socket, address) {
+        Ok(listener) => Ok(Some(HttpListener { listener, keys })),
+        Err(error) => Err(refused(rt, Fault::of_http(options, address), error)),
+    }
+}
+
+/// Listens at the path of a socket, or else at an address.
+fn open_listener<R: Files + Net>(
+    rt: &R,
+    socket: &Option<String>,
+    address: SocketAddr,
+) -> io::Result<Listener> {
+    match socket {
         Some(path) => Listener::on_path(rt, path),
-        None => Listener::on_port(rt, options.address),
+        None => Listener::on_port(rt, address),
     }
 }
 
 /// Logs why it can't be listened where the options say.
-fn refused<'o, R: Log>(rt: &R, options: &'o Options, error: io::Error) -> Fault<'o> {
-    let fault = Fault::of_listening(options);
+fn refused<'o, R: Log>(rt: &R, fault: Fault<'o>, error: io::Error) -> Fault<'o> {
     error!(rt; "{fault}: {error}");
     fault
 }

@@ -1,6 +1,6 @@
 //! What a server goes by, and what its workers share.
 use crate::timed_file::LogStore;
-use nmvs_connections::{Listener, WorkerPool};
+use nmvs_connections::{HttpListener, Listener, WorkerPool};
 use nmvs_desk::Repository;
 use nmvs_directory::{Naming, Notice};
 use nmvs_history::Histories;
@@ -18,6 +18,8 @@ pub(crate) struct Config<'r, 'o, R> {
     pub(crate) run: Run<'r, 'o, R>,
     /// Connections are accepted here; where there is none, one session is served over the console.
     pub(crate) listener: Option<&'r Listener>,
+    /// Connections are accepted here whose lines come over HTTP, if any are.
+    pub(crate) http: Option<&'r HttpListener>,
     /// What the run does is counted here.
     pub(crate) metrics: &'r Metrics,
     /// Who raises flagged alerts.

@@ -2,7 +2,7 @@
 ghost use Rattle.std.specs.Prelude.{◌≡◌};
 ghost use Rattle.nmvs_server.specs.Bounds.{sessions_of};
 
-use crate::announcements::{listening_at, listening_on};
+use crate::announcements::{http_at, http_on, listening_at, listening_on};
 use crate::confirming::{close_log, write_log};
 use crate::server::{Config, Server};
 use crate::service::Running;
@@ -118,8 +118,9 @@ fn accept<R: Wait + Log, J: Naming, H: Histories + LogName>(
     server: &Server<'_, '_, '_, R, J, H>,
     acceptor: Poller,
 ) {
-    let run = &server.config.run;
-    if accept_loop(run.rt, &server.pool, server.listener, acceptor).is_err() {
+    let config = server.config;
+    let (run, alloc, http) = (&config.run, *config.run.alloc, config.http);
+    if accept_loop(run.rt, alloc, &server.pool, server.listener, http, acceptor).is_err() {
         server.pool.stop(run.rt);
     }
 }
@@ -201,6 +202,7 @@ fn take_commands<
     let config = server.config;
     config.metrics.note_ready();
     tell_place(config, server.listener, &mut console.sink);
+    tell_http(config, &mut console.sink);
     let mut latest = Latest::new(config.run.rt, server.latest);
     obey_all(*config.run.alloc, console, registrar, &mut latest, running);
 }
@@ -216,6 +218,28 @@ fn tell_place<R: Log, W: Sink>(config: &Config<'_, '_, R>, listener: &Listener, 
         (None, Some(path)) => {
             info!(run.rt; socket = path.as_str(); "listening");
             listening_at(alloc, path)
+        }
+        (None, None) => return,
+    };
+    if let Ok(text) = text {
+        let _failed = deliver(out, text.as_bytes());
+    }
+}
+
+/// Tells on which port the program listens for HTTP, or where its socket for that is. A failed write changes nothing.
+fn tell_http<R: Log, W: Sink>(config: &Config<'_, '_, R>, out: &mut W) {
+    let (run, alloc) = (&config.run, *config.run.alloc);
+    let Some(http) = config.http else {
+        return;
+    };
+    let text = match (http.listener.port(), &run.options.http_socket) {
+        (Some(http), _) => {
+            info!(run.rt; http; "listening");
+            http_on(alloc, http)
+        }
+        (None, Some(path)) => {
+            info!(run.rt; http = path.as_str(); "listening");
+            http_at(alloc, path)
         }
         (None, None) => return,
     };

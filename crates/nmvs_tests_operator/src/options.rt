@@ -35,6 +35,7 @@ fn options_have_defaults(rt: HostRuntime) {
     assert_eq!(rt; options.address, own(7161));
     assert!(rt; options.socket.is_none() && options.proxy.is_none() && options.journal.is_none());
     assert!(rt; options.admin.is_none() && options.metrics.is_none() && !options.log_users);
+    assert!(rt; options.http.is_none() && options.http_socket.is_none());
     assert_eq!(rt;
         (options.log_level, options.log_format),
         (LevelFilter::Info, LogFormat::Text)
@@ -101,6 +102,7 @@ fn all_options_are_taken_together(rt: HostRuntime) {
         "C",
         "--admin=A",
         "--metrics=9161",
+        "--http=[::1]:7180",
         "--log-level=debug",
         "--log-format=json",
         "--log-users",
@@ -110,6 +112,7 @@ fn all_options_are_taken_together(rt: HostRuntime) {
     };
     assert!(rt; is_path(&options.journal, "D") && is_path(&options.admin, "A"));
     assert!(rt; options.users.is_none() && options.metrics == Some(own(9161)) && options.log_users);
+    assert!(rt; options.http == Some(own_v6(7180)) && options.http_socket.is_none());
     assert_eq!(rt; options.moment, Moment::new(1_767_225_600));
     assert_eq!(rt;
         (options.log_level, options.log_format),

@@ -1,19 +1,19 @@
 use Rattle.std.proofs.Common.{◌≡◌, ◌∙◌, ◌++◌, ◌==◌, ℕ, true, List, [], take, drop, length, refl, sym, ap, subst, rules}
-use Rattle.nmvs_connections.specs.Peers.{Holds}
-use Rattle.nmvs_connections.specs.Traffic.{Traffic}
+use Rattle.nmvs_connections.specs.LineStreams.{before_of, carried}
 use Rattle.nmvs_connections.specs.declared.peer_session.Stage.TheVariants as stages
-use Rattle.nmvs_connections.proofs.ConnectionLemmas.{kept_same, steps_kept}
-use Rattle.nmvs_connections.proofs.PeerSteps.{empty, kept_rest, holds_over, holds_read, holds_taken}
+use Rattle.nmvs_connections.proofs.ConnectionLemmas.{kept_same, steps_idle, steps_kept}
+use Rattle.nmvs_connections.proofs.LineSteps.{Stands, stands_over, stands_read, stands_same, stands_taken}
+use Rattle.nmvs_connections.proofs.PeerSteps.{empty, kept_rest}
 use Rattle.nmvs_connections.proofs.peer_session.PeerSession.take.Goals as goal
 
 pub returns-in-Blocked : goal.returns-in-Blocked
-returns-in-Blocked g c = rw (← c.self.view_is) (steps_kept _ _ _ _ _ _ _ _ refl refl (kept_same _ _ refl) (λ peer known. known) (c.self.inside.unread.items, c.self.invariant))
+returns-in-Blocked g c = rw (← c.self.view_is) (steps_idle _ _ _ _ _ _ c.pause.ensures.session c.pause.ensures.peer (c.self.inside.unread.items, c.self.invariant.0))
 
 pub returns-in-Over : goal.returns-in-Over
-returns-in-Over g c = rw (← c.self.view_is) (steps_kept _ _ _ _ _ _ _ _ refl refl (kept_same _ _ refl) (λ peer known. known) (c.self.inside.unread.items, c.self.invariant))
+returns-in-Over g c = rw (← c.self.view_is) (steps_kept _ _ _ _ _ _ _ _ refl refl (kept_same _ _ refl) (λ peer known. known) (c.self.inside.unread.items, c.self.invariant.0))
 
 pub returns-in_default : goal.returns-in_default
-returns-in_default g c = rw (← c.self.view_is) (steps_kept _ _ _ _ _ _ _ _ refl refl (kept_same _ _ refl) (λ peer known. known) (c.self.inside.unread.items, c.self.invariant))
+returns-in_default g c = rw (← c.self.view_is) (steps_kept _ _ _ _ _ _ _ _ refl refl (kept_same _ _ refl) (λ peer known. known) (c.self.inside.unread.items, c.self.invariant.0))
 
 pub invariant_of-self-then-is_lost : goal.invariant_of-self-then-is_lost
 invariant_of-self-then-is_lost g c =
@@ -22,12 +22,12 @@ invariant_of-self-then-is_lost g c =
     let some : c.is_empty.result ≡ true = first_of (search rules, cc (c.if-not-is_empty.false)) in
     let none : is.unread.items ≡ [] = empty is.unread.items (ap (λ (l : List ℕ). length l == 0) (sym c.as_slice.ensures.value) ∙ sym c.is_empty.ensures ∙ some) in
     let chunk = take c.in-Bytes.count c.read.new.buffer in
-    let read = holds_read chunk c.self.invariant in
-    let unread : Holds is.proxy is.peer is.stage (is.stream.received ++ chunk) is.stream.sent is.session.fed is.session.sent chunk =
-    subst (λ (u : List ℕ). Holds is.proxy is.peer is.stage (is.stream.received ++ chunk) is.stream.sent is.session.fed is.session.sent (u ++ chunk)) none read in
-    let came = subst (λ (t : Traffic). Holds is.proxy is.peer is.stage t.received t.sent is.session.fed is.session.sent chunk) (sym c.in-Bytes.ensures.1) unread in
+    let new = c.read.new.self in
+    let read = stands_read (carried is.stream) (carried new) (before_of is.stream.http) (before_of new.http) chunk c.in-Bytes.ensures.reads.1 c.in-Bytes.ensures.before c.self.invariant in
+    let came : Stands is.proxy is.peer is.stage (carried new) (before_of new.http) is.session.fed is.session.sent chunk =
+    subst (λ (u : List ℕ). Stands is.proxy is.peer is.stage (carried new) (before_of new.http) is.session.fed is.session.sent (u ++ chunk)) none read in
     let e = c.take_lines-taken.ensures in
-    holds_over c.is_lost.new.unread.items serving (holds_taken is.proxy is.peer c.take_lines-taken.result e.known serving e.fed e.sent refl came)
+    stands_over (carried new) (before_of new.http) c.is_lost.new.unread.items serving (stands_taken is.proxy is.peer (carried new) (before_of new.http) c.take_lines-taken.result e.known serving e.fed e.sent refl came)
 
 pub invariant_of-self-else-is_lost : goal.invariant_of-self-else-is_lost
 invariant_of-self-else-is_lost g c =
@@ -36,11 +36,11 @@ invariant_of-self-else-is_lost g c =
     let some : c.is_empty.result ≡ true = first_of (search rules, cc (c.if-not-is_empty.false)) in
     let none : is.unread.items ≡ [] = empty is.unread.items (ap (λ (l : List ℕ). length l == 0) (sym c.as_slice.ensures.value) ∙ sym c.is_empty.ensures ∙ some) in
     let chunk = take c.in-Bytes.count c.read.new.buffer in
+    let new = c.read.new.self in
     let n = c.take_lines-taken.result in
-    let read = holds_read chunk c.self.invariant in
-    let unread : Holds is.proxy is.peer is.stage (is.stream.received ++ chunk) is.stream.sent is.session.fed is.session.sent chunk =
-    subst (λ (u : List ℕ). Holds is.proxy is.peer is.stage (is.stream.received ++ chunk) is.stream.sent is.session.fed is.session.sent (u ++ chunk)) none read in
-    let came = subst (λ (t : Traffic). Holds is.proxy is.peer is.stage t.received t.sent is.session.fed is.session.sent chunk) (sym c.in-Bytes.ensures.1) unread in
+    let read = stands_read (carried is.stream) (carried new) (before_of is.stream.http) (before_of new.http) chunk c.in-Bytes.ensures.reads.1 c.in-Bytes.ensures.before c.self.invariant in
+    let came : Stands is.proxy is.peer is.stage (carried new) (before_of new.http) is.session.fed is.session.sent chunk =
+    subst (λ (u : List ℕ). Stands is.proxy is.peer is.stage (carried new) (before_of new.http) is.session.fed is.session.sent (u ++ chunk)) none read in
     let e = c.take_lines-taken.ensures in
     let left = kept_rest c.is_lost.result c.is_lost.new.unread.items is.unread.items chunk n c.is_lost.ensures c.if-is_lost.false none in
-    holds_taken is.proxy is.peer n e.known serving e.fed e.sent left came
+    stands_taken is.proxy is.peer (carried new) (before_of new.http) n e.known serving e.fed e.sent left came

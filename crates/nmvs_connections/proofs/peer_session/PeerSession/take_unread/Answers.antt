@@ -1,6 +1,8 @@
 use Rattle.std.proofs.Common.{◌≡◌, ◌∙◌, ◌++◌, ◌≤◌, ◌-◌, ℕ, List, inr, take, drop, length, sym, ap, subst, arith}
+use Rattle.nmvs_connections.specs.LineStreams.{before_of, carried}
 use Rattle.nmvs_connections.specs.declared.peer_session.Stage.TheVariants as stages
-use Rattle.nmvs_connections.proofs.PeerSteps.{cut_front, holds_taken}
+use Rattle.nmvs_connections.proofs.LineSteps.{stands_taken}
+use Rattle.nmvs_connections.proofs.PeerSteps.{cut_front}
 use Rattle.nmvs_connections.proofs.peer_session.PeerSession.take_unread.Goals as goal
 
 pub invariant_of-self : goal.invariant_of-self
@@ -15,9 +17,9 @@ invariant_of-self g c =
     let within : n ≤ length unread = subst (λ (t : List ℕ). n ≤ length t) same e.within in
     let many : c.len-count.result ≡ length unread = c.len-count.ensures ∙ sym c.as_slice-unread.ensures.len ∙ ap (λ (t : List ℕ). length t) same in
     let left = c.truncate.ensures.items ∙ ap (λ (t : List ℕ). take (c.len-count.result - n) t) c.rotate_left.ensures.items ∙ cut_front n unread c.len-count.result within many in
-    holds_taken is.proxy is.peer n e.known serving feeds e.sent left c.self.invariant
+    stands_taken is.proxy is.peer (carried is.stream) (before_of is.stream.http) n e.known serving feeds e.sent left c.self.invariant
 
 pub returns : goal.returns
 returns g c =
     rw (← c.self.view_is)
-    (record { step = c.take_lines-taken.ensures.takes; waits = inr c.next_of.ensures; stays = λ peer known. known; is = (c.self.inside.unread.items, c.self.invariant) })
+    (record { step = c.take_lines-taken.ensures.takes; waits = inr c.next_of.ensures; stays = λ peer known. known; is = (c.self.inside.unread.items, c.self.invariant.0) })

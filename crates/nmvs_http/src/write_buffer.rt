@@ -1,12 +1,12 @@
-//! Replies in memory.
+//! Bytes that are gathered in memory.
 ghost use Rattle.nmvs_stream.specs.Sink.{Taken};
 
 use nmvs_stream::{Failed, Sink};
 
-/// Replies that are gathered before they are sent. As a sink it fails where there is no memory for more.
+/// Bytes that are gathered before they are sent. As a sink it fails where there is no memory for more.
 #[derive(Drop)]
-pub(crate) struct WriteBuffer {
-    pub(crate) bytes: Vec<u8>,
+pub struct WriteBuffer {
+    pub bytes: Vec<u8>,
     flushed: bool,
     failed: bool,
 }
@@ -15,7 +15,7 @@ impl WriteBuffer {
     ghost use Rattle.std.specs.Prelude.{◌≡◌};
 
     /// None, in this room.
-    pub(crate) fn new(room: Vec<u8>) -> WriteBuffer
+    pub fn new(room: Vec<u8>) -> WriteBuffer
         ensures { result.bytes ≡ room }
     {
         WriteBuffer {

@@ -17,7 +17,7 @@ impl<'t> Names<Longer<'t>> for Joined {
 }
 
 /// The tag of what this one has, and these bytes.
-pub(crate) fn extended(tag: &Tag, more: &[u8]) -> Tag
+pub fn extended(tag: &Tag, more: &[u8]) -> Tag
     ensures { result.numbers ≡ tag.now.numbers ++ more.now }
 {
     Tag::of::<Longer<'_>, Joined>(&Longer { tag, more })

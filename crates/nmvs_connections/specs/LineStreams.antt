@@ -1,0 +1,96 @@
+-- Streams of lines: over the bytes of a socket, or over HTTP (own).
+use Rattle.std.specs.Prelude.{◌≡◌, ◌≢◌, ℕ, Bool, true, false, List, [], ◌++◌, Option, Some, None}
+use Rattle.std.specs.Global.{Box}
+use Rattle.nmvs_http.specs.Codecs.{AnswersLines, CarriesRequests}
+use Rattle.nmvs_messages.specs.declared.end.End.{End}
+use Rattle.nmvs_messages.specs.declared.end.End.TheVariants as ends
+use Rattle.nmvs_messages.specs.declared.peer.Peer.{Peer}
+use Rattle.nmvs_connections.specs.declared.line_stream.Http.{Http}
+use Rattle.nmvs_connections.specs.declared.peer_session.Stage.{Stage}
+use Rattle.nmvs_connections.specs.declared.peer_session.Stage.TheVariants as stages
+use Rattle.nmvs_connections.specs.declared.socket.Moved.{Moved}
+use Rattle.nmvs_connections.specs.declared.socket.Moved.TheVariants as moves
+use Rattle.nmvs_connections.specs.Traffic.{Traffic}
+
+-- a stream of lines: the bytes of its socket, and what carries its lines over HTTP, if something does
+pub record LineStreamState : Type 0 where
+  pub raw : Traffic
+  pub http : Option Http
+
+abbrev pub unboxed : Option (Box Http) → Option Http
+unboxed None = None
+unboxed (Some boxed) = Some boxed.value
+
+-- the bytes of lines and replies that are carried over HTTP: those that came before the first request, and then those that the codec
+-- gave; and the replies that it took
+abbrev pub carried_over : Http → Traffic
+carried_over h = record { received = h.before.numbers ++ h.codec.given; sent = h.codec.replies }
+
+abbrev pub carried_by : Traffic → Option Http → Traffic
+carried_by raw None = raw
+carried_by raw (Some h) = carried_over h
+
+-- the bytes of lines and replies: those of the socket, or those that are carried over HTTP
+abbrev pub carried : LineStreamState → Traffic
+carried s = carried_by s.raw s.http
+
+-- what came before the first request, where lines are carried over HTTP
+abbrev pub before_of : Option Http → Option (List ℕ)
+before_of None = None
+before_of (Some h) = Some h.before.numbers
+
+-- what was read from the socket is what came before the first request, and what the codec was fed, and a rest that was let go; what
+-- was written to it is what the codec told, as far as that was sent
+pub record IsFed (raw : Traffic) (h : Http) : Type 0 where
+  pub rest : List ℕ
+  pub received_is : raw.received ≡ h.before.numbers ++ (h.codec.stream.fed ++ rest)
+  pub all : h.discards ≡ false → rest ≡ []
+  pub sent_is : raw.sent ≡ h.codec.sent
+
+abbrev pub IsLineStream : Traffic → Option Http → Type 0
+IsLineStream raw None = Unit {0}
+IsLineStream raw (Some h) = IsFed raw h
+
+abbrev pub CarriesHttp : Traffic → Option Http → Type 0
+CarriesHttp raw None = Unit {0}
+CarriesHttp raw (Some h) = IsFed raw h × CarriesRequests h.codec
+
+-- over HTTP the bytes of the socket are those of a codec, which carries the requests that it was fed
+abbrev pub CarriesLines : LineStreamState → Type 0
+CarriesLines s = CarriesHttp s.raw s.http
+
+-- the bytes of lines that were carried behind what came before are those that a session was fed, and the rest. While its lines are
+-- answered, the rest is unread
+pub record IsBehind (before received fed unread : List ℕ) (stage : Stage) : Type 0 where
+  pub rest : List ℕ
+  pub received_is : received ≡ before ++ (fed ++ rest)
+  pub left : stage ≡ stages.Serving → rest ≡ unread
+
+-- before the peer is known no line is carried
+abbrev pub Behind : Option (List ℕ) → Option Peer → List ℕ → List ℕ → List ℕ → Stage → Type 0
+Behind None peer received fed unread stage = Unit {0}
+Behind (Some before) None received fed unread stage = ⊥
+Behind (Some before) (Some peer) received fed unread stage = IsBehind before received fed unread stage
+
+-- the replies that were carried are the text of answers to the lines that were, one a line, in order; where the session has ended,
+-- to those up to there
+pub record AnswersCarried (before : List ℕ) (carried : Traffic) (ended : Bool) : Type 0 where
+  pub given : List ℕ
+  pub received_is : carried.received ≡ before ++ given
+  pub answers : AnswersLines given carried.sent ended
+
+abbrev pub AnswersOver : Option (List ℕ) → Traffic → Bool → Type 0
+AnswersOver None carried ended = Unit {0}
+AnswersOver (Some before) carried ended = AnswersCarried before carried ended
+
+-- what came of a step that may have moved no byte
+abbrev pub moved_of : Option Moved → Moved
+moved_of None = moves.Blocked
+moved_of (Some moved) = moved
+
+-- a connection that is not let go has come so far, and its session so, where the request in hand may be responded to: all bytes that
+-- were read were taken, or the session was ended by QUIT
+pub record EndsIn (stage : Stage) (end : Option End) (all ended : Bool) : Type 0 where
+  pub stays : stage ≢ stages.Lingering
+  pub goes_on : ended ≡ false → (stage ≡ stages.Serving) × (end ≡ None) × (all ≡ true)
+  pub quits : ended ≡ true → end ≡ Some ends.Quit

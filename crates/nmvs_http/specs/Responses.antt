@@ -1,0 +1,81 @@
+-- The text of a response (RFC 9112, section 4).
+use Rattle.std.specs.Prelude.{ℕ, Bool, true, false, List, [], ◌++◌, length, codes, if◌then◌else◌}
+use Rattle.std.specs.Fmt.{decimal}
+use Rattle.nmvs_http.specs.declared.asked.Asks.{Asks}
+use Rattle.nmvs_http.specs.declared.asked.Asks.TheVariants.{Lines, Health, Refused}
+use Rattle.nmvs_http.specs.declared.fault.Fault.{Fault}
+use Rattle.nmvs_http.specs.declared.fault.Fault.TheVariants as faults
+
+-- the status of a fault (RFC 9110, section 15)
+abbrev pub status : Fault → List ℕ
+status faults.Request = codes "400 Bad Request"
+status faults.Site = codes "403 Forbidden"
+status faults.Path = codes "404 Not Found"
+status faults.MethodOfLines = codes "405 Method Not Allowed\r\nallow: POST"
+status faults.MethodOfHealth = codes "405 Method Not Allowed\r\nallow: GET, HEAD"
+status faults.Timeout = codes "408 Request Timeout"
+status faults.Length = codes "411 Length Required"
+status faults.Body = codes "413 Content Too Large"
+status faults.Target = codes "414 URI Too Long"
+status faults.Type = codes "415 Unsupported Media Type"
+status faults.Head = codes "431 Request Header Fields Too Large"
+status faults.Coding = codes "501 Not Implemented"
+status faults.Busy = codes "503 Service Unavailable"
+
+-- the problem that a fault is told as: nothing is recorded (RFC 9457)
+unfoldable pub problem : Fault → List ℕ
+problem faults.Request = codes "{\"type\":\"about:blank\",\"title\":\"Bad Request\",\"status\":400,\"fault\":\"REQUEST\",\"recorded\":\"no\"}\n"
+problem faults.Site = codes "{\"type\":\"about:blank\",\"title\":\"Forbidden\",\"status\":403,\"fault\":\"SITE\",\"recorded\":\"no\"}\n"
+problem faults.Path = codes "{\"type\":\"about:blank\",\"title\":\"Not Found\",\"status\":404,\"fault\":\"PATH\",\"recorded\":\"no\"}\n"
+problem faults.MethodOfLines = codes "{\"type\":\"about:blank\",\"title\":\"Method Not Allowed\",\"status\":405,\"fault\":\"METHOD\",\"recorded\":\"no\"}\n"
+problem faults.MethodOfHealth = codes "{\"type\":\"about:blank\",\"title\":\"Method Not Allowed\",\"status\":405,\"fault\":\"METHOD\",\"recorded\":\"no\"}\n"
+problem faults.Timeout = codes "{\"type\":\"about:blank\",\"title\":\"Request Timeout\",\"status\":408,\"fault\":\"TIMEOUT\",\"recorded\":\"no\"}\n"
+problem faults.Length = codes "{\"type\":\"about:blank\",\"title\":\"Length Required\",\"status\":411,\"fault\":\"LENGTH\",\"recorded\":\"no\"}\n"
+problem faults.Body = codes "{\"type\":\"about:blank\",\"title\":\"Content Too Large\",\"status\":413,\"fault\":\"BODY\",\"recorded\":\"no\"}\n"
+problem faults.Target = codes "{\"type\":\"about:blank\",\"title\":\"URI Too Long\",\"status\":414,\"fault\":\"TARGET\",\"recorded\":\"no\"}\n"
+problem faults.Type = codes "{\"type\":\"about:blank\",\"title\":\"Unsupported Media Type\",\"status\":415,\"fault\":\"TYPE\",\"recorded\":\"no\"}\n"
+problem faults.Head = codes "{\"type\":\"about:blank\",\"title\":\"Request Header Fields Too Large\",\"status\":431,\"fault\":\"HEAD\",\"recorded\":\"no\"}\n"
+problem faults.Coding = codes "{\"type\":\"about:blank\",\"title\":\"Not Implemented\",\"status\":501,\"fault\":\"CODING\",\"recorded\":\"no\"}\n"
+problem faults.Busy = codes "{\"type\":\"about:blank\",\"title\":\"Service Unavailable\",\"status\":503,\"fault\":\"BUSY\",\"recorded\":\"no\"}\n"
+
+-- the status of the response to what was asked: 200 exactly where it is not refused
+abbrev pub status_of : Asks → List ℕ
+status_of Lines = codes "200 OK"
+status_of Health = codes "200 OK"
+status_of (Refused fault) = status fault
+
+-- the type of its body
+abbrev pub type_of : Asks → List ℕ
+type_of Lines = codes "application/vnd.nmvs.lines"
+type_of Health = codes "text/plain; charset=utf-8"
+type_of (Refused fault) = codes "application/problem+json"
+
+-- its body: the replies to lines, word for word
+abbrev pub body_text : Asks → List ℕ → List ℕ
+body_text Lines replies = replies
+body_text Health replies = codes "ok\n"
+body_text (Refused fault) replies = problem fault
+
+-- its first lines: the status, and the fields that tell of the body
+unfoldable pub front_text : Asks → List ℕ
+front_text asks =
+    codes "HTTP/1.1 " ++ (status_of asks ++ (codes "\r\ncontent-type: " ++ (type_of asks ++ codes "\r\ncache-control: no-store\r\n")))
+
+-- whether the connection stays, and, with its number behind it, how many bytes the body has
+abbrev pub connection_text : Bool → List ℕ
+connection_text true = codes "connection: keep-alive\r\ncontent-length: "
+connection_text false = codes "connection: close\r\ncontent-length: "
+
+-- its head, where the body has so many bytes
+abbrev pub head_text : Asks → Bool → ℕ → List ℕ
+head_text asks stays count = (front_text asks ++ connection_text stays) ++ (decimal count ++ codes "\r\n\r\n")
+
+-- the response: its body is left out where the head alone is wanted
+abbrev pub response_text : Asks → Bool → Bool → List ℕ → List ℕ
+response_text asks head_alone stays replies =
+    let body = body_text asks replies in
+    head_text asks stays (length body) ++ (if head_alone then [] else body)
+
+-- what invites a peer to send the body of its request (RFC 9110, section 15.2.1)
+abbrev pub invitation_text : List ℕ
+invitation_text = codes "HTTP/1.1 100 Continue\r\n\r\n"

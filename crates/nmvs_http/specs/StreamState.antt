@@ -1,0 +1,26 @@
+-- A stream of requests, as contracts see it (own).
+use Rattle.std.specs.Prelude.{ℕ, List, map}
+use Rattle.http.specs.declared.request.Request.{Request}
+use Rattle.http_server.specs.declared.connection.Connection.{Connection}
+use Rattle.http_server.specs.declared.state.Config.{Config}
+use Rattle.http_server.specs.declared.state.State.{State}
+use Rattle.http_server.specs.Connection.{history}
+
+-- the bytes of a stream, the requests that were read off it, and whether more are
+pub record StreamState : Type 0 where
+  pub fed : List ℕ
+  pub requests : List (Request (List ℕ))
+  pub state : State
+
+-- the stream that a connection reads
+abbrev pub stream_state : Connection → StreamState
+stream_state c = record { fed = (history c).received; requests = map (λ call. call.0) (history c).calls; state = (history c).state }
+
+-- the limits of a request: 16 KiB for its head and as much for the rest of its lines, 128 KiB for its body (own)
+abbrev pub request_limits : Config
+request_limits = record {
+  limits = record { max_head_len = 16384; max_extensions_len = 16384; max_trailers_len = 16384 };
+  max_body_len = 131072;
+  max_pending = 25;
+  read_size = 4096;
+}

@@ -1,0 +1,386 @@
+//! The codec between a socket and a session of lines.
+ghost use Rattle.std.specs.Prelude.{◌≡◌, ◌≢◌, ◌≤◌, ◌<◌, ◌↔◌, ◌++◌, [], ℕ, List, None, Some, IsTrue, IsSome, OnOk, OnErr, if◌then◌else◌, length, take, drop, true, false};
+ghost use Rattle.http_server.specs.declared.state.State.TheVariants as states;
+ghost use Rattle.nmvs_http.specs.Codecs.{AnswersLines, CarriesRequests, CodecState, Decodes, Fits, GoesOn, HandGives, Tells, bytes_given};
+ghost use Rattle.nmvs_http.specs.Responses.{invitation_text, response_text};
+
+use crate::asked::Asks;
+use crate::byte_tag::extended;
+use crate::fault::Fault;
+use crate::request_stream::{Asked, Next, RequestStream};
+use crate::response::{write_invitation, write_refusal, write_response};
+use crate::write_buffer::WriteBuffer;
+use boxcar::tag::Tag;
+use bytes::Bytes;
+use nmvs_stream::Failed;
+use std::alloc::Global;
+use std::hash::RandomState;
+use std::marker::Model;
+
+/// The most bytes of replies to one request (own).
+const LONGEST_REPLIES: usize = 16 * 1024 * 1024;
+
+/// How a codec stands.
+#[derive(Clone, Copy, Debug, PartialEq, Eq)]
+pub enum CodecStage {
+    /// Requests are read.
+    Open,
+    /// No more requests are read. The connection is closed after the unsent bytes.
+    Closing,
+    /// There was no memory: the connection is closed.
+    Lost,
+}
+
+/// What came of reading on.
+#[derive(Clone, Copy, Debug, PartialEq, Eq)]
+pub enum Decoded {
+    /// So many bytes of lines, at the front of the buffer.
+    Lines(usize),
+    /// All lines of the request in hand were given: its response comes next.
+    Whole,
+    /// Nothing, before more bytes are fed.
+    Nothing,
+    /// Nothing any more.
+    Over,
+}
+
+/// A request that is answered.
+#[derive(Drop)]
+pub(crate) struct Hand {
+    asks: Asks,
+    head_alone: bool,
+    /// Whether the connection stays open after the response.
+    stays: bool,
+    /// The bytes of lines that were not given yet.
+    lines: Bytes,
+}
+
+/// Carries a session of lines over HTTP. It takes the bytes of requests, and gives the lines of their bodies, request by request. It
+/// takes the replies to these, and composes the response to each request. The caller moves the bytes.
+#[derive(Drop)]
+pub struct HttpCodec {
+    alloc: Global,
+    stage: CodecStage,
+    requests: RequestStream,
+    /// Whether bytes were fed since the last request.
+    begun: bool,
+    hand: Option<Hand>,
+    /// The replies to the request in hand.
+    gathered: Vec<u8>,
+    /// The bytes for the peer.
+    told: WriteBuffer,
+    /// How many bytes of that were sent.
+    gone: usize,
+    given: Tag,
+    replies: Tag,
+    sent: Tag,
+}
+
+impl Model for HttpCodec {
+    ghost use Rattle.std.specs.Prelude.{◌≤◌, length, drop};
+    ghost use Rattle.nmvs_http.specs.Codecs.{CodecState, IsCodec};
+
+    ghost Value = { CodecState };
+
+    ghost view = { λ c. record { stage = c.stage; stream = c.requests; hand = c.hand; given = c.given.numbers; replies = c.replies.numbers; gathered = c.gathered.items; sent = c.sent.numbers; unsent = drop c.gone c.told.bytes.items } };
+
+    ghost invariant = { λ c. (c.gone ≤ length c.told.bytes.items)
+        × IsCodec (record { stage = c.stage; stream = c.requests; hand = c.hand; given = c.given.numbers; replies = c.replies.numbers; gathered = c.gathered.items; sent = c.sent.numbers; unsent = drop c.gone c.told.bytes.items }) };
+}
+
+impl HttpCodec {
+    /// A codec that was fed nothing. The peer chooses the names of fields, so their maps take secret keys.
+    pub fn new(alloc: Global, keys: RandomState) -> HttpCodec
+        ensures { result ≡ record { stage = CodecStage.Open; stream = record { fed = []; requests = []; state = states.Open }; hand = None; given = []; replies = []; gathered = []; sent = []; unsent = [] } }
+    {
+        HttpCodec {
+            alloc,
+            stage: CodecStage::Open,
+            requests: RequestStream::new(alloc, keys),
+            begun: false,
+            hand: None,
+            gathered: Vec::new(alloc),
+            told: WriteBuffer::new(Vec::new(alloc)),
+            gone: 0,
+            given: Tag::empty(),
+            replies: Tag::empty(),
+            sent: Tag::empty(),
+        }
+    }
+
+    /// How it stands.
+    pub fn stage(&self) -> CodecStage
+        ensures { result ≡ self.now.stage }
+    {
+        self.stage
+    }
+
+    /// Whether a request is in hand.
+    pub fn has_request(&self) -> bool {
+        self.hand.is_some()
+    }
+
+    /// Whether bytes came of a request that has not come whole.
+    pub fn has_pending_request(&self) -> bool {
+        self.begun
+    }
+
+    /// Goes on with these bytes. The result is the number that it took: all, if there is memory for them.
+    pub fn feed(&mut self, more: &[u8]) -> usize
+        ensures within { result ≤ length more.now }
+        ensures fed { self.new ≡ record self.old { stream = record self.old.stream { fed = self.old.stream.fed ++ take result more.now } } }
+    {
+        self.begun = true;
+        self.requests.feed(more)
+    }
+
+    /// Reads on: gives bytes of lines of the request in hand, or takes the next one in hand.
+    pub fn read(&mut self, buffer: &mut [u8]) -> Decoded
+        ensures { Decodes self.old self.new buffer.new result }
+    {
+        if self.take_request() {
+            return self.give(buffer);
+        }
+        match self.stage {
+            CodecStage::Open => Decoded::Nothing,
+            CodecStage::Closing | CodecStage::Lost => Decoded::Over,
+        }
+    }
+
+    /// Has a request in hand, where one has come whole, and tells whether.
+    fn take_request(&mut self) -> bool
+        ensures goes_on { GoesOn self.old self.new }
+        ensures given { self.new.given ≡ self.old.given }
+    {
+        if self.stage != CodecStage::Open {
+            return false;
+        }
+        if self.hand.is_some() {
+            return true;
+        }
+        match self.requests.next() {
+            Next::Nothing => {}
+            Next::Invitation => self.stage = tell_invitation(&mut self.told),
+            Next::Refused(fault) => self.stage = tell_refusal(&mut self.told, fault),
+            Next::Lost => self.stage = CodecStage::Lost,
+            Next::Request(asked, stays) => {
+                self.begun = false;
+                self.hand = Some(Hand::of(asked, stays));
+                return true;
+            }
+        }
+        false
+    }
+
+    /// Gives bytes of lines of the request in hand.
+    fn give(&mut self, buffer: &mut [u8]) -> Decoded
+        ensures { Decodes self.old self.new buffer.new result }
+    {
+        let decoded = give_of(&mut self.hand, buffer);
+        self.given = given_behind(&self.given, buffer, decoded);
+        decoded
+    }
+
+    /// Refuses for this fault what came of a request, or would have, where none is in hand: the connection is closed then.
+    pub fn refuse(&mut self, fault: Fault)
+        ensures goes_on { GoesOn self.old self.new }
+        ensures given { self.new.given ≡ self.old.given }
+    {
+        if self.hand.is_none() && self.stage == CodecStage::Open {
+            self.stage = tell_refusal(&mut self.told, fault);
+        }
+    }
+
+    /// Takes replies to the request in hand, and tells whether there was room for them.
+    pub fn write(&mut self, replies: &[u8]) -> bool
+        ensures { self.new ≡ (if result then (record self.old { replies = self.old.replies ++ replies.now; gathered = self.old.gathered ++ replies.now }) else self.old) }
+    {
+        if replies.len() > LONGEST_REPLIES - self.gathered.len().min(LONGEST_REPLIES) {
+            return false;
+        }
+        match self.gathered.extend_from_slice(replies) {
+            Ok(()) => {
+                self.replies = extended(&self.replies, replies);
+                true
+            }
+            Err(_) => false,
+        }
+    }
+
+    /// Responds to the request in hand, where all its lines were given, or the session of lines has ended in it. What was replied
+    /// is the text of the answers to the lines that were given.
+    pub fn respond(&mut self, ended: bool)
+        requires { AnswersLines self.old.given self.old.replies ended }
+        ensures goes_on { GoesOn self.old self.new }
+        ensures given { self.new.given ≡ self.old.given }
+    {
+        if self.stage != CodecStage::Open {
+            return;
+        }
+        let Some(hand) = &self.hand else {
+            return;
+        };
+        if !may_respond(hand, ended) {
+            return;
+        }
+        let stays = stays_behind(hand.stays, ended);
+        let replies = self.gathered.as_slice();
+        self.stage = tell_response(&mut self.told, hand, stays, replies);
+        if self.stage != CodecStage::Lost {
+            self.hand = None;
+            self.gathered = Vec::new(self.alloc);
+        }
+    }
+
+    /// The unsent bytes. With those that were sent they are, in order, the responses to the requests that it was fed, each with the
+    /// text of the answers to its lines.
+    pub fn unsent(&self) -> &[u8]
+        ensures bytes { result.now ≡ self.now.unsent }
+        ensures carries { CarriesRequests self.now }
+    {
+        self.requests.note_read();
+        &self.told.bytes.as_slice()[self.gone..]
+    }
+
+    /// Notes that this number of unsent bytes was sent, from the front.
+    pub fn advance(&mut self, count: usize)
+        requires { count ≤ length self.old.unsent }
+        ensures { self.new ≡ record self.old { sent = self.old.sent ++ take count self.old.unsent; unsent = drop count self.old.unsent } }
+    {
+        let sent = extended(&self.sent, &self.unsent()[..count]);
+        self.sent = sent;
+        self.gone += count;
+        if self.gone == self.told.bytes.len() {
+            self.told = WriteBuffer::new(Vec::new(self.alloc));
+            self.gone = 0;
+        }
+    }
+}
+
+impl Hand {
+    /// A request, and whether the connection stays open after its response.
+    fn of(asked: Asked, stays: bool) -> Hand
+        ensures { result ≡ record { asks = asked.asks; head_alone = asked.head_alone; stays = stays; lines = asked.lines } }
+    {
+        let Asked {
+            asks,
+            head_alone,
+            lines,
+        } = asked;
+        Hand {
+            asks,
+            head_alone,
+            stays,
+            lines,
+        }
+    }
+}
+
+/// The tag of what was given, with what reading on gave after it.
+fn given_behind(given: &Tag, buffer: &[u8], decoded: Decoded) -> Tag
+    requires { Fits decoded buffer.now }
+    ensures { result.numbers ≡ given.now.numbers ++ bytes_given decoded buffer.now }
+{
+    match decoded {
+        Decoded::Lines(count) => extended(given, &buffer[..count]),
+        Decoded::Whole | Decoded::Nothing | Decoded::Over => extended(given, b""),
+    }
+}
+
+/// Gives bytes of lines of the request in hand.
+fn give_of(hand: &mut Option<Hand>, buffer: &mut [u8]) -> Decoded
+    ensures fits { Fits result buffer.new }
+    ensures gives { HandGives hand.old hand.new (bytes_given result buffer.new) }
+{
+    match hand {
+        None => Decoded::Nothing,
+        Some(hand) => give_of_hand(hand, buffer),
+    }
+}
+
+fn give_of_hand(hand: &mut Hand, buffer: &mut [u8]) -> Decoded
+    ensures fits { Fits result buffer.new }
+    ensures gives { HandGives (Some hand.old) (Some hand.new) (bytes_given result buffer.new) }
+{
+    if hand.lines.is_empty() {
+        return Decoded::Whole;
+    }
+    Decoded::Lines(give_lines(&mut hand.lines, buffer))
+}
+
+/// Gives bytes of these lines, as many as the buffer has room for. The result is their number.
+fn give_lines(lines: &mut Bytes, buffer: &mut [u8]) -> usize
+    ensures within { result ≤ length buffer.new }
+    ensures given { lines.old ≡ take result buffer.new ++ lines.new }
+{
+    let count = lines.len().min(buffer.len());
+    buffer[..count].copy_from_slice(&lines.as_slice()[..count]);
+    lines.advance(count);
+    count
+}
+
+/// Whether a request may be responded to: all its lines were given, or the session of lines has ended.
+fn may_respond(hand: &Hand, ended: bool) -> bool
+    ensures { result ≡ true → ended ≡ false → hand.now.lines ≡ [] }
+{
+    ended || hand.lines.is_empty()
+}
+
+/// Whether a connection stays open after a response.
+fn stays_behind(stays: bool, ended: bool) -> bool
+    ensures { ended ≡ true → result ≡ false }
+{
+    stays && !ended
+}
+
+/// Invites the sender of a request to send its body. The result is how the codec stands then.
+fn tell_invitation(told: &mut WriteBuffer) -> CodecStage
+    ensures { Tells told.old.bytes.items told.new.bytes.items invitation_text CodecStage.Open result }
+{
+    let count = told.bytes.len();
+    match write_invitation(told) {
+        Ok(()) => CodecStage::Open,
+        Err(Failed) => forget(told, count),
+    }
+}
+
+/// Refuses for this fault what is no request. The result is how the codec stands then.
+fn tell_refusal(told: &mut WriteBuffer, fault: Fault) -> CodecStage
+    ensures { Tells told.old.bytes.items told.new.bytes.items (response_text (Asks.Refused fault) false false []) CodecStage.Closing result }
+{
+    let count = told.bytes.len();
+    match write_refusal(told, fault) {
+        Ok(()) => CodecStage::Closing,
+        Err(Failed) => forget(told, count),
+    }
+}
+
+/// Responds to the request in hand with these replies. The result is how the codec stands then.
+fn tell_response(told: &mut WriteBuffer, hand: &Hand, stays: bool, replies: &[u8]) -> CodecStage
+    ensures { Tells told.old.bytes.items told.new.bytes.items (response_text hand.now.asks hand.now.head_alone stays replies.now) (if stays then CodecStage.Open else CodecStage.Closing) result }
+{
+    let count = told.bytes.len();
+    match write_response(told, hand.asks, hand.head_alone, stays, replies) {
+        Ok(()) => stage_behind(stays),
+        Err(Failed) => forget(told, count),
+    }
+}
+
+fn stage_behind(stays: bool) -> CodecStage
+    ensures { result ≡ (if stays then CodecStage.Open else CodecStage.Closing) }
+{
+    if stays {
+        CodecStage::Open
+    } else {
+        CodecStage::Closing
+    }
+}
+
+/// Forgets what was written after this number of bytes: there was no memory for all of it.
+fn forget(told: &mut WriteBuffer, count: usize) -> CodecStage
+    ensures lost { result ≡ CodecStage.Lost }
+    ensures first { told.new.bytes.items ≡ take count told.old.bytes.items }
+{
+    told.bytes.truncate(count);
+    CodecStage::Lost
+}

@@ -1,0 +1,32 @@
+//! Why a request is refused.
+
+/// Why a request is refused. Nothing is asked for it.
+#[derive(Clone, Copy, Debug, PartialEq, Eq)]
+pub enum Fault {
+    /// Its bytes are no request.
+    Request,
+    /// A page of another site sent it.
+    Site,
+    /// Nothing is at its path.
+    Path,
+    /// Its method does not go with `/v1/lines`.
+    MethodOfLines,
+    /// Its method does not go with `/healthz`.
+    MethodOfHealth,
+    /// It has not come whole in time.
+    Timeout,
+    /// Neither a length nor a coding tells where its body ends.
+    Length,
+    /// Its body is too long.
+    Body,
+    /// Its target is too long.
+    Target,
+    /// Its body is of another type than is read.
+    Type,
+    /// Its head is too long, or has too many fields.
+    Head,
+    /// Its body has a coding that is not undone.
+    Coding,
+    /// It is of a connection that is one too many.
+    Busy,
+}

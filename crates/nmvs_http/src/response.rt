@@ -1,0 +1,174 @@
+//! The texts of responses.
+ghost use Rattle.std.specs.Prelude.{◌≡◌, ◌++◌, [], false, if◌then◌else◌, OnOk, OnErr};
+ghost use Rattle.nmvs_stream.specs.Delivery.{Writes, DeliversPart};
+ghost use Rattle.nmvs_http.specs.Responses as specs;
+
+use crate::asked::Asks;
+use crate::fault::Fault;
+use itoa::Buffer;
+use nmvs_stream::{Failed, Sink, write_all};
+
+/// Invites a peer that waits with the body of its request (RFC 9110, section 15.2.1).
+const CONTINUE: &[u8] = b"HTTP/1.1 100 Continue\r\n\r\n";
+
+/// Invites the peer to send the body.
+pub(crate) fn write_invitation<W: Sink>(sink: &mut W) -> Result<(), Failed>
+    ensures ok { OnOk result (Writes (W.taken sink.old) (W.taken sink.new) specs.invitation_text) }
+    ensures err { OnErr result (DeliversPart (W.taken sink.old) (W.taken sink.new) specs.invitation_text) }
+{
+    write_all(sink, CONTINUE)
+}
+
+/// Refuses for this fault what came of a request, as the last words to a peer: where it has not come whole in time, say.
+pub fn write_refusal<W: Sink>(sink: &mut W, fault: Fault) -> Result<(), Failed>
+    ensures ok { OnOk result (Writes (W.taken sink.old) (W.taken sink.new) (specs.response_text (Asks.Refused fault) false false [])) }
+    ensures err { OnErr result (DeliversPart (W.taken sink.old) (W.taken sink.new) (specs.response_text (Asks.Refused fault) false false [])) }
+{
+    write_response(sink, Asks::Refused(fault), false, false, b"")
+}
+
+/// Writes the response to what was asked, with the replies that were gathered for it.
+pub(crate) fn write_response<W: Sink>(
+    sink: &mut W,
+    asks: Asks,
+    is_head: bool,
+    stays: bool,
+    replies: &[u8],
+) -> Result<(), Failed>
+    ensures ok { OnOk result (Writes (W.taken sink.old) (W.taken sink.new) (specs.response_text asks is_head stays replies.now)) }
+    ensures err { OnErr result (DeliversPart (W.taken sink.old) (W.taken sink.new) (specs.response_text asks is_head stays replies.now)) }
+{
+    let body = body_of(asks, replies);
+    write_head(sink, asks, stays, body.len())?;
+    write_all(sink, sent_of(body, is_head))
+}
+
+/// The part of the body that is sent: nothing if the head alone is wanted.
+fn sent_of(body: &[u8], is_head: bool) -> &[u8]
+    ensures { result.now ≡ (if is_head then [] else body.now) }
+{
+    if is_head { b"" } else { body }
+}
+
+/// The body of the response.
+fn body_of(asks: Asks, replies: &[u8]) -> &[u8]
+    ensures { result.now ≡ specs.body_text asks replies.now }
+{
+    match asks {
+        Asks::Lines => replies,
+        Asks::Health => b"ok\n",
+        Asks::Refused(fault) => problem(fault),
+    }
+}
+
+/// The status line, and the fields that tell of the body.
+#[tactic(auto, unfolding(crate::specs::Responses::front_text))]
+fn front_of(asks: Asks) -> &'static [u8]
+    ensures { result.now ≡ specs.front_text asks }
+{
+    match asks {
+        Asks::Lines =>
+            b"HTTP/1.1 200 OK\r\ncontent-type: application/vnd.nmvs.lines\r\ncache-control: no-store\r\n",
+        Asks::Health =>
+            b"HTTP/1.1 200 OK\r\ncontent-type: text/plain; charset=utf-8\r\ncache-control: no-store\r\n",
+        Asks::Refused(fault) => front_of_fault(fault),
+    }
+}
+
+/// Whether the connection stays, and how many bytes the body has.
+fn connection_of(stays: bool) -> &'static [u8]
+    ensures { result.now ≡ specs.connection_text stays }
+{
+    if stays {
+        b"connection: keep-alive\r\ncontent-length: "
+    } else {
+        b"connection: close\r\ncontent-length: "
+    }
+}
+
+#[tactic(auto, unfolding(crate::specs::Responses::front_text))]
+fn front_of_fault(fault: Fault) -> &'static [u8]
+    ensures { result.now ≡ specs.front_text (Asks.Refused fault) }
+{
+    match fault {
+        Fault::Request =>
+            b"HTTP/1.1 400 Bad Request\r\ncontent-type: application/problem+json\r\ncache-control: no-store\r\n",
+        Fault::Site =>
+            b"HTTP/1.1 403 Forbidden\r\ncontent-type: application/problem+json\r\ncache-control: no-store\r\n",
+        Fault::Path =>
+            b"HTTP/1.1 404 Not Found\r\ncontent-type: application/problem+json\r\ncache-control: no-store\r\n",
+        Fault::MethodOfLines =>
+            b"HTTP/1.1 405 Method Not Allowed\r\nallow: POST\r\ncontent-type: application/problem+json\r\ncache-control: no-store\r\n",
+        Fault::MethodOfHealth =>
+            b"HTTP/1.1 405 Method Not Allowed\r\nallow: GET, HEAD\r\ncontent-type: application/problem+json\r\ncache-control: no-store\r\n",
+        Fault::Timeout =>
+            b"HTTP/1.1 408 Request Timeout\r\ncontent-type: application/problem+json\r\ncache-control: no-store\r\n",
+        Fault::Length =>
+            b"HTTP/1.1 411 Length Required\r\ncontent-type: application/problem+json\r\ncache-control: no-store\r\n",
+        Fault::Body =>
+            b"HTTP/1.1 413 Content Too Large\r\ncontent-type: application/problem+json\r\ncache-control: no-store\r\n",
+        Fault::Target =>
+            b"HTTP/1.1 414 URI Too Long\r\ncontent-type: application/problem+json\r\ncache-control: no-store\r\n",
+        Fault::Type =>
+            b"HTTP/1.1 415 Unsupported Media Type\r\ncontent-type: application/problem+json\r\ncache-control: no-store\r\n",
+        Fault::Head =>
+            b"HTTP/1.1 431 Request Header Fields Too Large\r\ncontent-type: application/problem+json\r\ncache-control: no-store\r\n",
+        Fault::Coding =>
+            b"HTTP/1.1 501 Not Implemented\r\ncontent-type: application/problem+json\r\ncache-control: no-store\r\n",
+        Fault::Busy =>
+            b"HTTP/1.1 503 Service Unavailable\r\ncontent-type: application/problem+json\r\ncache-control: no-store\r\n",
+    }
+}
+
+/// The problem that says what the fault is (RFC 9457).
+#[tactic(auto, unfolding(crate::specs::Responses::problem))]
+fn problem(fault: Fault) -> &'static [u8]
+    ensures { result.now ≡ specs.problem fault }
+{
+    match fault {
+        Fault::Request =>
+            b"{\"type\":\"about:blank\",\"title\":\"Bad Request\",\"status\":400,\"fault\":\"REQUEST\",\"recorded\":\"no\"}\n",
+        Fault::Site =>
+            b"{\"type\":\"about:blank\",\"title\":\"Forbidden\",\"status\":403,\"fault\":\"SITE\",\"recorded\":\"no\"}\n",
+        Fault::Path =>
+            b"{\"type\":\"about:blank\",\"title\":\"Not Found\",\"status\":404,\"fault\":\"PATH\",\"recorded\":\"no\"}\n",
+        Fault::MethodOfLines | Fault::MethodOfHealth =>
+            b"{\"type\":\"about:blank\",\"title\":\"Method Not Allowed\",\"status\":405,\"fault\":\"METHOD\",\"recorded\":\"no\"}\n",
+        Fault::Timeout =>
+            b"{\"type\":\"about:blank\",\"title\":\"Request Timeout\",\"status\":408,\"fault\":\"TIMEOUT\",\"recorded\":\"no\"}\n",
+        Fault::Length =>
+            b"{\"type\":\"about:blank\",\"title\":\"Length Required\",\"status\":411,\"fault\":\"LENGTH\",\"recorded\":\"no\"}\n",
+        Fault::Body =>
+            b"{\"type\":\"about:blank\",\"title\":\"Content Too Large\",\"status\":413,\"fault\":\"BODY\",\"recorded\":\"no\"}\n",
+        Fault::Target =>
+            b"{\"type\":\"about:blank\",\"title\":\"URI Too Long\",\"status\":414,\"fault\":\"TARGET\",\"recorded\":\"no\"}\n",
+        Fault::Type =>
+            b"{\"type\":\"about:blank\",\"title\":\"Unsupported Media Type\",\"status\":415,\"fault\":\"TYPE\",\"recorded\":\"no\"}\n",
+        Fault::Head =>
+            b"{\"type\":\"about:blank\",\"title\":\"Request Header Fields Too Large\",\"status\":431,\"fault\":\"HEAD\",\"recorded\":\"no\"}\n",
+        Fault::Coding =>
+            b"{\"type\":\"about:blank\",\"title\":\"Not Implemented\",\"status\":501,\"fault\":\"CODING\",\"recorded\":\"no\"}\n",
+        Fault::Busy =>
+            b"{\"type\":\"about:blank\",\"title\":\"Service Unavailable\",\"status\":503,\"fault\":\"BUSY\",\"recorded\":\"no\"}\n",
+    }
+}
+
+/// Writes the head of a response whose body has this number of bytes.
+fn write_head<W: Sink>(sink: &mut W, asks: Asks, stays: bool, count: usize) -> Result<(), Failed>
+    ensures ok { OnOk result (Writes (W.taken sink.old) (W.taken sink.new) (specs.head_text asks stays count)) }
+    ensures err { OnErr result (DeliversPart (W.taken sink.old) (W.taken sink.new) (specs.head_text asks stays count)) }
+{
+    let mut digits = Buffer::new();
+    let digits = digits.format(count).as_bytes();
+    write_both(sink, front_of(asks), connection_of(stays))?;
+    write_both(sink, digits, b"\r\n\r\n")
+}
+
+/// Writes one text, and another one after it.
+fn write_both<W: Sink>(sink: &mut W, first: &[u8], second: &[u8]) -> Result<(), Failed>
+    ensures ok { OnOk result (Writes (W.taken sink.old) (W.taken sink.new) (first.now ++ second.now)) }
+    ensures err { OnErr result (DeliversPart (W.taken sink.old) (W.taken sink.new) (first.now ++ second.now)) }
+{
+    write_all(sink, first)?;
+    write_all(sink, second)
+}
