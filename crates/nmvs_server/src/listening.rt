@@ -41,11 +41,10 @@ pub(crate) fn listen_http<'o, R: Host>(
     rt: &R,
     options: &'o Options,
 ) -> Result<Option<HttpListener>, Fault<'o>> {
-    let address = match (&options.http_socket, options.http) {
-        (None, None) => return Ok(None),
-        (_, Some(address)) => address,
-        (Some(_), None) => options.address,
-    };
+    if options.http.is_none() && options.http_socket.is_none() {
+        return Ok(None);
+    }
+    let address = options.http.unwrap_or(options.address);
     let Ok(keys) = RandomState::new(rt) else {
         return Err(Fault::Random);
     };
