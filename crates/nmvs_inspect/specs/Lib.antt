@@ -1,4 +1,5 @@
 pub mod Filter
+pub mod Replies
 pub mod Html
 pub mod Selection
 pub mod Rows

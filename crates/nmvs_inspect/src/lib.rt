@@ -18,6 +18,7 @@ mod html;
 mod listing;
 mod packs;
 mod page;
+mod replies;
 mod reports;
 mod rows;
 mod selection;
