@@ -9,7 +9,8 @@ use crate::request::Request;
 use indexmap::IndexSet;
 use nmvs_identifier::{Pack, ProductCode};
 use nmvs_inspect::{
-    AnswerFault, write_groups, write_list, write_packs, write_page, write_report_rows,
+    AnswerFault, Filter, story_of, takes_any, write_groups, write_list, write_packs, write_page,
+    write_report_rows, write_story,
 };
 use nmvs_protocol::reply_text;
 use nmvs_record::{Importer, product_line, report};
@@ -41,7 +42,29 @@ pub(crate) fn tell<W: Sink>(
         Request::List(filter, form) => write_list(alloc, shard, filter, *form, sink),
         Request::Count(filter, by, form) => write_groups(alloc, shard, filter, by, *form, sink),
         Request::Page(_) => page(alloc, importer, sink),
+        Request::Story(pack, form) => write_story(alloc, shard, pack, *form, sink),
         Request::Packs(code, batch, form) => write_packs(alloc, shard, code, batch, *form, sink),
+    }
+}
+
+/// How many entries there are, where what is asked is about those that a filter takes, and it takes none.
+pub(crate) fn untaken(shard: &Shard<Global>, request: &Request) -> Option<usize>
+    ensures { result ≡ answers.untaken shard.now request.now }
+{
+    match request {
+        Request::List(filter, _) | Request::Count(filter, _, _) => none_of(shard, filter),
+        Request::Story(pack, _) => none_of(shard, &story_of(pack)),
+        _ => None,
+    }
+}
+
+fn none_of(shard: &Shard<Global>, filter: &Filter) -> Option<usize>
+    ensures { result ≡ answers.none_of shard.now filter.now }
+{
+    if takes_any(shard, filter) {
+        None
+    } else {
+        Some(shard.trail().len())
     }
 }
 

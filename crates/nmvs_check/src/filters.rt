@@ -106,6 +106,7 @@ pub(crate) fn filter_of(alloc: Global, matches: &ArgMatches<'_>) -> Result<Filte
         code: code(alloc, matches, "code")?,
         serial: serial(alloc, matches, "serial")?,
         batch: batch(alloc, matches, "batch")?,
+        pack: None,
         question: question(alloc, matches)?,
         reply: reply(alloc, matches)?,
         flagged: matches.get_flag("flagged"),
@@ -169,7 +170,7 @@ pub(crate) fn code(
     }
 }
 
-fn serial(
+pub(crate) fn serial(
     alloc: Global,
     matches: &ArgMatches<'_>,
     option: &str,

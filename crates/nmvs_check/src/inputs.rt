@@ -3,7 +3,7 @@ use nmvs_digest::{DigestFault, Digested, stored_digest};
 use nmvs_stream::{Device, Source};
 use std::alloc::{AllocError, Global};
 use std::fs::{self, File, Metadata};
-use std::io::{self, ErrorKind, Read};
+use std::io::{self, ErrorKind, IsTerminal, Read};
 use std::os::unix::fs::MetadataExt;
 use std::rt::{HostRuntime, Stdin};
 
@@ -106,7 +106,7 @@ fn open_input(rt: &HostRuntime, alloc: Global, path: &str) -> Result<Input, Inpu
         return Ok(Input {
             path: named,
             stored: None,
-            source: Digested::new(Device::new(Handle::Standard(rt.stdin()))),
+            source: Digested::new(Device::new(Handle::Standard(standard_input(rt)))),
         });
     }
     let stored = match stored_digest(rt, alloc, path) {
@@ -122,6 +122,15 @@ fn open_input(rt: &HostRuntime, alloc: Global, path: &str) -> Result<Input, Inpu
         }),
         Err(_) => Err(InputFault::Closed(named)),
     }
+}
+
+/// Standard input. Where it is a terminal, people are told what is read from it.
+fn standard_input(rt: &HostRuntime) -> Stdin {
+    let input = rt.stdin();
+    if input.is_terminal() {
+        let _ = eprintln!(rt; "an export is read from this terminal; --help says how to name a file");
+    }
+    input
 }
 
 impl Read for Inputs {

@@ -1,6 +1,6 @@
 //! The command line.
 use crate::filters::{
-    batch, by_of, code, filter_of, flag, form_of, option, refused, with_filter, with_form,
+    batch, by_of, code, filter_of, flag, form_of, option, refused, serial, with_filter, with_form,
 };
 use crate::request::Request;
 use clap::error::ErrorKind;
@@ -73,6 +73,10 @@ const COUNT: &str =
 const PACKS: &str =
     "Lists the packs that were uploaded in a batch: the status of each, since when, and by whom";
 
+const PACK: &str =
+    "Lists the entries about a pack, its upload among them, and those that recall or withdraw its batch, oldest first; the last \
+    row is the reply that a STATUS of the pack gets at the end of the export";
+
 const COMPARE: &str =
     "Says whether a new export goes on from an old one: for each product code the lines of the old one about it are, in \
     order, the first lines of the new one about it. If so it prints GOES ON and the status is 0; else it prints the first \
@@ -110,6 +114,7 @@ fn command<'a>(alloc: Global) -> Result<Command<'a>, AllocError> {
     let command = with_lookups(alloc, command)?;
     let command = with_subcommand(command, list(alloc))?;
     let command = with_subcommand(command, count(alloc))?;
+    let command = with_subcommand(command, pack(alloc))?;
     let command = with_subcommand(command, packs(alloc))?;
     let command = with_subcommand(command, reports(alloc))?;
     let command = with_subcommand(command, compare(alloc))?;
@@ -178,6 +183,16 @@ fn count<'a>(alloc: Global) -> Result<Command<'a>, AllocError> {
         .arg(by.required(true))?
         .arg(files(alloc))?;
     let command = with_filter(alloc, command)?;
+    with_form(alloc, command)
+}
+
+fn pack<'a>(alloc: Global) -> Result<Command<'a>, AllocError> {
+    let code = option(alloc, "code", "CODE", "The product code");
+    let command = Command::new(alloc, "pack")
+        .about(PACK)
+        .arg(code.required(true))?;
+    let serial = option(alloc, "serial", "SERIAL", "The serial number");
+    let command = command.arg(serial.required(true))?.arg(files(alloc))?;
     with_form(alloc, command)
 }
 
@@ -294,6 +309,7 @@ fn request_of(alloc: Global, matches: &ArgMatches<'_>) -> Result<Request, Option
     match matches.subcommand() {
         Some(("list", asked)) => list_of(alloc, asked),
         Some(("count", asked)) => count_of(alloc, asked),
+        Some(("pack", asked)) => story_of(alloc, asked),
         Some(("packs", asked)) => packs_of(alloc, asked),
         Some(("page", asked)) => page_of(alloc, asked),
         Some(("report", asked)) => Ok(reports_of(asked)),
@@ -360,6 +376,17 @@ fn lookup_of(alloc: Global, matches: &ArgMatches<'_>) -> Result<Request, OptionF
         })),
         _ => Ok(Request::Summary),
     }
+}
+
+fn story_of(alloc: Global, matches: &ArgMatches<'_>) -> Result<Request, OptionFault> {
+    let (Some(code), Some(serial)) = (
+        code(alloc, matches, "code")?,
+        serial(alloc, matches, "serial")?,
+    ) else {
+        let wanted = "error: a product code and a serial number are wanted\n";
+        return Err(OptionFault::Refused(String::from_str(alloc, wanted)?));
+    };
+    Ok(Request::Story(Pack { code, serial }, form_of(matches)))
 }
 
 fn packs_of(alloc: Global, matches: &ArgMatches<'_>) -> Result<Request, OptionFault> {

@@ -45,7 +45,7 @@ pub(crate) fn write_page(
     let file = create(rt, path, &part).or(Err(PageFault::File))?;
     let (mut source, mut sink) = (Device::new(inputs), Device::new(file));
     let written = match inspect(alloc, key, &mut source, &mut sink, asked, reads) {
-        Ok(()) => fs::rename(rt, &part, path).or(Err(PageFault::File)),
+        Ok(_) => fs::rename(rt, &part, path).or(Err(PageFault::File)),
         Err(fault) => Err(PageFault::Inspect(fault)),
     };
     if written.is_err() {

@@ -20,6 +20,8 @@ pub(crate) enum Request {
     Count(Filter, Vec<By>, Form),
     /// A page for a browser, in the file of this path.
     Page(String),
+    /// The story of a pack.
+    Story(Pack, Form),
     /// The packs of a batch.
     Packs(ProductCode, Batch, Form),
 }

@@ -3,6 +3,7 @@ pub mod Replies
 pub mod Html
 pub mod Selection
 pub mod Rows
+pub mod Story
 pub mod Gathering
 pub mod Groups
 pub mod Packs

@@ -1,8 +1,8 @@
 //! What inspectors ask of a lawful trail.
 //!
 //! A [`Filter`] says which entries are wanted, as a definition over entries. [`write_list`] writes them, oldest first, in a
-//! [`Form`]. [`write_groups`] counts them by the parts that they share, and [`write_packs`] lists the packs of a batch with
-//! their status. The trail is not copied: an answer is made from the shard of an import, a block at a time.
+//! [`Form`]. [`write_groups`] counts them by the parts that they share, [`write_packs`] lists the packs of a batch with
+//! their status, and [`write_story`] tells of one pack. The trail is not copied: an answer is made from the shard of an import, a block at a time.
 //! [`first_departure`] says whether a later trail continues an earlier one.
 #![tactic(auto)]
 
@@ -22,6 +22,7 @@ mod replies;
 mod reports;
 mod rows;
 mod selection;
+mod story;
 mod weeks;
 
 pub use answer_fault::AnswerFault;
@@ -35,3 +36,5 @@ pub use listing::write_list;
 pub use packs::write_packs;
 pub use page::write_page;
 pub use reports::write_report_rows;
+pub use selection::takes_any;
+pub use story::{story_of, write_story};

@@ -11,9 +11,8 @@ ghost use Rattle.nmvs_inspect.specs.Rows as rows;
 
 use crate::groups::{append_groups, groups_of};
 use crate::html::{append_escaped, append_html, append_html_row};
-use crate::listing::write_entries;
+use crate::listing::write_selected;
 use crate::reports::{holder_text, lock_text};
-use crate::selection::select;
 use crate::weeks::append_chart;
 use crate::{AnswerFault, By, Filter, Form};
 use nmvs_identifier::{Batch, Name, ProductCode};
@@ -291,9 +290,8 @@ fn write_alerts<A: Allocator, W: Sink>(
         × Delivers (W.taken sink.old) (W.taken sink.new) (block.old.items ++ page.alerts_text ds)) }
 {
     let filter = flagged_alerts();
-    let entries = select(alloc, shard, &filter)?;
     append_html(block, ALERTS)?;
-    write_entries(alloc, block, Form::Html, &entries, sink)?;
+    write_selected(alloc, block, shard, &filter, Form::Html, sink)?;
     append_html(block, FOOT)?;
     Ok(deliver(sink, block)?)
 }
