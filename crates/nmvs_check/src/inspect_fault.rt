@@ -6,7 +6,7 @@ use nmvs_rules::Reply;
 use std::alloc::{AllocError, Global};
 
 /// Why nothing is told of an export.
-#[derive(Clone, Copy, Debug, PartialEq, Eq)]
+#[derive(Clone, Copy)]
 pub(crate) enum InspectFault {
     /// It is no export of a lawful trail, or was not read to its end.
     Found(Finding),

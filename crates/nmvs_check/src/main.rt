@@ -22,7 +22,6 @@ use crate::inspection::inspect;
 use crate::options::{Asked, OptionFault, Options, read_options};
 use crate::output::Output;
 use crate::page_file::{PageFault, write_page};
-use crate::request::Request;
 use crate::scans::answer_scans;
 use crate::status::{status_of, status_of_answer};
 use nmvs_elements::National;
@@ -76,6 +75,7 @@ fn answer(rt: &HostRuntime, alloc: Global, asked: &Asked) -> ExitCode {
     };
     match asked {
         Asked::Inspection(options) => check(rt, alloc, key, options),
+        Asked::Page { path, files } => page(rt, alloc, key, path, files),
         Asked::Comparison { old, new } => compare_files(rt, alloc, key, old, new),
         Asked::Scans(nation) => scan(rt, alloc, *nation),
     }
@@ -87,20 +87,6 @@ fn check(rt: &HostRuntime, alloc: Global, key: HashKey, options: &Options) -> Ex
         Ok(inputs) => inputs,
         Err(status) => return status,
     };
-    if let Request::Page(path) = &options.request {
-        return match write_page(rt, alloc, key, &mut inputs, &options.request, path, READS) {
-            Ok(()) => ExitCode::SUCCESS,
-            Err(PageFault::Inspect(fault)) => fail_at(rt, alloc, &inputs, &fault),
-            Err(PageFault::File) => {
-                let _ = eprintln!(rt; "the file {path} cannot be written");
-                ExitCode::from(TROUBLE)
-            }
-            Err(PageFault::Export) => {
-                let _ = eprintln!(rt; "the file {path} is one of the exports");
-                ExitCode::from(TROUBLE)
-            }
-        };
-    }
     let mut output = Output::new(rt.stdout());
     let inspected = {
         let (mut source, mut sink) = (Device::new(&mut inputs), Device::new(&mut output));
@@ -114,6 +100,26 @@ fn check(rt: &HostRuntime, alloc: Global, key: HashKey, options: &Options) -> Ex
         }
         Err(InspectFault::Answer(fault)) => fail_answer(rt, &output, fault),
         Err(fault) => fail_at(rt, alloc, &inputs, &fault),
+    }
+}
+
+/// Writes a page of the export in these files, tells the fault, and gives the status.
+fn page(rt: &HostRuntime, alloc: Global, key: HashKey, path: &str, files: &[String]) -> ExitCode {
+    let mut inputs = match opened(rt, alloc, files) {
+        Ok(inputs) => inputs,
+        Err(status) => return status,
+    };
+    match write_page(rt, alloc, key, &mut inputs, path, READS) {
+        Ok(()) => ExitCode::SUCCESS,
+        Err(PageFault::Inspect(fault)) => fail_at(rt, alloc, &inputs, &fault),
+        Err(PageFault::File) => {
+            let _ = eprintln!(rt; "the file {path} cannot be written");
+            ExitCode::from(TROUBLE)
+        }
+        Err(PageFault::Export) => {
+            let _ = eprintln!(rt; "the file {path} is one of the exports");
+            ExitCode::from(TROUBLE)
+        }
     }
 }
 

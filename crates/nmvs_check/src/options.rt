@@ -15,6 +15,11 @@ use std::alloc::{AllocError, Global};
 pub(crate) enum Asked {
     /// To inspect an export.
     Inspection(Options),
+    /// To write a page for a browser to the file of this path, of the export in these files.
+    Page {
+        path: String,
+        files: Vec<String>,
+    },
     /// To compare two exports.
     Comparison {
         /// The path of the old one; `-` is standard input.
@@ -84,7 +89,8 @@ const COMPARE: &str =
     status is also 1 where one of them is not lawful, and 2 in trouble";
 
 const PAGE: &str =
-    "Writes a page for a browser: the counts, product codes and batches, alerts by week, and the flagged alerts, oldest first";
+    "Writes a page for a browser: files and counts, product codes and batches, alerts by week, the premises with the most \
+    flagged alerts, and these, oldest first";
 
 const SCAN: &str =
     "Reads each line of standard input as a scan of a pack, and writes a row of CSV: the elements of the pack, or why the \
@@ -265,6 +271,7 @@ fn operand<'a>(alloc: Global, name: &'a str, value: &'a str, help: &'a str) -> A
 fn asked_of(alloc: Global, matches: &ArgMatches<'_>) -> Result<Asked, OptionFault> {
     match matches.subcommand() {
         Some(("compare", asked)) => comparison_of(alloc, asked),
+        Some(("page", asked)) => page_of(alloc, asked),
         Some(("scan", asked)) => Ok(Asked::Scans(nation_of(alloc, asked)?)),
         _ => Ok(Asked::Inspection(options_of(alloc, matches)?)),
     }
@@ -311,7 +318,6 @@ fn request_of(alloc: Global, matches: &ArgMatches<'_>) -> Result<Request, Option
         Some(("count", asked)) => count_of(alloc, asked),
         Some(("pack", asked)) => story_of(alloc, asked),
         Some(("packs", asked)) => packs_of(alloc, asked),
-        Some(("page", asked)) => page_of(alloc, asked),
         Some(("report", asked)) => Ok(reports_of(asked)),
         _ => lookup_of(alloc, matches),
     }
@@ -348,21 +354,26 @@ fn files_of(alloc: Global, matches: &ArgMatches<'_>) -> Result<Vec<String>, Allo
 fn paths_of(alloc: Global, matches: &ArgMatches<'_>) -> Result<Vec<String>, AllocError> {
     let mut paths = Vec::new(alloc);
     if let Some(files) = matches.get_strs("files") {
-        for path in files {
-            paths.push(String::from_str(alloc, path)?)?;
-        }
+        append_paths(alloc, files, &mut paths)?;
     }
     Ok(paths)
 }
 
-fn page_of(alloc: Global, matches: &ArgMatches<'_>) -> Result<Request, OptionFault> {
-    match matches.get_str("page") {
-        Some(path) => Ok(Request::Page(String::from_str(alloc, path)?)),
-        None => Err(OptionFault::Refused(String::from_str(
-            alloc,
-            "error: a file for the page is wanted\n",
-        )?)),
+fn append_paths(alloc: Global, files: &[&str], paths: &mut Vec<String>) -> Result<(), AllocError> {
+    for path in files {
+        paths.push(String::from_str(alloc, path)?)?;
     }
+    Ok(())
+}
+
+fn page_of(alloc: Global, matches: &ArgMatches<'_>) -> Result<Asked, OptionFault> {
+    let Some(path) = matches.get_str("page") else {
+        let wanted = "error: a file for the page is wanted\n";
+        return Err(OptionFault::Refused(String::from_str(alloc, wanted)?));
+    };
+    let files = paths_of(alloc, matches)?;
+    let path = String::from_str(alloc, path)?;
+    Ok(Asked::Page { path, files })
 }
 
 fn lookup_of(alloc: Global, matches: &ArgMatches<'_>) -> Result<Request, OptionFault> {

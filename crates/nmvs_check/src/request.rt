@@ -18,7 +18,7 @@ pub(crate) enum Request {
     List(Filter, Form),
     /// How many of the entries that the filter takes have the same parts.
     Count(Filter, Vec<By>, Form),
-    /// A page for a browser, in the file of this path.
+    /// A page for a browser, under this heading.
     Page(String),
     /// The story of a pack.
     Story(Pack, Form),

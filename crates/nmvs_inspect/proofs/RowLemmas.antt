@@ -60,8 +60,8 @@ reply_cells-text form.Csv r n = absurd (n refl)
 reply_cells-text form.Table r n = refl
 reply_cells-text form.Html r n = refl
 
-pub entry_text-row : (f : Form) (d : Dated) → f ≢ form.Json → entry_text f d ≡ row f (cells f d)
-entry_text-row form.Json d n = absurd (n refl)
-entry_text-row form.Csv d n = refl
-entry_text-row form.Table d n = refl
-entry_text-row form.Html d n = refl
+pub entry_text-row : (f : Form) (d : Dated) → f ≢ form.Json → f ≢ form.Html → entry_text f d ≡ row f (cells f d)
+entry_text-row form.Json d n m = absurd (n refl)
+entry_text-row form.Csv d n m = refl
+entry_text-row form.Table d n m = refl
+entry_text-row form.Html d n m = absurd (m refl)

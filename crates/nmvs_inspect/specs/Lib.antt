@@ -10,4 +10,6 @@ pub mod Packs
 pub mod Reports
 pub mod Comparison
 pub mod Weeks
+pub mod Period
+pub mod Premises
 pub mod Page

@@ -70,6 +70,12 @@ cells form d = let e = d.entry in let q = e.put.question in
     ∷ e.put.actor.premises.bytes ∷ kind_word (kind_of q) ∷ (code_of q).bytes ∷ serial_text (pack_of q)
     ∷ batch_text (named_batch q) ∷ []) ++ reply_cells form e.reply
 
+-- the cells of an entry on a page: those that are looked at most come first
+abbrev pub html_cells : Dated → List (List ℕ)
+html_cells d = let e = d.entry in let q = e.put.question in
+    moment_text d.at ∷ e.put.user.bytes ∷ e.put.actor.authorisation.bytes ∷ e.put.actor.premises.bytes ∷ kind_word (kind_of q)
+    ∷ (code_of q).bytes ∷ serial_text (pack_of q) ∷ reply_cell e.reply ∷ role_word e.put.actor.role ∷ batch_text (named_batch q) ∷ []
+
 -- how wide the columns of a table are; a longer cell makes its row longer
 abbrev pub widths : List ℕ
 widths = 19 ∷ 8 ∷ 12 ∷ 13 ∷ 8 ∷ 8 ∷ 14 ∷ 20 ∷ 8 ∷ []
@@ -110,7 +116,7 @@ abbrev pub entry_text : Form → Dated → List ℕ
 entry_text form.Json d = ended_line d.entry
 entry_text form.Csv d = row form.Csv (cells form.Csv d)
 entry_text form.Table d = row form.Table (cells form.Table d)
-entry_text form.Html d = row form.Html (cells form.Html d)
+entry_text form.Html d = row form.Html (html_cells d)
 
 -- the entries of a trail that a filter takes, oldest first, with their dates
 pub record AreTaken (f : Filter) (t : List Entry) (ds : List Dated) : Type 0 where
