@@ -1,5 +1,5 @@
 -- What is told of an export (own).
-use Rattle.std.specs.Prelude.{ℕ, Bool, true, false, List, [], ◌∷◌, ◌++◌, ◌+◌, ◌-◌, ◌==◌, length, filter, codes, decimal, fold, Option, None, Some, if◌then◌else◌}
+use Rattle.std.specs.Prelude.{ℕ, Bool, true, false, List, [], ◌∷◌, ◌++◌, ◌+◌, ◌-◌, ◌==◌, length, filter, codes, decimal, fold, Option, None, Some, if◌then◌else◌, ◌≡◌, string_bytes}
 use Rattle.std.specs.List.{count_by, flat_map, list_any}
 use Rattle.std.specs.Option.{is_some}
 use Rattle.nmvs_identifier.specs.Texts.{same_text}
@@ -17,11 +17,16 @@ use Rattle.nmvs_rules.specs.declared.reply.Reply.TheVariants.{Shown}
 use Rattle.nmvs_protocol.specs.Texts.{reply_text}
 use Rattle.nmvs_record.specs.Lines.{Imported, newer}
 use Rattle.nmvs_record.specs.Report.{product_line, report_text}
+use Rattle.nmvs_inspect.specs.Filter.{takes}
 use Rattle.nmvs_inspect.specs.Groups.{AreSingle, groups_text}
 use Rattle.nmvs_inspect.specs.Packs.{Standing, AreOfBatch, packs_text}
 use Rattle.nmvs_inspect.specs.Page.{alerts, flagged_alerts, page_text}
+use Rattle.nmvs_inspect.specs.Period.{IsLineOf, period_of}
+use Rattle.nmvs_inspect.specs.Premises.{ArePremises}
 use Rattle.nmvs_inspect.specs.Reports.{rows_text}
 use Rattle.nmvs_inspect.specs.Rows.{Dated, AreTaken, list_text}
+use Rattle.nmvs_inspect.specs.Story.{status_of, story_of, story_text}
+use Rattle.nmvs_inspect.specs.declared.filter.Filter.{Filter}
 use Rattle.nmvs_check.specs.declared.request.Request.{Request}
 use Rattle.nmvs_check.specs.declared.request.Request.TheVariants as request
 
@@ -79,11 +84,32 @@ report_rows_text t = rows_text t (codes_named t)
 abbrev pub audit_text : List Entry → Pack → List ℕ
 audit_text t p = let shown = filter (is_about p) t in reply_text (Shown (length shown)) shown
 
--- the page of all product codes, under these counts, that a sink took
-abbrev pub Shows : Imported → Taken → Taken → Type 0
-Shows it old new =
-    (each : List _) × AreSingle alerts it.trail each × ((ds : List Dated) × AreTaken flagged_alerts it.trail ds
-    × Delivers old new (page_text (counts_text it) it.trail (codes_named it.trail) each ds))
+-- what stands at the head of a page: this heading, from when to when the trail goes, and these counts
+pub record IsHead (heading : List ℕ) (it : Imported) (text : List ℕ) : Type 0 where
+  pub line : List ℕ
+  pub period : IsLineOf (period_of it.trail) line
+  pub whole : text ≡ heading ++ (line ++ counts_text it)
+
+-- the page of all product codes, under this head, that a sink took
+abbrev pub ShowsUnder : List ℕ → Imported → Taken → Taken → Type 0
+ShowsUnder head it old new =
+    (each : List _) × AreSingle alerts it.trail each × ((most : List _) × ArePremises flagged_alerts it.trail most
+    × ((ds : List Dated) × AreTaken flagged_alerts it.trail ds
+    × Delivers old new (page_text head it.trail (codes_named it.trail) each most ds)))
+
+-- the page under a heading
+abbrev pub Shows : List ℕ → Imported → Taken → Taken → Type 0
+Shows heading it old new = (head : List ℕ) × IsHead heading it head × ShowsUnder head it old new
+
+-- how many entries there are, where what is asked is about those that a filter takes, and it takes none
+abbrev pub none_of : List Entry → Filter → Option ℕ
+none_of t f = if list_any (takes f t) t then None else Some (length t)
+
+abbrev pub untaken : List Entry → Request → Option ℕ
+untaken t (request.List f form) = none_of t f
+untaken t (request.Count f bs form) = none_of t f
+untaken t (request.Story p form) = none_of t (story_of p)
+untaken t _ = None
 
 -- the answer that a sink took, between what it told before and after
 abbrev pub Tells : Imported → Request → Taken → Taken → Type 0
@@ -94,5 +120,7 @@ Tells it request.ReportRows old new = Delivers old new (report_rows_text it.trai
 Tells it (request.Audit p) old new = Delivers old new (audit_text it.trail p)
 Tells it (request.List f form) old new = (ds : List Dated) × AreTaken f it.trail ds × Delivers old new (list_text form ds)
 Tells it (request.Count f bs form) old new = (ds : List _) × AreSingle f it.trail ds × Delivers old new (groups_text form bs.items ds)
-Tells it (request.Page _) old new = Shows it old new
+Tells it (request.Page heading) old new = Shows (string_bytes heading) it old new
+Tells it (request.Story p form) old new =
+    (ds : List Dated) × AreTaken (story_of p) it.trail ds × Delivers old new (story_text form p (status_of it.trail p) ds)
 Tells it (request.Packs c b form) old new = (ps : List (Standing it.trail)) × AreOfBatch c b it.trail ps × Delivers old new (packs_text form it.trail ps)

@@ -9,7 +9,8 @@ use crate::request::Request;
 use indexmap::IndexSet;
 use nmvs_identifier::{Pack, ProductCode};
 use nmvs_inspect::{
-    AnswerFault, write_groups, write_list, write_packs, write_page, write_report_rows,
+    AnswerFault, Filter, period_line, story_of, takes_any, write_groups, write_list, write_packs,
+    write_page, write_report_rows, write_story,
 };
 use nmvs_protocol::reply_text;
 use nmvs_record::{Importer, product_line, report};
@@ -40,8 +41,30 @@ pub(crate) fn tell<W: Sink>(
         Request::Audit(pack) => write(&audit(alloc, shard, pack)?, sink),
         Request::List(filter, form) => write_list(alloc, shard, filter, *form, sink),
         Request::Count(filter, by, form) => write_groups(alloc, shard, filter, by, *form, sink),
-        Request::Page(_) => page(alloc, importer, sink),
+        Request::Page(heading) => page(alloc, importer, heading, sink),
+        Request::Story(pack, form) => write_story(alloc, shard, pack, *form, sink),
         Request::Packs(code, batch, form) => write_packs(alloc, shard, code, batch, *form, sink),
+    }
+}
+
+/// How many entries there are, where what is asked is about those that a filter takes, and it takes none.
+pub(crate) fn untaken(shard: &Shard<Global>, request: &Request) -> Option<usize>
+    ensures { result ≡ answers.untaken shard.now request.now }
+{
+    match request {
+        Request::List(filter, _) | Request::Count(filter, _, _) => none_of(shard, filter),
+        Request::Story(pack, _) => none_of(shard, &story_of(pack)),
+        _ => None,
+    }
+}
+
+fn none_of(shard: &Shard<Global>, filter: &Filter) -> Option<usize>
+    ensures { result ≡ answers.none_of shard.now filter.now }
+{
+    if takes_any(shard, filter) {
+        None
+    } else {
+        Some(shard.trail().len())
     }
 }
 
@@ -170,14 +193,46 @@ fn report_rows<W: Sink>(
 fn page<W: Sink>(
     alloc: Global,
     importer: &Importer<Shard<Global>>,
+    heading: &str,
     sink: &mut W,
 ) -> Result<(), AnswerFault>
-    ensures { OnOk result (answers.Shows importer.now (W.taken sink.old) (W.taken sink.new)) }
+    ensures { OnOk result (answers.Shows heading.now importer.now (W.taken sink.old) (W.taken sink.new)) }
+{
+    let head = head_text(alloc, importer, heading)?;
+    page_under(alloc, importer, &head, sink)
+}
+
+/// The same under its whole head.
+fn page_under<W: Sink>(
+    alloc: Global,
+    importer: &Importer<Shard<Global>>,
+    head: &str,
+    sink: &mut W,
+) -> Result<(), AnswerFault>
+    ensures { OnOk result (answers.ShowsUnder head.now importer.now (W.taken sink.old) (W.taken sink.new)) }
 {
     let shard = importer.shard();
-    let verdict = counts_text(alloc, importer)?;
     let codes = codes_named(alloc, shard)?;
-    write_page(alloc, shard, &verdict, codes.as_slice(), sink)
+    write_page(alloc, shard, head, codes.as_slice(), sink)
+}
+
+/// The head of a page: a heading, from when to when the trail goes, and the counts.
+fn head_text(
+    alloc: Global,
+    importer: &Importer<Shard<Global>>,
+    heading: &str,
+) -> Result<String, AllocError>
+    ensures { IfOk result (λ text. answers.IsHead heading.now importer.now (string_bytes text)) }
+{
+    let period = period_line(alloc, importer.shard())?;
+    let counts = counts_text(alloc, importer)?;
+    joined(alloc, heading, &period, &counts)
+}
+
+fn joined(alloc: Global, heading: &str, period: &str, counts: &str) -> Result<String, AllocError>
+    ensures { IfOk result (λ text. string_bytes text ≡ heading.now ++ (period.now ++ counts.now)) }
+{
+    format!(in alloc; "{heading}{period}{counts}")
 }
 
 /// Puts the reports of product codes at the end of a text.

@@ -96,18 +96,30 @@ pub(crate) fn form_of(matches: &ArgMatches<'_>) -> Form {
 
 /// The filter that the options name.
 pub(crate) fn filter_of(alloc: Global, matches: &ArgMatches<'_>) -> Result<Filter, OptionFault> {
+    let from = date(alloc, matches, "from")?;
+    let to = date(alloc, matches, "to")?;
+    let user = name(alloc, matches, "user")?;
+    let role = role(alloc, matches)?;
+    let authorisation = name(alloc, matches, "authorisation")?;
+    let premises = name(alloc, matches, "premises")?;
+    let code = code(alloc, matches, "code")?;
+    let serial = serial(alloc, matches, "serial")?;
+    let batch = batch(alloc, matches, "batch")?;
+    let question = question(alloc, matches)?;
+    let reply = reply(alloc, matches)?;
     Ok(Filter {
-        from: date(alloc, matches, "from")?,
-        to: date(alloc, matches, "to")?,
-        user: name(alloc, matches, "user")?,
-        role: role(alloc, matches)?,
-        authorisation: name(alloc, matches, "authorisation")?,
-        premises: name(alloc, matches, "premises")?,
-        code: code(alloc, matches, "code")?,
-        serial: serial(alloc, matches, "serial")?,
-        batch: batch(alloc, matches, "batch")?,
-        question: question(alloc, matches)?,
-        reply: reply(alloc, matches)?,
+        from,
+        to,
+        user,
+        role,
+        authorisation,
+        premises,
+        code,
+        serial,
+        batch,
+        pack: None,
+        question,
+        reply,
         flagged: matches.get_flag("flagged"),
         refused: matches.get_flag("refused"),
     })
@@ -117,14 +129,19 @@ pub(crate) fn filter_of(alloc: Global, matches: &ArgMatches<'_>) -> Result<Filte
 pub(crate) fn by_of(alloc: Global, matches: &ArgMatches<'_>) -> Result<Vec<By>, OptionFault> {
     let mut parts = Vec::new(alloc);
     if let Some(words) = matches.get_str("by") {
-        for word in words.split(',') {
-            match By::named(word) {
-                Some(by) => parts.push(by).map_err(|_| AllocError)?,
-                None => return Err(refused(alloc, word, "part to count by")),
-            }
-        }
+        append_parts(alloc, words, &mut parts)?;
     }
     Ok(parts)
+}
+
+fn append_parts(alloc: Global, words: &str, parts: &mut Vec<By>) -> Result<(), OptionFault> {
+    for word in words.split(',') {
+        match By::named(word) {
+            Some(by) => parts.push(by).map_err(|_| AllocError)?,
+            None => return Err(refused(alloc, word, "part to count by")),
+        }
+    }
+    Ok(())
 }
 
 fn date(
@@ -169,7 +186,7 @@ pub(crate) fn code(
     }
 }
 
-fn serial(
+pub(crate) fn serial(
     alloc: Global,
     matches: &ArgMatches<'_>,
     option: &str,

@@ -1,9 +1,9 @@
 //! Files that are read one after another, each compared with the digest beside it.
-use nmvs_digest::{DigestFault, Digested, stored_digest};
+use nmvs_digest::{DigestFault, Digested, digest_line, file_name, stored_digest};
 use nmvs_stream::{Device, Source};
 use std::alloc::{AllocError, Global};
 use std::fs::{self, File, Metadata};
-use std::io::{self, ErrorKind, Read};
+use std::io::{self, ErrorKind, IsTerminal, Read};
 use std::os::unix::fs::MetadataExt;
 use std::rt::{HostRuntime, Stdin};
 
@@ -41,7 +41,7 @@ pub(crate) struct Inputs {
 }
 
 /// Why files are not read.
-#[derive(Debug, Drop)]
+#[derive(Drop)]
 pub(crate) enum InputFault {
     Memory,
     /// The file at this path cannot be opened.
@@ -68,18 +68,18 @@ impl Inputs {
         paths: &[String],
     ) -> Result<Inputs, InputFault> {
         let mut inputs = Vec::new(alloc);
-        for path in paths.iter().rev() {
-            let input = open_input(rt, alloc, path)?;
-            inputs.push(input).map_err(|_| AllocError)?;
-        }
-        if paths.is_empty() {
-            let input = open_input(rt, alloc, "-")?;
-            inputs.push(input).map_err(|_| AllocError)?;
-        }
+        open_each(rt, alloc, paths, &mut inputs)?;
         Ok(Inputs {
             inputs,
             differing: None,
         })
+    }
+
+    /// A line for each file: its name, and the digest that it has to have.
+    pub(crate) fn heading(&self, alloc: Global) -> Result<String, AllocError> {
+        let mut text = String::new(alloc);
+        append_headings(alloc, &self.inputs, &mut text)?;
+        Ok(text)
     }
 
     /// The path of the file whose digest is not the one beside it, where a read failed for that.
@@ -100,13 +100,61 @@ impl Inputs {
     }
 }
 
+/// Opens files, the last one first.
+fn open_each(
+    rt: &HostRuntime,
+    alloc: Global,
+    paths: &[String],
+    inputs: &mut Vec<Input>,
+) -> Result<(), InputFault> {
+    if paths.is_empty() {
+        return push_opened(rt, alloc, "-", inputs);
+    }
+    for path in paths.iter().rev() {
+        push_opened(rt, alloc, path, inputs)?;
+    }
+    Ok(())
+}
+
+fn push_opened(
+    rt: &HostRuntime,
+    alloc: Global,
+    path: &str,
+    inputs: &mut Vec<Input>,
+) -> Result<(), InputFault> {
+    let input = open_input(rt, alloc, path)?;
+    match inputs.push(input) {
+        Ok(()) => Ok(()),
+        Err(_) => Err(InputFault::Memory),
+    }
+}
+
+fn append_headings(alloc: Global, inputs: &[Input], text: &mut String) -> Result<(), AllocError> {
+    for input in inputs.iter().rev() {
+        let line = heading_line(alloc, &input.path, &input.stored)?;
+        text.push_str(&line)?;
+    }
+    Ok(())
+}
+
+fn heading_line(
+    alloc: Global,
+    path: &str,
+    stored: &Option<[u8; 32]>,
+) -> Result<String, AllocError> {
+    match stored {
+        Some(sum) => digest_line(alloc, sum, file_name(path)),
+        None => format!(in alloc; "{path}, without a digest\n"),
+    }
+}
+
 fn open_input(rt: &HostRuntime, alloc: Global, path: &str) -> Result<Input, InputFault> {
     let named = String::from_str(alloc, path)?;
     if path == "-" {
         return Ok(Input {
             path: named,
             stored: None,
-            source: Digested::new(Device::new(Handle::Standard(rt.stdin()))),
+            source: Digested::new(Device::new(Handle::Standard(standard_input(rt)))),
         });
     }
     let stored = match stored_digest(rt, alloc, path) {
@@ -122,6 +170,17 @@ fn open_input(rt: &HostRuntime, alloc: Global, path: &str) -> Result<Input, Inpu
         }),
         Err(_) => Err(InputFault::Closed(named)),
     }
+}
+
+/// Standard input. Where it is a terminal, people are told what is read from it.
+fn standard_input(rt: &HostRuntime) -> Stdin {
+    let input = rt.stdin();
+    if input.is_terminal() {
+        let _ = eprintln!(rt;
+            "an export is read from this terminal; --help says how to name a file"
+        );
+    }
+    input
 }
 
 impl Read for Inputs {

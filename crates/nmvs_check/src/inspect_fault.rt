@@ -6,7 +6,7 @@ use nmvs_rules::Reply;
 use std::alloc::{AllocError, Global};
 
 /// Why nothing is told of an export.
-#[derive(Clone, Copy, Debug, PartialEq, Eq)]
+#[derive(Clone, Copy)]
 pub(crate) enum InspectFault {
     /// It is no export of a lawful trail, or was not read to its end.
     Found(Finding),
@@ -34,6 +34,9 @@ fn line_text(alloc: Global, number: usize, objection: &Objection) -> Result<Stri
         Objection::Memory => format!(in alloc; "out of memory at line {number}"),
         Objection::Long => format!(in alloc; "line {number} has more than 1,000 bytes"),
         Objection::Unlawful { stored, rules } => unlawful_text(alloc, number, stored, rules),
+        Objection::Bytes => format!(in alloc;
+            "line {number} is no entry line: {objection} (is the file compressed?)"
+        ),
         Objection::Repeated => format!(in alloc; "line {number} was asked before with its tag"),
         _ => format!(in alloc; "line {number} is no entry line: {objection}"),
     }

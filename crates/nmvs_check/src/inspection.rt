@@ -1,11 +1,11 @@
 //! The check of an export.
-ghost use Rattle.std.specs.Prelude.{◌≡◌, false, OnOk, IfErr};
+ghost use Rattle.std.specs.Prelude.{◌≡◌, false, IfOk, IfErr};
 ghost use Rattle.nmvs_record.specs.declared.finding.Finding.{Finding as AFinding};
 ghost use Rattle.nmvs_record.specs.Lines.{Imported};
 ghost use Rattle.nmvs_record.specs.Import.{Imports, FailsToImport};
 ghost use Rattle.nmvs_check.specs.Answers as answers;
 
-use crate::answers::tell;
+use crate::answers::{tell, untaken};
 use crate::inspect_fault::InspectFault;
 use crate::request::Request;
 use nmvs_record::examine;
@@ -13,7 +13,8 @@ use nmvs_shard::HashKey;
 use nmvs_stream::{Sink, Source};
 use std::alloc::Global;
 
-/// Reads an export to its end, and tells what is asked of it.
+/// Reads an export to its end, and tells what is asked of it. It gives how many entries there are, where what is asked is
+/// about those that a filter takes, and it takes none.
 ///
 /// # Errors
 ///
@@ -26,17 +27,17 @@ pub(crate) fn inspect<R: Source, W: Sink>(
     sink: &mut W,
     request: &Request,
     reads: u64,
-) -> Result<(), InspectFault>
+) -> Result<Option<usize>, InspectFault>
     requires source_open { (R.told source.old).ended ≡ false }
-    ensures lawful { OnOk result ((it : Imported) × Imports (R.told source.old) (R.told source.new) it
-        × answers.Tells it request.now (W.taken sink.old) (W.taken sink.new)) }
+    ensures lawful { IfOk result (λ untaken. (it : Imported) × Imports (R.told source.old) (R.told source.new) it
+        × answers.Tells it request.now (W.taken sink.old) (W.taken sink.new) × (untaken ≡ answers.untaken it.trail request.now)) }
     ensures found { IfErr result (λ fault. (finding : AFinding) → fault ≡ InspectFault.Found finding
         → FailsToImport (R.told source.old) (R.told source.new) reads finding × (W.taken sink.new ≡ W.taken sink.old)) }
 {
     match examine(alloc, alloc, key, source, reads) {
         Err(finding) => Err(InspectFault::Found(finding)),
         Ok(importer) => match tell(alloc, &importer, request, sink) {
-            Ok(()) => Ok(()),
+            Ok(()) => Ok(untaken(importer.shard(), request)),
             Err(fault) => Err(InspectFault::Answer(fault)),
         },
     }

@@ -9,6 +9,7 @@ mod inspect_fault;
 mod inspection;
 mod line_fault;
 mod options;
+mod output;
 mod page_file;
 mod request;
 mod scans;
@@ -19,11 +20,12 @@ use crate::inputs::{InputFault, Inputs};
 use crate::inspect_fault::{InspectFault, fault_text};
 use crate::inspection::inspect;
 use crate::options::{Asked, OptionFault, Options, read_options};
+use crate::output::Output;
 use crate::page_file::{PageFault, write_page};
-use crate::request::Request;
 use crate::scans::answer_scans;
 use crate::status::{status_of, status_of_answer};
 use nmvs_elements::National;
+use nmvs_inspect::AnswerFault;
 use nmvs_record::Finding;
 use nmvs_shard::HashKey;
 use nmvs_stream::Device;
@@ -73,6 +75,7 @@ fn answer(rt: &HostRuntime, alloc: Global, asked: &Asked) -> ExitCode {
     };
     match asked {
         Asked::Inspection(options) => check(rt, alloc, key, options),
+        Asked::Page { path, files } => page(rt, alloc, key, path, files),
         Asked::Comparison { old, new } => compare_files(rt, alloc, key, old, new),
         Asked::Scans(nation) => scan(rt, alloc, *nation),
     }
@@ -84,28 +87,48 @@ fn check(rt: &HostRuntime, alloc: Global, key: HashKey, options: &Options) -> Ex
         Ok(inputs) => inputs,
         Err(status) => return status,
     };
-    if let Request::Page(path) = &options.request {
-        return match write_page(rt, alloc, key, &mut inputs, &options.request, path, READS) {
-            Ok(()) => ExitCode::SUCCESS,
-            Err(PageFault::Inspect(fault)) => fail_at(rt, alloc, &inputs, &fault),
-            Err(PageFault::File) => {
-                let _ = eprintln!(rt; "the file {path} cannot be written");
-                ExitCode::from(TROUBLE)
-            }
-            Err(PageFault::Export) => {
-                let _ = eprintln!(rt; "the file {path} is one of the exports");
-                ExitCode::from(TROUBLE)
-            }
-        };
-    }
+    let mut output = Output::new(rt.stdout());
     let inspected = {
-        let (mut source, mut sink) = (Device::new(&mut inputs), Device::new(rt.stdout()));
+        let (mut source, mut sink) = (Device::new(&mut inputs), Device::new(&mut output));
         inspect(alloc, key, &mut source, &mut sink, &options.request, READS)
     };
     match inspected {
-        Ok(()) => ExitCode::SUCCESS,
+        Ok(None) => ExitCode::SUCCESS,
+        Ok(Some(entries)) => {
+            let _ = eprintln!(rt; "0 of {entries} entries");
+            ExitCode::SUCCESS
+        }
+        Err(InspectFault::Answer(fault)) => fail_answer(rt, &output, fault),
         Err(fault) => fail_at(rt, alloc, &inputs, &fault),
     }
+}
+
+/// Writes a page of the export in these files, tells the fault, and gives the status.
+fn page(rt: &HostRuntime, alloc: Global, key: HashKey, path: &str, files: &[String]) -> ExitCode {
+    let mut inputs = match opened(rt, alloc, files) {
+        Ok(inputs) => inputs,
+        Err(status) => return status,
+    };
+    match write_page(rt, alloc, key, &mut inputs, path, READS) {
+        Ok(()) => ExitCode::SUCCESS,
+        Err(PageFault::Inspect(fault)) => fail_at(rt, alloc, &inputs, &fault),
+        Err(PageFault::File) => {
+            let _ = eprintln!(rt; "the file {path} cannot be written");
+            ExitCode::from(TROUBLE)
+        }
+        Err(PageFault::Export) => {
+            let _ = eprintln!(rt; "the file {path} is one of the exports");
+            ExitCode::from(TROUBLE)
+        }
+    }
+}
+
+/// Tells why an answer was not written to its end, unless its reader left, and gives the status that it makes.
+fn fail_answer(rt: &HostRuntime, output: &Output, fault: AnswerFault) -> ExitCode {
+    if !output.is_left() {
+        let _ = eprintln!(rt; "{fault}");
+    }
+    ExitCode::from(TROUBLE)
 }
 
 /// Tells the fault of an export, and gives the status that it makes.
@@ -138,19 +161,17 @@ fn compare_files(
         Ok(inputs) => inputs,
         Err(status) => return status,
     };
+    let mut output = Output::new(rt.stdout());
     let compared = {
         let (mut old, mut new) = (Device::new(&mut before), Device::new(&mut after));
-        let mut sink = Device::new(rt.stdout());
+        let mut sink = Device::new(&mut output);
         compare(alloc, key, &mut old, &mut new, &mut sink, READS)
     };
     match compared {
         Ok(goes_on) => ExitCode::from(status_of_answer(goes_on)),
         Err(CompareFault::Old(finding)) => fail_of(rt, alloc, old, &before, finding),
         Err(CompareFault::New(finding)) => fail_of(rt, alloc, new, &after, finding),
-        Err(CompareFault::Answer(fault)) => {
-            let _ = eprintln!(rt; "{fault}");
-            ExitCode::from(TROUBLE)
-        }
+        Err(CompareFault::Answer(fault)) => fail_answer(rt, &output, fault),
     }
 }
 
@@ -199,16 +220,14 @@ fn fail_of(
 
 /// Reads lines of scans on standard input, writes a row for each, and gives the status.
 fn scan(rt: &HostRuntime, alloc: Global, nation: Option<National>) -> ExitCode {
+    let mut output = Output::new(rt.stdout());
     let answered = {
-        let (mut source, mut sink) = (Device::new(rt.stdin()), Device::new(rt.stdout()));
+        let (mut source, mut sink) = (Device::new(rt.stdin()), Device::new(&mut output));
         answer_scans(alloc, nation, &mut source, &mut sink, READS)
     };
     match answered {
         Ok(all_read) => ExitCode::from(status_of_answer(all_read)),
-        Err(InspectFault::Answer(fault)) => {
-            let _ = eprintln!(rt; "{fault}");
-            ExitCode::from(TROUBLE)
-        }
+        Err(InspectFault::Answer(fault)) => fail_answer(rt, &output, fault),
         Err(InspectFault::Found(_)) => fail(rt, "standard input cannot be read to its end"),
     }
 }

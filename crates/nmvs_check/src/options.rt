@@ -1,6 +1,6 @@
 //! The command line.
 use crate::filters::{
-    batch, by_of, code, filter_of, flag, form_of, option, refused, with_filter, with_form,
+    batch, by_of, code, filter_of, flag, form_of, option, refused, serial, with_filter, with_form,
 };
 use crate::request::Request;
 use clap::error::ErrorKind;
@@ -15,6 +15,11 @@ use std::alloc::{AllocError, Global};
 pub(crate) enum Asked {
     /// To inspect an export.
     Inspection(Options),
+    /// To write a page for a browser to the file of this path, of the export in these files.
+    Page {
+        path: String,
+        files: Vec<String>,
+    },
     /// To compare two exports.
     Comparison {
         /// The path of the old one; `-` is standard input.
@@ -73,6 +78,10 @@ const COUNT: &str =
 const PACKS: &str =
     "Lists the packs that were uploaded in a batch: the status of each, since when, and by whom";
 
+const PACK: &str =
+    "Lists the entries about a pack, its upload among them, and those that recall or withdraw its batch, oldest first; the last \
+    row is the reply that a STATUS of the pack gets at the end of the export";
+
 const COMPARE: &str =
     "Says whether a new export goes on from an old one: for each product code the lines of the old one about it are, in \
     order, the first lines of the new one about it. If so it prints GOES ON and the status is 0; else it prints the first \
@@ -80,7 +89,8 @@ const COMPARE: &str =
     status is also 1 where one of them is not lawful, and 2 in trouble";
 
 const PAGE: &str =
-    "Writes a page for a browser: the counts, product codes and batches, alerts by week, and the flagged alerts, oldest first";
+    "Writes a page for a browser: files and counts, product codes and batches, alerts by week, the premises with the most \
+    flagged alerts, and these, oldest first";
 
 const SCAN: &str =
     "Reads each line of standard input as a scan of a pack, and writes a row of CSV: the elements of the pack, or why the \
@@ -110,6 +120,7 @@ fn command<'a>(alloc: Global) -> Result<Command<'a>, AllocError> {
     let command = with_lookups(alloc, command)?;
     let command = with_subcommand(command, list(alloc))?;
     let command = with_subcommand(command, count(alloc))?;
+    let command = with_subcommand(command, pack(alloc))?;
     let command = with_subcommand(command, packs(alloc))?;
     let command = with_subcommand(command, reports(alloc))?;
     let command = with_subcommand(command, compare(alloc))?;
@@ -178,6 +189,16 @@ fn count<'a>(alloc: Global) -> Result<Command<'a>, AllocError> {
         .arg(by.required(true))?
         .arg(files(alloc))?;
     let command = with_filter(alloc, command)?;
+    with_form(alloc, command)
+}
+
+fn pack<'a>(alloc: Global) -> Result<Command<'a>, AllocError> {
+    let code = option(alloc, "code", "CODE", "The product code");
+    let command = Command::new(alloc, "pack")
+        .about(PACK)
+        .arg(code.required(true))?;
+    let serial = option(alloc, "serial", "SERIAL", "The serial number");
+    let command = command.arg(serial.required(true))?.arg(files(alloc))?;
     with_form(alloc, command)
 }
 
@@ -250,6 +271,7 @@ fn operand<'a>(alloc: Global, name: &'a str, value: &'a str, help: &'a str) -> A
 fn asked_of(alloc: Global, matches: &ArgMatches<'_>) -> Result<Asked, OptionFault> {
     match matches.subcommand() {
         Some(("compare", asked)) => comparison_of(alloc, asked),
+        Some(("page", asked)) => page_of(alloc, asked),
         Some(("scan", asked)) => Ok(Asked::Scans(nation_of(alloc, asked)?)),
         _ => Ok(Asked::Inspection(options_of(alloc, matches)?)),
     }
@@ -294,8 +316,8 @@ fn request_of(alloc: Global, matches: &ArgMatches<'_>) -> Result<Request, Option
     match matches.subcommand() {
         Some(("list", asked)) => list_of(alloc, asked),
         Some(("count", asked)) => count_of(alloc, asked),
+        Some(("pack", asked)) => story_of(alloc, asked),
         Some(("packs", asked)) => packs_of(alloc, asked),
-        Some(("page", asked)) => page_of(alloc, asked),
         Some(("report", asked)) => Ok(reports_of(asked)),
         _ => lookup_of(alloc, matches),
     }
@@ -332,21 +354,26 @@ fn files_of(alloc: Global, matches: &ArgMatches<'_>) -> Result<Vec<String>, Allo
 fn paths_of(alloc: Global, matches: &ArgMatches<'_>) -> Result<Vec<String>, AllocError> {
     let mut paths = Vec::new(alloc);
     if let Some(files) = matches.get_strs("files") {
-        for path in files {
-            paths.push(String::from_str(alloc, path)?)?;
-        }
+        append_paths(alloc, files, &mut paths)?;
     }
     Ok(paths)
 }
 
-fn page_of(alloc: Global, matches: &ArgMatches<'_>) -> Result<Request, OptionFault> {
-    match matches.get_str("page") {
-        Some(path) => Ok(Request::Page(String::from_str(alloc, path)?)),
-        None => Err(OptionFault::Refused(String::from_str(
-            alloc,
-            "error: a file for the page is wanted\n",
-        )?)),
+fn append_paths(alloc: Global, files: &[&str], paths: &mut Vec<String>) -> Result<(), AllocError> {
+    for path in files {
+        paths.push(String::from_str(alloc, path)?)?;
     }
+    Ok(())
+}
+
+fn page_of(alloc: Global, matches: &ArgMatches<'_>) -> Result<Asked, OptionFault> {
+    let Some(path) = matches.get_str("page") else {
+        let wanted = "error: a file for the page is wanted\n";
+        return Err(OptionFault::Refused(String::from_str(alloc, wanted)?));
+    };
+    let files = paths_of(alloc, matches)?;
+    let path = String::from_str(alloc, path)?;
+    Ok(Asked::Page { path, files })
 }
 
 fn lookup_of(alloc: Global, matches: &ArgMatches<'_>) -> Result<Request, OptionFault> {
@@ -360,6 +387,17 @@ fn lookup_of(alloc: Global, matches: &ArgMatches<'_>) -> Result<Request, OptionF
         })),
         _ => Ok(Request::Summary),
     }
+}
+
+fn story_of(alloc: Global, matches: &ArgMatches<'_>) -> Result<Request, OptionFault> {
+    let (Some(code), Some(serial)) = (
+        code(alloc, matches, "code")?,
+        serial(alloc, matches, "serial")?,
+    ) else {
+        let wanted = "error: a product code and a serial number are wanted\n";
+        return Err(OptionFault::Refused(String::from_str(alloc, wanted)?));
+    };
+    Ok(Request::Story(Pack { code, serial }, form_of(matches)))
 }
 
 fn packs_of(alloc: Global, matches: &ArgMatches<'_>) -> Result<Request, OptionFault> {

@@ -22,7 +22,10 @@ pub(crate) enum PageFault {
     Export,
 }
 
-/// Writes the page that is asked of an export to the file of this path.
+/// There is no memory.
+const MEMORY: PageFault = PageFault::Inspect(InspectFault::Answer(AnswerFault::Memory));
+
+/// Writes the page of an export to the file of this path.
 ///
 /// # Errors
 ///
@@ -33,19 +36,19 @@ pub(crate) fn write_page(
     alloc: Global,
     key: HashKey,
     inputs: &mut Inputs,
-    asked: &Request,
     path: &str,
     reads: u64,
 ) -> Result<(), PageFault> {
-    let memory = PageFault::Inspect(InspectFault::Answer(AnswerFault::Memory));
-    let part = format!(in alloc; "{path}.part").or(Err(memory))?;
+    let heading = inputs.heading(alloc).or(Err(MEMORY))?;
+    let part = format!(in alloc; "{path}.part").or(Err(MEMORY))?;
     if is_export(rt, path, inputs) {
         return Err(PageFault::Export);
     }
     let file = create(rt, path, &part).or(Err(PageFault::File))?;
+    let asked = Request::Page(heading);
     let (mut source, mut sink) = (Device::new(inputs), Device::new(file));
-    let written = match inspect(alloc, key, &mut source, &mut sink, asked, reads) {
-        Ok(()) => fs::rename(rt, &part, path).or(Err(PageFault::File)),
+    let written = match inspect(alloc, key, &mut source, &mut sink, &asked, reads) {
+        Ok(_) => fs::rename(rt, &part, path).or(Err(PageFault::File)),
         Err(fault) => Err(PageFault::Inspect(fault)),
     };
     if written.is_err() {

@@ -18,8 +18,10 @@ pub(crate) enum Request {
     List(Filter, Form),
     /// How many of the entries that the filter takes have the same parts.
     Count(Filter, Vec<By>, Form),
-    /// A page for a browser, in the file of this path.
+    /// A page for a browser, under this heading.
     Page(String),
+    /// The story of a pack.
+    Story(Pack, Form),
     /// The packs of a batch.
     Packs(ProductCode, Batch, Form),
 }

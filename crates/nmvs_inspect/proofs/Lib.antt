@@ -1,3 +1,4 @@
+pub mod ReplyLemmas
 pub mod RowLemmas
 pub mod GatheringLemmas
 pub mod ListLemmas

@@ -2,7 +2,8 @@
 use Rattle.std.proofs.Common.{◌≡◌, ◌≢◌, ◌∙◌, ap, sym, arith, ℕ, ◌+◌, ◌<◌, ◌≤◌, List, [], ◌∷◌, ◌++◌, append_assoc, length, drop, map, get_or, slice_index, Bor, length-drop, refl}
 use Rattle.std.proofs.lemmas.Bool.Decides.{nat_tests}
 use Rattle.std.proofs.lemmas.List.{at_drop_more, at_drop_all, length-map}
-use Rattle.nmvs_inspect.specs.Rows.{Dated, filled, ending, table_from, row, header, columns, cells, entry_text}
+use Rattle.nmvs_rules.specs.declared.reply.Reply.{Reply}
+use Rattle.nmvs_inspect.specs.Rows.{Dated, filled, ending, table_from, row, header, columns, csv_columns, cells, entry_text, reply_cell, reply_cells}
 use Rattle.nmvs_inspect.specs.declared.form.Form.{Form}
 use Rattle.nmvs_inspect.specs.declared.form.Form.TheVariants as form
 
@@ -40,14 +41,27 @@ unfolding table_from
 table-end ws xs i l = at_drop_all (λ ys. table_from ws i (texts ys)) xs i l
 
 -- a form with rows has a header row, and a row for each entry
-pub header-row : (f : Form) → f ≢ form.Json → header f ≡ row f columns
-header-row form.Json n = absurd (n refl)
-header-row form.Csv n = refl
-header-row form.Table n = refl
-header-row form.Html n = refl
+pub header-row : (f : Form) → f ≢ form.Json → f ≢ form.Csv → header f ≡ row f columns
+header-row form.Json n m = absurd (n refl)
+header-row form.Csv n m = absurd (m refl)
+header-row form.Table n m = refl
+header-row form.Html n m = refl
 
-pub entry_text-row : (f : Form) (d : Dated) → f ≢ form.Json → entry_text f d ≡ row f (cells d)
-entry_text-row form.Json d n = absurd (n refl)
-entry_text-row form.Csv d n = refl
-entry_text-row form.Table d n = refl
-entry_text-row form.Html d n = refl
+pub header-csv : (f : Form) → f ≡ form.Csv → header f ≡ row f csv_columns
+header-csv form.Json e = absurd cc
+header-csv form.Csv e = refl
+header-csv form.Table e = absurd cc
+header-csv form.Html e = absurd cc
+
+-- a form without columns for the values of a reply has its words in one cell
+pub reply_cells-text : (f : Form) (r : Reply) → f ≢ form.Csv → reply_cells f r ≡ reply_cell r ∷ []
+reply_cells-text form.Json r n = refl
+reply_cells-text form.Csv r n = absurd (n refl)
+reply_cells-text form.Table r n = refl
+reply_cells-text form.Html r n = refl
+
+pub entry_text-row : (f : Form) (d : Dated) → f ≢ form.Json → f ≢ form.Html → entry_text f d ≡ row f (cells f d)
+entry_text-row form.Json d n m = absurd (n refl)
+entry_text-row form.Csv d n m = refl
+entry_text-row form.Table d n m = refl
+entry_text-row form.Html d n m = absurd (m refl)

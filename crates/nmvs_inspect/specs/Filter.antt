@@ -18,7 +18,8 @@ use Rattle.nmvs_rules.specs.declared.question.Question.TheVariants.{Upload, Reca
 use Rattle.nmvs_rules.specs.declared.reply.Reply.{Reply}
 use Rattle.nmvs_rules.specs.declared.reply.Reply.TheVariants as replies
 use Rattle.nmvs_rules.specs.Facts.{pack_fact}
-use Rattle.nmvs_rules.specs.Questions.{code_of, pack_of}
+use Rattle.nmvs_rules.specs.Questions.{code_of, names, pack_of}
+use Rattle.nmvs_rules.specs.Trail.{known, locks_batch}
 use Rattle.nmvs_tables.specs.Codes.{is_flagged_alert}
 use Rattle.nmvs_words.specs.Kinds.{kind_of, kind_word}
 use Rattle.nmvs_words.specs.ReplyKinds.{reply_word}
@@ -39,6 +40,7 @@ every = record {
   code = None;
   serial = None;
   batch = None;
+  pack = None;
   question = None;
   reply = None;
   flagged = false;
@@ -86,11 +88,21 @@ is_uploaded_in b (Some k) = same_text k.batch b
 abbrev pub is_of_batch : List Entry → Question → Batch → Bool
 is_of_batch t q b = is_batch_named b (named_batch q) || is_uploaded_in b (pack_fact t (pack_of q))
 
--- whether the question is of the kind, and about the product code, the serial number and the batch
+-- whether the question recalls or withdraws the batch of the pack, where that is known
+abbrev pub locks_batch_of : Pack → Question → Option Known → Bool
+locks_batch_of p q None = false
+locks_batch_of p q (Some k) = locks_batch p.code k.batch q
+
+-- whether the question names the pack, or recalls or withdraws the batch that it was uploaded in
+abbrev pub is_of_pack : List Entry → Question → Pack → Bool
+is_of_pack t q p = names p (pack_of q) || locks_batch_of p q (known t p)
+
+-- whether the question is of the kind, and about the product code, the serial number, the batch and the pack
 abbrev pub is_asked : Filter → List Entry → Question → Bool
 is_asked f t q =
     is_wanted (λ k. bytes_eq (kind_word (kind_of q)) (kind_word k)) f.question && is_wanted (same_text (code_of q)) f.code
     && is_wanted (λ s. has_serial s (pack_of q)) f.serial && is_wanted (is_of_batch t q) f.batch
+    && is_wanted (is_of_pack t q) f.pack
 
 -- the kind of a reply
 abbrev pub kind_of_reply : Reply → ReplyKind

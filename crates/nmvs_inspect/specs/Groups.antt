@@ -7,18 +7,17 @@ use Rattle.jiff_core.specs.Date.{epoch_day}
 use Rattle.jiff_fmt.specs.Text.{date_text}
 use Rattle.nmvs_identifier.specs.Moment.{day_of}
 use Rattle.nmvs_rules.specs.declared.entry.Entry.{Entry}
-use Rattle.nmvs_rules.specs.declared.reply.Reply.{Reply}
-use Rattle.nmvs_rules.specs.declared.reply.Reply.TheVariants.{Alert}
 use Rattle.nmvs_rules.specs.Questions.{code_of}
 use Rattle.nmvs_words.specs.Kinds.{kind_of, kind_word}
 use Rattle.nmvs_words.specs.ReplyKinds.{reply_word}
-use Rattle.nmvs_words.specs.Words.{role_word, cause_word}
+use Rattle.nmvs_words.specs.Words.{role_word}
 use Rattle.nmvs_inspect.specs.declared.by.By.{By}
 use Rattle.nmvs_inspect.specs.declared.by.By.TheVariants as by
 use Rattle.nmvs_inspect.specs.declared.filter.Filter.{Filter}
 use Rattle.nmvs_inspect.specs.declared.form.Form.{Form}
 pub use Rattle.nmvs_inspect.specs.declared.groups.Group.{Group}
 use Rattle.nmvs_inspect.specs.Filter.{kind_of_reply}
+use Rattle.nmvs_inspect.specs.Replies.{cause_text}
 use Rattle.nmvs_inspect.specs.Rows.{row_in}
 use Rattle.nmvs_inspect.specs.Selection.{selected}
 
@@ -73,11 +72,6 @@ IsSingle g =
 pub record AreSingle (f : Filter) (t : List Entry) (gs : List Group) : Type 0 where
   pub these : map (λ g. g.first) gs ≡ selected f t
   pub single : All IsSingle gs
-
--- the cause of an alert; other replies have none
-abbrev pub cause_text : Reply → List ℕ
-cause_text (Alert c _ _) = cause_word c
-cause_text _ = []
 
 -- what the first entry of a group has
 abbrev pub part : Group → By → List ℕ

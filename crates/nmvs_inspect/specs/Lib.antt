@@ -1,11 +1,15 @@
 pub mod Filter
+pub mod Replies
 pub mod Html
 pub mod Selection
 pub mod Rows
+pub mod Story
 pub mod Gathering
 pub mod Groups
 pub mod Packs
 pub mod Reports
 pub mod Comparison
 pub mod Weeks
+pub mod Period
+pub mod Premises
 pub mod Page

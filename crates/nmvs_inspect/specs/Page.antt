@@ -1,4 +1,4 @@
--- A page for a browser (own): a verdict, product codes with their counts, alerts by week, and the flagged alerts.
+-- A page for a browser (own): a verdict, product codes with their counts, alerts by week, premises, and the flagged alerts.
 use Rattle.std.specs.Prelude.{ℕ, List, [], ◌∷◌, ◌++◌, codes, Option, Some, true}
 use Rattle.std.specs.List.{flat_map}
 use Rattle.nmvs_identifier.specs.Batch.{Batch}
@@ -20,6 +20,7 @@ use Rattle.nmvs_inspect.specs.declared.page.TheConstants.{HEAD, FOOT}
 use Rattle.nmvs_inspect.specs.Filter.{every}
 use Rattle.nmvs_inspect.specs.Groups.{Group, group_row, groups_of}
 use Rattle.nmvs_inspect.specs.Html.{escaped, html_row}
+use Rattle.nmvs_inspect.specs.Premises.{premises_rows}
 use Rattle.nmvs_inspect.specs.Rows.{Dated, entry_text}
 use Rattle.nmvs_inspect.specs.Weeks.{chart}
 
@@ -56,7 +57,7 @@ table_head texts numbers =
     codes "<thead><tr>" ++ (flat_map (λ t. codes "<th>" ++ (t ++ codes "</th>")) texts
     ++ (flat_map (λ t. codes "<th class=n>" ++ (t ++ codes "</th>")) numbers ++ codes "</tr></thead><tbody>"))
 
--- what stands before the rows of product codes, of their batches, of weeks and of flagged alerts
+-- what stands before the rows of product codes, of their batches, of weeks, of premises and of flagged alerts
 abbrev pub products_head : List ℕ
 products_head =
     codes "</pre>\n<p>Days, weeks and times are of UTC; a week is named by its Monday. A click on the head of a column sorts.</p>\n<h2>Product codes</h2>\n<div class=box><table>"
@@ -72,13 +73,18 @@ abbrev pub chart_head : List ℕ
 chart_head = codes "</tbody></table></div>\n<h2>Alerts by week</h2>\n"
 
 abbrev pub weeks_head : List ℕ
-weeks_head = codes "<div class=box><table class=weeks>" ++ table_head (codes "Week" ∷ []) (codes "Alerts" ∷ [])
+weeks_head = codes "<div class=box><table class=counts>" ++ table_head (codes "Week" ∷ []) (codes "Alerts" ∷ [])
+
+abbrev pub premises_head : List ℕ
+premises_head =
+    codes "</tbody></table></div>\n<h2>Premises with the most flagged alerts</h2>\n<div class=box><table class=counts>"
+    ++ table_head (codes "Authorisation" ∷ codes "Premises" ∷ []) (codes "Flagged alerts" ∷ [])
 
 abbrev pub alerts_head : List ℕ
 alerts_head =
     codes "</tbody></table></div>\n<h2>Flagged alerts</h2>\n<div class=box><table>"
-    ++ table_head (codes "Moment" ∷ codes "User" ∷ codes "Role" ∷ codes "Authorisation" ∷ codes "Premises" ∷ codes "Question" ∷ codes "Product code"
-    ∷ codes "Serial number" ∷ codes "Batch" ∷ codes "Reply" ∷ []) []
+    ++ table_head (codes "Moment" ∷ codes "User" ∷ codes "Authorisation" ∷ codes "Premises" ∷ codes "Question" ∷ codes "Product code"
+    ∷ codes "Serial number" ∷ codes "Reply" ∷ codes "Role" ∷ codes "Batch" ∷ []) []
 
 -- the verdict, the rows of product codes, and those of their batches
 unfoldable pub head_text : List ℕ → List ℕ
@@ -94,10 +100,15 @@ by_week = by.Week ∷ []
 unfoldable pub weeks_text : List Group → List ℕ
 weeks_text gs = chart_head ++ (chart gs ++ (weeks_head ++ flat_map (group_row form.Html by_week) gs))
 
+-- the premises with the most flagged alerts
+unfoldable pub premises_text : List Group → List ℕ
+premises_text most = premises_head ++ premises_rows most
+
 -- the rows of entries, and the end
 unfoldable pub alerts_text : List Dated → List ℕ
 alerts_text ds = alerts_head ++ (flat_map (entry_text form.Html) ds ++ FOOT.now)
 
--- the page of product codes, alerts, each as a group of one, and flagged alerts
-abbrev pub page_text : List ℕ → List Entry → List ProductCode → List Group → List Dated → List ℕ
-page_text verdict t cs each ds = front_text verdict t cs ++ (weeks_text (groups_of by_week each) ++ alerts_text ds)
+-- the page of product codes, alerts, each as a group of one, premises, the most flagged alerts first, and flagged alerts
+abbrev pub page_text : List ℕ → List Entry → List ProductCode → List Group → List Group → List Dated → List ℕ
+page_text verdict t cs each most ds =
+    front_text verdict t cs ++ (weeks_text (groups_of by_week each) ++ (premises_text most ++ alerts_text ds))

@@ -19,6 +19,7 @@ use Rattle.nmvs_inspect.specs.declared.form.Form.{Form}
 use Rattle.nmvs_inspect.specs.declared.form.Form.TheVariants as form
 use Rattle.nmvs_inspect.specs.Filter.{named_batch}
 use Rattle.nmvs_inspect.specs.Html.{html_row}
+use Rattle.nmvs_inspect.specs.Replies.{value_cells}
 use Rattle.nmvs_inspect.specs.Selection.{selected}
 
 -- an entry with the date and the time of its moment, by UTC
@@ -44,17 +45,36 @@ batch_text (Some b) = b.bytes
 abbrev pub reply_cell : Reply → List ℕ
 reply_cell r = let line = reply_text r [] in take (length line - 1) line
 
+-- the cells of a reply in a form: its words in one, or in CSV its values by columns
+abbrev pub reply_cells : Form → Reply → List (List ℕ)
+reply_cells form.Csv r = value_cells r
+reply_cells form.Table r = reply_cell r ∷ []
+reply_cells form.Json r = reply_cell r ∷ []
+reply_cells form.Html r = reply_cell r ∷ []
+
 -- the columns, and the cells of an entry
 abbrev pub columns : List (List ℕ)
 columns =
     codes "moment" ∷ codes "user" ∷ codes "role" ∷ codes "authorisation" ∷ codes "premises" ∷ codes "question"
     ∷ codes "code" ∷ codes "serial" ∷ codes "batch" ∷ codes "reply" ∷ []
 
-abbrev pub cells : Dated → List (List ℕ)
-cells d = let e = d.entry in let q = e.put.question in
-    moment_text d.at ∷ e.put.user.bytes ∷ role_word e.put.actor.role ∷ e.put.actor.authorisation.bytes
+abbrev pub csv_columns : List (List ℕ)
+csv_columns =
+    codes "moment" ∷ codes "user" ∷ codes "role" ∷ codes "authorisation" ∷ codes "premises" ∷ codes "question"
+    ∷ codes "code" ∷ codes "serial" ∷ codes "batch" ∷ codes "reply" ∷ codes "cause" ∷ codes "flag" ∷ codes "number"
+    ∷ codes "refusal" ∷ codes "detail" ∷ []
+
+abbrev pub cells : Form → Dated → List (List ℕ)
+cells form d = let e = d.entry in let q = e.put.question in
+    (moment_text d.at ∷ e.put.user.bytes ∷ role_word e.put.actor.role ∷ e.put.actor.authorisation.bytes
     ∷ e.put.actor.premises.bytes ∷ kind_word (kind_of q) ∷ (code_of q).bytes ∷ serial_text (pack_of q)
-    ∷ batch_text (named_batch q) ∷ reply_cell e.reply ∷ []
+    ∷ batch_text (named_batch q) ∷ []) ++ reply_cells form e.reply
+
+-- the cells of an entry on a page: those that are looked at most come first
+abbrev pub html_cells : Dated → List (List ℕ)
+html_cells d = let e = d.entry in let q = e.put.question in
+    moment_text d.at ∷ e.put.user.bytes ∷ e.put.actor.authorisation.bytes ∷ e.put.actor.premises.bytes ∷ kind_word (kind_of q)
+    ∷ (code_of q).bytes ∷ serial_text (pack_of q) ∷ reply_cell e.reply ∷ role_word e.put.actor.role ∷ batch_text (named_batch q) ∷ []
 
 -- how wide the columns of a table are; a longer cell makes its row longer
 abbrev pub widths : List ℕ
@@ -88,15 +108,15 @@ row form cs = row_in widths form cs
 
 abbrev pub header : Form → List ℕ
 header form.Json = []
-header form.Csv = row form.Csv columns
+header form.Csv = row form.Csv csv_columns
 header form.Table = row form.Table columns
 header form.Html = row form.Html columns
 
 abbrev pub entry_text : Form → Dated → List ℕ
 entry_text form.Json d = ended_line d.entry
-entry_text form.Csv d = row form.Csv (cells d)
-entry_text form.Table d = row form.Table (cells d)
-entry_text form.Html d = row form.Html (cells d)
+entry_text form.Csv d = row form.Csv (cells form.Csv d)
+entry_text form.Table d = row form.Table (cells form.Table d)
+entry_text form.Html d = row form.Html (html_cells d)
 
 -- the entries of a trail that a filter takes, oldest first, with their dates
 pub record AreTaken (f : Filter) (t : List Entry) (ds : List Dated) : Type 0 where

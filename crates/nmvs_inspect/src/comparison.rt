@@ -12,7 +12,7 @@ use nmvs_shard::HashKey;
 use std::alloc::{AllocError, Global};
 
 /// The first entry of an old trail that a new one does not have in its place.
-#[derive(Clone, Copy, Debug, PartialEq, Eq)]
+#[derive(Clone, Copy)]
 pub struct Departure {
     /// Its number in the old trail, counted from 1.
     pub number: usize,

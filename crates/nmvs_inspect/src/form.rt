@@ -1,5 +1,5 @@
 /// In what form rows are written (own).
-#[derive(Clone, Copy, Debug, PartialEq, Eq)]
+#[derive(Clone, Copy)]
 pub enum Form {
     /// For people: cells in columns.
     Table,

@@ -10,16 +10,17 @@ ghost use Rattle.nmvs_inspect.specs.Groups as spec;
 ghost use Rattle.nmvs_inspect.specs.Rows.{row_in};
 
 use crate::filter::kind_of_reply;
+use crate::replies::cause_text;
 use crate::rows::append_row;
 use crate::selection::select;
 use crate::{AnswerFault, By, Filter, Form};
 use indexmap::IndexSet;
 use jiff::civil::Date;
 use jiff_core::civil;
-use nmvs_rules::{Entry, Reply};
+use nmvs_rules::Entry;
 use nmvs_shard::{HashKey, Shard};
 use nmvs_stream::{Sink, deliver};
-use nmvs_words::{QuestionKind, cause_word, role_word};
+use nmvs_words::{QuestionKind, role_word};
 use std::alloc::{AllocError, Allocator, Global};
 
 /// Entries that have the same parts.
@@ -225,16 +226,6 @@ fn append_month(alloc: Global, text: &mut Vec<u8>, date: Date) -> Result<(), All
     let written = format!(in alloc; "{date}")?;
     let bytes = written.as_bytes();
     text.extend_from_slice(&bytes[..bytes.len().min(7)])
-}
-
-/// The cause of an alert; other replies have none.
-fn cause_text(reply: &Reply) -> &'static str
-    ensures { result.now ≡ spec.cause_text reply.now }
-{
-    match reply {
-        Reply::Alert { cause, .. } => cause_word(*cause),
-        _ => "",
-    }
 }
 
 /// Puts the heads of the columns at the end of a block.

@@ -1,8 +1,8 @@
 //! What inspectors ask of a lawful trail.
 //!
 //! A [`Filter`] says which entries are wanted, as a definition over entries. [`write_list`] writes them, oldest first, in a
-//! [`Form`]. [`write_groups`] counts them by the parts that they share, and [`write_packs`] lists the packs of a batch with
-//! their status. The trail is not copied: an answer is made from the shard of an import, a block at a time.
+//! [`Form`]. [`write_groups`] counts them by the parts that they share, [`write_packs`] lists the packs of a batch with
+//! their status, and [`write_story`] tells of one pack. The trail is not copied: an answer is made from the shard of an import, a block at a time.
 //! [`first_departure`] says whether a later trail continues an earlier one.
 #![tactic(auto)]
 
@@ -18,9 +18,13 @@ mod html;
 mod listing;
 mod packs;
 mod page;
+mod period;
+mod premises;
+mod replies;
 mod reports;
 mod rows;
 mod selection;
+mod story;
 mod weeks;
 
 pub use answer_fault::AnswerFault;
@@ -33,4 +37,7 @@ pub use groups::write_groups;
 pub use listing::write_list;
 pub use packs::write_packs;
 pub use page::write_page;
+pub use period::period_line;
 pub use reports::write_report_rows;
+pub use selection::takes_any;
+pub use story::{story_of, write_story};

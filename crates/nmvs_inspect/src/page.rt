@@ -7,13 +7,14 @@ ghost use Rattle.nmvs_tables.specs.Listing.{code_batches};
 ghost use Rattle.nmvs_tables.specs.Tables.{AreTablesOf};
 ghost use Rattle.nmvs_inspect.specs.Groups as groups;
 ghost use Rattle.nmvs_inspect.specs.Page as page;
+ghost use Rattle.nmvs_inspect.specs.Premises.{ArePremises};
 ghost use Rattle.nmvs_inspect.specs.Rows as rows;
 
 use crate::groups::{append_groups, groups_of};
 use crate::html::{append_escaped, append_html, append_html_row};
-use crate::listing::write_entries;
+use crate::listing::write_selected;
+use crate::premises::append_premises;
 use crate::reports::{holder_text, lock_text};
-use crate::selection::select;
 use crate::weeks::append_chart;
 use crate::{AnswerFault, By, Filter, Form};
 use nmvs_identifier::{Batch, Name, ProductCode};
@@ -30,14 +31,16 @@ const HEAD: &str = "<!DOCTYPE html>\n<html lang=\"en\"><head><meta charset=\"utf
     <title>Export of a medicines verification repository</title>\n<style>\n\
     :root { color-scheme: light dark; --bar: #2a6fb0 }\n\
     body { font: 15px/1.5 system-ui, sans-serif; max-width: 80em; margin: 2em auto; padding: 0 1em }\n\
-    pre { font-size: 1.1em }\n\
-    .box { overflow: auto; max-height: 40em }\n\
+    pre { font-size: 1.1em; white-space: pre-wrap; overflow-wrap: anywhere }\n\
+    .box { overflow: auto; max-height: 45em }\n\
     table { border-collapse: collapse; font-variant-numeric: tabular-nums }\n\
-    th, td { text-align: left; white-space: nowrap; padding: .2em 1.2em .2em 0; border-bottom: 1px solid #8886 }\n\
+    th, td { text-align: left; vertical-align: top; padding: .2em 1em .2em 0; border-bottom: 1px solid #8886 }\n\
+    td:first-child { min-width: 6em }\n\
+    @media screen and (max-width: 60em) { th, td { white-space: nowrap } }\n\
     th { position: sticky; top: 0; background: Canvas; cursor: pointer }\n\
     th[aria-sort=ascending]::after { content: ' \\2191' }\n\
     th[aria-sort=descending]::after { content: ' \\2193' }\n\
-    .n, .weeks td:last-child { text-align: right }\n\
+    .n, .counts td:last-child { text-align: right }\n\
     tbody:empty::after { content: 'None.' }\n\
     figure { margin: 0 0 1em }\n\
     svg { display: block; max-width: 100%; height: 10em; border-bottom: 1px solid #888 }\n\
@@ -65,13 +68,18 @@ const CHART: &str = "</tbody></table></div>\n<h2>Alerts by week</h2>\n";
 
 /// From there to the rows of weeks.
 const WEEKS: &str =
-    "<div class=box><table class=weeks><thead><tr><th>Week</th><th class=n>Alerts</th></tr></thead><tbody>";
+    "<div class=box><table class=counts><thead><tr><th>Week</th><th class=n>Alerts</th></tr></thead><tbody>";
+
+/// From there to the rows of premises.
+const PREMISES: &str =
+    "</tbody></table></div>\n<h2>Premises with the most flagged alerts</h2>\n<div class=box><table class=counts><thead><tr>\
+    <th>Authorisation</th><th>Premises</th><th class=n>Flagged alerts</th></tr></thead><tbody>";
 
 /// From there to the rows of flagged alerts.
 const ALERTS: &str =
-    "</tbody></table></div>\n<h2>Flagged alerts</h2>\n<div class=box><table><thead><tr><th>Moment</th><th>User</th><th>Role</th>\
-    <th>Authorisation</th><th>Premises</th><th>Question</th><th>Product code</th><th>Serial number</th><th>Batch</th><th>Reply</th>\
-    </tr></thead><tbody>";
+    "</tbody></table></div>\n<h2>Flagged alerts</h2>\n<div class=box><table><thead><tr><th>Moment</th><th>User</th>\
+    <th>Authorisation</th><th>Premises</th><th>Question</th><th>Product code</th><th>Serial number</th><th>Reply</th><th>Role</th>\
+    <th>Batch</th></tr></thead><tbody>";
 
 /// From there to the end. The script sorts a table by a column, upwards and at the next click downwards.
 const FOOT: &str = "</tbody></table></div>\n<script>\n\
@@ -90,11 +98,12 @@ const FOOT: &str = "</tbody></table></div>\n<script>\n\
     }\n\
     </script>\n</body></html>\n";
 
-/// Writes a page for a browser: a verdict, these product codes with their counts, alerts by week, and the flagged alerts,
-/// both oldest first (Articles 36 and 40; the form is own). It needs nothing from elsewhere.
+/// Writes a page for a browser: a verdict, these product codes with their counts, alerts by week, the 20 premises with the
+/// most flagged alerts, and the flagged alerts, oldest first as the weeks are (Articles 36 and 40; the form is own). It needs
+/// nothing from elsewhere.
 ///
-/// It takes memory for the rows of product codes, batches and weeks, for references to the alerts, and for one block of
-/// their rows.
+/// It takes memory for the rows of product codes, batches and weeks, for references to the alerts and groups of them, and for
+/// one block of their rows.
 ///
 /// # Errors
 ///
@@ -107,12 +116,14 @@ pub fn write_page<A: Allocator, W: Sink>(
     sink: &mut W,
 ) -> Result<(), AnswerFault>
     ensures { OnOk result ((each : List groups.Group) × groups.AreSingle page.alerts shard.now each
+        × ((most : List groups.Group) × ArePremises page.flagged_alerts shard.now most
         × ((ds : List rows.Dated) × rows.AreTaken page.flagged_alerts shard.now ds
-        × Delivers (W.taken sink.old) (W.taken sink.new) (page.page_text verdict.now shard.now codes.now each ds))) }
+        × Delivers (W.taken sink.old) (W.taken sink.new) (page.page_text verdict.now shard.now codes.now each most ds)))) }
 {
     let mut block = Vec::new(alloc);
     append_front(alloc, &mut block, shard, verdict, codes)?;
     append_weeks(alloc, &mut block, shard)?;
+    append_most(alloc, &mut block, shard)?;
     write_alerts(alloc, &mut block, shard, sink)
 }
 
@@ -262,6 +273,19 @@ fn append_weeks<A: Allocator>(
     append_groups(alloc, block, Form::Html, &[By::Week], &weeks)
 }
 
+/// Puts the premises with the most flagged alerts at the end of a block.
+fn append_most<A: Allocator>(
+    alloc: Global,
+    block: &mut Vec<u8>,
+    shard: &Shard<A>,
+) -> Result<(), AllocError>
+    ensures { OnOk result ((most : List groups.Group) × ArePremises page.flagged_alerts shard.now most
+        × (block.new.items ≡ block.old.items ++ page.premises_text most)) }
+{
+    append_html(block, PREMISES)?;
+    append_premises(alloc, block, shard, &flagged_alerts())
+}
+
 fn alerts() -> Filter
     ensures { result ≡ page.alerts }
 {
@@ -291,9 +315,8 @@ fn write_alerts<A: Allocator, W: Sink>(
         × Delivers (W.taken sink.old) (W.taken sink.new) (block.old.items ++ page.alerts_text ds)) }
 {
     let filter = flagged_alerts();
-    let entries = select(alloc, shard, &filter)?;
     append_html(block, ALERTS)?;
-    write_entries(alloc, block, Form::Html, &entries, sink)?;
+    write_selected(alloc, block, shard, &filter, Form::Html, sink)?;
     append_html(block, FOOT)?;
     Ok(deliver(sink, block)?)
 }
