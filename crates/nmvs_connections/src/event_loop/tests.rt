@@ -371,7 +371,7 @@ fn a_sender_that_waits_is_invited(rt: HostRuntime) -> Result<(), Fail> {
             "content-length: 5\r\nexpect: 100-continue\r\n\r\nPING\n",
         ],
     );
-    let head = input.len() - 5;
+    let head = input.len().saturating_sub(5);
     let told = told_over_http(&rt, alloc, Peer::Anyone, None, &input, head)?;
     let wanted = joined(
         &rt,
