@@ -11,7 +11,7 @@ const ABOUT: &str =
     operator on standard input.";
 
 /// The version of the program, and the toolchain that it is proved by (own).
-pub const VERSION: &str = "0.9.0 (proved by rattle-kit-13f logic dac8208d650f15bf)";
+pub const VERSION: &str = "0.9.0 (proved by rattle logic dac8208d650f15bf)";
 
 const REHEARSAL: &str =
     "Without any option the program is a rehearsal: one session over standard input and output, with an empty \
