@@ -7,7 +7,7 @@ use nmvs_digest::digest_line;
 use nmvs_directory::Naming;
 use nmvs_history::Histories;
 use nmvs_record::ExportFault;
-use nmvs_recovery::{entries_of, export_summed};
+use nmvs_recovery::{Exported, entries_of, export_summed};
 use nmvs_stream::Device;
 use nmvs_trials::{Calls, FakeFile};
 use std::alloc::Global;
@@ -66,6 +66,13 @@ impl<'s, 'a, 'f, R: Wait + Abort, J: Naming, H: Histories> Write for Asking<'s, 
     }
 }
 
+/// Two shards were exported, with this digest.
+fn is_as_it_was(rt: &impl Abort, alloc: Global, exported: &Exported) {
+    let line = digest_line(alloc, &exported.digest, "trail.txt").expect(rt, "memory");
+    assert_eq!(rt; line.as_str(), SUM);
+    assert_eq!(rt; exported.sights.len(), 2);
+}
+
 /// Both shards grow at each of three writes: two slices of shard 0, and one of shard 1.
 struct Growing;
 
@@ -89,13 +96,10 @@ impl Trial for Growing {
             },
         };
         let exported = export_summed(rt, alloc, repository, Device::new(file));
-        let exported = exported.expect(rt, "an export");
+        is_as_it_was(rt, alloc, &exported.expect(rt, "an export"));
         assert_eq!(rt; lines_in(rt, &calls.into_inner().bytes), (1_500, 5));
-        let line = digest_line(alloc, &exported.digest, "trail.txt").expect(rt, "memory");
-        assert_eq!(rt; line.as_str(), SUM);
-        assert_eq!(rt; exported.sights.len(), 2);
-        assert_eq!(rt; entries_of(rt, repository, 0), 1_503);
-        assert_eq!(rt; entries_of(rt, repository, 1), 6);
+        let grown = [entries_of(rt, repository, 0), entries_of(rt, repository, 1)];
+        assert_eq!(rt; grown, [1_503, 6]);
     }
 }
 

@@ -1,7 +1,7 @@
 ghost use Rattle.std.specs.Prelude.{◌≡◌};
 ghost use Rattle.nmvs_directory.specs.Directory.{directory_book};
 
-use nmvs_directory::{Directory, Look, Naming, Notice, Registrar};
+use nmvs_directory::{Directory, Look, Naming, Notice, Registrar, Window};
 use nmvs_identifier::Name;
 use nmvs_operator::{Deed, Figure, Latest, Service, ServiceFault, Topic, obey_all};
 use nmvs_stream::{Console, Device, deliver};
@@ -125,13 +125,26 @@ fn has_answers<'r, J: Naming, R: Wait + Abort + Sync>(
     assert_eq!(rt; deliver(&mut console.sink, b"."), Ok(()));
 }
 
-fn commands_come<J: Naming, R: Wait + Abort + Sync>(rt: &R, alloc: Global, directory: Directory)
-    requires { directory_book directory ≡ J.book }
-{
+/// What the window shows of a user, once it has learnt what is published.
+fn look<J: Naming>(
+    rt: &impl Wait,
+    window: &mut Window<J, Global>,
+    latest: &Mutex<Notice<J>>,
+    user: &Name,
+) -> Look {
+    window.learn(&*latest.lock(rt));
+    window.look(user)
+}
+
+/// Three consoles in turn, and what is published behind each.
+fn are_carried_out<'r, J: Naming, R: Wait + Abort + Sync>(
+    rt: &'r R,
+    alloc: Global,
+    registrar: &mut Registrar<J, &'r R, Global>,
+    window: &mut Window<J, Global>,
+    latest: &Mutex<Notice<J>>,
+) {
     let ph9 = Name::read("ph9").expect(rt, "a name");
-    let (mut registrar, mut windows) = directory.open::<J, _, _>(rt, alloc, 1).expect(rt, "memory");
-    let mut window = windows.pop().expect(rt, "a window");
-    let latest = Mutex::new(registrar.publish().expect(rt, "memory"));
     let mut service = Narrow {
         keeps: 2,
         file: None,
@@ -139,40 +152,24 @@ fn commands_come<J: Naming, R: Wait + Abort + Sync>(rt: &R, alloc: Global, direc
         user: ph9,
         premises: Name::read("P9").expect(rt, "a name"),
     };
-    has_answers(
-        rt,
-        alloc,
-        &mut registrar,
-        &latest,
-        &mut service,
-        ENROLMENT,
-        b"DONE\n.",
-    );
-    window.learn(&*latest.lock(rt));
-    assert!(rt; matches!(window.look(&ph9), Look::Known(_)));
+    let done = b"DONE\n.";
+    has_answers(rt, alloc, registrar, latest, &mut service, ENROLMENT, done);
+    assert!(rt; matches!(look(rt, window, latest, &ph9), Look::Known(_)));
     let all = b"FAULT LONG\nFAULT WORD\nDONE\nFAULT UNENDED\n.";
-    has_answers(
-        rt,
-        alloc,
-        &mut registrar,
-        &latest,
-        &mut service,
-        COMMANDS,
-        all,
-    );
-    window.learn(&*latest.lock(rt));
-    assert_eq!(rt; window.look(&ph9), Look::Suspended);
+    has_answers(rt, alloc, registrar, latest, &mut service, COMMANDS, all);
+    assert_eq!(rt; look(rt, window, latest, &ph9), Look::Suspended);
     assert!(rt; !service.stopped);
-    has_answers(
-        rt,
-        alloc,
-        &mut registrar,
-        &latest,
-        &mut service,
-        STOP,
-        HELPED,
-    );
+    has_answers(rt, alloc, registrar, latest, &mut service, STOP, HELPED);
     assert!(rt; service.stopped);
+}
+
+fn commands_come<J: Naming, R: Wait + Abort + Sync>(rt: &R, alloc: Global, directory: Directory)
+    requires { directory_book directory ≡ J.book }
+{
+    let (mut registrar, mut windows) = directory.open::<J, _, _>(rt, alloc, 1).expect(rt, "memory");
+    let mut window = windows.pop().expect(rt, "a window");
+    let latest = Mutex::new(registrar.publish().expect(rt, "memory"));
+    are_carried_out(rt, alloc, &mut registrar, &mut window, &latest);
     registrar.close();
 }
 
@@ -215,22 +212,31 @@ fn reloads<'r, J: Naming, R: Wait + Abort + Sync>(
     );
 }
 
+/// Users files in turn: none, one with faults, and one without.
+fn are_taken<'r, J: Naming, R: Wait + Abort + Sync>(
+    rt: &'r R,
+    alloc: Global,
+    registrar: &mut Registrar<J, &'r R, Global>,
+    window: &mut Window<J, Global>,
+    latest: &Mutex<Notice<J>>,
+) {
+    let ph9 = Name::read("ph9").expect(rt, "a name");
+    let faults = b"LINE 2 ROLE\nLINE 4 UNENDED\nFAULT USERS\n.";
+    reloads(rt, alloc, registrar, latest, None, b"FAULT NOFILE\n.");
+    reloads(rt, alloc, registrar, latest, Some(FAULTY), faults);
+    assert_eq!(rt; look(rt, window, latest, &ph9), Look::Nobody);
+    reloads(rt, alloc, registrar, latest, Some(WHOLE), b"DONE\n.");
+    assert!(rt; matches!(look(rt, window, latest, &ph9), Look::Known(_)));
+    assert_eq!(rt; registrar.user_count(), 2);
+}
+
 fn files_come<J: Naming, R: Wait + Abort + Sync>(rt: &R, alloc: Global, directory: Directory)
     requires { directory_book directory ≡ J.book }
 {
-    let ph9 = Name::read("ph9").expect(rt, "a name");
     let (mut registrar, mut windows) = directory.open::<J, _, _>(rt, alloc, 1).expect(rt, "memory");
     let mut window = windows.pop().expect(rt, "a window");
     let latest = Mutex::new(registrar.publish().expect(rt, "memory"));
-    let faults = b"LINE 2 ROLE\nLINE 4 UNENDED\nFAULT USERS\n.";
-    reloads(rt, alloc, &mut registrar, &latest, None, b"FAULT NOFILE\n.");
-    reloads(rt, alloc, &mut registrar, &latest, Some(FAULTY), faults);
-    window.learn(&*latest.lock(rt));
-    assert_eq!(rt; window.look(&ph9), Look::Nobody);
-    reloads(rt, alloc, &mut registrar, &latest, Some(WHOLE), b"DONE\n.");
-    window.learn(&*latest.lock(rt));
-    assert!(rt; matches!(window.look(&ph9), Look::Known(_)));
-    assert_eq!(rt; registrar.user_count(), 2);
+    are_taken(rt, alloc, &mut registrar, &mut window, &latest);
     registrar.close();
 }
 

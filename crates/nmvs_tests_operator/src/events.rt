@@ -66,7 +66,7 @@ fn events_are_lines_of_text_or_json(rt: HostRuntime) {
         .args("journal\tcut")
         .key_values(pairs)
         .build();
-    for (format, line) in [
+    for &(format, line) in &[
         (
             LogFormat::Text,
             "2026-11-25T06:41:29.007Z WARN  journal\\u0009cut shard=3 path=a \"b\"\\u000a\\c",

@@ -13,7 +13,7 @@ fn is_shown(rt: &impl Abort, alloc: Global, fault: &impl Display, text: &str) ->
 
 #[test]
 fn faults_of_a_users_file_have_their_texts(rt: HostRuntime) {
-    for (fault, text) in [
+    for &(fault, text) in &[
         (LoadFault::Memory, "there is no memory for the users"),
         (
             LoadFault::Read,
@@ -31,7 +31,7 @@ fn faults_of_a_users_file_have_their_texts(rt: HostRuntime) {
 
 #[test]
 fn faults_of_orders_have_their_texts(rt: HostRuntime) {
-    for (fault, text) in [
+    for &(fault, text) in &[
         (
             ObeyFault::Unread(CommandFault::Word),
             "the command's word is unknown",

@@ -17,27 +17,47 @@ fn read(rt: &impl Abort, alloc: Global, words: &[&str]) -> Result<Options, Optio
     read_options(alloc, &texts)
 }
 
+/// Each of these holds of options that were read.
+fn all_hold(rt: &impl Abort, rows: &[(bool, &str)]) {
+    for &(holds, what) in rows {
+        assert!(rt; holds, "{what}");
+    }
+}
+
 #[test]
 fn options_have_defaults(rt: HostRuntime) {
-    let Ok(options) = read(&rt, rt.alloc(), &["--users", "F"]) else {
-        panic!(rt; "refused");
-    };
-    assert!(rt;
-        is_path(&options.users, "F") && options.import.is_none() && options.export.is_none()
-    );
-    assert_eq!(rt;
-        (options.shards, options.workers, options.sessions),
-        (8, 4, 0)
-    );
-    assert_eq!(rt; (options.moment, options.stdin), (None, false));
-    assert_eq!(rt; (options.connections, options.idle), (10_000, 300));
-    assert_eq!(rt; (options.rate, options.burst), (0, 0));
-    assert_eq!(rt; options.address, own(7161));
-    assert!(rt; options.socket.is_none() && options.proxy.is_none() && options.journal.is_none());
-    assert!(rt; options.admin.is_none() && options.metrics.is_none() && !options.log_users);
-    assert_eq!(rt;
-        (options.log_level, options.log_format),
-        (LevelFilter::Info, LogFormat::Text)
+    match read(&rt, rt.alloc(), &["--users", "F"]) {
+        Ok(options) => are_defaults(&rt, &options),
+        Err(_) => panic!(rt; "refused"),
+    }
+}
+
+fn are_defaults(rt: &impl Abort, options: &Options) {
+    all_hold(
+        rt,
+        &[
+            (is_path(&options.users, "F"), "users"),
+            (options.import.is_none(), "import"),
+            (options.export.is_none(), "export"),
+            (options.shards == 8, "shards"),
+            (options.workers == 4, "workers"),
+            (options.sessions == 0, "sessions"),
+            (options.moment.is_none(), "moment"),
+            (!options.stdin, "stdin"),
+            (options.connections == 10_000, "connections"),
+            (options.idle == 300, "idle"),
+            (options.rate == 0, "rate"),
+            (options.burst == 0, "burst"),
+            (options.address == own(7161), "address"),
+            (options.socket.is_none(), "socket"),
+            (options.proxy.is_none(), "proxy"),
+            (options.journal.is_none(), "journal"),
+            (options.admin.is_none(), "admin"),
+            (options.metrics.is_none(), "metrics"),
+            (!options.log_users, "log users"),
+            (options.log_level == LevelFilter::Info, "log level"),
+            (options.log_format == LogFormat::Text, "log format"),
+        ],
     );
 }
 
@@ -59,67 +79,92 @@ fn is_path(path: &Option<String>, text: &str) -> bool {
     }
 }
 
+/// Words that name many options.
+const WORDS: &[&str] = &[
+    "--users=F",
+    "--import=I",
+    "--export=E",
+    "--shards=1",
+    "--workers=8",
+    "--sessions=1000000",
+    "--connections=100000",
+    "--idle=86400",
+    "--rate=1000000",
+    "--burst=1",
+    "--bind=::1",
+    "--port=65535",
+    "--socket=S",
+    "--proxy=authorisation",
+    "--moment=4102444799",
+    "--stdin",
+];
+
+/// Words that name the others.
+const OTHER_WORDS: &[&str] = &[
+    "--rehearsal",
+    "--journal=D",
+    "--config",
+    "C",
+    "--admin=A",
+    "--metrics=9161",
+    "--log-level=debug",
+    "--log-format=json",
+    "--log-users",
+];
+
 #[test]
 fn all_options_are_taken_together(rt: HostRuntime) {
-    let words = [
-        "--users=F",
-        "--import=I",
-        "--export=E",
-        "--shards=1",
-        "--workers=8",
-        "--sessions=1000000",
-        "--connections=100000",
-        "--idle=86400",
-        "--rate=1000000",
-        "--burst=1",
-        "--bind=::1",
-        "--port=65535",
-        "--socket=S",
-        "--proxy=authorisation",
-        "--moment=4102444799",
-        "--stdin",
-    ];
-    let Ok(options) = read(&rt, rt.alloc(), &words) else {
-        panic!(rt; "refused");
-    };
-    assert!(rt; options.moment.is_some());
-    assert!(rt; is_path(&options.import, "I") && is_path(&options.export, "E"));
-    assert_eq!(rt;
-        (options.shards, options.workers, options.sessions),
-        (1, 8, 1_000_000)
+    match read(&rt, rt.alloc(), WORDS) {
+        Ok(options) => are_those_of_words(&rt, &options),
+        Err(_) => panic!(rt; "refused"),
+    }
+    match read(&rt, rt.alloc(), OTHER_WORDS) {
+        Ok(options) => are_those_of_other_words(&rt, &options),
+        Err(_) => panic!(rt; "refused"),
+    }
+}
+
+fn are_those_of_words(rt: &impl Abort, options: &Options) {
+    all_hold(
+        rt,
+        &[
+            (options.moment.is_some(), "moment"),
+            (is_path(&options.import, "I"), "import"),
+            (is_path(&options.export, "E"), "export"),
+            (options.shards == 1, "shards"),
+            (options.workers == 8, "workers"),
+            (options.sessions == 1_000_000, "sessions"),
+            (options.stdin, "stdin"),
+            (options.connections == 100_000, "connections"),
+            (options.idle == 86_400, "idle"),
+            (options.rate == 1_000_000, "rate"),
+            (options.burst == 1, "burst"),
+            (is_path(&options.socket, "S"), "socket"),
+            (options.proxy == Some(NameOf::Authorisation), "proxy"),
+            (options.address == own_v6(65_535), "address"),
+        ],
     );
-    assert!(rt; options.stdin);
-    assert_eq!(rt; (options.connections, options.idle), (100_000, 86_400));
-    assert_eq!(rt; (options.rate, options.burst), (1_000_000, 1));
-    assert!(rt; is_path(&options.socket, "S"));
-    assert_eq!(rt; options.proxy, Some(NameOf::Authorisation));
-    assert_eq!(rt; options.address, own_v6(65_535));
-    let words = [
-        "--rehearsal",
-        "--journal=D",
-        "--config",
-        "C",
-        "--admin=A",
-        "--metrics=9161",
-        "--log-level=debug",
-        "--log-format=json",
-        "--log-users",
-    ];
-    let Ok(options) = read(&rt, rt.alloc(), &words) else {
-        panic!(rt; "refused");
-    };
-    assert!(rt; is_path(&options.journal, "D") && is_path(&options.admin, "A"));
-    assert!(rt; options.users.is_none() && options.metrics == Some(own(9161)) && options.log_users);
-    assert_eq!(rt; options.moment, Moment::new(1_767_225_600));
-    assert_eq!(rt;
-        (options.log_level, options.log_format),
-        (LevelFilter::Debug, LogFormat::Json)
+}
+
+fn are_those_of_other_words(rt: &impl Abort, options: &Options) {
+    all_hold(
+        rt,
+        &[
+            (is_path(&options.journal, "D"), "journal"),
+            (is_path(&options.admin, "A"), "admin"),
+            (options.users.is_none(), "users"),
+            (options.metrics == Some(own(9161)), "metrics"),
+            (options.log_users, "log users"),
+            (options.moment == Moment::new(1_767_225_600), "moment"),
+            (options.log_level == LevelFilter::Debug, "log level"),
+            (options.log_format == LogFormat::Json, "log format"),
+        ],
     );
 }
 
 #[test]
 fn places_to_listen_are_read(rt: HostRuntime) {
-    for (words, address, path) in [
+    for &(words, address, path) in &[
         (&["--listen=7162"][..], own(7162), None),
         (&["--listen", "127.0.0.1:0"], own(0), None),
         (&["--listen=[::1]:7161"], own_v6(7161), None),
@@ -146,7 +191,7 @@ fn places_to_listen_are_read(rt: HostRuntime) {
 
 #[test]
 fn other_lines_are_refused(rt: HostRuntime) {
-    for word in [
+    for &word in &[
         "--shards=9",
         "--shards=0",
         "--workers=0",
@@ -182,7 +227,7 @@ fn other_lines_are_refused(rt: HostRuntime) {
         let refused = read(&rt, rt.alloc(), &["--users", "F", word]);
         assert!(rt; matches!(refused, Err(OptionFault::Refused(_))), "{word}");
     }
-    for words in [
+    for &words in &[
         &["--stdin"][..],
         &["--users=F", "--journal=D", "--stdin"],
         &["--users=F", "--admin=A", "--stdin"],
@@ -202,7 +247,7 @@ fn help_and_version_are_told(rt: HostRuntime) {
     };
     assert!(rt; text.contains("--users <FILE>") && text.contains("[default: 127.0.0.1:7161]"));
     assert!(rt; text.contains("--listen <ADDRESS>") && !text.contains("--socket"));
-    for word in ["--version", "-V"] {
+    for &word in &["--version", "-V"] {
         let version = read(&rt, rt.alloc(), &[word]);
         assert!(rt; matches!(version, Err(OptionFault::Help(_))), "{word}");
     }

@@ -32,7 +32,7 @@ fn refuses_files<J: Naming, R: Wait + Abort>(
     alloc: Global,
     registrar: &mut Registrar<J, &R, Global>,
 ) {
-    for (text, reads, fault) in [
+    for &(text, reads, fault) in &[
         (
             "#\nENROL ph9 PHARMACY PH-9 P9\nENROL ph9 DOCTOR PH-9 P9\n",
             2,
@@ -105,7 +105,7 @@ fn all_faults_of_a_users_file_are_found(rt: HostRuntime) {
 
 #[test]
 fn comments_and_blank_lines_change_nothing(rt: HostRuntime) {
-    for (text, nothing) in [
+    for &(text, nothing) in &[
         ("", true),
         ("# SUSPEND ph1\n\n", true),
         ("\n#\nSUSPEND ph1\n", false),

@@ -211,7 +211,7 @@ fn users_are_listed_as_they_were_first_named(rt: HostRuntime) {
 
 #[test]
 fn faults_have_their_texts(rt: HostRuntime) {
-    for (fault, text) in [
+    for &(fault, text) in &[
         (
             DirectoryFault::Memory,
             "there is no memory for the directory",
@@ -332,39 +332,51 @@ fn refused_call<J: Naming, R: Wait + Abort + Sync>(
         return Some(Call::Open);
     };
     let mut window = windows.pop().expect(rt, "a window");
-    let refused = refused_change(rt, &mut registrar, &mut window, reserve);
+    let refused = refused_change(rt, &mut registrar, &mut window);
+    drop(reserve);
+    goes_on(rt, &mut registrar, &mut window, refused);
     registrar.close();
     refused
 }
 
-/// The same over an open directory, with a reserve that is let go once a publication was refused.
+/// The same over an open directory.
 fn refused_change<'h, J: Naming, R: Wait + Abort + Sync>(
     rt: &R,
     registrar: &mut Registrar<J, &R, &'h LocalHeap>,
     window: &mut Window<J, &'h LocalHeap>,
-    reserve: Vec<u8, &'h LocalHeap>,
 ) -> Option<Call> {
     let (user, actor) = (name(rt, "ph1"), pharmacy(rt, "PH-1"));
     if registrar.changes.enrol(user, actor).is_err() {
         return Some(Call::Enrol);
     }
-    if is_published(registrar, window) {
-        // The list has room for it: it keeps that of the first change.
-        registrar.changes.suspend(user).expect(rt, "memory");
-        if is_published(registrar, window) {
-            return None;
-        }
-        drop(reserve);
-        shows(rt, window, "ph1", Look::Known(pharmacy(rt, "PH-1")));
-        tell(rt, registrar, window);
-        shows(rt, window, "ph1", Look::Suspended);
-        return Some(Call::PublishAgain);
+    if !is_published(registrar, window) {
+        return Some(Call::Publish);
     }
-    drop(reserve);
-    shows(rt, window, "ph1", Look::Nobody);
+    // The list has room for it: it keeps that of the first change.
+    registrar.changes.suspend(user).expect(rt, "memory");
+    if is_published(registrar, window) {
+        None
+    } else {
+        Some(Call::PublishAgain)
+    }
+}
+
+/// Once there is memory: a publication that was refused changed no look, and succeeds now.
+fn goes_on<'h, J: Naming, R: Wait + Abort + Sync>(
+    rt: &R,
+    registrar: &mut Registrar<J, &R, &'h LocalHeap>,
+    window: &mut Window<J, &'h LocalHeap>,
+    refused: Option<Call>,
+) {
+    let enrolled = Look::Known(pharmacy(rt, "PH-1"));
+    let (before, after) = match refused {
+        Some(Call::Publish) => (Look::Nobody, enrolled),
+        Some(Call::PublishAgain) => (enrolled, Look::Suspended),
+        _ => return,
+    };
+    shows(rt, window, "ph1", before);
     tell(rt, registrar, window);
-    shows(rt, window, "ph1", Look::Known(pharmacy(rt, "PH-1")));
-    Some(Call::Publish)
+    shows(rt, window, "ph1", after);
 }
 
 /// Publishes what is pending. The window learns of it, unless it is refused.
