@@ -14,8 +14,6 @@ mod logged;
 mod multiplexer;
 mod signals;
 mod socket;
-#[cfg(test)]
-mod tests;
 
 pub use console::{AdminFault, AdminSides, open};
 pub use socket::remove_socket;
