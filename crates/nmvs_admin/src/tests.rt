@@ -11,13 +11,13 @@ use std::rt::Clock;
 use std::sync::Wait;
 use std::test::*;
 
-/// The line that this side has next, where it has one.
+/// Whether the next line of this side is this.
 fn next(side: &mut Incoming, wanted: &[u8]) -> bool {
     side.next_line()
         .is_some_and(|line| line.as_slice() == wanted)
 }
 
-/// Goes on with these bytes, where all before them is looked through.
+/// Adds these bytes, if all earlier ones are looked through.
 fn send(side: &mut Incoming, bytes: &[u8]) {
     if side.is_looked_through() && bytes.len() <= 4096 {
         side.extend(bytes);
@@ -62,12 +62,12 @@ fn of_a_long_line_its_beginning_is_handed_over_once(rt: HostRuntime) {
     assert!(rt; side.next_line().is_none());
 }
 
-/// Adds this to the answer.
+/// Adds these bytes to the answer.
 fn write(rt: &impl Abort, exchange: &mut Exchange, text: &[u8]) {
     exchange.write(text).expect(rt, "memory");
 }
 
-/// Of the line that is handed over these bytes are read next, at most three; and it is read then, or not.
+/// The next read of the line, of at most three bytes, gives these. Then the line is read to its end, or not.
 fn reads(rt: &impl Abort, exchange: &mut Exchange, wanted: &[u8], is_read: bool) {
     let mut buffer = [0; 3];
     let count = exchange.read(&mut buffer);
@@ -112,7 +112,7 @@ fn an_answer_goes_to_the_side_of_its_line(rt: HostRuntime) {
     assert_eq!(rt; exchange.end().side, Side::Standard);
 }
 
-/// This line is handed over next, and is answered so.
+/// This line is handed over next, and has this answer.
 fn is_next<I: Source, W: Sink, R: Wait + Clock + Log + Abort>(
     rt: &R,
     multiplexer: &mut Multiplexer<I, W>,
