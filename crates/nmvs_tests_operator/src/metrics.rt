@@ -163,7 +163,7 @@ fn the_page_is_as_written_by_hand(rt: HostRuntime) {
     assert!(rt; page.strip_prefix(PAGE) == Some(LOG));
 }
 
-/// How long the machine runs when metrics are asked for.
+/// The time for which the machine runs when metrics are asked for.
 fn later() -> Duration {
     Duration::from_secs(1_000)
 }
@@ -179,7 +179,7 @@ fn has_line(alloc: Global, metrics: &Metrics, line: &str) -> bool {
     }
 }
 
-/// The question that a line puts.
+/// The question of a line.
 fn question(line: &str) -> Option<Question> {
     match read_line(line.as_bytes()) {
         Ok(
@@ -194,7 +194,7 @@ fn question(line: &str) -> Option<Question> {
     }
 }
 
-/// Counts that this line, whose entry is in shard 1, had this reply.
+/// Counts this reply to this line, whose entry is in shard 1.
 fn note(metrics: &Metrics, line: &str, reply: Reply) {
     if let Some(question) = question(line) {
         metrics.worker(1).note_put(1, &question, &reply);
@@ -327,7 +327,7 @@ fn each_line_has_the_time_of_its_release(rt: HostRuntime) {
     assert!(rt; has_line(rt.alloc(), &metrics, "nmvs_reply_seconds_count 4"));
 }
 
-/// What a request is answered with.
+/// The answer to a request.
 fn answer_to(rt: &HostRuntime, metrics: &Metrics, request: &str) -> io::Result<Vec<u8>> {
     let alloc = rt.alloc();
     let keys = RandomState::new(rt)?;

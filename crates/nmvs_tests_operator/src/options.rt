@@ -52,7 +52,7 @@ fn own_v6(port: u16) -> SocketAddr {
     SocketAddr::new(IpAddr::V6(Ipv6Addr::new(0, 0, 0, 0, 0, 0, 0, 1)), port)
 }
 
-/// Whether a path is this one.
+/// Whether a path is this text.
 fn is_path(path: &Option<String>, text: &str) -> bool {
     match path {
         Some(path) => path.as_str() == text,
@@ -209,6 +209,6 @@ fn help_and_version_are_told(rt: HostRuntime) {
         let version = read(&rt, rt.alloc(), &[word]);
         assert!(rt; matches!(version, Err(OptionFault::Help(_))), "{word}");
     }
-    // A line VERSION is answered with the same number.
+    // The answer to a line VERSION begins with the same number.
     assert!(rt; nmvs_operator::VERSION.starts_with(nmvs_protocol::VERSION));
 }
