@@ -32,8 +32,11 @@ impl Model for Batch {
 }
 
 impl Batch {
-    /// Reads a batch number. It is refused by the first fault that holds: no byte at all, more than 20 bytes, a
-    /// character outside of set 82.
+    /// Reads a batch number.
+    ///
+    /// # Errors
+    ///
+    /// The first fault that applies: no byte at all, more than 20 bytes, a character outside of set 82.
     pub fn read(text: &str) -> Result<Batch, Set82Fault>
         ensures accepts { IsOk result ↔ IsTrue (is_batch text.now) }
         ensures kept { IfOk result (λ batch. batch.bytes ≡ text.now) }
