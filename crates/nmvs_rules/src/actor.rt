@@ -4,7 +4,7 @@ ghost use Rattle.nmvs_rules.specs.Entries.{is_actor};
 use crate::Role;
 use nmvs_identifier::Name;
 
-/// In what capacity a user asks: by which authorisation or entitlement, and at which premises (Article 13(1)).
+/// The capacity in which a user asks: role, authorisation or entitlement, and premises (Article 13(1)).
 #[derive(Clone, Copy, Debug, PartialEq, Eq)]
 pub struct Actor {
     pub role: Role,

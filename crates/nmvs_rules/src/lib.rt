@@ -1,4 +1,4 @@
-//! The rules of the repository: what may be asked, and the reply that the Regulation gives on a trail.
+//! The rules of the repository: the questions that may be asked, and the reply that the Regulation gives on a trail.
 //!
 //! A [`Put`] is a [`Question`] as an [`Actor`] puts it at a moment. [`decide`] gives the [`Reply`] from the [`Facts`],
 //! the few things that it rests on: `decide(&facts, &put)`. Its contract says that this is the reply of the definitions

@@ -1,4 +1,4 @@
-//! Laws on what becomes of a pack.
+//! Laws on the course of a pack.
 ghost use Rattle.std.specs.Prelude.{◌≡◌, IsTrue, IsFalse, List, [], ◌∷◌, ◌++◌, length, Some, None, is_some, IsSomeAnd, count_by, if◌then◌else◌};
 ghost use Rattle.std.specs.List.{list_any};
 ghost use Rattle.nmvs_identifier.specs.Batch.{Batch};
@@ -11,16 +11,16 @@ ghost use Rattle.nmvs_rules.specs.Rules.{IsLawful};
 ghost use Rattle.nmvs_rules.specs.Operations.{uploads, decommissions, supplies, reverts, binds, goes_on, operates};
 ghost use Rattle.nmvs_rules.specs.Laws.{IsUploadedWith, IsMovedOn, IsBorn};
 
-/// In a lawful trail a pack has one accepted upload where it is known, and none where it is not (Articles 4 and 11). So
-/// the counts of a batch are numbers of packs.
+/// In a lawful trail a pack has one accepted upload if it is known, and none if it is not (Articles 4 and 11). So the
+/// counts of a batch are numbers of packs.
 pub fn one_birth()
     ensures { (t : List Entry) (p : Pack) → IsLawful t →
         count_by (uploads p) t ≡ (if is_some (known t p) then 1 else 0) }
 {}
 
-/// An entry that is no operation on a pack leaves what is known of it, and an unknown pack becomes known by its upload
-/// alone: on every trail. In a lawful trail an operation on a known pack moves it on: to the own status that the
-/// operation leaves, which may follow the one before, with the mark of the entry (Articles 12, 13, 22, 25, 33 and 40).
+/// An entry that is no operation on a pack leaves the values known of it, and only its upload makes an unknown pack known.
+/// This holds on every trail. In a lawful trail an operation on a known pack gives it the own status that the operation
+/// leaves, which may follow the one before, and the mark of the entry (Articles 12, 13, 22, 25, 33 and 40).
 pub fn course()
     ensures kept { (t : List Entry) (e : Entry) (p : Pack) → IsFalse (operates p e) →
         known (t ++ e ∷ []) p ≡ known t p }
