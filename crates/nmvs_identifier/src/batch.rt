@@ -57,7 +57,7 @@ impl Batch {
         self.text.as_str()
     }
 
-    /// Tells a proof that the text is in its grammar, and does nothing.
+    /// Proves that the text is in its grammar, and does nothing else.
     pub fn tell_grammar(&self)
         ensures { IsTrue (is_batch self.now.bytes) }
     {

@@ -56,7 +56,7 @@ impl Tag {
         self.name.text()
     }
 
-    /// Tells a proof that the text is in its grammar, and does nothing.
+    /// Proves that the text is in its grammar, and does nothing else.
     pub fn tell_grammar(&self)
         ensures { IsTrue (is_tag self.now.bytes) }
     {

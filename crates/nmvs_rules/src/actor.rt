@@ -13,7 +13,7 @@ pub struct Actor {
 }
 
 impl Actor {
-    /// Tells a proof that the names are in their grammar, and does nothing.
+    /// Proves that the names are in their grammar, and does nothing else.
     pub fn tell_grammar(&self)
         ensures { IsTrue (is_actor self.now) }
     {

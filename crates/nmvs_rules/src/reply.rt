@@ -54,7 +54,7 @@ impl Reply {
         )
     }
 
-    /// Tells a proof that the reply's texts are in their grammars and its numbers in their ranges, and does nothing.
+    /// Proves that the reply's texts are in their grammars and its numbers in their ranges, and does nothing else.
     pub fn tell_ranges(&self)
         ensures { IsTrue (is_reply self.now) }
     {
