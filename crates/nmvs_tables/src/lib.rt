@@ -1,7 +1,7 @@
 //! The current records of packs, batches and product codes, kept in step with an audit trail.
 //!
-//! The rules of the repository look back over the whole trail. [`Tables`] keeps what they would find there, so that
-//! no answer has to: three maps in the order of insertion, each entry noted once.
+//! The rules of the repository look back over the whole trail. [`Tables`] keeps the results of this, so that no answer has
+//! to look back: three maps in the order of insertion, each entry noted once.
 #![tactic(auto)]
 
 mod batches;
