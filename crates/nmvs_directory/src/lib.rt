@@ -1,5 +1,5 @@
-//! The users of a repository: one registrar enrols, suspends and removes them, and windows look them up, each in a thread of its
-//! own if need be, with no lock and no wait.
+//! The users of a repository. One registrar enrols, suspends and removes them. Windows look them up with no lock and no
+//! wait, each in a thread of its own if need be.
 //!
 //! A [`Directory`] is made, gets its name and is opened, which gives the [`Registrar`] and the [`Window`]s. The registrar's
 //! changes are pending until it publishes. A publication gives a [`Notice`]. A window that learns of it answers by that
