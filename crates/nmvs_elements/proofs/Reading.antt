@@ -64,7 +64,7 @@ stops_repeated nation size bytes found rest identifier value behind so begins be
   reads = refl;
 }
 
--- where nothing was read, as much is left as there was
+-- all bytes are left exactly if no element was read
 pub unknown_told : (nation : Option National) (bytes : List ℕ) (es : List Element) (rest : List ℕ) (place : ℕ) → BeginsWithElements nation bytes es rest
     → cond (eqb (length rest) (length bytes)) faults.NoElement (faults.Element place) ≡ unknown_fault es place
 unknown_told nation bytes [] rest place these = ap (λ t. cond t faults.NoElement (faults.Element place)) (same_length (length rest) (length bytes) (ap length (sym these)))

@@ -13,7 +13,7 @@ pub struct National {
 }
 
 impl National {
-    /// The nation of an application identifier, where it is one of 710 to 716.
+    /// The nation of an application identifier, if it is one of 710 to 716.
     pub fn new(identifier: u16) -> Option<National>
         ensures in_range { IsSome result ↔ (710 ≤ identifier × identifier ≤ 716) }
         ensures value { IfSome result (λ nation. nation.digit + 662 ≡ identifier) }
