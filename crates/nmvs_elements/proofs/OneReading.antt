@@ -13,7 +13,7 @@ use Rattle.nmvs_elements.specs.Elements.{Element, first_digits, required, skip_s
 use Rattle.nmvs_elements.specs.Scan.{Stop, StopsAt, HasNational, ArePack, ReadsBy, ReadsStop, ReadsString, ReadsBehind, ReadsScan, is_missing, has_wrong, at_end, at_unknown, at_short, at_repeated}
 use Rattle.nmvs_elements.proofs.ElementFacts.{same_identifier, one_element, behind_shorter, identifier_long, taken}
 
--- of two readings of bytes, one goes on where the other ends
+-- of two readings of bytes, one goes on at the end of the other
 meet : (nation : Option National) (bytes : List ℕ) (es fs : List Element) (r s : List ℕ) → BeginsWithElements nation bytes es r → BeginsWithElements nation bytes fs s
     → ((after : List Element) × (fs ≡ es ++ after) × BeginsWithElements nation r after s) ⊎ ((after : List Element) × (es ≡ fs ++ after) × BeginsWithElements nation s after r)
 meet nation bytes [] fs r s a b = inl (fs, refl, subst (λ (y : List ℕ). BeginsWithElements nation y fs s) a b)

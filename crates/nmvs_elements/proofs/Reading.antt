@@ -41,7 +41,7 @@ goes_on nation bytes found more rest identifier value behind so begins fresh set
           ∙ sym (value_at_more (first_digits other) so.elements e none);
     }
 
--- the rest is no longer than what was there
+-- the rest is no longer than the bytes
 pub rest_within : (nation : Option National) (bytes : List ℕ) (found : Found) (rest : List ℕ) → HasFound nation bytes found rest → length rest ≤ length bytes
 rest_within nation bytes found rest so = omega (arith, elements_shorter nation bytes so.elements rest so.these)
 

@@ -27,9 +27,9 @@ pub record IsOnlyValue (bytes : List ℕ) (kind : ℕ) (value : List ℕ) : Type
   pub these : bytes ≡ flat_map typed_bytes values
   pub only : filter (is_of kind) values ≡ record { kind = kind; value = value } ∷ []
 
--- the value about a connection's TLS: bits of the client, of which the lowest two say that it used TLS
--- and presented a certificate in this connection; four bytes that are 0 if the certificate was verified; and parts,
--- of which one, of type 34 (PP2_SUBTYPE_SSL_CN), is the certificate's common name
+-- the value about a connection's TLS: bits of the client, then four bytes that are 0 if the certificate was verified, then
+-- parts. The lowest two bits say that the client used TLS and presented a certificate in this connection. One part, of type
+-- 34 (PP2_SUBTYPE_SSL_CN), is the certificate's common name
 pub record NamesVerified (tls name : List ℕ) : Type 0 where
   pub client : ℕ
   pub parts : List ℕ

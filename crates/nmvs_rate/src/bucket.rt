@@ -10,9 +10,9 @@ const LINE: u64 = 1_000;
 /// The lines that a user may still ask. Moments are in milliseconds since some beginning (own).
 #[derive(Clone, Copy)]
 pub struct Bucket {
-    /// The parts of lines that were left when a line was last taken out.
+    /// The parts of lines that were left at `moment`.
     parts: u64,
-    /// The moment when a line was last taken out.
+    /// The moment when a line was last taken out, or when the bucket began.
     moment: u64,
 }
 

@@ -1,4 +1,4 @@
--- A trail without a handover says what it said before packs could be handed over, and is lawful exactly if it was.
+-- A trail without a handover says the same as before packs could be handed over, and is lawful exactly if it was.
 use Rattle.std.proofs.Common.{◌≡◌, ◌↔◌, ℕ, ◌+◌, ◌-◌, Bool, true, false, not, ◌&&◌, ◌||◌, cond, List, [], ◌∷◌, ◌++◌, reverse, length, Option, Some, None, refl, sym, ap, ◌∙◌}
 use Rattle.std.proofs.lemmas.Bool.{or_parts}
 use Rattle.std.proofs.lemmas.List.Folds.{list_any-append}

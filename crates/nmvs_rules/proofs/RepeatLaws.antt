@@ -335,7 +335,7 @@ lawful-at u (x ∷ es) (suc n) e lawful h =
     let Q : List Entry → Type 0 = λ t. e.reply ≡ reply_of t e.put in
     subst Q (append_assoc u (x ∷ []) (take n es)) (lawful-at (u ++ x ∷ []) es n e lawful.1 h)
 
--- a reply that is answered again is that of the rules where it was answered first
+-- a reply that is answered again is that of the rules at the place of its entry
 pub repeated-by-rules : (t : List Entry) (q : Put) (place : ℕ) (reply : Reply) → IsLawful t → (again : IsRepeated t q place reply) → reply ≡ reply_of (take place t) again.entry.put
 repeated-by-rules t q place reply lawful again = again.same ∙ lawful-at [] t place again.entry lawful again.stands
 

@@ -30,12 +30,12 @@ use Rattle.nmvs_rules.proofs.TextLemmas.{same_pack-equal}
 abbrev pub KnownAnd : List Entry → Pack → (Known → Type 0) → Type 0
 KnownAnd t p P = (k : Known) × (known t p ≡ Some k) × P k
 
--- a reply that isn't the first branch's comes from the second
+-- a reply that is not the first branch's comes from the second
 pub cond-else : (b : Bool) (x y z : Reply) → (x ≡ z → ⊥) → cond b x y ≡ z → (b ≡ false) × (y ≡ z)
 cond-else true x y z other e = absurd (other e)
 cond-else false x y z other e = (refl, e)
 
--- and one that isn't the second's from the first
+-- and a reply that is not the second's comes from the first
 pub cond-then : (b : Bool) (x y z : Reply) → (y ≡ z → ⊥) → cond b x y ≡ z → (b ≡ true) × (x ≡ z)
 cond-then true x y z other e = (refl, e)
 cond-then false x y z other e = absurd (other e)

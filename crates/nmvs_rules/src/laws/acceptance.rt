@@ -31,9 +31,9 @@ pub fn decommissioning()
         × ((b : Batch) × (x : Expiry) × IsGenuine t p b x)) }
 {}
 
-/// A handover is accepted exactly if a pharmacy asks for it, the last operation on the pack decommissioned it to be
-/// held, with the same authorisation and in the same premises, and its batch was neither recalled nor withdrawn (own,
-/// after Articles 25 and 40). On every trail.
+/// A handover is accepted exactly if a pharmacy asks for it, the last operation on the pack decommissioned it to be held,
+/// and its batch was neither recalled nor withdrawn. The pharmacy has the authorisation and the premises of that operation
+/// (own, after Articles 25 and 40). On every trail.
 pub fn handover()
     ensures { (t : List Entry) (q : Put) (p : Pack) → q.question ≡ Handover p →
         (reply_of t q ≡ reply.HandedOver) ↔

@@ -19,9 +19,9 @@ ghost use Rattle.nmvs_rules.specs.Rules.{reply_of, shown_of, IsLawful};
 ghost use Rattle.nmvs_rules.specs.Operations.{uploads, uploads_code, binds, last_operation, alarm, alert_number};
 ghost use Rattle.nmvs_rules.specs.Laws.{IsUploadedWith, IsUnlocked, IsGenuine, IsHeldBy, IsRevertible, AsksAuthenticity, AsksLock, alert_numbers};
 
-/// A verification is answered Authentic exactly if the role may verify and the pack was uploaded with the batch and
-/// expiry of the answer, was last uploaded or reverted, and its batch was neither recalled nor withdrawn (Articles 11
-/// and 40). On every trail.
+/// A verification is answered Authentic exactly if the role may verify and the pack is genuine: it was uploaded with the
+/// batch and expiry of the answer, was last uploaded or reverted, and its batch was neither recalled nor withdrawn
+/// (Articles 11 and 40). On every trail.
 pub fn verification()
     ensures { (t : List Entry) (q : Put) (p : Pack) (b : Batch) (x : Expiry) (expired : Bool) →
         q.question ≡ Verify p →

@@ -19,8 +19,8 @@ pub fn one_birth()
 {}
 
 /// An entry that is no operation on a pack leaves the values known of it, and only its upload makes an unknown pack known.
-/// This holds on every trail. In a lawful trail an operation on a known pack gives it the own status that the operation
-/// leaves, which may follow the one before, and the mark of the entry (Articles 12, 13, 22, 25, 33 and 40).
+/// This holds on every trail. In a lawful trail an operation on a known pack gives it the mark of the entry and the own
+/// status that the operation leaves, which may follow the one before (Articles 12, 13, 22, 25, 33 and 40).
 pub fn course()
     ensures kept { (t : List Entry) (e : Entry) (p : Pack) → IsFalse (operates p e) →
         known (t ++ e ∷ []) p ≡ known t p }
@@ -42,16 +42,16 @@ pub fn decommissioned_once()
         IsTrue (list_any (reverts p) between) }
 {}
 
-/// No pack is supplied twice: after its supply to the public in a lawful trail, at its decommissioning or by a later
-/// handover, it is never decommissioned, handed over or reverted and never answered Authentic (Articles 11, 13 and 25).
+/// No pack is supplied twice. A supply to the public is a decommissioning or a later handover. After it in a lawful trail
+/// the pack is never decommissioned, handed over, reverted or answered Authentic (Articles 11, 13 and 25).
 pub fn supplied_once()
     ensures { (before between after : List Entry) (supply later : Entry) (p : Pack) →
         IsLawful (before ++ supply ∷ between ++ later ∷ after) → IsTrue (supplies p supply) →
         IsFalse (goes_on p later) }
 {}
 
-/// A recall or withdrawal binds for ever: after it in a lawful trail no pack of its batch, uploaded before it or later,
-/// is decommissioned, handed over, reverted or answered Authentic (Articles 13, 25 and 40).
+/// A recall or withdrawal binds for ever. After it in a lawful trail no pack of its batch, uploaded before it or later, is
+/// decommissioned, handed over, reverted or answered Authentic (Articles 13, 25 and 40).
 pub fn recall_binds()
     ensures { (before between after : List Entry) (recall later : Entry)
         (p : Pack) (b : Batch) (x : Expiry) →
