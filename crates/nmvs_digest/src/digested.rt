@@ -15,7 +15,7 @@ pub struct Digested<S: Source> {
 }
 
 impl<S: Source + Drop> Digested<S> {
-    /// A digest over a source that has given nothing.
+    /// Digests a source that has given nothing yet.
     pub fn new(source: S) -> Digested<S>
         requires { (S.told source).bytes ≡ [] }
         ensures { result.source ≡ source }

@@ -8,7 +8,7 @@ use std::fmt;
 /// 716 (section 3.8).
 #[derive(Clone, Copy, Debug, PartialEq, Eq)]
 pub struct National {
-    /// The last digit of the application identifier.
+    /// The last digit of the application identifier, as an ASCII byte.
     pub(crate) digit: u8,
 }
 

@@ -17,7 +17,7 @@ parts_are tls name is = ap parts_of is.these ∙ take_all _ is.parts (omega arit
 pub no_common_name : (tls : List ℕ) → ((value : List ℕ) → IsOnlyValue (parts_of tls) 34 value → ⊥) → (name : List ℕ) → NamesVerified tls name → ⊥
 no_common_name tls none name is = none name (subst (λ (y : List ℕ). IsOnlyValue y 34 name) (sym (parts_are tls name is)) is.common_name)
 
--- nor with one that is no name
+-- with a common name that is no name it names nobody either
 pub no_name_there : (tls value : List ℕ) → IsOnlyValue (parts_of tls) 34 value → is_name value ≡ false → (name : List ℕ) → NamesVerified tls name → ⊥
 no_name_there tls value found no_name name is =
     let same = only_once (parts_of tls) 34 value name found (subst (λ (y : List ℕ). IsOnlyValue y 34 name) (sym (parts_are tls name is)) is.common_name) in
@@ -31,7 +31,7 @@ pub no_tls : (addresses : ℕ) (content values : List ℕ) → values ≡ drop a
 no_tls addresses content values these none name is =
     none is.tls (subst (λ (y : List ℕ). IsOnlyValue y 32 is.tls) (sym (these ∙ values_are addresses content name is)) is.encrypted)
 
--- nor does a content with one that names nobody
+-- a content whose value about TLS names nobody names nobody either
 pub nobody_there : (addresses : ℕ) (content values tls : List ℕ) → values ≡ drop addresses content → IsOnlyValue values 32 tls → ((name : List ℕ) → NamesVerified tls name → ⊥)
     → (name : List ℕ) → HasName addresses content name → ⊥
 nobody_there addresses content values tls these found none name is =

@@ -18,9 +18,9 @@ ghost use Rattle.nmvs_rules.specs.Trail.{about_of};
 ghost use Rattle.nmvs_rules.specs.Rules.{reply_of, IsLawful};
 ghost use Rattle.nmvs_rules.specs.Repeats.{answer_of, is_tagged, repeat_of, tells_state, AreNew, IsRepeated, without_tag, without_tags};
 
-/// A question with a tag is not carried out, refused or answered with an alert twice, if each question was looked for before
-/// it was put. The next entry about the pack, of that user and with that tag, comes more than a day later, or after at least
-/// 16 others about the pack.
+/// A question with a tag counts once for a day: it was carried out, refused or answered with an alert, and each question was
+/// looked for before it was put. The next entry about the pack, of that user and with that tag, comes more than a day later,
+/// or after at least 16 others about the pack.
 pub fn once()
     ensures { (u v w : List Entry) (e f : Entry) (p : Pack) (user : Name) (g : Tag) →
         AreNew (u ++ (e ∷ v) ++ (f ∷ w)) → IsTrue (is_tagged p user g e) → IsTrue (is_tagged p user g f) →
@@ -29,7 +29,7 @@ pub fn once()
 {}
 
 /// Such a question is answered from its entry if it is asked again with its tag, at most a day later and before 16 others
-/// about the pack were put.
+/// about the pack.
 pub fn asked_again()
     ensures { (u v : List Entry) (e : Entry) (p : Pack) (g : Tag) (moment : ℕ) →
         pack_of e.put.question ≡ Some p → e.put.tag ≡ Some g →
