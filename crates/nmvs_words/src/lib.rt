@@ -5,7 +5,7 @@
 //! finds it by its word, and `word` gives the word back. The other words are functions, as [`role_word`] and
 //! [`role_named`].
 //!
-//! It composes no lines: `nmvs_protocol` does.
+//! It composes no lines: `nmvs_line` and `nmvs_protocol` do.
 #![tactic(auto)]
 
 mod batch_question;
