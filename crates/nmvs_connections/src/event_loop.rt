@@ -21,9 +21,6 @@ use std::sync::Wait;
 use std::time::{Duration, Instant};
 use std::{io, mem};
 
-#[cfg(test)]
-mod tests;
-
 /// How many seconds behind each other a worker looks for connections that waited too long (own).
 const TICK: u64 = 1;
 

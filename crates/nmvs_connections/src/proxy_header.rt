@@ -4,9 +4,6 @@ ghost use Rattle.nmvs_connections.specs.ProxyHeader.{ReadsProxyHeader};
 use nmvs_gateway::{Header, read_header};
 use nmvs_messages::{NameOf, Peer};
 
-#[cfg(test)]
-pub(crate) mod tests;
-
 /// What the first bytes of a connection tell.
 #[derive(Clone, Copy)]
 pub(crate) enum ProxyHeader {
