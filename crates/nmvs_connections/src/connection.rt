@@ -37,7 +37,7 @@ pub(crate) struct Connection {
     session: PeerSession,
     /// Whether the peer asked nothing for too long.
     was_idle: bool,
-    /// When bytes were moved last, but for those that end neither a header nor a line that was begun.
+    /// When bytes were moved last, but for those that only go on with a header or a line.
     moved: Instant,
     /// Whether the peer ended or broke the connection, so that it is read to its end.
     peer_closed: bool,
@@ -47,7 +47,7 @@ pub(crate) struct Connection {
 }
 
 impl Connection {
-    /// A connection, which begins with a gateway's header where that has this name.
+    /// A connection, which begins with a gateway's header if `proxy` says whose name that has.
     ///
     /// # Errors
     ///
@@ -73,7 +73,7 @@ impl Connection {
         })
     }
 
-    /// Has a poll report the connection under the key.
+    /// Registers the connection with a poll, under the key.
     pub(crate) fn register(&mut self, registry: &Registry, key: usize) -> io::Result<()> {
         self.session.register(registry, key)
     }
@@ -83,12 +83,12 @@ impl Connection {
         self.peer_closed = true;
     }
 
-    /// Whether a line of it was served.
+    /// Whether one of its lines was served.
     pub(crate) fn is_served(&self) -> bool {
         self.session.is_served()
     }
 
-    /// Why the connection ends, where it does so now, as the log tells it.
+    /// The reason that the log gives if the connection ends now.
     pub(crate) fn reason(&self) -> &'static str {
         if self.session.awaited_header().is_some() {
             return "header";
@@ -110,7 +110,7 @@ impl Connection {
         self.stopped = true;
     }
 
-    /// Sends what is unsent; then takes the lines of what one read gives, or takes a step towards the end.
+    /// Sends the unsent bytes. Then it takes the lines of one read, or a step towards the end.
     pub(crate) fn take_turn<'a, R: Wait, D: Desk<'a>>(
         &mut self,
         rt: &R,
@@ -132,7 +132,7 @@ impl Connection {
         self.step(rt, pool, scratch, withheld, desk)
     }
 
-    /// Takes the lines of what one read gives, or takes a step towards the end.
+    /// Takes the lines of one read, or a step towards the end.
     #[tactic(auto, using(crate::proofs::ConnectionLemmas::steps_idle, crate::proofs::ConnectionLemmas::steps_awaiting))]
     fn step<'a, R: Wait, D: Desk<'a>>(
         &mut self,
@@ -169,7 +169,7 @@ impl Connection {
         next
     }
 
-    /// Reads on in the header of a gateway. When the service ends, it is not waited for.
+    /// Reads more of a gateway's header. If the service was stopped, the connection is closed.
     fn read_header(&mut self, name_of: NameOf, scratch: &mut Scratch) -> Next
         requires awaited { self.old.session.peer ≡ None }
         requires proxy { self.old.session.proxy ≡ Some name_of }
@@ -187,7 +187,7 @@ impl Connection {
         next
     }
 
-    /// Tells the peer that no more is written.
+    /// Shuts down the write side, after a notice if the peer was idle.
     fn shutdown_write(&mut self, now: Instant) -> Next
         requires { self.old.session.stage ≡ stages.Ending }
         ensures session { self.new.session.session ≡ self.old.session.session }
@@ -211,7 +211,7 @@ impl Connection {
         }
     }
 
-    /// Sends as much of what is unsent as the system takes.
+    /// Sends as many of the unsent bytes as the system takes.
     fn send(&mut self, now: Instant) -> Next
         ensures kept { Kept self.old.session.session self.new.session.session }
         ensures peer { self.new.session.peer ≡ self.old.session.peer }
@@ -230,7 +230,7 @@ impl Connection {
         }
     }
 
-    /// Tells its part of the answers that are released, and sends the replies. More may be there to be read at once.
+    /// Turns its part of the released answers into replies, and sends them. More may be there to be read at once.
     pub(crate) fn tell(&mut self, scratch: &mut Scratch, released: &Released<'_, '_>) -> Next
         ensures tells { TellsOwn released.now self.old.session.session self.new.session.session }
         ensures peer { self.new.session.peer ≡ self.old.session.peer }
@@ -252,7 +252,7 @@ impl Connection {
         }
     }
 
-    /// What becomes of the connection by the time that has passed.
+    /// The next step of the connection by the time that has passed.
     pub(crate) fn check_timeouts(&mut self, now: Instant, idle: Option<Duration>) -> Next {
         let age = now.duration_since(self.moved);
         let stage = self.session.stage();

@@ -21,7 +21,7 @@ use std::sync::Wait;
 use std::time::{Duration, Instant};
 use std::{io, mem};
 
-/// How many seconds behind each other a worker looks for connections that waited too long (own).
+/// Seconds from one search of a worker for connections that waited too long to the next (own).
 const TICK: u64 = 1;
 
 /// Serves the connections that are accepted for the worker of this number, until the pool is closed and each session has ended.
@@ -51,9 +51,9 @@ struct EventLoop {
     connections: Slab<Connection>,
     turns: Vec<usize>,
     later: Vec<usize>,
-    /// Whose answers wait for the release.
+    /// The keys of the connections whose answers wait for the release.
     awaiting: Vec<usize>,
-    /// When those were looked for last that waited too long.
+    /// When the worker last looked for connections that waited too long.
     looked: Instant,
     /// Whether no more sessions begin.
     closing: bool,
@@ -109,7 +109,7 @@ impl EventLoop {
         }
     }
 
-    /// Notes what the system reports, and tells whether the worker was woken.
+    /// Notes the system's reports. The result is whether the worker was woken.
     fn note_all(&mut self, events: &Events) -> bool {
         let mut woken = false;
         for event in events {
@@ -132,7 +132,7 @@ impl EventLoop {
         self.queue(key);
     }
 
-    /// Has the turn of a connection come, where it does not yet.
+    /// Queues a connection for its turn, if it is not queued yet.
     fn queue(&mut self, key: usize) {
         let Some(connection) = self.connections.get_mut(key) else {
             return;
@@ -180,7 +180,7 @@ impl EventLoop {
         }
     }
 
-    /// Learns whether the service ends.
+    /// Checks whether the service ends.
     fn check_shutdown<R: Wait + Log>(&mut self, rt: &R, pool: &WorkerPool<'_>) {
         if !pool.is_closing(rt) {
             return;
@@ -205,8 +205,8 @@ impl EventLoop {
         }
     }
 
-    /// Gives each connection whose turn it is its turn. The answers of all of them are released together, as far as the
-    /// list of them has room and none shows a list.
+    /// Gives each queued connection its turn. Their answers are released together, unless the list of them is full or an
+    /// answer may be long.
     fn take_turns<'a, R: Wait + Log, D: Desk<'a>>(
         &mut self,
         rt: &R,
@@ -233,7 +233,7 @@ impl EventLoop {
         mem::swap(&mut self.turns, &mut self.later);
     }
 
-    /// Gives a connection its turn, and tells whether what is withheld is released before another has its own.
+    /// Gives a connection its turn. The result is whether the withheld answers are released before the next turn.
     fn take_turn<'a, R: Wait + Log, D: Desk<'a>>(
         &mut self,
         rt: &R,
@@ -254,7 +254,7 @@ impl EventLoop {
         next == Next::ReleaseNow
     }
 
-    /// Does with a connection what becomes of it behind its turn.
+    /// Takes the next step of a connection after its turn.
     fn dispatch<R: Wait + Log>(&mut self, rt: &R, pool: &WorkerPool<'_>, key: usize, next: Next)
         ensures asks { WaitsForRelease next → (connection : TheConnection) → get self.new.connections key ≡ Some connection → Contains self.new.awaiting.items key }
         ensures still { (other : ℕ) → Contains self.old.awaiting.items other → Contains self.new.awaiting.items other }
@@ -266,8 +266,8 @@ impl EventLoop {
         }
     }
 
-    /// Has the desk release what is withheld, once for all connections that wait for it, and each of them tell its own.
-    /// Where nothing is withheld the desk is not asked.
+    /// The desk releases the withheld answers, once for all connections that wait for them, and each connection sends its own.
+    /// If nothing is withheld, the desk is not asked.
     fn tell_all<'a, R: Wait + Log, D: Desk<'a>>(
         &mut self,
         rt: &R,
@@ -290,7 +290,7 @@ impl EventLoop {
         withheld.clear();
     }
 
-    /// Has each connection that waits for it tell its own of what was released.
+    /// Each connection that waits sends its own of the released answers.
     fn tell_each<R: Wait + Log>(
         &mut self,
         rt: &R,
@@ -306,7 +306,7 @@ impl EventLoop {
         }
     }
 
-    /// Has a connection tell its own of what was released.
+    /// A connection sends its own of the released answers.
     fn tell<R: Wait + Log>(
         &mut self,
         rt: &R,
@@ -325,7 +325,7 @@ impl EventLoop {
         self.go_on(rt, pool, key, next);
     }
 
-    /// Does with a connection what becomes of it where it waits for no release.
+    /// Takes the next step of a connection that waits for no release.
     fn go_on<R: Wait + Log>(&mut self, rt: &R, pool: &WorkerPool<'_>, key: usize, next: Next)
         ensures awaiting { self.new.awaiting ≡ self.old.awaiting }
         ensures connections { EachGoes (λ key state state'. state' ≡ state) self.old.connections self.new.connections }
@@ -337,7 +337,7 @@ impl EventLoop {
         }
     }
 
-    /// Notes that a connection waits for the release. Where it can't be noted, it is closed.
+    /// Notes that a connection waits for the release. If there is no room for the note, it is closed.
     fn note_awaiting<R: Wait + Log>(&mut self, rt: &R, pool: &WorkerPool<'_>, key: usize)
         ensures asks { (connection : TheConnection) → get self.new.connections key ≡ Some connection → self.new.awaiting.items ≡ self.old.awaiting.items ++ key ∷ [] }
         ensures still { (other : ℕ) → Contains self.old.awaiting.items other → Contains self.new.awaiting.items other }
@@ -370,7 +370,7 @@ impl EventLoop {
         }
     }
 
-    /// Tells in the log that a connection ends, and why.
+    /// Logs that a connection ends, and why.
     fn log_end<R: Log>(&self, rt: &R, key: usize) {
         if let Some(connection) = self.connections.get(key) {
             let reason = connection.reason();
@@ -378,7 +378,7 @@ impl EventLoop {
         }
     }
 
-    /// Looks for connections that waited too long, where it is time to.
+    /// Looks for connections that waited too long, if a tick has passed.
     fn check_timeouts<R: Wait + Log>(&mut self, rt: &R, pool: &WorkerPool<'_>, now: Instant) {
         if now.duration_since(self.looked).as_secs() < TICK {
             return;

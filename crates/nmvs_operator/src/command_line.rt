@@ -1,4 +1,4 @@
-//! The options that a command line may have, and what its help says of them.
+//! The options that a command line may have, and their help.
 use crate::options::{
     MOST_CONNECTIONS, MOST_IDLE, MOST_RATE, MOST_SESSIONS, MOST_SHARDS, MOST_WORKERS,
 };
@@ -26,7 +26,7 @@ struct Described {
     help: &'static str,
 }
 
-/// What an option takes.
+/// The value that an option takes.
 #[derive(Clone, Copy)]
 enum Value {
     /// Nothing: the option is a flag.
