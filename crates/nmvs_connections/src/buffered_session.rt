@@ -92,6 +92,13 @@ impl BufferedSession {
         self.waiting
     }
 
+    /// The memory of its replies, in bytes. Room that is not used counts.
+    pub fn memory(&self) -> usize
+        ensures { length self.now.unsent ≤ result }
+    {
+        self.replies.bytes.capacity()
+    }
+
     /// Takes the lines that these bytes complete, as [`Session::take`] does, and tells how many of the bytes it took. Their
     /// answers are put behind those that are withheld, and it waits for them to be released.
     pub fn take<'a, D: Desk<'a>>(

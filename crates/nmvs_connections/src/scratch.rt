@@ -14,6 +14,8 @@ pub(crate) struct Scratch {
     pub(crate) now: Instant,
     pub(crate) buffer: [u8; READ_SIZE],
     pub(crate) room: Vec<u8>,
+    /// Whether a list or a report was given in the turn. No second is: others are not to wait for it.
+    pub(crate) listed: bool,
 }
 
 impl Scratch {
@@ -23,6 +25,7 @@ impl Scratch {
             now,
             buffer: [0; READ_SIZE],
             room: Vec::new(alloc),
+            listed: false,
         }
     }
 

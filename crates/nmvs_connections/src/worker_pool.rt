@@ -1,4 +1,6 @@
 //! What the threads of a server share.
+ghost use Rattle.std.specs.Prelude.{◌≡◌};
+
 use crate::socket::Socket;
 use mio::{Events, Poll, Token, Waker};
 use nmvs_messages::NameOf;
@@ -24,6 +26,8 @@ const ACCEPTOR_EVENTS: usize = 3;
 pub struct Bounds {
     /// The most connections that are open at once.
     pub connections: usize,
+    /// How many bytes the buffers of all connections may take.
+    pub memory: usize,
     /// How long a connection may send nothing, where it may not for ever.
     pub idle: Option<Duration>,
     /// Whose name the gateway's header has that each connection begins with, where it begins with one.
@@ -118,6 +122,8 @@ impl Inbox {
 #[derive(Drop)]
 pub struct WorkerPool<'p> {
     bounds: Bounds,
+    /// How many bytes the buffers of a worker's connections may take.
+    memory: usize,
     metrics: &'p Metrics,
     counts: Mutex<Counts>,
     inboxes: Vec<Inbox>,
@@ -177,6 +183,7 @@ impl<'p> WorkerPool<'p> {
         let waker = acceptor.waker()?;
         Ok(WorkerPool {
             bounds,
+            memory: bounds.memory.checked_div(workers).unwrap_or(0),
             metrics,
             counts: Mutex::new(counts),
             inboxes,
@@ -221,6 +228,13 @@ impl<'p> WorkerPool<'p> {
     /// How long a connection may send nothing.
     pub(crate) fn idle(&self) -> Option<Duration> {
         self.bounds.idle
+    }
+
+    /// How many bytes the buffers of a worker's connections may take.
+    pub(crate) fn memory(&self) -> usize
+        ensures { result ≡ self.now.memory }
+    {
+        self.memory
     }
 
     /// Whose name the header has that a connection begins with, where it does.

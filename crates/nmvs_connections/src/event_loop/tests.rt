@@ -62,9 +62,13 @@ impl<'a> Desk<'a> for Counting {
     }
 }
 
+/// How many bytes the buffers of connections may take: more than one has for the replies to a read, and fewer than two.
+const MEMORY: usize = 1 << 16;
+
 const fn bounds(proxy: Option<NameOf>) -> Bounds {
     Bounds {
         connections: 2,
+        memory: MEMORY,
         idle: None,
         proxy,
         sessions: u64::MAX,
@@ -127,6 +131,30 @@ fn connections_of_a_turn_share_one_release(rt: HostRuntime) -> Result<(), Fail> 
     assert_eq!(rt; (desk.releases, desk.answers), (1, 3));
     assert!(rt; is_told(&mut one, b"FAULT RATE\nFAULT FIELDS\n")?);
     assert!(rt; is_told(&mut other, b"FAULT FIELDS\n")?);
+    Ok(())
+}
+
+/// Of two connections that read nothing, the replies of one have room.
+#[test]
+fn a_connection_is_closed_for_the_memory_of_all(rt: HostRuntime) -> Result<(), Fail> {
+    let alloc = rt.alloc();
+    let metrics = Metrics::new(alloc, 1, 1, false)?;
+    let (pool, _pollers, poller) = WorkerPool::open(&rt, alloc, 1, bounds(None), &metrics)?;
+    let mut scratch = Scratch::new(alloc, Instant::now(&rt)?);
+    let mut event_loop = EventLoop::new(alloc, 0, scratch.now);
+    let mut one = connect(&rt, &mut event_loop, &pool, &poller, &scratch)?;
+    let mut other = connect(&rt, &mut event_loop, &pool, &poller, &scratch)?;
+    let mut withheld = WithheldAnswers::new();
+    let mut desk = counting_desk(Peer::Anyone);
+    for _ in 0..1_000 {
+        let _full = one.write(&[b'\n'; 64]);
+        let _full = other.write(&[b'\n'; 64]);
+        event_loop.queue(0);
+        event_loop.queue(1);
+        event_loop.take_turns(&rt, &pool, &mut scratch, &mut withheld, &mut desk);
+    }
+    assert_eq!(rt; (event_loop.connections.len(), event_loop.evicted), (1, 1));
+    assert!(rt; 0 < event_loop.memory && event_loop.memory <= MEMORY);
     Ok(())
 }
 
