@@ -37,6 +37,7 @@ kind_of key =
     else if bytes_eq key (codes "workers") then Some Number
     else if bytes_eq key (codes "sessions") then Some Number
     else if bytes_eq key (codes "connections") then Some Number
+    else if bytes_eq key (codes "connection-memory") then Some Number
     else if bytes_eq key (codes "idle") then Some Number
     else if bytes_eq key (codes "rate") then Some Number
     else if bytes_eq key (codes "burst") then Some Number

@@ -42,6 +42,7 @@ pub(crate) fn kind_of(key: &str) -> Option<Kind>
         | "workers"
         | "sessions"
         | "connections"
+        | "connection-memory"
         | "idle"
         | "rate"
         | "burst"

@@ -92,6 +92,13 @@ impl BufferedSession {
         self.waiting
     }
 
+    /// The memory of its replies, in bytes. Room that is not used counts.
+    pub fn memory(&self) -> usize
+        ensures { length self.now.unsent ≤ result }
+    {
+        self.replies.bytes.capacity()
+    }
+
     /// Takes the lines that these bytes complete, as [`Session::take`] does, and returns the number of bytes that it took. The
     /// answers to the lines are put after those that are withheld, and the session waits for their release.
     pub fn take<'a, D: Desk<'a>>(

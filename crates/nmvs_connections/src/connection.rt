@@ -1,5 +1,5 @@
 //! One connection of a worker.
-ghost use Rattle.std.specs.Prelude.{◌≡◌, None, Some, IfOk};
+ghost use Rattle.std.specs.Prelude.{◌≡◌, ◌≤◌, ◌+◌, ◌-◌, ◌^◌, None, Some, IfOk, length, min};
 ghost use Rattle.nmvs_connections.specs.declared.peer_session.Stage.TheVariants as stages;
 ghost use Rattle.nmvs_connections.specs.Peers.{IsConnection};
 ghost use Rattle.nmvs_connections.specs.Turns.{ConnectionSteps, Kept, TellsOwn};
@@ -44,6 +44,8 @@ pub(crate) struct Connection {
     stopped: bool,
     /// Whether its turn comes.
     pub(crate) queued: bool,
+    /// The memory of its buffers at the last count, in bytes.
+    pub(crate) memory: usize,
 }
 
 impl Connection {
@@ -70,12 +72,24 @@ impl Connection {
             peer_closed: false,
             stopped: false,
             queued: false,
+            memory: 0,
         })
     }
 
     /// Registers the connection with a poll, under the key.
     pub(crate) fn register(&mut self, registry: &Registry, key: usize) -> io::Result<()> {
         self.session.register(registry, key)
+    }
+
+    /// Counts the memory of its buffers anew. The result is the memory of the buffers of all connections, which was this before.
+    pub(crate) fn count_memory(&mut self, all: usize) -> usize
+        ensures session { self.new.session ≡ self.old.session }
+        ensures own { length self.new.session.session.unsent ≤ self.new.memory }
+        ensures all { result ≡ min ((all - self.old.memory) + self.new.memory) (2 ^ 64 - 1) }
+    {
+        let others = all.saturating_sub(self.memory);
+        self.memory = self.session.memory();
+        others.saturating_add(self.memory)
     }
 
     /// Notes that the peer ended or broke the connection.
@@ -158,8 +172,9 @@ impl Connection {
             return Next::Again;
         }
         let was_pending = self.session.has_pending_line();
-        let buffer = &mut scratch.buffer;
-        let next = self.session.take(rt, pool, buffer, withheld, desk);
+        let (buffer, lists) = (&mut scratch.buffer, !scratch.listed);
+        let next = self.session.take(rt, pool, buffer, lists, withheld, desk);
+        scratch.listed = scratch.listed || withheld.ends_long();
         let goes_on = was_pending && !self.session.is_waiting();
         let begins = !was_pending && self.session.has_pending_line();
         self.note_moved(

@@ -172,6 +172,14 @@ impl LineStream {
         }
     }
 
+    /// The memory of requests and responses, in bytes.
+    pub(crate) fn memory(&self) -> usize {
+        match &self.http {
+            None => 0,
+            Some(http) => http.codec.memory(),
+        }
+    }
+
     /// Whether a request is in hand.
     pub(crate) fn has_request(&self) -> bool {
         match &self.http {

@@ -16,7 +16,7 @@ use crate::proxy_header::{ProxyHeader, read_proxy_header};
 use crate::scratch::Scratch;
 use crate::socket::{Moved, Socket};
 use crate::worker_pool::{Accepted, WorkerPool};
-use memchr::memchr;
+use memchr::{memchr, memmem, memrchr};
 use mio::{Registry, Token};
 use nmvs_messages::{Desk, End, NO_LIMITS, NameOf, Peer, READ_SIZE, Released, WithheldAnswers};
 use std::alloc::{AllocError, Global};
@@ -158,6 +158,14 @@ impl PeerSession {
         self.filled || !self.unread.is_empty()
     }
 
+    /// The memory of its buffers, in bytes: of unsent replies, and of bytes that were read and not taken.
+    pub(crate) fn memory(&self) -> usize
+        ensures { length self.now.session.unsent ≤ result }
+    {
+        let read = self.unread.capacity().saturating_add(self.stream.memory());
+        self.session.memory().saturating_add(read)
+    }
+
     /// Whether all replies were sent.
     pub(crate) fn is_sent(&self) -> bool
         ensures { IsConnection self.now }
@@ -262,12 +270,14 @@ impl PeerSession {
         }
     }
 
-    /// Takes the lines of the unread bytes, or of one read if there are none.
+    /// Takes the lines of the unread bytes, or of one read if there are none. Without `lists` it stops before a line that may ask for
+    /// a list.
     pub(crate) fn take<'a, R: Wait, D: Desk<'a>>(
         &mut self,
         rt: &R,
         pool: &WorkerPool<'_>,
         buffer: &mut [u8],
+        lists: bool,
         withheld: &mut WithheldAnswers<'a>,
         desk: &mut D,
     ) -> Next
@@ -275,7 +285,7 @@ impl PeerSession {
         ensures { ConnectionSteps D.takes desk.old desk.new withheld.old withheld.new result self.old self.new }
     {
         if !self.unread.as_slice().is_empty() {
-            return self.take_unread(withheld, desk);
+            return self.take_unread(lists, withheld, desk);
         }
         let count = match self.stream.read(buffer) {
             Moved::Bytes(count) => count,
@@ -289,8 +299,8 @@ impl PeerSession {
         };
         self.served = served;
         self.filled = count == READ_SIZE || self.stream.is_http();
-        let taken = take_lines(&mut self.session, &self.peer, chunk, withheld, desk);
-        let next = next_of(taken == count, withheld);
+        let taken = take_lines(&mut self.session, &self.peer, chunk, lists, withheld, desk);
+        let next = next_of(taken == count, lists, withheld);
         if is_lost(&mut self.unread, &chunk[taken..]) {
             self.stage = Stage::Ending;
             return next;
@@ -320,19 +330,23 @@ impl PeerSession {
     /// Takes the lines of the unread bytes.
     fn take_unread<'a, D: Desk<'a>>(
         &mut self,
+        lists: bool,
         withheld: &mut WithheldAnswers<'a>,
         desk: &mut D,
     ) -> Next
         requires { self.old.stage ≡ stages.Serving }
         ensures { ConnectionSteps D.takes desk.old desk.new withheld.old withheld.new result self.old self.new }
     {
+        if !lists && before_list(self.unread.as_slice()) == 0 {
+            return Next::Again;
+        }
         self.filled = true;
         let count = self.unread.len();
         let unread = self.unread.as_slice();
-        let taken = take_lines(&mut self.session, &self.peer, unread, withheld, desk);
+        let taken = take_lines(&mut self.session, &self.peer, unread, lists, withheld, desk);
         self.unread.rotate_left(taken);
         self.unread.truncate(count - taken);
-        next_of(taken == count, withheld)
+        next_of(taken == count, lists, withheld)
     }
 
     /// Turns its part of the released answers into replies. If the session has ended, no more lines are answered.
@@ -503,6 +517,7 @@ fn take_lines<'a, D: Desk<'a>>(
     session: &mut BufferedSession,
     peer: &Option<Peer>,
     bytes: &[u8],
+    lists: bool,
     withheld: &mut WithheldAnswers<'a>,
     desk: &mut D,
 ) -> usize
@@ -521,14 +536,44 @@ fn take_lines<'a, D: Desk<'a>>(
     if session.waiting() != 0 {
         return 0;
     }
-    session.take(bytes, withheld, peer, desk)
+    session.take(part_for_now(bytes, lists), withheld, peer, desk)
 }
 
-/// Waits for the release of the answers: at once if the last one may be long, or if bytes were left.
-fn next_of(all: bool, withheld: &WithheldAnswers<'_>) -> Next
+/// All of these bytes, or without `lists` those before the first line that may ask for a list.
+fn part_for_now(bytes: &[u8], lists: bool) -> &[u8]
+    ensures { (count : ℕ) × (count ≤ length bytes.now) × (result.now ≡ take count bytes.now) }
+{
+    let count = if lists {
+        bytes.len()
+    } else {
+        before_list(bytes)
+    };
+    &bytes[..count]
+}
+
+/// The number of bytes before the first line that may ask for a list.
+fn before_list(bytes: &[u8]) -> usize
+    ensures { result ≤ length bytes.now }
+{
+    let most = bytes.len();
+    let audit = memmem::find(bytes, b" AUDIT ").unwrap_or(most);
+    let report = memmem::find(bytes, b" REPORT ").unwrap_or(most);
+    let word = audit.min(report).min(most);
+    if word == most {
+        return most;
+    }
+    match memrchr(b'\n', &bytes[..word]) {
+        Some(line_feed) => line_feed.saturating_add(1).min(word),
+        None => 0,
+    }
+}
+
+/// Waits for the release of the answers: at once if the last one may be long, or if bytes were left without room.
+fn next_of(all: bool, lists: bool, withheld: &WithheldAnswers<'_>) -> Next
     ensures { WaitsForRelease result }
 {
-    if all && !withheld.ends_long() {
+    let has_room = all || (!lists && !withheld.is_full());
+    if has_room && !withheld.ends_long() {
         Next::WaitRelease
     } else {
         Next::ReleaseNow

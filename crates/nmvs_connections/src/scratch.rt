@@ -14,6 +14,8 @@ pub(crate) struct Scratch {
     pub(crate) now: Instant,
     pub(crate) buffer: [u8; READ_SIZE],
     pub(crate) room: Vec<u8>,
+    /// Whether a connection got a list or a report in this turn. None gets a second one, so that others do not wait for it.
+    pub(crate) listed: bool,
 }
 
 impl Scratch {
@@ -23,6 +25,7 @@ impl Scratch {
             now,
             buffer: [0; READ_SIZE],
             room: Vec::new(alloc),
+            listed: false,
         }
     }
 

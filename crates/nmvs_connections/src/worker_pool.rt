@@ -1,4 +1,6 @@
 //! The state that the threads of a server share.
+ghost use Rattle.std.specs.Prelude.{◌≡◌};
+
 use crate::socket::Socket;
 use mio::{Events, Poll, Token, Waker};
 use nmvs_messages::NameOf;
@@ -24,6 +26,8 @@ const ACCEPTOR_EVENTS: usize = 3;
 pub struct Bounds {
     /// The most connections that are open at once.
     pub connections: usize,
+    /// The most bytes that the buffers of all connections take.
+    pub memory: usize,
     /// How long a connection may ask nothing, if there is a limit.
     pub idle: Option<Duration>,
     /// Whether the gateway's header names a user or an authorisation, if each connection begins with one.
@@ -118,6 +122,8 @@ impl Inbox {
 #[derive(Drop)]
 pub struct WorkerPool<'p> {
     bounds: Bounds,
+    /// The most bytes that the buffers of a worker's connections take.
+    memory: usize,
     metrics: &'p Metrics,
     counts: Mutex<Counts>,
     inboxes: Vec<Inbox>,
@@ -177,6 +183,7 @@ impl<'p> WorkerPool<'p> {
         let waker = acceptor.waker()?;
         Ok(WorkerPool {
             bounds,
+            memory: bounds.memory.checked_div(workers).unwrap_or(0),
             metrics,
             counts: Mutex::new(counts),
             inboxes,
@@ -221,6 +228,13 @@ impl<'p> WorkerPool<'p> {
     /// How long a connection may ask nothing, if there is a limit.
     pub(crate) fn idle(&self) -> Option<Duration> {
         self.bounds.idle
+    }
+
+    /// The most bytes that the buffers of a worker's connections take.
+    pub(crate) fn memory(&self) -> usize
+        ensures { result ≡ self.now.memory }
+    {
+        self.memory
     }
 
     /// Whether the gateway's header names a user or an authorisation, if each connection begins with one.

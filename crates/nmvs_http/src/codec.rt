@@ -62,8 +62,8 @@ pub struct HttpCodec {
     alloc: Global,
     stage: CodecStage,
     requests: RequestStream,
-    /// Whether bytes were fed since the last request.
-    begun: bool,
+    /// How many bytes were fed since the last request.
+    pending: usize,
     hand: Option<Hand>,
     /// The replies to the request in hand.
     gathered: Vec<u8>,
@@ -97,7 +97,7 @@ impl HttpCodec {
             alloc,
             stage: CodecStage::Open,
             requests: RequestStream::new(alloc, keys),
-            begun: false,
+            pending: 0,
             hand: None,
             gathered: Vec::new(alloc),
             told: WriteBuffer::new(Vec::new(alloc)),
@@ -122,7 +122,17 @@ impl HttpCodec {
 
     /// Whether bytes came of a request that has not come whole.
     pub fn has_pending_request(&self) -> bool {
-        self.begun
+        self.pending != 0
+    }
+
+    /// The memory that it keeps, in bytes: what came of a request that has not come whole, and the room of replies and responses.
+    pub fn memory(&self) -> usize
+        ensures replies { length self.now.gathered ≤ result }
+        ensures unsent { length self.now.unsent ≤ result }
+    {
+        let room = self.gathered.capacity();
+        let room = room.saturating_add(self.told.bytes.capacity());
+        self.pending.saturating_add(room)
     }
 
     /// Goes on with these bytes. The result is the number that it took: all, if there is memory for them.
@@ -130,7 +140,7 @@ impl HttpCodec {
         ensures within { result ≤ length more.now }
         ensures fed { self.new ≡ record self.old { stream = record self.old.stream { fed = self.old.stream.fed ++ take result more.now } } }
     {
-        self.begun = true;
+        self.pending = self.pending.saturating_add(more.len());
         self.requests.feed(more)
     }
 
@@ -164,7 +174,7 @@ impl HttpCodec {
             Next::Refused(fault) => self.stage = tell_refusal(&mut self.told, fault),
             Next::Lost => self.stage = CodecStage::Lost,
             Next::Request(asked, stays) => {
-                self.begun = false;
+                self.pending = 0;
                 self.hand = Some(Hand::of(asked, stays));
                 return true;
             }

@@ -112,6 +112,12 @@ connections_text f =
     ++ (numbered (codes "nmvs_connections_total") (codes "counter") (codes "Connections that were accepted, by worker.") (codes "worker") f.accepted.items
     ++ single (codes "nmvs_sessions_total") (codes "counter") (codes "Sessions that have begun in which a line is served.") f.sessions)
 
+-- how much memory the buffers of connections take, and how many connections were closed for it
+unfoldable pub memory_text : Snapshot → List ℕ
+memory_text f =
+    numbered (codes "nmvs_connections_memory_bytes") (codes "gauge") (codes "Memory of the buffers of connections, by worker.") (codes "worker") f.memory.items
+    ++ single (codes "nmvs_connections_evicted_total") (codes "counter") (codes "Connections that were closed because the buffers of all took too much memory.") f.evicted
+
 -- the samples of the audit trail
 unfoldable pub trail_text : Snapshot → List ℕ
 trail_text f =
@@ -165,4 +171,4 @@ process_text f =
 -- all metrics
 abbrev pub page : Snapshot → List ℕ
 page f =
-    process_text f ++ (lines_text f ++ (connections_text f ++ (trail_text f ++ log_text f.log)))
+    process_text f ++ (lines_text f ++ (connections_text f ++ (memory_text f ++ (trail_text f ++ log_text f.log))))

@@ -51,6 +51,7 @@ fn append_page(alloc: Global, snapshot: &Snapshot, text: &mut String) -> Result<
     append_process(alloc, snapshot, text)?;
     append_lines(alloc, snapshot, text)?;
     append_connections(alloc, snapshot, text)?;
+    append_memory(alloc, snapshot, text)?;
     append_trail(alloc, snapshot, text)?;
     append_log(alloc, &snapshot.log, text)?;
     Ok(())
@@ -175,6 +176,26 @@ fn append_connections(
         text,
     )?;
     append(single(alloc, sessions, snapshot.sessions), text)?;
+    Ok(())
+}
+
+/// How much memory connections take, and how many were closed for it.
+#[tactic(auto, unfolding(crate::specs::Page::memory_text))]
+fn append_memory(alloc: Global, snapshot: &Snapshot, text: &mut String) -> Result<(), AllocError>
+    ensures { OnOk result (string_bytes text.new ≡ string_bytes text.old ++ specs.memory_text snapshot.now) }
+{
+    let memory = Family {
+        name: "nmvs_connections_memory_bytes",
+        kind: "gauge",
+        help: "Memory of the buffers of connections, by worker.",
+    };
+    let evicted = Family {
+        name: "nmvs_connections_evicted_total",
+        kind: "counter",
+        help: "Connections that were closed because the buffers of all took too much memory.",
+    };
+    append(numbered(alloc, memory, "worker", &snapshot.memory), text)?;
+    append(single(alloc, evicted, snapshot.evicted), text)?;
     Ok(())
 }
 

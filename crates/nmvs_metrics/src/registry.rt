@@ -31,8 +31,13 @@ const ACCEPTED: usize = REPORTS + 1;
 
 const ENDED: usize = ACCEPTED + 1;
 
+const EVICTED: usize = ENDED + 1;
+
+/// How many bytes the buffers of the worker's connections take.
+const MEMORY: usize = EVICTED + 1;
+
 /// How many entries of each shard were confirmed when the worker last released answers that waited for them.
-const CONFIRMED: usize = ENDED + 1;
+const CONFIRMED: usize = MEMORY + 1;
 
 /// The counters of one worker. No other worker writes to them; the thread that accepts counts connections here too.
 #[derive(Drop)]
@@ -327,6 +332,18 @@ impl<'p> WorkerMetrics<'p> {
         self.add(ENDED);
     }
 
+    /// Counts a connection of the worker that was closed because the buffers of all took too much memory.
+    pub fn note_evicted(&self) {
+        self.add(EVICTED);
+    }
+
+    /// Notes how many bytes the buffers of the worker's connections take.
+    pub fn note_memory(&self, bytes: usize) {
+        if let Some(counts) = self.counts {
+            counts.rows.set(MEMORY, bytes as u64);
+        }
+    }
+
     /// Counts one more.
     fn add(&self, place: usize) {
         if let Some(counts) = self.counts {
@@ -377,6 +394,8 @@ impl Metrics {
             open: Vec::new(alloc),
             accepted: Vec::new(alloc),
             sessions: self.sessions.load(Ordering::SeqCst),
+            evicted: self.total(EVICTED),
+            memory: Vec::new(alloc),
             entries: Vec::new(alloc),
             packs: Vec::new(alloc),
             log,
@@ -394,7 +413,8 @@ impl Metrics {
         self.push_alerts(&mut snapshot.alerts)?;
         self.push_faults(&mut snapshot.faults)?;
         self.push_open(&mut snapshot.open)?;
-        self.push_accepted(&mut snapshot.accepted)?;
+        self.push_workers(&mut snapshot.accepted, ACCEPTED)?;
+        self.push_workers(&mut snapshot.memory, MEMORY)?;
         self.push_shards(&mut snapshot.entries, &self.entries)?;
         self.push_shards(&mut snapshot.packs, &self.packs)
     }
@@ -479,12 +499,13 @@ impl Metrics {
         Ok(())
     }
 
-    fn push_accepted(&self, accepted: &mut Vec<Numbered>) -> Result<(), AllocError> {
+    /// Adds what each worker has counted at this place.
+    fn push_workers(&self, numbers: &mut Vec<Numbered>, place: usize) -> Result<(), AllocError> {
         let mut number = 0u64;
         for counts in &self.workers {
-            accepted.push(Numbered {
+            numbers.push(Numbered {
                 number,
-                value: counts.rows.at(ACCEPTED),
+                value: counts.rows.at(place),
             })?;
             number = number.saturating_add(1);
         }

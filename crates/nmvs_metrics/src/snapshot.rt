@@ -78,6 +78,10 @@ pub struct Snapshot {
     pub accepted: Vec<Numbered>,
     /// How many sessions have begun in which a line is served.
     pub sessions: u64,
+    /// How many connections were closed because the buffers of all took too much memory.
+    pub evicted: u64,
+    /// How many bytes the buffers of each worker's connections take.
+    pub memory: Vec<Numbered>,
     /// How many entries the trail of each shard has.
     pub entries: Vec<Numbered>,
     /// How many packs each shard has.

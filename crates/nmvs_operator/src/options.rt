@@ -26,6 +26,9 @@ pub const MOST_SESSIONS: u64 = 1_000_000;
 /// The most connections that are open at once (own).
 pub const MOST_CONNECTIONS: u64 = 100_000;
 
+/// The most memory of the buffers of all connections, in MiB: 1 TiB (own).
+pub const MOST_CONNECTION_MEMORY: u64 = 1_048_576;
+
 /// The longest that a connection may ask nothing, in seconds: a day (own).
 pub const MOST_IDLE: u64 = 86_400;
 
@@ -54,6 +57,8 @@ pub struct Options {
     pub sessions: u64,
     /// How many connections are open at once, 1 to 100,000.
     pub connections: usize,
+    /// The most memory that the buffers of all connections take, in MiB, 1 to 1,048,576.
+    pub connection_memory: u64,
     /// How long a connection may ask nothing, in seconds, 0 to 86,400; 0 is without end.
     pub idle: u64,
     /// How many lines of each user are let through in a second, 0 to 1,000,000; 0 is all.
@@ -137,6 +142,13 @@ fn values_of(alloc: Global, matches: &ArgMatches<'_>) -> Result<Options, OptionF
     let workers = within(alloc, matches, "workers", 1, MOST_WORKERS)? as usize;
     let sessions = within(alloc, matches, "sessions", 0, MOST_SESSIONS)?;
     let connections = within(alloc, matches, "connections", 1, MOST_CONNECTIONS)? as usize;
+    let connection_memory = within(
+        alloc,
+        matches,
+        "connection-memory",
+        1,
+        MOST_CONNECTION_MEMORY,
+    )?;
     let idle = within(alloc, matches, "idle", 0, MOST_IDLE)?;
     let rate = within(alloc, matches, "rate", 0, MOST_RATE)?;
     let burst = burst_of(alloc, matches, rate)?;
@@ -156,6 +168,7 @@ fn values_of(alloc: Global, matches: &ArgMatches<'_>) -> Result<Options, OptionF
         workers,
         sessions,
         connections,
+        connection_memory,
         idle,
         rate,
         burst,

@@ -1,5 +1,5 @@
 //! The threads of a server: workers, and those that accept connections, write the log and carry out commands.
-ghost use Rattle.std.specs.Prelude.{◌≡◌};
+ghost use Rattle.std.specs.Prelude.{◌≡◌, ◌*◌, ◌-◌, ◌^◌, min};
 ghost use Rattle.nmvs_server.specs.Bounds.{sessions_of};
 
 use crate::announcements::{http_at, http_on, listening_at, listening_on};
@@ -27,11 +27,13 @@ use std::time::Duration;
 /// The bounds of the connections of this number of workers.
 pub(crate) fn bounds_of(options: &Options, workers: usize) -> Bounds
     ensures connections { result.connections ≡ options.now.connections }
+    ensures memory { result.memory ≡ min (options.now.connection_memory * 1048576) (2 ^ 64 - 1) }
     ensures proxy { result.proxy ≡ options.now.proxy }
     ensures sessions { result.sessions ≡ sessions_of options.now.sessions workers }
 {
     Bounds {
         connections: options.connections,
+        memory: bytes_of(options.connection_memory),
         idle: match options.idle {
             0 => None,
             seconds => Some(Duration::from_secs(seconds)),
@@ -42,6 +44,13 @@ pub(crate) fn bounds_of(options: &Options, workers: usize) -> Bounds
             sessions => sessions.saturating_mul(workers as u64),
         },
     }
+}
+
+/// This number of MiB, in bytes.
+fn bytes_of(mebibytes: u64) -> usize
+    ensures { result ≡ min (mebibytes * 1048576) (2 ^ 64 - 1) }
+{
+    mebibytes.saturating_mul(1_048_576) as usize
 }
 
 /// Serves the connections of the worker with this number, and returns the clerk. If the worker cannot go on, it ends the
