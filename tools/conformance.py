@@ -2,13 +2,17 @@
 """For vendors: a server with the users of the rehearsal and a pack for each status, over a port of this machine (build first:
 ./nmvs-serve --help). docs/TERMINALS.md lists the packs.
 
-    tools/conformance.py [--port N]    serves terminals that are under test, until the end of standard input
-    tools/conformance.py LINES..       puts the lines of these files, as a terminal wrote them, one after another
+    tools/conformance.py [--port N]           serves terminals that are under test, until the end of standard input
+    tools/conformance.py --http [--port N]    serves terminals that ask over HTTP, one question a request
+    tools/conformance.py LINES..              puts the lines of these files, as a terminal wrote them, one after another
 
-Either prints each line with its reply, and at the end what was not met. It ends with status 1 where a line is none of the
-format, or says what no terminal may say. What the packs are changes with the lines, and is as before at the next start.
+Each prints the lines or requests with their replies, and at the end what was not met. It ends with status 1 where one is none of
+the format, or says what no terminal may say. What the packs are changes with the lines, and is as before at the next start.
 """
 import argparse
+import http.client
+import http.server
+import json
 import pathlib
 import socket
 import subprocess
@@ -19,7 +23,8 @@ from terminal import Terminal
 
 PROGRAM = pathlib.Path(__file__).resolve().parent.parent / "crates/nmvs_serve/out/nmvs_serve"
 # What a terminal wrote wrong; what its person typed wrong.
-FORM, TYPED = ("LONG", "RETURN", "BYTES", "FIELDS", "WORD", "USER"), ("CODE", "SERIAL", "BATCH", "EXPIRY")
+FORM = "LONG RETURN BYTES FIELDS WORD USER JSON KEY SITE PATH METHOD LENGTH BODY TYPE".split()
+TYPED = ("CODE", "SERIAL", "BATCH", "EXPIRY")
 REPLIES = (
     "UPLOADED", "AUTHENTIC", "STATUS", "NOPACK", "DECOMMISSIONED", "HANDED_OVER", "REVERTED", "LOCKED", "STOLEN", "SHOWN", "PRODUCT",
     *(f"ALERT {cause}" for cause in "UNKNOWN RECALLED WITHDRAWN HELD SUPPLIED EXPORTED SAMPLED DESTROYED STOLEN".split()),
@@ -29,13 +34,13 @@ REPLIES = (
 
 
 def start():
-    """The server, and its port."""
-    options = ["--rehearsal", "--port", "0", "--log-level", "warn"]
+    """The server, its port of lines, and that of HTTP."""
+    options = ["--rehearsal", "--port", "0", "--http", "0", "--log-level", "warn"]
     process = subprocess.Popen([PROGRAM, *options], stdin=subprocess.PIPE, stdout=subprocess.PIPE, text=True)
-    told = process.stdout.readline()
-    if not told.startswith("LISTENING "):
+    told = [process.stdout.readline() for _ in range(2)]
+    if not all(line.startswith("LISTENING ") for line in told):
         sys.exit("the server does not listen")
-    return process, int(told.split()[1])
+    return process, *(int(line.split()[-1]) for line in told)
 
 
 def kind(reply):
@@ -46,15 +51,21 @@ def kind(reply):
     return " ".join(words[:2]) if words[0] in ("ALERT", "REFUSED", "FAULT") else words[0]
 
 
+def worded(text):
+    """The words of a reply over HTTP, as the line has them: its members, in their order."""
+    said = json.loads(text)
+    return f"FAULT {said['fault']}" if "fault" in said else " ".join(map(str, said.values()))
+
+
 class Verdict:
     """What the lines of a terminal and their replies say of it."""
 
     def __init__(self):
         self.met, self.well, self.lock = set(), True, threading.Lock()
 
-    def note(self, line, reply):
-        """Prints a line with its reply. HELP is for a person: a terminal has no use for its lines."""
-        told = kind(reply[0])
+    def note(self, line, reply, words=None):
+        """Prints a line with its reply, of these words. HELP is for a person: a terminal has no use for its lines."""
+        told = kind(words or reply[0])
         wrong = told.startswith("NOT") or told in ["HELP", *(f"FAULT {word}" for word in FORM)]
         with self.lock:
             self.well = self.well and not wrong
@@ -107,21 +118,57 @@ def accept(listener, port, verdict):
         threading.Thread(target=relay, args=(connection, port, verdict), daemon=True).start()
 
 
+class Relayed(http.server.BaseHTTPRequestHandler):
+    """Hands each request of a terminal to the server, and its response back."""
+
+    protocol_version = "HTTP/1.1"
+
+    def log_message(self, *_):
+        pass
+
+    def relay(self):
+        body = self.rfile.read(int(self.headers["content-length"] or 0))
+        server = http.client.HTTPConnection("127.0.0.1", self.server.behind)
+        server.putrequest(self.command, self.path, skip_host=True, skip_accept_encoding=True)
+        for name, value in self.headers.items():
+            server.putheader(name, value)
+        server.endheaders(body)
+        response = server.getresponse()
+        text = response.read()
+        if response.headers["content-type"].endswith("json"):
+            said = text.decode()
+            self.server.verdict.note(f"{self.command} {self.path} {body.decode('latin-1')}", [said[:-1]], worded(said))
+        self.send_response_only(response.status)
+        for name, value in response.getheaders():
+            self.send_header(name, value)
+        self.end_headers()
+        self.wfile.write(text)
+
+    do_GET = do_HEAD = do_POST = do_PUT = do_DELETE = relay
+
+
 def main():
     reader = argparse.ArgumentParser(description=__doc__, formatter_class=argparse.RawDescriptionHelpFormatter)
     reader.add_argument("--port", type=int, default=0)
+    reader.add_argument("--http", action="store_true")
     reader.add_argument("lines", nargs="*", type=pathlib.Path)
     given = reader.parse_args()
-    process, port = start()
+    process, port, http_port = start()
     try:
         verdict = Verdict()
         if given.lines:
             # As the terminal wrote them: a line ends with LF alone, so one that ends with CR LF is wrong.
             put(port, [line for path in given.lines for line in path.read_bytes().decode("latin-1").split("\n")[:-1]], verdict)
             return verdict.end()
-        listener = socket.create_server(("127.0.0.1", given.port))
-        print(f"LISTENING {listener.getsockname()[1]}", flush=True)
-        threading.Thread(target=accept, args=(listener, port, verdict), daemon=True).start()
+        if given.http:
+            listener = http.server.ThreadingHTTPServer(("127.0.0.1", given.port), Relayed)
+            listener.behind, listener.verdict = http_port, verdict
+            print(f"LISTENING HTTP {listener.server_port}", flush=True)
+            threading.Thread(target=listener.serve_forever, daemon=True).start()
+        else:
+            listener = socket.create_server(("127.0.0.1", given.port))
+            print(f"LISTENING {listener.getsockname()[1]}", flush=True)
+            threading.Thread(target=accept, args=(listener, port, verdict), daemon=True).start()
         sys.stdin.read()
         return verdict.end()
     finally:
