@@ -35,6 +35,9 @@ pub(crate) enum Place {
     Label,
 }
 
+/// The most bytes that a body has beyond those of the text (own). A report's has more, and so has a batch number that is escaped.
+const ROOM: usize = 128;
+
 /// The first words of lines that are more than words at places.
 const FAULT: &[u8] = b"FAULT";
 
@@ -141,7 +144,7 @@ pub fn problem_of(text: &[u8]) -> Option<Problem>
 pub fn body_of(alloc: Global, text: &[u8]) -> Result<Vec<u8>, AllocError>
     ensures { IfOk result (λ body. body.items ≡ specs.body_text text.now) }
 {
-    let mut body = Vec::new(alloc);
+    let mut body = Vec::with_capacity(alloc, text.len() + ROOM)?;
     push_body(&mut body, text)?;
     Ok(body)
 }
