@@ -7,7 +7,7 @@ ghost use Rattle.nmvs_json.specs.Replies as specs;
 
 use memchr::memchr;
 use nmvs_stream::cut_line;
-use std::alloc::{AllocError, Global};
+use std::alloc::{AllocError, Allocator};
 
 /// Why there is no reply to a question, as the statuses of HTTP part the faults.
 #[derive(Clone, Copy, Debug, PartialEq, Eq)]
@@ -141,7 +141,7 @@ pub fn problem_of(text: &[u8]) -> Option<Problem>
 /// # Errors
 ///
 /// There is no memory for it.
-pub fn body_of(alloc: Global, text: &[u8]) -> Result<Vec<u8>, AllocError>
+pub fn body_of<A: Allocator>(alloc: A, text: &[u8]) -> Result<Vec<u8, A>, AllocError>
     ensures { IfOk result (λ body. body.items ≡ specs.body_text text.now) }
 {
     let mut body = Vec::with_capacity(alloc, text.len() + ROOM)?;
@@ -150,7 +150,7 @@ pub fn body_of(alloc: Global, text: &[u8]) -> Result<Vec<u8>, AllocError>
 }
 
 #[tactic(auto, unfolding(crate::specs::Replies::body_text))]
-fn push_body(body: &mut Vec<u8>, text: &[u8]) -> Result<(), AllocError>
+fn push_body<A: Allocator>(body: &mut Vec<u8, A>, text: &[u8]) -> Result<(), AllocError>
     ensures { OnOk result (body.new.items ≡ body.old.items ++ specs.body_text text.now) }
 {
     let (line, later) = first_line(text);
@@ -230,8 +230,8 @@ fn fault_of(line: &[u8]) -> &[u8]
 }
 
 /// Puts the object of a reply at the end of a body.
-fn push_reply(
-    body: &mut Vec<u8>,
+fn push_reply<A: Allocator>(
+    body: &mut Vec<u8, A>,
     places: &[Place],
     line: &[u8],
     later: &[u8],
@@ -248,7 +248,11 @@ fn push_reply(
 
 /// Puts what the later lines of a reply show at the end of a body.
 #[tactic(auto, unfolding(crate::specs::Replies::later_members))]
-fn push_later(body: &mut Vec<u8>, word: &[u8], later: &[u8]) -> Result<(), AllocError>
+fn push_later<A: Allocator>(
+    body: &mut Vec<u8, A>,
+    word: &[u8],
+    later: &[u8],
+) -> Result<(), AllocError>
     ensures { OnOk result (body.new.items ≡ body.old.items ++ specs.later_members word.now (input_lines later.now)) }
 {
     if word == SHOWN {
@@ -260,7 +264,7 @@ fn push_later(body: &mut Vec<u8>, word: &[u8], later: &[u8]) -> Result<(), Alloc
     Ok(())
 }
 
-fn push_entries(body: &mut Vec<u8>, later: &[u8]) -> Result<(), AllocError>
+fn push_entries<A: Allocator>(body: &mut Vec<u8, A>, later: &[u8]) -> Result<(), AllocError>
     ensures { OnOk result (body.new.items ≡ body.old.items ++ (codes ",\"entries\":[" ++ (specs.separated [] (input_lines later.now) ++ codes "]"))) }
 {
     body.extend_from_slice(b",\"entries\":[")?;
@@ -269,7 +273,7 @@ fn push_entries(body: &mut Vec<u8>, later: &[u8]) -> Result<(), AllocError>
 }
 
 /// Puts lines as they are at the end of a body, with a comma between each two.
-fn push_lines(body: &mut Vec<u8>, lines: &[u8]) -> Result<(), AllocError>
+fn push_lines<A: Allocator>(body: &mut Vec<u8, A>, lines: &[u8]) -> Result<(), AllocError>
     ensures { OnOk result (body.new.items ≡ body.old.items ++ specs.separated [] (input_lines lines.now)) }
 {
     let mut comma: &[u8] = b"";
@@ -283,7 +287,7 @@ fn push_lines(body: &mut Vec<u8>, lines: &[u8]) -> Result<(), AllocError>
     Ok(())
 }
 
-fn push_batches(body: &mut Vec<u8>, later: &[u8]) -> Result<(), AllocError>
+fn push_batches<A: Allocator>(body: &mut Vec<u8, A>, later: &[u8]) -> Result<(), AllocError>
     ensures { OnOk result (body.new.items ≡ body.old.items ++ (codes ",\"batches\":[" ++ (specs.separated [] (specs.batch_objects (input_lines later.now)) ++ codes "]"))) }
 {
     body.extend_from_slice(b",\"batches\":[")?;
@@ -292,7 +296,7 @@ fn push_batches(body: &mut Vec<u8>, later: &[u8]) -> Result<(), AllocError>
 }
 
 /// Puts the batches of a report at the end of a body, with a comma between each two.
-fn push_batch_lines(body: &mut Vec<u8>, lines: &[u8]) -> Result<(), AllocError>
+fn push_batch_lines<A: Allocator>(body: &mut Vec<u8, A>, lines: &[u8]) -> Result<(), AllocError>
     ensures { OnOk result (body.new.items ≡ body.old.items ++ specs.separated [] (specs.batch_objects (input_lines lines.now))) }
 {
     let mut front: &[u8] = b"";
@@ -311,7 +315,7 @@ fn push_batch_lines(body: &mut Vec<u8>, lines: &[u8]) -> Result<(), AllocError>
 }
 
 /// Puts the object of a batch at the end of a body, by the words after `BATCH`.
-fn push_batch(body: &mut Vec<u8>, line: &[u8]) -> Result<(), AllocError>
+fn push_batch<A: Allocator>(body: &mut Vec<u8, A>, line: &[u8]) -> Result<(), AllocError>
     ensures { OnOk result (body.new.items ≡ body.old.items ++ specs.batch_object line.now) }
 {
     let (batch, words) = cut_word(line);
@@ -346,7 +350,11 @@ fn batch_places() -> &'static [Place]
 }
 
 /// Puts the words of a line at the end of a body, each as the member that its place names.
-fn push_members(body: &mut Vec<u8>, places: &[Place], words: &[u8]) -> Result<(), AllocError>
+fn push_members<A: Allocator>(
+    body: &mut Vec<u8, A>,
+    places: &[Place],
+    words: &[u8],
+) -> Result<(), AllocError>
     ensures { OnOk result (body.new.items ≡ body.old.items ++ specs.members (map place_of places.now) words.now) }
 {
     let mut rest = words;
@@ -358,7 +366,11 @@ fn push_members(body: &mut Vec<u8>, places: &[Place], words: &[u8]) -> Result<()
     Ok(())
 }
 
-fn push_member(body: &mut Vec<u8>, place: Place, word: &[u8]) -> Result<(), AllocError>
+fn push_member<A: Allocator>(
+    body: &mut Vec<u8, A>,
+    place: Place,
+    word: &[u8],
+) -> Result<(), AllocError>
     ensures { OnOk result (body.new.items ≡ body.old.items ++ specs.member (place_of place, word.now)) }
 {
     match place {
@@ -375,7 +387,7 @@ fn push_member(body: &mut Vec<u8>, place: Place, word: &[u8]) -> Result<(), Allo
 }
 
 /// Puts the name of a member at the end of a body, with the comma before it and the colon after it.
-fn push_name(body: &mut Vec<u8>, name: &[u8]) -> Result<(), AllocError>
+fn push_name<A: Allocator>(body: &mut Vec<u8, A>, name: &[u8]) -> Result<(), AllocError>
     ensures { OnOk result (body.new.items ≡ body.old.items ++ (codes ",\"" ++ (name.now ++ codes "\":"))) }
 {
     body.extend_from_slice(b",\"")?;
@@ -384,7 +396,7 @@ fn push_name(body: &mut Vec<u8>, name: &[u8]) -> Result<(), AllocError>
 }
 
 /// Puts a string at the end of a body.
-fn push_string(body: &mut Vec<u8>, text: &[u8]) -> Result<(), AllocError>
+fn push_string<A: Allocator>(body: &mut Vec<u8, A>, text: &[u8]) -> Result<(), AllocError>
     ensures { OnOk result (body.new.items ≡ body.old.items ++ specs.quoted text.now) }
 {
     body.extend_from_slice(b"\"")?;
@@ -394,7 +406,7 @@ fn push_string(body: &mut Vec<u8>, text: &[u8]) -> Result<(), AllocError>
     body.extend_from_slice(b"\"")
 }
 
-fn push_escaped(body: &mut Vec<u8>, byte: u8) -> Result<(), AllocError>
+fn push_escaped<A: Allocator>(body: &mut Vec<u8, A>, byte: u8) -> Result<(), AllocError>
     ensures { OnOk result (body.new.items ≡ body.old.items ++ specs.escaped byte) }
 {
     if byte == b'"' || byte == b'\\' {
@@ -404,7 +416,7 @@ fn push_escaped(body: &mut Vec<u8>, byte: u8) -> Result<(), AllocError>
 }
 
 /// Puts the problem that is a fault at the end of a body.
-fn push_problem(body: &mut Vec<u8>, fault: &[u8]) -> Result<(), AllocError>
+fn push_problem<A: Allocator>(body: &mut Vec<u8, A>, fault: &[u8]) -> Result<(), AllocError>
     ensures { OnOk result (body.new.items ≡ body.old.items ++ specs.problem_object fault.now) }
 {
     let problem = problem_named(fault);

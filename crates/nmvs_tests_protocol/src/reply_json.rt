@@ -1,4 +1,5 @@
 //! The JSON of replies: what is expected is written by hand, from the tables of docs/PROTOCOL.md.
+use linked_list_allocator::LocalHeap;
 use nmvs_json::{Problem, body_of, problem_of};
 use std::alloc::Global;
 use std::process::Abort;
@@ -194,5 +195,44 @@ fn what_is_no_answer_is_ended(rt: HostRuntime) {
             is_body(&rt, rt.alloc(), text, Some(Problem::Unknown), body.as_str()),
             "{text}"
         );
+    }
+}
+
+const SHOWN: &str =
+    "SHOWN 2\n[2,1767225600,\"ph1\",\"PHARMACY\",\"PH-1\",\"P1\",[\"VERIFY\",\"09506000134352\",\"SN1\"],[\"NOPACK\"]]\n[2]\n";
+
+const SHOWN_BODY: &str =
+    "{\"reply\":\"SHOWN\",\"number\":2,\"entries\":[[2,1767225600,\"ph1\",\"PHARMACY\",\"PH-1\",\"P1\",[\"VERIFY\",\"09506000134352\",\"SN1\"],[\"NOPACK\"]],[2]]}\n";
+
+/// A report of three batches: its body grows beyond the room that was made for it.
+const REPORT: &str =
+    "PRODUCT 09506000134352 HOLDER - ALERTS 0 FLAGGED 0\nBATCH B1 FREE ACTIVE 0 HELD 0 SUPPLIED 0 EXPORTED 0 SAMPLED 0 DESTROYED 0 STOLEN 0\nBATCH B2 FREE ACTIVE 0 HELD 0 SUPPLIED 0 EXPORTED 0 SAMPLED 0 DESTROYED 0 STOLEN 0\nBATCH B3 FREE ACTIVE 0 HELD 0 SUPPLIED 0 EXPORTED 0 SAMPLED 0 DESTROYED 0 STOLEN 0\nEND\n";
+
+const REPORT_BODY: &str =
+    "{\"reply\":\"PRODUCT\",\"code\":\"09506000134352\",\"holder\":\"-\",\"alerts\":0,\"flagged\":0,\"batches\":[{\"batch\":\"B1\",\"lock\":\"FREE\",\"active\":0,\"held\":0,\"supplied\":0,\"exported\":0,\"sampled\":0,\"destroyed\":0,\"stolen\":0},{\"batch\":\"B2\",\"lock\":\"FREE\",\"active\":0,\"held\":0,\"supplied\":0,\"exported\":0,\"sampled\":0,\"destroyed\":0,\"stolen\":0},{\"batch\":\"B3\",\"lock\":\"FREE\",\"active\":0,\"held\":0,\"supplied\":0,\"exported\":0,\"sampled\":0,\"destroyed\":0,\"stolen\":0}]}\n";
+
+/// Whether a body is composed on a heap of this number of bytes.
+fn is_composed_on(rt: &impl Abort, alloc: Global, bytes: usize, text: &str, body: &str) -> bool {
+    let heap = LocalHeap::new(alloc, bytes).expect(rt, "memory");
+    match body_of(&heap, text.as_bytes()) {
+        Ok(made) => {
+            assert!(rt; made.as_slice() == body.as_bytes());
+            true
+        }
+        Err(_) => false,
+    }
+}
+
+#[test]
+fn each_growth_of_a_body_is_refused_in_turn(rt: HostRuntime) {
+    for &(text, body) in &[(SHOWN, SHOWN_BODY), (REPORT, REPORT_BODY)] {
+        let mut refused = 0usize;
+        for sixteens in 2..200usize {
+            if is_composed_on(&rt, rt.alloc(), sixteens * 16, text, body) {
+                break;
+            }
+            refused = refused.saturating_add(1);
+        }
+        assert!(rt; refused > 10 && refused < 198);
     }
 }

@@ -6,7 +6,7 @@ use Rattle.nmvs_json.proofs.ReplyLemmas.{batch_more, batches_end, no_batches, te
 use Rattle.nmvs_json.proofs.reply.push_batch_lines.Goals as goal
 
 pub returns-then-ne : goal.returns-then-ne
-returns-then-ne c =
+returns-then-ne g c =
     let cut = c.in-Some.ensures in
     let line = c.in-Some.line.now in
     let other : bytes_eq c.cut_word.result.0.now (codes "BATCH") ≡ false = search rules in
@@ -16,7 +16,7 @@ returns-then-ne c =
     c.loop-line.invariant
 
 pub loop-line-preserved : goal.loop-line-preserved
-loop-line-preserved c =
+loop-line-preserved g c =
     let cut = c.in-Some.ensures in
     let line = c.in-Some.line.now in
     let its : bytes_eq c.cut_word.result.0.now (codes "BATCH") ≡ true = search rules in
@@ -28,5 +28,5 @@ loop-line-preserved c =
     c.loop-line.invariant
 
 pub returns : goal.returns
-returns c =
+returns g c =
     texts_put _ c.loop-line.front.now _ _ (ap batch_objects (no_line [] c.loop-line.rest.now c.in_default.ensures.none).0 ∙ no_batches) c.loop-line.invariant

@@ -4,4 +4,4 @@ use Rattle.nmvs_json.specs.Replies.{escaped}
 use Rattle.nmvs_json.proofs.reply.push_string.Given as goal
 
 abbrev pub invariant-loop-byte : goal.invariant-loop-byte
-invariant-loop-byte l = l.body.items ≡ l.initial.body.items ++ flat_map escaped (take l.byte-index l.text)
+invariant-loop-byte g l = l.body.items ≡ l.initial.body.items ++ flat_map escaped (take l.byte-index l.text)
