@@ -110,6 +110,10 @@ pub struct Metrics {
     packs: Counters,
     shards: usize,
     sessions: AtomicU64,
+    enrolled: AtomicU64,
+    suspended: AtomicU64,
+    /// When metrics began to be served, in seconds since 1970, or 0 where no clock gave it.
+    started: AtomicU64,
     clock_steps: AtomicU64,
     log: Option<LogCounts>,
 }
@@ -142,6 +146,9 @@ impl Metrics {
             packs,
             shards,
             sessions: AtomicU64::new(0),
+            enrolled: AtomicU64::new(0),
+            suspended: AtomicU64::new(0),
+            started: AtomicU64::new(0),
             clock_steps: AtomicU64::new(0),
             log,
         })
@@ -196,6 +203,17 @@ impl Metrics {
         for shard in 0..self.shards {
             worker.note_confirmed(shard, self.entries.at(shard));
         }
+    }
+
+    /// Notes how many users are enrolled, and how many suspended.
+    pub fn note_users(&self, enrolled: u64, suspended: u64) {
+        self.enrolled.store(enrolled, Ordering::SeqCst);
+        self.suspended.store(suspended, Ordering::SeqCst);
+    }
+
+    /// Notes that metrics begin to be served, when 1970-01-01 00:00:00 UTC is so long ago.
+    pub(crate) fn note_start(&self, since_1970: Duration) {
+        self.started.store(since_1970.as_secs(), Ordering::SeqCst);
     }
 
     /// Counts a step of the system's clock.
@@ -377,10 +395,12 @@ impl Metrics {
             open: Vec::new(alloc),
             accepted: Vec::new(alloc),
             sessions: self.sessions.load(Ordering::SeqCst),
+            users: Vec::new(alloc),
             entries: Vec::new(alloc),
             packs: Vec::new(alloc),
             log,
             clock_steps: self.clock_steps.load(Ordering::SeqCst),
+            started: self.started(),
             resident,
         };
         self.push_all(&mut snapshot)?;
@@ -395,6 +415,7 @@ impl Metrics {
         self.push_faults(&mut snapshot.faults)?;
         self.push_open(&mut snapshot.open)?;
         self.push_accepted(&mut snapshot.accepted)?;
+        self.push_users(&mut snapshot.users)?;
         self.push_shards(&mut snapshot.entries, &self.entries)?;
         self.push_shards(&mut snapshot.packs, &self.packs)
     }
@@ -489,6 +510,24 @@ impl Metrics {
             number = number.saturating_add(1);
         }
         Ok(())
+    }
+
+    fn push_users(&self, users: &mut Vec<Counted>) -> Result<(), AllocError> {
+        for (word, state) in [("enrolled", &self.enrolled), ("suspended", &self.suspended)] {
+            users.push(Counted {
+                word,
+                count: state.load(Ordering::SeqCst),
+            })?;
+        }
+        Ok(())
+    }
+
+    /// When metrics began to be served, in seconds since 1970, where a clock gave it.
+    fn started(&self) -> Option<u64> {
+        match self.started.load(Ordering::SeqCst) {
+            0 => None,
+            seconds => Some(seconds),
+        }
     }
 
     /// Adds what is counted of each shard.

@@ -78,6 +78,8 @@ pub struct Snapshot {
     pub accepted: Vec<Numbered>,
     /// How many sessions have begun in which a line is served.
     pub sessions: u64,
+    /// How many users there are, by how they stand.
+    pub users: Vec<Counted>,
     /// How many entries the trail of each shard has.
     pub entries: Vec<Numbered>,
     /// How many packs each shard has.
@@ -86,6 +88,8 @@ pub struct Snapshot {
     pub log: Option<LogSnapshot>,
     /// How often the system's clock was set.
     pub clock_steps: u64,
+    /// When it began to serve metrics, in seconds since 1970-01-01 00:00:00 UTC, where a clock gave it.
+    pub started: Option<u64>,
     /// How many bytes of memory the process has, where the system reports it.
     pub resident: Option<u64>,
 }
