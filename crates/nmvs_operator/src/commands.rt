@@ -1,5 +1,5 @@
 //! The operator's orders, carried out.
-ghost use Rattle.std.specs.Prelude.{◌≡◌, ◌≢◌, ◌⊎◌, ◌<◌, ◌++◌, ◌∷◌, [], ℕ, List, length, OnOk, OnErr, IfOk, IfErr, IfSome, IfNone, MatchBool, MatchResult, Ok, Err, codes, string_bytes};
+ghost use Rattle.std.specs.Prelude.{◌≡◌, ◌≢◌, ◌⊎◌, ◌<◌, ◌++◌, ◌∷◌, [], ℕ, List, length, OnOk, OnErr, IfOk, IfErr, IfSome, IfNone, MatchBool, MatchResult, Some, Ok, Err, codes, string_bytes};
 ghost use Rattle.std.specs.Result.{result_err};
 ghost use Rattle.nmvs_directory.specs.Changes.{pending_changes, KeepsEntered, IsFull};
 ghost use Rattle.nmvs_directory.specs.Registrar.{register_of, published, pending};
@@ -17,7 +17,7 @@ ghost use Rattle.nmvs_operator.specs.Progress.{AnsweredOrders, StoppedIn, Carrie
 
 use crate::figures::figures_text;
 use crate::reload::reload;
-use crate::roll::users_text;
+use crate::roll::{count_users, users_text};
 use crate::{Deed, Latest, ObeyFault, Order, Service, ServiceFault, Topic, read_order};
 use nmvs_directory::{Changes, Naming, Notice, Registrar};
 use nmvs_messages::{Command, CommandFault, PendingLine};
@@ -213,7 +213,7 @@ fn carry_out<'r, J: Naming, R: Wait, A: Allocator, S: Service>(
     perform(order, service).map_err(ObeyFault::Undone)?;
     if let Order::Change(command) = order {
         match publish(*command, registrar) {
-            Ok(notice) => latest.show(notice),
+            Ok(notice) => show(notice, registrar, latest, service),
             Err(AllocError) => return Err(ObeyFault::Memory),
         }
     }
@@ -247,6 +247,19 @@ fn publish<J: Naming, R: Wait + Drop, A: Allocator>(
 {
     add(&mut registrar.changes, command)?;
     registrar.publish()
+}
+
+/// Shows the notice of what is published now, and has the server note how many users there are.
+pub(crate) fn show<'r, J: Naming, R: Wait, A: Allocator, S: Service>(
+    notice: Notice<J>,
+    registrar: &Registrar<J, &'r R, A>,
+    latest: &mut Latest<'_, J, R>,
+    service: &S,
+)
+    ensures { latest.new ≡ Some notice }
+{
+    latest.show(notice);
+    service.note_users(count_users(registrar));
 }
 
 /// Adds the change of a command to those that are pending.

@@ -8,7 +8,7 @@ ghost use Rattle.nmvs_operator.specs.Users.{AddsAll, AddsFirst};
 ghost use Rattle.nmvs_operator.specs.UsersFaults.{faults_from};
 ghost use Rattle.nmvs_operator.specs.Commands.{office, ways, Obeys, Refuses, Said, AnswersOrder, answer_text, is_stop, Tries};
 
-use crate::commands::{DONE, fault_text, tell};
+use crate::commands::{DONE, fault_text, show, tell};
 use crate::users::add_all;
 use crate::users_check::faults_text;
 use crate::{Deed, Latest, ObeyFault, Service};
@@ -92,7 +92,7 @@ fn take_users<'r, J: Naming, R: Wait, A: Allocator, S: Service>(
     }
     match publish_all(bytes, registrar) {
         Ok(notice) => {
-            latest.show(notice);
+            show(notice, registrar, latest, service);
             Ok(())
         }
         Err(AllocError) => Err(ObeyFault::Memory),

@@ -6,7 +6,7 @@ ghost use Rattle.nmvs_operator.specs.declared.figures.Topic.{Topic as TheTopic};
 ghost use Rattle.nmvs_operator.specs.declared.service.Deed.{Deed as TheDeed};
 ghost use Rattle.nmvs_operator.specs.declared.service.ServiceFault.{ServiceFault as TheFault};
 
-use crate::{Figure, Topic};
+use crate::{Figure, Topic, UserCounts};
 use nmvs_messages::Command;
 use std::alloc::{AllocError, Global};
 use thiserror::Error;
@@ -55,6 +55,9 @@ pub trait Service {
 
     /// The bytes of the users file, as it is now.
     fn read_users(&self, alloc: Global) -> Result<Vec<u8>, ServiceFault>;
+
+    /// Notes how many users there are, once a change of them is published.
+    fn note_users(&self, counts: UserCounts);
 
     /// Counts what an order asks numbers about.
     ///

@@ -9,7 +9,7 @@ use nmvs_history::Histories;
 use nmvs_identifier::Name;
 use nmvs_messages::{Desk, NameOf, Peer, SESSION_LIMITS};
 use nmvs_metrics::Metrics;
-use nmvs_operator::{Deed, Figure, Latest, Service, ServiceFault, Topic, obey_all};
+use nmvs_operator::{Deed, Figure, Latest, Service, ServiceFault, Topic, UserCounts, obey_all};
 use nmvs_protocol::serve;
 use nmvs_rate::{Rate, SharedLimiter};
 use nmvs_reception::{Alerts, ClerkDesk, Clock, Opened};
@@ -143,6 +143,8 @@ impl Service for Willing {
     fn read_users(&self, _alloc: Global) -> Result<Vec<u8>, ServiceFault> {
         Err(ServiceFault::NoFile)
     }
+
+    fn note_users(&self, _counts: UserCounts) {}
 
     fn count(&self, alloc: Global, _topic: Topic) -> Result<Vec<Figure>, AllocError> {
         Ok(Vec::new(alloc))
