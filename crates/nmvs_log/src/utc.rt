@@ -8,7 +8,7 @@ use std::fmt::{Display, Formatter};
 /// A moment, in seconds since 1970-01-01 00:00:00 UTC: it shows as `2026-11-27T10:00:00Z` (ISO 8601), or as `-` where it has no
 /// date.
 #[derive(Clone, Copy)]
-pub struct Utc(pub u64);
+pub struct Utc(pub i64);
 
 impl Display for Utc {
     fn fmt<W: fmt::Write>(&self, f: &mut Formatter<W>) -> fmt::Result {
@@ -20,8 +20,7 @@ impl Display for Utc {
 }
 
 /// Date and time of day of this many seconds since 1970, in UTC.
-pub(crate) fn civil(seconds: u64) -> Option<DateTime> {
-    let seconds = i64::try_from(seconds).ok()?;
+pub(crate) fn civil(seconds: i64) -> Option<DateTime> {
     let moment = Timestamp::from_second(seconds).ok()?;
     Some(Offset::UTC.to_datetime(moment))
 }

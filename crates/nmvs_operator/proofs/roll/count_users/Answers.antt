@@ -1,4 +1,4 @@
-use Rattle.std.proofs.Common.{◌≡◌, ◌+◌, ℕ, ap₂, sym, ◌∙◌, arith}
+use Rattle.std.proofs.Common.{◌+◌, ℕ, ap₂, sym, ◌∙◌, arith}
 use Rattle.nmvs_directory.specs.Registrar.{published}
 use Rattle.nmvs_directory.specs.Users.{users_of}
 use Rattle.nmvs_operator.specs.Roll.{is_enrolled, is_suspended}
