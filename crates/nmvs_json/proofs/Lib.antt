@@ -1,0 +1,2 @@
+pub mod UniqueKeys
+pub mod Bodies
