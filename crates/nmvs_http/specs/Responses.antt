@@ -2,13 +2,16 @@
 use Rattle.std.specs.Prelude.{ℕ, Bool, true, false, List, [], ◌++◌, length, codes, if◌then◌else◌}
 use Rattle.std.specs.Fmt.{decimal}
 use Rattle.nmvs_http.specs.declared.asked.Asks.{Asks}
-use Rattle.nmvs_http.specs.declared.asked.Asks.TheVariants.{Lines, Health, Refused}
+use Rattle.nmvs_http.specs.declared.asked.Asks.TheVariants.{Lines, Question, Health, Refused}
 use Rattle.nmvs_http.specs.declared.fault.Fault.{Fault}
 use Rattle.nmvs_http.specs.declared.fault.Fault.TheVariants as faults
 
 -- the status of a fault (RFC 9110, section 15)
 abbrev pub status : Fault → List ℕ
 status faults.Request = codes "400 Bad Request"
+status faults.Key = codes "400 Bad Request"
+status faults.Json = codes "400 Bad Request"
+status faults.Fields = codes "400 Bad Request"
 status faults.Site = codes "403 Forbidden"
 status faults.Path = codes "404 Not Found"
 status faults.MethodOfLines = codes "405 Method Not Allowed\r\nallow: POST"
@@ -25,6 +28,9 @@ status faults.Busy = codes "503 Service Unavailable"
 -- the problem that a fault is told as: nothing is recorded (RFC 9457)
 unfoldable pub problem : Fault → List ℕ
 problem faults.Request = codes "{\"type\":\"about:blank\",\"title\":\"Bad Request\",\"status\":400,\"fault\":\"REQUEST\",\"recorded\":\"no\"}\n"
+problem faults.Key = codes "{\"type\":\"about:blank\",\"title\":\"Bad Request\",\"status\":400,\"fault\":\"KEY\",\"recorded\":\"no\"}\n"
+problem faults.Json = codes "{\"type\":\"about:blank\",\"title\":\"Bad Request\",\"status\":400,\"fault\":\"JSON\",\"recorded\":\"no\"}\n"
+problem faults.Fields = codes "{\"type\":\"about:blank\",\"title\":\"Bad Request\",\"status\":400,\"fault\":\"FIELDS\",\"recorded\":\"no\"}\n"
 problem faults.Site = codes "{\"type\":\"about:blank\",\"title\":\"Forbidden\",\"status\":403,\"fault\":\"SITE\",\"recorded\":\"no\"}\n"
 problem faults.Path = codes "{\"type\":\"about:blank\",\"title\":\"Not Found\",\"status\":404,\"fault\":\"PATH\",\"recorded\":\"no\"}\n"
 problem faults.MethodOfLines = codes "{\"type\":\"about:blank\",\"title\":\"Method Not Allowed\",\"status\":405,\"fault\":\"METHOD\",\"recorded\":\"no\"}\n"
@@ -41,18 +47,21 @@ problem faults.Busy = codes "{\"type\":\"about:blank\",\"title\":\"Service Unava
 -- the status of the response to what was asked: 200 exactly where it is not refused
 abbrev pub status_of : Asks → List ℕ
 status_of Lines = codes "200 OK"
+status_of Question = codes "200 OK"
 status_of Health = codes "200 OK"
 status_of (Refused fault) = status fault
 
 -- the type of its body
 abbrev pub type_of : Asks → List ℕ
 type_of Lines = codes "application/vnd.nmvs.lines"
+type_of Question = codes "text/plain"
 type_of Health = codes "text/plain; charset=utf-8"
 type_of (Refused fault) = codes "application/problem+json"
 
 -- its body: the replies to lines, word for word
 abbrev pub body_text : Asks → List ℕ → List ℕ
 body_text Lines replies = replies
+body_text Question replies = replies
 body_text Health replies = codes "ok\n"
 body_text (Refused fault) replies = problem fault
 

@@ -55,7 +55,7 @@ fn body_of(asks: Asks, replies: &[u8]) -> &[u8]
     ensures { result.now ≡ specs.body_text asks replies.now }
 {
     match asks {
-        Asks::Lines => replies,
+        Asks::Lines | Asks::Question => replies,
         Asks::Health => b"ok\n",
         Asks::Refused(fault) => problem(fault),
     }
@@ -69,6 +69,8 @@ fn front_of(asks: Asks) -> &'static [u8]
     match asks {
         Asks::Lines =>
             b"HTTP/1.1 200 OK\r\ncontent-type: application/vnd.nmvs.lines\r\ncache-control: no-store\r\n",
+        Asks::Question =>
+            b"HTTP/1.1 200 OK\r\ncontent-type: text/plain\r\ncache-control: no-store\r\n",
         Asks::Health =>
             b"HTTP/1.1 200 OK\r\ncontent-type: text/plain; charset=utf-8\r\ncache-control: no-store\r\n",
         Asks::Refused(fault) => front_of_fault(fault),
@@ -91,7 +93,7 @@ fn front_of_fault(fault: Fault) -> &'static [u8]
     ensures { result.now ≡ specs.front_text (Asks.Refused fault) }
 {
     match fault {
-        Fault::Request =>
+        Fault::Request | Fault::Key | Fault::Json | Fault::Fields =>
             b"HTTP/1.1 400 Bad Request\r\ncontent-type: application/problem+json\r\ncache-control: no-store\r\n",
         Fault::Site =>
             b"HTTP/1.1 403 Forbidden\r\ncontent-type: application/problem+json\r\ncache-control: no-store\r\n",
@@ -128,6 +130,12 @@ fn problem(fault: Fault) -> &'static [u8]
     match fault {
         Fault::Request =>
             b"{\"type\":\"about:blank\",\"title\":\"Bad Request\",\"status\":400,\"fault\":\"REQUEST\",\"recorded\":\"no\"}\n",
+        Fault::Key =>
+            b"{\"type\":\"about:blank\",\"title\":\"Bad Request\",\"status\":400,\"fault\":\"KEY\",\"recorded\":\"no\"}\n",
+        Fault::Json =>
+            b"{\"type\":\"about:blank\",\"title\":\"Bad Request\",\"status\":400,\"fault\":\"JSON\",\"recorded\":\"no\"}\n",
+        Fault::Fields =>
+            b"{\"type\":\"about:blank\",\"title\":\"Bad Request\",\"status\":400,\"fault\":\"FIELDS\",\"recorded\":\"no\"}\n",
         Fault::Site =>
             b"{\"type\":\"about:blank\",\"title\":\"Forbidden\",\"status\":403,\"fault\":\"SITE\",\"recorded\":\"no\"}\n",
         Fault::Path =>
