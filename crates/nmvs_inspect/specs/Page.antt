@@ -16,7 +16,6 @@ use Rattle.nmvs_inspect.specs.declared.by.By.{By}
 use Rattle.nmvs_inspect.specs.declared.by.By.TheVariants as by
 use Rattle.nmvs_inspect.specs.declared.filter.Filter.{Filter}
 use Rattle.nmvs_inspect.specs.declared.form.Form.TheVariants as form
-use Rattle.nmvs_inspect.specs.declared.page.TheConstants.{HEAD, FOOT}
 use Rattle.nmvs_inspect.specs.Filter.{every}
 use Rattle.nmvs_inspect.specs.Groups.{Group, group_row, groups_of}
 use Rattle.nmvs_inspect.specs.Html.{escaped, html_row}
@@ -86,9 +85,72 @@ alerts_head =
     ++ table_head (codes "Moment" ∷ codes "User" ∷ codes "Authorisation" ∷ codes "Premises" ∷ codes "Question" ∷ codes "Product code"
     ∷ codes "Serial number" ∷ codes "Reply" ∷ codes "Role" ∷ codes "Batch" ∷ []) []
 
+-- lines, each with its end
+abbrev pub lines_of : List (List ℕ) → List ℕ
+lines_of ls = flat_map (λ l. l ++ codes "\n") ls
+
+-- what stands before the verdict, with the styles for a screen of any width, light or dark, and for paper
+abbrev pub page_begin : List ℕ
+page_begin =
+    lines_of (
+    codes "<!DOCTYPE html>"
+    ∷ codes "<html lang=\"en\"><head><meta charset=\"utf-8\">"
+    ∷ codes "<meta name=\"viewport\" content=\"width=device-width, initial-scale=1\">"
+    ∷ codes "<meta http-equiv=\"Content-Security-Policy\" content=\"default-src 'none'; style-src 'unsafe-inline'; script-src 'unsafe-inline'\">"
+    ∷ codes "<title>Export of a medicines verification repository</title>"
+    ∷ codes "<style>"
+    ∷ codes ":root { color-scheme: light dark; --bar: #2a6fb0 }"
+    ∷ codes "body { font: 15px/1.5 system-ui, sans-serif; max-width: 80em; margin: 2em auto; padding: 0 1em }"
+    ∷ codes "pre { font-size: 1.1em; white-space: pre-wrap; overflow-wrap: anywhere }"
+    ∷ codes ".box { overflow: auto; max-height: 45em }"
+    ∷ codes "table { border-collapse: collapse; font-variant-numeric: tabular-nums }"
+    ∷ codes "th, td { text-align: left; vertical-align: top; padding: .2em 1em .2em 0; border-bottom: 1px solid #8886 }"
+    ∷ codes "td:first-child { min-width: 6em }"
+    ∷ codes "@media screen and (max-width: 60em) { th, td { white-space: nowrap } }"
+    ∷ codes "th { position: sticky; top: 0; background: Canvas; cursor: pointer }"
+    ∷ codes "th[aria-sort=ascending]::after { content: ' \\2191' }"
+    ∷ codes "th[aria-sort=descending]::after { content: ' \\2193' }"
+    ∷ codes ".n, .counts td:last-child { text-align: right }"
+    ∷ codes "tbody:empty::after { content: 'None.' }"
+    ∷ codes "figure { margin: 0 0 1em }"
+    ∷ codes "svg { display: block; max-width: 100%; height: 10em; border-bottom: 1px solid #888 }"
+    ∷ codes "rect { fill: var(--bar) }"
+    ∷ codes "@media (prefers-color-scheme: dark) { :root { --bar: #7ab8f5 } }"
+    ∷ codes "@page { size: A4 landscape; margin: 12mm }"
+    ∷ codes "@media print { body { font-size: 8pt; max-width: none; margin: 0; padding: 0 } .box { overflow: visible; max-height: none }"
+    ∷ codes "th { position: static } th, td { padding-right: .6em } tr, figure { break-inside: avoid } h2 { break-after: avoid } }"
+    ∷ codes "</style></head><body>"
+    ∷ codes "<h1>Export of a medicines verification repository</h1>"
+    ∷ []
+    ) ++ codes "<pre>"
+
+-- the end, with the script that sorts a table by a column, upwards and at the next click downwards
+abbrev pub page_end : List ℕ
+page_end =
+    lines_of (
+    codes "</tbody></table></div>"
+    ∷ codes "<script>"
+    ∷ codes "for (const head of document.querySelectorAll('th')) {"
+    ∷ codes "head.tabIndex = 0;"
+    ∷ codes "head.onkeydown = event => { if (event.key === 'Enter') head.click() };"
+    ∷ codes "head.onclick = () => {"
+    ∷ codes "const way = head.ariaSort === 'ascending' ? 'descending' : 'ascending';"
+    ∷ codes "const body = head.closest('table').tBodies[0];"
+    ∷ codes "const text = row => row.cells[head.cellIndex].textContent;"
+    ∷ codes "const rows = [...body.rows].sort((a, b) => text(a).localeCompare(text(b), 'en', { numeric: true }));"
+    ∷ codes "for (const other of head.parentNode.cells) other.removeAttribute('aria-sort');"
+    ∷ codes "head.setAttribute('aria-sort', way);"
+    ∷ codes "body.append(...(way === 'ascending' ? rows : rows.reverse()));"
+    ∷ codes "};"
+    ∷ codes "}"
+    ∷ codes "</script>"
+    ∷ codes "</body></html>"
+    ∷ []
+    )
+
 -- the verdict, the rows of product codes, and those of their batches
 unfoldable pub head_text : List ℕ → List ℕ
-head_text verdict = HEAD.now ++ (escaped verdict ++ products_head)
+head_text verdict = page_begin ++ (escaped verdict ++ products_head)
 
 unfoldable pub front_text : List ℕ → List Entry → List ProductCode → List ℕ
 front_text verdict t cs = head_text verdict ++ (flat_map (product_row t) cs ++ (batches_head ++ flat_map (batch_rows t) cs))
@@ -106,7 +168,7 @@ premises_text most = premises_head ++ premises_rows most
 
 -- the rows of entries, and the end
 unfoldable pub alerts_text : List Dated → List ℕ
-alerts_text ds = alerts_head ++ (flat_map (entry_text form.Html) ds ++ FOOT.now)
+alerts_text ds = alerts_head ++ (flat_map (entry_text form.Html) ds ++ page_end)
 
 -- the page of product codes, alerts, each as a group of one, premises, the most flagged alerts first, and flagged alerts
 abbrev pub page_text : List ℕ → List Entry → List ProductCode → List Group → List Group → List Dated → List ℕ

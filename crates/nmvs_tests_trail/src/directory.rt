@@ -211,7 +211,7 @@ fn users_are_listed_as_they_were_first_named(rt: HostRuntime) {
 
 #[test]
 fn faults_have_their_texts(rt: HostRuntime) {
-    for (fault, text) in [
+    for &(fault, text) in &[
         (
             DirectoryFault::Memory,
             "there is no memory for the directory",
@@ -233,39 +233,61 @@ fn number_of(look: Look) -> Option<u64> {
 }
 
 /// Enrols a user again and again, with authorisations `A-1` to `A-100`, and publishes each at once.
-fn publish_all<J: Naming, R: Wait + Drop>(
-    rt: &(impl Wait + Abort),
+fn publish_all<J: Naming, R: Wait + Abort>(
+    rt: &R,
     alloc: Global,
-    mut registrar: Registrar<J, R, Global>,
-    user: Name,
-) -> Registrar<J, R, Global> {
+    registrar: &mut Registrar<J, &R, Global>,
+    user: &Name,
+) {
     for round in 1..=100u64 {
         let authorisation = format!(in alloc; "A-{round}").expect(rt, "memory");
         let actor = pharmacy(rt, &authorisation);
-        registrar.changes.enrol(user, actor).expect(rt, "memory");
+        registrar.changes.enrol(*user, actor).expect(rt, "memory");
         registrar.publish().expect(rt, "memory");
     }
-    registrar
 }
 
-/// Looks again and again. The numbers must never fall.
-fn look_all<J: Naming>(mut window: Window<J, Global>, user: Name) -> (Window<J, Global>, bool) {
+/// Looks again and again, and tells whether the numbers never fell.
+fn look_all<J: Naming>(window: &mut Window<J, Global>, user: &Name) -> bool {
     let mut most = 0;
-    let mut rising = true;
     for _round in 0..10_000u64 {
-        match number_of(window.look(&user)) {
-            Some(number) => {
-                rising = rising && most <= number;
-                most = number;
-            }
-            None => rising = false,
+        match number_of(window.look(user)) {
+            Some(number) if most <= number => most = number,
+            _ => return false,
         }
     }
-    (window, rising)
+    true
+}
+
+/// Looks through both windows at once, and tells of each whether no number fell.
+fn look_through_both<J: Naming + Send + Sync, R: Threads + Sync>(
+    rt: &R,
+    one: &mut Window<J, Global>,
+    other: &mut Window<J, Global>,
+    user: &Name,
+) -> (bool, bool) {
+    thread::join(rt, || look_all(one, user), || look_all(other, user))
+}
+
+/// Looks through both windows while changes are published. No number falls.
+fn look_while_publishing<J: Naming + Send + Sync, R: Threads + Wait + Abort + Sync>(
+    rt: &R,
+    alloc: Global,
+    registrar: &mut Registrar<J, &R, Global>,
+    one: &mut Window<J, Global>,
+    other: &mut Window<J, Global>,
+    user: &Name,
+) {
+    let (_published, rise) = thread::join(
+        rt,
+        || publish_all(rt, alloc, registrar, user),
+        || look_through_both(rt, one, other, user),
+    );
+    assert!(rt; rise == (true, true));
 }
 
 /// The windows saw no number fall, and show the last once they were told.
-fn look_while_publishing<J: Naming + Send + Sync, R: Threads + Wait + Abort + Sync>(
+fn windows_never_go_back<J: Naming + Send + Sync, R: Threads + Wait + Abort + Sync>(
     rt: &R,
     alloc: Global,
     directory: Directory,
@@ -273,18 +295,10 @@ fn look_while_publishing<J: Naming + Send + Sync, R: Threads + Wait + Abort + Sy
     requires { directory_book directory ≡ J.book }
 {
     let user = name(rt, "ph1");
-    let (registrar, mut windows) = directory.open::<J, _, _>(rt, alloc, 2).expect(rt, "memory");
-    let (one, other) = (
-        windows.pop().expect(rt, "a window"),
-        windows.pop().expect(rt, "a window"),
-    );
-    let (mut registrar, seen) = thread::join(
-        rt,
-        || publish_all(rt, alloc, registrar, user),
-        || thread::join(rt, || look_all(one, user), || look_all(other, user)),
-    );
-    let ((mut one, one_rises), (mut other, other_rises)) = seen;
-    assert!(rt; one_rises && other_rises);
+    let (mut registrar, mut windows) = directory.open::<J, _, _>(rt, alloc, 2).expect(rt, "memory");
+    let mut one = windows.pop().expect(rt, "a window");
+    let mut other = windows.pop().expect(rt, "a window");
+    look_while_publishing(rt, alloc, &mut registrar, &mut one, &mut other, &user);
     shows_the_last(rt, &mut registrar, &mut one, &user);
     shows_the_last(rt, &mut registrar, &mut other, &user);
     registrar.close();
@@ -303,11 +317,11 @@ fn shows_the_last<J: Naming, R: Wait + Abort>(
 
 #[test]
 fn what_a_window_sees_never_goes_back(rt: HostRuntime) {
-    look_while_publishing::<Brand, _>(&rt, rt.alloc(), Directory::new());
+    windows_never_go_back::<Brand, _>(&rt, rt.alloc(), Directory::new());
 }
 
 /// The calls that may grow something.
-#[derive(Clone, Copy, Debug, PartialEq, Eq)]
+#[derive(Clone, Copy, PartialEq, Eq)]
 enum Call {
     Open,
     Enrol,
@@ -332,39 +346,61 @@ fn refused_call<J: Naming, R: Wait + Abort + Sync>(
         return Some(Call::Open);
     };
     let mut window = windows.pop().expect(rt, "a window");
-    let refused = refused_change(rt, &mut registrar, &mut window, reserve);
+    let refused = refused_change(rt, &mut registrar, &mut window);
+    drop(reserve);
+    goes_on(rt, &mut registrar, &mut window, refused);
     registrar.close();
     refused
 }
 
-/// The same over an open directory, with a reserve that is let go once a publication was refused.
+/// The same over an open directory.
 fn refused_change<'h, J: Naming, R: Wait + Abort + Sync>(
     rt: &R,
     registrar: &mut Registrar<J, &R, &'h LocalHeap>,
     window: &mut Window<J, &'h LocalHeap>,
-    reserve: Vec<u8, &'h LocalHeap>,
 ) -> Option<Call> {
     let (user, actor) = (name(rt, "ph1"), pharmacy(rt, "PH-1"));
     if registrar.changes.enrol(user, actor).is_err() {
         return Some(Call::Enrol);
     }
-    if is_published(registrar, window) {
-        // The list has room for it: it keeps that of the first change.
-        registrar.changes.suspend(user).expect(rt, "memory");
-        if is_published(registrar, window) {
-            return None;
-        }
-        drop(reserve);
-        shows(rt, window, "ph1", Look::Known(pharmacy(rt, "PH-1")));
-        tell(rt, registrar, window);
-        shows(rt, window, "ph1", Look::Suspended);
-        return Some(Call::PublishAgain);
+    if !is_published(registrar, window) {
+        return Some(Call::Publish);
     }
-    drop(reserve);
-    shows(rt, window, "ph1", Look::Nobody);
+    // The list has room for it: it keeps that of the first change.
+    registrar.changes.suspend(user).expect(rt, "memory");
+    if is_published(registrar, window) {
+        None
+    } else {
+        Some(Call::PublishAgain)
+    }
+}
+
+/// Once there is memory: a publication that was refused changed no look, and succeeds now.
+fn goes_on<'h, J: Naming, R: Wait + Abort + Sync>(
+    rt: &R,
+    registrar: &mut Registrar<J, &R, &'h LocalHeap>,
+    window: &mut Window<J, &'h LocalHeap>,
+    refused: Option<Call>,
+) {
+    let enrolled = Look::Known(pharmacy(rt, "PH-1"));
+    match refused {
+        Some(Call::Publish) => tell_at_last(rt, registrar, window, Look::Nobody, enrolled),
+        Some(Call::PublishAgain) => tell_at_last(rt, registrar, window, enrolled, Look::Suspended),
+        _ => {}
+    }
+}
+
+/// Publishes what is pending, with looks at the user before and after.
+fn tell_at_last<'h, J: Naming, R: Wait + Abort + Sync>(
+    rt: &R,
+    registrar: &mut Registrar<J, &R, &'h LocalHeap>,
+    window: &mut Window<J, &'h LocalHeap>,
+    before: Look,
+    after: Look,
+) {
+    shows(rt, window, "ph1", before);
     tell(rt, registrar, window);
-    shows(rt, window, "ph1", Look::Known(pharmacy(rt, "PH-1")));
-    Some(Call::Publish)
+    shows(rt, window, "ph1", after);
 }
 
 /// Publishes what is pending. The window learns of it, unless it is refused.
@@ -401,10 +437,12 @@ fn a_refused_growth_changes_nothing(rt: HostRuntime) {
             break;
         }
     }
-    let calls = [Call::Open, Call::Enrol, Call::Publish, Call::PublishAgain];
-    assert!(rt;
-        met.iter()
-            .copied()
-            .eq(calls.into_iter().map(Some).chain([None]))
-    );
+    let calls = [
+        Some(Call::Open),
+        Some(Call::Enrol),
+        Some(Call::Publish),
+        Some(Call::PublishAgain),
+        None,
+    ];
+    assert!(rt; met.as_slice() == calls.as_slice());
 }

@@ -2,10 +2,10 @@
 ghost use Rattle.nmvs_tables.specs.Cursors.{IsCursorOf};
 
 use super::agreement::CODES;
-use super::{ask, moment, pack, plain, put};
+use super::{ask, at_shard, moment, pack, plain, put};
 use nmvs_identifier::Pack;
 use nmvs_rules::{Entry, Question};
-use nmvs_shard::{Cursor, HashKey, Shard};
+use nmvs_shard::{Cursor, Shard};
 use std::alloc::Global;
 use std::process::Abort;
 use std::rt::HostRuntime;
@@ -19,34 +19,53 @@ fn verify_both(rt: &impl Abort, shard: &mut Shard<Global>, packs: &[Pack; 2]) {
     }
 }
 
-/// The next seven entries, or all that are left.
-fn next_piece(
+/// Puts the next seven entries, or all that are left, at the end of a list, and tells how many they are.
+fn append_piece(
     rt: &impl Abort,
     alloc: Global,
     shard: &Shard<Global>,
     cursor: &mut Cursor,
-) -> Vec<Entry, Global>
+    fetched: &mut Vec<Entry, Global>,
+) -> usize
     requires { IsCursorOf shard.now cursor.old }
     ensures { IsCursorOf shard.now cursor.new }
 {
     let mut piece = Vec::with_capacity(alloc, 7).expect(rt, "memory");
     shard.fetch(cursor, &mut piece);
-    piece
+    fetched.extend_from_slice(&piece).expect(rt, "memory");
+    piece.len()
+}
+
+/// Whether these are the entries that an audit of the pack shows.
+fn are_shown(
+    rt: &impl Abort,
+    alloc: Global,
+    shard: &Shard<Global>,
+    pack: &Pack,
+    entries: &[Entry],
+) -> bool {
+    let audit = put(rt, moment(rt, 0), "au1", &Question::Audit(*pack));
+    let shown = plain::shown(shard.trail(), &audit, alloc).expect(rt, "memory");
+    shown.as_slice() == entries
+}
+
+/// Fetches the ten entries about the pack in pieces.
+fn fetch_all(rt: &impl Abort, alloc: Global, shard: &Shard<Global>, pack: &Pack) {
+    let mut cursor = shard.cursor(pack);
+    let mut fetched = Vec::new(alloc);
+    let first = append_piece(rt, alloc, shard, &mut cursor, &mut fetched);
+    let second = append_piece(rt, alloc, shard, &mut cursor, &mut fetched);
+    let third = append_piece(rt, alloc, shard, &mut cursor, &mut fetched);
+    assert_eq!(rt; [first, second, third], [7, 3, 0]);
+    assert!(rt; are_shown(rt, alloc, shard, pack, &fetched));
 }
 
 /// The pieces in order are the entries that an audit shows; behind them there is nothing.
 #[test]
 fn a_list_is_fetched_in_pieces(rt: HostRuntime) {
-    let mut shard = Shard::new(rt.alloc(), HashKey::of(1));
     let packs = [pack(&rt, CODES[0], "SN1"), pack(&rt, CODES[0], "SN2")];
-    verify_both(&rt, &mut shard, &packs);
-    let mut cursor = shard.cursor(&packs[1]);
-    let mut fetched = next_piece(&rt, rt.alloc(), &shard, &mut cursor);
-    let second = next_piece(&rt, rt.alloc(), &shard, &mut cursor);
-    let third = next_piece(&rt, rt.alloc(), &shard, &mut cursor);
-    assert_eq!(rt; [fetched.len(), second.len(), third.len()], [7, 3, 0]);
-    fetched.extend_from_slice(&second).expect(&rt, "memory");
-    let audit = put(&rt, moment(&rt, 0), "au1", &Question::Audit(packs[1]));
-    let shown = plain::shown(shard.trail(), &audit, rt.alloc()).expect(&rt, "memory");
-    assert!(rt; fetched == shown);
+    at_shard(rt.alloc(), |shard| {
+        verify_both(&rt, shard, &packs);
+        fetch_all(&rt, rt.alloc(), shard, &packs[1]);
+    });
 }
