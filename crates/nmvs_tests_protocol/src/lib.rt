@@ -8,6 +8,8 @@ mod lines;
 #[cfg(test)]
 mod peers;
 #[cfg(test)]
+mod questions;
+#[cfg(test)]
 mod rehearsals;
 #[cfg(test)]
 mod replies;
