@@ -4,7 +4,7 @@ use Rattle.std.specs.Fmt.{decimal}
 use Rattle.nmvs_json.specs.declared.reply.Problem.{Problem}
 use Rattle.nmvs_json.specs.declared.reply.Problem.TheVariants as problems
 use Rattle.nmvs_json.specs.Replies.{problem_of}
-use Rattle.nmvs_json.specs.Replies as replies_of
+use Rattle.nmvs_json.specs.Replies as json
 use Rattle.nmvs_http.specs.declared.asked.Asks.{Asks}
 use Rattle.nmvs_http.specs.declared.asked.Asks.TheVariants.{Lines, Question, Health, Refused}
 use Rattle.nmvs_http.specs.declared.fault.Fault.{Fault}
@@ -79,7 +79,7 @@ type_of (Refused fault) replies = codes "application/problem+json"
 -- its body: the replies to lines, word for word; the reply to one question as JSON
 abbrev pub body_text : Asks → List ℕ → List ℕ
 body_text Lines replies = replies
-body_text Question replies = replies_of.body_text replies
+body_text Question replies = json.body_text replies
 body_text Health replies = codes "ok\n"
 body_text (Refused fault) replies = problem fault
 

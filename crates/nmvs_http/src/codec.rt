@@ -391,8 +391,8 @@ fn tell_body(
 {
     let count = told.bytes.len();
     match write_response(told, front, head_alone, stays, body) {
-        Ok(()) if stays => CodecStage::Open,
-        Ok(()) => CodecStage::Closing,
+        Ok(()) if !stays => CodecStage::Closing,
+        Ok(()) => CodecStage::Open,
         Err(Failed) => forget(told, count),
     }
 }
