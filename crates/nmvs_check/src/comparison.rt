@@ -1,12 +1,11 @@
 //! The comparison of two exports.
-ghost use Rattle.std.specs.Prelude.{◌≡◌, false, IfOk, IfErr, string_bytes};
+ghost use Rattle.std.specs.Prelude.{◌≡◌, ◌≢◌, false, IfOk, IfErr, string_bytes};
 ghost use Rattle.nmvs_record.specs.declared.finding.Finding.{Finding as AFinding};
 ghost use Rattle.nmvs_record.specs.Lines.{Imported};
 ghost use Rattle.nmvs_record.specs.Import.{Imports, FailsToImport};
 ghost use Rattle.nmvs_check.specs.Comparison as spec;
 
 use crate::answers::{codes_named, write};
-use crate::inspect_fault::InspectFault;
 use nmvs_inspect::{AnswerFault, Departure, first_departure};
 use nmvs_line::entry_line;
 use nmvs_record::{Finding, examine};
@@ -52,11 +51,7 @@ pub(crate) fn compare<R: Source, W: Sink>(
     let before = examine(alloc, alloc, key, old, reads);
     match &before {
         Err(finding) => Err(CompareFault::Old(*finding)),
-        Ok(before) => match compare_with(alloc, key, before.shard(), new, sink, reads) {
-            Ok(goes_on) => Ok(goes_on),
-            Err(InspectFault::Found(finding)) => Err(CompareFault::New(finding)),
-            Err(InspectFault::Answer(fault)) => Err(CompareFault::Answer(fault)),
-        },
+        Ok(before) => compare_with(alloc, key, before.shard(), new, sink, reads),
     }
 }
 
@@ -68,19 +63,20 @@ fn compare_with<R: Source, W: Sink>(
     new: &mut R,
     sink: &mut W,
     reads: u64,
-) -> Result<bool, InspectFault>
+) -> Result<bool, CompareFault>
     requires { (R.told new.old).ended ≡ false }
     ensures told { IfOk result (λ goes_on. (after : Imported) × Imports (R.told new.old) (R.told new.new) after
         × spec.Tells old.now after.trail goes_on (W.taken sink.old) (W.taken sink.new)) }
-    ensures found { IfErr result (λ fault. (finding : AFinding) → fault ≡ InspectFault.Found finding
+    ensures old_found { IfErr result (λ fault. (finding : AFinding) → fault ≢ CompareFault.Old finding) }
+    ensures new_found { IfErr result (λ fault. (finding : AFinding) → fault ≡ CompareFault.New finding
         → FailsToImport (R.told new.old) (R.told new.new) reads finding × (W.taken sink.new ≡ W.taken sink.old)) }
 {
     let after = examine(alloc, alloc, key, new, reads);
     match &after {
-        Err(finding) => Err(InspectFault::Found(*finding)),
+        Err(finding) => Err(CompareFault::New(*finding)),
         Ok(after) => match tell(alloc, old, after.shard(), sink) {
             Ok(goes_on) => Ok(goes_on),
-            Err(fault) => Err(InspectFault::Answer(fault)),
+            Err(fault) => Err(CompareFault::Answer(fault)),
         },
     }
 }
