@@ -1,4 +1,4 @@
--- How what a side sent goes on, and how its lines are handed over.
+-- The bytes of a side as it sends more, and as its lines are handed over.
 use Rattle.std.proofs.Common.{◌≡◌, ◌∙◌, ℕ, List, [], ◌∷◌, ◌++◌, ◌+◌, length, drop, sym, ap, append_assoc, length-append, arith, Result, Ok, Err}
 use Rattle.std.proofs.lemmas.List.{append-nil}
 use Rattle.std.proofs.Math.Seq.{drop-append_seam}
@@ -8,7 +8,7 @@ use Rattle.nmvs_stream.proofs.LinesOfPieces.{lines_after-append, rest_after-appe
 use Rattle.nmvs_messages.specs.PendingLines.{kept_part}
 use Rattle.nmvs_messages.proofs.KeptLines.{kept_more}
 
--- what is known of what a side sent, by what was looked at of its next line and what was not looked at
+-- the state of a side: the bytes of its next line that were looked at, and the bytes that were not
 pub record Stands (sent : List ℕ) (handed : List (List ℕ)) (begun unread : List ℕ) : Type 0 where
   pub lines : input_lines sent ≡ handed ++ lines_after begun unread
   pub left : unfinished_line sent ≡ rest_after begun unread
@@ -48,21 +48,21 @@ no_more {unread = unread} {handed = handed} begun s none =
       record { lines = all; left = s.left ∙ no.1 },
     )
 
--- what is begun where nothing is left to be looked at
+-- the begun line after all bytes were looked at
 pub all_begun : {sent unread : List ℕ} {handed : List (List ℕ)} (begun : List ℕ) → Stands sent handed begun unread → unread ≡ [] → unfinished_line sent ≡ begun
 unfolding rest_after
 all_begun begun s none = s.left ∙ ap (rest_after begun) none
 
--- what is kept of a line that goes on
+-- the kept part of a line that goes on
 pub kept_on : {kept kept' : List ℕ} (begun more : List ℕ) → kept ≡ kept_part begun → kept' ≡ kept_part (kept ++ more) → kept' ≡ kept_part (begun ++ more)
 kept_on begun more is goes = goes ∙ ap (λ (t : List ℕ). kept_part (t ++ more)) is ∙ kept_more begun more
 
--- what holds of an outcome that is one
+-- a property of an `Ok` outcome
 pub on_ok : {T E : Type 0} (r : Result T E) (v : T) (P : Type 0) → r ≡ Ok v → OnOk r P → P
 on_ok (Ok w) v P e p = p
 on_ok (Err f) v P e p = absurd cc
 
--- what is behind a line and its LF
+-- the bytes after a line and its LF
 pub behind_line : {unread : List ℕ} (tail behind : List ℕ) → unread ≡ tail ++ 10 ∷ behind → drop (length tail + 1) unread ≡ behind
 behind_line tail behind cut =
     let line = tail ++ 10 ∷ [] in

@@ -9,14 +9,14 @@ use std::io::{ErrorKind, Read, Write};
 use std::rt::Clock;
 use std::time::Instant;
 
-/// What came of a write.
+/// The result of a write.
 #[derive(Clone, Copy)]
 pub(crate) enum Sent {
-    /// So many bytes were taken.
+    /// The connection took this number of bytes.
     Bytes(usize),
-    /// None can be taken now.
+    /// It takes none now.
     Blocked,
-    /// None will be taken any more.
+    /// It will take none any more.
     Broken,
 }
 
@@ -34,9 +34,9 @@ pub(crate) struct Connection {
     pub(crate) stream: UnixStream,
     pub(crate) incoming: Incoming,
     unsent: Option<Unsent>,
-    /// Whether there may be something to be read.
+    /// Whether there may be bytes to read.
     pub(crate) is_ready: bool,
-    /// Whether nothing more comes.
+    /// Whether no more bytes come.
     pub(crate) is_over: bool,
 }
 
@@ -51,12 +51,12 @@ impl Connection {
         }
     }
 
-    /// Whether it has not taken its last answer to its end. Then no line of it is looked at.
+    /// Whether it has not taken its last answer to its end. Then none of its lines is looked at.
     pub(crate) fn is_behind(&self) -> bool {
         self.unsent.is_some()
     }
 
-    /// Whether it has not done so for as many seconds.
+    /// Whether its answer has waited for at least this number of seconds.
     pub(crate) fn is_late<R: Clock>(&self, rt: &R, limit: u64) -> bool {
         match &self.unsent {
             Some(unsent) => unsent
@@ -67,12 +67,12 @@ impl Connection {
         }
     }
 
-    /// Whether there is something to be read or looked at.
+    /// Whether there are bytes to read or to look at.
     pub(crate) fn is_at_work(&self) -> bool {
         !self.is_behind() && (self.is_ready || self.is_over || !self.incoming.is_looked_through())
     }
 
-    /// Reads once, where there may be something and all that came before is looked through.
+    /// Reads once, if there may be bytes, and all earlier ones are looked through.
     pub(crate) fn read(&mut self) {
         if self.is_behind() || !self.is_ready || !self.incoming.is_looked_through() {
             return;
@@ -88,7 +88,7 @@ impl Connection {
         }
     }
 
-    /// Sends an answer, as much of it as the connection takes now; the rest is sent as it takes more. It answers whether the
+    /// Sends an answer, as much of it as the connection takes now. The rest follows as it takes more. It returns whether the
     /// connection is whole.
     pub(crate) fn send(&mut self, text: Vec<u8>, begun: Instant) -> bool {
         self.unsent = Some(Unsent {
@@ -99,7 +99,7 @@ impl Connection {
         self.send_on()
     }
 
-    /// Goes on with the answer that it has not taken to its end, and answers whether the connection is whole.
+    /// Goes on with the answer that the connection has not taken to its end. It returns whether the connection is whole.
     pub(crate) fn send_on(&mut self) -> bool {
         let Some(unsent) = &mut self.unsent else {
             return true;

@@ -17,17 +17,16 @@ use std::time::{Duration, Instant};
 /// The most connections that are open at once (own).
 pub(crate) const MOST_CONNECTIONS: usize = 16;
 
-/// For how many seconds an answer waits for a connection to take all of it (own).
+/// The most seconds for which an answer waits for its connection to take all of it (own).
 const SEND_TIMEOUT: u64 = 5;
 
-/// After how many milliseconds it is looked again whether one waits too long (own).
+/// The milliseconds between two looks whether a connection waits too long (own).
 const TICK: u64 = 500;
 
-/// For how many milliseconds no connection is accepted behind one that could not be: as a rule for want of a descriptor
-/// (own).
+/// The milliseconds without an accept after a connection that could not be accepted, mostly for want of a descriptor (own).
 const ACCEPT_PAUSE: u64 = 100;
 
-/// How many of the system's reports are taken at once: of each connection, the listener and standard input.
+/// The most reports of the system that are taken at once: of each connection, the listener and standard input.
 const MOST_EVENTS: usize = MOST_CONNECTIONS + 2;
 
 /// The descriptor of standard input.
@@ -38,26 +37,26 @@ const LISTENER: Token = Token(usize::MAX);
 
 const STANDARD: Token = Token(usize::MAX - 1);
 
-/// What the connection is sent that is one too many.
+/// The reply to a connection that is one too many.
 const BUSY: &[u8] = b"FAULT BUSY\n";
 
-/// The connections of a socket, and what the system reports of them, of the socket and of standard input.
+/// The connections of a socket, and the system's reports of them, of the socket and of standard input.
 #[derive(Drop)]
 pub(crate) struct Connections {
     poll: Poll,
     events: Events,
     listener: UnixListener,
     open: Slab<Connection>,
-    /// Whether connections may wait to be accepted.
+    /// Whether connections may wait for an accept.
     may_accept: bool,
-    /// Whether the system reports when standard input may be read. It does not of a file, which may be always.
+    /// Whether the system reports when standard input may be read. It does not report a file, which may always be read.
     reports_standard: bool,
     /// Whether standard input may be read.
     is_standard_ready: bool,
 }
 
 impl Connections {
-    /// Those of a socket that is listened on: none yet.
+    /// The connections of a socket that is listened on: none yet.
     ///
     /// # Errors
     ///
@@ -88,7 +87,7 @@ impl Connections {
         self.is_standard_ready
     }
 
-    /// Has the system report anew when standard input may be read, behind a read of it.
+    /// Makes the system report again when standard input may be read, after a read of it.
     pub(crate) fn watch_standard(&mut self) {
         if !self.reports_standard {
             return;
@@ -101,9 +100,9 @@ impl Connections {
         self.is_standard_ready = watched.is_err();
     }
 
-    /// Waits until the system reports something, but no longer than this, or does not wait where there is work; then accepts
-    /// connections, sends each on with its answer, and reads from each once. One that is broken, or does not take its answer in
-    /// time, is closed.
+    /// Waits until the system reports something, but no longer than this. It does not wait if there is work. Then it accepts
+    /// connections, reads from each once, and sends each more of its answer. It closes a connection that is broken, or does not
+    /// take its answer in time.
     ///
     /// # Errors
     ///
@@ -129,7 +128,7 @@ impl Connections {
         Ok(())
     }
 
-    /// How long the system's reports may be waited for: no longer than this.
+    /// The longest wait for the system's reports: no longer than this.
     fn timeout(&self, has_work: bool, longest: Option<Duration>) -> Option<Duration> {
         if has_work
             || self
@@ -152,7 +151,7 @@ impl Connections {
         }
     }
 
-    /// Notes what the system reported.
+    /// Notes the reports of the system.
     fn note_all(&mut self) {
         for event in &self.events {
             match event.token() {
@@ -167,7 +166,7 @@ impl Connections {
         }
     }
 
-    /// Accepts the connections that wait. One too many is sent a fault, and closed.
+    /// Accepts the connections that wait. One too many gets a fault, and is closed.
     fn accept_all(&mut self) {
         if !self.may_accept {
             return;
@@ -196,7 +195,7 @@ impl Connections {
         }
     }
 
-    /// The next line of the connection of this number, where it has one, and took the answer to the one before.
+    /// The next line of the connection of this number, if there is one and the connection took the earlier answer.
     pub(crate) fn next_line(&mut self, number: usize) -> Option<PendingLine> {
         let connection = self.open.get_mut(number)?;
         if connection.is_behind() {
@@ -205,7 +204,8 @@ impl Connections {
         connection.incoming.next_line()
     }
 
-    /// Takes a connection that is over, and all of which is looked through: its number, and what it began and did not end.
+    /// Takes a connection that is over, after all its bytes were looked through: its number, and the line that it began and did
+    /// not end.
     pub(crate) fn next_over(&mut self) -> Option<(usize, PendingLine)> {
         for number in 0..self.open.capacity() {
             if let Some(connection) = self.open.get_mut(number) {
@@ -222,8 +222,8 @@ impl Connections {
         let _closed = self.open.try_remove(number);
     }
 
-    /// Sends a text to the connection of this number, which takes it as it can, and answers whether it is whole. A broken one is
-    /// closed.
+    /// Sends a text to the connection of this number, which takes it as it can. It returns whether the connection is whole, and
+    /// closes a broken one.
     pub(crate) fn send<R: Clock>(&mut self, rt: &R, number: usize, text: Vec<u8>) -> bool {
         let is_whole = match (self.open.get_mut(number), Instant::now(rt)) {
             (Some(connection), Ok(now)) => connection.send(text, now),
@@ -235,7 +235,7 @@ impl Connections {
         is_whole
     }
 
-    /// Sends a short text to the connection of this number, and closes it where it does not take all of it at once.
+    /// Sends a short text to the connection of this number, and closes it if it does not take all of it at once.
     pub(crate) fn send_now(&mut self, number: usize, text: &[u8]) -> bool {
         let is_taken = match self.open.get_mut(number) {
             Some(connection) => match write(&mut connection.stream, text) {
@@ -251,7 +251,7 @@ impl Connections {
     }
 }
 
-/// What reports when connections wait to be accepted.
+/// The poll that reports when connections wait for an accept.
 fn poll_of(rt: &impl Net, listener: &mut UnixListener) -> io::Result<Poll> {
     let poll = Poll::new(rt)?;
     poll.registry()
@@ -259,7 +259,7 @@ fn poll_of(rt: &impl Net, listener: &mut UnixListener) -> io::Result<Poll> {
     Ok(poll)
 }
 
-/// Has the system report when standard input may be read, and answers whether it will.
+/// Makes the system report when standard input may be read. It returns whether it will.
 fn is_reported(poll: &Poll) -> bool {
     let standard = &mut SourceFd(&STANDARD_INPUT);
     poll.registry()

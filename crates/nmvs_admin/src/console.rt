@@ -19,7 +19,7 @@ use std::rt::{Clock, Files};
 use std::sync::{Arc, Mutex, Wait};
 use thiserror::Error;
 
-/// Why there is no console of an administrator.
+/// The reason for which there is no console of an administrator.
 #[derive(Clone, Copy, Debug, PartialEq, Eq, Error)]
 pub enum AdminFault {
     #[error("no socket can be made at the path")]
@@ -34,20 +34,20 @@ impl From<AllocError> for AdminFault {
     }
 }
 
-/// What the two ends of the console share. (In this toolchain a console may hold no references.)
+/// The state that the two ends of the console share. (In this toolchain a console may hold no references.)
 #[derive(Drop)]
 struct Shared<R, I, W> {
     rt: R,
     multiplexer: Mutex<Multiplexer<I, W>>,
 }
 
-/// Where the lines of all sides come from.
+/// The source of the lines of all sides.
 #[derive(Drop)]
 pub struct Lines<R, I, W> {
     shared: Arc<Shared<R, I, W>>,
 }
 
-/// Where the answers to them go.
+/// The sink of the answers to them.
 #[derive(Drop)]
 pub struct Answers<R, I, W> {
     shared: Arc<Shared<R, I, W>>,
@@ -56,18 +56,17 @@ pub struct Answers<R, I, W> {
 /// The sides of the console that [`open`] makes.
 pub type AdminSides<R, I, W> = (Device<Lines<R, I, W>>, Device<Answers<R, I, W>>);
 
-/// One console of the given one, whose sides are standard input and output, and of the connections of a socket at the path,
-/// where one is named. [`remove_socket`](crate::remove_socket) removes that at the end.
+/// Makes one console of the given one and of the connections of a socket at the path, if a path is named. The sides of the
+/// given one are standard input and output. [`remove_socket`](crate::remove_socket) removes the socket at the end.
 ///
-/// It gives whole lines, each of one side, up to 201 bytes of one; a longer one is handed over as its first 201. What is
-/// written up to the next flush goes to the side whose line was given last, and else to standard output. A connection that
-/// takes its answer in 5 seconds not at all, or not to its end, is closed; it holds up no other. With a socket the lines never
-/// end; else they end with standard input. With a socket a SIGINT or SIGTERM that the process blocks is a line `STOP`, the
-/// first one alone.
+/// It gives whole lines, each of one side. It cuts a line to its first 201 bytes. The text up to the next flush goes to the
+/// side of the last line, or to standard output if there is none. A connection that does not take all of its answer in 5
+/// seconds is closed, and delays no other. Without a socket the lines end with standard input. With a socket they never end,
+/// and a first SIGINT or SIGTERM that the process blocks is a line `STOP`.
 ///
 /// # Errors
 ///
-/// No socket can be made at the path, which is logged with the system's reason; or memory was refused.
+/// No socket can be made at the path, which is logged with the system's reason, or memory was refused.
 pub fn open<
     R: Log + Wait + Clock + Files<File = File> + Net + Drop,
     I: Source + Drop,
@@ -121,7 +120,7 @@ fn connections_at<R: Log + Files + Net>(
     }
 }
 
-/// The fault of a socket that cannot be had, which is logged where it is no want of memory.
+/// The fault of a socket that cannot be made. It is logged unless it is want of memory.
 fn fault_of<R: Log>(rt: &R, path: &str, error: &io::Error) -> AdminFault {
     if error.kind() == ErrorKind::OutOfMemory {
         return AdminFault::Memory;

@@ -7,10 +7,10 @@ use nmvs_messages::{LONGEST_LINE, PendingLine};
 use std::alloc::{AllocError, Global};
 use std::{fmt, mem};
 
-/// The most bytes of a line that are handed over: what is kept of it, and LF.
+/// The most bytes of a line that are handed over: its kept part, and LF.
 const HANDED: usize = LONGEST_LINE + 2;
 
-/// Where lines come from, and answers go to.
+/// The origin of a line, to which its answer goes.
 #[derive(Clone, Copy, Debug, PartialEq, Eq)]
 pub(crate) enum Side {
     /// Standard input and output.
@@ -31,7 +31,7 @@ impl fmt::Display for Side {
     }
 }
 
-/// The answer to the line of a side; or what is written to standard output, where there is no line.
+/// The answer to the line of a side, or the text for standard output if there is no line.
 #[derive(Drop)]
 pub(crate) struct Answer {
     pub(crate) side: Side,
@@ -39,7 +39,7 @@ pub(crate) struct Answer {
     pub(crate) text: Vec<u8>,
 }
 
-/// The line that was handed over last, what of it is still to be read, and the answer to it so far.
+/// The line that was handed over last, the rest of it that is still to be read, and the answer to it so far.
 #[derive(Drop)]
 pub(crate) struct Exchange {
     alloc: Global,
@@ -50,7 +50,7 @@ pub(crate) struct Exchange {
 }
 
 impl Exchange {
-    /// Before the first line: what is written goes to standard output.
+    /// The state before the first line: a text that is written goes to standard output.
     pub(crate) fn new(alloc: Global) -> Exchange
         ensures side { result.side ≡ Side.Standard }
         ensures line { result.line ≡ None }
@@ -66,7 +66,7 @@ impl Exchange {
         }
     }
 
-    /// Begins with a line of this side, which is read with this ending: LF, or nothing where it has none.
+    /// Begins with a line of this side, which is read with this ending: LF, or nothing if it has none.
     pub(crate) fn begin(&mut self, side: Side, line: PendingLine, ending: &[u8])
         requires { length ending.now ≤ 1 }
         ensures side { self.new.side ≡ side }
@@ -91,7 +91,7 @@ impl Exchange {
         self.unread.is_empty()
     }
 
-    /// Reads on in the line, into the front of the buffer, and answers how many bytes.
+    /// Reads on in the line, into the front of the buffer. It returns the number of bytes.
     pub(crate) fn read(&mut self, buffer: &mut [u8]) -> usize
         ensures fits { result ≤ length buffer.new }
         ensures bytes { self.old.unread.items ≡ take result buffer.new ++ self.new.unread.items }
@@ -105,11 +105,11 @@ impl Exchange {
         count
     }
 
-    /// Adds this to the answer.
+    /// Adds these bytes to the answer.
     ///
     /// # Errors
     ///
-    /// There is no memory for it, and nothing is added.
+    /// There is no memory for them, and nothing is added.
     pub(crate) fn write(&mut self, bytes: &[u8]) -> Result<(), AllocError>
         ensures side { self.new.side ≡ self.old.side }
         ensures line { self.new.line ≡ self.old.line }
@@ -119,7 +119,8 @@ impl Exchange {
         self.text.extend_from_slice(bytes)
     }
 
-    /// Ends it: all that was written since it began is the answer to its side. What is written next goes to standard output.
+    /// Ends the exchange: the text that was written since it began is the answer to its side. A later text goes to standard
+    /// output.
     pub(crate) fn end(&mut self) -> Answer
         ensures side { result.side ≡ self.old.side }
         ensures line { result.line ≡ self.old.line }

@@ -1,4 +1,4 @@
-//! What one side sends, as lines.
+//! The lines of one side.
 ghost use Rattle.std.specs.Prelude.{◌≡◌, ◌≤◌, ◌==◌, [], ◌∷◌, ◌++◌, ℕ, List, length, drop, IfSome, IfNone};
 ghost use Rattle.nmvs_messages.specs.PendingLines.{kept_part};
 ghost use Rattle.nmvs_stream.specs.InputLines.{input_lines, unfinished_line};
@@ -10,7 +10,7 @@ use nmvs_messages::{PendingLine, READ_SIZE};
 use nmvs_stream::cut_line;
 use std::mem;
 
-/// What a side sent and was not handed over: what it began, and behind that what was not looked at.
+/// The bytes of a side that were not handed over: the line that it began, and after it the bytes that were not looked at.
 #[derive(Drop)]
 pub(crate) struct Incoming {
     begun: PendingLine,
@@ -18,7 +18,7 @@ pub(crate) struct Incoming {
 }
 
 impl Incoming {
-    /// Of a side that sent nothing.
+    /// The state of a side that sent nothing.
     pub(crate) fn new() -> Incoming
         ensures waits { Waits [] [] result }
         ensures empty { result.unread.items ≡ [] }
@@ -29,14 +29,14 @@ impl Incoming {
         }
     }
 
-    /// Whether there is nothing that was not looked at, so that more may be read.
+    /// Whether all bytes were looked at, so that more may be read.
     pub(crate) fn is_looked_through(&self) -> bool
         ensures { result ≡ (length self.now.unread.items == 0) }
     {
         self.unread.is_empty()
     }
 
-    /// Goes on with what the side sends next.
+    /// Adds the next bytes of the side.
     pub(crate) fn extend(&mut self, bytes: &[u8])
         requires looked_through { self.old.unread.items ≡ [] }
         requires fits { length bytes.now ≤ READ_SIZE }
@@ -45,8 +45,8 @@ impl Incoming {
         self.unread.try_extend_from_slice(bytes).unwrap();
     }
 
-    /// Hands over the next line of the side, without its LF and as much of it as is kept; or nothing, where all that it sent
-    /// is looked through.
+    /// Hands over the kept part of the next line of the side, without its LF. It returns `None` after all bytes were looked
+    /// through.
     pub(crate) fn next_line(&mut self) -> Option<PendingLine>
         ensures next { (sent : List ℕ) (handed : List (List ℕ)) → Waits sent handed self.old → IfSome result
             (λ line. (whole : List ℕ) × (line ≡ kept_part whole) × Waits sent (handed ++ whole ∷ []) self.new) }
@@ -69,7 +69,7 @@ impl Incoming {
         }
     }
 
-    /// Looks at no byte of so many at the front any more.
+    /// Drops this number of bytes at the front, which were looked at.
     fn pass(&mut self, count: usize)
         requires { count ≤ length self.old.unread.items }
         ensures unread { self.new.unread.items ≡ drop count self.old.unread.items }
@@ -78,8 +78,7 @@ impl Incoming {
         self.unread.drain(..count);
     }
 
-    /// Hands over what the side began and did not end, as much of it as is kept: all that there is behind the lines, where
-    /// all is looked through.
+    /// Hands over the kept part of the line that the side began and did not end, once all its bytes are looked through.
     pub(crate) fn take_begun(&mut self) -> PendingLine
         ensures begun { (sent : List ℕ) (handed : List (List ℕ)) → Waits sent handed self.old → self.old.unread.items ≡ []
             → result ≡ kept_part (unfinished_line sent) }

@@ -2,7 +2,7 @@
 //!
 //! [`open`] makes one console of them. Its source gives whole lines, one at a time and each of one side. An answer that is
 //! written to its sink after a line goes to the side of that line. So one loop serves all sides alike, one command after
-//! another. Where the process blocks signals to end, one that comes is a line of its own, `STOP`.
+//! another. A blocked signal that asks the process to end is a line of its own, `STOP`.
 #![tactic(auto)]
 
 mod connection;
@@ -14,8 +14,6 @@ mod logged;
 mod multiplexer;
 mod signals;
 mod socket;
-#[cfg(test)]
-mod tests;
 
 pub use console::{AdminFault, AdminSides, open};
 pub use socket::remove_socket;

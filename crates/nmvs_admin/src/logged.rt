@@ -1,10 +1,10 @@
-//! What is logged of commands and their answers.
+//! Commands and their answers as the log shows them.
 ghost use Rattle.nmvs_stream.specs.InputLines.{HasNoLf};
 
 use memchr::memrchr;
 use std::fmt;
 
-/// Bytes of a line as the log shows them: in quotes, and what is no printable ASCII character by its number.
+/// Bytes of a line as the log shows them: in quotes, with the number of each byte that is no printable ASCII character.
 #[derive(Clone, Copy)]
 pub(crate) struct Escaped<'l>(pub(crate) &'l [u8]);
 

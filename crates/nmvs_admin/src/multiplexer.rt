@@ -15,19 +15,19 @@ use std::io::ErrorKind;
 use std::rt::Clock;
 use std::sync::Wait;
 
-/// How many sides there may be: standard input, and each connection.
+/// The most sides: standard input, and each connection.
 const MOST_SIDES: usize = MOST_CONNECTIONS + 1;
 
 /// The command of a signal to end.
 const STOP: &[u8] = b"STOP";
 
-/// The answer to what a side began and did not end.
+/// The answer to a line that a side began and did not end.
 const UNENDED: &[u8] = b"FAULT UNENDED\n";
 
-/// The answer for whose lines there is no memory.
+/// The answer to a line for whose answer there is no memory.
 const NO_MEMORY: &[u8] = b"FAULT MEMORY\n";
 
-/// Standard input and output, and the connections of a socket, where there is one.
+/// Standard input and output, and the connections of a socket, if there is one.
 #[derive(Drop)]
 pub(crate) struct Multiplexer<I, W> {
     exchange: Exchange,
@@ -62,8 +62,7 @@ impl<I: Source, W: Sink> Multiplexer<I, W> {
         }
     }
 
-    /// Reads on in the line that is handed over, or waits for the next one. It reads nothing at the end: where no more lines
-    /// can come.
+    /// Reads on in the line that is handed over, or waits for the next one. It reads nothing once no more lines can come.
     ///
     /// # Errors
     ///
@@ -97,7 +96,7 @@ impl<I: Source, W: Sink> Multiplexer<I, W> {
         unreachable!()
     }
 
-    /// Hands over a line of the next side that has one, and answers whether there is one. The sides have their turns in a row.
+    /// Hands over a line of the next side that has one. It returns whether there is one. The sides have their turns in a row.
     fn begin_next(&mut self) -> bool {
         for step in 0..MOST_SIDES {
             let place = self.first.wrapping_add(step) % MOST_SIDES;
@@ -111,7 +110,7 @@ impl<I: Source, W: Sink> Multiplexer<I, W> {
         false
     }
 
-    /// Hands over `STOP` where a signal to end came, and answers whether one did.
+    /// Hands over `STOP` if a signal to end came. It returns whether one did.
     fn begin_stop(&mut self) -> bool {
         let has_come = self.signals.take();
         if has_come {
@@ -122,7 +121,7 @@ impl<I: Source, W: Sink> Multiplexer<I, W> {
         has_come
     }
 
-    /// The next line of a side, where it has one.
+    /// The next line of a side, if there is one.
     fn next_line(&mut self, side: Side) -> Option<PendingLine> {
         match side {
             Side::Standard => self.incoming.next_line(),
@@ -131,7 +130,7 @@ impl<I: Source, W: Sink> Multiplexer<I, W> {
         }
     }
 
-    /// Hands over what standard input began and did not end, without an end.
+    /// Hands over the line that standard input began and did not end, without an end.
     fn begin_last(&mut self) {
         let begun = self.incoming.take_begun();
         if !begun.is_empty() {
@@ -139,7 +138,7 @@ impl<I: Source, W: Sink> Multiplexer<I, W> {
         }
     }
 
-    /// Answers what the sides began that are over, and closes those that are connections.
+    /// Answers the begun lines of the sides that are over, and closes those that are connections.
     fn end_sides<R: Wait + Clock + Log>(&mut self, rt: &R) {
         if self.is_over {
             let begun = self.incoming.take_begun();
@@ -160,14 +159,14 @@ impl<I: Source, W: Sink> Multiplexer<I, W> {
         }
     }
 
-    /// Answers what a side began and did not end.
+    /// Answers the line that a side began and did not end.
     fn end_side<R: Wait + Clock + Log>(&mut self, rt: &R, side: Side, begun: PendingLine) {
         if !begun.is_empty() {
             self.send_fault(rt, side, Some(&begun), UNENDED);
         }
     }
 
-    /// Polls the sides. It waits where none has sent anything.
+    /// Polls the sides. It waits if none has sent anything.
     fn poll<R: Clock>(&mut self, rt: &R) -> io::Result<()> {
         if let Some(connections) = &mut self.connections {
             let has_work = !self.is_over && connections.is_standard_ready();
@@ -177,7 +176,7 @@ impl<I: Source, W: Sink> Multiplexer<I, W> {
         Ok(())
     }
 
-    /// Reads standard input once, where it may be read.
+    /// Reads standard input once, if it may be read.
     fn read_standard(&mut self) {
         let is_ready = match &self.connections {
             Some(connections) => connections.is_standard_ready(),
@@ -196,11 +195,11 @@ impl<I: Source, W: Sink> Multiplexer<I, W> {
         }
     }
 
-    /// Adds this to the answer to the line that was handed over last.
+    /// Adds these bytes to the answer to the line that was handed over last.
     ///
     /// # Errors
     ///
-    /// There is no memory for it. The side is sent a fault in place of its answer.
+    /// There is no memory for them. The side gets a fault in place of its answer.
     pub(crate) fn write<R: Wait + Clock + Log>(&mut self, rt: &R, bytes: &[u8]) -> io::Result<()> {
         if self.exchange.write(bytes).is_ok() {
             return Ok(());
@@ -210,7 +209,7 @@ impl<I: Source, W: Sink> Multiplexer<I, W> {
         Err(io::Error::from(ErrorKind::OutOfMemory))
     }
 
-    /// Sends what was written since the last line was handed over to its side. A connection takes it as it can.
+    /// Sends the text that was written since the last line to the side of that line. A connection takes it as it can.
     ///
     /// # Errors
     ///
@@ -231,7 +230,7 @@ impl<I: Source, W: Sink> Multiplexer<I, W> {
         }
     }
 
-    /// Sends a side a fault in place of an answer, and logs it with the line that it answers.
+    /// Sends a fault to a side in place of an answer, and logs it with the line that it answers.
     fn send_fault<R: Log>(&mut self, rt: &R, side: Side, line: Option<&PendingLine>, fault: &[u8]) {
         if let Some(line) = line {
             log_answer(rt, side, line.as_slice(), fault);
@@ -249,7 +248,7 @@ fn log_answer<R: Log>(rt: &R, side: Side, line: &[u8], text: &[u8]) {
     info!(rt; side:% = side, command:% = command, answer:% = answer; "command");
 }
 
-/// The side that stands at this place of their row.
+/// The side at this place of their row.
 fn side_of(place: usize) -> Side {
     match place.checked_sub(1) {
         None => Side::Standard,

@@ -1,8 +1,8 @@
 //! Signals that ask the program to end.
 //!
-//! The toolchain handles no signal, and one that the process does not block ends it at once. One that it blocks waits, and the
-//! system reports it in `/proc/self/status` (Linux, proc(5)). A process blocks from its start what its parent blocks, as by
-//! `env --block-signal=TERM`.
+//! The toolchain handles no signal. A signal that the process does not block ends it at once. A blocked one waits, and the
+//! system reports it in `/proc/self/status` (Linux, proc(5)). A process blocks from its start the signals that its parent
+//! blocks, as with `env --block-signal=TERM`.
 use std::fs;
 use std::fs::File;
 use std::os::unix::fs::FileExt;
@@ -23,10 +23,10 @@ const WAITING: &str = "ShdPnd:";
 /// SIGINT and SIGTERM, each the bit of its number less one.
 const TO_END: u64 = 0x4002;
 
-/// How many milliseconds behind each other a signal is looked for (own).
+/// The milliseconds between two looks for a signal (own).
 const PAUSE: u64 = 200;
 
-/// The signals that ask the process to end, where it blocks one of them.
+/// The signals that ask the process to end, if it blocks one of them.
 #[derive(Drop)]
 pub(crate) struct Signals {
     /// The report, until a signal was found in it.
@@ -34,12 +34,12 @@ pub(crate) struct Signals {
 }
 
 impl Signals {
-    /// None is looked for.
+    /// No signal is looked for.
     pub(crate) fn none() -> Signals {
         Signals { status: None }
     }
 
-    /// Those of this process. None is looked for where it blocks none, or the system makes no report.
+    /// The signals of this process. None is looked for if it blocks none, or the system makes no report.
     pub(crate) fn of_process<R: Files<File = File>>(rt: &R) -> Signals {
         let Ok(status) = fs::open(rt, STATUS) else {
             return Signals::none();
@@ -53,7 +53,7 @@ impl Signals {
         }
     }
 
-    /// How long anything else may be waited for until a signal is looked for again.
+    /// The longest wait for anything else until the next look for a signal.
     pub(crate) fn pause(&self) -> Option<Duration> {
         match &self.status {
             Some(_) => Some(Duration::from_millis(PAUSE)),
@@ -61,7 +61,7 @@ impl Signals {
         }
     }
 
-    /// Whether a signal came. The first one is found once, and no other is looked for then.
+    /// Whether a signal came. The first one is found once, and no other is looked for after it.
     pub(crate) fn take(&mut self) -> bool {
         let has_come = match &self.status {
             Some(status) => reports(status, WAITING),

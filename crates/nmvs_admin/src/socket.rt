@@ -1,4 +1,4 @@
-//! The socket that commands come by.
+//! The socket of the operator's commands.
 use libc::net as c;
 use mio::net::{UnixListener, UnixStream};
 use std::fs::Permissions;
@@ -11,13 +11,13 @@ use std::os::unix::net::SocketAddr;
 use std::rt::Files;
 use std::{fs, io};
 
-/// Who may open the socket: its owner alone.
+/// The permissions of the socket: its owner alone opens it.
 const OWNER_ALONE: u32 = 0o600;
 
-/// As many connections may wait to be accepted as the system allows.
+/// The most connections that may wait for an accept: as many as the system allows.
 const BACKLOG: i32 = -1;
 
-/// Listens on a socket at the path. A dead one, on which nobody listens any more, is replaced.
+/// Listens on a socket at the path. It replaces a dead one, on which nobody listens any more.
 ///
 /// # Errors
 ///
@@ -32,7 +32,7 @@ pub(crate) fn listen_at<R: Files + Net>(rt: &R, path: &str) -> io::Result<UnixLi
     }
 }
 
-/// Removes the socket at the path, which a program that ends leaves behind.
+/// Removes the socket at the path, which stays after the program's end.
 ///
 /// # Errors
 ///
@@ -43,7 +43,7 @@ pub fn remove_socket(rt: &impl Files, path: &str) -> io::Result<()> {
 
 /// Makes a socket at the path and listens on it.
 ///
-/// It is given to its owner before it is listened on: until then the system refuses each connection, so that nobody else
+/// It gets its permissions before the server listens on it. Until then the system refuses each connection, so that nobody else
 /// comes in between.
 fn make_socket<R: Files + Net>(rt: &R, path: &str) -> io::Result<UnixListener> {
     let socket = rt.unix_socket()?;
@@ -56,13 +56,13 @@ fn make_socket<R: Files + Net>(rt: &R, path: &str) -> io::Result<UnixListener> {
     Ok(UnixListener::from_std(listener))
 }
 
-/// Binds a socket to the path, and gives it to its owner.
+/// Binds a socket to the path, and lets its owner alone open it.
 fn bind<R: Files>(rt: &R, socket: BorrowedFd<'_>, path: &str) -> io::Result<()> {
     rt.bind_unix(socket, &SocketAddr::from_pathname(path)?)?;
     fs::set_permissions(rt, path, Permissions::from_mode(OWNER_ALONE))
 }
 
-/// Whether at the path is a socket on which nobody listens.
+/// Whether the path has a socket on which nobody listens.
 fn is_dead<R: Files + Net>(rt: &R, path: &str) -> bool {
     let Ok(metadata) = fs::symlink_metadata(rt, path) else {
         return false;

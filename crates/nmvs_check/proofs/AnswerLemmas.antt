@@ -1,4 +1,4 @@
--- What is told of an export, entry by entry.
+-- The answers about an export, entry by entry.
 use Rattle.std.proofs.Common.{◌≡◌, ℕ, suc, ◌+◌, ◌<◌, Bool, true, false, cond, arith, List, [], ◌∷◌, ◌++◌, take, length, get_or, fold, Option, None, Some, refl, sym, ap, subst, ◌∙◌, append_assoc, length-append, zero-add}
 use Rattle.std.specs.List.{flat_map}
 use Rattle.std.proofs.lemmas.List.{append-nil}

@@ -22,7 +22,7 @@ use Rattle.nmvs_stream.specs.Delivery.{Delivers}
 use Rattle.nmvs_check.specs.declared.line_fault.LineFault.TheVariants as faults
 use Rattle.nmvs_check.specs.Scans.{Reading, ReadsLine, ReadsLines, Answered, Finished, header, row, rows_from, scans_text, reading_of, unended}
 
--- what is kept of a scan is read as the scan is: both are too long, or nothing is lost
+-- the kept bytes of a scan are read as the whole scan is: both are too long, or nothing is lost
 long_reads : (nation : Option National) (x y : List ℕ) (r : Result Elements ScanFault) → 100 < length x → 100 < length y → ReadsScan nation x r → ReadsScan nation y r
 long_reads nation x y r lx ly h = behind nation (length x) (length y) (nat_lt 100 (length x)) (nat_lt 100 (length y)) _ _ r (lt-ltb 100 (length x) lx) (lt-ltb 100 (length y) ly) h
   where
@@ -109,7 +109,7 @@ written {start = start} {sink = sink} {rows = rows} rows' sink' so_far delivers 
   gathered = gathered-written start sink sink' rows.block.items rows'.block.items (scans_text so_far.readings) so_far.gathered delivers none;
 }
 
--- the end, where nothing or something follows the last LF
+-- the end, if nothing or something follows the last LF
 pub unended_none : (x : List ℕ) → (length (kept_part x) == 0) ≡ true → unended x ≡ []
 unended_none [] none = refl
 unended_none (b ∷ x) none =
@@ -131,8 +131,8 @@ finished {start = start} {sink = sink} {sink' = sink'} rows lines last each is a
   all_read = all ∙ ap (λ (u : List Reading). list_all is_ok (lines ++ u)) (sym is);
 }
 
--- of the lines of some bytes these are answered; the others, and what has no end, are in the rest of a read and in what was
--- begun before it, of which so much is kept
+-- of the lines of some bytes these are answered; the others, and the unfinished one, are in the rest of a read and the line
+-- begun before it, of which this part is kept
 pub record Ahead (nation : Option National) (start sink : Taken) (rows : Rows) (line rest bytes : List ℕ) : Type 0 where
   pub done : List (List ℕ)
   pub begun : List ℕ
@@ -153,13 +153,13 @@ ahead_first input chunk is so_far = record {
   left = sym (rest_after-append [] input chunk);
 }
 
--- the line that is next, with those behind it
+-- the line that is next, with those after it
 pub ahead_next : {nation : Option National} {start sink : Taken} {rows : Rows} {line rest bytes : List ℕ} (p : Ahead nation start sink rows line rest bytes)
     (x behind : List ℕ) → lines_after p.begun rest ≡ x ∷ input_lines behind → (p.done ++ x ∷ []) ++ input_lines behind ≡ input_lines bytes
 ahead_next p x behind cut =
     append_assoc p.done (x ∷ []) (input_lines behind) ∙ ap (λ (t : List (List ℕ)). p.done ++ t) (sym cut) ∙ p.ahead
 
--- what is kept of a line that was begun and goes on
+-- the kept part of a line that was begun and goes on
 pub goes_on : {line : List ℕ} (begun tail : List ℕ) → line ≡ kept_part begun → kept_part (line ++ tail) ≡ kept_part (begun ++ tail)
 goes_on begun tail keeps = ap (λ (t : List ℕ). kept_part (t ++ tail)) keeps ∙ kept_more begun tail
 

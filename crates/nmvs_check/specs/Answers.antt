@@ -1,4 +1,4 @@
--- What is told of an export (own).
+-- The answers about an export (own).
 use Rattle.std.specs.Prelude.{ℕ, Bool, true, false, List, [], ◌∷◌, ◌++◌, ◌+◌, ◌-◌, ◌==◌, length, filter, codes, decimal, fold, Option, None, Some, if◌then◌else◌, ◌≡◌, string_bytes}
 use Rattle.std.specs.List.{count_by, flat_map, list_any}
 use Rattle.std.specs.Option.{is_some}
@@ -30,7 +30,7 @@ use Rattle.nmvs_inspect.specs.declared.filter.Filter.{Filter}
 use Rattle.nmvs_check.specs.declared.request.Request.{Request}
 use Rattle.nmvs_check.specs.declared.request.Request.TheVariants as request
 
--- the product codes so far, and one more behind them where it is new
+-- the product codes so far, and one more after them if it is new
 abbrev pub with_code : List ProductCode → ProductCode → List ProductCode
 with_code seen c = if list_any (same_text c) seen then seen else seen ++ c ∷ []
 
@@ -38,15 +38,15 @@ with_code seen c = if list_any (same_text c) seen then seen else seen ++ c ∷ [
 abbrev pub codes_named : List Entry → List ProductCode
 codes_named t = fold (λ seen e. with_code seen (code_of e.put.question)) [] t
 
--- how many entries have a tag: their lines are of version 3
+-- the number of entries that have a tag: their lines are of version 3
 abbrev pub tagged_of : List Entry → ℕ
 tagged_of t = count_by (λ e. is_some e.put.tag) t
 
--- the line that tells of version 3, where there are such lines
+-- the line with the number of lines of version 3, if there are any
 abbrev pub third_text : ℕ → List ℕ
 third_text n = if n == 0 then [] else codes "VERSION 3 " ++ (decimal n ++ codes "\n")
 
--- whether a question was new, by what it is beside the entries before it
+-- whether a question was new, compared with the entries before it
 abbrev pub is_new : Repeat → Bool
 is_new repeat.New = true
 is_new _ = false
@@ -56,13 +56,13 @@ abbrev pub first_repeated_after : List Entry → List Entry → Option ℕ
 first_repeated_after u [] = None
 first_repeated_after u (e ∷ es) = if is_new (repeat_of u e.put) then first_repeated_after (u ++ e ∷ []) es else Some (length u)
 
--- the line that names the first entry whose question was asked before with its tag, and put all the same: by the number of
--- its own line, counted from 1
+-- the line that names the first entry whose question was asked before with its tag, by the number of that entry's line,
+-- counted from 1
 abbrev pub repeated_text : Option ℕ → List ℕ
 repeated_text None = []
 repeated_text (Some n) = codes "REPEATED " ++ (decimal (n + 1) ++ codes "\n")
 
--- how many lines there are, how many of them in each version, and which is the first that repeats a question
+-- the lines with the number of lines, their number in each version, and the first line that repeats a question, if any
 abbrev pub counts_text : Imported → List ℕ
 counts_text it =
     let tagged = tagged_of it.trail in
@@ -84,7 +84,7 @@ report_rows_text t = rows_text t (codes_named t)
 abbrev pub audit_text : List Entry → Pack → List ℕ
 audit_text t p = let shown = filter (is_about p) t in reply_text (Shown (length shown)) shown
 
--- what stands at the head of a page: this heading, from when to when the trail goes, and these counts
+-- the head of a page: this heading, the period of the trail, and these counts
 pub record IsHead (heading : List ℕ) (it : Imported) (text : List ℕ) : Type 0 where
   pub line : List ℕ
   pub period : IsLineOf (period_of it.trail) line
@@ -101,7 +101,7 @@ ShowsUnder head it old new =
 abbrev pub Shows : List ℕ → Imported → Taken → Taken → Type 0
 Shows heading it old new = (head : List ℕ) × IsHead heading it head × ShowsUnder head it old new
 
--- how many entries there are, where what is asked is about those that a filter takes, and it takes none
+-- the number of entries, if a filter takes none of them
 abbrev pub none_of : List Entry → Filter → Option ℕ
 none_of t f = if list_any (takes f t) t then None else Some (length t)
 
@@ -111,7 +111,7 @@ untaken t (request.Count f bs form) = none_of t f
 untaken t (request.Story p form) = none_of t (story_of p)
 untaken t _ = None
 
--- the answer that a sink took, between what it told before and after
+-- the answer to a request, which a sink took between these two states
 abbrev pub Tells : Imported → Request → Taken → Taken → Type 0
 Tells it request.Summary old new = Delivers old new (summary_text it)
 Tells it (request.Report c) old new = Delivers old new (report_text it.trail c)

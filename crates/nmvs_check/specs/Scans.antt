@@ -1,4 +1,4 @@
--- What is told of lines of scans (own).
+-- The answers to lines of scans (own).
 use Rattle.std.specs.Prelude.{◌≡◌, ℕ, ◌+◌, Bool, true, List, [], ◌∷◌, ◌++◌, length, Option, Some, None, Result, Ok, Err, is_ok, codes}
 use Rattle.std.specs.Fmt.{decimal}
 use Rattle.std.specs.List.{list_all}
@@ -18,7 +18,7 @@ use Rattle.nmvs_check.specs.declared.line_fault.LineFault.{LineFault}
 use Rattle.nmvs_check.specs.declared.line_fault.LineFault.TheVariants as faults
 use Rattle.nmvs_check.specs.declared.scans.Rows.{Rows}
 
--- what a line is read as
+-- the reading of a line: the elements of a pack, or a fault
 abbrev pub Reading : Type 0
 Reading = Result Elements LineFault
 
@@ -44,7 +44,7 @@ ReadsLines nation (line ∷ lines) (reading ∷ readings) = ReadsLine nation lin
 ReadsLines nation [] (reading ∷ readings) = ⊥
 ReadsLines nation (line ∷ lines) [] = ⊥
 
--- what follows the last LF is no line
+-- the bytes after the last LF are no line
 abbrev pub unended : List ℕ → List Reading
 unended [] = []
 unended (b ∷ bs) = Err faults.Unended ∷ []
@@ -80,7 +80,7 @@ header = codes "line,code,serial,batch,expiry,national,fault\n"
 abbrev pub scans_text : List Reading → List ℕ
 scans_text readings = header ++ rows_from 1 readings
 
--- the lines of an input and what follows the last LF are answered, whether all of them are read
+-- the lines of an input and the bytes after the last LF are answered; `all` is whether all of them are read
 pub record Finished (nation : Option National) (sink sink' : Taken) (input : List ℕ) (all : Bool) : Type 0 where
   pub lines : List Reading
   pub each : ReadsLines nation (input_lines input) lines
@@ -94,7 +94,7 @@ pub record Tells (nation : Option National) (source source' : Told) (sink sink' 
   pub ended : source'.ended ≡ true
   pub answered : Finished nation sink sink' input all
 
--- the rows of these lines are gathered, of which the sink took some since it told `start`
+-- the rows of these lines are gathered, of which the sink took some since `start`
 pub record Answered (nation : Option National) (start sink : Taken) (rows : Rows) (lines : List (List ℕ)) : Type 0 where
   pub readings : List Reading
   pub each : ReadsLines nation lines readings

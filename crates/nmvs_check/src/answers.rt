@@ -1,4 +1,4 @@
-//! What is told of a lawful export.
+//! The answers about a lawful export.
 ghost use Rattle.std.specs.Prelude.{◌≡◌, ◌+◌, ◌<◌, ◌^◌, ◌++◌, IfOk, IfSome, OnOk, string_bytes};
 ghost use Rattle.std.specs.List.{flat_map};
 ghost use Rattle.nmvs_stream.specs.Delivery.{Delivers};
@@ -19,7 +19,7 @@ use nmvs_shard::{HashKey, Shard};
 use nmvs_stream::{Sink, deliver};
 use std::alloc::{AllocError, Global};
 
-/// Tells what is asked of what was imported.
+/// Writes the answer to a request about an import.
 ///
 /// # Errors
 ///
@@ -47,7 +47,7 @@ pub(crate) fn tell<W: Sink>(
     }
 }
 
-/// How many entries there are, where what is asked is about those that a filter takes, and it takes none.
+/// The number of entries, if the request is about those that a filter takes, and the filter takes none.
 pub(crate) fn untaken(shard: &Shard<Global>, request: &Request) -> Option<usize>
     ensures { result ≡ answers.untaken shard.now request.now }
 {
@@ -85,7 +85,7 @@ fn summary(alloc: Global, importer: &Importer<Shard<Global>>) -> Result<String, 
     Ok(text)
 }
 
-/// How many lines there are, how many of them in each version, and which is the first that repeats a question.
+/// The lines with the number of lines, their number in each version, and the first line that repeats a question, if any.
 fn counts_text(alloc: Global, importer: &Importer<Shard<Global>>) -> Result<String, AllocError>
     ensures { IfOk result (λ text. string_bytes text ≡ answers.counts_text importer.now) }
 {
@@ -98,7 +98,7 @@ fn counts_text(alloc: Global, importer: &Importer<Shard<Global>>) -> Result<Stri
     format!(in alloc; "LAWFUL {lines}\nVERSION 1 {older}\nVERSION 2 {newer}\n{third}{repeated}")
 }
 
-/// The line that names the first entry whose question was asked before with its tag, where there is one.
+/// The line that names the first entry whose question was asked before with its tag, if there is one.
 fn repeated_text(alloc: Global, place: Option<usize>) -> Result<String, AllocError>
     requires { IfSome place (λ place. place + 1 < 2 ^ 64) }
     ensures { IfOk result (λ text. string_bytes text ≡ answers.repeated_text place) }
@@ -110,7 +110,7 @@ fn repeated_text(alloc: Global, place: Option<usize>) -> Result<String, AllocErr
     format!(in alloc; "REPEATED {line}\n")
 }
 
-/// The line that tells of version 3, where there are such lines.
+/// The line with the number of lines of version 3, if there are any.
 fn third_text(alloc: Global, tagged: usize) -> Result<String, AllocError>
     ensures { IfOk result (λ text. string_bytes text ≡ answers.third_text tagged) }
 {
@@ -202,7 +202,7 @@ fn page<W: Sink>(
     page_under(alloc, importer, &head, sink)
 }
 
-/// The same under its whole head.
+/// Writes the same page under its whole head.
 fn page_under<W: Sink>(
     alloc: Global,
     importer: &Importer<Shard<Global>>,
@@ -216,7 +216,7 @@ fn page_under<W: Sink>(
     write_page(alloc, shard, head, codes.as_slice(), sink)
 }
 
-/// The head of a page: a heading, from when to when the trail goes, and the counts.
+/// The head of a page: a heading, the period of the trail, and the counts.
 fn head_text(
     alloc: Global,
     importer: &Importer<Shard<Global>>,

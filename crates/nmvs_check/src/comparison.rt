@@ -14,23 +14,23 @@ use nmvs_shard::{HashKey, Shard};
 use nmvs_stream::{Sink, Source};
 use std::alloc::{AllocError, Global};
 
-/// Why nothing is told of two exports.
+/// The fault of a comparison of two exports.
 #[derive(Clone, Copy)]
 pub(crate) enum CompareFault {
     /// The old one is no export of a lawful trail, or was not read to its end.
     Old(Finding),
     /// The old one is lawful, and the new one is not, or was not read to its end.
     New(Finding),
-    /// Both are lawful, and the answer was not told to its end.
+    /// Both are lawful, and the answer was not written to its end.
     Answer(AnswerFault),
 }
 
-/// Reads two exports to their ends, tells whether the new one goes on from the old one, and gives the same.
+/// Reads two exports to their ends, and writes and returns whether the new one goes on from the old one.
 ///
 /// # Errors
 ///
-/// What was found where one is no export of a lawful trail, or so many reads did not reach its end, and then nothing is
-/// told; out of memory; or the answer cannot be written.
+/// One of them is no export of a lawful trail, or this number of reads did not reach its end: then nothing is written. Or
+/// there is no memory, or the answer cannot be written.
 pub(crate) fn compare<R: Source, W: Sink>(
     alloc: Global,
     key: HashKey,
@@ -60,7 +60,7 @@ pub(crate) fn compare<R: Source, W: Sink>(
     }
 }
 
-/// Reads the new export to its end, tells whether it goes on from the old trail, and gives the same.
+/// Reads the new export to its end, and writes and returns whether it goes on from the old trail.
 fn compare_with<R: Source, W: Sink>(
     alloc: Global,
     key: HashKey,
@@ -85,7 +85,7 @@ fn compare_with<R: Source, W: Sink>(
     }
 }
 
-/// Tells whether the new trail goes on from the old one, and gives the same.
+/// Writes and returns whether the new trail goes on from the old one.
 fn tell<W: Sink>(
     alloc: Global,
     old: &Shard<Global>,
@@ -106,8 +106,8 @@ fn tell<W: Sink>(
     }
 }
 
-/// What is told where a trail goes on: how many product codes the old one names, how many entries it has, and how many
-/// more the new one has.
+/// The answer if the new trail goes on: the number of product codes that the old one names, of its entries, and of the
+/// further entries of the new one.
 fn on_text(alloc: Global, old: &Shard<Global>, new: &Shard<Global>) -> Result<String, AllocError>
     ensures { IfOk result (λ text. string_bytes text ≡ spec.on_text old.now new.now) }
 {
@@ -117,8 +117,8 @@ fn on_text(alloc: Global, old: &Shard<Global>, new: &Shard<Global>) -> Result<St
     format!(in alloc; "GOES ON PRODUCTS {products} ENTRIES {entries} MORE {more}\n")
 }
 
-/// What is told where a trail departs: the number and the product code of the old line, that line, and what the new export
-/// has in its place.
+/// The answer if the new trail departs: the number and the product code of the old line, that line, and the line that the
+/// new export has in its place, if any.
 fn departure_text(alloc: Global, departure: &Departure) -> Result<String, AllocError>
     ensures { IfOk result (λ text. string_bytes text ≡ spec.departure_text departure.now) }
 {

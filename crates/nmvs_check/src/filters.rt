@@ -125,7 +125,7 @@ pub(crate) fn filter_of(alloc: Global, matches: &ArgMatches<'_>) -> Result<Filte
     })
 }
 
-/// What the options say that entries are counted by.
+/// The parts that the options name, by which entries are counted.
 pub(crate) fn by_of(alloc: Global, matches: &ArgMatches<'_>) -> Result<Vec<By>, OptionFault> {
     let mut parts = Vec::new(alloc);
     if let Some(words) = matches.get_str("by") {
@@ -244,7 +244,7 @@ fn reply(alloc: Global, matches: &ArgMatches<'_>) -> Result<Option<ReplyKind>, O
     }
 }
 
-/// Why a value is refused.
+/// The fault of a refused value.
 pub(crate) fn refused(alloc: Global, text: &str, wanted: &str) -> OptionFault {
     match format!(in alloc; "error: '{text}' is no {wanted}\n") {
         Ok(text) => OptionFault::Refused(text),

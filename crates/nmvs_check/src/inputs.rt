@@ -1,4 +1,4 @@
-//! Files that are read one after another, each compared with the digest beside it.
+//! Files that are read one after another. Each is compared with its stored digest, in the file next to it.
 use nmvs_digest::{DigestFault, Digested, digest_line, file_name, stored_digest};
 use nmvs_stream::{Device, Source};
 use std::alloc::{AllocError, Global};
@@ -31,22 +31,22 @@ struct Input {
     source: Digested<Device<Handle>>,
 }
 
-/// The bytes of files, one after another. A read fails at the end of a file whose digest is not the one beside it.
+/// The bytes of files, one after another. A read fails at the end of a file whose digest is not the stored one.
 #[derive(Drop)]
 pub(crate) struct Inputs {
     /// Those that were not read to their end, the next one last.
     inputs: Vec<Input>,
-    /// The file whose digest is not the one beside it.
+    /// The file whose digest is not the stored one.
     differing: Option<String>,
 }
 
-/// Why files are not read.
+/// The fault of files that are not read.
 #[derive(Drop)]
 pub(crate) enum InputFault {
     Memory,
     /// The file at this path cannot be opened.
     Closed(String),
-    /// It is not known which digest the file at this path has to have.
+    /// The stored digest of the file at this path cannot be read, or is none.
     Digest(String, DigestFault),
 }
 
@@ -57,11 +57,11 @@ impl From<AllocError> for InputFault {
 }
 
 impl Inputs {
-    /// Opens files, of which `-` is standard input, as where there is none.
+    /// Opens files. The path `-` is standard input, and so is an empty list.
     ///
     /// # Errors
     ///
-    /// A file or the digest beside it cannot be opened, the digest is none, or there is no memory for the list.
+    /// A file cannot be opened, its stored digest cannot be read or is none, or there is no memory for the list.
     pub(crate) fn open(
         rt: &HostRuntime,
         alloc: Global,
@@ -82,7 +82,7 @@ impl Inputs {
         Ok(text)
     }
 
-    /// The path of the file whose digest is not the one beside it, where a read failed for that.
+    /// The path of the file whose digest is not the stored one, if a read failed for that.
     pub(crate) fn differing(&self) -> Option<&String> {
         self.differing.as_ref()
     }
@@ -172,7 +172,7 @@ fn open_input(rt: &HostRuntime, alloc: Global, path: &str) -> Result<Input, Inpu
     }
 }
 
-/// Standard input. Where it is a terminal, people are told what is read from it.
+/// Standard input. If it is a terminal, a line on standard error says that an export is read from it.
 fn standard_input(rt: &HostRuntime) -> Stdin {
     let input = rt.stdin();
     if input.is_terminal() {
@@ -203,7 +203,7 @@ impl Read for Inputs {
 }
 
 impl Inputs {
-    /// Compares the file whose end was read with the digest beside it, and goes on to the next one.
+    /// Compares the digest of the file whose end was read with the stored one, and goes on to the next file.
     fn end(&mut self) -> io::Result<()> {
         let Some(
             Input {

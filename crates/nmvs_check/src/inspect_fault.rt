@@ -1,16 +1,16 @@
-//! Why nothing is told of an export.
+//! The faults of an inspection.
 use nmvs_inspect::AnswerFault;
 use nmvs_protocol::reply_text;
 use nmvs_record::{Finding, Objection};
 use nmvs_rules::Reply;
 use std::alloc::{AllocError, Global};
 
-/// Why nothing is told of an export.
+/// A fault of an inspection, or of the answer to scans.
 #[derive(Clone, Copy)]
 pub(crate) enum InspectFault {
-    /// It is no export of a lawful trail, or was not read to its end.
+    /// The input is no export of a lawful trail, or was not read to its end.
     Found(Finding),
-    /// It is lawful, and the answer was not told to its end.
+    /// The answer was not written to its end.
     Answer(AnswerFault),
 }
 

@@ -13,13 +13,13 @@ use nmvs_shard::HashKey;
 use nmvs_stream::{Sink, Source};
 use std::alloc::Global;
 
-/// Reads an export to its end, and tells what is asked of it. It gives how many entries there are, where what is asked is
-/// about those that a filter takes, and it takes none.
+/// Reads an export to its end, and writes the answer to a request. It returns the number of entries, if the request is about
+/// those that a filter takes, and the filter takes none.
 ///
 /// # Errors
 ///
-/// What was found where the input is no export of a lawful trail, or so many reads did not reach its end, and then
-/// nothing is told; out of memory; or the answer cannot be written.
+/// The input is no export of a lawful trail, or this number of reads did not reach its end: then nothing is written. Or
+/// there is no memory, or the answer cannot be written.
 pub(crate) fn inspect<R: Source, W: Sink>(
     alloc: Global,
     key: HashKey,

@@ -1,11 +1,11 @@
-//! Why a line of scans is not read.
+//! The faults of lines of scans.
 ghost use Rattle.std.specs.Prelude.{Some};
 ghost use Rattle.nmvs_check.specs.Scans.{fault_text};
 
 use nmvs_elements::ScanFault;
 use std::fmt;
 
-/// Why a line of scans is not read as the code of a pack.
+/// The fault of a line of scans that is not read as the code of a pack.
 #[derive(Clone, Copy)]
 pub(crate) enum LineFault {
     /// It has no bytes.

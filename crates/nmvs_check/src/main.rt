@@ -1,4 +1,4 @@
-//! The program that checks an export, for whoever has one and nothing else.
+//! The program that checks an export. It needs the export and nothing else.
 #![tactic(auto)]
 
 mod answers;
@@ -37,10 +37,10 @@ use std::{env, io, slice};
 /// The most reads of an export, or of lines of scans.
 const READS: u64 = 1_000_000_000;
 
-/// The status of an export with another digest than the one beside it.
+/// The status of an export whose digest is not the stored one.
 const BAD: u8 = 1;
 
-/// The status where nothing is known of the input, or not all of the answer was written.
+/// The status if nothing is known of the input, or not all of the answer was written.
 const TROUBLE: u8 = 2;
 
 fn main(rt: HostRuntime) -> ExitCode {
@@ -68,7 +68,7 @@ fn words<R: Env + AllocGlobal>(rt: &R) -> io::Result<Vec<String>> {
     Ok(words)
 }
 
-/// Does what is asked, and gives the status.
+/// Does what is asked, and returns the status.
 fn answer(rt: &HostRuntime, alloc: Global, asked: &Asked) -> ExitCode {
     let Ok(key) = HashKey::draw(rt) else {
         return fail(rt, "no random bytes");
@@ -81,7 +81,7 @@ fn answer(rt: &HostRuntime, alloc: Global, asked: &Asked) -> ExitCode {
     }
 }
 
-/// Checks the export that the options name, tells the answer or the fault, and gives the status.
+/// Checks the export that the options name, prints the answer or the fault, and returns the status.
 fn check(rt: &HostRuntime, alloc: Global, key: HashKey, options: &Options) -> ExitCode {
     let mut inputs = match opened(rt, alloc, &options.files) {
         Ok(inputs) => inputs,
@@ -103,7 +103,7 @@ fn check(rt: &HostRuntime, alloc: Global, key: HashKey, options: &Options) -> Ex
     }
 }
 
-/// Writes a page of the export in these files, tells the fault, and gives the status.
+/// Writes a page of the export in these files, or prints the fault, and returns the status.
 fn page(rt: &HostRuntime, alloc: Global, key: HashKey, path: &str, files: &[String]) -> ExitCode {
     let mut inputs = match opened(rt, alloc, files) {
         Ok(inputs) => inputs,
@@ -123,7 +123,7 @@ fn page(rt: &HostRuntime, alloc: Global, key: HashKey, path: &str, files: &[Stri
     }
 }
 
-/// Tells why an answer was not written to its end, unless its reader left, and gives the status that it makes.
+/// Prints why an answer was not written to its end, unless its reader left, and returns the status.
 fn fail_answer(rt: &HostRuntime, output: &Output, fault: AnswerFault) -> ExitCode {
     if !output.is_left() {
         let _ = eprintln!(rt; "{fault}");
@@ -131,7 +131,7 @@ fn fail_answer(rt: &HostRuntime, output: &Output, fault: AnswerFault) -> ExitCod
     ExitCode::from(TROUBLE)
 }
 
-/// Tells the fault of an export, and gives the status that it makes.
+/// Prints the fault of an export, and returns its status.
 fn fail_at(rt: &HostRuntime, alloc: Global, inputs: &Inputs, fault: &InspectFault) -> ExitCode {
     if let Some(path) = inputs.differing() {
         return fail_digest(rt, path);
@@ -145,7 +145,7 @@ fn fail_at(rt: &HostRuntime, alloc: Global, inputs: &Inputs, fault: &InspectFaul
     }
 }
 
-/// Compares the exports in two files, tells the answer or the fault, and gives the status.
+/// Compares the exports in two files, prints the answer or the fault, and returns the status.
 fn compare_files(
     rt: &HostRuntime,
     alloc: Global,
@@ -175,7 +175,7 @@ fn compare_files(
     }
 }
 
-/// Opens the files of an export. Where one cannot be opened it tells so, and gives the status.
+/// Opens the files of an export. If one cannot be opened, it prints the fault and returns the status.
 fn opened(rt: &HostRuntime, alloc: Global, paths: &[String]) -> Result<Inputs, ExitCode> {
     match Inputs::open(rt, alloc, paths) {
         Ok(inputs) => Ok(inputs),
@@ -191,13 +191,13 @@ fn opened(rt: &HostRuntime, alloc: Global, paths: &[String]) -> Result<Inputs, E
     }
 }
 
-/// Tells that the digest of a file is not the one beside it, and gives the status that this makes.
+/// Prints that the digest of a file is not the stored one, and returns the status of this.
 fn fail_digest(rt: &HostRuntime, path: &str) -> ExitCode {
     let _ = eprintln!(rt; "the digest of {path} is not the one in {path}.sha256");
     ExitCode::from(BAD)
 }
 
-/// Tells what was found of the export in a file, and gives the status that it makes.
+/// Prints the fault of the export in a file, and returns its status.
 fn fail_of(
     rt: &HostRuntime,
     alloc: Global,
@@ -218,7 +218,7 @@ fn fail_of(
     }
 }
 
-/// Reads lines of scans on standard input, writes a row for each, and gives the status.
+/// Reads lines of scans on standard input, writes a row for each, and returns the status.
 fn scan(rt: &HostRuntime, alloc: Global, nation: Option<National>) -> ExitCode {
     let mut output = Output::new(rt.stdout());
     let answered = {
@@ -232,7 +232,7 @@ fn scan(rt: &HostRuntime, alloc: Global, nation: Option<National>) -> ExitCode {
     }
 }
 
-/// Tells of trouble, and gives its status.
+/// Prints a fault, and returns the status of trouble.
 fn fail(rt: &HostRuntime, fault: &str) -> ExitCode {
     let _ = eprintln!(rt; "{fault}");
     ExitCode::from(TROUBLE)

@@ -10,7 +10,7 @@ use nmvs_identifier::{Pack, ProductCode, Serial};
 use nmvs_inspect::Form;
 use std::alloc::{AllocError, Global};
 
-/// What a command line asks for (own).
+/// The task that a command line asks for (own).
 #[derive(Drop)]
 pub(crate) enum Asked {
     /// To inspect an export.
@@ -34,16 +34,16 @@ pub(crate) enum Asked {
 /// A command line that was taken, and asks for an inspection (own).
 #[derive(Drop)]
 pub(crate) struct Options {
-    /// Paths of the files that are the export, one after another; `-` is standard input, as where there is none.
+    /// Paths of the files of the export, one after another. The path `-` is standard input, and so is an empty list.
     pub files: Vec<String>,
     pub request: Request,
 }
 
-/// Why a command line gives no options.
+/// The reason why a command line gives no task.
 #[derive(Drop)]
 pub(crate) enum OptionFault {
     Memory,
-    /// The line is refused, with the text that says why.
+    /// The line is refused, with the text of its fault.
     Refused(String),
     /// The line asks for help or the version, with its text.
     Help(String),
@@ -96,11 +96,11 @@ const SCAN: &str =
     "Reads each line of standard input as a scan of a pack, and writes a row of CSV: the elements of the pack, or why the \
     scan is not read. The status is 0 where all lines are read, 1 where some are not, and 2 in trouble";
 
-/// What the words after the program's own name ask for.
+/// The task that the words after the program's own name ask for.
 ///
 /// # Errors
 ///
-/// The words are no command line, or ask for help.
+/// The words are no command line, or ask for help or the version, or there is no memory.
 pub(crate) fn read_options(alloc: Global, words: &[String]) -> Result<Asked, OptionFault> {
     match command(alloc)?
         .no_binary_name(true)
@@ -128,7 +128,7 @@ fn command<'a>(alloc: Global) -> Result<Command<'a>, AllocError> {
     with_subcommand(command, page(alloc))
 }
 
-/// A command with a subcommand, where there was memory for it.
+/// A command with a subcommand, if there was memory for it.
 fn with_subcommand<'a>(
     command: Command<'a>,
     subcommand: Result<Command<'a>, AllocError>,

@@ -1,4 +1,4 @@
-//! Pages in files. A file that has its name is whole: it is written beside its place, and then renamed.
+//! Pages in files. A file that has its name is whole: it is written under another name, and then renamed.
 use crate::inputs::Inputs;
 use crate::inspect_fault::InspectFault;
 use crate::inspection::inspect;
@@ -11,10 +11,10 @@ use std::fs::{self, File};
 use std::io::{self, ErrorKind};
 use std::rt::HostRuntime;
 
-/// Why a page is not written. The file of its name is then what it was before, if there was one.
+/// The fault of a page that is not written. The file of its name stays as it was, if there was one.
 #[derive(Drop)]
 pub(crate) enum PageFault {
-    /// Nothing is told of the export.
+    /// The inspection of the export failed.
     Inspect(InspectFault),
     /// The file cannot be written.
     File,
@@ -29,8 +29,8 @@ const MEMORY: PageFault = PageFault::Inspect(InspectFault::Answer(AnswerFault::M
 ///
 /// # Errors
 ///
-/// What was found where the input is no export of a lawful trail, or so many reads did not reach its end; there is no
-/// memory; the file is one of the exports, by whatever name; or the system refuses it.
+/// The input is no export of a lawful trail, or this number of reads did not reach its end. Or there is no memory, the file is
+/// one of the exports, by whatever name, or the system refuses it.
 pub(crate) fn write_page(
     rt: &HostRuntime,
     alloc: Global,
@@ -65,7 +65,7 @@ fn is_export(rt: &HostRuntime, path: &str, inputs: &Inputs) -> bool {
     }
 }
 
-/// A new file beside the one of this path, which is a file or nothing.
+/// A new file next to the one of this path, which is a file or nothing.
 fn create(rt: &HostRuntime, path: &str, part: &str) -> io::Result<File> {
     match fs::metadata(rt, path) {
         Ok(found) if !found.is_file() => Err(io::Error::from(ErrorKind::InvalidInput)),

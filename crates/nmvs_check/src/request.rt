@@ -1,10 +1,10 @@
 use nmvs_identifier::{Batch, Pack, ProductCode};
 use nmvs_inspect::{By, Filter, Form};
 
-/// What is asked of an export.
+/// A request about an export.
 #[derive(Drop)]
 pub(crate) enum Request {
-    /// How many lines it has, and how many of each version; the holder and the alerts of each product code.
+    /// The number of its lines, and of those of each version; the holder and the alerts of each product code.
     Summary,
     /// The report of a product code.
     Report(ProductCode),
@@ -16,7 +16,7 @@ pub(crate) enum Request {
     Audit(Pack),
     /// The entries that the filter takes.
     List(Filter, Form),
-    /// How many of the entries that the filter takes have the same parts.
+    /// The entries that the filter takes, counted by these parts.
     Count(Filter, Vec<By>, Form),
     /// A page for a browser, under this heading.
     Page(String),

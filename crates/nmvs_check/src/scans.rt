@@ -1,4 +1,4 @@
-//! What lines of scans are read as.
+//! Lines of scans, and the rows that answer them.
 ghost use Rattle.std.specs.Prelude.{◌≡◌, ◌<◌, ◌≤◌, ◌+◌, ◌^◌, ◌++◌, ◌&&◌, ℕ, List, Option, true, false, is_ok, length, map, IfOk, IfErr, OnOk};
 ghost use Rattle.csv.specs.Writing.{default_writer, row_text};
 ghost use Rattle.nmvs_stream.specs.InputLines.{input_lines, unfinished_line};
@@ -21,7 +21,7 @@ use std::alloc::{AllocError, Global};
 /// The columns of the answer.
 const HEADER: &str = "line,code,serial,batch,expiry,national,fault\n";
 
-/// Reads the lines of a source to its end, each as a scan, and writes a row of CSV for each. It gives whether all were read.
+/// Reads the lines of a source to its end, each as a scan, and writes a row of CSV for each. It returns whether all are read.
 ///
 /// It takes memory for the rows of one read, whatever the number and the length of the lines.
 ///
@@ -72,7 +72,7 @@ struct Rows {
     count: u64,
     /// Whether each was read.
     all_read: bool,
-    /// The text that was not written.
+    /// The text that is not written yet.
     block: Vec<u8>,
 }
 
@@ -92,7 +92,7 @@ impl Rows {
         })
     }
 
-    /// Goes on with the row of the next line.
+    /// Adds the row of the next line.
     fn push(
         &mut self,
         alloc: Global,
@@ -131,7 +131,7 @@ fn answer_chunk<W: Sink>(
     Ok(())
 }
 
-/// Goes on with the rows of the lines that have their LF in the bytes of one read.
+/// Adds the rows of the lines that have their LF in the bytes of one read.
 fn take_chunk(
     alloc: Global,
     nation: Option<National>,
@@ -157,7 +157,7 @@ fn take_chunk(
     Ok(())
 }
 
-/// Answers what follows the last LF, and writes what was not written.
+/// Answers the bytes after the last LF, if any, and writes the rest of the rows.
 fn finish<W: Sink>(
     alloc: Global,
     line: &PendingLine,
@@ -176,7 +176,7 @@ fn finish<W: Sink>(
     Ok(rows.all_read)
 }
 
-/// What a line is read as, of which as much is given as is kept of it.
+/// The reading of a line, by its kept bytes.
 fn read_line(line: &[u8], nation: Option<National>) -> Result<Elements, LineFault>
     ensures { scans.ReadsLine nation line.now result }
 {

@@ -5,14 +5,14 @@ ghost use Rattle.nmvs_check.specs.Status as statuses;
 use crate::inspect_fault::InspectFault;
 use nmvs_record::{Finding, Objection};
 
-/// The status of an answer: 0 where the new export goes on, or all scans are read; 1 where not.
+/// The status of an answer: 0 if the new export goes on, or all scans are read, and else 1.
 pub(crate) fn status_of_answer(holds: bool) -> u8
     ensures { result ≡ statuses.status_of_answer holds }
 {
     if holds { 0 } else { 1 }
 }
 
-/// The status that a fault makes: 1 where the input is no export of a lawful trail, and 2 where that is not known, or where
+/// The status of a fault: 1 if the input is no export of a lawful trail, and 2 if that is not known, or if
 /// it is lawful.
 pub(crate) fn status_of(fault: &InspectFault) -> u8
     ensures { result ≡ statuses.status_of fault.now }

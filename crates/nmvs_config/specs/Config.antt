@@ -1,4 +1,4 @@
--- What a file of options gives together with a command line, and why it gives nothing (own).
+-- The words that a file of options gives together with a command line, and the faults of the file (own).
 use Rattle.std.specs.Prelude.{⊤, ◌≡◌, ◌≤◌, ◌+◌, ◌==◌, ◌++◌, ℕ, List, Some, None, length, take, count_by, string_bytes}
 use Rattle.toml.specs.Data.{Members}
 use Rattle.toml.specs.Parse.{parse_document}
@@ -7,7 +7,7 @@ use Rattle.nmvs_config.specs.declared.faults.ConfigFault.{ConfigFault}
 use Rattle.nmvs_config.specs.declared.faults.EntryFault.{EntryFault}
 use Rattle.nmvs_config.specs.declared.faults.ConfigFault.TheVariants.{Memory, Open, Read, Long, Utf8, Syntax, Entry}
 
--- the text is TOML whose entries are options, and these are their words that the command line doesn't name, then its own
+-- the text is TOML whose entries are options; these are their words that the command line does not name, then its own
 pub record Gives (text : List ℕ) (line all : List (List ℕ)) : Type 0 where
   pub entries : Members
   pub read : parse_document text ≡ Some entries
@@ -28,7 +28,7 @@ IsLineAt text place line = line ≡ count_by (λ b. b == 10) (take place text) +
 abbrev pub IsLineWithin : List ℕ → ℕ → Type 0
 IsLineWithin text line = (place : ℕ) × (place ≤ length text) × IsLineAt text place line
 
--- what the fault of a text tells that was not read, by whether memory was wanting
+-- the meaning of the fault of a text that was not read, by whether memory was lacking
 abbrev pub TellsText : List ℕ → Type 0 → ConfigFault → Type 0
 TellsText text memory Memory = memory
 TellsText text memory (Syntax line) = ¬ memory × IsLineWithin text line
@@ -38,7 +38,7 @@ TellsText text memory Long = ⊥
 TellsText text memory Utf8 = ⊥
 TellsText text memory (Entry key fault) = ⊥
 
--- what a fault tells of the text of a file
+-- the meaning of a fault of the text of a file
 abbrev pub Refuses : List ℕ → ConfigFault → Type 0
 Refuses text Memory = ⊤
 Refuses text (Syntax line) = (parse_document text ≡ None) × IsLineWithin text line

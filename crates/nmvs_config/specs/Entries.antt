@@ -1,4 +1,4 @@
--- The entries of a file of options: which are options, and the words that say the same on a command line (own).
+-- The entries of a file of options: those that are options, and the words that say the same on a command line (own).
 use Rattle.std.specs.Prelude.{◌||◌, ◌++◌, ℕ, Bool, true, false, List, [], ◌∷◌, codes, Option, Some, None, option_map, if◌then◌else◌}
 use Rattle.std.specs.Fmt.{signed_decimal}
 use Rattle.std.specs.List.{list_any}
@@ -10,7 +10,7 @@ use Rattle.nmvs_config.specs.declared.faults.EntryFault.TheVariants.{Unknown, Co
 use Rattle.nmvs_config.specs.declared.kinds.Kind.{Kind}
 use Rattle.nmvs_config.specs.declared.kinds.Kind.TheVariants.{Text, Number, Address, Flag}
 
--- what the value of an option is, in the words of TOML
+-- the kind of the value of an option, in the words of TOML
 abbrev pub kind_text : Kind → List ℕ
 kind_text Text = codes "a string"
 kind_text Number = codes "an integer"
@@ -37,6 +37,7 @@ kind_of key =
     else if bytes_eq key (codes "workers") then Some Number
     else if bytes_eq key (codes "sessions") then Some Number
     else if bytes_eq key (codes "connections") then Some Number
+    else if bytes_eq key (codes "connection-memory") then Some Number
     else if bytes_eq key (codes "idle") then Some Number
     else if bytes_eq key (codes "rate") then Some Number
     else if bytes_eq key (codes "burst") then Some Number
@@ -58,7 +59,7 @@ value_fault Address (integer number) = None
 value_fault Flag (boolean given) = None
 value_fault kind _ = Some (Mistyped kind)
 
--- the fault of an option of this kind, where there is one
+-- the fault of an option of this kind, if there is one
 abbrev pub fault_by : Option Kind → Data → Option EntryFault
 fault_by None value = Some Unknown
 fault_by (Some kind) value = value_fault kind value
@@ -67,7 +68,7 @@ fault_by (Some kind) value = value_fault kind value
 abbrev pub entry_fault : List ℕ → Data → Option EntryFault
 entry_fault key value = if bytes_eq key (codes "config") then Some Config else fault_by (kind_of key) value
 
--- the words that say the same as an entry: one, or none where a flag is not given
+-- the words that say the same as an entry: one, or none if a flag is not given
 abbrev pub entry_words : List ℕ → Data → List (List ℕ)
 entry_words key (string text) = (codes "--" ++ (key ++ (codes "=" ++ text))) ∷ []
 entry_words key (integer number) = (codes "--" ++ (key ++ (codes "=" ++ signed_decimal number))) ∷ []
@@ -84,7 +85,7 @@ abbrev pub first_fault : Members → Option (List ℕ × EntryFault)
 first_fault no_members = None
 first_fault (member key value rest) = first_of (option_map (λ fault. (key, fault)) (entry_fault key value)) (first_fault rest)
 
--- this fault of the entry of this key, where it is one
+-- this fault of the entry of this key, if it is one
 abbrev pub fault_list : List ℕ → Option EntryFault → List (List ℕ × EntryFault)
 fault_list key None = []
 fault_list key (Some fault) = (key, fault) ∷ []

@@ -1,8 +1,8 @@
--- What the words of a command line name (own).
+-- The names in the words of a command line (own).
 use Rattle.std.specs.Prelude.{◌==◌, ◌&&◌, ℕ, Bool, true, List, [], ◌∷◌, codes, length, take, drop, Option, Some, None, if◌then◌else◌}
 use Rattle.std.specs.Str.{bytes_eq}
 
--- whether these bytes begin so
+-- whether bytes begin with these
 abbrev pub begins : List ℕ → List ℕ → Bool
 begins start bytes = bytes_eq (take (length start) bytes) start
 
@@ -20,7 +20,7 @@ abbrev pub first_word : List (List ℕ) → Option (List ℕ)
 first_word [] = None
 first_word (word ∷ words) = Some word
 
--- the file that a command line names by its first --config: the next word, or what stands behind =
+-- the file that a command line names by its first --config: the next word, or the bytes after =
 abbrev pub config_file : List (List ℕ) → Option (List ℕ)
 config_file [] = None
 config_file (word ∷ words) =

@@ -12,7 +12,7 @@ GivesBytes source source' bytes = source'.bytes ≡ source.bytes ++ bytes
 abbrev pub IsNoText : List ℕ → ConfigFault → Type 0
 IsNoText bytes fault = (fault ≡ Utf8) × ¬ IsUtf8 bytes
 
--- what a fault tells of a file that was read
+-- the meaning of a fault of a file that was read
 abbrev pub ReadFails : Told → Told → ConfigFault → Type 0
 ReadFails source source' Memory = ⊤
 ReadFails source source' (Open error) = ⊥

@@ -12,12 +12,13 @@ use std::alloc::{AllocError, Global};
 use toml::Table;
 use toml::de::Error;
 
-/// The words of the options of a file's text, in the order of their keys, and behind them the words of the command line.
-/// An option that the command line names is that of the command line: the file's is left out.
+/// The words of the options of a file's text, in the order of their keys, and after them the words of the command line.
+/// The file's words leave out each option that the command line names.
 ///
 /// # Errors
 ///
-/// `Syntax` says that the text is no TOML; `Entry` names the first key, in their order, whose entry is no option.
+/// `Syntax`: the text is no TOML. `Entry`: the entry of this key, the first in their order, is no option. `Memory`: there is
+/// no memory.
 pub fn with_config(
     alloc: Global,
     text: &str,
@@ -42,7 +43,7 @@ pub fn with_config(
 ///
 /// # Errors
 ///
-/// `Syntax` says that the text is no TOML.
+/// `Syntax`: the text is no TOML. `Memory`: there is no memory.
 pub fn entry_faults(alloc: Global, text: &str) -> Result<Vec<(String, EntryFault)>, ConfigFault>
     ensures faults { IfOk result (λ faults. HasFaults text.now (map (λ f. (string_bytes f.0, f.1)) faults.items)) }
     ensures fault { IfErr result (Refuses text.now) }
@@ -67,7 +68,7 @@ fn all_faults(alloc: Global, table: &Table) -> Result<Vec<(String, EntryFault)>,
     Ok(faults)
 }
 
-/// The fault of a text that could not be read.
+/// The fault of a text that is no TOML, or for which there is no memory.
 fn no_toml(text: &str, error: &Error) -> ConfigFault
     requires within { IsWithin text.now error.now }
     ensures { TellsText text.now (IsMemory error.now) result }

@@ -8,7 +8,7 @@ use crate::{EntryFault, Kind};
 use std::alloc::{AllocError, Global};
 use toml::Value;
 
-/// The fault of an entry, where it has one.
+/// The fault of an entry, if it has one.
 pub(crate) fn entry_fault(key: &str, value: &Value) -> Option<EntryFault>
     ensures { result ≡ fault_of_entry key.now (view value.now) }
 {
@@ -21,7 +21,7 @@ pub(crate) fn entry_fault(key: &str, value: &Value) -> Option<EntryFault>
     }
 }
 
-/// The fault of a value of an option of this kind, where it has one.
+/// The fault of a value of an option of this kind, if it has one.
 fn value_fault(kind: Kind, value: &Value) -> Option<EntryFault>
     ensures { result ≡ fault_of_value kind (view value.now) }
 {
@@ -35,7 +35,7 @@ fn value_fault(kind: Kind, value: &Value) -> Option<EntryFault>
     }
 }
 
-/// Adds the words of an entry that has no fault: one, or none where a flag is not given.
+/// Adds the words of an entry that has no fault: one, or none if a flag is not given.
 pub(crate) fn push_entry(
     alloc: Global,
     words: &mut Vec<String>,

@@ -3,7 +3,7 @@ use std::alloc::AllocError;
 use std::io;
 use thiserror::Error;
 
-/// Why a file of options gives none (own).
+/// The reason why a file of options gives none (own).
 #[derive(Debug, Drop, Error)]
 pub enum ConfigFault {
     #[error("there is no memory for the options")]
@@ -17,7 +17,7 @@ pub enum ConfigFault {
     Long,
     #[error("the file is no UTF-8")]
     Utf8,
-    /// The line of this number, counted from 1, is where the text stops being TOML.
+    /// The text stops being TOML in the line of this number, counted from 1.
     #[error("line {0} is no TOML")]
     Syntax(usize),
     /// The entry of this key.
@@ -36,7 +36,7 @@ impl From<AllocError> for ConfigFault {
     }
 }
 
-/// Why an entry is no option (own).
+/// The reason why an entry is no option (own).
 #[derive(Clone, Copy, Debug, PartialEq, Eq, Error)]
 pub enum EntryFault {
     #[error("is no option")]

@@ -1,10 +1,10 @@
-//! Which options there are, and what the value of each is.
+//! The options of a file, and the kinds of their values.
 ghost use Rattle.std.specs.Prelude.{◌≡◌, Some};
 ghost use Rattle.nmvs_config.specs.Entries.{kind_of as kind_of_key, kind_text};
 
 use std::fmt;
 
-/// What the value of an option is (own).
+/// The kind of the value of an option (own).
 #[derive(Clone, Copy, Debug, PartialEq, Eq)]
 pub enum Kind {
     Text,
@@ -15,7 +15,7 @@ pub enum Kind {
     Flag,
 }
 
-/// In the words of TOML.
+/// The kind in the words of TOML.
 impl fmt::Display for Kind {
     ghost output = { λ kind. Some (kind_text kind) };
 
@@ -29,7 +29,7 @@ impl fmt::Display for Kind {
     }
 }
 
-/// The kind of the option of this name, where there is one that a file may have.
+/// The kind of the option of this name, if there is one that a file may have.
 #[tactic(auto, unfolding(crate::specs::Entries::kind_of))]
 pub(crate) fn kind_of(key: &str) -> Option<Kind>
     ensures { result ≡ kind_of_key key.now }
@@ -42,6 +42,7 @@ pub(crate) fn kind_of(key: &str) -> Option<Kind>
         | "workers"
         | "sessions"
         | "connections"
+        | "connection-memory"
         | "idle"
         | "rate"
         | "burst"

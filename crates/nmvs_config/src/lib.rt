@@ -1,6 +1,6 @@
 //! A file of options: TOML, with one key for each option, its long name without dashes.
 //!
-//! [`config_path`] finds the file that a command line names, [`read_config`] reads its text, and [`with_config`] puts the
+//! [`config_path`] finds the file that a command line names, and [`read_config`] reads its text. [`with_config`] puts the
 //! words of its options in front of those of the command line, so that one reader judges both together.
 #![tactic(auto)]
 

@@ -1,4 +1,4 @@
-//! What a command line names.
+//! The options that a command line names.
 ghost use Rattle.std.specs.Prelude.{◌≡◌, map, option_map, string_bytes};
 ghost use Rattle.std.specs.List.{list_any};
 ghost use Rattle.nmvs_config.specs.Names.{config_file, names as names_option};

@@ -13,7 +13,8 @@ pub const LONGEST_CONFIG: usize = 65_536;
 ///
 /// # Errors
 ///
-/// `Read` says that a read failed, `Long` that there are more bytes than a file may have, and `Utf8` that they are no text.
+/// `Read`: a read failed. `Long`: there are more bytes than a file may have. `Utf8`: they are no text. `Memory`: there is
+/// no memory.
 pub fn read_config<S: Source>(alloc: Global, source: &mut S) -> Result<String, ConfigFault>
     requires source_open { (S.told source.old).ended ≡ false }
     ensures text { IfOk result (λ text.

@@ -25,7 +25,7 @@ kept_same a b same = record {
 pub kept_twice : (a b c : SessionState) → Kept a b → Kept b c → Kept a c
 kept_twice a b c k l = record { fed = l.fed ∙ k.fed; text = l.text ∙ k.text; ended = l.ended ∙ k.ended; first = l.first ∙ k.first; waiting = l.waiting ∙ k.waiting }
 
--- some of what was unsent was sent
+-- some of the unsent bytes were sent
 pub kept_sent : (a b : SessionState) (count : ℕ) → b.fed ≡ a.fed → b.sent ≡ a.sent ++ take count a.unsent → b.unsent ≡ drop count a.unsent → b.ended ≡ a.ended → b.first ≡ a.first → b.waiting ≡ a.waiting → Kept a b
 kept_sent a b count fed sent unsent ended first waiting = record {
   fed = fed;
@@ -97,7 +97,7 @@ steps_later takes old new withheld withheld' next a b c k peer is s =
 pub lines_more : (fed bytes : List ℕ) → input_lines (fed ++ bytes) ≡ input_lines fed ++ lines_after (unfinished_line fed) bytes
 lines_more fed bytes = lines_after-append [] fed bytes
 
--- what was told by a session
+-- a session turned its part of the released answers into replies
 pub tells_of : (released : List Answer) (a b : SessionState) → (b.fed ≡ a.fed) × (b.sent ≡ a.sent) → b.waiting ≡ 0
     → (text : List ℕ) × (b.unsent ≡ a.unsent ++ text) × TellsPart a.first a.waiting released text a.ended b.ended → TellsOwn released a b
 tells_of released a b same told t = record {
@@ -108,7 +108,7 @@ tells_of released a b same told t = record {
   told = told;
 }
 
--- what was told, and then perhaps sent
+-- it did so, and then perhaps sent
 pub tells_sent : (a b c : SessionState) (released : List Answer) → TellsOwn released a b → Kept b c → TellsOwn released a c
 tells_sent a b c released t k = record {
   fed = k.fed ∙ t.fed;

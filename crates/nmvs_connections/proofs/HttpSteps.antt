@@ -23,7 +23,7 @@ is_fed raw old new bytes count open_still within feeds sends same stops x =
       sent_is = x.sent_is ∙ sym sends;
     }
 
--- what is known of all lines that were carried is known of those that the codec gave
+-- the replies that answer the carried lines answer the lines that the codec gave
 pub answers_own : (raw : Traffic) (h : Http) (ended : Bool) → AnswersOver (Some h.before.numbers) (carried_over h) ended → AnswersLines h.codec.given h.codec.replies ended
 answers_own raw h ended x =
     subst (λ (g : List ℕ). AnswersLines g h.codec.replies ended) (sym (append_cancel_left h.before.numbers h.codec.given x.given x.received_is)) x.answers

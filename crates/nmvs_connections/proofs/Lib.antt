@@ -4,3 +4,4 @@ mod HttpSteps
 mod LineSteps
 mod ConnectionLemmas
 mod TurnSteps
+mod MemorySteps

@@ -23,7 +23,7 @@ use Rattle.nmvs_connections.specs.ProxyHeader.{ReadsProxyHeader}
 use Rattle.nmvs_connections.specs.declared.proxy_header.ProxyHeader.TheVariants as proxy_headers
 use Rattle.nmvs_connections.proofs.PeerSteps.{holds_lingering, holds_named, holds_notice, holds_over, holds_quiet, holds_read, holds_sent, holds_taken, nothing, quiet}
 
--- what holds of a peer's session: its bytes are those of its header, its lines and its replies, and its lines are carried so
+-- the bytes of a peer's session are those of its header, its lines and its replies, and its lines are carried so
 abbrev pub Stands : Option NameOf → Option Peer → Stage → Traffic → Option (List ℕ) → List ℕ → List ℕ → List ℕ → Type 0
 Stands proxy peer stage t before fed replies unread = Holds proxy peer stage t.received t.sent fed replies unread × Behind before peer t.received fed unread stage
 
@@ -60,7 +60,7 @@ behind_over None peer received fed unread unread' stage stage' over b = tt
 behind_over (Some before) None received fed unread unread' stage stage' over b = b
 behind_over (Some before) (Some peer) received fed unread unread' stage stage' over b = record { rest = b.rest; received_is = b.received_is; left = λ serving. absurd (over serving) }
 
--- bytes of what is unread were taken
+-- some of the unread bytes were taken
 behind_taken : (before : Option (List ℕ)) (peer : Option Peer) (received fed unread : List ℕ) (stage : Stage) (n : ℕ) → stage ≡ stages.Serving → Behind before peer received fed unread stage
     → Behind before peer received (fed ++ take n unread) (drop n unread) stage
 behind_taken None peer received fed unread stage n serving b = tt
@@ -79,7 +79,7 @@ pub stands_read : {proxy : Option NameOf} {peer : Option Peer} {stage : Stage} {
 stands_read {proxy} {peer} {stage} {fed} {replies} {unread} t t' before before' more reads kept s =
     stands_same (record t { received = t.received ++ more }) t' before before' reads kept (holds_read more s.0, behind_read before peer t.received fed unread more stage s.1)
 
--- bytes of what is unread were taken
+-- some of the unread bytes were taken
 pub stands_taken : (proxy : Option NameOf) (peer : Option Peer) {stage : Stage} {fed fed' replies replies' unread unread' : List ℕ} (t : Traffic) (before : Option (List ℕ)) (n : ℕ) → (peer ≡ None → n ≡ 0) → stage ≡ stages.Serving
     → fed' ≡ fed ++ take n unread → replies' ≡ replies → unread' ≡ drop n unread → Stands proxy peer stage t before fed replies unread → Stands proxy peer stage t before fed' replies' unread'
 stands_taken proxy peer {stage = stage} {fed = fed} {fed' = fed'} {replies = replies} {replies' = replies'} {unread = unread} {unread' = unread'} t before n known serving feeds same left s = (
@@ -88,7 +88,7 @@ stands_taken proxy peer {stage = stage} {fed = fed} {fed' = fed'} {replies = rep
       (subst (λ (u : List ℕ). Behind before peer t.received (fed ++ take n unread) u stage) (sym left) (behind_taken before peer t.received fed unread stage n serving s.1)),
 )
 
--- no more lines are taken, and what is unread is let go
+-- no more lines are taken, and the unread bytes are let go
 pub stands_over : {proxy : Option NameOf} {peer : Option Peer} {stage : Stage} {fed replies unread : List ℕ} (t : Traffic) (before : Option (List ℕ)) (unread' : List ℕ) → stage ≡ stages.Serving
     → Stands proxy peer stage t before fed replies unread → Stands proxy peer stages.Ending t before fed replies unread'
 stands_over {peer = peer} {stage = stage} {fed = fed} {unread = unread} t before unread' serving s =
@@ -156,7 +156,7 @@ plain None peer received fed unread stage none b = refl
 plain (Some h) None received fed unread stage none b = absurd b
 plain (Some h) (Some peer) received fed unread stage none b = absurd (cc (none))
 
--- what is told to a session that is answered whole
+-- the answers of a session whose lines are all answered
 whole : (fed text : List ℕ) (ended : Option End) → (ended ≡ None) ⊎ (ended ≡ Some ends.Quit) → Replies fed text 0 ended
     → (said : List Answer) × (length said ≡ length (input_lines fed)) × (session_text said ≡ text)
 whole fed text ended which r =
@@ -167,12 +167,12 @@ whole fed text ended which r =
     let lines : input_lines fed ≡ r.answered = r.these ∙ ap (λ (l : List (List ℕ)). r.answered ++ l) (nothing r.left leaves.0) ∙ append-nil r.answered in
     (r.said, r.one ∙ ap (λ (l : List (List ℕ)). length l) (sym lines), r.text_is ∙ ap (λ (u : List ℕ). text ++ u) leaves.1 ∙ append-nil text)
 
--- the session stands so that the request in hand may be responded to
+-- if the request in hand may be responded to, the session goes on, or QUIT ended it
 stood : (stage : Stage) (end : Option End) (all ended : Bool) → EndsIn stage end all ended → (end ≡ None) ⊎ (end ≡ Some ends.Quit)
 stood stage end all true e = inr (e.quits refl)
 stood stage end all false e = inl (e.goes_on refl).1
 
--- the replies that were carried are the text of the answers to the lines that were
+-- the carried replies are the text of the answers to the carried lines
 pub answers_over : {proxy : Option NameOf} (peer : Option Peer) {stage : Stage} {fed replies unread : List ℕ} (t : Traffic) (before : Option (List ℕ)) (end : Option End) (all ended : Bool)
     → Stands proxy peer stage t before fed replies unread → Replies fed replies 0 end → EndsIn stage end all ended → (all ≡ true → unread ≡ []) → AnswersOver before t ended
 answers_over peer t None end all ended s r e none = tt
@@ -206,7 +206,7 @@ no_lines : input_lines [] ≡ []
 unfolding lines_after
 no_lines = refl
 
--- a session that was fed nothing has told nothing
+-- a session that was fed nothing has sent nothing
 pub told_nothing : {proxy : Option NameOf} (peer : Option Peer) (stage : Stage) (fed replies unsent unread : List ℕ) (waiting : ℕ) (end : Option End) (t : Traffic) (before : Option (List ℕ)) → peer ≡ None → stage ≡ stages.Serving
     → Replies fed (replies ++ unsent) waiting end → Stands proxy peer stage t before fed replies unread → t.sent ≡ []
 told_nothing {proxy = proxy} peer stage fed replies unsent unread waiting end t before none serving r s =

@@ -15,7 +15,7 @@ use Rattle.nmvs_connections.specs.declared.socket.Moved.TheVariants as moved
 use Rattle.nmvs_connections.specs.Streams.{Writes}
 use Rattle.nmvs_connections.specs.Peers.{EndsWith, Holds, IsNotice, NamesPeer}
 
--- what has no byte
+-- a list of length 0 is empty
 pub nothing : {A : Type 0} (xs : List A) → length xs ≡ 0 → xs ≡ []
 nothing [] e = refl
 nothing (x ∷ xs) e = absurd (cc e)
@@ -23,13 +23,13 @@ nothing (x ∷ xs) e = absurd (cc e)
 pub empty : (xs : List ℕ) → (length xs == 0) ≡ true → xs ≡ []
 empty xs e = nothing xs (elim (eqb_tells (length xs) 0) [ inl is ↦ is.1 | inr apart ↦ absurd (cc (apart.0, e)) ])
 
--- what is left of bytes whose front is moved behind them and cut off
+-- the bytes that are left after the front is moved to the end and cut off
 pub cut_front : (n : ℕ) (xs : List ℕ) (count : ℕ) → n ≤ length xs → count ≡ length xs → take (count - n) (drop n xs ++ take n xs) ≡ drop n xs
 cut_front n xs count within is =
     let left = length-drop n xs in
     take_at (drop n xs) (take n xs) (count - n) (omega (arith, left, within, is))
 
--- what is left of bytes is kept behind nothing, where it was not lost
+-- the bytes that are left are all that is kept, if they were not lost
 pub kept_rest : (lost : Bool) (items old bytes : List ℕ) (n : ℕ) → items ≡ cond lost old (old ++ take (length bytes - n) (drop n bytes)) → lost ≡ false → old ≡ [] → items ≡ drop n bytes
 kept_rest true items old bytes n is holds none = absurd (cc holds)
 kept_rest false items old bytes n is holds none =
@@ -63,7 +63,7 @@ module _ {proxy : Option NameOf} {peer : Option Peer} {stage : Stage} {received 
     ended = h.ended;
   }
 
-  -- no more lines are taken, and what is unread is let go
+  -- no more lines are taken, and the unread bytes are let go
   pub holds_over : (unread' : List ℕ) → stage ≡ stages.Serving → Holds proxy peer stage received sent fed replies unread → Holds proxy peer stages.Ending received sent fed replies unread'
   holds_over unread' serving h = record {
     header = h.header;
@@ -174,7 +174,7 @@ named_still : (proxy : Option NameOf) (peer : Peer) (header fed fed' : List ℕ)
 named_still None peer header fed fed' named = named
 named_still (Some name_of) peer header fed fed' named = named
 
--- bytes of what is unread were taken
+-- some of the unread bytes were taken
 taken : (proxy : Option NameOf) (peer : Option Peer) {stage : Stage} {received sent fed replies unread : List ℕ} (n : ℕ) → (peer ≡ None → n ≡ 0) → stage ≡ stages.Serving
     → Holds proxy peer stage received sent fed replies unread → Holds proxy peer stage received sent (fed ++ take n unread) replies (drop n unread)
 taken proxy None {stage = stage} {received = received} {sent = sent} {fed = fed} {replies = replies} {unread = unread} n known serving h =

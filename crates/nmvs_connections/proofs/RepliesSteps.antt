@@ -19,7 +19,7 @@ use Rattle.nmvs_protocol.specs.Texts.{text as text_of}
 use Rattle.nmvs_stream.proofs.LinesOfPieces.{lines_after-append}
 use Rattle.nmvs_connections.specs.Replies.{Replies, Leaves, LacksMemory, StaysOrLacks, WordsPart, GoesOn}
 
--- what was taken has an answer for each line
+-- the lines that were taken have one answer each
 pub taken_length : {D : Type 0} (takes : D → Ask → Withheld → D → Type 0) (old : D) (xs : List (List ℕ)) (held : List Withheld) (new : D)
     → TakesLines takes old xs held new → length held ≡ length xs
 taken_length takes old [] [] new a = refl
@@ -34,12 +34,12 @@ none_kept (b ∷ x) =
     let n = length-take 201 (b ∷ x) in
     ne_eqb (length (kept_part (b ∷ x))) 0 (λ z. absurd (omega (arith, z, n))) ∙ sym (ne_eqb (length (b ∷ x)) 0 (λ z. absurd (omega (arith, z))))
 
--- no line is left where no answer is waited for
+-- no line is left if no answer is waited for
 none_left : (xs : List (List ℕ)) → length xs ≡ 0 → xs ≡ []
 none_left [] e = refl
 none_left (x ∷ xs) e = absurd (cc e)
 
--- what is left where lines were taken
+-- the lines that are left after lines were taken
 leaves_taken : (ended : Option End) (limit count waiting : ℕ) (taken left : List (List ℕ)) (begun rest : List ℕ) → Halts ended limit count taken begun rest
     → length left ≡ waiting → Leaves ended waiting left []
 leaves_taken (None) limit count waiting taken left begun rest h e = (e, refl)
@@ -67,7 +67,7 @@ replies_taken fed bytes told ended limit count waiting rest r h e =
       leaves = leaves_taken ended limit count waiting more more _ rest h e;
     }
 
--- what was told of a part, and what was not
+-- the text of a part of the answers, and the text that is left out
 abbrev pub ToldOf : List ℕ → List ℕ → List Answer → Option End → Type 0
 ToldOf old new part told = (text : List ℕ) × (untold : List ℕ) × (new ≡ old ++ text) × (session_text part ≡ text ++ untold) × ((told ≡ None) × (untold ≡ []) ⊎ LacksMemory told)
 
@@ -89,7 +89,7 @@ told_first (Some ends.ReadFault) sink sink' part t = absurd t
 positive : (n : ℕ) → 0 < n → n ≡ 0 → ⊥
 positive n some none = omega (arith, some, none)
 
--- a session that waits has a line left for each answer, and no text untold
+-- a session that waits has a line left for each answer, and no text left out
 waits : (ended : Option End) (waiting : ℕ) (left : List (List ℕ)) (untold : List ℕ) → 0 < waiting → Leaves ended waiting left untold
     → (length left ≡ waiting) × (untold ≡ []) × Leaves ended 0 [] []
 waits (None) waiting left untold some l = (l.0, l.1, (refl, refl))
@@ -109,7 +109,7 @@ lacking (Some ends.Limit) left untold l = absurd l
 lacking (Some ends.Ended) left untold l = absurd l
 lacking (Some ends.ReadFault) left untold l = absurd l
 
--- the replies of a session that waits, once the answers are told, up to some text
+-- the replies of a session that waits, with the text of the answers, but for some that is left out
 replies_told : (fed told text untold : List ℕ) (part : List Answer) (waiting : ℕ) (ended ended' : Option End) → 0 < waiting → length part ≡ waiting
     → Replies fed told waiting ended → session_text part ≡ text ++ untold → StaysOrLacks ended ended' untold → Replies fed (told ++ text) 0 ended'
 replies_told fed told text untold part waiting ended ended' some many r cut stays =
@@ -133,18 +133,18 @@ replies_told fed told text untold part waiting ended ended' some many r cut stay
     leaves_told (inl s) = subst (λ (u : List ℕ). Leaves ended' 0 [] u) (sym s.1) (subst (λ (e : Option End). Leaves e 0 [] []) (sym s.0) (waits ended waiting r.left r.untold some r.leaves).2)
     leaves_told (inr s) = lacking ended' [] untold s
 
--- where the answers are not there, the session ends
+-- if the answers are not there, the session ends
 replies_lost : (fed told : List ℕ) (waiting : ℕ) (ended : Option End) → Replies fed told waiting ended → Replies fed told 0 (Some ends.WriteFault)
 replies_lost fed told waiting ended r = record { answered = r.answered; left = r.left; these = r.these; said = r.said; one = r.one; untold = r.untold; text_is = r.text_is; leaves = refl }
 
--- a session stands as before where all was told
+-- a session stands as before if no text is left out
 pub stays_told : (ended told : Option End) (untold : List ℕ) → ((told ≡ None) × (untold ≡ [])) ⊎ LacksMemory told → StaysOrLacks ended (option_or told ended) untold
 stays_told ended (None) untold (inl all) = inl (refl, all.1)
 stays_told ended (None) untold (inr lacks) = absurd lacks
 stays_told ended (Some end) untold (inl all) = absurd (cc (all.0))
 stays_told ended (Some end) untold (inr lacks) = inr lacks
 
--- the replies of a session that waits, once its part of what was released is worded
+-- the replies of a session that waits, with the text of its part of the released answers
 pub replies_worded : (fed text : List ℕ) (first count : ℕ) (released : List Answer) (old new : List ℕ) (told ended : Option End) → 0 < count → Replies fed text count ended
     → (w : WordsPart first count released old new told) → Replies fed (text ++ w.text) 0 (option_or told ended)
 replies_worded fed text first count released old new told ended some r w =
@@ -156,7 +156,7 @@ replies_worded fed text first count released old new told ended some r w =
           subst (λ (t : List ℕ). Replies fed t 0 (option_or told ended)) same (subst (λ (e : Option End). Replies fed text 0 e) lacks (replies_lost fed text count ended r))
     ]
 
--- what was unsent stays before what is worded
+-- the unsent bytes stay before the new text
 pub unsent_more : (gone : ℕ) (old new text : List ℕ) → gone ≤ length old → new ≡ old ++ text → drop gone new ≡ drop gone old ++ text
 unsent_more gone old new text within is = ap (λ (t : List ℕ). drop gone t) is ∙ drop-append-le gone old text within
 
@@ -170,7 +170,7 @@ halts_sound (Some ends.Memory) limit count taken begun rest h l = h
 halts_sound (Some ends.Ended) limit count taken begun rest h l = h
 halts_sound (Some ends.ReadFault) limit count taken begun rest h l = h
 
--- what was fed nothing
+-- a session that was fed nothing
 pub nothing_fed : (session : Session) → session.line ≡ [] → session.answered ≤ session.limit → (x y z : List ℕ) → x ≡ [] → y ≡ [] → z ≡ []
     → GoesOn None session x × Replies x (y ++ z) 0 None
 unfolding lines_after rest_after
@@ -191,7 +191,7 @@ pub goes_on_told : (ended told : Option End) (session : Session) (fed : List ℕ
 goes_on_told ended (None) session fed g = g
 goes_on_told ended (Some end) session fed g = tt
 
--- what was sent and what is unsent are the same together, however much was sent
+-- the sent and the unsent bytes together are the same, however many were sent
 pub sent_more : (sent replies : List ℕ) (gone count : ℕ) → (sent ++ take count (drop gone replies)) ++ drop (gone + count) replies ≡ sent ++ drop gone replies
 sent_more sent replies gone count =
     append_assoc sent (take count (drop gone replies)) (drop (gone + count) replies)

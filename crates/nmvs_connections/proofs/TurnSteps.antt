@@ -24,7 +24,7 @@ use Rattle.nmvs_connections.specs.declared.peer_session.Stage.TheVariants as sta
 use Rattle.nmvs_connections.specs.Replies.{SessionState, LacksMemory, StaysOrLacks}
 use Rattle.nmvs_connections.specs.Turns.{Taking, Round, held_of, TakesBy, TakesAll, IsOwn, GoesRound, GoesRounds, lines_to, answers_to, lines_in, answers_in, Answered, EachGoes, WorkerTurn, Kept, WaitsForRelease, LinesTaken, ConnectionSteps, TellsOwn, TellsPeer, TellsWhereAsked, TellsAll, StepsOrStays, TurnOfOne}
 
--- what was withheld of more
+-- the withheld answers of more takings
 pub held_of-append : (xs ys : List Taking) → held_of (xs ++ ys) ≡ held_of xs ++ held_of ys
 held_of-append [] ys = refl
 held_of-append (t ∷ xs) ys = ap (λ (l : List Withheld). t.held ++ l) (held_of-append xs ys) ∙ sym (append_assoc t.held (held_of xs) (held_of ys))
@@ -77,7 +77,7 @@ nil_right : (xs ys : List ℕ) → xs ++ ys ≡ [] → ys ≡ []
 nil_right [] ys e = e
 nil_right (x ∷ xs) ys e = absurd (cc e)
 
--- a connection within a turn: rounds are behind it, and what was taken since is to be released
+-- a connection within a turn: after some rounds, with answers since then that are to be released
 pub record Stands (key : ℕ) (rounds : List Round) (takings : List Taking) (awaiting : List ℕ) (old new : SessionState) : Type 0 where
   pub lines : input_lines new.fed ≡ (input_lines old.fed ++ lines_in key rounds) ++ lines_to key takings
   pub text : List ℕ
@@ -111,7 +111,7 @@ stands_last key rounds a b s = record {
   told = elim s.within [ inl told ↦ told | inr waits ↦ absurd (omega (arith, waits.1.1)) ];
 }
 
--- more was withheld of others
+-- more answers to others were withheld
 stands_later : (key : ℕ) (rounds : List Round) (takings : List Taking) (t : Taking) (awaiting awaiting' : List ℕ) (a b : SessionState)
     → lines_to key (t ∷ []) ≡ [] → ((said : List Answer) → answers_to key (t ∷ []) said ≡ []) → (Contains awaiting key → Contains awaiting' key)
     → Stands key rounds takings awaiting a b → Stands key rounds (takings ++ t ∷ []) awaiting' a b
@@ -194,11 +194,11 @@ stands_taken key rounds takings t awaiting awaiting' a b c own asks l s =
       within = inr (omega (arith, f, w, more, last), asks);
     }
 
--- the texts of answers, one behind the other
+-- the texts of answers, one after the other
 both_told : (first second : List Answer) (x u y v : List ℕ) → session_text first ≡ x ++ u → session_text second ≡ y ++ v → session_text (first ++ second) ≡ (x ++ u) ++ (y ++ v)
 both_told first second x u y v e f = flat_map-append text_of first second ∙ (λ i. e i ++ f i)
 
--- a round has ended, and the answers of the connection's lines in it were told, up to some text
+-- a round has ended, and the answers to the connection's lines in it are replies, but for some text that is left out
 stands_released : (key : ℕ) (rounds : List Round) (r : Round) (awaiting : List ℕ) (a b c : SessionState) (text untold : List ℕ)
     → c.fed ≡ b.fed → c.sent ++ c.unsent ≡ (b.sent ++ b.unsent) ++ text → session_text (answers_to key r.takings r.said) ≡ text ++ untold → c.waiting ≡ 0
     → (s : Stands key rounds r.takings awaiting a b)
@@ -240,7 +240,7 @@ stands_released key rounds r awaiting a b c text untold fed replies part told s 
 le_or_lt : (a b : ℕ) → (a ≤ b) ⊎ (b < a)
 le_or_lt a b = elim (leb_tells a b) [ inl fits ↦ inl fits.1 | inr apart ↦ inr apart.1 ]
 
--- what is told to a connection that asked is the part of the answers to its own lines
+-- the part of a connection that asked is the answers to its own lines
 part_is : (key : ℕ) (rounds : List Round) (takings : List Taking) (awaiting : List ℕ) (said part : List Answer) (a b : SessionState) → length said ≡ length (held_of takings)
     → (b.first + b.waiting ≤ length said → part ≡ take b.waiting (drop b.first said)) → (length said < b.first + b.waiting → part ≡ [])
     → Stands key rounds takings awaiting a b → answers_to key takings said ≡ part
@@ -269,7 +269,7 @@ no_part said part text untold b told its_own none text_is =
 lacks_still : (ended ended' : Option End) (untold : List ℕ) → StaysOrLacks ended ended' untold → LacksMemory ended → LacksMemory ended'
 lacks_still ended ended' untold s l = elim s [ inl stays ↦ subst (λ (e : Option End). LacksMemory e) (sym stays.0) l | inr lacks ↦ lacks ]
 
--- what was released was told
+-- each connection that waited turned its part of the released answers into replies
 stands_told : (key : ℕ) (rounds : List Round) (r : Round) (awaiting : List ℕ) (a b c : SessionState) → length r.said ≡ length (held_of r.takings)
     → TellsOwn r.said b c ⊎ ((c ≡ b) × (Contains awaiting key → ⊥)) → Stands key rounds r.takings awaiting a b → Stands key (rounds ++ r ∷ []) [] [] a c
 stands_told key rounds r awaiting a b c one t s = elim t [
@@ -296,7 +296,7 @@ stands_told key rounds r awaiting a b c one t s = elim t [
       ])
 ]
 
--- two steps of each connection, one behind the other
+-- two steps of each connection, one after the other
 pub each_then : (R S T : ℕ → PeerState → PeerState → Type 0) (s t u : Slab Connection) → EachGoes R s t → EachGoes S t u
     → ((key : ℕ) (a b c : PeerState) → R key a b → S key b c → T key a c) → EachGoes T s u
 each_then R S T s t u r q both = λ key connection there.
@@ -308,7 +308,7 @@ each_then R S T s t u r q both = λ key connection there.
 pub each_stays : (R : ℕ → PeerState → PeerState → Type 0) (s : Slab Connection) → ((key : ℕ) (a : PeerState) → R key a a) → EachGoes R s s
 each_stays R s same = λ key connection there. (connection, there, same key connection.session)
 
--- what was taken stays the lines of its own connection's peer, where each peer stays
+-- the lines that were taken stay those of their own connection's peer, if each peer stays
 own_still : (s t : Slab Connection) (taking : Taking) → EachGoes (λ key a b. StaysPeer a b) s t → IsOwn s taking → IsOwn t taking
 own_still s t taking each own = (
   own.0,
@@ -328,19 +328,19 @@ all_own_in s t (round ∷ more) each own =
     All-cons (λ (r : Round). All (IsOwn t) r.takings) round more (all_own s t round.takings each (own 0 round (omega arith)))
     (all_own_in s t more each (All-tail (λ (r : Round). All (IsOwn s) r.takings) round more own))
 
--- what each does, and more
+-- each connection's step, weakened
 each_more : (R S : ℕ → PeerState → PeerState → Type 0) (s t : Slab Connection) → EachGoes R s t → ((key : ℕ) (a b : PeerState) → R key a b → S key a b) → EachGoes S s t
 each_more R S s t each more = λ key found there. let before = each key found there in (before.0, before.1, more key before.0.session found.session before.2)
 
--- a connection that told its part, or did nothing, has its peer still
+-- a connection that turned its part into replies, or did nothing, has its peer still
 tells_stays : (said : List Answer) (awaiting : List ℕ) (key : ℕ) (a b : PeerState) → TellsWhereAsked said awaiting key a b → StaysPeer a b
 tells_stays said awaiting key a b t = λ peer known. elim t [ inl told ↦ told.1 ∙ known | inr silent ↦ ap (λ (c : PeerState). c.peer) silent.0 ∙ known ]
 
--- what becomes of its session
+-- the step of its session
 tells_state : (said : List Answer) (awaiting : List ℕ) (key : ℕ) (a b : PeerState) → TellsWhereAsked said awaiting key a b → TellsOwn said a.session b.session ⊎ ((b.session ≡ a.session) × (Contains awaiting key → ⊥))
 tells_state said awaiting key a b t = elim t [ inl told ↦ inl told.0 | inr silent ↦ inr (ap (λ (c : PeerState). c.session) silent.0, silent.1) ]
 
--- a turn that is not over: rounds are behind it, and what was taken since is withheld
+-- a turn that is not over: after some rounds, with answers since then that are withheld
 pub record OpenTurn {D : Type 0} (takes : D → Peer → Ask → Withheld → D → Type 0) (releases : D → D → Withheld → Answer → Type 0) (moves : D → D → Type 0) (old new : D) (withheld : List Withheld) (awaiting : List ℕ) (connections connections' : Slab Connection) : Type 0 where
   pub rounds : List Round
   pub takings : List Taking
@@ -366,7 +366,7 @@ open_first takes releases moves desk withheld awaiting connections none = record
   each = each_stays _ connections (λ key a told. stands_first key awaiting a.session told);
 }
 
--- a connection behind the turn of one, which may be itself
+-- a connection after the turn of one, which may be itself
 stands_behind : (key : ℕ) (rounds : List Round) (takings : List Taking) (t : Taking) (awaiting awaiting' : List ℕ) (first : ℕ) (a b c : SessionState) → first ≡ length (held_of takings)
     → (Contains awaiting key → Contains awaiting' key) → (key ≢ t.key → c ≡ b) × (key ≡ t.key → StepsOrStays awaiting' t.key t.lines t.held first b c)
     → Stands key rounds takings awaiting a b → Stands key rounds (takings ++ t ∷ []) awaiting' a c
@@ -412,7 +412,7 @@ open_taken takes releases moves key old new next withheld withheld' awaiting awa
           (λ apart. ap (λ (x : PeerState). x.session) (goes.0 apart), goes.1) (stood told));
     }
 
--- what was taken in one round more
+-- the lines that were taken in one round more
 own_round : (rounds : List Round) (r : Round) (u : Slab Connection) → All (λ (r : Round). All (IsOwn u) r.takings) rounds → All (IsOwn u) r.takings → All (λ (r : Round). All (IsOwn u) r.takings) (rounds ++ r ∷ [])
 own_round rounds r u before own =
     let Own = λ (r : Round). All (IsOwn u) r.takings in All-append Own rounds (r ∷ []) before (All-cons Own r [] own (All-nil Own))
@@ -439,7 +439,7 @@ open_told takes releases moves old new next withheld withheld' awaiting awaiting
           (each_then _ _ _ s t u o.each n.each (λ other a b c stood goes told. stands_told other o.rounds r awaiting a.session b.session c.session one (tells_state n.said awaiting other b c goes) (stood told)));
     }
 
--- a turn is over behind its last release
+-- a turn is over after its last release
 pub open_last : {D : Type 0} (takes : D → Peer → Ask → Withheld → D → Type 0) (releases : D → D → Withheld → Answer → Type 0) (moves : D → D → Type 0) (old new next : D)
     (withheld : List Withheld) (awaiting : List ℕ) (s t u : Slab Connection)
     → OpenTurn takes releases moves old new withheld awaiting s t → TellsAll releases moves new next withheld awaiting t u
@@ -456,7 +456,7 @@ open_last takes releases moves old new next withheld awaiting s t u o n =
           (stands_told other o.rounds r awaiting a.session b.session c.session one (tells_state n.said awaiting other b c goes) (stood told)));
     }
 
--- a connection that is told twice is told nothing the second time
+-- a connection that is given the released answers twice does nothing the second time
 told_again : (said : List Answer) (a b c : SessionState) → TellsOwn said a b → TellsOwn said b c → TellsOwn said a c
 told_again said a b c t u =
     let p = t.tells in
@@ -479,11 +479,11 @@ told_again said a b c t u =
       told = u.told;
     }
 
--- a connection while those that asked are told: it was told, or nothing was done with it, and it is still to be told if it asked
+-- a connection while those that asked take their part of the answers: it took it, or did nothing and is left if it asked
 abbrev pub ToldSoFar : List Answer → List ℕ → List ℕ → ℕ → PeerState → PeerState → Type 0
 ToldSoFar said awaiting left key old new = TellsPeer said old new ⊎ ((new ≡ old) × (Contains awaiting key → Contains left key))
 
--- the step in which the connection under a key is told
+-- the step in which the connection under a key takes its part of the answers
 abbrev pub TellsOne : List Answer → ℕ → ℕ → PeerState → PeerState → Type 0
 TellsOne said key other old new = (other ≡ key → TellsPeer said old new) × (other ≢ key → new ≡ old)
 
@@ -552,7 +552,7 @@ each_removed s t key removes = λ other found there. elim (eqb_tells other key) 
   | inr apart ↦ (found, sym (removes.others other apart.1) ∙ there, refl)
 ]
 
--- a step of which no connection knows, behind another
+-- a step that changes no connection, after another
 pub each_still : (R : ℕ → PeerState → PeerState → Type 0) (s t u : Slab Connection) → EachGoes R s t → EachGoes (λ other a b. b ≡ a) t u → EachGoes R s u
 each_still R s t u first still = each_then _ _ _ s t u first still (λ other a b c goes same. subst (λ (d : PeerState). R other a d) (sym same) goes)
 

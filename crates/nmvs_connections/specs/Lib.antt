@@ -4,4 +4,5 @@ pub mod LineStreams
 pub mod Replies
 pub mod ProxyHeader
 pub mod Peers
+pub mod Memory
 pub mod Turns

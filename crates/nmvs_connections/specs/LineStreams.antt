@@ -12,7 +12,7 @@ use Rattle.nmvs_connections.specs.declared.socket.Moved.{Moved}
 use Rattle.nmvs_connections.specs.declared.socket.Moved.TheVariants as moves
 use Rattle.nmvs_connections.specs.Traffic.{Traffic}
 
--- a stream of lines: the bytes of its socket, and what carries its lines over HTTP, if something does
+-- a stream of lines: the bytes of its socket, and the codec that carries its lines over HTTP, if there is one
 pub record LineStreamState : Type 0 where
   pub raw : Traffic
   pub http : Option Http
@@ -21,7 +21,7 @@ abbrev pub unboxed : Option (Box Http) → Option Http
 unboxed None = None
 unboxed (Some boxed) = Some boxed.value
 
--- the bytes of lines and replies that are carried over HTTP: those that came before the first request, and then those that the codec
+-- the bytes of lines and replies that are carried over HTTP: the bytes before the first request, and then those that the codec
 -- gave; and the replies that it took
 abbrev pub carried_over : Http → Traffic
 carried_over h = record { received = h.before.numbers ++ h.codec.given; sent = h.codec.replies }
@@ -34,13 +34,13 @@ carried_by raw (Some h) = carried_over h
 abbrev pub carried : LineStreamState → Traffic
 carried s = carried_by s.raw s.http
 
--- what came before the first request, where lines are carried over HTTP
+-- the bytes that came before the first request, if lines are carried over HTTP
 abbrev pub before_of : Option Http → Option (List ℕ)
 before_of None = None
 before_of (Some h) = Some h.before.numbers
 
--- what was read from the socket is what came before the first request, and what the codec was fed, and a rest that was let go; what
--- was written to it is what the codec told, as far as that was sent
+-- the bytes read from the socket are those before the first request, those that the codec was fed, and a rest that was let
+-- go; the bytes written to it are the sent bytes of the codec
 pub record IsFed (raw : Traffic) (h : Http) : Type 0 where
   pub rest : List ℕ
   pub received_is : raw.received ≡ h.before.numbers ++ (h.codec.stream.fed ++ rest)
@@ -59,8 +59,8 @@ CarriesHttp raw (Some h) = IsFed raw h × CarriesRequests h.codec
 abbrev pub CarriesLines : LineStreamState → Type 0
 CarriesLines s = CarriesHttp s.raw s.http
 
--- the bytes of lines that were carried behind what came before are those that a session was fed, and the rest. While its lines are
--- answered, the rest is unread
+-- the bytes that were carried after those before the first request are those that a session was fed, and the rest. While its
+-- lines are answered, the rest is unread
 pub record IsBehind (before received fed unread : List ℕ) (stage : Stage) : Type 0 where
   pub rest : List ℕ
   pub received_is : received ≡ before ++ (fed ++ rest)
@@ -72,8 +72,8 @@ Behind None peer received fed unread stage = Unit {0}
 Behind (Some before) None received fed unread stage = ⊥
 Behind (Some before) (Some peer) received fed unread stage = IsBehind before received fed unread stage
 
--- the replies that were carried are the text of answers to the lines that were, one a line, in order; where the session has ended,
--- to those up to there
+-- the carried replies are the text of answers to the carried lines, one a line, in order; if the session has ended, to the
+-- lines up to its end
 pub record AnswersCarried (before : List ℕ) (carried : Traffic) (ended : Bool) : Type 0 where
   pub given : List ℕ
   pub received_is : carried.received ≡ before ++ given
@@ -83,13 +83,13 @@ abbrev pub AnswersOver : Option (List ℕ) → Traffic → Bool → Type 0
 AnswersOver None carried ended = Unit {0}
 AnswersOver (Some before) carried ended = AnswersCarried before carried ended
 
--- what came of a step that may have moved no byte
+-- the result of a step that may have moved no byte
 abbrev pub moved_of : Option Moved → Moved
 moved_of None = moves.Blocked
 moved_of (Some moved) = moved
 
--- a connection that is not let go has come so far, and its session so, where the request in hand may be responded to: all bytes that
--- were read were taken, or the session was ended by QUIT
+-- the request in hand may be responded to at this stage of the connection and this end of its session: all bytes that were read
+-- were taken, or QUIT ended the session
 pub record EndsIn (stage : Stage) (end : Option End) (all ended : Bool) : Type 0 where
   pub stays : stage ≢ stages.Lingering
   pub goes_on : ended ≡ false → (stage ≡ stages.Serving) × (end ≡ None) × (all ≡ true)

@@ -10,8 +10,8 @@ use Rattle.nmvs_connections.specs.ProxyHeader.{ReadsProxyHeader}
 use Rattle.nmvs_connections.specs.Replies.{SessionState}
 use Rattle.nmvs_connections.specs.Traffic.{Traffic}
 
--- a connection: whose name the header of a gateway has that it begins with, if it begins with one; who is at its other end,
--- once that is known; how far it has come; its bytes; and its session
+-- a connection: whether a gateway's header names a user or an authorisation, if it begins with one; its peer, once it is known;
+-- how far it has come; its bytes; and its session
 pub record PeerState : Type 0 where
   pub proxy : Option NameOf
   pub peer : Option Peer
@@ -19,14 +19,14 @@ pub record PeerState : Type 0 where
   pub stream : Traffic
   pub session : SessionState
 
--- these bytes are the header that names the peer; where none is expected, the peer is anyone. Before the peer is known, there
+-- these bytes are the header that names the peer; if none is expected, the peer is anyone. Before the peer is known, there
 -- is no header, and the session was fed nothing
 abbrev pub NamesPeer : Option NameOf → Option Peer → List ℕ → List ℕ → Type 0
 NamesPeer proxy None header fed = (header ≡ []) × (fed ≡ [])
 NamesPeer None (Some peer) header fed = (header ≡ []) × (peer ≡ peers.Anyone)
 NamesPeer (Some name_of) (Some peer) header fed = ReadsProxyHeader header name_of (proxy_headers.Whole peer)
 
--- these are the first bytes of the notice that a connection which sent nothing for too long is sent last
+-- these are the first bytes of the notice that ends a connection which asked nothing for too long
 abbrev pub IsNotice : List ℕ → Type 0
 IsNotice notice = (rest : List ℕ) × (notice ++ rest ≡ codes "FAULT IDLE\n")
 

@@ -1,4 +1,4 @@
--- What the first bytes of a connection tell of who is at its other end (own).
+-- The peer that the first bytes of a connection name (own).
 use Rattle.std.specs.Prelude.{◌≡◌, ◌≢◌, ◌⊎◌, ℕ, List, length}
 use Rattle.nmvs_identifier.specs.Name.{Name}
 use Rattle.nmvs_gateway.specs.Header.{ReadsHeader}
@@ -13,7 +13,7 @@ abbrev pub IsNoProxyHeader : List ℕ → Type 0
 IsNoProxyHeader bytes =
     ReadsHeader bytes headers.Broken ⊎ ((name : Name) × (size : ℕ) × ReadsHeader bytes (headers.Whole name size) × (size ≢ length bytes))
 
--- what is made of all that was read of a connection: a header and no byte behind it tells the peer, by the name of its
+-- all bytes that were read of a connection, read as a header: one without a byte after it names the peer, by the name of its
 -- certificate
 abbrev pub ReadsProxyHeader : List ℕ → NameOf → ProxyHeader → Type 0
 ReadsProxyHeader bytes name_of (proxy_headers.Begun missing) = ReadsHeader bytes (headers.Begun missing)

@@ -1,4 +1,4 @@
--- What a connection is told of the bytes that it was fed, while others use the same desk (own).
+-- The replies of a connection to the bytes that it was fed, while others use the same desk (own).
 use Rattle.std.specs.Prelude.{◌≡◌, ◌≤◌, ◌<◌, ◌+◌, ◌⊎◌, ℕ, List, [], ◌++◌, length, take, drop, Option, Some, None}
 use Rattle.nmvs_messages.specs.declared.ask.Ask.{Ask}
 use Rattle.nmvs_messages.specs.declared.answer.Answer.{Answer}
@@ -10,8 +10,8 @@ use Rattle.nmvs_stream.specs.InputLines.{input_lines, lines_after, unfinished_li
 use Rattle.nmvs_messages.specs.PendingLines.{kept_part}
 use Rattle.nmvs_protocol.specs.Session.{TakesLines, session_text}
 
--- a connection: the bytes that it was fed, the replies that were sent, those that are unsent, how its session ended, and where
--- the answers begin that it waits for, among those that are withheld, and how many they are
+-- a connection: the bytes that it was fed; its sent and unsent replies; how its session ended; the place of the first answer
+-- that it waits for, among those that are withheld, and how many it waits for
 pub record SessionState : Type 0 where
   pub fed : List ℕ
   pub sent : List ℕ
@@ -20,8 +20,8 @@ pub record SessionState : Type 0 where
   pub first : ℕ
   pub waiting : ℕ
 
--- the lines that are left unanswered, and the text that is left untold: up to QUIT and the limit one line for each answer that is
--- waited for, and none; for want of memory some is missing, and nothing is waited for
+-- the lines that are left unanswered, and the text that is left out: up to QUIT and the limit one line for each answer that is
+-- waited for, and no text; for want of memory some text is missing, and nothing is waited for
 abbrev pub Leaves : Option End → ℕ → List (List ℕ) → List ℕ → Type 0
 Leaves (None) waiting left untold = (length left ≡ waiting) × (untold ≡ [])
 Leaves (Some ends.Quit) waiting left untold = (length left ≡ waiting) × (untold ≡ [])
@@ -42,8 +42,8 @@ pub record Replies (fed text : List ℕ) (waiting : ℕ) (ended : Option End) : 
   pub text_is : session_text said ≡ text ++ untold
   pub leaves : Leaves ended waiting left untold
 
--- the lines that these bytes complete behind what was fed were taken, the desk going from old to new by exactly their takes; their
--- answers, one a line, were put behind those that were withheld, and are waited for
+-- the lines that these bytes complete after the fed ones were taken, the desk going from old to new by exactly their takes;
+-- their answers, one a line, were put after those that were withheld, and are waited for
 pub record Asked {D : Type 0} (takes : D → Ask → Withheld → D → Type 0) (fed bytes : List ℕ) (old new : D) (withheld withheld' : List Withheld) (waiting : ℕ) : Type 0 where
   pub held : List Withheld
   pub behind : withheld' ≡ withheld ++ held
@@ -56,8 +56,8 @@ LacksMemory (Some ends.Memory) = Unit {0}
 LacksMemory (Some ends.WriteFault) = Unit {0}
 LacksMemory _ = ⊥
 
--- so many of the answers that were released, from this place on, were worded behind these bytes, up to what is left untold; where
--- there are not so many, none
+-- the text of this number of released answers, from this place on, was put after these bytes, but for the text that is left
+-- out; if there are fewer, none
 pub record WordsPart (first count : ℕ) (released : List Answer) (old new : List ℕ) (told : Option End) : Type 0 where
   pub part : List Answer
   pub its_own : first + count ≤ length released → part ≡ take count (drop first released)
@@ -69,12 +69,12 @@ pub record WordsPart (first count : ℕ) (released : List Answer) (old new : Lis
   pub text_is : session_text part ≡ text ++ untold
   pub all : ((told ≡ None) × (untold ≡ [])) ⊎ LacksMemory told
 
--- the session stands as before, and no text is left untold; or it ended for want of memory
+-- the session stands as before, and no text is left out; or it ended for want of memory
 abbrev pub StaysOrLacks : Option End → Option End → List ℕ → Type 0
 StaysOrLacks ended ended' untold = ((ended' ≡ ended) × (untold ≡ [])) ⊎ LacksMemory ended'
 
--- this is the text of so many of the answers that were released, from this place on, up to what is left untold. Where there are not
--- so many there is none, and the session ends as for want of memory
+-- this is the text of this number of released answers, from this place on, but for the text that is left out. If there are
+-- fewer, there is none, and the session ends as for want of memory
 pub record TellsPart (first count : ℕ) (released : List Answer) (text : List ℕ) (ended ended' : Option End) : Type 0 where
   pub untold : List ℕ
   pub part : List Answer

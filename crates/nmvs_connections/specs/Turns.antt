@@ -1,4 +1,4 @@
--- What a worker's turn makes of its connections, and of the desk that they share (own).
+-- A worker's turn: its connections, and the desk that they share, before and after it (own).
 use Rattle.std.specs.Prelude.{◌≡◌, ◌≢◌, ◌⊎◌, ◌==◌, if◌then◌else◌, ℕ, List, [], ◌∷◌, ◌++◌, length, take, drop, All, Option, Some, None}
 use Rattle.std.specs.List.{Contains}
 use Rattle.slab.specs.Slab.{Slab, get}
@@ -15,20 +15,20 @@ use Rattle.nmvs_connections.specs.declared.next.Next.TheVariants as nexts
 use Rattle.nmvs_connections.specs.Peers.{PeerState, IsConnection, StaysPeer}
 use Rattle.nmvs_connections.specs.Replies.{SessionState, TellsPart, LacksMemory}
 
--- lines of the connection under this key that were taken together, the connection as it was when its turn came, and what was
--- withheld of their answers
+-- lines of the connection under this key that were taken together; the connection as it was when its turn came; the
+-- withheld answers to the lines
 pub record Taking : Type 0 where
   pub key : ℕ
   pub connection : PeerState
   pub lines : List (List ℕ)
   pub held : List Withheld
 
--- all that was withheld, in order
+-- all withheld answers, in order
 abbrev pub held_of : List Taking → List Withheld
 held_of [] = []
 held_of (t ∷ more) = t.held ++ held_of more
 
--- lines are taken as those of this peer, the desk going from old to new; where the peer is not known, there are none
+-- lines are taken as those of this peer, the desk going from old to new; if the peer is not known, there are none
 abbrev pub TakesBy : {D : Type 0} → (D → Peer → Ask → Withheld → D → Type 0) → Option Peer → D → List (List ℕ) → List Withheld → D → Type 0
 TakesBy takes None old lines held new = (lines ≡ []) × (held ≡ []) × (new ≡ old)
 TakesBy takes (Some peer) old lines held new = TakesLines (TakesFrom takes peer) old lines held new
@@ -38,7 +38,7 @@ abbrev pub TakesAll : {D : Type 0} → (D → Peer → Ask → Withheld → D �
 TakesAll takes old [] new = new ≡ old
 TakesAll {D} takes old (t ∷ more) new = (mid : D) × TakesBy takes t.connection.peer old t.lines t.held mid × TakesAll takes mid more new
 
--- what was taken between two releases, and what the second let be told
+-- the lines that were taken between two releases, and the answers that the second one released
 pub record Round : Type 0 where
   pub takings : List Taking
   pub said : List Answer
@@ -74,8 +74,8 @@ abbrev pub answers_in : ℕ → List Round → List Answer
 answers_in key [] = []
 answers_in key (r ∷ more) = answers_to key r.takings r.said ++ answers_in key more
 
--- a connection that bytes were fed to and replies were gathered for: the lines that were completed are its lines of these rounds,
--- and the replies are the texts of the answers to them, in order, up to want of memory. It waits for no answer
+-- a connection that was fed bytes, and has replies for them: the lines that were completed are its lines of these rounds;
+-- the replies are the texts of the answers to them, in order, as far as there was memory. It waits for no answer
 pub record Answered (key : ℕ) (rounds : List Round) (old new : SessionState) : Type 0 where
   pub lines : input_lines new.fed ≡ input_lines old.fed ++ lines_in key rounds
   pub text : List ℕ
@@ -85,11 +85,11 @@ pub record Answered (key : ℕ) (rounds : List Round) (old new : SessionState) :
   pub all : (untold ≡ []) ⊎ LacksMemory new.ended
   pub told : new.waiting ≡ 0
 
--- each connection that is there was there, and has gone so
+-- each connection that is there was there before, and has taken this step
 abbrev pub EachGoes : (ℕ → PeerState → PeerState → Type 0) → Slab Connection → Slab Connection → Type 0
 EachGoes goes old new = (key : ℕ) (connection' : Connection) → get new key ≡ Some connection' → (connection : Connection) × (get old key ≡ Some connection) × goes key connection.session connection'.session
 
--- what was taken is of a connection whose header names its peer; and if the connection is still there, it has that peer still
+-- the lines are of a connection whose header names its peer; and if the connection is still there, it has that peer still
 abbrev pub IsOwn : Slab Connection → Taking → Type 0
 IsOwn connections t =
     IsConnection t.connection × ((connection : Connection) → get connections t.key ≡ Some connection → StaysPeer t.connection connection.session)
@@ -126,7 +126,7 @@ WaitsForRelease nexts.WaitRelease = Unit {0}
 WaitsForRelease nexts.ReleaseNow = Unit {0}
 WaitsForRelease _ = ⊥
 
--- a session's step: lines were taken as those of the peer, and their answers put behind those that are withheld; or none, and no
+-- a session's step: lines were taken as those of the peer, and their answers put after those that are withheld; or none, and no
 -- more was done than to send
 pub record LinesStep {D : Type 0} (takes : D → Peer → Ask → Withheld → D → Type 0) (peer : Option Peer) (old new : D) (withheld withheld' : List Withheld) (state state' : SessionState) : Type 0 where
   pub lines : List (List ℕ)
@@ -135,15 +135,14 @@ pub record LinesStep {D : Type 0} (takes : D → Peer → Ask → Withheld → D
   pub desk : TakesBy takes peer old lines held new
   pub goes : (Kept state state' × (lines ≡ []) × (held ≡ [])) ⊎ LinesTaken lines held (length withheld) state state'
 
--- a connection's step: its lines were taken, and it waits for the release of their answers; or none, and it has done no more than
--- to send
+-- a connection's step: its lines were taken, and it waits for the release of their answers; or none, and it has at most sent
 pub record ConnectionSteps {D : Type 0} (takes : D → Peer → Ask → Withheld → D → Type 0) (old new : D) (withheld withheld' : List Withheld) (next : Next) (state state' : PeerState) : Type 0 where
   pub step : LinesStep takes state.peer old new withheld withheld' state.session state'.session
   pub waits : Kept state.session state'.session × (step.lines ≡ []) × (step.held ≡ []) ⊎ WaitsForRelease next
   pub stays : StaysPeer state state'
   pub is : IsConnection state
 
--- the connection told its part of what was released
+-- the connection turned its part of the released answers into replies
 pub record TellsOwn (released : List Answer) (old new : SessionState) : Type 0 where
   pub fed : new.fed ≡ old.fed
   pub text : List ℕ
@@ -155,23 +154,23 @@ pub record TellsOwn (released : List Answer) (old new : SessionState) : Type 0 w
 abbrev pub TellsPeer : List Answer → PeerState → PeerState → Type 0
 TellsPeer released old new = TellsOwn released old.session new.session × (new.peer ≡ old.peer)
 
--- each connection that waited told its part of what was released, once; no other did anything
+-- each connection that waited turned its part of the released answers into replies, once; no other did anything
 abbrev pub TellsWhereAsked : List Answer → List ℕ → ℕ → PeerState → PeerState → Type 0
 TellsWhereAsked released awaiting key old new =
     TellsPeer released old new ⊎ ((new ≡ old) × (Contains awaiting key → ⊥))
 
--- what was withheld is released at once, and each connection that asked tells its part of that
+-- the withheld answers are released at once, and each connection that asked turns its part of them into replies
 pub record TellsAll {D : Type 0} (releases : D → D → Withheld → Answer → Type 0) (moves : D → D → Type 0) (old new : D) (withheld : List Withheld) (awaiting : List ℕ) (connections connections' : Slab Connection) : Type 0 where
   pub said : List Answer
   pub released : ReleasesAll releases moves old withheld said new
   pub each : EachGoes (TellsWhereAsked said awaiting) connections connections'
 
--- lines of the connection were taken, and it asks for the release of their answers; or none, and it has done no more than to send
+-- lines of the connection were taken, and it asks for the release of their answers; or none, and it has at most sent
 abbrev pub StepsOrStays : List ℕ → ℕ → List (List ℕ) → List Withheld → ℕ → SessionState → SessionState → Type 0
 StepsOrStays awaiting key lines held first old new = (Kept old new × (lines ≡ []) × (held ≡ [])) ⊎ (Contains awaiting key × LinesTaken lines held first old new)
 
--- the turn of the connection under this key: the desk goes through the takes of its lines, as those of its peer, and their answers
--- are put behind those that are withheld; if there are any, it waits for their release. No other connection has changed
+-- the turn of the connection under this key: the desk takes its lines, as those of its peer, and their answers
+-- are put after those that are withheld; if there are any, it waits for their release. No other connection has changed
 pub record TurnOfOne {D : Type 0} (takes : D → Peer → Ask → Withheld → D → Type 0) (key : ℕ) (old new : D) (withheld withheld' : List Withheld) (awaiting awaiting' : List ℕ) (connections connections' : Slab Connection) : Type 0 where
   pub connection : PeerState
   pub is : IsConnection connection

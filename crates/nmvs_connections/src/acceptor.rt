@@ -18,14 +18,13 @@ const LINES: Token = Token(0);
 
 const HTTP: Token = Token(1);
 
-/// For how many milliseconds no connection is accepted behind one that could not be: as a rule for want of a descriptor
-/// (own).
+/// The most milliseconds from an accept that failed, as a rule for want of a descriptor, to the next (own).
 const PAUSE: u64 = 100;
 
-/// What the connection is told that is one too many.
+/// The reply to a connection that is one too many.
 const BUSY: &[u8] = b"FAULT BUSY\n";
 
-/// Where connections are accepted whose lines are carried over HTTP.
+/// A listener for connections whose lines are carried over HTTP.
 #[derive(Drop)]
 pub struct HttpListener {
     pub listener: Listener,
@@ -33,17 +32,17 @@ pub struct HttpListener {
     pub keys: RandomState,
 }
 
-/// Where connections are accepted, and how they carry lines.
+/// A listener, and how its connections carry lines.
 #[derive(Clone, Copy)]
 struct Entrance<'l> {
     listener: &'l Listener,
-    /// The keys for the fields of requests, where lines are carried over HTTP.
+    /// The keys for the fields of requests, if lines are carried over HTTP.
     http: Option<RandomState>,
-    /// What the connection is told that is one too many.
+    /// The reply to a connection that is one too many.
     busy: &'l [u8],
 }
 
-/// Accepts connections and hands them to the workers in turn, until the pool closes. One too many is told so, and closed.
+/// Accepts connections and hands them to the workers in turn, until the pool closes. It turns away one too many.
 ///
 /// # Errors
 ///
@@ -75,7 +74,7 @@ pub fn accept_loop<R: Wait + Log>(
     }
 }
 
-/// What the connection is told over HTTP that is one too many.
+/// The response over HTTP to a connection that is one too many.
 fn busy_response(alloc: Global) -> Result<Vec<u8>, AllocError> {
     let mut text = WriteBuffer::new(Vec::new(alloc));
     match write_refusal(&mut text, Fault::Busy) {
@@ -84,7 +83,7 @@ fn busy_response(alloc: Global) -> Result<Vec<u8>, AllocError> {
     }
 }
 
-/// Has a poll report an entrance under the token.
+/// Registers an entrance with a poll, under the token.
 fn register(poll: &Poll, entrance: Entrance<'_>, token: Token) -> io::Result<()> {
     let descriptor = entrance.listener.descriptor();
     poll.registry()
@@ -122,7 +121,7 @@ fn accept_by<R: Wait + Log>(
     Ok(())
 }
 
-/// Accepts the connections that wait, and tells for how long no more are to be accepted.
+/// Accepts the connections that wait. The result is the longest wait until the next accept, if one failed.
 fn accept_all<R: Wait + Log>(
     rt: &R,
     pool: &WorkerPool<'_>,
@@ -158,7 +157,7 @@ fn accept_all<R: Wait + Log>(
     None
 }
 
-/// Tells a connection that it is one too many, and closes it.
+/// Sends a connection the reply to one too many, and closes it.
 fn turn_away(mut socket: Socket, busy: &[u8]) {
     match socket.write(busy) {
         Moved::Bytes(_) => socket.shutdown_write(),

@@ -1,4 +1,4 @@
-//! A session whose bytes others move.
+//! A session whose bytes the caller moves.
 ghost use Rattle.std.specs.Prelude.{◌≡◌, ◌==◌, ◌≤◌, ◌++◌, List, [], ℕ, None, not, length, take, drop};
 ghost use Rattle.nmvs_messages.specs.Peers.{TakesFrom};
 ghost use Rattle.nmvs_stream.specs.InputLines.{unfinished_line};
@@ -12,11 +12,11 @@ use std::alloc::Global;
 use std::marker::Model;
 use std::mem;
 
-/// The session of one connection: what it was fed, and the replies to that, of which the last may be unsent. The caller
-/// moves the bytes. Many sessions share a desk, and one list of answers that are withheld.
+/// The session of one connection: the bytes that it was fed, and the replies to them, the last of which may be unsent.
+/// The caller moves the bytes. Many sessions share a desk, and one list of answers that are withheld.
 ///
-/// Contracts see the bytes that it was fed, the replies that were sent, those that are unsent, how the session ended, and
-/// which of the answers that are withheld it waits for.
+/// Contracts see the bytes that it was fed, its sent and unsent replies, how it ended, and which of the withheld answers
+/// it waits for.
 #[derive(Drop)]
 pub struct BufferedSession {
     session: Session,
@@ -46,7 +46,7 @@ impl Model for BufferedSession {
 }
 
 impl BufferedSession {
-    /// A session that was fed nothing, and that answers so many lines at most.
+    /// A session that was fed nothing, and that answers at most this number of lines.
     pub fn new(alloc: Global, limit: u64) -> BufferedSession
         ensures { result ≡ record { fed = []; sent = []; unsent = []; ended = None; first = 0; waiting = 0 } }
     {
@@ -62,7 +62,7 @@ impl BufferedSession {
         }
     }
 
-    /// How the session ended, where it has: it is fed no more then.
+    /// How the session ended, if it has: it is fed no more then.
     pub fn end(&self) -> Option<End>
         ensures { result ≡ self.now.ended }
     {
@@ -70,7 +70,7 @@ impl BufferedSession {
     }
 
     /// The replies that are unsent. With those that were sent they are the texts of the answers to the lines that it was
-    /// fed, one answer a line, in order, up to the lines whose answers it waits for.
+    /// fed, one answer a line, in order. The lines whose answers it waits for have no reply yet.
     pub fn unsent(&self) -> &[u8]
         ensures bytes { result.now ≡ self.now.unsent }
         ensures replies { Replies self.now.fed (self.now.sent ++ self.now.unsent) self.now.waiting self.now.ended }
@@ -92,8 +92,15 @@ impl BufferedSession {
         self.waiting
     }
 
-    /// Takes the lines that these bytes complete, as [`Session::take`] does, and tells how many of the bytes it took. Their
-    /// answers are put behind those that are withheld, and it waits for them to be released.
+    /// The memory of its replies, in bytes. Room that is not used counts.
+    pub fn memory(&self) -> usize
+        ensures { length self.now.unsent ≤ result }
+    {
+        self.replies.bytes.capacity()
+    }
+
+    /// Takes the lines that these bytes complete, as [`Session::take`] does, and returns the number of bytes that it took. The
+    /// answers to the lines are put after those that are withheld, and the session waits for their release.
     pub fn take<'a, D: Desk<'a>>(
         &mut self,
         more: &[u8],
@@ -118,7 +125,7 @@ impl BufferedSession {
         taking.bytes
     }
 
-    /// Words the answers that it waits for, which stand among these that were released. Where there is no memory for the
+    /// Turns the answers that it waits for, among these that were released, into replies. If there is no memory for the
     /// replies, or the answers are not there, the session ends as by a failed write.
     pub fn tell(&mut self, alloc: Global, released: &Released<'_, '_>)
         ensures fed { (self.new.fed ≡ self.old.fed) × (self.new.sent ≡ self.old.sent) }
@@ -134,7 +141,7 @@ impl BufferedSession {
         self.end = told.or(self.end);
     }
 
-    /// Notes that so many bytes of the unsent replies were sent, from the front.
+    /// Notes that this number of bytes of the unsent replies was sent, from the front.
     pub fn advance(&mut self, count: usize)
         requires { count ≤ length self.old.unsent }
         ensures sent { self.new.sent ≡ self.old.sent ++ take count self.old.unsent }
@@ -148,7 +155,7 @@ impl BufferedSession {
         self.gone += count;
     }
 
-    /// Gathers the next replies in this room, and gives back the room that it had, where none are unsent.
+    /// Gathers the next replies in this room, and gives back the room that it had, if none are unsent.
     pub fn exchange(&mut self, room: &mut Vec<u8>)
         ensures { self.new ≡ self.old }
     {
@@ -162,7 +169,7 @@ impl BufferedSession {
     }
 }
 
-/// Words so many of the answers that were released, from this place on. Where they are not there, that is as a failed write.
+/// Writes this number of released answers as text, from this place on. If they are not there, that is as a failed write.
 fn word_part(
     alloc: Global,
     released: &Released<'_, '_>,

@@ -1,5 +1,5 @@
 //! One connection of a worker.
-ghost use Rattle.std.specs.Prelude.{◌≡◌, None, Some, IfOk};
+ghost use Rattle.std.specs.Prelude.{◌≡◌, ◌≤◌, ◌+◌, ◌-◌, ◌^◌, None, Some, IfOk, length, min};
 ghost use Rattle.nmvs_connections.specs.declared.peer_session.Stage.TheVariants as stages;
 ghost use Rattle.nmvs_connections.specs.Peers.{IsConnection};
 ghost use Rattle.nmvs_connections.specs.Turns.{ConnectionSteps, Kept, TellsOwn};
@@ -37,17 +37,19 @@ pub(crate) struct Connection {
     session: PeerSession,
     /// Whether the peer asked nothing for too long.
     was_idle: bool,
-    /// When bytes were moved last, but for those that end neither a header nor a line that was begun.
+    /// When bytes were moved last, but for those that only go on with a header or a line.
     moved: Instant,
     /// Whether the peer ended or broke the connection, so that it is read to its end.
     peer_closed: bool,
     stopped: bool,
     /// Whether its turn comes.
     pub(crate) queued: bool,
+    /// The memory of its buffers at the last count, in bytes.
+    pub(crate) memory: usize,
 }
 
 impl Connection {
-    /// A connection, which begins with a gateway's header where that has this name.
+    /// A connection, which begins with a gateway's header if `proxy` says whose name that has.
     ///
     /// # Errors
     ///
@@ -70,12 +72,24 @@ impl Connection {
             peer_closed: false,
             stopped: false,
             queued: false,
+            memory: 0,
         })
     }
 
-    /// Has a poll report the connection under the key.
+    /// Registers the connection with a poll, under the key.
     pub(crate) fn register(&mut self, registry: &Registry, key: usize) -> io::Result<()> {
         self.session.register(registry, key)
+    }
+
+    /// Counts the memory of its buffers anew. The result is the memory of the buffers of all connections, which was this before.
+    pub(crate) fn count_memory(&mut self, all: usize) -> usize
+        ensures session { self.new.session ≡ self.old.session }
+        ensures own { length self.new.session.session.unsent ≤ self.new.memory }
+        ensures all { result ≡ min ((all - self.old.memory) + self.new.memory) (2 ^ 64 - 1) }
+    {
+        let others = all.saturating_sub(self.memory);
+        self.memory = self.session.memory();
+        others.saturating_add(self.memory)
     }
 
     /// Notes that the peer ended or broke the connection.
@@ -83,12 +97,12 @@ impl Connection {
         self.peer_closed = true;
     }
 
-    /// Whether a line of it was served.
+    /// Whether one of its lines was served.
     pub(crate) fn is_served(&self) -> bool {
         self.session.is_served()
     }
 
-    /// Why the connection ends, where it does so now, as the log tells it.
+    /// The reason that the log gives if the connection ends now.
     pub(crate) fn reason(&self) -> &'static str {
         if self.session.awaited_header().is_some() {
             return "header";
@@ -110,7 +124,7 @@ impl Connection {
         self.stopped = true;
     }
 
-    /// Sends what is unsent; then takes the lines of what one read gives, or takes a step towards the end.
+    /// Sends the unsent bytes. Then it takes the lines of one read, or a step towards the end.
     pub(crate) fn take_turn<'a, R: Wait, D: Desk<'a>>(
         &mut self,
         rt: &R,
@@ -132,7 +146,7 @@ impl Connection {
         self.step(rt, pool, scratch, withheld, desk)
     }
 
-    /// Takes the lines of what one read gives, or takes a step towards the end.
+    /// Takes the lines of one read, or a step towards the end.
     #[tactic(auto, using(crate::proofs::ConnectionLemmas::steps_idle, crate::proofs::ConnectionLemmas::steps_awaiting))]
     fn step<'a, R: Wait, D: Desk<'a>>(
         &mut self,
@@ -158,8 +172,9 @@ impl Connection {
             return Next::Again;
         }
         let was_pending = self.session.has_pending_line();
-        let buffer = &mut scratch.buffer;
-        let next = self.session.take(rt, pool, buffer, withheld, desk);
+        let (buffer, lists) = (&mut scratch.buffer, !scratch.listed);
+        let next = self.session.take(rt, pool, buffer, lists, withheld, desk);
+        scratch.listed = scratch.listed || withheld.ends_long();
         let goes_on = was_pending && !self.session.is_waiting();
         let begins = !was_pending && self.session.has_pending_line();
         self.note_moved(
@@ -169,7 +184,7 @@ impl Connection {
         next
     }
 
-    /// Reads on in the header of a gateway. When the service ends, it is not waited for.
+    /// Reads more of a gateway's header. If the service was stopped, the connection is closed.
     fn read_header(&mut self, name_of: NameOf, scratch: &mut Scratch) -> Next
         requires awaited { self.old.session.peer ≡ None }
         requires proxy { self.old.session.proxy ≡ Some name_of }
@@ -187,7 +202,7 @@ impl Connection {
         next
     }
 
-    /// Tells the peer that no more is written.
+    /// Shuts down the write side, after a notice if the peer was idle.
     fn shutdown_write(&mut self, now: Instant) -> Next
         requires { self.old.session.stage ≡ stages.Ending }
         ensures session { self.new.session.session ≡ self.old.session.session }
@@ -211,7 +226,7 @@ impl Connection {
         }
     }
 
-    /// Sends as much of what is unsent as the system takes.
+    /// Sends as many of the unsent bytes as the system takes.
     fn send(&mut self, now: Instant) -> Next
         ensures kept { Kept self.old.session.session self.new.session.session }
         ensures peer { self.new.session.peer ≡ self.old.session.peer }
@@ -230,7 +245,7 @@ impl Connection {
         }
     }
 
-    /// Tells its part of the answers that are released, and sends the replies. More may be there to be read at once.
+    /// Turns its part of the released answers into replies, and sends them. More may be there to be read at once.
     pub(crate) fn tell(&mut self, scratch: &mut Scratch, released: &Released<'_, '_>) -> Next
         ensures tells { TellsOwn released.now self.old.session.session self.new.session.session }
         ensures peer { self.new.session.peer ≡ self.old.session.peer }
@@ -252,7 +267,7 @@ impl Connection {
         }
     }
 
-    /// What becomes of the connection by the time that has passed.
+    /// The next step of the connection by the time that has passed.
     pub(crate) fn check_timeouts(&mut self, now: Instant, idle: Option<Duration>) -> Next {
         let age = now.duration_since(self.moved);
         let stage = self.session.stage();

@@ -1,15 +1,16 @@
 //! The loop of a worker.
-ghost use Rattle.std.specs.Prelude.{◌≡◌, ◌≢◌, ◌++◌, ◌∷◌, [], ℕ, Some, None};
+ghost use Rattle.std.specs.Prelude.{◌≡◌, ◌≢◌, ◌≤◌, ◌<◌, ◌-◌, ◌++◌, ◌∷◌, [], ℕ, Some, None, IsSome};
 ghost use Rattle.std.specs.List.{Contains};
-ghost use Rattle.slab.specs.Slab.{get};
+ghost use Rattle.slab.specs.Slab.{get, slab_len};
 ghost use Rattle.nmvs_connections.specs.declared.connection.Connection.{Connection as TheConnection};
+ghost use Rattle.nmvs_connections.specs.Memory.{CountsMemory, IsLargest, TakeAtMost, memory_of};
 ghost use Rattle.nmvs_connections.specs.Turns.{EachGoes, WaitsForRelease, TellsAll, TellsPeer, TellsWhereAsked, TurnOfOne, WorkerTurn};
 
 use crate::connection::Connection;
 use crate::next::Next;
 use crate::scratch::Scratch;
 use crate::worker_pool::{Accepted, Poller, WAKE, WorkerPool};
-use log::{Log, debug};
+use log::{Log, debug, warn};
 use mio::event::Event;
 use mio::{Events, Registry};
 use nmvs_messages::{Desk, Released, WithheldAnswers};
@@ -21,10 +22,7 @@ use std::sync::Wait;
 use std::time::{Duration, Instant};
 use std::{io, mem};
 
-#[cfg(test)]
-mod tests;
-
-/// How many seconds behind each other a worker looks for connections that waited too long (own).
+/// Seconds from one search of a worker for connections that waited too long to the next (own).
 const TICK: u64 = 1;
 
 /// Serves the connections that are accepted for the worker of this number, until the pool is closed and each session has ended.
@@ -54,12 +52,16 @@ struct EventLoop {
     connections: Slab<Connection>,
     turns: Vec<usize>,
     later: Vec<usize>,
-    /// Whose answers wait for the release.
+    /// The keys of the connections whose answers wait for the release.
     awaiting: Vec<usize>,
-    /// When those were looked for last that waited too long.
+    /// When the worker last looked for connections that waited too long.
     looked: Instant,
     /// Whether no more sessions begin.
     closing: bool,
+    /// The memory of the buffers of all connections at their last counts, in bytes.
+    memory: usize,
+    /// The number of connections that were closed for it since the last line of the log about them.
+    evicted: usize,
 }
 
 impl EventLoop {
@@ -72,6 +74,8 @@ impl EventLoop {
             awaiting: Vec::new(alloc),
             looked: now,
             closing: false,
+            memory: 0,
+            evicted: 0,
         }
     }
 
@@ -93,8 +97,10 @@ impl EventLoop {
                 self.admit_all(rt, pool, poller.poll.registry(), scratch);
             }
             self.take_turns(rt, pool, scratch, &mut withheld, desk);
+            pool.metrics(self.worker).note_memory(self.memory);
             self.check_timeouts(rt, pool, scratch.now);
             if self.closing && self.connections.is_empty() {
+                self.log_evicted(rt);
                 return Ok(());
             }
         }
@@ -105,14 +111,14 @@ impl EventLoop {
     fn poll_timeout(&self) -> Option<Duration> {
         if !self.turns.is_empty() {
             Some(Duration::ZERO)
-        } else if self.connections.is_empty() {
+        } else if self.connections.is_empty() && self.evicted == 0 {
             None
         } else {
             Some(Duration::from_secs(TICK))
         }
     }
 
-    /// Notes what the system reports, and tells whether the worker was woken.
+    /// Notes the system's reports. The result is whether the worker was woken.
     fn note_all(&mut self, events: &Events) -> bool {
         let mut woken = false;
         for event in events {
@@ -135,7 +141,7 @@ impl EventLoop {
         self.queue(key);
     }
 
-    /// Has the turn of a connection come, where it does not yet.
+    /// Queues a connection for its turn, if it is not queued yet.
     fn queue(&mut self, key: usize) {
         let Some(connection) = self.connections.get_mut(key) else {
             return;
@@ -183,7 +189,7 @@ impl EventLoop {
         }
     }
 
-    /// Learns whether the service ends.
+    /// Checks whether the service ends.
     fn check_shutdown<R: Wait + Log>(&mut self, rt: &R, pool: &WorkerPool<'_>) {
         if !pool.is_closing(rt) {
             return;
@@ -208,8 +214,8 @@ impl EventLoop {
         }
     }
 
-    /// Gives each connection whose turn it is its turn. The answers of all of them are released together, as far as the
-    /// list of them has room and none shows a list.
+    /// Gives each queued connection its turn, and at most one of them a list. Their answers are released together, unless the list
+    /// of them is full or an answer may be long.
     fn take_turns<'a, R: Wait + Log, D: Desk<'a>>(
         &mut self,
         rt: &R,
@@ -222,6 +228,8 @@ impl EventLoop {
         ensures none_withheld { withheld.new ≡ [] }
         ensures turn { WorkerTurn D.takes D.releases D.moves desk.old desk.new self.old.connections self.new.connections }
     {
+        scratch.listed = false;
+        let mut first = 0;
         for index in 0..self.turns.len() {
             let Some(key) = self.turns.get(index).copied() else {
                 continue;
@@ -230,13 +238,19 @@ impl EventLoop {
                 continue;
             }
             self.tell_all(rt, pool, scratch, withheld, desk);
+            if scratch.listed && first == 0 {
+                first = self.later.len();
+            }
         }
         self.tell_all(rt, pool, scratch, withheld, desk);
         self.turns.clear();
+        // The connections that wait for a list come first.
+        let first = first.min(self.later.len());
+        self.later.rotate_left(first);
         mem::swap(&mut self.turns, &mut self.later);
     }
 
-    /// Gives a connection its turn, and tells whether what is withheld is released before another has its own.
+    /// Gives a connection its turn. The result is whether the withheld answers are released before the next turn.
     fn take_turn<'a, R: Wait + Log, D: Desk<'a>>(
         &mut self,
         rt: &R,
@@ -257,7 +271,7 @@ impl EventLoop {
         next == Next::ReleaseNow
     }
 
-    /// Does with a connection what becomes of it behind its turn.
+    /// Takes the next step of a connection after its turn.
     fn dispatch<R: Wait + Log>(&mut self, rt: &R, pool: &WorkerPool<'_>, key: usize, next: Next)
         ensures asks { WaitsForRelease next → (connection : TheConnection) → get self.new.connections key ≡ Some connection → Contains self.new.awaiting.items key }
         ensures still { (other : ℕ) → Contains self.old.awaiting.items other → Contains self.new.awaiting.items other }
@@ -269,8 +283,8 @@ impl EventLoop {
         }
     }
 
-    /// Has the desk release what is withheld, once for all connections that wait for it, and each of them tell its own.
-    /// Where nothing is withheld the desk is not asked.
+    /// The desk releases the withheld answers, once for all connections that wait for them, and each connection sends its own.
+    /// If nothing is withheld, the desk is not asked.
     fn tell_all<'a, R: Wait + Log, D: Desk<'a>>(
         &mut self,
         rt: &R,
@@ -293,7 +307,7 @@ impl EventLoop {
         withheld.clear();
     }
 
-    /// Has each connection that waits for it tell its own of what was released.
+    /// Each connection that waits sends its own of the released answers.
     fn tell_each<R: Wait + Log>(
         &mut self,
         rt: &R,
@@ -309,7 +323,7 @@ impl EventLoop {
         }
     }
 
-    /// Has a connection tell its own of what was released.
+    /// A connection sends its own of the released answers.
     fn tell<R: Wait + Log>(
         &mut self,
         rt: &R,
@@ -328,8 +342,37 @@ impl EventLoop {
         self.go_on(rt, pool, key, next);
     }
 
-    /// Does with a connection what becomes of it where it waits for no release.
+    /// Takes the next step of a connection that waits for no release. If the buffers of all connections take too much memory then,
+    /// some connections are closed.
     fn go_on<R: Wait + Log>(&mut self, rt: &R, pool: &WorkerPool<'_>, key: usize, next: Next)
+        ensures awaiting { self.new.awaiting ≡ self.old.awaiting }
+        ensures connections { EachGoes (λ key state state'. state' ≡ state) self.old.connections self.new.connections }
+        ensures memory { TakeAtMost pool.now.memory self.new.connections self.new.memory }
+    {
+        self.count_memory(key);
+        self.queue_or_close(rt, pool, key, next);
+        self.evict(rt, pool, pool.memory());
+    }
+
+    /// Counts the memory of the buffers of a connection anew.
+    fn count_memory(&mut self, key: usize)
+        ensures awaiting { self.new.awaiting ≡ self.old.awaiting }
+        ensures connections { EachGoes (λ key state state'. state' ≡ state) self.old.connections self.new.connections }
+        ensures memory { CountsMemory (get self.old.connections key) (get self.new.connections key) self.old.memory self.new.memory }
+    {
+        if let Some(connection) = self.connections.get_mut(key) {
+            self.memory = connection.count_memory(self.memory);
+        }
+    }
+
+    /// Queues the next turn of a connection, or closes it.
+    fn queue_or_close<R: Wait + Log>(
+        &mut self,
+        rt: &R,
+        pool: &WorkerPool<'_>,
+        key: usize,
+        next: Next,
+    )
         ensures awaiting { self.new.awaiting ≡ self.old.awaiting }
         ensures connections { EachGoes (λ key state state'. state' ≡ state) self.old.connections self.new.connections }
     {
@@ -340,7 +383,7 @@ impl EventLoop {
         }
     }
 
-    /// Notes that a connection waits for the release. Where it can't be noted, it is closed.
+    /// Notes that a connection waits for the release. If there is no room for the note, it is closed.
     fn note_awaiting<R: Wait + Log>(&mut self, rt: &R, pool: &WorkerPool<'_>, key: usize)
         ensures asks { (connection : TheConnection) → get self.new.connections key ≡ Some connection → self.new.awaiting.items ≡ self.old.awaiting.items ++ key ∷ [] }
         ensures still { (other : ℕ) → Contains self.old.awaiting.items other → Contains self.new.awaiting.items other }
@@ -361,32 +404,104 @@ impl EventLoop {
         }
     }
 
-    /// Closes a connection.
+    /// Closes connections, at each step the one whose buffers take most memory, until those of all take no more than this.
+    fn evict<R: Wait + Log>(&mut self, rt: &R, pool: &WorkerPool<'_>, most: usize)
+        ensures awaiting { self.new.awaiting ≡ self.old.awaiting }
+        ensures connections { EachGoes (λ key state state'. state' ≡ state) self.old.connections self.new.connections }
+        ensures within { self.old.memory ≤ most → self.new ≡ self.old }
+        ensures memory { TakeAtMost most self.new.connections self.new.memory }
+    {
+        while self.memory > most {
+            let Some(key) = self.largest() else {
+                return;
+            };
+            self.evicted = self.evicted.saturating_add(1);
+            pool.metrics(self.worker).note_evicted();
+            self.close(rt, pool, key, "evicted");
+        }
+    }
+
+    /// The key of the connection whose buffers take most memory, if any take some.
+    fn largest(&self) -> Option<usize>
+        ensures { IsLargest self.now.connections result }
+    {
+        let mut most = 0;
+        let mut largest = None;
+        for (key, connection) in self.connections.iter() {
+            if connection.memory > most {
+                most = connection.memory;
+                largest = Some(key);
+            }
+        }
+        largest
+    }
+
+    /// Closes a connection, whose end has come.
     fn remove<R: Wait + Log>(&mut self, rt: &R, pool: &WorkerPool<'_>, key: usize)
         ensures awaiting { self.new.awaiting ≡ self.old.awaiting }
         ensures gone { get self.new.connections key ≡ None }
         ensures connections { EachGoes (λ key state state'. state' ≡ state) self.old.connections self.new.connections }
     {
-        self.log_end(rt, key);
+        self.close(rt, pool, key, self.reason(key));
+    }
+
+    /// Closes a connection, and logs this reason.
+    fn close<R: Wait + Log>(&mut self, rt: &R, pool: &WorkerPool<'_>, key: usize, reason: &str)
+        ensures awaiting { self.new.awaiting ≡ self.old.awaiting }
+        ensures gone { get self.new.connections key ≡ None }
+        ensures connections { EachGoes (λ key state state'. state' ≡ state) self.old.connections self.new.connections }
+        ensures memory { self.new.memory ≡ self.old.memory - memory_of (get self.old.connections key) }
+        ensures one { IsSome (get self.old.connections key) → slab_len self.new.connections < slab_len self.old.connections }
+    {
+        self.log_end(rt, key, reason);
+        let memory = self.memory_of(key);
         if self.connections.try_remove(key).is_some() {
+            self.memory = self.memory.saturating_sub(memory);
             pool.leave(rt, self.worker);
         }
     }
 
-    /// Tells in the log that a connection ends, and why.
-    fn log_end<R: Log>(&self, rt: &R, key: usize) {
+    /// The memory of the buffers of a connection at the last count, or 0 if there is none.
+    fn memory_of(&self, key: usize) -> usize
+        ensures { result ≡ memory_of (get self.now.connections key) }
+    {
+        match self.connections.get(key) {
+            Some(connection) => connection.memory,
+            None => 0,
+        }
+    }
+
+    /// The reason for which a connection ends now.
+    fn reason(&self, key: usize) -> &'static str {
+        match self.connections.get(key) {
+            Some(connection) => connection.reason(),
+            None => "",
+        }
+    }
+
+    /// Logs that a connection ends, and why.
+    fn log_end<R: Log>(&self, rt: &R, key: usize, reason: &str) {
         if let Some(connection) = self.connections.get(key) {
-            let reason = connection.reason();
             debug!(rt; connection = connection.number, worker = self.worker, reason; "connection ends");
         }
     }
 
-    /// Looks for connections that waited too long, where it is time to.
+    /// Logs that connections were closed for their memory, if some were.
+    fn log_evicted<R: Log>(&mut self, rt: &R) {
+        if self.evicted == 0 {
+            return;
+        }
+        let connections = mem::take(&mut self.evicted);
+        warn!(rt; worker = self.worker, connections; "connections closed: their buffers took more than --connection-memory");
+    }
+
+    /// Looks for connections that waited too long, if a tick has passed.
     fn check_timeouts<R: Wait + Log>(&mut self, rt: &R, pool: &WorkerPool<'_>, now: Instant) {
         if now.duration_since(self.looked).as_secs() < TICK {
             return;
         }
         self.looked = now;
+        self.log_evicted(rt);
         for key in 0..self.connections.capacity() {
             let next = match self.connections.get_mut(key) {
                 Some(connection) => connection.check_timeouts(now, pool.idle()),

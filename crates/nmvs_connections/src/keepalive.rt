@@ -1,18 +1,18 @@
-//! The system's keepalive: a peer that is gone is found out, though it is silent.
+//! The system's keepalive: it finds out that a silent peer is gone.
 use libc::net as c;
 use mio::net::TcpStream;
 use std::os::fd::AsRawFd;
 
-/// For how many seconds a connection is silent before its peer is asked whether it is there (own).
+/// Seconds of silence on a connection before the first probe of its peer (own).
 const SILENCE: u32 = 60;
 
-/// How many seconds behind each other it is asked (own).
+/// Seconds from one probe to the next (own).
 const INTERVAL: u32 = 10;
 
-/// How often it is asked: a connection whose peer answers none of that is broken (own).
+/// The number of probes: a connection whose peer answers none of them is broken (own).
 const QUESTIONS: u32 = 6;
 
-/// Has the system find out that the peer is gone, where the connection is silent. Where the system refuses, it does not.
+/// Turns keepalive on for the connection, as far as the system allows.
 pub(crate) fn keep_alive(stream: &TcpStream) {
     let fd = stream.as_raw_fd();
     let (on, silence) = (value_of(1), value_of(SILENCE));

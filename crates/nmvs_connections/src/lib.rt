@@ -1,10 +1,10 @@
-//! Many connections in few threads: an event loop a worker, over the system's readiness.
+//! Many connections in few threads: each worker has an event loop over the system's readiness events.
 //!
-//! [`WorkerPool::open`] makes what the threads of a server share, and a [`Poller`] for each of them. One thread runs
-//! [`accept_loop`]: it accepts connections and hands them to the workers. [`WorkerPool::load`] tells how many are open. Each
-//! worker runs [`serve`]: it reads from its connections by turns, feeds what it read to the [`BufferedSession`] of each, and
-//! sends the replies. All sessions of a worker share its desk. Behind a gateway a connection begins with its header, and
-//! carries the lines of the peer that it names alone.
+//! [`WorkerPool::open`] makes the state that the threads of a server share, and a [`Poller`] for each of them. One thread
+//! runs [`accept_loop`]: it accepts connections and hands them to the workers. [`WorkerPool::load`] counts the open ones.
+//! Each worker runs [`serve`]: it reads from its connections in turn, feeds the bytes to the [`BufferedSession`] of each,
+//! and sends the replies. All sessions of a worker share its desk. Behind a gateway a connection begins with a header. It
+//! carries lines of one peer alone, which the header names.
 #![tactic(auto)]
 
 mod acceptor;

@@ -15,11 +15,11 @@ use std::hash::RandomState;
 use std::io;
 use std::marker::Model;
 
-/// What carries lines over HTTP.
+/// A codec that carries lines over HTTP, and the state of its reads.
 #[derive(Drop)]
 pub(crate) struct Http {
     codec: HttpCodec,
-    /// What came before the first request.
+    /// The bytes that came before the first request.
     before: Tag,
     /// Whether the last read of the socket gave bytes, so that more may be there to be read at once.
     may_have_more: bool,
@@ -27,12 +27,12 @@ pub(crate) struct Http {
     discards: bool,
 }
 
-/// The stream of the lines of a connection, and of the replies to them. Contracts see the bytes of its socket, and how lines are
-/// carried over HTTP, where they are.
+/// The stream of the lines of a connection, and of the replies. Contracts see the bytes of its socket, and how lines are
+/// carried over HTTP, if they are.
 #[derive(Drop)]
 pub(crate) struct LineStream {
     stream: Stream,
-    /// In a box, so that a connection without it keeps no room for it.
+    /// In a box, so that a connection without HTTP takes no memory for it.
     http: Option<Box<Http>>,
 }
 
@@ -57,14 +57,14 @@ impl LineStream {
         }
     }
 
-    /// Has a poll report the stream under the token, when it may be read or written.
+    /// Registers the stream with a poll, which reports it under the token when it may be read or written.
     pub(crate) fn register(&mut self, registry: &Registry, token: Token) -> io::Result<()>
         ensures { self.new ≡ self.old }
     {
         self.stream.register(registry, token)
     }
 
-    /// Carries the lines over HTTP from here on, where there are keys for the fields of its requests. The result is whether there was
+    /// Carries the lines over HTTP from here on, if there are keys for the fields of requests. The result is whether there was
     /// memory for it.
     pub(crate) fn begin(&mut self, alloc: Global, keys: Option<RandomState>) -> bool
         requires plain { self.old.http ≡ None }
@@ -114,7 +114,7 @@ impl LineStream {
         }
     }
 
-    /// Responds to the request in hand, where all its lines were read, or the session has ended in it.
+    /// Responds to the request in hand, if all its lines were read, or the session has ended in it.
     pub(crate) fn respond(&mut self, ended: bool)
         requires { AnswersOver (before_of self.old.http) (carried self.old) ended }
         ensures carried { carried self.new ≡ carried self.old }
@@ -126,7 +126,7 @@ impl LineStream {
         }
     }
 
-    /// Tells a request that has not come whole that it comes too late, where lines are carried over HTTP.
+    /// Refuses as late a request that has not come whole, if lines are carried over HTTP.
     pub(crate) fn refuse_late(&mut self)
         ensures carried { carried self.new ≡ carried self.old }
         ensures before { before_of self.new.http ≡ before_of self.old.http }
@@ -148,8 +148,8 @@ impl LineStream {
         }
     }
 
-    /// Whether all that HTTP tells was sent. What was read from the socket is, in order, the requests that carry the lines, and what
-    /// was written to it the responses that carry the replies.
+    /// Whether all responses were sent. The bytes read from the socket are, in order, the requests that carry the lines. Those
+    /// written to it are the responses that carry the replies.
     pub(crate) fn is_flushed(&self) -> bool
         ensures { CarriesLines self.now }
     {
@@ -172,6 +172,14 @@ impl LineStream {
         }
     }
 
+    /// The memory of requests and responses, in bytes.
+    pub(crate) fn memory(&self) -> usize {
+        match &self.http {
+            None => 0,
+            Some(http) => http.codec.memory(),
+        }
+    }
+
     /// Whether a request is in hand.
     pub(crate) fn has_request(&self) -> bool {
         match &self.http {
@@ -188,7 +196,7 @@ impl LineStream {
         }
     }
 
-    /// Whether HTTP goes on at once, though it gave no lines.
+    /// Whether the codec may go on at once, though it gave no lines.
     pub(crate) fn may_go_on(&self) -> bool {
         match &self.http {
             None => false,
@@ -196,7 +204,7 @@ impl LineStream {
         }
     }
 
-    /// Tells the peer that no more is written.
+    /// Shuts down the write side.
     pub(crate) fn shutdown_write(&self) {
         self.stream.shutdown_write();
     }
@@ -226,7 +234,7 @@ fn read_over(stream: &mut Stream, http: &mut Http, buffer: &mut [u8]) -> Moved
     }
 }
 
-/// Reads bytes of lines of the requests that have come. There is none where more has to come first.
+/// Reads bytes of lines of the requests that have come. There is no result if more has to come first.
 fn decode(http: &mut Http, buffer: &mut [u8]) -> Option<Moved>
     ensures fed { (raw : Traffic) → IsFed raw http.old → IsFed raw http.new }
     ensures before { http.new.before ≡ http.old.before }
@@ -260,7 +268,7 @@ fn read_on(stream: &mut Stream, http: &mut Http, buffer: &mut [u8]) -> Moved
     decode(http, buffer).unwrap_or(Moved::Blocked)
 }
 
-/// Feeds the codec these bytes, and tells whether there was memory for them. Where there is not, no more are fed.
+/// Feeds the codec these bytes. The result is whether there was memory for them; if not, no more are fed.
 fn feed(http: &mut Http, bytes: &[u8]) -> bool
     ensures fed { (raw : Traffic) → IsFed raw http.old → IsFed (record raw { received = raw.received ++ bytes.now }) http.new }
     ensures before { http.new.before ≡ http.old.before }
@@ -298,7 +306,7 @@ fn respond_over(http: &mut Http, ended: bool)
     http.codec.respond(ended);
 }
 
-/// Tells a request that has not come whole that it comes too late.
+/// Refuses as late a request that has not come whole.
 fn refuse_over(http: &mut Http)
     ensures fed { (raw : Traffic) → IsFed raw http.old → IsFed raw http.new }
     ensures before { http.new.before ≡ http.old.before }
@@ -309,7 +317,7 @@ fn refuse_over(http: &mut Http)
     }
 }
 
-/// Sends as much as the system takes of what the codec tells.
+/// Sends as many unsent bytes of the codec as the system takes.
 fn flush_over(stream: &mut Stream, http: &mut Http) -> Moved
     requires { IsFed stream.old http.old }
     ensures fed { IsFed stream.new http.new }

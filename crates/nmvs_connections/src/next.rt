@@ -1,6 +1,6 @@
-//! What becomes of a connection after its turn.
+//! The next step of a connection after its turn.
 
-/// What becomes of a connection after its turn.
+/// The next step of a connection after its turn.
 #[derive(Clone, Copy, PartialEq, Eq)]
 pub(crate) enum Next {
     /// Its next turn comes.

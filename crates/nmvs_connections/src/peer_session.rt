@@ -16,7 +16,7 @@ use crate::proxy_header::{ProxyHeader, read_proxy_header};
 use crate::scratch::Scratch;
 use crate::socket::{Moved, Socket};
 use crate::worker_pool::{Accepted, WorkerPool};
-use memchr::memchr;
+use memchr::{memchr, memmem, memrchr};
 use mio::{Registry, Token};
 use nmvs_messages::{Desk, End, NO_LIMITS, NameOf, Peer, READ_SIZE, Released, WithheldAnswers};
 use std::alloc::{AllocError, Global};
@@ -31,12 +31,12 @@ const IDLE: &[u8] = b"FAULT IDLE\n";
 /// How far a connection has come.
 #[derive(Clone, Copy, PartialEq, Eq)]
 pub(crate) enum Stage {
-    /// Its header is read, where it has one, and then its lines are answered.
+    /// Its header is read, if there is one, and then its lines are answered.
     Serving,
     /// No more lines are answered, and its replies are sent to the end.
     Ending,
-    /// The peer was told that no more is written, and is read on: where a connection is closed with bytes unread, the
-    /// system takes back what the peer has not received yet.
+    /// The write side is shut down, and the peer's bytes are still read: if a connection is closed with bytes unread, the
+    /// system discards the replies that the peer has not received yet.
     Lingering,
 }
 
@@ -46,18 +46,18 @@ pub(crate) enum Stage {
 pub(crate) struct PeerSession {
     stream: LineStream,
     session: BufferedSession,
-    /// Whose name the header has that the stream begins with, if it begins with one.
+    /// Whether the header names a user or an authorisation, if the stream begins with a header.
     proxy: Option<NameOf>,
-    /// The keys of what carries the lines over HTTP, where they are.
+    /// The keys for the fields of requests, if the lines are carried over HTTP.
     http: Option<RandomState>,
-    /// Who is at the other end, once that is known.
+    /// The peer, once it is known.
     peer: Option<Peer>,
-    /// What was read, and is taken once the replies to what was taken are sent; first what has come of a header.
+    /// Bytes that were read and not taken: first those of a header, later those that wait until earlier replies are sent.
     unread: Vec<u8>,
     stage: Stage,
-    /// Whether its last read filled the buffer, so that more may be there to be read at once.
+    /// Whether more may be there to be read at once, as after a read that filled the buffer.
     filled: bool,
-    /// Whether a line of it was served.
+    /// Whether one of its lines was served.
     served: bool,
 }
 
@@ -74,11 +74,11 @@ impl Model for PeerSession {
 }
 
 impl PeerSession {
-    /// The session of anyone over what was accepted, or of the peer that a header names.
+    /// The session over an accepted connection: of anyone, or of the peer that a header names.
     ///
     /// # Errors
     ///
-    /// There is no memory for what carries its lines.
+    /// There is no memory for the codec that carries its lines over HTTP.
     pub(crate) fn new(
         alloc: Global,
         accepted: Accepted,
@@ -102,7 +102,7 @@ impl PeerSession {
         })
     }
 
-    /// Has a poll report the connection under the key.
+    /// Registers the connection with a poll, under the key.
     pub(crate) fn register(&mut self, registry: &Registry, key: usize) -> io::Result<()>
         ensures { self.new ≡ self.old }
     {
@@ -116,7 +116,7 @@ impl PeerSession {
         self.stage
     }
 
-    /// Whose name the header has that has still to come.
+    /// Whether the header names a user or an authorisation, while it has still to come.
     pub(crate) fn awaited_header(&self) -> Option<NameOf>
         ensures { IfSome result (λ name_of. (self.now.peer ≡ None) × (self.now.proxy ≡ Some name_of)) }
     {
@@ -126,14 +126,14 @@ impl PeerSession {
         }
     }
 
-    /// How the session ended, where it has.
+    /// How the session ended, if it has.
     pub(crate) fn end(&self) -> Option<End>
         ensures { result ≡ self.now.session.ended }
     {
         self.session.end()
     }
 
-    /// Whether a line of it was served.
+    /// Whether one of its lines was served.
     pub(crate) fn is_served(&self) -> bool {
         self.served
     }
@@ -148,7 +148,7 @@ impl PeerSession {
         self.session.waiting() != 0
     }
 
-    /// Whether bytes were read that were not taken, or that are not answered.
+    /// Whether bytes were read that were not taken, or a request is in hand.
     pub(crate) fn has_unread(&self) -> bool {
         !self.unread.is_empty() || self.stream.has_request()
     }
@@ -158,6 +158,14 @@ impl PeerSession {
         self.filled || !self.unread.is_empty()
     }
 
+    /// The memory of its buffers, in bytes: of unsent replies, and of bytes that were read and not taken.
+    pub(crate) fn memory(&self) -> usize
+        ensures { length self.now.session.unsent ≤ result }
+    {
+        let read = self.unread.capacity().saturating_add(self.stream.memory());
+        self.session.memory().saturating_add(read)
+    }
+
     /// Whether all replies were sent.
     pub(crate) fn is_sent(&self) -> bool
         ensures { IsConnection self.now }
@@ -165,7 +173,7 @@ impl PeerSession {
         self.session.unsent().is_empty() && self.stream.is_flushed()
     }
 
-    /// Sends as much of what is unsent as the system takes.
+    /// Sends as many of the unsent bytes as the system takes.
     pub(crate) fn send(&mut self) -> Moved
         ensures kept { Kept self.old.session self.new.session }
         ensures peer { self.new.peer ≡ self.old.peer }
@@ -200,7 +208,7 @@ impl PeerSession {
         moved
     }
 
-    /// Responds to the request in hand, where all its lines are answered.
+    /// Responds to the request in hand, if all its lines are answered.
     fn respond(&mut self)
         ensures { self.new ≡ self.old }
     {
@@ -222,7 +230,7 @@ impl PeerSession {
         let _unsent = self.session.unsent();
     }
 
-    /// Reads on in the header of a gateway, and no byte after it. A connection that has none with a name ends.
+    /// Reads more of a gateway's header, and no byte after it. A connection without a header that names the peer ends.
     pub(crate) fn read_header(&mut self, alloc: Global, name_of: NameOf, buffer: &mut [u8]) -> Next
         requires awaited { self.old.peer ≡ None }
         requires proxy { self.old.proxy ≡ Some name_of }
@@ -262,12 +270,14 @@ impl PeerSession {
         }
     }
 
-    /// Takes the lines of what is unread, or else of what one read gives.
+    /// Takes the lines of the unread bytes, or of one read if there are none. Without `lists` it stops before a line that may ask for
+    /// a list.
     pub(crate) fn take<'a, R: Wait, D: Desk<'a>>(
         &mut self,
         rt: &R,
         pool: &WorkerPool<'_>,
         buffer: &mut [u8],
+        lists: bool,
         withheld: &mut WithheldAnswers<'a>,
         desk: &mut D,
     ) -> Next
@@ -275,7 +285,7 @@ impl PeerSession {
         ensures { ConnectionSteps D.takes desk.old desk.new withheld.old withheld.new result self.old self.new }
     {
         if !self.unread.as_slice().is_empty() {
-            return self.take_unread(withheld, desk);
+            return self.take_unread(lists, withheld, desk);
         }
         let count = match self.stream.read(buffer) {
             Moved::Bytes(count) => count,
@@ -289,8 +299,8 @@ impl PeerSession {
         };
         self.served = served;
         self.filled = count == READ_SIZE || self.stream.is_http();
-        let taken = take_lines(&mut self.session, &self.peer, chunk, withheld, desk);
-        let next = next_of(taken == count, withheld);
+        let taken = take_lines(&mut self.session, &self.peer, chunk, lists, withheld, desk);
+        let next = next_of(taken == count, lists, withheld);
         if is_lost(&mut self.unread, &chunk[taken..]) {
             self.stage = Stage::Ending;
             return next;
@@ -298,8 +308,8 @@ impl PeerSession {
         next
     }
 
-    /// Responds to the request in hand, where all its lines are answered, and tells what becomes of a connection that has no lines
-    /// now.
+    /// Responds to the request in hand, if all its lines are answered. The result is the next step of a connection that has no
+    /// lines now.
     fn pause(&mut self) -> Next
         requires { self.old.stage ≡ stages.Serving }
         ensures session { self.new.session ≡ self.old.session }
@@ -317,30 +327,34 @@ impl PeerSession {
         }
     }
 
-    /// Takes the lines of what is unread.
+    /// Takes the lines of the unread bytes.
     fn take_unread<'a, D: Desk<'a>>(
         &mut self,
+        lists: bool,
         withheld: &mut WithheldAnswers<'a>,
         desk: &mut D,
     ) -> Next
         requires { self.old.stage ≡ stages.Serving }
         ensures { ConnectionSteps D.takes desk.old desk.new withheld.old withheld.new result self.old self.new }
     {
+        if !lists && before_list(self.unread.as_slice()) == 0 {
+            return Next::Again;
+        }
         self.filled = true;
         let count = self.unread.len();
         let unread = self.unread.as_slice();
-        let taken = take_lines(&mut self.session, &self.peer, unread, withheld, desk);
+        let taken = take_lines(&mut self.session, &self.peer, unread, lists, withheld, desk);
         self.unread.rotate_left(taken);
         self.unread.truncate(count - taken);
-        next_of(taken == count, withheld)
+        next_of(taken == count, lists, withheld)
     }
 
-    /// Words its part of the answers that are released. Where the session has ended, no more lines are answered.
+    /// Turns its part of the released answers into replies. If the session has ended, no more lines are answered.
     pub(crate) fn tell(&mut self, scratch: &mut Scratch, released: &Released<'_, '_>)
         ensures tells { TellsOwn released.now self.old.session self.new.session }
         ensures peer { self.new.peer ≡ self.old.peer }
     {
-        // Without memory for room the replies find none either.
+        // If memory for the room is refused, the replies ask for their own.
         let _refused = scratch.make_room();
         self.session.exchange(&mut scratch.room);
         self.session.tell(scratch.alloc, released);
@@ -350,7 +364,7 @@ impl PeerSession {
         self.stop_serving();
     }
 
-    /// Gives back the room that the replies had, where none are unsent.
+    /// Exchanges the room of the replies for this one, if none are unsent.
     pub(crate) fn exchange(&mut self, room: &mut Vec<u8>)
         ensures { self.new ≡ self.old }
     {
@@ -367,7 +381,7 @@ impl PeerSession {
         }
     }
 
-    /// Tells the peer that no more is written.
+    /// Shuts down the write side.
     #[tactic(auto, using(crate::proofs::PeerSteps::holds_quiet))]
     pub(crate) fn shutdown_write(&mut self)
         requires { self.old.stage ≡ stages.Ending }
@@ -378,7 +392,7 @@ impl PeerSession {
         self.stage = Stage::Lingering;
     }
 
-    /// Answers no more lines: the peer asked nothing for too long. A request that has not come whole is told so.
+    /// Answers no more lines: the peer asked nothing for too long. A request that has not come whole is refused as late.
     pub(crate) fn stop_idle(&mut self)
         ensures session { self.new.session ≡ self.old.session }
         ensures peer { self.new.peer ≡ self.old.peer }
@@ -387,7 +401,7 @@ impl PeerSession {
         self.stop_serving();
     }
 
-    /// Tells the peer that it asked nothing for too long, and that no more is written. Over HTTP a request was told so before.
+    /// Sends the notice that the peer was idle, unless lines are carried over HTTP, and shuts down the write side.
     pub(crate) fn shutdown_idle(&mut self)
         requires { self.old.stage ≡ stages.Ending }
         ensures session { self.new.session ≡ self.old.session }
@@ -416,7 +430,7 @@ impl PeerSession {
     }
 }
 
-/// Who is at the other end, where no header names him.
+/// The peer at the start: anyone, or none if a header will name it.
 fn anyone_where_known(proxy: Option<NameOf>) -> Option<Peer>
     ensures { result ≡ (if is_some proxy then None else Some peers.Anyone) }
 {
@@ -427,14 +441,14 @@ fn anyone_where_known(proxy: Option<NameOf>) -> Option<Peer>
     }
 }
 
-/// The keys of what carries lines over HTTP from the start, where no header comes first.
+/// The keys for carrying lines over HTTP from the start: none if a header comes first.
 fn keys_where_known(proxy: Option<NameOf>, http: Option<RandomState>) -> Option<RandomState>
     ensures { IsSome proxy → result ≡ None }
 {
     if proxy.is_some() { None } else { http }
 }
 
-/// The lines of a socket, which are carried over HTTP from the start where there are keys.
+/// The lines of a socket, which are carried over HTTP from the start if there are keys.
 fn lines_of(
     alloc: Global,
     socket: Socket,
@@ -458,8 +472,8 @@ fn is_answered(session: &BufferedSession) -> bool
     session.unsent().is_empty() && session.waiting() == 0
 }
 
-/// Whether the session has ended in the request in hand, where that may be responded to: all bytes that were read of it were taken,
-/// or the session was ended by QUIT.
+/// Whether the session has ended in the request in hand, if that may be responded to: all bytes that were read were taken,
+/// or QUIT ended the session.
 fn ends_in(stage: Stage, end: Option<End>, all: bool) -> Option<bool>
     ensures { IfSome result (λ ended. EndsIn stage end all ended) }
 {
@@ -470,7 +484,7 @@ fn ends_in(stage: Stage, end: Option<End>, all: bool) -> Option<bool>
     }
 }
 
-/// Whether a line was served once these bytes are taken; or none, where their first line would begin one session too many.
+/// Whether a line was served once these bytes are taken; or none, if their first line would begin one session too many.
 fn begin_session<R: Wait>(
     rt: &R,
     pool: &WorkerPool<'_>,
@@ -487,7 +501,7 @@ fn begin_session<R: Wait>(
     }
 }
 
-/// Keeps these bytes too, or tells that there was no memory for them.
+/// Keeps these bytes too. The result is whether there was no memory for them.
 fn is_lost(unread: &mut Vec<u8>, rest: &[u8]) -> bool
     ensures { unread.new.items ≡ (if result then unread.old.items else unread.old.items ++ rest.now) }
 {
@@ -497,12 +511,13 @@ fn is_lost(unread: &mut Vec<u8>, rest: &[u8]) -> bool
     }
 }
 
-/// Takes the lines of these bytes for the peer, where it is known and the session goes on, and tells how many of the bytes it
-/// took.
+/// Takes the lines of these bytes for the peer, if it is known and the session goes on. The result is the number of bytes that
+/// were taken.
 fn take_lines<'a, D: Desk<'a>>(
     session: &mut BufferedSession,
     peer: &Option<Peer>,
     bytes: &[u8],
+    lists: bool,
     withheld: &mut WithheldAnswers<'a>,
     desk: &mut D,
 ) -> usize
@@ -521,14 +536,44 @@ fn take_lines<'a, D: Desk<'a>>(
     if session.waiting() != 0 {
         return 0;
     }
-    session.take(bytes, withheld, peer, desk)
+    session.take(part_for_now(bytes, lists), withheld, peer, desk)
 }
 
-/// Waits for what was taken to be released: at once where the last answer may be long, or where bytes were left.
-fn next_of(all: bool, withheld: &WithheldAnswers<'_>) -> Next
+/// All of these bytes, or without `lists` those before the first line that may ask for a list.
+fn part_for_now(bytes: &[u8], lists: bool) -> &[u8]
+    ensures { (count : ℕ) × (count ≤ length bytes.now) × (result.now ≡ take count bytes.now) }
+{
+    let count = if lists {
+        bytes.len()
+    } else {
+        before_list(bytes)
+    };
+    &bytes[..count]
+}
+
+/// The number of bytes before the first line that may ask for a list.
+fn before_list(bytes: &[u8]) -> usize
+    ensures { result ≤ length bytes.now }
+{
+    let most = bytes.len();
+    let audit = memmem::find(bytes, b" AUDIT ").unwrap_or(most);
+    let report = memmem::find(bytes, b" REPORT ").unwrap_or(most);
+    let word = audit.min(report).min(most);
+    if word == most {
+        return most;
+    }
+    match memrchr(b'\n', &bytes[..word]) {
+        Some(line_feed) => line_feed.saturating_add(1).min(word),
+        None => 0,
+    }
+}
+
+/// Waits for the release of the answers: at once if the last one may be long, or if bytes were left without room.
+fn next_of(all: bool, lists: bool, withheld: &WithheldAnswers<'_>) -> Next
     ensures { WaitsForRelease result }
 {
-    if all && !withheld.ends_long() {
+    let has_room = all || (!lists && !withheld.is_full());
+    if has_room && !withheld.ends_long() {
         Next::WaitRelease
     } else {
         Next::ReleaseNow

@@ -4,21 +4,18 @@ ghost use Rattle.nmvs_connections.specs.ProxyHeader.{ReadsProxyHeader};
 use nmvs_gateway::{Header, read_header};
 use nmvs_messages::{NameOf, Peer};
 
-#[cfg(test)]
-pub(crate) mod tests;
-
-/// What the first bytes of a connection tell.
+/// The first bytes of a connection, read as a gateway's header.
 #[derive(Clone, Copy)]
 pub(crate) enum ProxyHeader {
-    /// There are so many bytes more of the header at least, and none behind it is to be read yet.
+    /// The header has at least this number of bytes more. No byte after it is to be read yet.
     Begun { missing: usize },
-    /// They are a header, which tells who is at the other end.
+    /// They are a header, which names the peer.
     Whole(Peer),
     /// They are no header with the name of a verified certificate.
     Broken,
 }
 
-/// What these bytes tell, which are all that was read of a connection.
+/// Reads these bytes, all that came of a connection so far, as a gateway's header.
 pub(crate) fn read_proxy_header(bytes: &[u8], name_of: NameOf) -> ProxyHeader
     ensures { ReadsProxyHeader bytes.now name_of result }
 {

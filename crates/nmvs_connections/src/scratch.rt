@@ -1,19 +1,21 @@
-//! What a worker serves its connections with.
+//! The buffers that the connections of a worker share.
 use nmvs_messages::READ_SIZE;
 use std::alloc::{AllocError, Global};
 use std::time::Instant;
 
-/// Room for the replies to what one read gives, but for a list or a report: the shortest line, that of no byte, has a
-/// reply of 13 (own).
+/// Bytes of room for the replies to one read, without lists and reports: the shortest line, an LF alone, has a reply of
+/// 13 (own).
 const ROOM: usize = 13 * READ_SIZE;
 
-/// What a worker serves its connections with, one after the other.
+/// The time and the buffers with which a worker serves its connections, one after the other.
 #[derive(Drop)]
 pub(crate) struct Scratch {
     pub(crate) alloc: Global,
     pub(crate) now: Instant,
     pub(crate) buffer: [u8; READ_SIZE],
     pub(crate) room: Vec<u8>,
+    /// Whether a connection got a list or a report in this turn. None gets a second one, so that others do not wait for it.
+    pub(crate) listed: bool,
 }
 
 impl Scratch {
@@ -23,6 +25,7 @@ impl Scratch {
             now,
             buffer: [0; READ_SIZE],
             room: Vec::new(alloc),
+            listed: false,
         }
     }
 

@@ -1,4 +1,4 @@
-//! Sockets and listeners, over TCP or of this machine.
+//! Sockets and listeners: over TCP, or Unix sockets.
 ghost use Rattle.std.specs.Prelude.{◌≤◌, ℕ, length, IfOk};
 ghost use Rattle.nmvs_connections.specs.Streams.{IsWithin};
 
@@ -12,10 +12,10 @@ use std::os::fd::{AsRawFd, RawFd};
 use std::path::AsPath;
 use std::rt::Files;
 
-/// What a read or a write of a socket came to.
+/// The result of a read or a write of a socket.
 #[derive(Clone, Copy)]
 pub(crate) enum Moved {
-    /// So many bytes were moved.
+    /// This number of bytes was moved.
     Bytes(usize),
     /// None can be moved now.
     Blocked,
@@ -31,7 +31,7 @@ pub(crate) enum Socket {
 }
 
 impl Socket {
-    /// Has a poll report the connection under the token, when it may be read or written.
+    /// Registers the connection with a poll, which reports it under the token when it may be read or written.
     pub(crate) fn register(&mut self, registry: &Registry, token: Token) -> io::Result<()> {
         let both = Interest::READABLE | Interest::WRITABLE;
         match self {
@@ -60,7 +60,7 @@ impl Socket {
         outcome_of(written)
     }
 
-    /// Tells the peer that no more is written. A connection that is broken stays so.
+    /// Shuts down the write side. A connection that is broken stays so.
     pub(crate) fn shutdown_write(&self) {
         let _broken = match self {
             Socket::Tcp(stream) => stream.shutdown(Shutdown::Write),
@@ -69,7 +69,7 @@ impl Socket {
     }
 }
 
-/// What this outcome of a read or a write means. None of some bytes is the end.
+/// The result by the system's outcome of a read or a write: 0 bytes mean the end.
 fn outcome_of(outcome: io::Result<usize>) -> Moved
     ensures { (most : ℕ) → IfOk outcome (λ count. count ≤ most) → IsWithin result most }
 {
@@ -81,7 +81,7 @@ fn outcome_of(outcome: io::Result<usize>) -> Moved
     }
 }
 
-/// Where connections are accepted. Its queue of connections is as long as the system allows.
+/// A socket that accepts connections. Its queue of connections is as long as the system allows.
 #[derive(Drop)]
 pub enum Listener {
     Tcp(TcpListener),
@@ -98,16 +98,16 @@ impl Listener {
         Ok(Listener::Tcp(TcpListener::bind(rt, address)?))
     }
 
-    /// Listens on a socket of this machine, which is made at the path.
+    /// Listens on a Unix socket, which is made at the path.
     ///
     /// # Errors
     ///
-    /// The system refuses it, as where there is a file at the path.
+    /// The system refuses it, as it does if there is a file at the path.
     pub fn on_path<R: Files + Net, P: AsPath>(rt: &R, path: P) -> io::Result<Listener> {
         Ok(Listener::Unix(UnixListener::bind(rt, path)?))
     }
 
-    /// The port, where it has one.
+    /// The port, if there is one.
     pub fn port(&self) -> Option<u16> {
         match self {
             Listener::Tcp(listener) => listener.local_addr().ok().map(|address| address.port()),
@@ -115,7 +115,7 @@ impl Listener {
         }
     }
 
-    /// The next connection, or `WouldBlock` where none waits.
+    /// The next connection, or `WouldBlock` if none waits.
     pub(crate) fn accept(&self) -> io::Result<Socket> {
         match self {
             Listener::Tcp(listener) => {

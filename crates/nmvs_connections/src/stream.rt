@@ -38,7 +38,7 @@ impl Stream {
         }
     }
 
-    /// Has a poll report the stream under the token, when it may be read or written.
+    /// Registers the stream with a poll, which reports it under the token when it may be read or written.
     pub(crate) fn register(&mut self, registry: &Registry, token: Token) -> io::Result<()>
         ensures { self.new ≡ self.old }
     {
@@ -74,7 +74,7 @@ impl Stream {
         extended(&self.received, b"")
     }
 
-    /// Tells the peer that no more is written.
+    /// Shuts down the write side.
     pub(crate) fn shutdown_write(&self) {
         self.socket.shutdown_write();
     }

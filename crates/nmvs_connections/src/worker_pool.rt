@@ -1,4 +1,6 @@
-//! What the threads of a server share.
+//! The state that the threads of a server share.
+ghost use Rattle.std.specs.Prelude.{◌≡◌};
+
 use crate::socket::Socket;
 use mio::{Events, Poll, Token, Waker};
 use nmvs_messages::NameOf;
@@ -19,16 +21,18 @@ const WORKER_EVENTS: usize = 1_024;
 /// How many events of the thread that accepts are taken at once: those of two listeners and a wake-up (own).
 const ACCEPTOR_EVENTS: usize = 3;
 
-/// How far connections may go.
+/// The limits of connections and sessions, and the header of each connection.
 #[derive(Clone, Copy)]
 pub struct Bounds {
     /// The most connections that are open at once.
     pub connections: usize,
-    /// How long a connection may send nothing, where it may not for ever.
+    /// The most bytes that the buffers of all connections take.
+    pub memory: usize,
+    /// How long a connection may ask nothing, if there is a limit.
     pub idle: Option<Duration>,
-    /// Whose name the gateway's header has that each connection begins with, where it begins with one.
+    /// Whether the gateway's header names a user or an authorisation, if each connection begins with one.
     pub proxy: Option<NameOf>,
-    /// How many sessions are served in which a line is served.
+    /// The most sessions in which a line is served; `u64::MAX` is no limit.
     pub sessions: u64,
 }
 
@@ -46,7 +50,7 @@ struct Counts {
 }
 
 impl Counts {
-    /// No open connection, and how many sessions may begin.
+    /// Counts without an open connection, and with this number of sessions that may begin.
     fn none(alloc: Global, workers: usize, sessions: u64) -> Result<Counts, AllocError> {
         Ok(Counts {
             open: 0,
@@ -91,11 +95,11 @@ pub(crate) struct Accepted {
     /// Its number, in the order in which they were accepted.
     pub(crate) number: usize,
     pub(crate) socket: Socket,
-    /// The keys for the fields of its requests, where its lines are carried over HTTP.
+    /// The keys for the fields of its requests, if its lines are carried over HTTP.
     pub(crate) http: Option<RandomState>,
 }
 
-/// How a worker is reached: the connections that were accepted for it, and what ends its wait.
+/// The inbox of a worker: the connections that were accepted for it, and the waker that ends its wait.
 #[derive(Drop)]
 struct Inbox {
     accepted: Mutex<Vec<Accepted>>,
@@ -113,18 +117,20 @@ impl Inbox {
     }
 }
 
-/// What the threads of a server share: the counts of its connections, how each thread is reached, and where is counted what
-/// they do.
+/// The state that the threads of a server share: the counts of its connections, how each thread is reached, and the metrics
+/// in which they count.
 #[derive(Drop)]
 pub struct WorkerPool<'p> {
     bounds: Bounds,
+    /// The most bytes that the buffers of a worker's connections take.
+    memory: usize,
     metrics: &'p Metrics,
     counts: Mutex<Counts>,
     inboxes: Vec<Inbox>,
     acceptor: Waker,
 }
 
-/// Where one thread waits.
+/// The poll at which one thread waits, and room for its events.
 #[derive(Drop)]
 pub struct Poller {
     pub(crate) poll: Poll,
@@ -145,8 +151,8 @@ impl Poller {
 }
 
 impl<'p> WorkerPool<'p> {
-    /// A pool for so many workers, with a poller for each, and one for the thread that accepts. What is done in it is
-    /// counted in the metrics.
+    /// A pool for this number of workers, with a poller for each, and one for the thread that accepts. Its threads count in
+    /// the metrics.
     ///
     /// # Errors
     ///
@@ -177,6 +183,7 @@ impl<'p> WorkerPool<'p> {
         let waker = acceptor.waker()?;
         Ok(WorkerPool {
             bounds,
+            memory: bounds.memory.checked_div(workers).unwrap_or(0),
             metrics,
             counts: Mutex::new(counts),
             inboxes,
@@ -184,7 +191,7 @@ impl<'p> WorkerPool<'p> {
         })
     }
 
-    /// Makes an inbox for each worker, and gives their pollers.
+    /// Makes an inbox for each worker, and returns their pollers.
     fn open_inboxes(
         &mut self,
         rt: &impl Net,
@@ -201,7 +208,7 @@ impl<'p> WorkerPool<'p> {
         Ok(pollers)
     }
 
-    /// Ends the service: no connection is accepted any more, and each session ends behind the lines that were read.
+    /// Ends the service: no connection is accepted any more, and each session ends after the lines that were read.
     pub fn stop(&self, rt: &impl Wait) {
         self.counts.lock(rt).stopped = true;
         self.wake_all();
@@ -218,17 +225,24 @@ impl<'p> WorkerPool<'p> {
         counts.stopped || counts.sessions == 0
     }
 
-    /// How long a connection may send nothing.
+    /// How long a connection may ask nothing, if there is a limit.
     pub(crate) fn idle(&self) -> Option<Duration> {
         self.bounds.idle
     }
 
-    /// Whose name the header has that a connection begins with, where it does.
+    /// The most bytes that the buffers of a worker's connections take.
+    pub(crate) fn memory(&self) -> usize
+        ensures { result ≡ self.now.memory }
+    {
+        self.memory
+    }
+
+    /// Whether the gateway's header names a user or an authorisation, if each connection begins with one.
     pub(crate) fn proxy(&self) -> Option<NameOf> {
         self.bounds.proxy
     }
 
-    /// What it counts now. Connections are counted where they begin and end, and no line costs anything for it.
+    /// The counts of this moment. They change when a connection begins or ends and when a session begins, not with each line.
     ///
     /// # Errors
     ///
@@ -246,12 +260,12 @@ impl<'p> WorkerPool<'p> {
         })
     }
 
-    /// The worker to which the connection of this number is accepted: the next one of their row.
+    /// The worker for which the connection of this number is accepted: the workers take turns.
     pub(crate) fn worker_of(&self, number: usize) -> usize {
         number.checked_rem(self.inboxes.len()).unwrap_or(0)
     }
 
-    /// Counts a connection that was accepted for a worker, where one more may be open.
+    /// Counts a connection that was accepted for a worker, if one more may be open. The result is whether it may.
     pub(crate) fn enter(&self, rt: &impl Wait, worker: usize) -> bool {
         let mut counts = self.counts.lock(rt);
         let enters = counts.open < self.bounds.connections;
@@ -270,13 +284,13 @@ impl<'p> WorkerPool<'p> {
         self.metrics(worker).note_ended();
     }
 
-    /// Where the worker of this number counts.
+    /// The metrics of the worker of this number.
     pub(crate) fn metrics(&self, worker: usize) -> WorkerMetrics<'p> {
         self.metrics.worker(worker)
     }
 
-    /// Counts a session in which a line is to be served, where one more may begin. With the last of them the other
-    /// threads learn that it was the last.
+    /// Counts a session in which a line is to be served, if one more may begin. The result is whether it may. The last one
+    /// wakes all threads.
     pub(crate) fn begin_session(&self, rt: &impl Wait) -> bool {
         let mut counts = self.counts.lock(rt);
         if counts.sessions == 0 {

@@ -24,7 +24,7 @@ use Rattle.nmvs_desk.specs.Views.{ClerkView, sights_of, places_of}
 use Rattle.nmvs_desk.proofs.Lists.{set_cases, set_same, set_other, push_cases}
 use Rattle.nmvs_desk.proofs.Serving.{last_there}
 
--- the places of one receipt more
+-- the places of one more receipt
 pub places_push : (i : ℕ) (receipts : List Receipt) (r : Receipt) → places_in i (receipts ++ r ∷ []) ≡ places_in i receipts ++ places_in i (r ∷ [])
 places_push i receipts r =
     ap (map (λ (r : Receipt). r.place)) (filter-append (λ (r : Receipt). r.shard == i) receipts (r ∷ []))
@@ -39,7 +39,7 @@ places_else i receipts r apart =
     places_push i receipts r ∙ ap (λ b. places_in i receipts ++ map (λ (r : Receipt). r.place) (cond b (r ∷ []) [])) (ne_eqb r.shard i apart)
     ∙ append-nil (places_in i receipts)
 
--- what a token tells stands among what all tell
+-- a token's own list stands among the lists of all tokens
 token_row : {X : Type 0} (f : TokenView → List X) (tokens : List TokenView) (i : ℕ) (k : TokenView) → slice_get tokens i ≡ Some k → row (map f tokens) i ≡ f k
 token_row f [] i k h = absurd cc
 token_row f (t ∷ ts) zero k h = ap f (same_Some t k h)
@@ -64,13 +64,13 @@ own_of tokens i k h = token_row (λ (k : TokenView). k.places) tokens i k h
 own_else : (tokens : List TokenView) (i j : ℕ) (k : TokenView) → j ≢ i → row (places_of (set tokens i k)) j ≡ row (places_of tokens) j
 own_else tokens i j k apart = token_row_else (λ (k : TokenView). k.places) tokens i j k apart
 
--- a token in place of one with the same places
+-- a token in place of another with the same places
 pub same_places : (tokens : List TokenView) (i : ℕ) (was now : TokenView) → slice_get tokens i ≡ Some was → now.places ≡ was.places → places_of (set tokens i now) ≡ places_of tokens
 same_places [] i was now has same = refl
 same_places (t ∷ ts) zero was now has same = ap (λ ps. ps ∷ places_of ts) (same ∙ ap (λ (k : TokenView). k.places) (sym (same_Some t was has)))
 same_places (t ∷ ts) (suc i) was now has same = ap (λ ps. t.places ∷ ps) (same_places ts i was now has same)
 
--- what a clause sees of a clerk
+-- the view of a clerk in a clause
 abbrev pub clerk : List Change → List TokenView → List Receipt → Bool → ClerkView
 clerk seen tokens receipts keeps = record { seen = seen; sights = sights_of tokens; places = places_of tokens; receipts = receipts; keeps = keeps }
 
@@ -78,7 +78,7 @@ module _ (tables : ℕ → HistoryId) (count : ℕ) (tokens : List TokenView) (r
   after_set : slice_get (set tokens index now) index ≡ Some now
   after_set = set_same tokens index now (slice_get_within tokens index was has)
 
-  -- what stands stays where the token's sight begins the new one
+  -- a receipt still stands if the new sight begins with the earlier one
   stays : IsPrefix was.seen now.seen → (o : Receipt) → Stands tokens o → Stands (set tokens index now) o
   stays begins o it =
       elim (eqb_tells o.shard index) [
@@ -210,13 +210,13 @@ module _ (tables : ℕ → HistoryId) (count : ℕ) (tokens : List TokenView) (r
         subst (λ (p : List Entry × List Entry). IsShown count index p.0 p.1)
         (λ i. (sym (sight_of tokens index was has) i, sym (sight_of (set tokens index now) index now after_set) i)) look
 
-  -- whatever becomes of a question, the clerk is a clerk
+  -- whatever the outcome of a question is, the clerk is a clerk
   pub asked : {A : Type 0} (put : Put) (o : Outcome A) → Becomes count index put was now o → IsClerk tables count (set tokens index now) (receipts ++ new_receipts index put o)
   asked put (outcome.New a) b = with_receipt a put b
   asked put (outcome.Again a) b = subst (λ l. IsClerk tables count (set tokens index now) l) (sym (append-nil receipts)) (looked (shown_now put (outcome.Again a) b) (no_place put (outcome.Again a) b refl))
   asked put outcome.Other b = subst (λ l. IsClerk tables count (set tokens index now) l) (sym (append-nil receipts)) (looked (shown_now put outcome.Other b) (no_place put outcome.Other b refl))
 
-  -- and what it is answered
+  -- the answer that it receives
   pub answers : {A : Type 0} (seen : List Change) (keeps : Bool) (put : Put) (o : Outcome A) → Becomes count index put was now o
       → Answers count index put (clerk seen tokens receipts keeps) (clerk seen (set tokens index now) (receipts_then keeps receipts index put o) keeps) o
   answers seen keeps put o b =

@@ -1,4 +1,4 @@
--- What is true of a clerk's receipts and sights, and of a new clerk.
+-- The invariant of a clerk's receipts and sights, and of a new clerk.
 use Rattle.std.proofs.Common.{◌≡◌, ◌<◌, ◌∙◌, ℕ, zero, suc, Bool, true, false, List, [], ◌∷◌, ◌++◌, set, refl, sym, ap, subst, arith, get_or, append-nil}
 use Rattle.std.specs.Prelude.{IsTrue, Some, slice_get}
 use Rattle.std.proofs.lemmas.List.Elements.{All-nil}
@@ -26,7 +26,7 @@ stand tables count tokens receipts is n r there =
     let it = is.stand n r there in
     ap (λ t. slice_get t r.place) (sight_of tokens r.shard it.token it.is) ∙ it.stands
 
--- what is true of what each token has seen, and of nothing, is true of all sights
+-- what is true of an empty trail, and of all that each token has seen, is true of all sights
 all_sights : (P : ℕ → List Entry → Type 0) → ((i : ℕ) → P i []) → (tokens : List TokenView) → ((i : ℕ) (k : TokenView) → slice_get tokens i ≡ Some k → P i k.seen)
     → (i : ℕ) → P i (row (sights_of tokens) i)
 all_sights P none [] each i = none i
@@ -40,7 +40,7 @@ lawful tables count tokens receipts is =
     all_sights (λ i t. IsLawful t × AreEntries t × IsPartOf count i t) (λ i. (tt, All-nil (λ (e : Entry). IsTrue (is_entry e)), record { placed = All-nil (λ (e : Entry). shard_of count (code_of e.put.question) ≡ i); new = tt })) tokens
     (λ i k at. ((is.each i k at).lawful, (is.each i k at).in_range, (is.each i k at).placed))
 
--- and its receipts' places are among its own
+-- its receipts' places are among its own
 pub own : (tables : ℕ → HistoryId) (count : ℕ) (tokens : List TokenView) (receipts : List Receipt) → IsClerk tables count tokens receipts
     → (i : ℕ) → i < count → AreOwn i receipts (row (places_of tokens) i)
 own tables count tokens receipts is i within =
@@ -85,7 +85,7 @@ new_clerk tables count opening tokens new = record {
   rising = λ k m p q less at_k at_m same. absurd cc;
 }
 
--- it has seen what was there of each shard, and owns no place
+-- it has seen the trail of the opening of each shard, and owns no place
 pub is_new : (tables : ℕ → HistoryId) (count : ℕ) (opening : ℕ → List Entry) (tokens : List TokenView) (c : ClerkView) → AreNew tables count opening count tokens
     → c.receipts ≡ [] → c.sights ≡ sights_of tokens → c.places ≡ places_of tokens → IsNew count opening c
 is_new tables count opening tokens c new none sights places = record {

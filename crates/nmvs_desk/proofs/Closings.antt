@@ -21,13 +21,13 @@ use Rattle.nmvs_desk.proofs.Asked.{sight_of, own_of}
 use Rattle.nmvs_desk.proofs.Clerks.{own}
 use Rattle.nmvs_desk.proofs.Lists.{same_list, set_same, set_other}
 
--- the own places of one clerk more
+-- the own places of one more clerk
 own_places-push : (i : ℕ) (clerks : List ClerkView) (c : ClerkView) → own_places i (clerks ++ c ∷ []) ≡ own_places i clerks ++ row c.places i
 own_places-push i clerks c =
     let f : ClerkView → List ℕ = λ c. row c.places i in
     flat_map-append f clerks (c ∷ []) ∙ ap (λ l. own_places i clerks ++ l) (append-nil (f c))
 
--- what no token has seen is nothing
+-- a shard without a token has an empty sight
 nothing_seen : (tokens : List TokenView) (i : ℕ) → slice_get tokens i ≡ None → row (sights_of tokens) i ≡ []
 nothing_seen [] i none = refl
 nothing_seen (t ∷ ts) zero none = absurd cc
@@ -84,7 +84,7 @@ module _ (tables : ℕ → HistoryId) (opening : ℕ → List Entry) (count : �
           rising = is.rising;
         })
 
--- what a numbered shard is, once it is out of its lock
+-- a numbered shard, once it is out of its lock
 module _ (locked : List LockedView) (numbered : IsNumbered (map (λ (h : LockedView). h.index) locked)) where
   pub shard_at : (i : ℕ) → i < length locked → (h : LockedView) × (slice_get locked i ≡ Some h) × (h.index ≡ i) × (row (trails_of locked) i ≡ h.trail)
   shard_at i inside =
@@ -95,7 +95,7 @@ module _ (locked : List LockedView) (numbered : IsNumbered (map (λ (h : LockedV
       ∙ numbered i (omega (arith, inside, length-map locked (λ (h : LockedView). h.index))) in
       (h, at, index, get_or_from_slice_get (trails_of locked) i h.trail [] (slice_get-map (λ (h : LockedView). h.trail) locked i ∙ ap (option_map (λ (h : LockedView). h.trail)) at))
 
-  -- each trail begins with what was there
+  -- each trail begins with the trail of the opening
   pub all_begin : (opening : ℕ → List Entry) → All (λ (h : LockedView). IsPrefix (opening h.index) h.trail) locked → (i : ℕ) → i < length locked → IsPrefix (opening i) (row (trails_of locked) i)
   all_begin opening begin i inside =
       let s = shard_at i inside in
@@ -140,7 +140,7 @@ all_below tables opening trails clerks closings closing below i within =
     let is : get_or closings i d ≡ d = get_or_from_slice_get closings i d d (closing.each i within) in
     subst (λ (u : ClosingView). AreBelow (length u.seen) u.places) is (below i d (omega (arith, within, closing.shards)))
 
--- the first n histories took their tokens
+-- the first n histories have taken their tokens
 pub record AreTaken (n : ℕ) (tokens : List TokenView) (old new : List ClosingView) : Type 0 where
   pub taken : (i : ℕ) (u : ClosingView) (k : TokenView) → i < n → slice_get old i ≡ Some u → slice_get tokens i ≡ Some k
       → (slice_get new i ≡ Some (with_token u k)) × IsPrefix k.seen u.seen
@@ -149,7 +149,7 @@ pub record AreTaken (n : ℕ) (tokens : List TokenView) (old new : List ClosingV
 pub taken_none : (tokens : List TokenView) (old : List ClosingView) → AreTaken 0 tokens old old
 taken_none tokens old = record { taken = λ i u k below at_u at_k. absurd (omega (arith, below)); rest = λ i above. refl }
 
--- what is left of a list whose first element was taken
+-- the rest of a list whose first element was taken
 pub rest_get : {X : Type 0} (xs : List X) (j : ℕ) → slice_get (remove xs 0) j ≡ slice_get xs (suc j)
 rest_get [] j = refl
 rest_get (x ∷ xs) j = refl

@@ -1,4 +1,4 @@
--- What stands in a list after one place was written, one element was pushed, or the first was taken.
+-- The elements of a list after one place was written, one element was pushed, or the first was taken.
 use Rattle.std.proofs.Common.{◌≡◌, ◌≢◌, ◌<◌, ◌⊎◌, inl, inr, ◌++◌, ◌∙◌, ℕ, suc, zero, List, [], ◌∷◌, refl, sym, ap, subst, arith, append_assoc, get_or, map, set, length}
 use Rattle.std.proofs.lemmas.List.{map-append}
 use Rattle.std.specs.List.{remove}
@@ -42,7 +42,7 @@ same_list (x ∷ xs) (y ∷ ys) many same =
     let tail : xs ≡ ys = same_list xs ys (omega (arith, many)) (λ i within. same (suc i) (omega (arith, within))) in
     λ i. head i ∷ tail i
 
--- the first element of a list goes over to the end of another, as `f` of it
+-- the first element of a list moves to the end of another, where `f` is applied to it
 pub first_moved : {X Y : Type 0} (f : X → Y) (xs rest : List X) (x : X) (done all : List Y) (y : Y) → 0 < length xs → x ≡ get_or xs 0 x → rest ≡ remove xs 0 → y ≡ f x → done ++ map f xs ≡ all → (done ++ y ∷ []) ++ map f rest ≡ all
 first_moved f [] rest x done all y some is left from whole = absurd (omega arith)
 first_moved f (z ∷ xs) rest x done all y some is left from whole =
@@ -61,7 +61,7 @@ pub first_and_rest : {X : Type 0} (xs rest : List X) (x : X) → 0 < length xs �
 first_and_rest [] rest x some is left = absurd (omega arith)
 first_and_rest (z ∷ xs) rest x some is left = λ i. (sym is) i ∷ (sym left) i
 
--- the first element of a list goes over to the end of another, of whose elements it is `f`
+-- the first element of a list, `f` of an element, moves as that element to the end of another list
 pub back_moved : {X Y : Type 0} (f : X → Y) (done : List X) (y : X) (xs rest : List Y) (x : Y) (all : List Y) → 0 < length xs → x ≡ get_or xs 0 x → rest ≡ remove xs 0 → f y ≡ x → map f done ++ xs ≡ all → map f (done ++ y ∷ []) ++ rest ≡ all
 back_moved f done y xs rest x all some is left from whole =
     ap (λ z. z ++ rest) (map-append f done (y ∷ [])) ∙ append_assoc (map f done) (f y ∷ []) rest

@@ -1,4 +1,4 @@
--- What is noted at the places of receipts.
+-- The owners noted at the places of receipts.
 use Rattle.std.proofs.Common.{◌≡◌, inl, inr, ◌<◌, ◌+◌, ℕ, zero, suc, List, [], ◌∷◌, length, set, get_or, refl, sym, ap, subst, ◌∙◌, arith, length-set}
 use Rattle.std.specs.Prelude.{Option, Some, slice_get}
 use Rattle.std.proofs.lemmas.List.{get_or-set_same}
@@ -50,7 +50,7 @@ shape_over xs ys zs a b = record { lists = a.lists ∙ b.lists; rows = λ i. a.r
 pub notes_none : (clerk : ℕ) (receipts : List Receipt) (old : List (List (Option Owner))) → Notes clerk receipts 0 old old
 notes_none clerk receipts old = record { shape = same_shape old; noted = λ k r below at. absurd (omega (arith, below)); kept = λ i j apart. refl }
 
--- one receipt more of a clerk whose receipts' places rise
+-- one more receipt of a clerk whose receipts' places rise
 pub notes_more : (clerk : ℕ) (receipts : List Receipt) (n : ℕ) (r : Receipt) (old mid : List (List (Option Owner))) → Notes clerk receipts n old mid → Rises receipts
     → slice_get receipts n ≡ Some r → r.place < length (row old r.shard) → Notes clerk receipts (n + 1) old (put mid r.shard r.place (Some (owner clerk n)))
 notes_more clerk receipts n r old mid so_far rises is within =
@@ -76,7 +76,7 @@ notes_more clerk receipts n r old mid so_far rises is within =
 pub noted_none : (lists : List (List Receipt)) (old : List (List (Option Owner))) → AreNoted lists 0 old old
 noted_none lists old = record { shape = same_shape old; noted = λ c k r below at. absurd (omega (arith, below)); kept = λ i j apart. refl }
 
--- one clerk more, who has no place in common with those before
+-- one more clerk, who has no place in common with the earlier ones
 pub noted_more : (lists : List (List Receipt)) (n : ℕ) (receipts : List Receipt) (old mid new : List (List (Option Owner))) → AreNoted lists n old mid → AreApart lists
     → row lists n ≡ receipts → Notes n receipts (length receipts) mid new → AreNoted lists (n + 1) old new
 noted_more lists n receipts old mid new so_far apart is notes = record {

@@ -1,4 +1,4 @@
--- Shards beside their keepers, and the tokens of new clerks.
+-- Shards with their keepers, and the tokens of new clerks.
 use Rattle.std.proofs.Common.{◌≡◌, inl, inr, ◌≤◌, ◌<◌, ℕ, List, [], ◌∷◌, ◌++◌, length, map, refl, sym, ap, subst, ◌∙◌, arith, ◌+◌, ◌-◌, length-append, get_or, set, length-set}
 use Rattle.std.specs.Prelude.{Some, slice_get, All}
 use Rattle.std.specs.Option.{option_map}
@@ -21,7 +21,7 @@ opened_at opening left i = record { trail = opening i; index = i; parts = left }
 pub locked_none : (opening : ℕ → List Entry) → AreLocked 8 0 opening []
 locked_none opening = record { length = refl; each = λ i h at. absurd cc }
 
--- one shard more
+-- one more shard
 pub locked_more : (n : ℕ) (opening : ℕ → List Entry) (shards : List LockedView) (new : LockedView) → AreLocked 8 n opening shards
     → new ≡ opened_at opening 8 n → AreLocked 8 (n + 1) opening (shards ++ new ∷ [])
 locked_more n opening shards new so_far is = record {
@@ -32,7 +32,7 @@ locked_more n opening shards new so_far is = record {
   ];
 }
 
--- the keepers are fresh, and of the histories that were named
+-- the keepers are fresh, and have the histories of these names
 pub keepers_named : (tables : ℕ → HistoryId) (keepers : List KeeperView) → ((i : ℕ) → table_of (map (λ (k : KeeperView). k.table) keepers) i ≡ tables i) → All IsFresh keepers
     → (j : ℕ) (k : KeeperView) → slice_get keepers j ≡ Some k → (k.table ≡ tables j) × IsFresh k
 keepers_named tables keepers named fresh j k at =
@@ -59,7 +59,7 @@ module _ (left n : ℕ) (opening : ℕ → List Entry) (shards : List LockedView
   pub opened : (clerks : ℕ) → left + clerks ≡ 8 → All (IsOpened clerks) shards
   opened clerks given k d within = omega (arith, ap (λ (h : LockedView). h.parts) (at_place k d within), given)
 
--- of the first k shards one token more is given
+-- one more token is given of each of the first k shards
 pub record AreGiven (left n k : ℕ) (opening : ℕ → List Entry) (shards : List LockedView) : Type 0 where
   pub length : length shards ≡ n
   pub given : (i : ℕ) (h : LockedView) → i < k → slice_get shards i ≡ Some h → h ≡ opened_at opening left i
@@ -103,7 +103,7 @@ given_all left n k opening shards given all = record {
 pub new_none : (tables : ℕ → HistoryId) (count : ℕ) (opening : ℕ → List Entry) → AreNew tables count opening 0 []
 new_none tables count opening = record { length = refl; each = λ i k at. absurd cc }
 
--- one token more of a clerk
+-- one more token of a clerk
 pub new_more : (tables : ℕ → HistoryId) (count : ℕ) (opening : ℕ → List Entry) (n : ℕ) (tokens : List TokenView) (k : TokenView) (h : LockedView) → AreNew tables count opening n tokens
     → (h.trail ≡ opening n) × (h.index ≡ n) → k ≡ record { table = tables h.index; seen = h.trail; places = [] } → IsKept count h → AreNew tables count opening (n + 1) (tokens ++ k ∷ [])
 new_more tables count opening n tokens k h so_far there is kept = record {

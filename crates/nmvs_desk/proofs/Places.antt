@@ -1,4 +1,4 @@
--- Places of receipts: how often each is among them, and what it says where the places of all clerks are those of a trail.
+-- Places of receipts: how often each occurs, and what follows if the places of all clerks are those of a trail.
 use Rattle.std.proofs.Common.{◌≡◌, ◌≢◌, ◌<◌, ◌≤◌, ◌+◌, ◌==◌, inl, inr, ℕ, zero, suc, cond, List, [], ◌∷◌, length, map, refl, sym, ap, subst, ◌∙◌, arith, eq-eqb, ne_eqb, length-append}
 use Rattle.std.specs.Prelude.{All, Some, slice_get, filter}
 use Rattle.std.proofs.lemmas.Bool.{cases_lt}
@@ -71,7 +71,7 @@ among_all i j [] c = omega arith
 among_all i j (l ∷ ls) zero = omega (arith, ap (times j) (flat_map-cons (places_in i) l ls), times_both j (places_in i l) (all_places i ls))
 among_all i j (l ∷ ls) (suc c) = omega (arith, among_all i j ls c, ap (times j) (flat_map-cons (places_in i) l ls), times_both j (places_in i l) (all_places i ls))
 
--- and those of two lists together
+-- and so are those of two lists together
 both_among : (i j : ℕ) (lists : List (List Receipt)) (c d : ℕ) → c < d → times j (places_in i (row lists c)) + times j (places_in i (row lists d)) ≤ times j (all_places i lists)
 both_among i j [] c d less = omega arith
 both_among i j (l ∷ ls) c zero less = absurd (omega (arith, less))
@@ -79,7 +79,7 @@ both_among i j (l ∷ ls) zero (suc d) less = omega (arith, among_all i j ls d, 
 both_among i j (l ∷ ls) (suc c) (suc d) less =
     omega (arith, both_among i j ls c d (omega (arith, less)), ap (times j) (flat_map-cons (places_in i) l ls), times_both j (places_in i l) (all_places i ls))
 
--- two clerks have no place in common that is met once at most
+-- two clerks have no place in common that occurs at most once
 pub apart : (lists : List (List Receipt)) (c d k m : ℕ) (p q : Receipt) → c < d → at lists c k ≡ Some p → at lists d m ≡ Some q → p.shard ≡ q.shard → p.place ≡ q.place
     → times p.place (all_places p.shard lists) ≤ 1 → ⊥
 apart lists c d k m p q less at_c at_d shard place once =
@@ -87,7 +87,7 @@ apart lists c d k m p q less at_c at_d shard place once =
     let two = subst (λ (x : ℕ × ℕ). 1 ≤ times x.1 (places_in x.0 (row lists d))) (λ i. (sym shard i, sym place i)) (met (row lists d) m q at_d) in
     omega (arith, one, two, both_among p.shard p.place lists c d less, once)
 
--- a place that is met is that of a receipt of some clerk
+-- a place that occurs is that of a receipt of some clerk
 pub record MeetsAny (lists : List (List Receipt)) (i j : ℕ) : Type 0 where
   pub clerk : ℕ
   pub meets : Meets (row lists clerk) i j
@@ -102,13 +102,13 @@ meeting_any (l ∷ ls) i j some = by (times j (places_in i l)) refl (λ more. me
         record { clerk = suc m.clerk; meets = m.meets }
     by (suc n) more rest = record { clerk = 0; meets = meeting l i j (omega (arith, more)) }
 
--- and of one that is not met nobody has a receipt
+-- nobody has a receipt of a place that does not occur
 pub met_nowhere : (lists : List (List Receipt)) (i j c k : ℕ) (r : Receipt) → at lists c k ≡ Some r → r.shard ≡ i → r.place ≡ j → times j (all_places i lists) ≡ 0 → ⊥
 met_nowhere lists i j c k r there shard place unmet =
     let one = subst (λ (x : ℕ × ℕ). 1 ≤ times x.1 (places_in x.0 (row lists c))) (λ n. (shard n, place n)) (met (row lists c) k r there) in
     omega (arith, one, among_all i j lists c, unmet)
 
--- how often all numbers below n are among some
+-- how often all numbers below n occur in a list
 abbrev total : ℕ → List ℕ → ℕ
 total zero ks = 0
 total (suc n) ks = total n ks + times n ks
@@ -133,7 +133,7 @@ total_below (suc n) k ks below =
           omega (arith, total_below n k ks (omega (arith, below, apart)), other))
     ]
 
--- numbers that are all below n are as many as all those below n are among them
+-- a list of numbers below n has the length of the sum of their occurrences
 total_length : (n : ℕ) (ks : List ℕ) → ((j : ℕ) → n ≤ j → times j ks ≡ 0) → total n ks ≡ length ks
 total_length n [] none = total_nil n
 total_length n (k ∷ ks) none =
@@ -150,7 +150,7 @@ total_ones (suc n) ks ones = omega (arith, total_ones n ks (λ j below. ones j (
 pub as_many : (n : ℕ) (ks : List ℕ) → AreBelow n ks → length ks ≡ n
 as_many n ks below = sym (total_length n ks below.1) ∙ total_ones n ks below.0
 
--- of the first places there are as many as entries
+-- there are as many first places as entries
 pub length-first_places : (n : ℕ) → length (first_places n) ≡ n
 length-first_places zero = refl
 length-first_places (suc n) = length-append (first_places n) (n ∷ []) ∙ ap (λ m. m + 1) (length-first_places n) ∙ omega arith

@@ -22,7 +22,7 @@ use Rattle.nmvs_desk.proofs.Merging.{new-merged}
 abbrev pub numbers_of : List LockedView → List ℕ
 numbers_of locked = map (λ (h : LockedView). h.index) locked
 
--- a trail is empty past the last shard, and else it is that of the shard there
+-- past the last shard a trail is empty, else it is that of the shard there
 row_of : (count : ℕ) (locked : List LockedView) → All (IsKept count) locked → (i : ℕ)
     → (row (trails_of locked) i ≡ [])
     ⊎ ((h : LockedView) × IsKept count h × (i < length locked) × (slice_index (numbers_of locked) i ≡ h.index) × (row (trails_of locked) i ≡ h.trail))

@@ -1,4 +1,4 @@
--- Once all tokens are back: each receipt stands, each place is that of one receipt, and what is noted owns the entries.
+-- Once all tokens are back: each receipt stands, each place is that of one receipt, and the owners noted own the entries.
 use Rattle.std.proofs.Common.{◌≡◌, ◌≢◌, ◌<◌, ◌≤◌, ◌+◌, ◌++◌, ◌∙◌, inl, inr, ℕ, zero, suc, List, [], ◌∷◌, length, map, replicate, refl, sym, ap, subst, arith, length-append}
 use Rattle.std.specs.Prelude.{Option, None, Some, slice_get, All}
 use Rattle.std.proofs.lemmas.Bool.{cases_lt}
@@ -18,7 +18,7 @@ use Rattle.nmvs_desk.proofs.Closings.{all_begin, all_below, all_seen}
 use Rattle.nmvs_desk.proofs.Noting.{row_within}
 use Rattle.nmvs_desk.proofs.Places.{apart, among_own, as_many, length-first_places, meeting_any, met_nowhere}
 
--- what stands at a place of a list is in one of the lists
+-- an element at a place of a list is in one of the lists
 at_within : {X : Type 0} (lists : List (List X)) (i j : ℕ) (x : X) → at lists i j ≡ Some x → i < length lists
 at_within lists i j x there = row_within lists i j (slice_get_within (row lists i) j x there)
 
@@ -69,12 +69,12 @@ module _ (trails : List (List Entry)) (clerks : List ClerkView) (settled : All (
     ];
   }
 
--- what opened shards have seen once they are out of their locks
+-- the trails that opened shards have seen once they are out of their locks
 pub seen_unlocked : (tables : ℕ → HistoryId) (opening : ℕ → List Entry) (locked : List LockedView) → seen_in (map (unlocked tables opening) locked) ≡ trails_of locked
 seen_unlocked tables opening [] = refl
 seen_unlocked tables opening (h ∷ hs) = ap (λ ts. h.trail ∷ ts) (seen_unlocked tables opening hs)
 
--- what is known of shards and receipts once all tokens are back
+-- the facts of shards and receipts once all tokens are back
 pub record AreBack (count : ℕ) (opening : ℕ → List Entry) (locked : List LockedView) (clerks : List ClerkView) (shards : List (List Entry)) (lists : List (List Receipt)) : Type 0 where
   pub trails : shards ≡ trails_of locked
   pub settled : All (IsSettled shards) clerks

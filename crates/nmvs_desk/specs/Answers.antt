@@ -1,4 +1,4 @@
--- What an answer tells.
+-- The answer that a clerk receives.
 use Rattle.std.specs.Prelude.{ℕ, ◌≡◌, ◌≢◌, Bool, true, false, List, [], ◌∷◌, ◌++◌}
 use mathlib.Core.List.{IsPrefix}
 use Rattle.nmvs_history.specs.Views.{TokenView}
@@ -14,8 +14,8 @@ use Rattle.nmvs_desk.specs.Placing.{IsPartOf}
 use Rattle.nmvs_desk.specs.Settlement.{row}
 use Rattle.nmvs_desk.specs.Views.{ClerkView}
 
--- what was seen of a shard, of `count`, begins what is seen now: a lawful trail whose entries belong to the shard and are in
--- their grammars and ranges, and whose questions were new where they were put
+-- the trail that was seen begins the trail that is seen now: a lawful trail, whose entries belong to the shard, of `count`, and
+-- are in their grammars and ranges, and whose questions were new where they were put
 pub record IsShown (count index : ℕ) (before after : List Entry) : Type 0 where
   pub begins : IsPrefix before after
   pub lawful : IsLawful after
@@ -27,19 +27,19 @@ abbrev pub new_places : {A : Type 0} → Outcome A → List ℕ
 new_places (outcome.New a) = a.place ∷ []
 new_places _ = []
 
--- and its receipt, in the shard of this number: the question with its reply
+-- the receipt of that entry, in the shard of this number: the question with its reply
 abbrev pub new_receipts : {A : Type 0} → ℕ → Put → Outcome A → List Receipt
 new_receipts index put (outcome.New a) = record { shard = index; place = a.place; entry = answered put a.reply } ∷ []
 new_receipts index put _ = []
 
--- the receipts that a clerk then has in hand, where it keeps receipts: those of before, and the new one; else none
+-- the receipts that a clerk then has in hand: the earlier ones and the new one if it keeps receipts, else none
 abbrev pub receipts_then : {A : Type 0} → Bool → List Receipt → ℕ → Put → Outcome A → List Receipt
 receipts_then true receipts index put o = receipts ++ new_receipts index put o
 receipts_then false receipts index put o = []
 
--- what becomes of a question in the shard of this number, and of the token by which it is asked: it is answered on a trail of
--- the shard that begins with all that the token had seen; now the token has seen what the answer left, and owns the place of
--- the entry, where the question was put
+-- the change of a token by a question that is asked by it in the shard of this number: the question is answered on a trail of
+-- the shard that begins with all that the token had seen; now the token has seen the trail after the answer, and owns the place
+-- of the entry if the question was put
 pub record Becomes {A : Type 0} (count index : ℕ) (put : Put) (was now : TokenView) (o : Outcome A) : Type 0 where
   pub trail : List Entry
   pub shown : IsShown count index was.seen trail
@@ -47,9 +47,10 @@ pub record Becomes {A : Type 0} (count index : ℕ) (put : Put) (was now : Token
   pub later : IsShown count index trail now.seen
   pub token : now ≡ record was { seen = now.seen; places = was.places ++ new_places o }
 
--- what a clerk is answered in the shard of this number: the question is answered on a trail of the shard that begins with all
--- that the clerk had seen of it; now the clerk has seen what the answer left, and no more of another shard. Where the question
--- was put, its entry's place is the clerk's own, and its receipt is in hand if the clerk keeps receipts; nothing else is
+-- the change of a clerk by a question in the shard of this number: it is answered on a trail of the shard that begins with all
+-- that the clerk had seen of it; now the clerk has seen the trail after the answer, and no more of another shard; if the
+-- question was put, its entry's place is the clerk's own, and its receipt is in hand if the clerk keeps receipts; nothing else
+-- changes
 pub record Answers {A : Type 0} (count index : ℕ) (put : Put) (old new : ClerkView) (o : Outcome A) : Type 0 where
   pub trail : List Entry
   pub shown : IsShown count index (row old.sights index) trail

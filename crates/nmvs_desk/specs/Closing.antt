@@ -1,4 +1,4 @@
--- Shards that take the clerks' tokens back in, and how the owners of their entries are noted (own).
+-- Shards that take the clerks' tokens back in, and the owners of their entries (own).
 use Rattle.std.specs.Prelude.{ℕ, ◌≡◌, ◌+◌, ◌<◌, ◌≤◌, ◌++◌, List, Option, None, Some, length, map, replicate, slice_set}
 use Rattle.std.specs.List.{slice_get, flat_map}
 use Rattle.nmvs_history.specs.Views.{HistoryId, ClosingView, TokenView, times}
@@ -16,12 +16,12 @@ trails_of shards = map (λ (h : LockedView). h.trail) shards
 abbrev pub all_places : ℕ → List (List Receipt) → List ℕ
 all_places shard lists = flat_map (places_in shard) lists
 
--- a shard of this history out of its lock, with the token of what was there when it was opened
+-- a shard of this history out of its lock, with the token of the trail of the opening
 abbrev pub unlocked : (ℕ → HistoryId) → (ℕ → List Entry) → LockedView → ClosingView
 unlocked tables opening h =
     record { table = tables h.index; parts = h.parts + 1; seen = h.trail; places = first_places (length (opening h.index)) }
 
--- a closing history with one token more
+-- a closing history with one more token
 abbrev pub with_token : ClosingView → TokenView → ClosingView
 with_token u k = record { table = u.table; parts = u.parts + 1; seen = u.seen; places = u.places ++ k.places }
 
@@ -32,7 +32,7 @@ pub record AreClosing (tables : ℕ → HistoryId) (opening : ℕ → List Entry
       → slice_get closings i
       ≡ Some (record { table = tables i; parts = parts; seen = row trails i; places = first_places (length (opening i)) ++ own_places i clerks })
 
--- what closing histories have seen
+-- the trails that closing histories have seen
 abbrev pub seen_in : List ClosingView → List (List Entry)
 seen_in closings = map (λ (u : ClosingView). u.seen) closings
 
@@ -50,7 +50,7 @@ put lists i j x = slice_set lists i (slice_set (row lists i) j x)
 abbrev pub blank_owners : List (List Entry) → List (List (Option Owner))
 blank_owners trails = map (λ (t : List Entry). replicate (length t) None) trails
 
--- there are as many lists, each as long
+-- the lists have the same number of rows, each of the same length
 pub record HaveShape {X Y : Type 0} (xs : List (List X)) (ys : List (List Y)) : Type 0 where
   pub lists : length xs ≡ length ys
   pub rows : (i : ℕ) → length (row xs i) ≡ length (row ys i)
@@ -72,6 +72,6 @@ abbrev pub AreApart : List (List Receipt) → Type 0
 AreApart lists =
     (c d k m : ℕ) (p q : Receipt) → c < d → at lists c k ≡ Some p → at lists d m ≡ Some q → p.shard ≡ q.shard → p.place ≡ q.place → ⊥
 
--- there is room for each receipt's place
+-- each receipt's place is within its row
 abbrev pub HavePlaces : List (List Receipt) → List (List (Option Owner)) → Type 0
 HavePlaces lists owners = (clerk number : ℕ) (r : Receipt) → at lists clerk number ≡ Some r → r.place < length (row owners r.shard)

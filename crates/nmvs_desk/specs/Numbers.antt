@@ -1,4 +1,4 @@
--- Which number a lock has.
+-- The number of a lock.
 use Rattle.std.specs.Prelude.{ℕ}
 use Rattle.nmvs_history.specs.declared.histories.Histories.{Ghosts}
 use Rattle.nmvs_desk.specs.declared.lock.Lock.{Lock}

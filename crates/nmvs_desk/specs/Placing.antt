@@ -1,2 +1,2 @@
--- In which shard an entry stands, and what a shard goes on from.
+-- The shard of an entry.
 pub use Rattle.nmvs_shard.specs.Placing.{place_of, shard_of, IsPlaced, IsPartOf}

@@ -1,5 +1,5 @@
--- What a settlement says of the trails of all shards and the receipts that all clerks have in hand (own). Shards, places,
--- clerks and receipts count from 0.
+-- The promises of a settlement about the trails of all shards and the receipts that all clerks have in hand (own). Shards,
+-- places, clerks and receipts count from 0.
 use Rattle.std.specs.Prelude.{ℕ, zero, suc, ◌≡◌, ◌+◌, ◌<◌, ◌==◌, List, [], ◌∷◌, ◌++◌, Option, Some, length, map, filter}
 use Rattle.std.specs.List.{slice_get, slice_index_or, flat_map}
 use mathlib.Core.List.{IsPrefix}
@@ -9,11 +9,11 @@ use Rattle.nmvs_desk.specs.declared.settled.Owner.{Owner}
 use Rattle.nmvs_desk.specs.declared.ask.Receipt.{Receipt}
 use Rattle.nmvs_desk.specs.Views.{ClerkView}
 
--- the list of this number, empty where there is none
+-- the list of this number, or the empty list if there is none
 abbrev pub row : {X : Type 0} → List (List X) → ℕ → List X
 row lists i = slice_index_or lists i []
 
--- what stands at this place of this list, if there is something
+-- the element at this place of this list, if there is one
 abbrev pub at : {X : Type 0} → List (List X) → ℕ → ℕ → Option X
 at lists i j = slice_get (row lists i) j
 
@@ -28,12 +28,12 @@ lists_of clerks = map (λ (c : ClerkView). c.receipts) clerks
 abbrev pub places_in : ℕ → List Receipt → List ℕ
 places_in shard receipts = map (λ (r : Receipt). r.place) (filter (λ (r : Receipt). r.shard == shard) receipts)
 
--- a clerk's own places of a shard are those of receipts that were let go, and then those of the receipts in hand
+-- a clerk's own places of a shard are those of receipts that it let go, and then those of the receipts in hand
 pub record AreOwn (shard : ℕ) (receipts : List Receipt) (places : List ℕ) : Type 0 where
   pub gone : List ℕ
   pub is : places ≡ gone ++ places_in shard receipts
 
--- the own places of these clerks in a shard, clerk by clerk
+-- the places of these clerks in a shard, clerk by clerk
 abbrev pub own_places : ℕ → List ClerkView → List ℕ
 own_places shard clerks = flat_map (λ (c : ClerkView). row c.places shard) clerks
 
@@ -42,8 +42,7 @@ abbrev pub first_places : ℕ → List ℕ
 first_places zero = []
 first_places (suc n) = first_places n ++ n ∷ []
 
--- each trail begins with what was there when the repository was opened; and each place of it is one of the opening or the
--- own of one clerk, and that once
+-- each trail begins with the trail of the opening, and each of its places is a place of the opening or of exactly one clerk
 pub record AreDivided (count : ℕ) (opening : ℕ → List Entry) (trails : List (List Entry)) (clerks : List ClerkView) : Type 0 where
   pub begins : (i : ℕ) → i < count → IsPrefix (opening i) (row trails i)
   pub places : (i : ℕ) → i < count → AreBelow (length (row trails i)) (first_places (length (opening i)) ++ own_places i clerks)
@@ -55,8 +54,8 @@ Rises receipts =
     (k m : ℕ) (earlier later : Receipt) → k < m → slice_get receipts k ≡ Some earlier → slice_get receipts m ≡ Some later
     → earlier.shard ≡ later.shard → earlier.place < later.place
 
--- what a clerk has seen begins the trails, in which the receipts that it has in hand stand, their places are the clerk's own,
--- and they rise
+-- the trails begin with what the clerk has seen; the receipts that it has in hand stand in them, at the clerk's own places,
+-- which rise
 pub record IsSettled (trails : List (List Entry)) (c : ClerkView) : Type 0 where
   pub seen : (i : ℕ) → IsPrefix (row c.sights i) (row trails i)
   pub stand : (n : ℕ) (r : Receipt) → slice_get c.receipts n ≡ Some r → at trails r.shard r.place ≡ Some r.entry
@@ -71,7 +70,7 @@ pub record IsOwner (trails : List (List Entry)) (lists : List (List Receipt)) (i
   pub place : receipt.place ≡ j
   pub entry : at trails receipt.shard receipt.place ≡ Some receipt.entry
 
--- each receipt in hand owns one place, its own; and a place that nobody owns is that of no receipt in hand
+-- each receipt in hand owns exactly its own place, and a place that nobody owns is that of no receipt in hand
 pub record IsOwned (trails : List (List Entry)) (lists : List (List Receipt)) (owners : List (List (Option Owner))) : Type 0 where
   pub shards : length owners ≡ length trails
   pub one_each : (i : ℕ) → length (row owners i) ≡ length (row trails i)

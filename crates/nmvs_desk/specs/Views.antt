@@ -1,18 +1,18 @@
--- What a clause sees of a locked shard, a clerk and a repository.
+-- The views of a locked shard, a clerk and a repository in clauses.
 use Rattle.std.specs.Prelude.{◌≡◌, ℕ, ◌<◌, Bool, List, length, map, slice_index}
 use Rattle.nmvs_history.specs.Views.{TokenView}
 use Rattle.nmvs_rules.specs.declared.entry.Entry.{Entry}
 use Rattle.nmvs_directory.specs.declared.change.Change.{Change}
 use Rattle.nmvs_desk.specs.declared.ask.Receipt.{Receipt}
 
--- a shard beside its keeper: its trail and its number, and how many parts of its history the keeper has
+-- a shard with its keeper: its trail and its number, and how many parts of its history the keeper has
 pub record LockedView : Type 0 where
   pub trail : List Entry
   pub index : ℕ
   pub parts : ℕ
 
--- a clerk: the changes of the directory that it saw or was told; of each shard what it has seen of the trail, and which
--- places of the trail are the clerk's own; the receipts that it has in hand, and whether it keeps receipts
+-- a clerk: the changes of the directory that it saw or learned; for each shard the trail that it has seen, and the places of
+-- the trail that are the clerk's own; the receipts that it has in hand, and whether it keeps receipts
 pub record ClerkView : Type 0 where
   pub seen : List Change
   pub sights : List (List Entry)
@@ -25,11 +25,11 @@ pub record RepositoryView : Type 0 where
   pub shards : ℕ
   pub clerks : ℕ
 
--- the numbers from 0 on
+-- the numbers from 0
 abbrev pub IsNumbered : List ℕ → Type 0
 IsNumbered xs = (i : ℕ) → i < length xs → slice_index xs i ≡ i
 
--- what tokens have seen
+-- the trails that tokens have seen
 abbrev pub sights_of : List TokenView → List (List Entry)
 sights_of tokens = map (λ (k : TokenView). k.seen) tokens
 

@@ -1,4 +1,4 @@
-//! Those who ask, and what they are answered.
+//! Clerks, their receipts, and the answers that they receive.
 ghost use Rattle.std.specs.Prelude.{◌≡◌, ◌≢◌, ◌<◌, ◌⊎◌, ℕ, true, false, [], Some, None, IfOk, OnOk, OnErr, slice_get, vec_len, vec_capacity};
 ghost use mathlib.Core.List.{IsPrefix};
 ghost use Rattle.nmvs_directory.specs.Window.{Reads};
@@ -24,8 +24,7 @@ use std::alloc::{AllocError, Allocator, Global};
 use std::marker::{Model, PhantomData};
 use std::sync::Wait;
 
-/// What was answered, and where its entry stands: the shard, and the entry's place in the shard's trail, counted from
-/// 0.
+/// The receipt of an answer: the entry, its shard, and its place in the shard's trail. Both numbers count from 0.
 #[derive(Clone, Copy)]
 pub struct Receipt {
     pub shard: usize,
@@ -33,11 +32,12 @@ pub struct Receipt {
     pub entry: Entry,
 }
 
-/// One who asks a repository, by a window on the directory and a token of each shard. It keeps a receipt for each answer until
+/// A clerk asks a repository, by a window on the directory and a token of each shard. It keeps a receipt for each answer until
 /// it lets its receipts go, or keeps none.
 ///
-/// Contracts see what its window saw or was told, what it has seen of each shard's trail, which places of the trail are its
-/// own, those of all its answers, the receipts that it has in hand, oldest first, and whether it keeps receipts.
+/// Contracts see the changes that its window saw or learned, and what it has seen of each shard's trail. They see its own
+/// places of each trail, those of all its answers. They see the receipts that it has in hand, oldest first, and whether it
+/// keeps receipts.
 #[derive(Drop)]
 pub struct Clerk<'a, J: Naming, H: Histories, B: Allocator = Global> {
     window: Window<J, &'a B>,
@@ -65,7 +65,7 @@ impl<'a, J: Naming, H: Histories, B: Allocator> Model for Clerk<'a, J, H, B> {
 }
 
 impl<'a, J: Naming, H: Histories, B: Allocator> Clerk<'a, J, H, B> {
-    /// A clerk with no receipt, which keeps receipts, and whose tokens have seen what was there when the shards were opened.
+    /// A clerk without a receipt, which keeps receipts. Its tokens have seen the trails of the opening.
     pub(crate) fn new(
         alloc: &'a B,
         window: Window<J, &'a B>,
@@ -87,9 +87,9 @@ impl<'a, J: Naming, H: Histories, B: Allocator> Clerk<'a, J, H, B> {
         }
     }
 
-    /// The receipts in hand, oldest first. At any time each receipt's entry stands at its place in what the clerk has seen of
-    /// its shard, which is lawful and whose entries are in their grammars and ranges, the place is the clerk's own, and the
-    /// places rise in each shard.
+    /// The receipts in hand, oldest first. Each receipt's entry stands at its place in what the clerk has seen of its shard.
+    /// That trail is lawful, and its entries are in their grammars and ranges. The place is the clerk's own, and the places
+    /// rise in each shard.
     pub fn receipts(&self) -> &[Receipt]
         ensures receipts { result.now ≡ self.now.receipts }
         ensures stand { (n : ℕ) (r : Receipt) → slice_get result.now n ≡ Some r
@@ -101,16 +101,16 @@ impl<'a, J: Naming, H: Histories, B: Allocator> Clerk<'a, J, H, B> {
         self.receipts.as_slice()
     }
 
-    /// Lets the receipts in hand go. What the clerk has seen stays, and which places are its own; the memory of the receipts is
-    /// kept for those that come.
+    /// Lets the receipts in hand go. The clerk's sights stay, and so do its own places. The memory of the receipts is kept for
+    /// later ones.
     pub fn let_go(&mut self)
         ensures { self.new ≡ record self.old { receipts = [] } }
     {
         self.receipts.clear();
     }
 
-    /// Lets the receipts in hand go, and keeps none from now on: the clerk's places alone say what was answered, and an entry is
-    /// copied to no receipt.
+    /// Lets the receipts in hand go, and keeps none from now on. The clerk's places alone say what was answered, and no entry
+    /// is copied to a receipt.
     pub fn keep_no_receipts(&mut self)
         ensures { self.new ≡ record self.old { receipts = []; keeps = false } }
     {
@@ -123,7 +123,7 @@ impl<'a, J: Naming, H: Histories, B: Allocator> Clerk<'a, J, H, B> {
         *self.receipts.allocator()
     }
 
-    /// From now on the clerk sees no older directory than the notice tells. It waits for nobody.
+    /// From now on the clerk sees no older directory than the notice says. It waits for nobody.
     pub fn learn(&mut self, notice: &Notice<J>)
         ensures longer { (self.new.seen ≡ self.old.seen) ⊎ (self.new.seen ≡ notice.now) }
         ensures seen { IsPrefix self.old.seen self.new.seen }
@@ -133,7 +133,7 @@ impl<'a, J: Naming, H: Histories, B: Allocator> Clerk<'a, J, H, B> {
         self.window.learn(notice);
     }
 
-    /// What the directory says of a user, as `Window::look`. It waits for nobody.
+    /// Looks the user up in the directory, as `Window::look`. It waits for nobody.
     pub fn look(&mut self, user: &Name) -> Look
         ensures reads { Reads self.old.seen self.new.seen user.now result }
         ensures same { self.new ≡ record self.old { seen = self.new.seen } }
@@ -141,13 +141,19 @@ impl<'a, J: Naming, H: Histories, B: Allocator> Clerk<'a, J, H, B> {
         self.window.look(user)
     }
 
-    /// Asks a question: holds the shard of the question's product code, in which the question is put where it was not asked
-    /// before by its tag, and keeps the receipt of one that was put, if it keeps receipts. It waits for the shard. Refused only out of memory.
+    /// Asks a question in the shard of its product code, which is held meanwhile. The question is put if it was not asked
+    /// before by its tag. The receipt of a question that was put is kept, if the clerk keeps receipts. The call waits for the
+    /// shard.
     ///
-    /// The answer is given on a trail that begins with all that the clerk has seen of the shard; then the clerk has seen
-    /// the entry, too, whose place is its own: no other answer has it. Of those who ask a question with its tag, one puts it.
+    /// The answer is given on a trail that begins with all that the clerk has seen of the shard. Then the clerk has seen the
+    /// entry that answers, too. The place of an entry that was put is the clerk's own: no other answer has it. Of the clerks
+    /// that ask a question with its tag, one puts it.
     ///
-    /// Condition: the clerk is one that `open` gave with this repository, which the names of their histories say.
+    /// Condition: `open` gave the clerk with this repository, which the names of their histories say.
+    ///
+    /// # Errors
+    ///
+    /// `AllocError` if a growth was refused.
     pub fn ask<R: Wait>(
         &mut self,
         rt: &R,
@@ -167,8 +173,8 @@ impl<'a, J: Naming, H: Histories, B: Allocator> Clerk<'a, J, H, B> {
         Ok(outcome)
     }
 
-    /// What the reader makes of the shard of this number, whose trail begins with all that the clerk has seen of it; then
-    /// the clerk has seen all. It waits for the shard.
+    /// The reader's output on the shard of this number, whose trail begins with all that the clerk has seen of it. Then the
+    /// clerk has seen all. The call waits for the shard.
     pub fn look_at<R: Wait, F: Reader<Shard<&'a B>>>(
         &mut self,
         rt: &R,
@@ -200,7 +206,7 @@ impl<'a, J: Naming, H: Histories, B: Allocator> Clerk<'a, J, H, B> {
         holder.hold(&mut self.tokens[index])
     }
 
-    /// The tokens, and the receipts. The window is let go.
+    /// The tokens and the receipts. The window goes.
     pub(crate) fn into_parts(self) -> (Vec<Token, &'a B>, Vec<Receipt, &'a B>)
         ensures sights { sights_of result.0.items ≡ self.entry.sights }
         ensures places { places_of result.0.items ≡ self.entry.places }
@@ -218,7 +224,7 @@ impl<'a, J: Naming, H: Histories, B: Allocator> Clerk<'a, J, H, B> {
     }
 }
 
-/// Makes room for a receipt, where receipts are kept.
+/// Makes room for a receipt, if receipts are kept.
 fn make_room<A: Allocator>(receipts: &mut Vec<Receipt, A>, keeps: bool) -> Result<(), AllocError>
     ensures room { OnOk result (keeps ≡ true → vec_len receipts.new < vec_capacity receipts.new) }
     ensures same { receipts.new.items ≡ receipts.old.items }
@@ -229,7 +235,7 @@ fn make_room<A: Allocator>(receipts: &mut Vec<Receipt, A>, keeps: bool) -> Resul
     Ok(())
 }
 
-/// Keeps the receipt of a question that was put in the shard, where receipts are kept. There is room for it then.
+/// Keeps the receipt of a question that was put in the shard, if receipts are kept. There is room for it then.
 fn keep<A: Allocator, B: Allocator>(
     receipts: &mut Vec<Receipt, A>,
     keeps: bool,

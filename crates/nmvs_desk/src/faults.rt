@@ -1,8 +1,8 @@
-//! Why a call of a repository was refused.
+//! The fault of a repository's opening.
 use std::alloc::AllocError;
 use thiserror::Error;
 
-/// Why there are no keepers for a repository.
+/// The reason for which there are no keepers for a repository.
 #[derive(Clone, Copy, Debug, PartialEq, Eq, Error)]
 pub enum OpenFault {
     #[error("there is no memory for the histories")]

@@ -6,7 +6,7 @@ ghost use Rattle.nmvs_desk.specs.Placing.{IsPartOf};
 
 use nmvs_history::{Histories, Token};
 
-/// Has a clerk's token of a shard for the time of a call. It may let the token see more of the shard's trail.
+/// Has a clerk's token of a shard during a call. It may let the token see more of the shard's trail.
 pub trait Holder<H: Histories> {
     type Output;
 
@@ -16,11 +16,11 @@ pub trait Holder<H: Histories> {
     /// The number of the shard.
     ghost index: { Self → ℕ };
 
-    /// What has to be true of what the token has seen; nothing, where it doesn't write it.
+    /// The condition on what the token has seen; none by default.
     ghost may: { Self → List Entry → Type 0 } = { λ _ _. ⊤ };
 
-    /// What it says of its answer, where the token had seen the first list before and has then seen the second; nothing,
-    /// where it doesn't write it.
+    /// The promise about the output; none by default. The token had seen the first list before the call, and has seen the
+    /// second after it.
     ghost tells: { Self → List Entry → List Entry → Self.Output → Type 0 } = { λ _ _ _ _. ⊤ };
 
     fn hold(self, token: &mut Token) -> Self::Output

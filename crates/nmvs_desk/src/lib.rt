@@ -1,17 +1,17 @@
 //! Locked shards, the clerks that ask them with a receipt for each answer, and the settlement of all shards.
 //!
-//! A question goes one way, whatever its kind. A clerk asks it (ask.rt), the repository finds the shard of its product code
-//! (repository.rt), whose slot holds the lock (lock.rt) while the shard answers (locked.rt). The way back has the place and
-//! the reply of the entry that answers it, and what an audit shows. The clerk keeps the receipt of a question that was put
-//! until it lets its receipts go.
+//! Every kind of question goes the same way. A clerk asks it (ask.rt). The repository finds the shard of its product code
+//! (repository.rt), whose slot holds the lock (lock.rt) while the shard answers (locked.rt). The way back has the place and the
+//! reply of the entry that answers it, and the entries that an audit shows. The clerk keeps the receipt of a question that was
+//! put until it lets its receipts go.
 //!
-//! Each shard has a history (`nmvs_history`), whose keeper lies under the shard's lock. A clerk has a token of each history, so
-//! what it has seen of a shard begins every later trail of it, and each place of a trail is the own of one token.
+//! Each shard has a history (`nmvs_history`), whose keeper lies under the shard's lock. A clerk has a token of each history. So
+//! what it has seen of a shard begins every later trail of it, and each place of a trail belongs to one token.
 //!
-//! Who keeps a journal of a shard sees its trail by sights (repository.rt), and is lent a clerk's token (holder.rt).
+//! A log sees the trail of a shard by sights (repository.rt), and borrows a clerk's token (holder.rt).
 //!
-//! A repository is opened over shards as they are; a token beside each keeper owns what was there (opening.rt). A settlement
-//! takes the shards out of their locks and the tokens back in, and notes whose receipt each entry is for (settling.rt).
+//! A repository is opened over shards as they are. A token next to each keeper owns the trail of the opening (opening.rt). A
+//! settlement takes the shards out of their locks and the tokens back in, and notes the receipt of each entry (settling.rt).
 #![tactic(auto)]
 
 mod ask;

@@ -1,4 +1,4 @@
-//! How a repository is opened.
+//! The opening of a repository.
 ghost use Rattle.std.specs.Prelude.{◌≡◌, ◌+◌, ◌-◌, ◌<◌, ◌≤◌, ◌↔◌, ◌⊎◌, ℕ, [], All, map, vec_len, vec_capacity, length, IfOk, IsErrOf, OnOk, OnErr};
 ghost use Rattle.nmvs_desk.specs.Opening.{table_of, AreLocked, AreNew, IsNew, IsOpened};
 ghost use Rattle.nmvs_desk.specs.Placing.{IsPartOf};
@@ -13,8 +13,7 @@ use nmvs_shard::Shard;
 use std::alloc::{AllocError, Allocator, Global};
 use std::marker::Model;
 
-/// The keepers of the histories of one to eight shards, which have no entry yet. Contracts see which histories they are,
-/// in order.
+/// The keepers of the histories of one to eight shards, which have no entry yet. Contracts see these histories, in order.
 #[derive(Drop)]
 pub struct Keepers<'a, B: Allocator = Global> {
     list: Vec<Keeper<&'a B>, &'a B>,
@@ -34,9 +33,11 @@ impl<'a, B: Allocator> Model for Keepers<'a, B> {
 }
 
 impl<'a, B: Allocator> Keepers<'a, B> {
-    /// Keepers for so many shards.
+    /// Keepers for this number of shards.
     ///
-    /// It answers `Count` exactly where the shards are not 1 to 8, else `Memory` where a growth was refused.
+    /// # Errors
+    ///
+    /// `Count` exactly if the shards are not 1 to 8, else `Memory` if a growth was refused.
     pub fn new(alloc: &'a B, shards: usize) -> Result<Keepers<'a, B>, OpenFault>
         ensures shards { IfOk result (λ keepers. length keepers ≡ shards) }
         ensures count { IsErrOf result OpenFault.Count ↔ ((shards ≡ 0) ⊎ (MOST_SHARDS < shards)) }
@@ -52,7 +53,7 @@ impl<'a, B: Allocator> Keepers<'a, B> {
     }
 }
 
-/// Puts each shard beside its keeper, numbered in order.
+/// Puts each shard under its keeper, numbered in order.
 fn keep_all<'a, H: Histories, B: Allocator>(
     alloc: &'a B,
     keepers: Keepers<'a, B>,
@@ -154,13 +155,14 @@ fn clerks_over<'a, J: Naming, H: Histories, B: Allocator>(
 }
 
 impl<'a, H: Histories, B: Allocator> Repository<'a, H, B> {
-    /// Opens a repository over these shards, as they are, with the keeper of each, and a clerk for each window, in order. No
-    /// receipt is made of what the shards have, and each clerk has seen it.
+    /// Opens a repository over these shards, as they are, with the keeper of each, and a clerk for each window, in order. The
+    /// entries of the shards have no receipt, and each clerk has seen them.
     ///
-    /// Condition: each entry's product code belongs to its shard, of as many as there are, and each question was new where it
-    /// was put.
+    /// Condition: each entry's product code belongs to its shard among these. Each question was new where it was put.
     ///
-    /// It is refused only where a growth was; then the windows stay in their list, and the keepers and the shards are spent.
+    /// # Errors
+    ///
+    /// `AllocError` if a growth was refused. Then the windows stay in their list, and the keepers and the shards are spent.
     pub fn open<J: Naming>(
         alloc: &'a B,
         keepers: Keepers<'a, B>,

@@ -1,4 +1,4 @@
-//! What a settlement hands out, or gives back.
+//! The values that a settlement hands out, or gives back.
 ghost use Rattle.std.specs.Prelude.{◌≡◌, ◌<◌, None, Some, IfOk, length, replicate, slice_set, vec_len};
 
 use crate::{Clerk, Receipt, Repository};
@@ -8,15 +8,15 @@ use nmvs_shard::Shard;
 use std::alloc::{AllocError, Allocator, Global};
 use std::marker::Model;
 
-/// Whose receipt it is, and which of that clerk's receipts in hand, both counted from 0.
+/// The clerk that has the receipt, and the number of the receipt among those in hand, both counted from 0.
 #[derive(Clone, Copy, Debug, PartialEq, Eq)]
 pub struct Owner {
     pub clerk: usize,
     pub receipt: usize,
 }
 
-/// The owners of a trail's entries, for each place in order; `None` where nobody has a receipt in hand: the entry was there
-/// when the repository was opened, or its receipt was let go.
+/// The owners of a trail's entries, for each place in order. `None` if nobody has a receipt in hand: the entry was there at the
+/// opening, or its receipt was let go.
 #[derive(Drop)]
 pub struct Owners<'a, B: Allocator = Global> {
     list: Vec<Option<Owner>, &'a B>,
@@ -32,7 +32,7 @@ impl<'a, B: Allocator> Model for Owners<'a, B> {
 }
 
 impl<'a, B: Allocator> Owners<'a, B> {
-    /// Room for the owners of so many entries, with none noted yet.
+    /// Room for the owners of this number of entries, with none noted yet.
     pub(crate) fn blank(alloc: &'a B, count: usize) -> Result<Owners<'a, B>, AllocError>
         ensures { IfOk result (λ owners. owners ≡ replicate count None) }
     {
@@ -87,8 +87,8 @@ impl<'a, B: Allocator> Receipts<'a, B> {
     }
 }
 
-/// What a settlement hands out: the shards in order, the receipts that each clerk had in hand, and for each shard the owners
-/// of its trail's entries.
+/// The result of a settlement: the shards in order, the receipts of each clerk, and for each shard the owners of its trail's
+/// entries.
 #[derive(Drop)]
 pub struct Settled<'a, B: Allocator = Global> {
     pub shards: Vec<Shard<&'a B>, &'a B>,
@@ -96,7 +96,7 @@ pub struct Settled<'a, B: Allocator = Global> {
     pub owners: Vec<Owners<'a, B>, &'a B>,
 }
 
-/// What a refused settlement gives back: the repository and its clerks, as they were. It may be settled again.
+/// The repository and its clerks as they were before a refused settlement. It may be settled again.
 #[derive(Drop)]
 pub struct Unsettled<'a, J: Naming, H: Histories, B: Allocator = Global> {
     pub repository: Repository<'a, H, B>,

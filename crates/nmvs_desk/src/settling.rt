@@ -1,4 +1,4 @@
-//! How a repository is settled.
+//! The settlement of a repository.
 ghost use Rattle.std.specs.Prelude.{◌≡◌, ◌-◌, ◌<◌, ◌≤◌, ℕ, [], All, Some, map, length, slice_get, vec_len, vec_capacity, IfOk, IfErr, OnErr};
 ghost use mathlib.Core.List.{IsPrefix};
 ghost use Rattle.nmvs_history.specs.Views.{AreBelow, ClosingView, TokenView};
@@ -41,7 +41,7 @@ impl<'a, B: Allocator> Model for Unlocked<'a, B> {
 }
 
 impl<'a, B: Allocator> Unlocked<'a, B> {
-    /// Takes a token back in. What it had seen begins the trail.
+    /// Takes a token back in. The trail begins with all that the token had seen.
     fn absorb(&mut self, token: Token)
         requires { token.table ≡ self.old.table }
         ensures begins { IsPrefix token.seen self.old.seen }
@@ -50,7 +50,7 @@ impl<'a, B: Allocator> Unlocked<'a, B> {
         self.closing.absorb(token);
     }
 
-    /// The shard, once all tokens are back: each place of its trail is the own of one of them.
+    /// The shard, once all tokens are back. Each place of its trail belongs to one of them.
     fn close(self) -> Shard<&'a B>
         requires { self.parts ≡ 9 }
         ensures trail { result ≡ self.entry.seen }
@@ -204,7 +204,7 @@ fn owners_for<'a, H: Histories, B: Allocator>(
     Ok(owners)
 }
 
-/// Room for what is made of these shards and so many clerks.
+/// Room for the settlement of these shards and this number of clerks.
 fn room<'a, H: Histories, B: Allocator>(
     alloc: &'a B,
     locked: &Vec<Locked<'a, H, B>, &'a B>,
@@ -225,7 +225,7 @@ fn room<'a, H: Histories, B: Allocator>(
     Ok((closings, settled))
 }
 
-/// The shards out of their locks, and room for what is handed out.
+/// The shards out of their locks, and room for the result.
 #[derive(Drop)]
 struct Taken<'a, H: Histories, B: Allocator> {
     locked: Vec<Locked<'a, H, B>, &'a B>,
@@ -239,7 +239,7 @@ struct Taken<'a, H: Histories, B: Allocator> {
         × (H.clerks ≤ vec_capacity settled.receipts) },
 }
 
-/// Takes the shards out of their locks. Where there is no room, they are locked again.
+/// Takes the shards out of their locks. If there is no room, they are locked again.
 fn unlock<'a, H: Histories, B: Allocator>(
     alloc: &'a B,
     slots: &mut Vec<Slot<'a, H, B>, &'a B>,
@@ -298,17 +298,17 @@ impl<'a, H: Histories, B: Allocator> Taken<'a, H, B> {
     }
 }
 
-/// Settles a repository with its clerks, once nobody asks any more: hands out the trails of all shards, the receipts that all
-/// clerks have in hand, and whose receipt each entry is for. The clerks are numbered from 0, as listed.
+/// Settles a repository with its clerks, once nobody asks any more. It hands out the trails of all shards, the receipts that
+/// all clerks have in hand, and the owner of each entry. The clerks are numbered from 0, as listed.
 ///
-/// Each trail is lawful, begins with what was there when the repository was opened and with all that any clerk has seen of
-/// it, and so is every merging of them. Each place of each trail is one of the opening or the own of one clerk, and that once:
-/// so every call that was answered stands in the trails once, and no entry belongs to nobody. Each receipt in hand owns one
-/// place, with its shard and its entry; and the places of a clerk's receipts rise in each shard.
+/// Each trail is lawful, and so is every merging of them. It begins with the trail of the opening, and with all that any clerk
+/// has seen of it. Each place is a place of the opening or of exactly one clerk. So every question that was put stands in the
+/// trails once, and the only other entries are those of the opening. Each receipt in hand owns one place, with its shard and
+/// its entry. The places of a clerk's receipts rise in each shard.
 ///
 /// # Errors
 ///
-/// It is refused only where a growth was. Repository and clerks are then given back as they were.
+/// `AllocError` if a growth was refused. The repository and the clerks come back as they were.
 pub fn settle<'a, J: Naming, H: Histories, B: Allocator>(
     alloc: &'a B,
     repository: Repository<'a, H, B>,

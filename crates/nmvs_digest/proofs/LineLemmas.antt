@@ -1,4 +1,4 @@
--- The lines that tell digests.
+-- The lines with digests.
 use Rattle.std.proofs.Common.{◌≡◌, ℕ, ◌≤◌, List, ◌++◌, length, take, codes, ap, subst, arith}
 use Rattle.std.proofs.Math.Seq.{take-append_seam}
 use Rattle.std.proofs.lemmas.List.{length-append}
@@ -6,7 +6,7 @@ use Rattle.hex.specs.Hex.{encode_lower, lower_digits}
 use Rattle.hex.proofs.HexLemmas.{length-encode_with}
 use Rattle.nmvs_digest.specs.Digests.{digest_line}
 
--- the digits of a digest are 64
+-- a digest of 32 bytes has 64 digits
 pub length-digits : (sum : List ℕ) → length sum ≡ 32 → length (encode_lower sum) ≡ 64
 length-digits sum sized = omega (arith, length-encode_with lower_digits sum, sized)
 

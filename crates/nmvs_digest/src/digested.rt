@@ -1,4 +1,4 @@
-//! Bytes that are digested as they are read.
+//! Digests of bytes while they are read.
 ghost use Rattle.std.specs.Prelude.{◌≡◌, ◌↔◌, [], IsTrue};
 ghost use Rattle.sha2.specs.Hashers.{Holds256};
 ghost use Rattle.nmvs_digest.specs.Digests.{IsDigestOf};
@@ -6,7 +6,7 @@ ghost use Rattle.nmvs_digest.specs.Digests.{IsDigestOf};
 use nmvs_stream::{Failed, Source};
 use sha2::{Digest, Sha256};
 
-/// A source that digests all that it gives.
+/// A source that digests all bytes that it gives.
 #[derive(Drop)]
 pub struct Digested<S: Source> {
     source: S,
@@ -15,7 +15,7 @@ pub struct Digested<S: Source> {
 }
 
 impl<S: Source + Drop> Digested<S> {
-    /// Over a source that has given nothing.
+    /// Digests a source that has given nothing yet.
     pub fn new(source: S) -> Digested<S>
         requires { (S.told source).bytes ≡ [] }
         ensures { result.source ≡ source }
@@ -26,7 +26,7 @@ impl<S: Source + Drop> Digested<S> {
         }
     }
 
-    /// Whether the digest that is stored, if one is, is that of all bytes that were read.
+    /// Whether the stored digest, if there is one, is that of all bytes that were read.
     pub fn agrees(self, stored: Option<[u8; 32]>) -> bool
         ensures { IsTrue result ↔ IsDigestOf stored (S.told self.source).bytes }
     {

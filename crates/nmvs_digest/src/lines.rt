@@ -1,4 +1,4 @@
-//! The line that tells a digest.
+//! The line with a digest.
 ghost use Rattle.std.specs.Prelude.{◌≡◌, ◌≢◌, ℕ, List, length, IfOk, IfSome, IfNone, string_bytes};
 ghost use Rattle.hex.specs.Hex.{IsBytes};
 ghost use Rattle.nmvs_digest.specs.Digests.{digest_line as line_of};
@@ -6,7 +6,7 @@ ghost use Rattle.nmvs_digest.specs.Digests.{digest_line as line_of};
 use hex::FromHex;
 use std::alloc::{AllocError, Global};
 
-/// The line that tells the digest of a file of this name, with its LF, as `sha256sum` writes it.
+/// The line with the digest of a file of this name, with its LF, as `sha256sum` writes it.
 ///
 /// # Errors
 ///
@@ -18,7 +18,7 @@ pub fn digest_line(alloc: Global, sum: &[u8; 32], name: &str) -> Result<String, 
     format!(in alloc; "{digits}  {name}\n")
 }
 
-/// Reads the digest of a file of this name, if the text is the line that tells it.
+/// Reads the digest of a file of this name, if the text is the line for it.
 ///
 /// # Errors
 ///

@@ -1,4 +1,4 @@
-//! The digest that stands beside a file.
+//! The digest in the file next to its own.
 use crate::{DigestFault, read_digest};
 use std::alloc::Global;
 use std::fs;
@@ -6,15 +6,15 @@ use std::io::{ErrorKind, Read};
 use std::path::Path;
 use std::rt::Files;
 
-/// More bytes than the line of a file name has (own): a name has up to 255.
+/// More bytes than the line for any file name has (own): a name has up to 255 bytes.
 const MOST_BYTES: u64 = 4096;
 
-/// The digest that `PATH.sha256` tells of the file of this path, where there is such a file.
+/// The digest in `PATH.sha256` of the file at this path, if there is such a file.
 ///
 /// # Errors
 ///
-/// There is no memory; `PATH.sha256` can't be read; or it is not the one line that tells the digest of a file of this
-/// name, which stands there without its folders.
+/// There is no memory; `PATH.sha256` cannot be read; or it is not the one line for a file of this name, which stands in it
+/// without its folders.
 pub fn stored_digest<R: Files>(
     rt: &R,
     alloc: Global,
@@ -38,7 +38,7 @@ pub fn stored_digest<R: Files>(
     }
 }
 
-/// The name by which a digest tells of the file of this path: without its folders (own).
+/// The name of the file at this path in the line of its digest: without its folders (own).
 pub fn file_name(path: &str) -> &str {
     Path::new(path).file_name().unwrap_or(path)
 }

@@ -1,4 +1,4 @@
--- What one more change makes of a user.
+-- The effect of one more change on a user.
 use Rattle.std.proofs.Common.{◌≡◌, Bool, true, false, List, [], ◌∷◌, ◌++◌, cond, Option, Some, refl, ap, sym, ◌∙◌}
 use Rattle.std.proofs.lemmas.List.{reverse-append}
 use Rattle.std.specs.List.{find}
@@ -9,7 +9,7 @@ use Rattle.nmvs_directory.specs.declared.change.Change.{Change}
 use Rattle.nmvs_directory.specs.declared.change.Effect.{Effect}
 use Rattle.nmvs_directory.specs.Known.{last_change, last_effect}
 
--- what a test gives of two changes is what it gives of their effects
+-- the effect of the change that a test picks is the effect that it picks
 found : (b : Bool) (c : Change) (o : Option Change) → option_map (λ change. change.effect) (cond b (Some c) o) ≡ cond b (Some c.effect) (option_map (λ change. change.effect) o)
 found true c o = refl
 found false c o = refl
@@ -18,7 +18,7 @@ found false c o = refl
 last_change-add : (xs : List Change) (c : Change) (user : Name) → last_change (xs ++ c ∷ []) user ≡ cond (same_text c.user user) (Some c) (last_change xs user)
 last_change-add xs c user = ap (find (λ change. same_text change.user user)) (reverse-append xs (c ∷ []))
 
--- the newest change decides where it names the user; else the changes before it do
+-- the newest change decides if it names the user; else the changes before it do
 pub last_effect-add : (xs ys : List Change) (c : Change) (user : Name) (before after : Option Effect) → ys ≡ xs ++ c ∷ []
     → before ≡ last_effect xs user → after ≡ cond (same_text c.user user) (Some c.effect) before → after ≡ last_effect ys user
 last_effect-add xs ys c user before after more was now =

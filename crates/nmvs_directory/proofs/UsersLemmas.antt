@@ -1,4 +1,4 @@
--- What one more change makes of the users.
+-- The effect of one more change on the users.
 use Rattle.std.proofs.Common.{◌≡◌, Bool, true, false, List, [], ◌∷◌, ◌++◌, cond, Option, Some, None, refl, ap, sym, ◌∙◌}
 use Rattle.std.proofs.lemmas.List.Sums.{fold-append}
 use Rattle.std.specs.Map.{lookup}
@@ -24,7 +24,7 @@ effect_of-after (Some (Enrolled before)) Suspend = refl
 effect_of-after (Some (Suspended before)) Suspend = refl
 effect_of-after (Some Removed) Suspend = refl
 
--- what a test gives of two standings is what it gives of their effects
+-- the effect of the standing that a test picks is the effect that it picks
 effect_of-cond : (b : Bool) (standing : Standing) (o : Option Standing)
     → option_map effect_of (cond b (Some standing) o) ≡ cond b (Some (effect_of standing)) (option_map effect_of o)
 effect_of-cond true standing o = refl

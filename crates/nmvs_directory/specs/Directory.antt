@@ -1,7 +1,7 @@
--- What a clause says of a directory.
+-- Directories as clauses see them.
 use Rattle.logbook.specs.Pages.{Book}
 use Rattle.nmvs_directory.specs.declared.directory.Directory.{Directory}
 
--- which list of changes a directory has; its name has to name the same one (own)
+-- the list of changes of a directory; its name has to name the same list (own)
 abbrev pub directory_book : Directory → Book
 directory_book d = d.opened.seen.book

@@ -1,4 +1,4 @@
--- What a list of changes says of a user.
+-- The state of a user after a list of changes.
 use Rattle.std.specs.Prelude.{List, reverse, Option, None, Some}
 use Rattle.std.specs.List.{find}
 use Rattle.std.specs.Option.{option_map}
@@ -14,7 +14,7 @@ use Rattle.nmvs_directory.specs.declared.look.Look.TheVariants.{Nobody, Suspende
 abbrev pub last_change : List Change → Name → Option Change
 last_change changes user = find (λ change. same_text change.user user) (reverse changes)
 
--- what that change makes of the user (own)
+-- the effect of that change on the user (own)
 abbrev pub last_effect : List Change → Name → Option Effect
 last_effect changes user = option_map (λ change. change.effect) (last_change changes user)
 

@@ -1,4 +1,4 @@
--- The users that a list of changes names, and how they stand (own).
+-- The users that a list of changes names, and their standings (own).
 use Rattle.std.specs.Prelude.{List, [], fold, Option, None, Some}
 use Rattle.std.specs.Map.{lookup}
 use Rattle.indexmap.specs.IndexMap.{insert_entry}
@@ -10,7 +10,7 @@ use Rattle.nmvs_directory.specs.declared.change.Effect.TheVariants.{Enrol, Suspe
 use Rattle.nmvs_directory.specs.declared.standing.Standing.{Standing}
 use Rattle.nmvs_directory.specs.declared.standing.Standing.TheVariants.{Enrolled, Suspended, Removed}
 
--- how a user stands that stood so, if it was named before, and of which a change makes this
+-- the standing of a user after a change with this effect, by its standing before, if it was named before
 abbrev pub standing_after : Option Standing → Effect → Standing
 standing_after was (Enrol actor) = Enrolled actor
 standing_after was Remove = Removed
@@ -19,18 +19,18 @@ standing_after (Some (Enrolled actor)) Suspend = Suspended (Some actor)
 standing_after (Some (Suspended actor)) Suspend = Suspended actor
 standing_after (Some Removed) Suspend = Suspended None
 
--- what the last change made of a user that stands so
+-- the effect of the last change on a user with this standing
 abbrev pub effect_of : Standing → Effect
 effect_of (Enrolled actor) = Enrol actor
 effect_of (Suspended actor) = Suspend
 effect_of Removed = Remove
 
--- the users after one change more: one that was named before keeps its place, and another goes last
+-- the users after one more change: a user that was named before keeps its place, and another goes last
 abbrev pub with_change : List (Name × Standing) → Change → List (Name × Standing)
 with_change users change =
     insert_entry same_text users change.user (standing_after (lookup (same_text change.user) users) change.effect)
 
--- the users that the changes, oldest first, name: each once, in the order of their first changes, and how they stand; one
--- that was removed keeps its place
+-- the users that the changes, oldest first, name: each once, in the order of their first changes, with its standing; a
+-- removed user keeps its place
 abbrev pub users_of : List Change → List (Name × Standing)
 users_of changes = fold with_change [] changes

@@ -1,4 +1,4 @@
--- What a window's reading tells.
+-- The result of a window's reading.
 use Rattle.std.specs.Prelude.{◌≡◌, ◌⊎◌, List, []}
 use mathlib.Core.List.{IsPrefix}
 use Rattle.nmvs_identifier.specs.Name.{Name}
@@ -8,11 +8,11 @@ use Rattle.nmvs_directory.specs.declared.look.Look.{Look}
 use Rattle.nmvs_directory.specs.declared.look.Look.TheVariants.{Closed}
 
 -- a window that had seen one list of changes looked up a user: it then has a list that begins with the former, by which
--- the directory answers; or the answer is Closed, and it has what it had (own)
+-- the directory answers; or the answer is Closed, and its list is the same (own)
 abbrev pub Reads : List Change → List Change → Name → Look → Type 0
 Reads before after user look =
     (IsPrefix before after × (look ≡ known after user)) ⊎ ((look ≡ Closed) × (after ≡ before))
 
--- a window that saw nothing and was told nothing (own)
+-- a window that saw nothing and learned of nothing (own)
 abbrev pub IsFresh : List Change → Type 0
 IsFresh seen = seen ≡ []

@@ -1,14 +1,14 @@
 use nmvs_identifier::Name;
 use nmvs_rules::Actor;
 
-/// A change of the directory: what a user is from now on.
+/// A change of the directory: the user, and the effect on it.
 #[derive(Clone, Copy, Debug, PartialEq, Eq)]
 pub struct Change {
     pub user: Name,
     pub effect: Effect,
 }
 
-/// What a change makes of its user (own).
+/// The effect of a change on its user (own).
 #[derive(Clone, Copy, Debug, PartialEq, Eq)]
 pub enum Effect {
     /// The user is this actor.

@@ -10,7 +10,7 @@ use std::alloc::{AllocError, Allocator};
 #[derive(Drop)]
 pub struct Changes<A: Allocator> {
     pub(crate) pending: Vec<Change, A>,
-    /// So many of them, from the front, were handed to a publication that was refused.
+    /// The number of them, from the front, that were handed to a publication that was refused.
     pub(crate) entered: usize,
     ghost within: { entered ≤ length pending.items },
 }
@@ -43,7 +43,9 @@ impl<A: Allocator> Changes<A> {
 
     /// Adds one pending change: the user is this actor.
     ///
-    /// It answers `AllocError` where the changes have no room for one more and memory for it is refused.
+    /// # Errors
+    ///
+    /// There is no memory for one more change.
     pub fn enrol(&mut self, user: Name, actor: Actor) -> Result<(), AllocError>
         ensures entered { KeepsEntered self.old self.new }
         ensures ok { OnOk result (pending_changes self.new
@@ -59,7 +61,9 @@ impl<A: Allocator> Changes<A> {
 
     /// Adds one pending change: the user is suspended.
     ///
-    /// It answers `AllocError` where the changes have no room for one more and memory for it is refused.
+    /// # Errors
+    ///
+    /// There is no memory for one more change.
     pub fn suspend(&mut self, user: Name) -> Result<(), AllocError>
         ensures entered { KeepsEntered self.old self.new }
         ensures ok { OnOk result (pending_changes self.new
@@ -75,7 +79,9 @@ impl<A: Allocator> Changes<A> {
 
     /// Adds one pending change: the user is removed.
     ///
-    /// It answers `AllocError` where the changes have no room for one more and memory for it is refused.
+    /// # Errors
+    ///
+    /// There is no memory for one more change.
     pub fn remove(&mut self, user: Name) -> Result<(), AllocError>
         ensures entered { KeepsEntered self.old self.new }
         ensures ok { OnOk result (pending_changes self.new
@@ -97,7 +103,7 @@ impl<A: Allocator> Changes<A> {
         !self.pending.is_empty()
     }
 
-    /// The first change that no publication was handed.
+    /// The first change that was handed to no publication.
     pub(crate) fn next(&self) -> Option<Change>
         ensures some { IfSome result (λ change. self.now.entered < length (pending_changes self.now)) }
         ensures next { IfSome result (λ change. take (self.now.entered + 1) (pending_changes self.now)
@@ -107,7 +113,7 @@ impl<A: Allocator> Changes<A> {
         Some(*self.pending.get(self.entered)?)
     }
 
-    /// Notes that a publication was handed that change.
+    /// Notes that this change was handed to a publication.
     pub(crate) fn enter_next(&mut self)
         requires { self.old.entered < length (pending_changes self.old) }
         ensures pending { pending_changes self.new ≡ pending_changes self.old }

@@ -11,7 +11,7 @@ use std::alloc::Allocator;
 use std::sync::Wait;
 use thiserror::Error;
 
-/// Why a directory was not opened.
+/// The reason why a directory was not opened.
 #[derive(Clone, Copy, Debug, PartialEq, Eq, Error)]
 pub enum DirectoryFault {
     #[error("there is no memory for the directory")]
@@ -21,7 +21,7 @@ pub enum DirectoryFault {
     Window,
 }
 
-/// The most windows of a directory, since a publication visits the place of each (own).
+/// The most windows of a directory, because a publication visits the place of each (own).
 pub const MOST_WINDOWS: usize = 8;
 
 /// An empty directory that has no name yet. Its name is picked with `Brand` where `open` is called.
@@ -33,7 +33,7 @@ pub struct Directory {
 impl Directory {
     ghost use Rattle.nmvs_directory.specs.Directory.{directory_book};
 
-    /// Makes one. It takes no memory: it has no allocator to take it from.
+    /// A new directory. It takes no memory, because it has no allocator.
     pub fn new() -> Directory {
         Directory {
             opened: UnnamedHistory::new(),
@@ -42,7 +42,9 @@ impl Directory {
 
     /// Gives the directory its name, its registrar and its windows, 1 to 8 of them.
     ///
-    /// It answers `Memory` where there is no memory for them, and `Window` where a window was refused its place.
+    /// # Errors
+    ///
+    /// `Memory` if there is no memory for them, and `Window` if a window was refused its place.
     pub fn open<J: Naming, R: Wait + Drop, A: Allocator + Copy>(
         self,
         rt: R,

@@ -1,9 +1,9 @@
-//! The users of a repository: one registrar enrols, suspends and removes them, and windows look them up, each in a thread of its
-//! own if need be, with no lock and no wait.
+//! The users of a repository. One registrar enrols, suspends and removes them. Windows look them up with no lock and no
+//! wait, each in a thread of its own if need be.
 //!
-//! A [`Directory`] is made, gets its name and is opened, which gives the [`Registrar`] and the [`Window`]s. What the
-//! registrar changes is pending until it publishes. A publication gives a [`Notice`]; a window that learns of it
-//! answers by that publication or a later one from then on.
+//! A [`Directory`] is made, gets its name and is opened, which gives the [`Registrar`] and the [`Window`]s. The registrar's
+//! changes are pending until it publishes. A publication gives a [`Notice`]. A window that learns of it answers by that
+//! publication or a later one from then on.
 //!
 //! ```text
 //! let (mut registrar, mut windows) = directory.open::<J, _, _>(rt, alloc, 2)?;

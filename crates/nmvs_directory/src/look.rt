@@ -1,6 +1,6 @@
 use nmvs_rules::Actor;
 
-/// What a window answers about a user.
+/// The answer of a window about a user.
 #[derive(Clone, Copy, Debug, PartialEq, Eq)]
 pub enum Look {
     /// No change named the user, or the last one that did removed it.
@@ -9,7 +9,7 @@ pub enum Look {
     Suspended,
     /// The last change that named the user enrolled it.
     Known(Actor),
-    /// The published users were not entered, since the registrar is gone; or they lacked a change that the window had
-    /// seen or was told of, which no clause excludes and no run has met.
+    /// The registrar is gone, so the published users cannot be read; or they lack a change that the window had seen or
+    /// learned of. No clause excludes the latter, and no run has met it.
     Closed,
 }

@@ -1,7 +1,7 @@
 use std::marker::Brand;
 
-/// The name of a directory. A type parameter with this bound tells which directory a registrar, a window and a notice
-/// come from; a call picks it with `Brand`.
+/// The name of a directory. A type parameter with this bound names the directory of a registrar, a window and a notice. A
+/// call picks it with `Brand`.
 pub trait Naming {
     ghost use Rattle.logbook.specs.Pages.{Book};
 

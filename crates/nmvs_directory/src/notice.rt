@@ -4,7 +4,7 @@ use crate::Naming;
 use crate::history::History;
 use std::marker::Model;
 
-/// What a publication tells. Contracts see the changes that were published, oldest first.
+/// The notice of a publication. Contracts see the changes that were published, oldest first.
 #[derive(Drop)]
 pub struct Notice<J: Naming> {
     told: History<J>,

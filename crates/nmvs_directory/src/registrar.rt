@@ -1,4 +1,4 @@
-//! Who changes the users.
+//! The registrar of the users.
 ghost use Rattle.std.specs.Prelude.{◌≡◌, ◌+◌, ◌<◌, ◌≤◌, ◌++◌, [], ◌∷◌, take, length, slice_get, fold, MatchResult, IfOk, IsOk};
 ghost use Rattle.left_right.specs.Handles;
 ghost use Rattle.nmvs_directory.specs.Changes.{entered_changes};
@@ -15,14 +15,14 @@ use std::sync::Wait;
 /// More changes than any memory holds.
 const MOST: u64 = 1 << 60;
 
-/// It alone changes the users of a directory, and publishes what it changed. It has the end of the directory's list of
-/// changes: a change joins the list where a publication is handed it, and not before.
+/// It alone changes the users of a directory, and publishes the changes. It has the end of the directory's list of
+/// changes: a change joins the list when it is handed to a publication, and not earlier.
 #[derive(Drop)]
 pub struct Registrar<J: Naming, R: Wait + Drop, A: Allocator>
 where
     Users<J, A>: Absorb<History<J>, State = [Change; 0]>,
 {
-    /// Where users are enrolled, suspended and removed, which waits for nobody.
+    /// The pending changes. To enrol, suspend or remove a user waits for nobody.
     pub changes: Changes<A>,
     tail: Tail<J>,
     /// The list up to the last change that is published.
@@ -61,7 +61,7 @@ impl<J: Naming, R: Wait + Drop, A: Allocator> Registrar<J, R, A> {
         }
     }
 
-    /// Hands the end of the list to the writer, where the writer lacks it and has memory for it.
+    /// Hands the end of the list to the writer, if the writer lacks it. It fails only if the writer has no memory.
     fn hand_last(&mut self) -> Result<(), AllocError>
         ensures published { published self.new ≡ published self.old }
         ensures changes { self.new.changes ≡ self.old.changes }
@@ -77,7 +77,7 @@ impl<J: Naming, R: Wait + Drop, A: Allocator> Registrar<J, R, A> {
         Ok(())
     }
 
-    /// Adds the pending changes to the list one by one, and hands each to the writer, which may have no memory for it.
+    /// Adds the pending changes to the list one by one, and hands each to the writer. It fails only if there is no memory.
     fn hand_over(&mut self) -> Result<(), AllocError>
         ensures published { published self.new ≡ published self.old }
         ensures pending { pending self.new ≡ pending self.old }
@@ -92,7 +92,7 @@ impl<J: Naming, R: Wait + Drop, A: Allocator> Registrar<J, R, A> {
         Ok(())
     }
 
-    /// Adds the first change that no publication was handed to the list.
+    /// Adds to the list the first change that was handed to no publication.
     fn enter(&mut self, change: Change) -> Result<(), AllocError>
         requires handed { self.old.handed ≡ self.old.list }
         requires some { self.old.changes.entered < length (pending self.old) }
@@ -111,9 +111,8 @@ impl<J: Naming, R: Wait + Drop, A: Allocator> Registrar<J, R, A> {
         Ok(())
     }
 
-    /// Has the copy that windows no longer read take what is published too, so that the next publication has only its own
-    /// changes to take. Where there is no memory for that, the next publication does it. It waits for windows that are
-    /// looking.
+    /// Brings the copy that windows no longer read up to date, so that the next publication adds only its own changes. If
+    /// there is no memory for that, the next publication does it. It waits for windows that are looking.
     fn catch_up(&mut self)
         requires shown { Handles.pending self.old.writer ≡ [] }
         ensures published { published self.new ≡ published self.old }
@@ -122,10 +121,12 @@ impl<J: Naming, R: Wait + Drop, A: Allocator> Registrar<J, R, A> {
         let _refused = self.writer.publish();
     }
 
-    /// Publishes all pending changes at once, and waits for windows that are looking. Where none is pending it does
-    /// nothing, and the notice tells what was published before.
+    /// Publishes all pending changes at once, and waits for windows that are looking. If none is pending, it does nothing,
+    /// and the notice has the changes that were published earlier.
     ///
-    /// It answers `AllocError` where there is no memory to publish them; then none is published, and they stay pending.
+    /// # Errors
+    ///
+    /// There is no memory to publish them. None is published, and all stay pending.
     pub fn publish(&mut self) -> Result<Notice<J>, AllocError>
         ensures published { MatchResult result
             (λ _. published self.new ≡ published self.old ++ pending self.old)
@@ -145,22 +146,22 @@ impl<J: Naming, R: Wait + Drop, A: Allocator> Registrar<J, R, A> {
         Ok(Notice::new(self.published.again()))
     }
 
-    /// How many users the published changes name.
+    /// The number of users that the published changes name.
     pub fn user_count(&self) -> usize
         ensures { result ≡ length (users_of (published self.now)) }
     {
         self.writer.published().count()
     }
 
-    /// The user at this place, counted from 0, of the order in which the published changes first named them, and how it
-    /// stands; `None` behind the last.
+    /// The user at this place, counted from 0, in the order in which the published changes first named them, and its
+    /// standing; `None` after the last.
     pub fn user(&self, place: usize) -> Option<(Name, Standing)>
         ensures { result ≡ slice_get (users_of (published self.now)) place }
     {
         self.writer.published().user(place)
     }
 
-    /// Ends the directory. Pending changes are lost, and what its windows answer afterwards is left open. It waits for
+    /// Ends the directory. Pending changes are lost, and the later answers of its windows are left open. It waits for
     /// windows that are looking.
     pub fn close(self) {
         let Registrar { writer, .. } = self;

@@ -4,7 +4,7 @@ ghost use Rattle.nmvs_directory.specs.Users.{standing_after};
 use crate::Effect;
 use nmvs_rules::Actor;
 
-/// How a user stands after the changes that name it.
+/// The standing of a user after the changes that name it.
 #[derive(Clone, Copy, Debug, PartialEq, Eq)]
 pub enum Standing {
     /// The last change enrolled it as this actor.
@@ -16,7 +16,7 @@ pub enum Standing {
 }
 
 impl Standing {
-    /// How a user stands after one change more, which has this effect.
+    /// The standing of a user after one more change, which has this effect.
     pub(crate) fn after(was: Option<Standing>, effect: Effect) -> Standing
         ensures { result ≡ standing_after was effect }
     {

@@ -12,7 +12,7 @@ use std::alloc::{AllocError, Allocator};
 use std::hash::{BuildHasherDefault, FoldHasher};
 use std::marker::Model;
 
-/// How each user stands after the changes that name it. Contracts see the changes, of which no list is kept.
+/// The standing of each user after the changes that name it. Contracts see the changes, of which no list is kept.
 #[derive(Drop)]
 pub struct Users<J: Naming, A: Allocator> {
     standings: IndexMap<Name, Standing, BuildHasherDefault<FoldHasher>, A>,
@@ -57,7 +57,7 @@ impl<J: Naming, A: Allocator> Users<J, A> {
         &self.history
     }
 
-    /// The last change that names the user decides.
+    /// The answer about a user. The last change that names the user decides.
     pub fn look(&self, user: &Name) -> Look
         ensures { result ≡ known self.now user.now }
     {
@@ -69,14 +69,14 @@ impl<J: Naming, A: Allocator> Users<J, A> {
         }
     }
 
-    /// How many users the changes name.
+    /// The number of users that the changes name.
     pub fn count(&self) -> usize
         ensures { result ≡ length (users_of self.now) }
     {
         self.standings.len()
     }
 
-    /// The user at this place of the order in which the changes first named them, and how it stands.
+    /// The user at this place in the order in which the changes first named them, and its standing.
     pub fn user(&self, place: usize) -> Option<(Name, Standing)>
         ensures { result ≡ slice_get (users_of self.now) place }
     {

@@ -11,8 +11,8 @@ use nmvs_identifier::Name;
 use std::alloc::Allocator;
 use std::marker::Model;
 
-/// It shows the published users, by no fewer changes than it saw before or was told of. Contracts see those changes,
-/// oldest first.
+/// It shows the published users, by no fewer changes than it saw before or learned of. Contracts see those changes, oldest
+/// first.
 #[derive(Drop)]
 pub struct Window<J: Naming, A: Allocator> {
     handle: ReadHandle<Users<J, A>, A>,
@@ -35,7 +35,7 @@ impl<J: Naming, A: Allocator> Window<J, A> {
         Window { handle, seen }
     }
 
-    /// From now on the window sees no fewer changes than the notice tells. It waits for nobody.
+    /// From now on the window sees no fewer changes than the notice has. It waits for nobody.
     pub fn learn(&mut self, notice: &Notice<J>)
         ensures longer { (self.new ≡ self.old) ⊎ (self.new ≡ notice.now) }
         ensures seen { IsPrefix self.old self.new }
@@ -46,15 +46,15 @@ impl<J: Naming, A: Allocator> Window<J, A> {
         }
     }
 
-    /// The last change that names the user decides, by a list that begins with all that the window saw or was told; or
-    /// the answer is `Closed`, and the window has seen no more than before. It waits for nobody.
+    /// The answer about a user. The last change that names the user decides, in a list that begins with all that the window
+    /// saw or learned of. Or the answer is `Closed`, and the window has seen no more than before. It waits for nobody.
     pub fn look(&mut self, user: &Name) -> Look
         ensures { Reads self.old self.new user.now result }
     {
         let Some(users) = self.handle.enter() else {
             return Look::Closed;
         };
-        // Each published copy begins with all that was published before, but the guard does not tell a proof so.
+        // Each published copy begins with all that was published before, but no clause of the guard says so.
         if !users.history().covers(&self.seen) {
             return Look::Closed;
         }

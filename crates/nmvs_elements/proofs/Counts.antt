@@ -1,4 +1,4 @@
--- How many elements a pack's code has, and how long they are.
+-- The number of elements of a pack's code, and their lengths.
 use Rattle.std.proofs.Common.{◌≡◌, ◌+◌, ◌*◌, ◌≤◌, ◌&&◌, not, ℕ, Bool, true, false, cond, eqb, nat_le, List, [], ◌∷◌, length, Option, Some, None, is_some, refl, sym, ap, ◌∙◌, subst, arith, eqb-true, eq-eqb, ne_eqb, leb-true}
 use Rattle.std.specs.List.{list_all, AllByRecursion}
 use Rattle.std.specs.Char.{is_ascii_digit}
@@ -14,7 +14,7 @@ use Rattle.nmvs_elements.specs.declared.elements.Elements.{Elements}
 use Rattle.nmvs_elements.specs.Elements.{Element, first_digits, predefined_length, is_value, is_value_byte, IsKnown, value_at, value_of, AreDistinct}
 use Rattle.nmvs_elements.specs.Scan.{HasNational, ArePack}
 
--- a value's length where it is predefined, and its most bytes
+-- a value's length if it is predefined, and its most bytes
 abbrev pub HasLength : Option ℕ → List ℕ → Type 0
 HasLength None v = Unit {0}
 HasLength (Some n) v = length v ≡ n
@@ -26,13 +26,13 @@ longest_value identifiers.Batch = 20
 longest_value identifiers.Expiry = 6
 longest_value (identifiers.NationalNumber n) = 20
 
--- what a value in its grammar is, as far as its end goes
+-- the facts about a value in its grammar that decide its end
 pub record IsWhole (identifier : ApplicationIdentifier) (v : List ℕ) : Type 0 where
   pub one_piece : list_all is_value_byte v ≡ true
   pub sized : HasLength (predefined_length identifier) v
   pub short : length v ≤ longest_value identifier
 
--- where a separator fails a test, who passes it has none
+-- if a separator fails a test, bytes that pass it have no separator
 pub no_separators : (test : ℕ → Bool) (v : List ℕ) → test 29 ≡ false → list_all test v ≡ true → list_all is_value_byte v ≡ true
 no_separators test [] fails all = refl
 no_separators test (b ∷ bs) fails all =
@@ -98,7 +98,7 @@ pack_value nation values pack identifiers.Expiry v is known found = same_value (
 pack_value nation values pack (identifiers.NationalNumber n) v is known found =
     national_value n values pack.national v (subst (λ (o : Option National). HasNational o values pack.national) known is.national) found
 
--- what holds of each value that is found holds of each element of distinct ones
+-- a property of each value that is found holds of each element of distinct ones
 pub each_value : (P : ApplicationIdentifier → List ℕ → Type 0) (nation : Option National) (es : List Element) → AllByRecursion (λ (e : Element). IsKnown nation e.identifier) es → AreDistinct es
     → ((identifier : ApplicationIdentifier) (v : List ℕ) → IsKnown nation identifier → value_of es identifier ≡ Some v → P identifier v) → AllByRecursion (λ (e : Element). P e.identifier e.value) es
 each_value P nation [] known once holds = tt
@@ -133,7 +133,7 @@ absent digits es none = ap (λ (o : Option (List ℕ)). cond (is_some o) 1 0) no
 pub present : (digits : ℕ) (es : List Element) (v : List ℕ) → value_at digits es ≡ Some v → stands digits es ≡ 1
 present digits es v found = ap (λ (o : Option (List ℕ)). cond (is_some o) 1 0) found
 
--- the elements, counted by what they are
+-- the number of elements, counted by their identifiers
 abbrev pub count : List Element → ℕ
 count es = stands 1 es + stands 21 es + stands 10 es + stands 17 es + stands 71 es
 
@@ -162,12 +162,12 @@ room_more identifiers.Batch v es none = omega (arith, absent 10 es none)
 room_more identifiers.Expiry v es none = omega (arith, absent 17 es none)
 room_more (identifiers.NationalNumber n) v es none = omega (arith, absent 71 es none)
 
--- distinct elements are as many as are counted
+-- the number of distinct elements is this count
 pub count_all : (es : List Element) → AreDistinct es → length es ≡ count es
 count_all [] once = refl
 count_all (e ∷ es) once = omega (arith, count_all es once.1, count_more e.identifier e.value es once.0)
 
--- a national number stands only where a nation has one
+-- a national number stands there only if a nation has one
 no_national : (es : List Element) → AllByRecursion (λ (e : Element). IsKnown None e.identifier) es → value_at 71 es ≡ None
 no_national [] known = refl
 no_national (e ∷ es) known = not_national e.identifier e.value es known.0 (no_national es known.1)
@@ -189,7 +189,7 @@ national_stands None es number known has = absent 71 es (no_national es known)
 national_stands (Some n) es None known has = absurd has
 national_stands (Some n) es (Some t) known has = present 71 es t.bytes has.0
 
--- so all codes of packs have as many
+-- so all codes of packs have the same number of elements
 pub pack_count : (nation : Option National) (es : List Element) (pack : Elements) → AllByRecursion (λ (e : Element). IsKnown nation e.identifier) es → AreDistinct es → ArePack nation (value_of es) pack
     → length es ≡ 4 + national_count nation
 pack_count nation es pack known once is =

@@ -10,7 +10,7 @@ use Rattle.nmvs_elements.specs.Front.{IsValueBefore}
 use Rattle.nmvs_elements.specs.Scan.{IsShort}
 use Rattle.nmvs_elements.proofs.Runs.{same_values}
 
--- the number that two digits write
+-- the number of two digits
 abbrev pub digits_of : List ℕ → ℕ
 digits_of bytes = 10 * (get_or bytes 0 0 - 48) + (get_or bytes 1 0 - 48)
 
@@ -55,7 +55,7 @@ by_digits nation (identifiers.NationalNumber m) (identifiers.NationalNumber n) k
 pub same_identifier : (nation : Option National) (i j : ApplicationIdentifier) (x y : List ℕ) → IsKnown nation i → IsKnown nation j → identifier_text i ++ x ≡ identifier_text j ++ y → i ≡ j
 same_identifier nation i j x y k l e = by_digits nation i j k l (sym (digits_printed i x) ∙ ap digits_of e ∙ digits_printed j y)
 
--- and what is behind it is the same
+-- and the bytes after it are the same
 pub same_content : (i j : ApplicationIdentifier) (x y : List ℕ) → i ≡ j → identifier_text i ++ x ≡ identifier_text j ++ y → x ≡ y
 same_content i j x y same e = append_cancel_left (identifier_text j) x y (ap (λ (k : ApplicationIdentifier). identifier_text k ++ x) (sym same) ∙ e)
 
@@ -80,7 +80,7 @@ pub skip_shorter : (bytes : List ℕ) → length (skip_separator bytes) ≤ leng
 skip_shorter [] = omega arith
 skip_shorter (b ∷ bs) = elim (eqb b 29) as (λ t. length (cond t bs (b ∷ bs)) ≤ length (b ∷ bs)) [ true ↦ omega arith | false ↦ omega arith ]
 
--- what is behind an element is shorter
+-- the rest after an element is shorter
 pub behind_shorter : (nation : Option National) (bytes : List ℕ) (e : Element) (rest : List ℕ) → BeginsWith nation bytes e rest → length rest + 2 ≤ length bytes
 behind_shorter nation bytes e rest is =
     omega (arith, ap length is.these, identifier_long e.identifier (e.value ++ is.behind), length-append e.value is.behind, ap length is.skipped, skip_shorter is.behind)
@@ -90,7 +90,7 @@ elements_shorter nation bytes [] rest these = omega (arith, ap length these)
 elements_shorter nation bytes (e ∷ es) rest these =
     omega (arith, behind_shorter nation bytes e these.0 these.1, elements_shorter nation these.0 es rest these.2)
 
--- one element more
+-- one more element
 pub one_more : (nation : Option National) (bytes : List ℕ) (es : List Element) (rest : List ℕ) (e : Element) (behind : List ℕ) → BeginsWithElements nation bytes es rest → BeginsWith nation rest e behind
     → BeginsWithElements nation bytes (es ++ e ∷ []) behind
 one_more nation bytes [] rest e behind these begins = (behind, subst (λ (y : List ℕ). BeginsWith nation y e behind) (sym these) begins, refl)
@@ -130,7 +130,7 @@ distinct_more (d ∷ es) e once none =
     other : (a b : ℕ) (v : List ℕ) (o : Option (List ℕ)) → eqb b a ≡ false → cond (eqb a b) (Some v) o ≡ o
     other a b v o apart = ap (λ t. cond t (Some v) o) (ne_eqb a b (λ same. eqb-false b a apart (sym same)))
 
--- an identifier, a value and what is behind it are an element
+-- an identifier, a value and the bytes after it are an element
 pub begins : (nation : Option National) (bytes content : List ℕ) (identifier : ApplicationIdentifier) (value behind rest : List ℕ) → IsKnown nation identifier → bytes ≡ identifier_text identifier ++ content
     → IsValueBefore (predefined_length identifier) content value behind → rest ≡ skip_separator behind → BeginsWith nation bytes (record { identifier = identifier; value = value }) rest
 begins nation bytes content identifier value behind rest known these is skipped = record {
@@ -142,7 +142,7 @@ begins nation bytes content identifier value behind rest known these is skipped 
   skipped = skipped;
 }
 
--- an identifier without a whole value behind it
+-- an identifier without a whole value after it
 pub short : (nation : Option National) (bytes content : List ℕ) (identifier : ApplicationIdentifier) → IsKnown nation identifier → bytes ≡ identifier_text identifier ++ content
     → ((value behind : List ℕ) → IsValueBefore (predefined_length identifier) content value behind → ⊥) → IsShort nation bytes identifier
 short nation bytes content identifier known these none = record {

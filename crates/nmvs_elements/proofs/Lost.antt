@@ -25,7 +25,7 @@ covers (x ∷ front) rest (y ∷ w) behind pf pw sb e =
     let tails : front ++ rest ≡ w ++ behind = cc in
     covers front rest w behind ((and_parts (is_value_byte x) (list_all is_value_byte front) pf).1) ((and_parts (is_value_byte y) (list_all is_value_byte w) pw).1) sb tails
 
--- what is behind a run in a printed text is a printed text of fewer elements
+-- the bytes after a run in a printed text are a printed text of fewer elements
 record IsLater (nation : Option National) (ps : List Printed) (behind : List ℕ) : Type 0 where
   pub later : List Printed
   pub these : skip_separator behind ≡ printed_text later
@@ -54,7 +54,8 @@ swallowed nation (p ∷ ps) w behind fine pw sb e =
         let is = later more.0 more.1 more.2 in
         record { later = is.later; these = is.these; fine = is.fine; fewer = omega (arith, is.fewer) }
 
--- behind an element that is read stands what was printed behind it, or, where it lost its separator, what is behind the elements that it swallowed
+-- the bytes after an element that is read are those printed after it, or, if it lost its separator, those after the elements
+-- that it took in
 record IsNext (nation : Option National) (predefined : Option ℕ) (b : Bool) (ps : List Printed) (behind : List ℕ) : Type 0 where
   pub later : List Printed
   pub these : skip_separator behind ≡ printed_text later
@@ -82,7 +83,7 @@ lack_later : (p : Printed) (ps : List Printed) → LackSeparators (p ∷ ps) →
 lack_later p [] lack = absurd lack
 lack_later p (q ∷ ps) lack = (omega arith, lack)
 
--- no more elements are read than were printed, and fewer where a separator was lost
+-- no more elements are read than were printed, and fewer if a separator was lost
 fewer_read : (n : ℕ) (nation : Option National) (ps : List Printed) (fs : List Element) → length ps ≤ n → AllByRecursion (IsFine nation) ps → BeginsWithElements nation (printed_text ps) fs []
     → (length fs ≤ length ps) × (LackSeparators ps → length fs < length ps)
 fewer_read n nation ps [] within fine reads = (omega arith, λ lack. lacks_some ps lack)

@@ -13,7 +13,7 @@ use Rattle.nmvs_elements.specs.Elements.{Element, first_digits, required, skip_s
 use Rattle.nmvs_elements.specs.Scan.{Stop, StopsAt, HasNational, ArePack, ReadsBy, ReadsStop, ReadsString, ReadsBehind, ReadsScan, is_missing, has_wrong, at_end, at_unknown, at_short, at_repeated}
 use Rattle.nmvs_elements.proofs.ElementFacts.{same_identifier, one_element, behind_shorter, identifier_long, taken}
 
--- of two readings of bytes, one goes on where the other ends
+-- of two readings of bytes, one goes on at the end of the other
 meet : (nation : Option National) (bytes : List ℕ) (es fs : List Element) (r s : List ℕ) → BeginsWithElements nation bytes es r → BeginsWithElements nation bytes fs s
     → ((after : List Element) × (fs ≡ es ++ after) × BeginsWithElements nation r after s) ⊎ ((after : List Element) × (es ≡ fs ++ after) × BeginsWithElements nation s after r)
 meet nation bytes [] fs r s a b = inl (fs, refl, subst (λ (y : List ℕ). BeginsWithElements nation y fs s) a b)
@@ -37,7 +37,7 @@ distinct_before (d ∷ es) e after once =
     let apart = ne_eqb (first_digits e.identifier) (first_digits d.identifier) (λ same. is_there (first_digits d.identifier) es e after (sym same) once.0) in
     ap (λ t. cond t (Some d.value) (value_of es e.identifier)) apart ∙ distinct_before es e after once.1
 
--- where reading stops, an element begins only if it repeats one
+-- an element begins at the end of a reading only if it repeats one
 repeats : (nation : Option National) (es : List Element) (rest : List ℕ) (stop : Stop) (e : Element) (behind : List ℕ) → StopsAt nation es rest stop → BeginsWith nation rest e behind
     → (stop ≡ at_repeated e.identifier) × (value_of es e.identifier ≢ None)
 repeats nation es rest at_end e behind stops begins = absurd (omega (arith, ap length stops, behind_shorter nation rest e behind begins))
@@ -106,7 +106,7 @@ one_end nation size es rest at_unknown r s a b = a ∙ sym b
 one_end nation size es rest (at_short i) r s a b = a ∙ sym b
 one_end nation size es rest (at_repeated i) r s a b = a ∙ sym b
 
--- where one reading ends as the other does, both are one
+-- if one reading ends at the end of the other, both are one
 same_end : (nation : Option National) (size : ℕ) (es fs : List Element) (rest end : List ℕ) (p q : Stop) (r s : Result Elements ScanFault) → es ≡ fs → rest ≡ end → StopsAt nation es rest p → StopsAt nation fs end q
     → ReadsStop nation size es rest p r → ReadsStop nation size fs end q s → r ≡ s
 same_end nation size es fs rest end p q r s same left a b reads reads_too =

@@ -1,4 +1,4 @@
--- What is read as a pack.
+-- Strings and scans that are read as a pack.
 use Rattle.std.proofs.Common.{◌≡◌, ◌++◌, ℕ, Bool, true, false, cond, eqb, List, [], ◌∷◌, length, take, drop, Option, Some, None, IfSome, Result, Ok, Err, nat_lt, refl, sym, ap, ◌∙◌, subst, take-append-drop, codes}
 use Rattle.std.specs.List.{find, list_any}
 use Rattle.std.specs.Str.{bytes_eq}
@@ -57,7 +57,7 @@ scan_read nation scan pack reads =
     let opened = opened_read nation (length scan) (cond (nat_lt longest_scan (length scan)) (Err faults.Long) (behind_symbology scan)) pack reads in
     (opened.0, not_long (nat_lt longest_scan (length scan)) (behind_symbology scan) opened.0 opened.1, opened.2)
 
--- a piece of what is behind a front is a piece of the whole
+-- a piece of the bytes after a front is a piece of the whole
 piece_behind : (bytes front rest v : List ℕ) → bytes ≡ front ++ rest → IsPiece rest v → IsPiece bytes v
 piece_behind bytes front rest v these is = (front ++ is.0, is.1, these ∙ ap (λ y. front ++ y) is.2 ∙ sym (append_assoc front is.0 (v ++ is.1)))
 
@@ -92,7 +92,7 @@ opened_front false false false scan string e =
     let same : scan ≡ string = cc in
     ([], same)
 
--- what is read as a pack's values are pieces of the scan
+-- the values that are read as a pack's are pieces of the scan
 pub pieces : ValuesArePieces
 pieces nation scan pack reads =
     let read = scan_read nation scan pack reads in

@@ -68,7 +68,7 @@ later_separated : (p : Printed) (ps : List Printed) → AreSeparated (p ∷ ps) 
 later_separated p [] are = tt
 later_separated p (q ∷ ps) are = are.1
 
--- a value ends where a separator stands behind it, where it needs one
+-- a value ends if a separator stands after it, or if it needs none
 ends_printed : (predefined : Option ℕ) (v : List ℕ) (b : Bool) (ps : List Printed) → HasLength predefined v → (0 < length ps → IsNeeded predefined b) → EndsValue predefined v (separator_where b ++ printed_text ps)
 ends_printed (Some n) v b ps sized needed = sized
 ends_printed None v true ps sized needed = refl
@@ -95,7 +95,7 @@ printed_reads nation (p ∷ ps) fine are = (
   printed_reads nation ps fine.1 (later_separated p ps are),
 )
 
--- how long it is
+-- its length
 room_fits : (i : ApplicationIdentifier) → length (identifier_text i) + longest_value i + 1 ≤ room_of i
 room_fits identifiers.Code = omega arith
 room_fits identifiers.Serial = omega arith

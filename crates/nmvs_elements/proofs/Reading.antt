@@ -41,7 +41,7 @@ goes_on nation bytes found more rest identifier value behind so begins fresh set
           ∙ sym (value_at_more (first_digits other) so.elements e none);
     }
 
--- the rest is no longer than what was there
+-- the rest is no longer than the bytes
 pub rest_within : (nation : Option National) (bytes : List ℕ) (found : Found) (rest : List ℕ) → HasFound nation bytes found rest → length rest ≤ length bytes
 rest_within nation bytes found rest so = omega (arith, elements_shorter nation bytes so.elements rest so.these)
 
@@ -64,7 +64,7 @@ stops_repeated nation size bytes found rest identifier value behind so begins be
   reads = refl;
 }
 
--- where nothing was read, as much is left as there was
+-- all bytes are left exactly if no element was read
 pub unknown_told : (nation : Option National) (bytes : List ℕ) (es : List Element) (rest : List ℕ) (place : ℕ) → BeginsWithElements nation bytes es rest
     → cond (eqb (length rest) (length bytes)) faults.NoElement (faults.Element place) ≡ unknown_fault es place
 unknown_told nation bytes [] rest place these = ap (λ t. cond t faults.NoElement (faults.Element place)) (same_length (length rest) (length bytes) (ap length (sym these)))

@@ -1,4 +1,4 @@
--- Values without separators, and what is behind them.
+-- Values without separators, and the bytes after them.
 use Rattle.std.proofs.Common.{◌≡◌, ◌<◌, ◌≤◌, ◌+◌, ◌==◌, ◌&&◌, ℕ, zero, suc, Bool, true, false, not, List, [], ◌∷◌, ◌++◌, length, get_or, take, drop, Option, Some, None, refl, sym, ap, ◌∙◌, subst, arith, take-append-drop, length-take-le}
 use Rattle.std.specs.List.{list_all}
 use Rattle.std.specs.Option.{unwrap_or}
@@ -19,7 +19,7 @@ same_halves p q r s long e = (
   sym (drop_at p r (length p) refl) ∙ ap (drop (length p)) e ∙ drop_at q s (length p) (sym long),
 )
 
--- bytes are in one way a run without separators, and a separator or nothing behind it
+-- bytes are in one way a run without separators, and a separator or nothing after it
 pub same_runs : (v w b c : List ℕ) → list_all is_value_byte v ≡ true → list_all is_value_byte w ≡ true → IsSeparated b → IsSeparated c → v ++ b ≡ w ++ c → (v ≡ w) × (b ≡ c)
 same_runs [] [] b c pv pw sb sc e = (refl, e)
 same_runs [] (y ∷ w) [] c pv pw sb sc e = absurd cc
@@ -36,13 +36,13 @@ same_runs (x ∷ v) (y ∷ w) b c pv pw sb sc e =
     let later = same_runs v w b c ((and_parts (is_value_byte x) (list_all is_value_byte v) pv).1) ((and_parts (is_value_byte y) (list_all is_value_byte w) pw).1) sb sc tails in
     ((λ i. heads i ∷ later.0 i), later.1)
 
--- and in one way a value that ends by its length, or at a separator, and what is behind it
+-- and in one way a value that ends by its length, or at a separator, and the bytes after it
 pub same_values : (predefined : Option ℕ) (v w b c : List ℕ) → list_all is_value_byte v ≡ true → list_all is_value_byte w ≡ true → EndsValue predefined v b → EndsValue predefined w c → v ++ b ≡ w ++ c
     → (v ≡ w) × (b ≡ c)
 same_values (Some n) v w b c pv pw ev ew e = same_halves v w b c (ev ∙ sym ew) e
 same_values None v w b c pv pw ev ew e = same_runs v w b c pv pw ev ew e
 
--- a run without separators is no longer than what stands before a separator or the end
+-- a run without separators is no longer than the bytes before a separator or the end
 pub no_longer : (v w b c : List ℕ) → list_all is_value_byte v ≡ true → IsSeparated c → v ++ b ≡ w ++ c → length w < length v → ⊥
 no_longer [] w b c pv sc e long = omega arith
 no_longer (x ∷ v) [] b [] pv sc e long = cc
@@ -79,7 +79,7 @@ shorter_run bytes m n short within all =
     ∙ (and_parts (list_all is_value_byte (take m (take n bytes))) (list_all is_value_byte (drop m (take n bytes)))
     (sym (list_all-append is_value_byte (take m (take n bytes)) (drop m (take n bytes))) ∙ parts)).0
 
--- the content is a value and what is behind it, where it has as many bytes before a separator
+-- the content is a value and the bytes after it, if it has as many bytes before a separator
 pub value_before : (predefined : Option ℕ) (content value behind : List ℕ) (stop size : ℕ) → stop ≤ length content → list_all is_value_byte (take stop content) ≡ true → IsSeparated (drop stop content)
     → size ≡ unwrap_or predefined stop → size ≤ stop → value ≡ take size content → behind ≡ drop size content → IsValueBefore predefined content value behind
 value_before predefined content value behind stop size within run separated sized short front back = record {

@@ -12,7 +12,7 @@ use Rattle.nmvs_identifier.specs.Characters.{is_in_set_82, is_set_82_text, chara
 use Rattle.nmvs_identifier.specs.Expiry.{is_expiry, has_month, has_day}
 use Rattle.nmvs_identifier.specs.ProductCode.{is_product_code, is_checked}
 
--- what is one of small numbers is small
+-- a number that is one of small numbers is small
 small_of : (b : ℕ) (xs : List ℕ) → list_all (λ x. ltb x 128) xs ≡ true → list_any (eqb b) xs ≡ true → b < 128
 small_of b [] small found = absurd cc
 small_of b (x ∷ xs) small found = here (eqb b x) refl found (λ (later : list_any (eqb b) xs ≡ true). small_of b xs parts.1 later)
@@ -43,7 +43,7 @@ not_true : (b : Bool) → (b ≡ true → ⊥) → b ≡ false
 not_true true h = absurd (h refl)
 not_true false h = refl
 
--- what is not UTF-8 is no value
+-- bytes that are not UTF-8 are no value
 pub no_text : (v : List ℕ) → (IsUtf8 v → ⊥) → is_set_82_text v ≡ false
 no_text v none =
     not_true (is_set_82_text v)

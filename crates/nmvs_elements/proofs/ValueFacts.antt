@@ -1,4 +1,4 @@
--- What values are read as.
+-- The readings of values.
 use Rattle.std.proofs.Common.{◌≡◌, ℕ, Bool, true, false, not, cond, List, [], ◌∷◌, Option, Some, None, is_none, Ok, Err, refl, sym, ap, ◌∙◌, subst}
 use Rattle.std.specs.List.{find}
 use Rattle.std.specs.Borrow.{Bor}
@@ -31,13 +31,13 @@ chosen false x o e = (refl, e)
 pub skipped : {A : Type 0} (test : A → Bool) (x : A) (xs : List A) → find test (x ∷ xs) ≡ None → (test x ≡ false) × (find test xs ≡ None)
 skipped test x xs e = chosen (test x) x (find test xs) e
 
--- where the first four pass no test
+-- if the first four pass no test
 pub past_four : (test : ApplicationIdentifier → Bool) (nation : Option National) → test identifiers.Code ≡ false → test identifiers.Serial ≡ false → test identifiers.Batch ≡ false → test identifiers.Expiry ≡ false
     → find test (required nation) ≡ find test (national_numbers nation)
 past_four test nation code serial batch expiry =
     skip test identifiers.Code (identifiers.Serial ∷ identifiers.Batch ∷ identifiers.Expiry ∷ national_numbers nation) code ∙ skip test identifiers.Serial (identifiers.Batch ∷ identifiers.Expiry ∷ national_numbers nation) serial ∙ skip test identifiers.Batch (identifiers.Expiry ∷ national_numbers nation) batch ∙ skip test identifiers.Expiry (national_numbers nation) expiry
 
--- where nothing is missing, each is there
+-- if nothing is missing, each value is there
 pub record AreThere (nation : Option National) (values : ApplicationIdentifier → Option (List ℕ)) : Type 0 where
   pub code : is_missing values identifiers.Code ≡ false
   pub serial : is_missing values identifiers.Serial ≡ false
@@ -87,7 +87,7 @@ none_wrong nation values pack is =
     national (Some n) None has = absurd has
     national (Some n) (Some number) has = skip (has_wrong values) (identifiers.NationalNumber n) [] (right_there (identifiers.NationalNumber n) _ _ has.0 has.1)
 
--- what is read where one is missing, where one is wrong, and where all are a pack's
+-- the reading if a value is missing, if one is wrong, and if all are a pack's
 pub reads_missing : (nation : Option National) (values : ApplicationIdentifier → Option (List ℕ)) (identifier : ApplicationIdentifier) → find (is_missing values) (required nation) ≡ Some identifier
     → ReadsValues nation values (Err (faults.Missing identifier))
 reads_missing nation values identifier e =

@@ -1,5 +1,5 @@
--- Element strings: elements that follow one another, each an application identifier and a value (GS1 General Specifications, section
--- 3.2), of which the code of a pack has a few (Article 4 of the Regulation).
+-- Element strings: elements that follow one another, each an application identifier and a value (GS1 General
+-- Specifications, section 3.2). The code of a pack has a few of them (Article 4 of the Regulation).
 use Rattle.std.specs.Prelude.{◌≡◌, ◌++◌, ◌==◌, not, ℕ, Bool, List, [], ◌∷◌, length, Option, Some, None, codes, IsTrue, if◌then◌else◌}
 use Rattle.std.specs.List.{list_all}
 use Rattle.nmvs_identifier.specs.Batch.{is_batch}
@@ -19,7 +19,7 @@ pub record Element : Type 0 where
 abbrev pub separator : ℕ
 separator = 29
 
--- how an application identifier is printed
+-- the printed text of an application identifier
 abbrev pub identifier_text : ApplicationIdentifier → List ℕ
 identifier_text identifiers.Code = codes "01"
 identifier_text identifiers.Serial = codes "21"
@@ -27,7 +27,7 @@ identifier_text identifiers.Batch = codes "10"
 identifier_text identifiers.Expiry = codes "17"
 identifier_text (identifiers.NationalNumber nation) = codes "71" ++ nation.digit ∷ []
 
--- the number that its first two digits write
+-- the number of its first two digits
 abbrev pub first_digits : ApplicationIdentifier → ℕ
 first_digits identifiers.Code = 1
 first_digits identifiers.Serial = 21
@@ -35,7 +35,7 @@ first_digits identifiers.Batch = 10
 first_digits identifiers.Expiry = 17
 first_digits (identifiers.NationalNumber nation) = 71
 
--- how long the values of predefined length are (section 7.8)
+-- the length of an element's values, if it is predefined (section 7.8)
 abbrev pub predefined_length : ApplicationIdentifier → Option ℕ
 predefined_length identifiers.Code = Some 14
 predefined_length identifiers.Serial = None
@@ -59,7 +59,7 @@ IsKnown nation identifiers.Batch = Unit {0}
 IsKnown nation identifiers.Expiry = Unit {0}
 IsKnown nation (identifiers.NationalNumber n) = nation ≡ Some n
 
--- each of them, in the order in which one that is missing is told
+-- each of them, in the order in which a missing one is reported
 abbrev pub national_numbers : Option National → List ApplicationIdentifier
 national_numbers None = []
 national_numbers (Some nation) = identifiers.NationalNumber nation ∷ []
@@ -71,22 +71,22 @@ required nation = identifiers.Code ∷ identifiers.Serial ∷ identifiers.Batch 
 abbrev pub is_value_byte : ℕ → Bool
 is_value_byte b = not (b == separator)
 
--- a value that ends at a separator has one behind it, or nothing
+-- a value that ends at a separator has one after it, or nothing
 abbrev pub IsSeparated : List ℕ → Type 0
 IsSeparated [] = Unit {0}
 IsSeparated (b ∷ bs) = b ≡ separator
 
--- where a value ends: by its length, or at a separator
+-- the end of a value: by its length, or at a separator
 abbrev pub EndsValue : Option ℕ → List ℕ → List ℕ → Type 0
 EndsValue (Some predefined) value behind = length value ≡ predefined
 EndsValue None value behind = IsSeparated behind
 
--- what is behind one separator, where one stands there
+-- the bytes after one separator, if one stands there
 abbrev pub skip_separator : List ℕ → List ℕ
 skip_separator [] = []
 skip_separator (b ∷ bs) = if b == separator then bs else b ∷ bs
 
--- the bytes begin with an element, and the rest is behind it
+-- the bytes begin with an element, and the rest is after it
 pub record BeginsWith (nation : Option National) (bytes : List ℕ) (e : Element) (rest : List ℕ) : Type 0 where
   pub behind : List ℕ
   pub these : bytes ≡ identifier_text e.identifier ++ (e.value ++ behind)
@@ -95,7 +95,7 @@ pub record BeginsWith (nation : Option National) (bytes : List ℕ) (e : Element
   pub ends : EndsValue (predefined_length e.identifier) e.value behind
   pub skipped : rest ≡ skip_separator behind
 
--- the bytes begin with these elements, and the rest is behind them
+-- the bytes begin with these elements, and the rest is after them
 abbrev pub BeginsWithElements : Option National → List ℕ → List Element → List ℕ → Type 0
 BeginsWithElements nation bytes [] rest = bytes ≡ rest
 BeginsWithElements nation bytes (e ∷ es) rest = (behind : List ℕ) × BeginsWith nation bytes e behind × BeginsWithElements nation behind es rest

@@ -11,7 +11,7 @@ abbrev pub now_of : Option (Bor (List ℕ)) → Option (List ℕ)
 now_of None = None
 now_of (Some value) = Some value.now
 
--- the value of an element, where it was found
+-- the value of an element, if it was found
 abbrev pub found_at : Found → ApplicationIdentifier → Option (List ℕ)
 found_at found identifiers.Code = now_of found.code
 found_at found identifiers.Serial = now_of found.serial

@@ -7,7 +7,7 @@ use Rattle.nmvs_elements.specs.declared.fault.ScanFault.{ScanFault}
 use Rattle.nmvs_elements.specs.Elements.{Element, separator, identifier_text, predefined_length, IsKnown, AreDistinct, value_of}
 use Rattle.nmvs_elements.specs.Scan.{ArePack, ReadsScan, symbologies}
 
--- an element as it is printed: whether a separator stands behind it
+-- an element as it is printed, and whether a separator stands after it
 pub record Printed : Type 0 where
   pub element : Element
   pub separated : Bool
@@ -23,7 +23,8 @@ printed_text (p ∷ ps) = identifier_text p.element.identifier ++ (p.element.val
 abbrev pub elements_of : List Printed → List Element
 elements_of ps = map (λ p. p.element) ps
 
--- whether a separator that is needed stands there: behind a value that is not of predefined length, where more follows (section 7.8)
+-- whether a separator that is needed stands there: after a value whose length is not predefined, if more follows (section
+-- 7.8)
 abbrev pub IsNeeded : Option ℕ → Bool → Type 0
 IsNeeded (Some predefined) stands = Unit {0}
 IsNeeded None stands = stands ≡ true
@@ -77,7 +78,7 @@ LostSeparatorsAreSeen = (nation : Option National) (symbology : List ℕ) (separ
 abbrev pub OneReading : Type 0
 OneReading = (nation : Option National) (scan : List ℕ) (r s : Result Elements ScanFault) → ReadsScan nation scan r → ReadsScan nation scan s → r ≡ s
 
--- what is read is a piece of the scan
+-- a value is a piece of the scan
 abbrev pub IsPiece : List ℕ → List ℕ → Type 0
 IsPiece scan value = (front : List ℕ) × (back : List ℕ) × (scan ≡ front ++ (value ++ back))
 

@@ -1,4 +1,4 @@
--- How a scan is read: what a reader sends of the two-dimensional code of a pack.
+-- The reading of scans: the bytes that a reader sends of the two-dimensional code of a pack.
 use Rattle.std.specs.Prelude.{◌≡◌, ◌≢◌, ◌++◌, ◌-◌, not, ℕ, Bool, false, List, [], ◌∷◌, length, take, drop, nat_lt, Option, Some, None, is_none, Result, Ok, Err, codes, IsTrue, if◌then◌else◌}
 use Rattle.std.specs.List.{find, list_any}
 use Rattle.std.specs.Str.{bytes_eq}
@@ -15,16 +15,17 @@ use Rattle.nmvs_elements.specs.declared.fault.ScanFault.{ScanFault}
 use Rattle.nmvs_elements.specs.declared.fault.ScanFault.TheVariants as faults
 use Rattle.nmvs_elements.specs.Elements.{Element, skip_separator, identifier_text, is_value, IsKnown, required, BeginsWith, BeginsWithElements, value_of, AreDistinct}
 
--- the most bytes of a scan (own): a symbology identifier, a separator, and each element with its longest value and a separator
+-- the most bytes of a scan (own): a symbology identifier, a separator, and each element with its longest value and a
+-- separator
 abbrev pub longest_scan : ℕ
 longest_scan = 100
 
--- the symbology identifiers of GS1 DataMatrix, GS1-128, GS1 QR Code and GS1 DataBar (ISO/IEC 15424; the table in chapter 5 of the GS1
--- General Specifications)
+-- the symbology identifiers of GS1 DataMatrix, GS1-128, GS1 QR Code and GS1 DataBar (ISO/IEC 15424; the table in chapter 5
+-- of the GS1 General Specifications)
 abbrev pub symbologies : List (List ℕ)
 symbologies = codes "]d2" ∷ codes "]C1" ∷ codes "]Q3" ∷ codes "]e0" ∷ []
 
--- what is behind the symbology identifier, where there is one; ]d1 is that of a Data Matrix that is none of GS1
+-- the bytes after the symbology identifier, if there is one; ]d1 is that of a Data Matrix that is none of GS1
 abbrev pub behind_symbology : List ℕ → Result (List ℕ) ScanFault
 behind_symbology scan =
     if list_any (bytes_eq (take 3 scan)) symbologies then Ok (drop 3 scan)
@@ -37,7 +38,7 @@ pub record IsUnknown (nation : Option National) (bytes : List ℕ) : Type 0 wher
   pub some : bytes ≢ []
   pub none : (identifier : ApplicationIdentifier) (content : List ℕ) → IsKnown nation identifier → bytes ≢ identifier_text identifier ++ content
 
--- an application identifier is here, and behind it there is no whole value
+-- an application identifier is here, and no whole value after it
 pub record IsShort (nation : Option National) (bytes : List ℕ) (identifier : ApplicationIdentifier) : Type 0 where
   pub content : List ℕ
   pub known : IsKnown nation identifier
@@ -62,7 +63,7 @@ is_wrong identifier (Some value) = not (is_value identifier value)
 abbrev pub has_wrong : (ApplicationIdentifier → Option (List ℕ)) → ApplicationIdentifier → Bool
 has_wrong values identifier = is_wrong identifier (values identifier)
 
--- the national number, where one is required
+-- the national number, if one is required
 abbrev pub HasNational : Option National → (ApplicationIdentifier → Option (List ℕ)) → Option Text → Type 0
 HasNational None values None = Unit {0}
 HasNational None values (Some number) = ⊥
@@ -81,7 +82,7 @@ pub record ArePack (nation : Option National) (values : ApplicationIdentifier �
   pub is_batch : IsTrue (is_batch pack.batch.bytes)
   pub is_expiry : IsTrue (is_expiry pack.expiry.bytes)
 
--- what values are read as, by the first that is missing and the first that is wrong
+-- the reading of values, by the first that is missing and the first that is wrong
 abbrev pub ReadsBy : Option ApplicationIdentifier → Option ApplicationIdentifier → Option National → (ApplicationIdentifier → Option (List ℕ)) → Result Elements ScanFault → Type 0
 ReadsBy (Some missing) wrong nation values result = result ≡ Err (faults.Missing missing)
 ReadsBy None (Some wrong) nation values result = result ≡ Err (faults.Value wrong)
@@ -91,7 +92,7 @@ abbrev pub ReadsValues : Option National → (ApplicationIdentifier → Option (
 ReadsValues nation values result =
     ReadsBy (find (is_missing values) (required nation)) (find (has_wrong values) (required nation)) nation values result
 
--- why reading stops behind elements
+-- the reason why reading stops after elements
 pub data Stop : Type 0 where
   at_end : Stop
   at_unknown : Stop
@@ -104,19 +105,19 @@ StopsAt nation es rest at_unknown = IsUnknown nation rest
 StopsAt nation es rest (at_short identifier) = IsShort nation rest identifier
 StopsAt nation es rest (at_repeated identifier) = IsRepeated nation es rest identifier
 
--- an unknown element is told by its place, and where it is the first, as no element
+-- the fault of an unknown element has its place, unless it is the first: then there is no element
 abbrev pub unknown_fault : List Element → ℕ → ScanFault
 unknown_fault [] place = faults.NoElement
 unknown_fault (e ∷ es) place = faults.Element place
 
--- what is read then, of a scan of this size
+-- the reading at this stop, of a scan of this size
 abbrev pub ReadsStop : Option National → ℕ → List Element → List ℕ → Stop → Result Elements ScanFault → Type 0
 ReadsStop nation size es rest at_end result = ReadsValues nation (value_of es) result
 ReadsStop nation size es rest at_unknown result = result ≡ Err (unknown_fault es (size - length rest))
 ReadsStop nation size es rest (at_short identifier) result = result ≡ Err (faults.Short identifier)
 ReadsStop nation size es rest (at_repeated identifier) result = result ≡ Err (faults.Twice identifier)
 
--- what is read of an element string, of a scan of this size: elements from the left, none of them twice, as far as they go
+-- the reading of an element string, in a scan of this size: elements from the left, none of them twice, as far as they go
 pub record ReadsString (nation : Option National) (size : ℕ) (bytes : List ℕ) (result : Result Elements ScanFault) : Type 0 where
   pub elements : List Element
   pub rest : List ℕ
@@ -126,7 +127,7 @@ pub record ReadsString (nation : Option National) (size : ℕ) (bytes : List ℕ
   pub stops : StopsAt nation elements rest stop
   pub reads : ReadsStop nation size elements rest stop result
 
--- what a scan is read as
+-- the reading of a scan
 abbrev pub ReadsBehind : Option National → ℕ → Result (List ℕ) ScanFault → Result Elements ScanFault → Type 0
 ReadsBehind nation size (Err fault) result = result ≡ Err fault
 ReadsBehind nation size (Ok string) result = ReadsString nation size (skip_separator string) result

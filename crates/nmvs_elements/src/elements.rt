@@ -54,6 +54,6 @@ pub struct Elements {
     pub serial: Serial,
     pub batch: Batch,
     pub expiry: Expiry,
-    /// The national number, where a nation asks for it.
+    /// The national number, if a nation asks for it.
     pub national: Option<NationalNumber>,
 }

@@ -16,7 +16,7 @@ pub(crate) struct Found<'a> {
     pub(crate) national: Option<&'a [u8]>,
 }
 
-/// None of them.
+/// No values.
 pub(crate) fn nothing_found<'a>() -> Found<'a>
     ensures { (identifier : ApplicationIdentifier) → found_at result identifier ≡ None }
 {
@@ -43,7 +43,7 @@ impl<'a> Found<'a> {
         }
     }
 
-    /// These, and this value of this element.
+    /// These values, and this one of this element.
     pub(crate) fn with(self, identifier: ApplicationIdentifier, value: &'a [u8]) -> Found<'a>
         ensures { (other : ApplicationIdentifier) → found_at result other
             ≡ (if first_digits other == first_digits identifier then Some value.entry.now else found_at self.entry other) }

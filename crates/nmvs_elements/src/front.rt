@@ -11,7 +11,7 @@ use memchr::memchr;
 /// FNC1, as a reader sends it.
 const SEPARATOR: u8 = 29;
 
-/// The application identifier and the value of the element at the front, and what is behind it and its separator. Where no
+/// The application identifier and the value of the element at the front, and the bytes after it and its separator. If no
 /// application identifier that is read stands there, the fault is `unknown`.
 pub(crate) fn first_element(
     bytes: &[u8],
@@ -30,7 +30,7 @@ pub(crate) fn first_element(
     Ok((identifier, value, behind_separator(behind)))
 }
 
-/// The application identifier at the front, where it is one that is read, and what is behind it.
+/// The application identifier at the front, if it is one that is read, and the bytes after it.
 fn split_identifier(
     bytes: &[u8],
     nation: Option<National>,
@@ -56,7 +56,7 @@ fn split_identifier(
     }
 }
 
-/// What is behind this digit, where the bytes begin with it.
+/// The bytes after this digit, if the bytes begin with it.
 fn behind_digit(bytes: &[u8], digit: u8) -> Option<&[u8]>
     ensures some { IfSome result (λ rest. bytes.now ≡ digit ∷ rest.now) }
     ensures none { IfNone result ((rest : List ℕ) → bytes.now ≢ digit ∷ rest) }
@@ -67,7 +67,7 @@ fn behind_digit(bytes: &[u8], digit: u8) -> Option<&[u8]>
     if *first == digit { Some(rest) } else { None }
 }
 
-/// How long the value of an element is, where its length is predefined.
+/// The length of the value of an element, if it is predefined.
 fn predefined_size(identifier: ApplicationIdentifier) -> Option<usize>
     ensures { result ≡ predefined_length identifier }
 {
@@ -80,7 +80,7 @@ fn predefined_size(identifier: ApplicationIdentifier) -> Option<usize>
     }
 }
 
-/// A value of this length, or one that ends at a separator or at the end, and what is behind it.
+/// A value of this length, or one that ends at a separator or at the end, and the bytes after it.
 fn split_value(content: &[u8], predefined: Option<usize>) -> Option<(&[u8], &[u8])>
     ensures some { IfSome result (λ split. IsValueBefore predefined content.now split.0.now split.1.now) }
     ensures none { IfNone result ((value behind : List ℕ) → IsValueBefore predefined content.now value behind → ⊥) }
@@ -93,7 +93,7 @@ fn split_value(content: &[u8], predefined: Option<usize>) -> Option<(&[u8], &[u8
     Some(content.split_at(size))
 }
 
-/// How many bytes stand before the first separator, or before the end.
+/// The number of bytes before the first separator, or before the end.
 fn value_end(content: &[u8]) -> usize
     ensures within { result ≤ length content.now }
     ensures one_piece { IsTrue (list_all is_value_byte (take result content.now)) }
@@ -105,7 +105,7 @@ fn value_end(content: &[u8]) -> usize
     }
 }
 
-/// What is behind one separator, where one stands at the front.
+/// The bytes after one separator, if one stands at the front.
 pub(crate) fn behind_separator(bytes: &[u8]) -> &[u8]
     ensures { result.now ≡ skip_separator bytes.now }
 {

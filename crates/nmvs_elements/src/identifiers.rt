@@ -8,12 +8,12 @@ use std::fmt;
 /// 716 (section 3.8).
 #[derive(Clone, Copy, Debug, PartialEq, Eq)]
 pub struct National {
-    /// The last digit of the application identifier.
+    /// The last digit of the application identifier, as an ASCII byte.
     pub(crate) digit: u8,
 }
 
 impl National {
-    /// The nation of an application identifier, where it is one of 710 to 716.
+    /// The nation of an application identifier, if it is one of 710 to 716.
     pub fn new(identifier: u16) -> Option<National>
         ensures in_range { IsSome result ↔ (710 ≤ identifier × identifier ≤ 716) }
         ensures value { IfSome result (λ nation. nation.digit + 662 ≡ identifier) }

@@ -1,8 +1,8 @@
 //! Scans of packs: the element strings of GS1 in the two-dimensional code of a pack.
 //!
-//! [`read_scan`] reads what a scanner sends of the code: application identifiers 01, 21, 10 and 17, each once and in any order,
-//! and the national number if a [`National`] asks for it. It refuses everything else, and never guesses: a scan that lost a
-//! separator is read as no other pack.
+//! [`read_scan`] reads a scan of the code. It takes application identifiers 01, 21, 10 and 17, each once and in any order,
+//! and the national number if a [`National`] asks for it. It refuses everything else, and never guesses: a scan that lost
+//! a separator is read as no other pack.
 //!
 //! It knows no other symbologies, and no other application identifiers.
 #![tactic(auto)]

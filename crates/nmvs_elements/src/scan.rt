@@ -1,4 +1,4 @@
-//! How a scan is read.
+//! The reading of scans.
 ghost use Rattle.std.specs.Prelude.{◌≡◌, ◌≤◌, ◌-◌, ◌==◌, length, IfOk, IfErr, MatchResult, [], Ok, Err, if◌then◌else◌};
 ghost use Rattle.nmvs_elements.specs.Found.{HasFound, found_at};
 ghost use Rattle.nmvs_elements.specs.Scan.{behind_symbology, ReadsString, ReadsValues, ReadsScan};
@@ -8,7 +8,7 @@ use crate::front::{behind_separator, first_element};
 use crate::values::elements_of;
 use crate::{Elements, National, ScanFault};
 
-/// The most bytes of a scan (own): no longer one is that of a pack.
+/// The most bytes of a scan (own): no pack's code has a longer one.
 pub const LONGEST_SCAN: usize = 100;
 
 /// Reads a scan of the two-dimensional code of a pack, as a reader sends it (GS1 General Specifications, sections 3.2, 7.8 and
@@ -23,7 +23,7 @@ pub fn read_scan(scan: &[u8], nation: Option<National>) -> Result<Elements, Scan
     elements_of(&find_elements(string, scan.len(), nation)?, nation)
 }
 
-/// What is behind the symbology identifier of a scan, where it has one of GS1.
+/// The bytes of a scan without its symbology identifier of GS1, if it has one.
 fn cut_symbology(scan: &[u8]) -> Result<&[u8], ScanFault>
     ensures cut { MatchResult result (λ rest. behind_symbology scan.now ≡ Ok rest.now) (λ fault. behind_symbology scan.now ≡ Err fault) }
     ensures within { IfOk result (λ rest. length rest.now ≤ length scan.now) }
@@ -39,7 +39,7 @@ fn cut_symbology(scan: &[u8]) -> Result<&[u8], ScanFault>
     }
 }
 
-/// The values of the elements that a string is, in a scan of so many bytes.
+/// The values of the elements in a string, which is part of a scan of `size` bytes.
 fn find_elements(
     string: &[u8],
     size: usize,
@@ -63,7 +63,7 @@ fn find_elements(
     Ok(found)
 }
 
-/// What an unknown element is told as, where so many bytes of the scan and of its string are left.
+/// The fault of an unknown element, if `left` bytes of the scan, and of its string of `length` bytes, are left.
 fn unknown_at(size: usize, length: usize, left: usize) -> ScanFault
     requires { left ≤ size }
     ensures { result ≡ (if left == length then ScanFault.NoElement else ScanFault.Element (size - left)) }

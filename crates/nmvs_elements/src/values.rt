@@ -14,7 +14,7 @@ use crate::found::Found;
 use crate::{ApplicationIdentifier, Elements, National, NationalNumber, ScanFault};
 use nmvs_identifier::{Batch, Expiry, ProductCode, Serial};
 
-/// The elements of a pack's code, where each value that is required was found, and is in its grammar.
+/// The elements of a pack's code, if each value that is required was found, and is in its grammar.
 pub(crate) fn elements_of(
     found: &Found<'_>,
     nation: Option<National>,
@@ -53,7 +53,7 @@ fn first_missing(found: &Found<'_>, nation: Option<National>) -> Option<Applicat
     None
 }
 
-/// The elements, where each value is in its grammar, or else the first that is not.
+/// The elements, if each value is in its grammar, or else the first that is not.
 fn read_values(
     found: &Found<'_>,
     nation: Option<National>,
@@ -125,7 +125,7 @@ fn national_number_of(value: Option<&[u8]>) -> Option<NationalNumber>
     NationalNumber::read(text_of(value)?)
 }
 
-/// A value as text, where there is one and it is text.
+/// A value as text, if there is one and it is text.
 fn text_of(value: Option<&[u8]>) -> Option<&str>
     ensures some { IfSome result (λ text. now_of value.entry ≡ Some text.now) }
     ensures none { IfNone result ((v : List ℕ) → now_of value.entry ≡ Some v → IsUtf8 v → ⊥) }

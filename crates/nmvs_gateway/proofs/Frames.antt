@@ -1,4 +1,4 @@
--- Frames, and what begins one.
+-- Frames, and their beginnings.
 use Rattle.std.proofs.Common.{◌≡◌, ◌≢◌, ◌<◌, ◌≤◌, ◌-◌, ◌+◌, ℕ, List, [], ◌∷◌, ◌++◌, length, get_or, take, drop, replicate, refl, sym, ap, ◌∙◌, subst, arith, inl, inr}
 use Rattle.std.proofs.lemmas.List.{append-nil, append_assoc, append_cancel_left, length-append, length-replicate, take-append-drop, take_at, take_all, take-append-le, get_or-append-add}
 use Rattle.std.proofs.lemmas.Bool.{cases_lt}
@@ -32,7 +32,7 @@ front_of p q r s short e =
     sym (take-append-drop (length p) q)
     ∙ ap (λ y. y ++ drop (length p) q) (sym (take-append-le (length p) q s short) ∙ ap (take (length p)) (sym e) ∙ take_at p r (length p) refl)
 
--- neither a beginning of the start, nor what begins with it
+-- bytes that are no beginning of the start, and do not begin with it
 pub no_start : (start bytes : List ℕ) (addresses : ℕ) → ((rest : List ℕ) → bytes ≢ start ++ rest) → ((rest : List ℕ) → start ≢ bytes ++ rest) → IsBroken start addresses bytes
 no_start start bytes addresses not_behind not_before = record {
   no_header = λ header behind name e is.
@@ -49,7 +49,7 @@ pub first_and_rest : (x : List ℕ) → 0 < length x → x ≡ get_or x 0 0 ∷ 
 first_and_rest [] some = absurd (omega (arith, some))
 first_and_rest (b ∷ bs) some = λ i. b ∷ sym (take_all (length (b ∷ bs) - 1) bs (omega arith)) i
 
--- bytes that go on behind the start, with the low byte of the length first
+-- bytes that go on after the start, with the low byte of the length first
 pub behind_length : (start bytes x : List ℕ) (size : ℕ) → bytes ≡ start ++ x → 0 < length x → size ≡ get_or x 0 0 → bytes ≡ start ++ size ∷ take (length x - 1) (drop 1 x)
 behind_length start bytes x size these some first =
     these ∙ ap (λ y. start ++ y) (first_and_rest x some) ∙ ap (λ n. start ++ n ∷ take (length x - 1) (drop 1 x)) (sym first)
@@ -60,14 +60,14 @@ size_fits start bytes x size these first fits =
     let there : get_or bytes (length start + 0) 0 ≡ get_or x 0 0 = ap (λ y. get_or y (length start + 0) 0) these ∙ get_or-append-add start x 0 0 in
     omega (arith, fits (length start + 0), there, first)
 
--- what follows the start of a frame that goes on these bytes
+-- the bytes after the start of a frame that goes on these bytes
 pub behind_start : (start bytes rest more content : List ℕ) (size : ℕ) → bytes ≡ start ++ size ∷ rest → bytes ++ more ≡ start ++ length content ∷ content → (size ≡ length content) × (rest ++ more ≡ content)
 behind_start start bytes rest more content size these frame =
     let same : size ∷ (rest ++ more) ≡ length content ∷ content =
     append_cancel_left start _ _ (sym (append_assoc start (size ∷ rest) more) ∙ ap (λ y. y ++ more) (sym these) ∙ frame) in
     (cc, cc)
 
--- a start, and less than the content that it tells
+-- a start, and fewer bytes than the content after it has
 pub begun_content : (start bytes rest : List ℕ) (size : ℕ) → bytes ≡ start ++ size ∷ rest → length rest < size → size < 256 → IsBegun start bytes (size - length rest)
 begun_content start bytes rest size these short fits =
     let more : List ℕ = replicate (size - length rest) 0 in
@@ -87,7 +87,7 @@ begun_content start bytes rest size these short fits =
           omega (arith, parts.0);
     }
 
--- the content, and what is behind it
+-- the content, and the bytes after it
 pub cut_content : (start bytes rest content behind : List ℕ) (size : ℕ) → bytes ≡ start ++ size ∷ rest → content ≡ take size rest → behind ≡ drop size rest → bytes ≡ start ++ size ∷ (content ++ behind)
 cut_content start bytes rest content behind size these front back =
     these ∙ ap (λ y. start ++ size ∷ y) (sym (take-append-drop size rest) ∙ (λ i. sym front i ++ sym back i))

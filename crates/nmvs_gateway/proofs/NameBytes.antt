@@ -23,7 +23,7 @@ all_small (b ∷ bs) e =
 pub name-utf8 : (x : List ℕ) → is_name x ≡ true → IsUtf8 x
 name-utf8 x e = IsUtf8-from_ascii x (IsAscii-from_all x (All-from_recursion _ x (all_small x ((plain_name x e).2))))
 
--- what is not UTF-8 is no name
+-- bytes that are not UTF-8 are no name
 pub no_name : (x : List ℕ) → (IsUtf8 x → ⊥) → is_name x ≡ false
 no_name x not_text = not_true (is_name x) (λ e. not_text (name-utf8 x e))
   where

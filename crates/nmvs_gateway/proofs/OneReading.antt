@@ -29,7 +29,7 @@ spelled : (start : List ℕ) (addresses : ℕ) (bytes name : List ℕ) (size : �
 spelled start addresses bytes name size is =
     is.these ∙ ap (λ y. y ++ is.behind) is.is_header.frame.these ∙ append_assoc start (length is.is_header.content ∷ is.is_header.content) is.behind
 
--- what behind_start says with no more bytes
+-- the lemma behind_start with no more bytes
 parts_at : (start bytes x y : List ℕ) (m n : ℕ) → bytes ≡ start ++ m ∷ x → bytes ≡ start ++ n ∷ y → (m ≡ n) × (x ≡ y)
 parts_at start bytes x y m n e f =
     let same : m ∷ x ≡ n ∷ y = append_cancel_left start (m ∷ x) (n ∷ y) (sym e ∙ f) in
@@ -83,7 +83,7 @@ whole_and_begun : (a b missing : ℕ) (start other bytes name : List ℕ) (size 
 whole_and_begun a b missing start other bytes name size apart is begun =
     apart (bytes ++ begun.more) _ _ (ap (λ y. y ++ begun.more) (spelled start a bytes name size is) ∙ append_assoc start _ begun.more) begun.frame.these
 
--- where a frame with either start may still come, as many bytes are missing
+-- if a frame with either start may still come, the same number of bytes is missing
 begun_short : (start bytes : List ℕ) (missing : ℕ) → length bytes ≤ length start → IsBegun start bytes missing → missing ≡ length start - length bytes + 1
 begun_short start bytes missing short is =
     one_begun start bytes missing _ is (begun_start start bytes _ (front_of bytes start is.more (length is.content ∷ is.content) short is.frame.these))
@@ -119,7 +119,7 @@ across bytes headers.Broken s is is_too some other = absurd (some refl)
 across bytes (headers.Begun m) headers.Broken is is_too some other = absurd (other refl)
 across bytes (headers.Whole name n) headers.Broken is is_too some other = absurd (other refl)
 
--- what a header is, over the one or the other
+-- the reading of a header, over IPv4 or over IPv6
 abbrev Either : List ℕ → Header → Type 0
 Either bytes r = ReadsIpv4 bytes r ⊎ ReadsIpv6 bytes r
 
@@ -170,7 +170,7 @@ ends_over start addresses bytes more missing name size begun few is = elim (case
       (record { header = is.header; behind = drop (length is.header) bytes; these = cut; is_header = is.is_header; sized = is.sized }) begun)
 ]
 
--- bytes that both a frame with this start begins with, and one with the other, have begun the other too
+-- bytes that begin a frame with this start, and one with the other, have begun the other too
 begun_too : (start other bytes more content : List ℕ) (missing : ℕ) → length start ≡ 15 → length other ≡ 15 → ((bytes x y : List ℕ) → bytes ≡ start ++ x → bytes ≡ other ++ y → ⊥)
     → IsBegun start bytes missing → IsFrame other (bytes ++ more) content → IsBegun other bytes missing
 begun_too start other bytes more content missing long long_too apart begun frame = elim (cases_lt 15 (length bytes)) [

@@ -16,7 +16,7 @@ same_halves p q r s long e = (
   sym (drop_at p r (length p) refl) ∙ ap (drop (length p)) e ∙ drop_at q s (length p) (sym long),
 )
 
--- where the bytes of some values and more are those of others, these are the former and those of the rest
+-- if the bytes of some values, with more after them, are those of others, the others are these values and those of the rest
 pub begin_so : (a b : List TypedValue) (x : List ℕ) → spelled a ++ x ≡ spelled b → (after : List TypedValue) × (b ≡ a ++ after) × (x ≡ spelled after)
 begin_so [] b x e = (b, refl, e)
 begin_so (v ∷ vs) [] x e = absurd cc
@@ -34,7 +34,7 @@ abbrev pub found_values : ℕ → Option (Bor (List ℕ)) → List TypedValue
 found_values kind None = []
 found_values kind (Some value) = record { kind = kind; value = value.now } ∷ []
 
--- how far the values were read: those before the rest, and which of them are of the type
+-- the values that were read so far: those before the rest, and those of them that are of the type
 pub record ReadSoFar (bytes rest : List ℕ) (kind : ℕ) (found : Option (Bor (List ℕ))) : Type 0 where
   pub before : List TypedValue
   pub these : bytes ≡ spelled before ++ rest
@@ -111,7 +111,7 @@ nothing : (rest : List ℕ) (after : List TypedValue) → rest ≡ spelled after
 nothing rest [] e none = refl
 nothing rest (v ∷ vs) e none = absurd (omega (arith, ap length e))
 
--- at the end there is none where none was found
+-- at the end there is none if none was found
 pub lacks : (bytes rest : List ℕ) (kind : ℕ) (found : Option (Bor (List ℕ))) → ReadSoFar bytes rest kind found → length rest ≡ 0 → IfNone found ((value : List ℕ) → IsOnlyValue bytes kind value → ⊥)
 lacks bytes rest kind (Some value) so none = tt
 lacks bytes rest kind None so none = λ value is.

@@ -1,6 +1,6 @@
 -- The header that a gateway begins a connection with: version 2 of the PROXY protocol of HAProxy (section 2.2, binary
--- header format). Of its headers the server takes those of a connection over TCP and TLS whose client presented a
--- certificate in it, which was verified, and whose common name is a name (own).
+-- header format). The server takes only headers of a connection over TCP and TLS whose client presented a certificate in
+-- it. The certificate was verified, and its common name is a name (own).
 use Rattle.std.specs.Prelude.{◌≡◌, ◌<◌, ◌≤◌, ◌⊎◌, ◌==◌, ◌%◌, ℕ, Bool, List, [], ◌∷◌, ◌++◌, length, filter, IsTrue}
 use Rattle.std.specs.List.{flat_map}
 use Rattle.nmvs_identifier.specs.Name.{Name, is_name}
@@ -27,9 +27,9 @@ pub record IsOnlyValue (bytes : List ℕ) (kind : ℕ) (value : List ℕ) : Type
   pub these : bytes ≡ flat_map typed_bytes values
   pub only : filter (is_of kind) values ≡ record { kind = kind; value = value } ∷ []
 
--- the value about a connection's TLS: bits of the client, of which the lowest two say that it used TLS
--- and presented a certificate in this connection; four bytes that are 0 where the certificate was verified; and parts,
--- of which one, of type 34 (PP2_SUBTYPE_SSL_CN), is the certificate's common name
+-- the value about a connection's TLS: bits of the client, then four bytes that are 0 if the certificate was verified, then
+-- parts. The lowest two bits say that the client used TLS and presented a certificate in this connection. One part, of type
+-- 34 (PP2_SUBTYPE_SSL_CN), is the certificate's common name
 pub record NamesVerified (tls name : List ℕ) : Type 0 where
   pub client : ℕ
   pub parts : List ℕ
@@ -38,8 +38,8 @@ pub record NamesVerified (tls name : List ℕ) : Type 0 where
   pub common_name : IsOnlyValue parts 34 name
   pub grammar : IsTrue (is_name name)
 
--- the content of a header: so many bytes of addresses, and values, of which one, of type 32 (PP2_TYPE_SSL), is about the
--- connection's TLS
+-- the content of a header: this number of bytes of addresses, and values, of which one, of type 32 (PP2_TYPE_SSL), is about
+-- the connection's TLS
 pub record HasName (addresses : ℕ) (content name : List ℕ) : Type 0 where
   pub front : List ℕ
   pub values : List ℕ
@@ -68,7 +68,7 @@ pub record IsRead (start : List ℕ) (addresses : ℕ) (bytes name : List ℕ) (
   pub is_header : IsHeader start addresses header name
   pub sized : size ≡ length header
 
--- with so many bytes more they are a frame, and with fewer they are none
+-- with this number of bytes more they are a frame, and with fewer they are none
 pub record IsBegun (start bytes : List ℕ) (missing : ℕ) : Type 0 where
   pub some : 0 < missing
   pub more : List ℕ
@@ -82,18 +82,18 @@ pub record IsBroken (start : List ℕ) (addresses : ℕ) (bytes : List ℕ) : Ty
   pub no_header : (header behind name : List ℕ) → bytes ≡ header ++ behind → IsHeader start addresses header name → ⊥
   pub not_begun : (more content : List ℕ) → 0 < length more → IsFrame start (bytes ++ more) content → ⊥
 
--- what bytes are, where headers have this start
+-- the reading of bytes, if headers have this start
 abbrev pub ReadsOver : List ℕ → ℕ → List ℕ → Header → Type 0
 ReadsOver start addresses bytes (headers.Begun missing) = IsBegun start bytes missing
 ReadsOver start addresses bytes (headers.Whole name size) = IsRead start addresses bytes name.bytes size
 ReadsOver start addresses bytes headers.Broken = IsBroken start addresses bytes
 
--- what a header begins with: the signature, version 2 with the command PROXY, the family and protocol of the addresses, and
+-- the beginning of a header: the signature, version 2 with the command PROXY, the family and protocol of the addresses, and
 -- the high byte of the length
 abbrev pub start_of : ℕ → List ℕ
 start_of family = 13 ∷ 10 ∷ 13 ∷ 10 ∷ 0 ∷ 13 ∷ 10 ∷ 81 ∷ 85 ∷ 73 ∷ 84 ∷ 10 ∷ 33 ∷ family ∷ 0 ∷ []
 
--- what bytes are, over TCP and IPv4 (17): two addresses and two ports have 12 bytes; and over TCP and IPv6 (33), where they
+-- the reading of bytes, over TCP and IPv4 (17): two addresses and two ports have 12 bytes; and over TCP and IPv6 (33): they
 -- have 36
 abbrev pub ReadsIpv4 : List ℕ → Header → Type 0
 ReadsIpv4 bytes header = ReadsOver (start_of 17) 12 bytes header
@@ -101,21 +101,21 @@ ReadsIpv4 bytes header = ReadsOver (start_of 17) 12 bytes header
 abbrev pub ReadsIpv6 : List ℕ → Header → Type 0
 ReadsIpv6 bytes header = ReadsOver (start_of 33) 36 bytes header
 
--- what bytes are: a header is over the one or the other
+-- the reading of bytes: a header is over IPv4 or over IPv6
 abbrev pub ReadsHeader : List ℕ → Header → Type 0
 ReadsHeader bytes (headers.Begun missing) = ReadsIpv4 bytes (headers.Begun missing) ⊎ ReadsIpv6 bytes (headers.Begun missing)
 ReadsHeader bytes (headers.Whole name size) = ReadsIpv4 bytes (headers.Whole name size) ⊎ ReadsIpv6 bytes (headers.Whole name size)
 ReadsHeader bytes headers.Broken = ReadsIpv4 bytes headers.Broken × ReadsIpv6 bytes headers.Broken
 
--- bytes are one thing only
+-- bytes have one reading only
 abbrev pub OneReading : Type 0
 OneReading = (bytes : List ℕ) (r s : Header) → ReadsHeader bytes r → ReadsHeader bytes s → r ≡ s
 
--- a header is the same whatever is behind it
+-- a header is the same whichever bytes follow it
 abbrev pub LooksNotBehind : Type 0
 LooksNotBehind = (bytes more : List ℕ) (name : Name) (size : ℕ) → ReadsHeader bytes (headers.Whole name size) → ReadsHeader (bytes ++ more) (headers.Whole name size)
 
--- with no more bytes behind a beginning than were missing, a header has all of them
+-- if no more bytes follow a beginning than were missing, a header has all of them
 abbrev pub EndsThere : Type 0
 EndsThere = (bytes more : List ℕ) (missing : ℕ) (name : Name) (size : ℕ) → ReadsHeader bytes (headers.Begun missing) → length more ≤ missing
     → ReadsHeader (bytes ++ more) (headers.Whole name size) → size ≡ length (bytes ++ more)

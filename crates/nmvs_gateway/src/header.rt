@@ -5,10 +5,10 @@ ghost use Rattle.nmvs_gateway.specs.Header.{TypedValue, typed_bytes, IsOnlyValue
 
 use nmvs_identifier::Name;
 
-/// What the first bytes of a connection are.
+/// The reading of the first bytes of a connection.
 #[derive(Clone, Copy, Debug, PartialEq, Eq)]
 pub enum Header {
-    /// The beginning of a header, and how many bytes more there are at least.
+    /// The beginning of a header, and the least number of bytes that are missing.
     Begun { missing: usize },
     /// A header of this many bytes, and the common name of the client's verified certificate.
     Whole { name: Name, length: usize },
@@ -16,8 +16,8 @@ pub enum Header {
     Broken,
 }
 
-/// What a header over TCP and IPv4 begins with: the signature, version 2 and the command PROXY, the
-/// family and protocol, and the high byte of the length.
+/// The beginning of a header over TCP and IPv4: the signature, version 2 and the command PROXY, the family and protocol,
+/// and the high byte of the length.
 const OVER_IPV4: [u8; 15] = *b"\r\n\r\n\0\r\nQUIT\n\x21\x11\0";
 
 /// The same over IPv6.
@@ -29,7 +29,7 @@ const TLS: u8 = 0x20;
 /// The type of its part that is the certificate's common name, PP2_SUBTYPE_SSL_CN.
 const COMMON_NAME: u8 = 0x22;
 
-/// Reads the header at the front of what a connection has sent so far. What is behind it is not looked at.
+/// Reads the header at the front of the bytes that a connection has sent so far. It looks at no byte after the header.
 pub fn read_header(bytes: &[u8]) -> Header
     ensures { ReadsHeader bytes.now result }
 {
@@ -40,7 +40,7 @@ pub fn read_header(bytes: &[u8]) -> Header
     }
 }
 
-/// Reads a header that has this start, and addresses of so many bytes.
+/// Reads a header that has this start, and addresses of this number of bytes.
 fn read_over(bytes: &[u8], start: &[u8], addresses: usize) -> Header
     ensures { ReadsOver start.now addresses bytes.now result }
 {
@@ -70,8 +70,7 @@ fn read_over(bytes: &[u8], start: &[u8], addresses: usize) -> Header
     }
 }
 
-/// The name of the verified certificate, in the content of a header that begins with so many bytes of
-/// addresses.
+/// The name of the verified certificate, in the content of a header that begins with this number of bytes of addresses.
 fn verified_name(content: &[u8], addresses: usize) -> Option<Name>
     ensures some { IfSome result (λ name. HasName addresses content.now name.bytes) }
     ensures none { IfNone result ((name : List ℕ) → HasName addresses content.now name → ⊥) }
@@ -106,7 +105,7 @@ fn read_name(bytes: &[u8]) -> Option<Name>
     }
 }
 
-/// The one value of this type, among the values that these bytes are.
+/// The one value of this type, among the values in these bytes.
 fn only_value(bytes: &[u8], kind: u8) -> Option<&[u8]>
     ensures some { IfSome result (λ value. IsOnlyValue bytes.now kind value.now) }
     ensures none { IfNone result ((value : List ℕ) → IsOnlyValue bytes.now kind value → ⊥) }
@@ -126,7 +125,7 @@ fn only_value(bytes: &[u8], kind: u8) -> Option<&[u8]>
     found
 }
 
-/// The type of the first value of these bytes, the value, and the bytes behind it.
+/// The type of the first value of these bytes, the value, and the bytes after it.
 fn first_value(bytes: &[u8]) -> Option<(u8, &[u8], &[u8])>
     ensures some { IfSome result (λ first. bytes.now
         ≡ typed_bytes (record { kind = first.0; value = first.1.now }) ++ first.2.now) }

@@ -1,4 +1,4 @@
-//! The header of a gateway, PROXY protocol version 2: whose certificate opened the connection.
+//! The header of a gateway, PROXY protocol version 2: it names the certificate of the client of a connection.
 #![tactic(auto)]
 
 mod header;

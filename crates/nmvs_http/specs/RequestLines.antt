@@ -4,7 +4,7 @@ use Rattle.http.specs.declared.request.Request.{Request}
 use Rattle.http.specs.Request.{body_of}
 use Rattle.nmvs_stream.specs.InputLines.{unfinished_line}
 use Rattle.nmvs_http.specs.declared.asked.Asks.{Asks}
-use Rattle.nmvs_http.specs.declared.asked.Asks.TheVariants.{Lines, Health, Refused}
+use Rattle.nmvs_http.specs.declared.asked.Asks.TheVariants.{Lines, Question, Health, Refused}
 use Rattle.nmvs_http.specs.Requests.{asks_of}
 
 -- whether no byte follows the last LF
@@ -18,6 +18,7 @@ whole_lines body = if ends_line body then body else body ++ 10 ∷ []
 -- the bytes of lines that a body carries, where its request asks so
 abbrev pub lines_asked : Asks → List ℕ → List ℕ
 lines_asked Lines body = whole_lines body
+lines_asked Question body = []
 lines_asked Health body = []
 lines_asked (Refused fault) body = []
 

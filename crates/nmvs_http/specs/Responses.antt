@@ -1,8 +1,12 @@
 -- The text of a response (RFC 9112, section 4).
-use Rattle.std.specs.Prelude.{ℕ, Bool, true, false, List, [], ◌++◌, length, codes, if◌then◌else◌}
+use Rattle.std.specs.Prelude.{ℕ, Bool, true, false, List, [], ◌++◌, length, codes, Option, Some, None, if◌then◌else◌}
 use Rattle.std.specs.Fmt.{decimal}
+use Rattle.nmvs_json.specs.declared.reply.Problem.{Problem}
+use Rattle.nmvs_json.specs.declared.reply.Problem.TheVariants as problems
+use Rattle.nmvs_json.specs.Replies.{problem_of}
+use Rattle.nmvs_json.specs.Replies as replies_of
 use Rattle.nmvs_http.specs.declared.asked.Asks.{Asks}
-use Rattle.nmvs_http.specs.declared.asked.Asks.TheVariants.{Lines, Health, Refused}
+use Rattle.nmvs_http.specs.declared.asked.Asks.TheVariants.{Lines, Question, Health, Refused}
 use Rattle.nmvs_http.specs.declared.fault.Fault.{Fault}
 use Rattle.nmvs_http.specs.declared.fault.Fault.TheVariants as faults
 
@@ -38,28 +42,48 @@ problem faults.Head = codes "{\"type\":\"about:blank\",\"title\":\"Request Heade
 problem faults.Coding = codes "{\"type\":\"about:blank\",\"title\":\"Not Implemented\",\"status\":501,\"fault\":\"CODING\",\"recorded\":\"no\"}\n"
 problem faults.Busy = codes "{\"type\":\"about:blank\",\"title\":\"Service Unavailable\",\"status\":503,\"fault\":\"BUSY\",\"recorded\":\"no\"}\n"
 
--- the status of the response to what was asked: 200 exactly where it is not refused
-abbrev pub status_of : Asks → List ℕ
-status_of Lines = codes "200 OK"
-status_of Health = codes "200 OK"
-status_of (Refused fault) = status fault
+-- the status of the response to one question, by the problem that its text is: 200 exactly where it is a reply
+abbrev pub status_where : Option Problem → List ℕ
+status_where None = codes "200 OK"
+status_where (Some problems.Unprocessable) = codes "422 Unprocessable Content"
+status_where (Some problems.Forbidden) = codes "403 Forbidden"
+status_where (Some problems.TooManyRequests) = codes "429 Too Many Requests\r\nretry-after: 1"
+status_where (Some problems.Unavailable) = codes "503 Service Unavailable\r\nretry-after: 1"
+status_where (Some problems.Unknown) = codes "503 Service Unavailable"
 
 -- the type of its body
-abbrev pub type_of : Asks → List ℕ
-type_of Lines = codes "application/vnd.nmvs.lines"
-type_of Health = codes "text/plain; charset=utf-8"
-type_of (Refused fault) = codes "application/problem+json"
+abbrev pub type_where : Option Problem → List ℕ
+type_where None = codes "application/json"
+type_where (Some problem) = codes "application/problem+json"
 
--- its body: the replies to lines, word for word
+-- the status of the response to what was asked: to lines 200, exactly where they are not refused
+abbrev pub status_of : Asks → List ℕ → List ℕ
+status_of Lines replies = codes "200 OK"
+status_of Question replies = status_where (problem_of replies)
+status_of Health replies = codes "200 OK"
+status_of (Refused fault) replies = status fault
+
+-- the type of its body
+abbrev pub type_of : Asks → List ℕ → List ℕ
+type_of Lines replies = codes "application/vnd.nmvs.lines"
+type_of Question replies = type_where (problem_of replies)
+type_of Health replies = codes "text/plain; charset=utf-8"
+type_of (Refused fault) replies = codes "application/problem+json"
+
+-- its body: the replies to lines, word for word; the reply to one question as JSON
 abbrev pub body_text : Asks → List ℕ → List ℕ
 body_text Lines replies = replies
+body_text Question replies = replies_of.body_text replies
 body_text Health replies = codes "ok\n"
 body_text (Refused fault) replies = problem fault
 
+-- first lines of this status and type
+unfoldable pub front_of : List ℕ → List ℕ → List ℕ
+front_of status kind = codes "HTTP/1.1 " ++ (status ++ (codes "\r\ncontent-type: " ++ (kind ++ codes "\r\ncache-control: no-store\r\n")))
+
 -- its first lines: the status, and the fields that tell of the body
-unfoldable pub front_text : Asks → List ℕ
-front_text asks =
-    codes "HTTP/1.1 " ++ (status_of asks ++ (codes "\r\ncontent-type: " ++ (type_of asks ++ codes "\r\ncache-control: no-store\r\n")))
+abbrev pub front_text : Asks → List ℕ → List ℕ
+front_text asks replies = front_of (status_of asks replies) (type_of asks replies)
 
 -- whether the connection stays, and, with its number behind it, how many bytes the body has
 abbrev pub connection_text : Bool → List ℕ
@@ -67,14 +91,17 @@ connection_text true = codes "connection: keep-alive\r\ncontent-length: "
 connection_text false = codes "connection: close\r\ncontent-length: "
 
 -- its head, where the body has so many bytes
-abbrev pub head_text : Asks → Bool → ℕ → List ℕ
-head_text asks stays count = (front_text asks ++ connection_text stays) ++ (decimal count ++ codes "\r\n\r\n")
+abbrev pub head_text : List ℕ → Bool → ℕ → List ℕ
+head_text front stays count = (front ++ connection_text stays) ++ (decimal count ++ codes "\r\n\r\n")
 
--- the response: its body is left out where the head alone is wanted
+-- a response of these first lines and this body: the body is left out where the head alone is wanted
+abbrev pub composed_text : List ℕ → Bool → Bool → List ℕ → List ℕ
+composed_text front head_alone stays body =
+    head_text front stays (length body) ++ (if head_alone then [] else body)
+
+-- the response
 abbrev pub response_text : Asks → Bool → Bool → List ℕ → List ℕ
-response_text asks head_alone stays replies =
-    let body = body_text asks replies in
-    head_text asks stays (length body) ++ (if head_alone then [] else body)
+response_text asks head_alone stays replies = composed_text (front_text asks replies) head_alone stays (body_text asks replies)
 
 -- what invites a peer to send the body of its request (RFC 9110, section 15.2.1)
 abbrev pub invitation_text : List ℕ

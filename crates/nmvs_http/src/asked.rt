@@ -13,6 +13,8 @@ use http::Request;
 pub enum Asks {
     /// The replies to the lines of its body.
     Lines,
+    /// The reply to one question, as JSON.
+    Question,
     /// Whether the server lives.
     Health,
     /// Nothing: it is refused.
@@ -134,7 +136,7 @@ fn ends_name(rest: &[u8]) -> bool
     matches!(rest, [] | [b';' | b' ', ..])
 }
 
-/// Whether the head tells where the body ends.
+/// Whether the head says where the body ends.
 fn has_length(request: &Request<Bytes>) -> bool
     ensures { result ≡ specs.has_length request.now }
 {

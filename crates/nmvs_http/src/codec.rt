@@ -2,16 +2,17 @@
 ghost use Rattle.std.specs.Prelude.{◌≡◌, ◌≢◌, ◌≤◌, ◌<◌, ◌↔◌, ◌++◌, [], ℕ, List, None, Some, IsTrue, IsSome, OnOk, OnErr, if◌then◌else◌, length, take, drop, true, false};
 ghost use Rattle.http_server.specs.declared.state.State.TheVariants as states;
 ghost use Rattle.nmvs_http.specs.Codecs.{AnswersLines, CarriesRequests, CodecState, Decodes, Fits, GoesOn, HandGives, Tells, bytes_given};
-ghost use Rattle.nmvs_http.specs.Responses.{invitation_text, response_text};
+ghost use Rattle.nmvs_http.specs.Responses.{composed_text, invitation_text, response_text};
 
 use crate::asked::Asks;
 use crate::byte_tag::extended;
 use crate::fault::Fault;
 use crate::request_stream::{Asked, Next, RequestStream};
-use crate::response::{write_invitation, write_refusal, write_response};
+use crate::response::{front_of, lent_body, write_invitation, write_refusal, write_response};
 use crate::write_buffer::WriteBuffer;
 use boxcar::tag::Tag;
 use bytes::Bytes;
+use nmvs_json::body_of;
 use nmvs_stream::Failed;
 use std::alloc::Global;
 use std::hash::RandomState;
@@ -62,8 +63,8 @@ pub struct HttpCodec {
     alloc: Global,
     stage: CodecStage,
     requests: RequestStream,
-    /// Whether bytes were fed since the last request.
-    begun: bool,
+    /// How many bytes were fed since the last request.
+    pending: usize,
     hand: Option<Hand>,
     /// The replies to the request in hand.
     gathered: Vec<u8>,
@@ -97,7 +98,7 @@ impl HttpCodec {
             alloc,
             stage: CodecStage::Open,
             requests: RequestStream::new(alloc, keys),
-            begun: false,
+            pending: 0,
             hand: None,
             gathered: Vec::new(alloc),
             told: WriteBuffer::new(Vec::new(alloc)),
@@ -122,7 +123,17 @@ impl HttpCodec {
 
     /// Whether bytes came of a request that has not come whole.
     pub fn has_pending_request(&self) -> bool {
-        self.begun
+        self.pending != 0
+    }
+
+    /// The memory that it keeps, in bytes: what came of a request that has not come whole, and the room of replies and responses.
+    pub fn memory(&self) -> usize
+        ensures replies { length self.now.gathered ≤ result }
+        ensures unsent { length self.now.unsent ≤ result }
+    {
+        let room = self.gathered.capacity();
+        let room = room.saturating_add(self.told.bytes.capacity());
+        self.pending.saturating_add(room)
     }
 
     /// Goes on with these bytes. The result is the number that it took: all, if there is memory for them.
@@ -130,7 +141,7 @@ impl HttpCodec {
         ensures within { result ≤ length more.now }
         ensures fed { self.new ≡ record self.old { stream = record self.old.stream { fed = self.old.stream.fed ++ take result more.now } } }
     {
-        self.begun = true;
+        self.pending = self.pending.saturating_add(more.len());
         self.requests.feed(more)
     }
 
@@ -147,7 +158,7 @@ impl HttpCodec {
         }
     }
 
-    /// Has a request in hand, where one has come whole, and tells whether.
+    /// Takes a request in hand if one has come whole. The result says whether one is in hand.
     fn take_request(&mut self) -> bool
         ensures goes_on { GoesOn self.old self.new }
         ensures given { self.new.given ≡ self.old.given }
@@ -164,7 +175,7 @@ impl HttpCodec {
             Next::Refused(fault) => self.stage = tell_refusal(&mut self.told, fault),
             Next::Lost => self.stage = CodecStage::Lost,
             Next::Request(asked, stays) => {
-                self.begun = false;
+                self.pending = 0;
                 self.hand = Some(Hand::of(asked, stays));
                 return true;
             }
@@ -191,7 +202,7 @@ impl HttpCodec {
         }
     }
 
-    /// Takes replies to the request in hand, and tells whether there was room for them.
+    /// Takes replies to the request in hand. The result says whether there was room for them.
     pub fn write(&mut self, replies: &[u8]) -> bool
         ensures { self.new ≡ (if result then (record self.old { replies = self.old.replies ++ replies.now; gathered = self.old.gathered ++ replies.now }) else self.old) }
     {
@@ -225,7 +236,7 @@ impl HttpCodec {
         }
         let stays = stays_behind(hand.stays, ended);
         let replies = self.gathered.as_slice();
-        self.stage = tell_response(&mut self.told, hand, stays, replies);
+        self.stage = tell_response(self.alloc, &mut self.told, hand, stays, replies);
         if self.stage != CodecStage::Lost {
             self.hand = None;
             self.gathered = Vec::new(self.alloc);
@@ -292,16 +303,9 @@ fn give_of(hand: &mut Option<Hand>, buffer: &mut [u8]) -> Decoded
     ensures fits { Fits result buffer.new }
     ensures gives { HandGives hand.old hand.new (bytes_given result buffer.new) }
 {
-    match hand {
-        None => Decoded::Nothing,
-        Some(hand) => give_of_hand(hand, buffer),
-    }
-}
-
-fn give_of_hand(hand: &mut Hand, buffer: &mut [u8]) -> Decoded
-    ensures fits { Fits result buffer.new }
-    ensures gives { HandGives (Some hand.old) (Some hand.new) (bytes_given result buffer.new) }
-{
+    let Some(hand) = hand else {
+        return Decoded::Nothing;
+    };
     if hand.lines.is_empty() {
         return Decoded::Whole;
     }
@@ -356,23 +360,40 @@ fn tell_refusal(told: &mut WriteBuffer, fault: Fault) -> CodecStage
 }
 
 /// Responds to the request in hand with these replies. The result is how the codec stands then.
-fn tell_response(told: &mut WriteBuffer, hand: &Hand, stays: bool, replies: &[u8]) -> CodecStage
+fn tell_response(
+    alloc: Global,
+    told: &mut WriteBuffer,
+    hand: &Hand,
+    stays: bool,
+    replies: &[u8],
+) -> CodecStage
     ensures { Tells told.old.bytes.items told.new.bytes.items (response_text hand.now.asks hand.now.head_alone stays replies.now) (if stays then CodecStage.Open else CodecStage.Closing) result }
 {
-    let count = told.bytes.len();
-    match write_response(told, hand.asks, hand.head_alone, stays, replies) {
-        Ok(()) => stage_behind(stays),
-        Err(Failed) => forget(told, count),
+    let front = front_of(hand.asks, replies);
+    if let Some(body) = lent_body(hand.asks, replies) {
+        return tell_body(told, front, hand.head_alone, stays, body);
+    }
+    match body_of(alloc, replies) {
+        Ok(body) => tell_body(told, front, hand.head_alone, stays, body.as_slice()),
+        Err(_) => CodecStage::Lost,
     }
 }
 
-fn stage_behind(stays: bool) -> CodecStage
-    ensures { result ≡ (if stays then CodecStage.Open else CodecStage.Closing) }
+/// Responds with these first lines and this body. The result is how the codec stands then.
+fn tell_body(
+    told: &mut WriteBuffer,
+    front: &[u8],
+    head_alone: bool,
+    stays: bool,
+    body: &[u8],
+) -> CodecStage
+    ensures { Tells told.old.bytes.items told.new.bytes.items (composed_text front.now head_alone stays body.now) (if stays then CodecStage.Open else CodecStage.Closing) result }
 {
-    if stays {
-        CodecStage::Open
-    } else {
-        CodecStage::Closing
+    let count = told.bytes.len();
+    match write_response(told, front, head_alone, stays, body) {
+        Ok(()) if stays => CodecStage::Open,
+        Ok(()) => CodecStage::Closing,
+        Err(Failed) => forget(told, count),
     }
 }
 

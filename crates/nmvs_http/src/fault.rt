@@ -15,7 +15,7 @@ pub enum Fault {
     MethodOfHealth,
     /// It has not come whole in time.
     Timeout,
-    /// Neither a length nor a coding tells where its body ends.
+    /// Neither a length nor a coding says where its body ends.
     Length,
     /// Its body is too long.
     Body,

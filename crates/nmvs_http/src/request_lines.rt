@@ -12,7 +12,7 @@ pub(crate) fn lines_asked(alloc: Global, asks: Asks, body: &Bytes) -> Result<Byt
 {
     match asks {
         Asks::Lines => whole_lines(alloc, body),
-        Asks::Health | Asks::Refused(_) => Ok(Bytes::new()),
+        Asks::Question | Asks::Health | Asks::Refused(_) => Ok(Bytes::new()),
     }
 }
 

@@ -1,11 +1,12 @@
 //! The texts of responses.
-ghost use Rattle.std.specs.Prelude.{◌≡◌, ◌++◌, [], false, if◌then◌else◌, OnOk, OnErr};
+ghost use Rattle.std.specs.Prelude.{◌≡◌, ◌++◌, [], false, if◌then◌else◌, IfSome, IfNone, OnOk, OnErr};
 ghost use Rattle.nmvs_stream.specs.Delivery.{Writes, DeliversPart};
 ghost use Rattle.nmvs_http.specs.Responses as specs;
 
 use crate::asked::Asks;
 use crate::fault::Fault;
 use itoa::Buffer;
+use nmvs_json::{Problem, problem_of};
 use nmvs_stream::{Failed, Sink, write_all};
 
 /// Invites a peer that waits with the body of its request (RFC 9110, section 15.2.1).
@@ -24,22 +25,21 @@ pub fn write_refusal<W: Sink>(sink: &mut W, fault: Fault) -> Result<(), Failed>
     ensures ok { OnOk result (Writes (W.taken sink.old) (W.taken sink.new) (specs.response_text (Asks.Refused fault) false false [])) }
     ensures err { OnErr result (DeliversPart (W.taken sink.old) (W.taken sink.new) (specs.response_text (Asks.Refused fault) false false [])) }
 {
-    write_response(sink, Asks::Refused(fault), false, false, b"")
+    write_response(sink, front_of_fault(fault), false, false, problem(fault))
 }
 
-/// Writes the response to what was asked, with the replies that were gathered for it.
+/// Writes a response of these first lines and this body, which is left out if the head alone is wanted.
 pub(crate) fn write_response<W: Sink>(
     sink: &mut W,
-    asks: Asks,
+    front: &[u8],
     is_head: bool,
     stays: bool,
-    replies: &[u8],
+    body: &[u8],
 ) -> Result<(), Failed>
-    ensures ok { OnOk result (Writes (W.taken sink.old) (W.taken sink.new) (specs.response_text asks is_head stays replies.now)) }
-    ensures err { OnErr result (DeliversPart (W.taken sink.old) (W.taken sink.new) (specs.response_text asks is_head stays replies.now)) }
+    ensures ok { OnOk result (Writes (W.taken sink.old) (W.taken sink.new) (specs.composed_text front.now is_head stays body.now)) }
+    ensures err { OnErr result (DeliversPart (W.taken sink.old) (W.taken sink.new) (specs.composed_text front.now is_head stays body.now)) }
 {
-    let body = body_of(asks, replies);
-    write_head(sink, asks, stays, body.len())?;
+    write_head(sink, front, stays, body.len())?;
     write_all(sink, sent_of(body, is_head))
 }
 
@@ -50,28 +50,51 @@ fn sent_of(body: &[u8], is_head: bool) -> &[u8]
     if is_head { b"" } else { body }
 }
 
-/// The body of the response.
-fn body_of(asks: Asks, replies: &[u8]) -> &[u8]
-    ensures { result.now ≡ specs.body_text asks replies.now }
+/// The body of the response, unless it has to be composed.
+pub(crate) fn lent_body(asks: Asks, replies: &[u8]) -> Option<&[u8]>
+    ensures body { IfSome result (λ body. body.now ≡ specs.body_text asks replies.now) }
+    ensures none { IfNone result (asks ≡ Asks.Question) }
 {
     match asks {
-        Asks::Lines => replies,
-        Asks::Health => b"ok\n",
-        Asks::Refused(fault) => problem(fault),
+        Asks::Lines => Some(replies),
+        Asks::Question => None,
+        Asks::Health => Some(b"ok\n"),
+        Asks::Refused(fault) => Some(problem(fault)),
     }
 }
 
-/// The status line, and the fields that tell of the body.
-#[tactic(auto, unfolding(crate::specs::Responses::front_text))]
-fn front_of(asks: Asks) -> &'static [u8]
-    ensures { result.now ≡ specs.front_text asks }
+/// The status line of the response to what was asked, and the fields that describe its body.
+#[tactic(auto, unfolding(crate::specs::Responses::front_of))]
+pub(crate) fn front_of(asks: Asks, replies: &[u8]) -> &'static [u8]
+    ensures { result.now ≡ specs.front_text asks replies.now }
 {
     match asks {
         Asks::Lines =>
             b"HTTP/1.1 200 OK\r\ncontent-type: application/vnd.nmvs.lines\r\ncache-control: no-store\r\n",
+        Asks::Question => front_of_question(problem_of(replies)),
         Asks::Health =>
             b"HTTP/1.1 200 OK\r\ncontent-type: text/plain; charset=utf-8\r\ncache-control: no-store\r\n",
         Asks::Refused(fault) => front_of_fault(fault),
+    }
+}
+
+/// The same of the response to one question, by the problem that its text is.
+#[tactic(auto, unfolding(crate::specs::Responses::front_of))]
+fn front_of_question(problem: Option<Problem>) -> &'static [u8]
+    ensures { result.now ≡ specs.front_of (specs.status_where problem) (specs.type_where problem) }
+{
+    match problem {
+        None => b"HTTP/1.1 200 OK\r\ncontent-type: application/json\r\ncache-control: no-store\r\n",
+        Some(Problem::Unprocessable) =>
+            b"HTTP/1.1 422 Unprocessable Content\r\ncontent-type: application/problem+json\r\ncache-control: no-store\r\n",
+        Some(Problem::Forbidden) =>
+            b"HTTP/1.1 403 Forbidden\r\ncontent-type: application/problem+json\r\ncache-control: no-store\r\n",
+        Some(Problem::TooManyRequests) =>
+            b"HTTP/1.1 429 Too Many Requests\r\nretry-after: 1\r\ncontent-type: application/problem+json\r\ncache-control: no-store\r\n",
+        Some(Problem::Unavailable) =>
+            b"HTTP/1.1 503 Service Unavailable\r\nretry-after: 1\r\ncontent-type: application/problem+json\r\ncache-control: no-store\r\n",
+        Some(Problem::Unknown) =>
+            b"HTTP/1.1 503 Service Unavailable\r\ncontent-type: application/problem+json\r\ncache-control: no-store\r\n",
     }
 }
 
@@ -86,9 +109,10 @@ fn connection_of(stays: bool) -> &'static [u8]
     }
 }
 
-#[tactic(auto, unfolding(crate::specs::Responses::front_text))]
+/// The same of a request that is refused.
+#[tactic(auto, unfolding(crate::specs::Responses::front_of))]
 fn front_of_fault(fault: Fault) -> &'static [u8]
-    ensures { result.now ≡ specs.front_text (Asks.Refused fault) }
+    ensures { result.now ≡ specs.front_text (Asks.Refused fault) [] }
 {
     match fault {
         Fault::Request =>
@@ -153,14 +177,14 @@ fn problem(fault: Fault) -> &'static [u8]
     }
 }
 
-/// Writes the head of a response whose body has this number of bytes.
-fn write_head<W: Sink>(sink: &mut W, asks: Asks, stays: bool, count: usize) -> Result<(), Failed>
-    ensures ok { OnOk result (Writes (W.taken sink.old) (W.taken sink.new) (specs.head_text asks stays count)) }
-    ensures err { OnErr result (DeliversPart (W.taken sink.old) (W.taken sink.new) (specs.head_text asks stays count)) }
+/// Writes the head of a response of these first lines, whose body has this number of bytes.
+fn write_head<W: Sink>(sink: &mut W, front: &[u8], stays: bool, count: usize) -> Result<(), Failed>
+    ensures ok { OnOk result (Writes (W.taken sink.old) (W.taken sink.new) (specs.head_text front.now stays count)) }
+    ensures err { OnErr result (DeliversPart (W.taken sink.old) (W.taken sink.new) (specs.head_text front.now stays count)) }
 {
     let mut digits = Buffer::new();
     let digits = digits.format(count).as_bytes();
-    write_both(sink, front_of(asks), connection_of(stays))?;
+    write_both(sink, front, connection_of(stays))?;
     write_both(sink, digits, b"\r\n\r\n")
 }
 

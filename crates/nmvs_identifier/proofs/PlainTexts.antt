@@ -20,7 +20,7 @@ is_plain b = is_ascii_graphic b && not (b == 92)
 abbrev pub IsPlain : List ℕ → Type 0
 IsPlain t = (1 ≤ length t) × (length t ≤ longest_text) × (list_all is_plain t ≡ true)
 
--- what passes a test passes a weaker one
+-- a text that passes a test passes a weaker one
 pub all_weaker : (p q : ℕ → Bool) → ((b : ℕ) → p b ≡ true → q b ≡ true) → (t : List ℕ) → list_all p t ≡ true → list_all q t ≡ true
 all_weaker p q each [] e = refl
 all_weaker p q each (b ∷ bs) e =
@@ -59,7 +59,7 @@ at_least_one n e = grind (arith, nat_tests)
 not_too_long : (n : ℕ) → nat_le n longest_text ≡ true → n ≤ longest_text
 not_too_long n e = grind (arith, nat_tests)
 
--- what the grammars accept is plain
+-- names, numbers and dates in their grammars are plain
 pub plain_name : (t : List ℕ) → is_name t ≡ true → IsPlain t
 plain_name t e =
     let halves = and_parts (nat_le 1 (length t) && nat_le (length t) longest_text) (has_name_characters t) e in

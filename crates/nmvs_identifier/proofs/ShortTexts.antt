@@ -2,7 +2,7 @@ use Rattle.std.proofs.Common.{◌≡◌, ℕ, zero, suc, List, [], ◌∷◌, le
 use Rattle.std.specs.Prelude.{◌&&◌, true}
 use Rattle.std.specs.Cmp.Lexicographic.{pointwise, nat_list_eq_equiv}
 
--- cells that agree behind two texts are the same where the texts are
+-- cells that agree after two texts are the same if the texts are
 pub same-before : (n : ℕ) (xs ys : List ℕ) → length xs ≡ length ys → drop n xs ≡ drop n ys →
     pointwise nat_eq xs ys ≡ pointwise nat_eq (take n xs) (take n ys)
 same-before zero xs ys long behind = subst (λ zs. pointwise nat_eq xs zs ≡ true) behind (nat_list_eq_equiv.refl xs)

@@ -6,7 +6,7 @@ use Rattle.std.specs.Str.Parse.{digits_value}
 use Rattle.jiff_core.specs.Calendar.{days_in_month, days_from_civil}
 use Rattle.nmvs_identifier.specs.Texts.{Text}
 
--- what a clause sees of one
+-- the model of an expiry date
 abbrev pub Expiry : Type 0
 Expiry = Text
 
@@ -35,10 +35,10 @@ has_day t = nat_le (written_day_of t) (month_length_of t)
 abbrev pub is_expiry : List ℕ → Bool
 is_expiry t = (length t == 6) && list_all is_ascii_digit t && has_month t && has_day t
 
--- the day of the month that is meant
+-- the day of the month, 1 to 31
 abbrev pub day_of_month : List ℕ → ℕ
 day_of_month t = if written_day_of t == 0 then month_length_of t else written_day_of t
 
--- its day number, counted from 1970-01-01
+-- the day number of the date, counted from 1970-01-01
 abbrev pub expiry_day : List ℕ → ℤ
 expiry_day t = days_from_civil (pos (year_of t)) (month_of t) (day_of_month t)

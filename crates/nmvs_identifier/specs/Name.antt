@@ -5,7 +5,7 @@ use Rattle.std.specs.Char.{is_ascii_alphanumeric}
 use Rattle.nmvs_identifier.specs.Characters.{is_name_character}
 use Rattle.nmvs_identifier.specs.Texts.{Text, longest_text}
 
--- what a clause sees of one
+-- the model of a name
 abbrev pub Name : Type 0
 Name = Text
 

@@ -4,7 +4,7 @@ use Rattle.std.specs.List.{list_all}
 use Rattle.std.specs.Char.{is_ascii_digit, digit_value}
 use Rattle.nmvs_identifier.specs.Texts.{Text}
 
--- what a clause sees of one
+-- the model of a product code
 abbrev pub ProductCode : Type 0
 ProductCode = Text
 
@@ -12,7 +12,7 @@ ProductCode = Text
 abbrev pub weight : ℕ → ℕ
 weight i = if i % 2 == 0 then 3 else 1
 
--- each digit times the weight of its position, added up, where the first stands at position i
+-- the sum of each digit times the weight of its position, if the first digit stands at position i
 abbrev pub weighted_sum : ℕ → List ℕ → ℕ
 weighted_sum i [] = 0
 weighted_sum i (d ∷ ds) = weight i * digit_value d + weighted_sum (i + 1) ds

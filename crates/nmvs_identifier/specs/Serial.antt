@@ -3,7 +3,7 @@ use Rattle.std.specs.Prelude.{ℕ, Bool, List}
 use Rattle.nmvs_identifier.specs.Characters.{is_set_82_text}
 use Rattle.nmvs_identifier.specs.Texts.{Text}
 
--- what a clause sees of one
+-- the model of a serial number
 abbrev pub Serial : Type 0
 Serial = Text
 

@@ -3,7 +3,7 @@ use Rattle.std.specs.Prelude.{ℕ, Bool, List}
 use Rattle.nmvs_identifier.specs.Name.{is_name}
 use Rattle.nmvs_identifier.specs.Texts.{Text}
 
--- what a clause sees of one
+-- the model of a tag
 abbrev pub Tag : Type 0
 Tag = Text
 

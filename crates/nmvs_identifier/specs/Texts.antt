@@ -2,12 +2,12 @@
 use Rattle.std.specs.Prelude.{Bool, ℕ, List, ◌≡◌, ◌-◌, ◌≤◌, ◌<◌, length, take, drop, replicate, IsUtf8}
 use Rattle.std.specs.Str.{bytes_eq}
 
--- what a clause sees of a text
+-- the model of a text
 pub record Text : Type 0 where
   pub bytes : List ℕ
 
--- how many bytes a serial number, a batch number and a name have at most (GS1 General Specifications, sections 3.4.1 and
--- 3.5.2; of names own)
+-- the most bytes of a serial number, a batch number or a name (GS1 General Specifications, sections 3.4.1 and 3.5.2; for
+-- names own)
 abbrev pub longest_text : ℕ
 longest_text = 20
 
@@ -15,7 +15,7 @@ longest_text = 20
 abbrev pub same_text : Text → Text → Bool
 same_text s t = bytes_eq s.bytes t.bytes
 
--- so many of the cells are a text of at most cap bytes, with zeros after it, and its length fits a byte
+-- the first len cells are a text of at most cap bytes, zeros follow it, and its length fits a byte
 pub record IsShortText (cap len : ℕ) (cells : List ℕ) : Type 0 where
   pub small : cap < 256
   pub fits : len ≤ cap

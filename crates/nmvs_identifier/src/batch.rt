@@ -32,8 +32,11 @@ impl Model for Batch {
 }
 
 impl Batch {
-    /// Reads a batch number. It is refused by the first fault that holds: no byte at all, more than 20 bytes, a
-    /// character outside of set 82.
+    /// Reads a batch number.
+    ///
+    /// # Errors
+    ///
+    /// The first fault that applies: no byte at all, more than 20 bytes, a character outside of set 82.
     pub fn read(text: &str) -> Result<Batch, Set82Fault>
         ensures accepts { IsOk result ↔ IsTrue (is_batch text.now) }
         ensures kept { IfOk result (λ batch. batch.bytes ≡ text.now) }
@@ -54,7 +57,7 @@ impl Batch {
         self.text.as_str()
     }
 
-    /// Tells a proof that the text is in its grammar, and does nothing.
+    /// Proves that the text is in its grammar, and does nothing else.
     pub fn tell_grammar(&self)
         ensures { IsTrue (is_batch self.now.bytes) }
     {

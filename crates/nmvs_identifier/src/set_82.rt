@@ -1,4 +1,4 @@
-//! Texts of 1 to 20 characters of the GS1 character set 82, as serial numbers and batch numbers are.
+//! Texts of 1 to 20 characters of the GS1 character set 82: serial numbers and batch numbers.
 ghost use Rattle.std.specs.Prelude.{◌≡◌, ℕ, ◌<◌, ◌≤◌, ◌↔◌, IsTrue, IsOk, IfOk, IsErrOf, length, false};
 ghost use Rattle.std.specs.List.{list_all};
 ghost use Rattle.nmvs_identifier.specs.Characters.{is_in_set_82, is_set_82_text};
@@ -8,7 +8,7 @@ use crate::characters::are_in_set_82;
 use crate::short_text::{LONGEST_TEXT, ShortText};
 use thiserror::Error;
 
-/// Why a text is no serial number or batch number: the first of these that holds.
+/// The fault of a text that is no serial number or batch number: the first that applies.
 #[derive(Clone, Copy, Debug, PartialEq, Eq, Error)]
 pub enum Set82Fault {
     #[error("the text is empty")]
@@ -19,8 +19,8 @@ pub enum Set82Fault {
     Character,
 }
 
-/// Reads 1 to 20 characters of set 82. A text is refused by the first fault that holds: no byte at all, more than 20
-/// bytes, a character outside of set 82.
+/// Reads 1 to 20 characters of set 82. The first fault that applies refuses a text: no byte at all, more than 20 bytes, a
+/// character outside of set 82.
 pub(crate) fn read_set_82(text: &str) -> Result<ShortText<LONGEST_TEXT>, Set82Fault>
     ensures accepts { IsOk result ↔ IsTrue (is_set_82_text text.now) }
     ensures kept { IfOk result (λ short. short.bytes ≡ text.now) }

@@ -12,8 +12,8 @@ use std::hash::{Hash, Hasher};
 use std::marker::Model;
 use std::{fmt, str};
 
-/// The bytes that a serial number, a batch number and a name have at most (GS1 General Specifications, sections 3.4.1
-/// and 3.5.2; of names own).
+/// The most bytes of a serial number, a batch number or a name (GS1 General Specifications, sections 3.4.1 and 3.5.2; for
+/// names own).
 pub(crate) const LONGEST_TEXT: usize = 20;
 
 /// A text of at most `CAP` bytes, which lie in the value itself, with zeros after them.
@@ -72,7 +72,7 @@ impl<const CAP: usize> ShortText<CAP> {
     pub fn as_str(&self) -> &str
         ensures { result.now ≡ self.now.bytes }
     {
-        // That they are UTF-8 is proved, so no run looks for it.
+        // The bytes are proved to be UTF-8, so no run checks it.
         unsafe { str::from_utf8_unchecked(&self.cells[..self.len as usize]) }
     }
 }
@@ -83,7 +83,7 @@ impl<const CAP: usize> PartialEq for ShortText<CAP> {
     ghost laws = { on_per (λ s. s.bytes) (partial_equiv_from_equiv nat_list_eq_equiv) };
 
     fn eq(&self, other: &Self) -> bool {
-        // All cells, since zeros follow both texts: a fixed number is compared faster.
+        // It compares all cells, because zeros follow both texts, and a fixed number is compared faster.
         self.len == other.len && self.cells == other.cells
     }
 }
@@ -121,7 +121,7 @@ impl<const CAP: usize> Hash for ShortText<CAP> {
 
     ghost respects_eq = { Prim.search (hashing, rules) };
 
-    // As a `str` is hashed.
+    // The same as for a `str`.
     fn hash<H: Hasher>(&self, state: &mut H) {
         state.write(self.as_bytes());
         state.write_u8(0xff);

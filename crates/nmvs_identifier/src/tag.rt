@@ -7,8 +7,8 @@ ghost use Rattle.nmvs_identifier.specs.Texts.{longest_text};
 use crate::{Name, NameFault};
 use std::marker::Model;
 
-/// The tag of a line, by which it can be repeated: a text with the grammar of a name (own). The `#` that stands before it
-/// in a line is no part of it.
+/// The tag of a line, by which a user can send it again: a text with the grammar of a name (own). The `#` in front of it in a
+/// line is no part of it.
 ///
 /// Order, equality and hash are those of its text.
 #[derive(Clone, Copy, Debug, PartialEq, Eq, PartialOrd, Ord, Hash)]
@@ -31,8 +31,11 @@ impl Model for Tag {
 }
 
 impl Tag {
-    /// Reads a tag. It is refused by the first fault that holds: no byte at all, more than 20 bytes, a character that it
-    /// may not have there.
+    /// Reads a tag.
+    ///
+    /// # Errors
+    ///
+    /// The first fault that applies: no byte at all, more than 20 bytes, a character that may not stand at its place.
     pub fn read(text: &str) -> Result<Tag, NameFault>
         ensures accepts { IsOk result ↔ IsTrue (is_tag text.now) }
         ensures kept { IfOk result (λ tag. tag.bytes ≡ text.now) }
@@ -53,7 +56,7 @@ impl Tag {
         self.name.text()
     }
 
-    /// Tells a proof that the text is in its grammar, and does nothing.
+    /// Proves that the text is in its grammar, and does nothing else.
     pub fn tell_grammar(&self)
         ensures { IsTrue (is_tag self.now.bytes) }
     {

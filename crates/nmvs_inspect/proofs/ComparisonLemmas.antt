@@ -1,4 +1,4 @@
--- Where the entries about a product code stand, and a walk along them.
+-- The places of the entries about a product code, and a walk along them.
 use Rattle.std.proofs.Common.{◌≡◌, ◌⊎◌, inl, inr, ◌∙◌, refl, sym, ap, subst, arith, ℕ, zero, suc, ◌+◌, ◌≤◌, ◌<◌, Bool, true, false, not, cond, List, [], ◌∷◌, ◌++◌, length, take, drop, filter, get_or, set, slice_get, Option, Some, unwrap_or, append_assoc}
 use Rattle.std.specs.List.{position_or_len}
 use Rattle.std.proofs.lemmas.List.{take-append-drop, drop-drop, drop_more, drop_all, append-nil, get_or-set_same, get_or-set_other, length-set}
@@ -40,7 +40,7 @@ position-front : {X : Type 0} (p : X → Bool) (xs : List X) → position_or_len
 position-front p [] = refl
 position-front p (x ∷ xs) = stay-step p (p x) x xs (position_or_len p xs) refl (position-front p xs)
 
--- where the first element passes, it is the first that passes
+-- if the first element passes, it is the first that passes
 head-step : {X : Type 0} (p : X → Bool) (b : Bool) (x : X) (xs : List X) (n : ℕ) → cond (not b) (1 + n) 0 ≡ 0
     → slice_get (cond b (x ∷ filter p xs) (filter p xs)) 0 ≡ Some x
 head-step p true x xs n none = refl
@@ -60,7 +60,7 @@ slice_get-drop zero xs = refl
 slice_get-drop (suc n) [] = refl
 slice_get-drop (suc n) (x ∷ xs) = slice_get-drop n xs
 
--- the first place from a place on is that place, or the first one behind it
+-- the first place from a place on is that place, or the first one after it
 at-or-behind : (b : Bool) (n m : ℕ) → n + cond (not b) (1 + m) 0 ≡ cond b n ((n + 1) + m)
 at-or-behind true n m = omega arith
 at-or-behind false n m = omega arith
@@ -70,7 +70,7 @@ seek-step c t n d l =
     ap (λ (xs : List Entry). n + position_or_len (has_code c) xs) (drop_more t n d l)
     ∙ at-or-behind (has_code c (get_or t n d)) n (position_or_len (has_code c) (drop (n + 1) t))
 
--- no place is behind the end
+-- no place is after the end
 pub seek-end : (c : ProductCode) (t : List Entry) (n : ℕ) → n ≡ length t → seek c t n ≡ length t
 seek-end c t n end =
     let none : position_or_len (has_code c) (drop n t) ≡ 0 = ap (position_or_len (has_code c)) (drop_all n t (omega (arith, end))) in
@@ -131,7 +131,7 @@ HasPassed-start w t before = record {
   first = λ c. ap (seek c t) (before.heads c) ∙ seek-seek c t 0 ∙ sym (before.heads c);
 }
 
--- where it stands is what stands in the place of an entry
+-- the walk stands at the entry that is in the place of this one
 pub found-there : (w : Walk) (old new : List Entry) (e : Entry) → HasPassed w old new → slice_get new (head_of w (code_of e.put.question)) ≡ in_place old e new
 found-there w old new e passed =
     let c = code_of e.put.question in
@@ -200,7 +200,7 @@ module _ (w v : Walk) (old new : List Entry) (e : Entry) (passed : HasPassed w o
       first_by q true is = subst (λ (d : ProductCode). seek d new (head_of v d) ≡ head_of v d) (sym (same_text-equal q c is)) own-first
       first_by q false is = ap (seek q new) (kept q is) ∙ passed.first q ∙ sym (kept q is)
 
--- what a walk has passed a new trail goes on from
+-- a new trail goes on from the entries that a walk has passed
 pub GoesOn-passed : (w : Walk) (old new : List Entry) → HasPassed w old new → GoesOn old new
 GoesOn-passed w old new passed = λ c. (about c (drop (head_of w c) new), passed.left c)
 

@@ -36,7 +36,7 @@ pub position-within : {X : Type 0} (p : X → Bool) (xs : List X) → list_any p
 position-within p [] h = absurd (let e : false ≡ true = h in cc)
 position-within p (x ∷ xs) h = within-step (p x) (position_or_len p xs) (length xs) (list_any p xs) (position-within p xs) h
 
--- one entry more in a group
+-- one more entry in a group
 abbrev pub more : Group → Group
 more g = record g { number = g.number + 1 }
 

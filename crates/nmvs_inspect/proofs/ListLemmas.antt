@@ -12,7 +12,7 @@ use Rattle.nmvs_inspect.specs.Rows.{Dated, header, entry_text, list_text}
 abbrev pub entries_of : List Dated → List Entry
 entries_of ds = map (λ d. d.entry) ds
 
--- an entry that is taken, and one that is not; what is kept of each that was taken has the entry
+-- one more entry that is taken, or that is not: the list has the entries that are taken so far
 pub taken-next : {X : Type 0} (entry : X → Entry) (p : Entry → Bool) (t : List Entry) (i : ℕ) (e : Entry) (ds : List X) (d : X) → i < length t → p e ≡ true → e ≡ get_or t i e → entry d ≡ e
     → map entry ds ≡ filter p (take i t) → map entry (ds ++ d ∷ []) ≡ filter p (take (i + 1) t)
 taken-next {X} entry p t i e ds d l passes at is inv =
@@ -24,31 +24,31 @@ pub untaken-next : {X : Type 0} (entry : X → Entry) (p : Entry → Bool) (t : 
 untaken-next entry p t i e ds l fails at inv =
     inv ∙ sym (append-nil (filter p (take i t))) ∙ ap (λ (b : Bool). filter p (take i t) ++ cond b (get_or t i e ∷ []) []) (sym fails ∙ ap p at) ∙ sym (filter_more p t i e l)
 
--- what is kept of each element up to one has its entry
+-- one more element: the list has the entry of each element so far
 pub each-next : {X Y : Type 0} (entry : X → Entry) (at : Y → Entry) (ys : List Y) (i : ℕ) (y : Y) (xs : List X) (x : X) → i < length ys → y ≡ get_or ys i y → entry x ≡ at y
     → map entry xs ≡ map at (take i ys) → map entry (xs ++ x ∷ []) ≡ map at (take (i + 1) ys)
 each-next entry at ys i y xs x l is e inv =
     map-append entry xs (x ∷ []) ∙ ap (λ (z : List Entry). z ++ entry x ∷ []) inv ∙ ap (λ (z : Entry). map at (take i ys) ++ z ∷ []) (e ∙ ap at is)
     ∙ sym (ap (map at) (take_more ys i y l) ∙ map-append at (take i ys) (get_or ys i y ∷ []))
 
--- a list with one entry more
+-- a list with one more entry
 pub list_text-more : (f : Form) (ds : List Dated) (d : Dated) → list_text f (ds ++ d ∷ []) ≡ list_text f ds ++ entry_text f d
 list_text-more f ds d =
     ap (λ (x : List ℕ). header f ++ x) (flat_map-append (entry_text f) ds (d ∷ []) ∙ ap (λ (x : List ℕ). flat_map (entry_text f) ds ++ x) (append-nil (entry_text f d)))
     ∙ sym (append_assoc (header f) (flat_map (entry_text f) ds) (entry_text f d))
 
--- a text of one element more
+-- a text of one more element
 pub flat_map-next : {X : Type 0} (f : X → List ℕ) (xs : List X) (i : ℕ) (d : X) → i < length xs → flat_map f (take (i + 1) xs) ≡ flat_map f (take i xs) ++ f (get_or xs i d)
 flat_map-next {X} f xs i d l =
     ap (flat_map f) (take_more xs i d l) ∙ flat_map-append f (take i xs) (get_or xs i d ∷ []) ∙ ap (λ (x : List ℕ). flat_map f (take i xs) ++ x) (append-nil (f (get_or xs i d)))
 
--- a block with the text of one element more
+-- a block with the text of one more element
 pub block-next : {X : Type 0} (f : X → List ℕ) (old block new : List ℕ) (xs : List X) (i : ℕ) (d : X) → i < length xs → block ≡ old ++ flat_map f (take i xs)
     → new ≡ block ++ f (get_or xs i d) → new ≡ old ++ flat_map f (take (i + 1) xs)
 block-next f old block new xs i d l inv more =
     more ∙ ap (λ (x : List ℕ). x ++ f (get_or xs i d)) inv ∙ append_assoc old (flat_map f (take i xs)) (f (get_or xs i d))
     ∙ ap (λ (x : List ℕ). old ++ x) (sym (flat_map-next f xs i d l))
 
--- a block with one text more
+-- a block with one more text
 pub text-next : (old front text block new : List ℕ) → block ≡ old ++ front → new ≡ block ++ text → new ≡ old ++ (front ++ text)
 text-next old front text block new inv more = more ∙ ap (λ (x : List ℕ). x ++ text) inv ∙ append_assoc old front text

@@ -23,7 +23,7 @@ ending-more xs i e l =
     let m = length-drop (i + 1) xs in
     grind (arith, nat_tests)
 
--- one cell more in a table's row
+-- one more cell in a table's row
 pub table-step : (ws : List ℕ) (xs : List (Bor (List ℕ))) (i : ℕ) (d : Bor (List ℕ)) (block with_cell new whole : List ℕ) (end : ℕ) → i < length xs
     → block ++ table_from ws i (texts (drop i xs)) ≡ whole → with_cell ≡ block ++ filled (slice_index ws i) (get_or xs i d).now → new ≡ with_cell ++ end ∷ []
     → end ≡ ending (texts (drop (i + 1) xs)) → new ++ table_from ws (i + 1) (texts (drop (i + 1) xs)) ≡ whole
@@ -35,7 +35,7 @@ table-step ws xs i d block with_cell new whole end l inv cell put e =
     ∙ append_assoc block f (end ∷ rest) ∙ ap (λ (k : ℕ). block ++ (f ++ k ∷ rest)) e
     ∙ ap (λ (x : List ℕ). block ++ x) (sym (at_drop_more (λ ys. table_from ws i (texts ys)) xs i d l)) ∙ inv
 
--- the row is whole behind its last cell
+-- the row is whole after its last cell
 pub table-end : (ws : List ℕ) (xs : List (Bor (List ℕ))) (i : ℕ) → length xs ≤ i → table_from ws i (texts (drop i xs)) ≡ []
 unfolding table_from
 table-end ws xs i l = at_drop_all (λ ys. table_from ws i (texts ys)) xs i l

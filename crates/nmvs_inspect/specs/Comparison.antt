@@ -14,17 +14,17 @@ use Rattle.nmvs_inspect.specs.declared.comparison.Walk.{Walk}
 abbrev pub about : ProductCode → List Entry → List Entry
 about c t = filter (has_code c) t
 
--- a new trail goes on from an old one: for each product code the entries of the old one about it are, in order, the first
--- ones of the new one about it
+-- a new trail goes on from an old one: its entries about each product code begin with those of the old one about the code, in
+-- order
 abbrev pub GoesOn : List Entry → List Entry → Type 0
 GoesOn old new = (c : ProductCode) → (more : List Entry) × (about c new ≡ about c old ++ more)
 
--- what a new trail has in the place of an entry before which an old one has these: as many entries about its product code
--- stand before it
+-- the entry that a new trail has in the place of an entry that follows these in an old one: as many entries about the product
+-- code stand before it
 abbrev pub in_place : List Entry → Entry → List Entry → Option Entry
 in_place before e new = let c = code_of e.put.question in slice_get (about c new) (length (about c before))
 
--- where a new trail first departs from an old one: it goes on from the entries before this one, and has another in its
+-- the first departure of a new trail from an old one: it goes on from the entries before d, and has another entry in its
 -- place, or none
 pub record Departs (old new : List Entry) (d : Departure) : Type 0 where
   pub place : ℕ
@@ -38,18 +38,18 @@ pub record Departs (old new : List Entry) (d : Departure) : Type 0 where
 abbrev pub same_code : ProductCode → ProductCode → Bool
 same_code = same_text
 
--- where the first entry about a product code stands from a place on: at the trail's length where none does
+-- the place of the first entry about a product code from a place on, or the trail's length if there is none
 abbrev pub seek : ProductCode → List Entry → ℕ → ℕ
 seek c t n = n + position_or_len (has_code c) (drop n t)
 
--- where a walk stands with a product code: at the trail's length where no entry about it is left
+-- the place of a walk with a product code: the trail's length if no entry about the code is left
 abbrev pub head : {S : Type 0} → HashMap ProductCode ℕ S → ProductCode → Option ℕ
 head m c = get same_text m c
 
 abbrev pub head_of : Walk → ProductCode → ℕ
 head_of w c = unwrap_or (head w.heads c) (length w.nexts.items)
 
--- beside each entry from a place on stands where the next one about its product code does
+-- each entry from a place on has the place of the next entry about its product code
 pub record AreNexts (from : ℕ) (t : List Entry) (nexts : List ℕ) : Type 0 where
   pub whole : length nexts ≡ length t
   pub right : (i : ℕ) → (e : Entry) → from ≤ i → slice_get t i ≡ Some e → slice_index_or nexts i 0 ≡ seek (code_of e.put.question) t (i + 1)
@@ -59,8 +59,8 @@ pub record StandsBefore (w : Walk) (t : List Entry) : Type 0 where
   pub nexts : AreNexts 0 t w.nexts.items
   pub heads : (c : ProductCode) → head_of w c ≡ seek c t 0
 
--- a walk along a new trail that passed the entries of an old one: what is left of it about each product code follows them,
--- and it stands at the first one that is left
+-- a walk along a new trail that passed the entries of an old one: of each product code it passed these alone, and it stands at
+-- the first entry that is left
 pub record HasPassed (w : Walk) (old new : List Entry) : Type 0 where
   pub nexts : AreNexts 0 new w.nexts.items
   pub left : (c : ProductCode) → about c new ≡ about c old ++ about c (drop (head_of w c) new)

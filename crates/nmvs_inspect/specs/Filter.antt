@@ -1,4 +1,4 @@
--- Which entries of a trail a filter takes (own): those that pass each test that is set.
+-- The entries of a trail that a filter takes (own): those that pass each test that is set.
 use Rattle.std.specs.Prelude.{ℕ, Bool, true, false, not, ◌&&◌, ◌||◌, List, Option, Some, None, pos, int_le}
 use Rattle.std.specs.Option.{option_map_or}
 use Rattle.std.specs.Str.{bytes_eq}
@@ -51,12 +51,12 @@ every = record {
 abbrev pub is_wanted : {A : Type 0} → (A → Bool) → Option A → Bool
 is_wanted test wanted = option_map_or test wanted true
 
--- whether the moment is on none of the days before the first, nor on one after the last; both are of UTC
+-- whether the moment is not before the first day, and not after the last, by UTC
 abbrev pub is_in_days : Filter → ℕ → Bool
 is_in_days f m =
     is_wanted (λ d. int_le (epoch_day d) (pos (day_of m))) f.from && is_wanted (λ d. int_le (pos (day_of m)) (epoch_day d)) f.to
 
--- whether the user asks, in the capacity
+-- whether the wanted user asks, in the wanted capacity
 abbrev pub is_asked_by : Filter → Put → Bool
 is_asked_by f p =
     is_wanted (same_text p.user) f.user && is_wanted (λ r. bytes_eq (role_word p.actor.role) (role_word r)) f.role
@@ -88,7 +88,7 @@ is_uploaded_in b (Some k) = same_text k.batch b
 abbrev pub is_of_batch : List Entry → Question → Batch → Bool
 is_of_batch t q b = is_batch_named b (named_batch q) || is_uploaded_in b (pack_fact t (pack_of q))
 
--- whether the question recalls or withdraws the batch of the pack, where that is known
+-- whether the question recalls or withdraws the batch of the pack, if the pack is known
 abbrev pub locks_batch_of : Pack → Question → Option Known → Bool
 locks_batch_of p q None = false
 locks_batch_of p q (Some k) = locks_batch p.code k.batch q
@@ -124,7 +124,7 @@ abbrev pub is_refusal : Reply → Bool
 is_refusal (replies.Refused _) = true
 is_refusal _ = false
 
--- whether the reply is of the kind, a flagged alert where those are wanted, and a refusal where those are
+-- whether the reply is of the kind, a flagged alert if those are wanted, and a refusal if those are wanted
 abbrev pub is_answered : Filter → Reply → Bool
 is_answered f r =
     is_wanted (λ k. bytes_eq (reply_word (kind_of_reply r)) (reply_word k)) f.reply

@@ -2,7 +2,7 @@
 use Rattle.std.specs.Prelude.{◌≡◌, ℕ, List, ◌++◌}
 use Rattle.nmvs_stream.specs.Sink.{Taken}
 
--- of the text the sink took the front since it told `old`, and the block holds the rest
+-- the sink took the front of the text since `old`, and the block holds the rest
 pub record IsGathered (old new : Taken) (block text : List ℕ) : Type 0 where
   pub written : List ℕ
   pub bytes : new.bytes ≡ old.bytes ++ written

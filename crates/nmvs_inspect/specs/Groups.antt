@@ -1,4 +1,4 @@
--- Entries that are counted in groups (own): those of a group have the same parts, as their day and their cause.
+-- Entries that are counted in groups (own): those of a group have the same parts, such as day and cause.
 use Rattle.std.specs.Prelude.{◌≡◌, ℕ, ◌+◌, ◌%◌, ◌≤◌, List, [], ◌∷◌, ◌++◌, Bool, if◌then◌else◌, take, map, fold, find, codes, decimal, pos, ℤ, ◌-ℤ◌, Option}
 use Rattle.std.specs.List.{flat_map, All}
 use Rattle.std.specs.Str.{bytes_eq}
@@ -21,7 +21,7 @@ use Rattle.nmvs_inspect.specs.Replies.{cause_text}
 use Rattle.nmvs_inspect.specs.Rows.{row_in}
 use Rattle.nmvs_inspect.specs.Selection.{selected}
 
--- what entries are counted by, in a word
+-- the word of a part that entries are counted by
 abbrev pub by_word : By → List ℕ
 by_word by.Day = codes "day"
 by_word by.Week = codes "week"
@@ -35,17 +35,17 @@ by_word by.Role = codes "role"
 by_word by.Word = codes "word"
 by_word by.Reply = codes "reply"
 
--- all that entries are counted by
+-- all parts that entries are counted by
 abbrev pub all_by : List By
 all_by =
     by.Day ∷ by.Week ∷ by.Month ∷ by.Cause ∷ by.Premises ∷ by.Authorisation ∷ by.Code ∷ by.User ∷ by.Role ∷ by.Word
     ∷ by.Reply ∷ []
 
--- what has this word
+-- the part that has this word
 abbrev pub by_named : List ℕ → Option By
 by_named w = find (λ b. bytes_eq w (by_word b)) all_by
 
--- how wide its column is
+-- the width of its column
 abbrev pub by_width : By → ℕ
 by_width by.Day = 10
 by_width by.Week = 10
@@ -73,7 +73,7 @@ pub record AreSingle (f : Filter) (t : List Entry) (gs : List Group) : Type 0 wh
   pub these : map (λ g. g.first) gs ≡ selected f t
   pub single : All IsSingle gs
 
--- what the first entry of a group has
+-- a part of the first entry of a group
 abbrev pub part : Group → By → List ℕ
 part g by.Day = date_text g.day
 part g by.Week = date_text g.monday
@@ -87,7 +87,7 @@ part g by.Role = role_word g.first.put.actor.role
 part g by.Word = kind_word (kind_of g.first.put.question)
 part g by.Reply = reply_word (kind_of_reply g.first.reply)
 
--- its parts, each with a tabulator behind it, which none of them has
+-- its parts, each with a tabulator after it, which no part has
 abbrev pub parts : List By → Group → List ℕ
 parts bs g = flat_map (λ b. part g b ++ 9 ∷ []) bs
 
@@ -95,7 +95,7 @@ parts bs g = flat_map (λ b. part g b ++ 9 ∷ []) bs
 abbrev pub is_in : List By → Group → Group → Bool
 is_in bs d g = bytes_eq (parts bs d) (parts bs g)
 
--- groups with one entry more: it counts in the group that has its parts, or is a new one at the end
+-- groups with one more entry: it counts in the group that has its parts, or is a new group at the end
 abbrev pub with_entry : List By → List Group → Group → List Group
 with_entry bs [] d = d ∷ []
 with_entry bs (g ∷ gs) d =
@@ -105,14 +105,14 @@ with_entry bs (g ∷ gs) d =
 abbrev pub groups_of : List By → List Group → List Group
 groups_of bs ds = fold (with_entry bs) [] ds
 
--- what is kept while entries are counted: the parts of each group, in their order, and numbers that are not above n
+-- the state while entries are counted: the parts of each group, in their order, and numbers that are not above n
 abbrev pub HasPartsOf : List By → List (Vec ℕ) → List Group → Type 0
 HasPartsOf bs keys gs = map (λ k. k.items) keys ≡ map (parts bs) gs
 
 abbrev pub HasNumbersUpTo : ℕ → List Group → Type 0
 HasNumbersUpTo n gs = All (λ g. g.number ≤ n) gs
 
--- the cells of a group's row: its parts, and how many entries it has
+-- the cells of a group's row: its parts, and the number of its entries
 abbrev pub group_cells : List By → Group → List (List ℕ)
 group_cells bs g = map (part g) bs ++ decimal g.number ∷ []
 

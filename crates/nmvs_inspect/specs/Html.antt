@@ -1,8 +1,8 @@
--- Texts and rows of HTML (own). All that is told of an export stands between tags, escaped or as a number.
+-- Texts and rows of HTML (own). All values of an export stand between tags, escaped or as a number.
 use Rattle.std.specs.Prelude.{ℕ, ◌==◌, ◌&&◌, Bool, not, if◌then◌else◌, List, [], ◌∷◌, ◌++◌, codes, decimal}
 use Rattle.std.specs.List.{flat_map}
 
--- a byte of a text: serial numbers and batches may have these, names and words have none of them
+-- the escape of a byte: serial numbers and batches may have these bytes, names and words may not
 abbrev pub escape : ℕ → List ℕ
 escape b =
     if b == 34 then codes "&quot;" else if b == 38 then codes "&amp;" else if b == 60 then codes "&lt;" else
@@ -15,7 +15,7 @@ escaped t = flat_map escape t
 abbrev pub is_plain : ℕ → Bool
 is_plain b = not (b == 34) && not (b == 60) && not (b == 62)
 
--- the cells of a row: texts, and behind them numbers
+-- the cells of a row: texts, and then numbers
 abbrev pub cell : List ℕ → List ℕ
 cell t = codes "<td>" ++ (escaped t ++ codes "</td>")
 

@@ -14,8 +14,8 @@ use Rattle.nmvs_words.specs.Words.{own_word}
 use Rattle.nmvs_inspect.specs.declared.form.Form.{Form}
 use Rattle.nmvs_inspect.specs.Rows.{moment_text, row_in, serial_text}
 
--- the upload of a pack, what is known of the pack at the end of the trail, and the date and time of the last accepted
--- entry about it, by UTC
+-- a pack's upload, what is known of the pack at the end of the trail, and the date and time (UTC) of the last accepted
+-- entry about it
 pub record Standing (t : List Entry) : Type 0 where
   pub upload : Entry
   pub known : Known
@@ -27,7 +27,7 @@ pub record Standing (t : List Entry) : Type 0 where
 pub record AreOfBatch (c : ProductCode) (b : Batch) (t : List Entry) (ps : List (Standing t)) : Type 0 where
   pub these : map (λ p. p.upload) ps ≡ filter (is_birth_in c b) t
 
--- the columns, and how wide they are in a table
+-- the columns, and their widths in a table
 abbrev pub columns : List (List ℕ)
 columns =
     codes "serial" ∷ codes "expiry" ∷ codes "status" ∷ codes "moment" ∷ codes "authorisation" ∷ codes "premises" ∷ []

@@ -31,14 +31,14 @@ alerts = record every { reply = Some kinds.Alert }
 abbrev pub flagged_alerts : Filter
 flagged_alerts = record every { flagged = true }
 
--- the row of a product code: its holder, its alerts, and how many of them were flagged
+-- the row of a product code: its holder, and the numbers of its alerts and of its flagged alerts
 abbrev pub holder_row : ProductCode → Option Name → ℕ → ℕ → List ℕ
 holder_row c holder alerts flagged = html_row (c.bytes ∷ holder_word holder ∷ []) (alerts ∷ flagged ∷ [])
 
 abbrev pub product_row : List Entry → ProductCode → List ℕ
 product_row t c = holder_row c (holder_of t c) (alerts_of t c) (flagged_alerts_of t c)
 
--- the row of a batch with a record: its lock, and how many of its packs have each own status
+-- the row of a batch with a record: its lock, and the number of its packs of each own status
 abbrev pub record_row : ProductCode → Batch → BatchRecord → List ℕ
 record_row c b r = let n = r.counts in
     html_row (c.bytes ∷ b.bytes ∷ lock_word r.lock ∷ [])
@@ -51,13 +51,13 @@ batch_row t c b = record_row c b (record { lock = lock_of t c b; counts = counts
 abbrev pub batch_rows : List Entry → ProductCode → List ℕ
 batch_rows t c = flat_map (batch_row t c) (code_batches t c)
 
--- the heads of a table's columns, of texts and behind them of numbers, and the beginning of its rows
+-- the heads of a table's columns, of texts and then of numbers, and the beginning of its rows
 abbrev pub table_head : List (List ℕ) → List (List ℕ) → List ℕ
 table_head texts numbers =
     codes "<thead><tr>" ++ (flat_map (λ t. codes "<th>" ++ (t ++ codes "</th>")) texts
     ++ (flat_map (λ t. codes "<th class=n>" ++ (t ++ codes "</th>")) numbers ++ codes "</tr></thead><tbody>"))
 
--- what stands before the rows of product codes, of their batches, of weeks, of premises and of flagged alerts
+-- the text before the rows of product codes, of their batches, of weeks, of premises and of flagged alerts
 abbrev pub products_head : List ℕ
 products_head =
     codes "</pre>\n<p>Days, weeks and times are of UTC; a week is named by its Monday. A click on the head of a column sorts.</p>\n<h2>Product codes</h2>\n<div class=box><table>"

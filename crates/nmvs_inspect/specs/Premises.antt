@@ -10,15 +10,15 @@ use Rattle.nmvs_inspect.specs.declared.filter.Filter.{Filter}
 use Rattle.nmvs_inspect.specs.declared.form.Form.TheVariants as form
 use Rattle.nmvs_inspect.specs.Groups.{AreSingle, Group, group_row, groups_of}
 
--- a name of premises is one of an authorisation's
+-- the parts that name premises: the same name under another authorisation is other premises
 abbrev pub by_premises : List By
 by_premises = by.Authorisation ∷ by.Premises ∷ []
 
--- how far a group's number is below the greatest that a number can be
+-- the distance of a group's number from the greatest number
 abbrev pub rank : Group → ℕ
 rank g = 18_446_744_073_709_551_615 - g.number
 
--- the same groups, those with the most entries first; groups of one number stay in their order
+-- the same groups, those with the most entries first; groups of equal number stay in their order
 pub record AreMostFirst (gs most : List Group) : Type 0 where
   pub sorted : IsNonDecreasingBy rank most
   pub stable : IsStableByKey rank nat_cmp gs most

@@ -30,7 +30,7 @@ abbrev pub refusal_text : Reply → List ℕ
 refusal_text (Refused r) = refusal_word r
 refusal_text _ = []
 
--- what is told of an authentic pack, or of a pack whose status was asked for
+-- the details of an authentic pack, or of a pack whose status was asked for
 abbrev pub detail_text : Reply → List ℕ
 detail_text (Authentic b x expired) = b.bytes ++ (codes " " ++ (x.bytes ++ (codes " " ++ validity_word expired)))
 detail_text (StatusIs own lock onward b x) =

@@ -1,5 +1,5 @@
--- The reports of product codes as rows of CSV (own): a row for each product code, and a row for each of its batches. What
--- a row does not tell is empty, so that a column can be summed up.
+-- The reports of product codes as rows of CSV (own): a row for each product code, and a row for each of its batches. A
+-- cell without a value is empty, so that a column can be summed up.
 use Rattle.std.specs.Prelude.{ℕ, ◌-◌, List, [], ◌∷◌, ◌++◌, codes, decimal, length, take, Option}
 use Rattle.std.specs.List.{flat_map}
 use Rattle.csv.specs.Writing.{default_writer, row_text}
@@ -22,7 +22,7 @@ heads = codes "code,batch,holder,alerts,flagged,lock,active,held,supplied,export
 abbrev pub front : List (List ℕ) → List ℕ
 front cs = let row = row_text default_writer cs in take (length row - 1) row
 
--- the row of a product code: its holder, its alerts, and how many of them were flagged
+-- the row of a product code: its holder, and the numbers of its alerts and of its flagged alerts
 abbrev pub holder_cells : ProductCode → Option Name → List ℕ
 holder_cells c holder = front (c.bytes ∷ [] ∷ holder_word holder ∷ [])
 
@@ -32,7 +32,7 @@ alert_numbers alerts flagged = codes "," ++ (decimal alerts ++ (codes "," ++ (de
 abbrev pub product_row : List Entry → ProductCode → List ℕ
 product_row t c = holder_cells c (holder_of t c) ++ alert_numbers (alerts_of t c) (flagged_alerts_of t c)
 
--- how many packs of a batch have each own status
+-- the number of a batch's packs of each own status
 abbrev pub first_numbers : Counts → List ℕ
 first_numbers n =
     codes "," ++ (decimal n.active ++ (codes "," ++ (decimal n.held ++ (codes "," ++ (decimal n.supplied ++ (codes "," ++ decimal n.exported))))))

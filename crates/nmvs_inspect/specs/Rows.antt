@@ -41,7 +41,7 @@ abbrev pub batch_text : Option Batch → List ℕ
 batch_text None = []
 batch_text (Some b) = b.bytes
 
--- the words of a reply: its text but the LF
+-- the words of a reply: its text without the LF
 abbrev pub reply_cell : Reply → List ℕ
 reply_cell r = let line = reply_text r [] in take (length line - 1) line
 
@@ -76,7 +76,7 @@ html_cells d = let e = d.entry in let q = e.put.question in
     moment_text d.at ∷ e.put.user.bytes ∷ e.put.actor.authorisation.bytes ∷ e.put.actor.premises.bytes ∷ kind_word (kind_of q)
     ∷ (code_of q).bytes ∷ serial_text (pack_of q) ∷ reply_cell e.reply ∷ role_word e.put.actor.role ∷ batch_text (named_batch q) ∷ []
 
--- how wide the columns of a table are; a longer cell makes its row longer
+-- the widths of the columns of a table; a longer cell makes its row longer
 abbrev pub widths : List ℕ
 widths = 19 ∷ 8 ∷ 12 ∷ 13 ∷ 8 ∷ 8 ∷ 14 ∷ 20 ∷ 8 ∷ []
 
@@ -84,7 +84,7 @@ widths = 19 ∷ 8 ∷ 12 ∷ 13 ∷ 8 ∷ 8 ∷ 14 ∷ 20 ∷ 8 ∷ []
 abbrev pub filled : ℕ → List ℕ → List ℕ
 filled w c = c ++ replicate (w - length c) 32
 
--- what follows a cell before these: LF behind the last
+-- the byte between a cell and these: LF after the last cell, a blank after another
 abbrev pub ending : List (List ℕ) → ℕ
 ending cs = if length cs == 0 then 10 else 32
 

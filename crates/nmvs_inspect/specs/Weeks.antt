@@ -1,4 +1,4 @@
--- Groups of alerts by week, as a picture (own): a bar a week, as high as it has alerts, at the week's place in time.
+-- Groups of alerts by week, as a picture (own): a bar a week, as high as its number of alerts, at the week's place in time.
 use Rattle.std.specs.Prelude.{ℕ, ◌+◌, ◌-◌, ◌/◌, max, if◌then◌else◌, nat_lt, List, [], ◌∷◌, ◌++◌, fold, codes, decimal, Option, Some, None}
 use Rattle.std.specs.List.{flat_map}
 use Rattle.jiff_fmt.specs.Text.{date_text}
@@ -10,7 +10,7 @@ use Rattle.nmvs_inspect.specs.declared.weeks.Span.{Span}
 unfoldable pub week_of : Group → ℕ
 week_of g = (day_of g.first.put.moment + 3) / 7
 
--- the first and the last week, and the most entries of one, with a group more
+-- the first and the last week, and the most entries of a week, with one more group
 abbrev pub with_group : Option Span → Group → Option Span
 with_group None g = Some (record { first = g; last = g; most = g.number })
 with_group (Some s) g = Some (
@@ -28,7 +28,7 @@ span_of gs = fold with_group None gs
 unfoldable pub weeks_in : Span → ℕ
 weeks_in s = week_of s.last - week_of s.first + 1
 
--- the picture begins with what it shows: a number of weeks from the first on, and so many entries upwards
+-- the picture begins with its size: this number of weeks from the first on, and the most entries of a week upwards
 abbrev pub width : ℕ → List ℕ
 width number = codes "<figure><svg role=\"img\" preserveAspectRatio=\"none\" width=\"" ++ (decimal number ++ codes "em\" viewBox=\"")
 
@@ -46,7 +46,7 @@ bar g =
     codes "<rect x=\"" ++ (decimal (week_of g) ++ (codes "\" width=\".8\" height=\"" ++ (decimal g.number ++ (codes "\"><title>"
     ++ (date_text g.monday ++ (codes ": " ++ (decimal g.number ++ codes "</title></rect>\n")))))))
 
--- what the picture shows, in words
+-- the caption of the picture: its weeks and its height
 unfoldable pub caption : Span → List ℕ
 caption s =
     codes "</g></svg><figcaption>From the week of " ++ (date_text s.first.monday ++ (codes " to that of " ++ (date_text s.last.monday

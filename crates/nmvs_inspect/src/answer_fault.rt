@@ -2,7 +2,7 @@ use nmvs_stream::Failed;
 use std::alloc::AllocError;
 use thiserror::Error;
 
-/// Why an answer was not written to its end.
+/// The fault of an answer that was not written to its end (own).
 #[derive(Clone, Copy, Debug, Error)]
 pub enum AnswerFault {
     #[error("out of memory")]

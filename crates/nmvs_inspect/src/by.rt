@@ -1,7 +1,7 @@
 ghost use Rattle.std.specs.Prelude.{◌≡◌};
 ghost use Rattle.nmvs_inspect.specs.Groups as groups;
 
-/// By what entries are counted (own).
+/// A part of an entry, by which entries are counted (own).
 #[derive(Clone, Copy)]
 pub enum By {
     /// The day, by UTC.
@@ -10,7 +10,7 @@ pub enum By {
     Week,
     /// The month, by UTC.
     Month,
-    /// Why authenticity was not confirmed, of an alert.
+    /// The cause of an alert: why authenticity was not confirmed.
     Cause,
     Premises,
     Authorisation,
@@ -24,7 +24,7 @@ pub enum By {
 }
 
 impl By {
-    /// What is counted by, in a word; it heads the column too.
+    /// The word of this part, which heads its column too.
     pub fn word(self) -> &'static str
         ensures { result.now ≡ groups.by_word self }
     {
@@ -43,7 +43,7 @@ impl By {
         }
     }
 
-    /// What this word says is counted by.
+    /// The part that this word names, if any.
     pub fn named(word: &str) -> Option<By>
         ensures { result ≡ groups.by_named word.now }
     {
@@ -63,7 +63,7 @@ impl By {
         }
     }
 
-    /// How wide its column of a table is.
+    /// The width of its column in a table, in bytes.
     pub(crate) fn width(self) -> u8
         ensures { result ≡ groups.by_width self }
     {

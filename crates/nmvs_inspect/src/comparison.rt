@@ -17,21 +17,21 @@ pub struct Departure {
     /// Its number in the old trail, counted from 1.
     pub number: usize,
     pub entry: Entry,
-    /// What the new trail has there; None where no further entry of it is about the product code.
+    /// The entry that the new trail has there, or None if no further entry is about the product code.
     pub found: Option<Entry>,
 }
 
 /// A walk along the entries about each product code of a trail.
 #[derive(Drop)]
 pub(crate) struct Walk {
-    /// Where the first entry about each product code stands that was not passed.
+    /// The place of the first entry about each product code that was not passed.
     heads: IndexMap<ProductCode, usize, HashKey>,
-    /// Beside each entry, where the next one about its product code stands; the trail's length where none does.
+    /// For each entry the place of the next one about its product code, or the trail's length if there is none.
     nexts: Vec<usize>,
 }
 
-/// Where a new trail departs from an old one, if it does: it goes on from the old one where for each product code the
-/// entries of the old one about it are, in order, the first ones of the new one about it (own).
+/// The first departure of a new trail from an old one, if any. The new trail goes on from the old one if its entries about
+/// each product code begin with those of the old one, in order (own).
 ///
 /// The entries about different product codes may stand in any order, as shards are exported one after another. It takes
 /// time and memory in proportion to the trails, and hashes with the key.
@@ -80,7 +80,7 @@ fn walk_along(alloc: Global, entries: &[Entry], key: HashKey) -> Result<Walk, Al
     Ok(Walk { heads, nexts })
 }
 
-/// Gives a product code its head, and tells the one before.
+/// Gives a product code its head, and returns its earlier head, if any.
 fn put_head(
     heads: &mut IndexMap<ProductCode, usize, HashKey>,
     code: ProductCode,
@@ -95,7 +95,7 @@ fn put_head(
     }
 }
 
-/// Where the walk stands with a product code.
+/// The place where the walk stands with a product code.
 fn head(walk: &Walk, code: &ProductCode) -> usize
     ensures { result ≡ spec.head_of walk.now code.now }
 {
@@ -120,7 +120,7 @@ fn pass(walk: &mut Walk, code: ProductCode, at: usize) -> Result<(), AllocError>
     Ok(())
 }
 
-/// Whether an entry is what was found.
+/// Whether this entry was found.
 fn is_found(entry: &Entry, found: &Option<Entry>) -> bool
     ensures { (result ≡ true) ↔ (found.now ≡ Some entry.now) }
 {
@@ -130,7 +130,7 @@ fn is_found(entry: &Entry, found: &Option<Entry>) -> bool
     }
 }
 
-/// Whether two entries are the same: they have the same line, as no others do.
+/// Whether two entries are the same: different entries have different lines.
 fn is_same(entry: &Entry, other: &Entry) -> bool
     ensures { (result ≡ true) ↔ (other.now ≡ entry.now) }
 {

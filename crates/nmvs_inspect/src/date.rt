@@ -5,11 +5,11 @@ ghost use Rattle.jiff_fmt.specs.Text.{date_text};
 use jiff::civil::Date;
 use std::alloc::{AllocError, Global};
 
-/// The date that a text writes as `2026-01-31`; None where it writes none, or writes it in another way.
+/// The date of a text in the form `2026-01-31`, or None if the text is no date in this form.
 ///
 /// # Errors
 ///
-/// There is no memory to compare with.
+/// There is no memory for the comparison.
 pub fn read_date(alloc: Global, text: &str) -> Result<Option<Date>, AllocError>
     ensures { IfOk result (λ date. IfSome date (λ date. date_text date ≡ text.now)) }
 {

@@ -1,4 +1,4 @@
-/// In what form rows are written (own).
+/// The form in which rows are written (own).
 #[derive(Clone, Copy)]
 pub enum Form {
     /// For people: cells in columns.

@@ -32,15 +32,15 @@ pub(crate) struct Group {
     pub day: Date,
     /// The Monday of its week.
     pub monday: Date,
-    /// How many they are.
+    /// The number of these entries.
     pub number: u64,
 }
 
-/// Writes how many of the entries that a filter takes have the same parts: a row a group, in order of first appearance in
-/// the list of these entries, which is oldest first. So the groups of a day, a week or a month come in order of time.
+/// Counts the entries that a filter takes by their parts, and writes a row a group. The rows are in order of first appearance
+/// in the list of these entries, oldest first. So the groups of a day, a week or a month come in order of time.
 ///
-/// It takes memory for a reference to each entry, as much again for a trail that is not in order of time, and for the groups
-/// and their rows.
+/// It takes memory for a reference to each entry, and for the groups and their rows. A trail that is not in order of time
+/// takes the memory for the references twice.
 ///
 /// # Errors
 ///
@@ -119,7 +119,7 @@ fn date_of(day: i64) -> Date
     Date::from_plain(civil::Date::from_unix_epoch_day(day).unwrap())
 }
 
-/// Counts one entry in the groups of the entries before this place, whose parts the keys are.
+/// Counts one entry in the groups of the entries before this place. The keys are the parts of these groups.
 fn count(
     alloc: Global,
     keys: &mut IndexSet<Vec<u8>, HashKey>,
@@ -146,7 +146,7 @@ fn count(
     }
 }
 
-/// The place of a key, and whether it is new; then it comes last.
+/// The place of a key, and whether it is new. A new key comes last.
 fn place_of(
     keys: &mut IndexSet<Vec<u8>, HashKey>,
     key: Vec<u8>,
@@ -178,7 +178,7 @@ fn add_one(groups: &mut Vec<Group>, index: usize)
     groups[index].number += 1;
 }
 
-/// The parts of an entry, each with a tabulator behind it.
+/// The parts of an entry, each with a tabulator after it.
 fn parts(alloc: Global, by: &[By], found: &Group) -> Result<Vec<u8>, AllocError>
     ensures { IfOk result (λ text. text.items ≡ spec.parts by.now found.now) }
 {
@@ -190,7 +190,7 @@ fn parts(alloc: Global, by: &[By], found: &Group) -> Result<Vec<u8>, AllocError>
     Ok(text)
 }
 
-/// Puts what an entry has at the end of a text.
+/// Puts one part of an entry at the end of a text.
 fn append_part(alloc: Global, text: &mut Vec<u8>, found: &Group, by: By) -> Result<(), AllocError>
     ensures { OnOk result (text.new.items ≡ text.old.items ++ spec.part found.now by) }
 {
@@ -298,7 +298,7 @@ fn group_texts(alloc: Global, by: &[By], group: &Group) -> Result<Vec<Vec<u8>>, 
     Ok(texts)
 }
 
-/// How wide the columns of a table are.
+/// The widths of the columns of a table.
 fn widths(alloc: Global, by: &[By]) -> Result<Vec<u8>, AllocError>
     ensures { IfOk result (λ widths. widths.items ≡ map spec.by_width by.now) }
 {

@@ -12,7 +12,7 @@ pub(crate) fn append_html(block: &mut Vec<u8>, text: &str) -> Result<(), AllocEr
     block.extend_from_slice(text.as_bytes())
 }
 
-/// Puts a text at the end of a block, as HTML that is read as that text.
+/// Puts a text at the end of a block, escaped as HTML.
 #[tactic(auto, using(crate::proofs::HtmlLemmas::escaped_plain))]
 pub(crate) fn append_escaped(block: &mut Vec<u8>, text: &[u8]) -> Result<(), AllocError>
     ensures text { OnOk result (block.new.items ≡ block.old.items ++ html.escaped text.now) }
@@ -36,7 +36,7 @@ fn append_byte(block: &mut Vec<u8>, byte: u8) -> Result<(), AllocError>
     }
 }
 
-/// Puts a row at the end of a block: texts, and behind them numbers.
+/// Puts a row at the end of a block: texts, and then numbers.
 pub(crate) fn append_html_row(
     alloc: Global,
     block: &mut Vec<u8>,

@@ -27,11 +27,11 @@ const COLUMNS: [&[u8]; 6] = [
     b"premises",
 ];
 
-/// How wide the columns of a table are; a longer cell makes its row longer.
+/// The widths of the columns of a table. A longer cell makes its row longer.
 const WIDTHS: [u8; 5] = [20, 6, 9, 19, 13];
 
-/// Writes the packs of a batch, in the order of their accepted uploads: how each stands at the end of the shard's trail,
-/// and when, under which authorisation and at which premises it came to stand so (Article 35(1)(g); the form is own).
+/// Writes the packs of a batch, in the order of their accepted uploads: the own status of each at the end of the shard's
+/// trail, and since when, under which authorisation and at which premises (Article 35(1)(g); the form is own).
 ///
 /// It takes memory for one block of rows, however many packs there are.
 ///
@@ -92,7 +92,7 @@ fn mark_time(known: &Known) -> DateTime
     date_and_time(known.mark.moment)
 }
 
-/// Puts the row of a pack at the end of a block, by its upload, what is known of it, and the date and time of its mark.
+/// Puts the row of a pack at the end of a block, by its upload, its known state and the time of its mark.
 fn append_pack(
     alloc: Global,
     block: &mut Vec<u8>,

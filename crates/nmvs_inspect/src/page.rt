@@ -24,7 +24,7 @@ use nmvs_stream::{Sink, deliver};
 use nmvs_words::ReplyKind;
 use std::alloc::{AllocError, Allocator, Global};
 
-/// Up to the verdict. The styles are for a screen of any width, light or dark, and for paper.
+/// The page up to the verdict. The styles are for a screen of any width, light or dark, and for paper.
 const HEAD: &str = "<!DOCTYPE html>\n<html lang=\"en\"><head><meta charset=\"utf-8\">\n\
     <meta name=\"viewport\" content=\"width=device-width, initial-scale=1\">\n\
     <meta http-equiv=\"Content-Security-Policy\" content=\"default-src 'none'; style-src 'unsafe-inline'; script-src 'unsafe-inline'\">\n\
@@ -98,12 +98,12 @@ const FOOT: &str = "</tbody></table></div>\n<script>\n\
     }\n\
     </script>\n</body></html>\n";
 
-/// Writes a page for a browser: a verdict, these product codes with their counts, alerts by week, the 20 premises with the
-/// most flagged alerts, and the flagged alerts, oldest first as the weeks are (Articles 36 and 40; the form is own). It needs
-/// nothing from elsewhere.
+/// Writes a page for a browser. It has a verdict, these product codes with their counts, alerts by week, the 20 premises with
+/// the most flagged alerts, and the flagged alerts (Articles 36 and 40; the form is own). Weeks and alerts come oldest first.
+/// The page needs nothing from elsewhere.
 ///
-/// It takes memory for the rows of product codes, batches and weeks, for references to the alerts and groups of them, and for
-/// one block of their rows.
+/// It takes memory for the rows of product codes, batches and weeks, and for one block of the rows of alerts. It also takes
+/// memory for references to the alerts, and for groups of them.
 ///
 /// # Errors
 ///
@@ -304,7 +304,7 @@ fn flagged_alerts() -> Filter
     }
 }
 
-/// Writes what a block has, the rows of flagged alerts, and the end of the page.
+/// Writes the text of a block, the rows of flagged alerts, and the end of the page.
 fn write_alerts<A: Allocator, W: Sink>(
     alloc: Global,
     block: &mut Vec<u8>,

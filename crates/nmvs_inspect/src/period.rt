@@ -1,4 +1,4 @@
-//! From when to when a trail goes.
+//! The earliest and the latest moment of a trail.
 ghost use Rattle.std.specs.Prelude.{◌≡◌, ◌*◌, pos, Some, IfOk, string_bytes};
 ghost use Rattle.nmvs_inspect.specs.Period as spec;
 
@@ -16,7 +16,7 @@ pub(crate) struct Period {
     pub last: Moment,
 }
 
-/// A line that tells from when to when a shard's trail goes, by UTC; nothing where it has no entry.
+/// The line with the earliest and the latest moment of a shard's trail, by UTC, or nothing if the trail is empty.
 ///
 /// # Errors
 ///
@@ -52,7 +52,7 @@ fn period_of(entries: &[Entry]) -> Option<Period>
     period
 }
 
-/// A period, with a moment more.
+/// A period with one more moment.
 fn with_moment(period: &Option<Period>, moment: Moment) -> Period
     ensures { Some result ≡ spec.with_moment period.now moment }
 {

@@ -8,8 +8,8 @@ use crate::{By, Filter, Form};
 use nmvs_shard::Shard;
 use std::alloc::{AllocError, Allocator, Global};
 
-/// Puts the rows of the premises with the most entries that a filter takes at the end of a block, the most first. A name of
-/// premises is one of an authorisation's.
+/// Puts the rows of the premises with the most entries that a filter takes at the end of a block, the most first. The same
+/// name under another authorisation is other premises.
 pub(crate) fn append_premises<A: Allocator>(
     alloc: Global,
     block: &mut Vec<u8>,

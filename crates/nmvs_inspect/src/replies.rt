@@ -14,8 +14,8 @@ use nmvs_words::{
 };
 use std::alloc::{AllocError, Global};
 
-/// Puts a row of CSV at the end of a block: these cells, and those of a reply. No word of the reply is lost: those of its
-/// cells that are not empty are its text.
+/// Puts a row of CSV at the end of a block: these cells, and those of a reply. No word of the reply is lost: its cells
+/// that are not empty are its text.
 pub(crate) fn append_values(
     alloc: Global,
     block: &mut Vec<u8>,
@@ -83,7 +83,7 @@ fn refusal_text(reply: &Reply) -> &'static str
     }
 }
 
-/// What is told of a pack that is authentic, or whose status was asked for.
+/// The details of a pack that is authentic, or whose status was asked for; other replies have none.
 fn detail_text(alloc: Global, reply: &Reply) -> Result<String, AllocError>
     ensures { IfOk result (λ text. string_bytes text ≡ spec.detail_text reply.now) }
 {

@@ -79,7 +79,7 @@ fn append_holder(
     append_front(alloc, block, &cells)
 }
 
-/// Puts how many alerts there were, and how many of them were flagged, at the end of a block, with LF.
+/// Puts the number of alerts, and that of flagged alerts, at the end of a block, with LF.
 fn append_alerts(
     alloc: Global,
     block: &mut Vec<u8>,
@@ -92,7 +92,7 @@ fn append_alerts(
     block.extend_from_slice(numbers.as_bytes())
 }
 
-/// The name of a holder, or a mark that begins no name.
+/// The name of a holder, or a character that begins no name if there is no holder.
 pub(crate) fn holder_text(holder: &Option<Name>) -> &str
     ensures { result.now ≡ holder_word holder.now }
 {
@@ -161,7 +161,7 @@ pub(crate) fn lock_text(kept: &BatchRecord) -> &str
     lock_word(kept.lock)
 }
 
-/// Puts how many packs of a batch have each own status at the end of a block, with LF.
+/// Puts the number of a batch's packs of each own status at the end of a block, with LF.
 fn append_numbers(alloc: Global, block: &mut Vec<u8>, counts: &Counts) -> Result<(), AllocError>
     ensures { OnOk result (block.new.items ≡ block.old.items ++ (reports.first_numbers counts.now ++ reports.other_numbers counts.now)) }
 {

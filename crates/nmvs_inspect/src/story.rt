@@ -13,9 +13,9 @@ use nmvs_shard::Shard;
 use nmvs_stream::{Sink, deliver};
 use std::alloc::{AllocError, Allocator, Global};
 
-/// Writes the story of a pack, in a form: the entries about it and those that recall or withdraw its batch, oldest first, and
-/// behind them a row with the reply that a question for its status gets at the end of the trail (Articles 35(1)(g), 36 and
-/// 40; the form is own).
+/// Writes the story of a pack, in a form: the entries about it and those that recall or withdraw its batch, oldest first. The
+/// last row has the reply that a question for its status gets at the end of the trail (Articles 35(1)(g), 36 and 40; the form
+/// is own).
 ///
 /// It takes memory as a list does.
 ///
@@ -52,8 +52,8 @@ pub fn story_of(pack: &Pack) -> Filter
     }
 }
 
-/// The reply that a question for the status of a pack gets at the end of a trail. It is the same whoever asks and when, so it
-/// is asked as the first entry's user did.
+/// The reply that a question for the status of a pack gets at the end of a trail. It is the same whoever asks and when: user
+/// and moment are those of the first entry.
 fn status_of<A: Allocator>(shard: &Shard<A>, pack: &Pack) -> Reply
     ensures { result ≡ story.status_of shard.now pack.now }
 {

@@ -6,7 +6,7 @@ ghost use Rattle.nmvs_inspect.specs.Weeks as weeks;
 use crate::groups::Group;
 use std::alloc::{AllocError, Global};
 
-/// What a picture shows.
+/// The weeks and the height of a picture.
 #[derive(Clone, Copy)]
 pub(crate) struct Span {
     /// A group of the first week.
@@ -17,7 +17,7 @@ pub(crate) struct Span {
     pub most: u64,
 }
 
-/// Puts the picture of weeks at the end of a block, each of which is one group.
+/// Puts the picture of weeks at the end of a block. Each week is one group.
 pub(crate) fn append_chart(
     alloc: Global,
     block: &mut Vec<u8>,
@@ -54,7 +54,7 @@ fn span_of(groups: &[Group]) -> Option<Span>
     span
 }
 
-/// What a picture shows, with a group more.
+/// A span with one more group.
 fn with_group(span: &Option<Span>, group: &Group) -> Span
     ensures { Some result ≡ weeks.with_group span.now group.now }
 {

@@ -1,4 +1,4 @@
-//! What a runtime that logs does beside that: what the one inside does.
+//! The other calls of a runtime that logs: it hands them to the runtime inside.
 use crate::EventLog;
 use std::alloc::Allocator;
 use std::fmt::Display;
@@ -48,7 +48,7 @@ impl<R: RandomSource> RandomSource for EventLog<R> {
     }
 }
 
-/// But for pipes and other owners of files.
+/// It hands on all calls but those for pipes and other owners of files.
 impl<R: Files> Files for EventLog<R> {
     type File = R::File;
 

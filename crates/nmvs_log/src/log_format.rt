@@ -1,4 +1,4 @@
-/// How the log is written (own).
+/// The form of the log (own).
 #[derive(Clone, Copy, Debug, PartialEq, Eq)]
 pub enum LogFormat {
     /// Moment, level and words.

@@ -1,4 +1,4 @@
--- The line of a command is read, and is the line of no other.
+-- The line of a command is read as it, and is the line of no other command.
 use Rattle.std.proofs.Common.{◌≡◌, ◌≢◌, ◌&&◌, ◌<◌, not, ℕ, true, cond, List, [], ◌∷◌, length, get_or, take, drop, Some, None, Result, Ok, Err, refl, sym, ap, ◌∙◌, lit≤, codes}
 use Rattle.std.specs.Prelude.{IfOk, IsTrue}
 use Rattle.std.specs.Option.{is_some}
@@ -92,7 +92,7 @@ few_fields (Enrol user actor) = lit≤ tt
 few_fields (Suspend user) = lit≤ tt
 few_fields (Remove user) = lit≤ tt
 
--- a line whose fields are read as a command, or have this fault, is read so
+-- a line is read as a command, or with a fault, if its fields are
 pub reads_fields : (x : List ℕ) (fs : List (List ℕ)) (r : Result Command CommandFault) → fs ≡ take 7 (fields_in x)
     → IfOk r (λ c. command_fields c ≡ fs) → IfOk r (λ c. IsTrue (is_command c)) → result_err r ≡ first_command_fault x → ReadsCommand x r
 reads_fields x fs (Ok c) kept same valid none = (line_of_kept x (command_fields c) (sym (same ∙ kept)) (few_fields c), sym none, valid)
@@ -120,7 +120,7 @@ user_fault-take [] = refl
 user_fault-take (a ∷ []) = refl
 user_fault-take (a ∷ b ∷ texts) = refl
 
--- what is kept of a line's fields tells their fault
+-- the kept fields of a line have the fault of all its fields
 pub fields_fault-take : (fs : List (List ℕ)) → fields_fault (take 7 fs) ≡ fields_fault fs
 fields_fault-take [] = refl
 fields_fault-take (word ∷ texts) = λ i.

@@ -1,4 +1,4 @@
--- Printable text is UTF-8, and what is kept of a line's fields.
+-- Printable text is UTF-8, and the kept fields of a line.
 use Rattle.std.proofs.Common.{◌≡◌, ◌<◌, ◌≤◌, ◌||◌, ◌==◌, ℕ, true, false, List, [], ◌∷◌, ◌++◌, length, get_or, map, take, Bor, refl, lit<, sym, ◌∙◌, ap, arith}
 use Rattle.std.specs.List.{list_all, list_any, AllByRecursion}
 use Rattle.std.specs.Str.{IsUtf8}
@@ -35,40 +35,40 @@ pub splits : (s t : Split ℕ) (x : List ℕ) → t ≡ s → split_text s ≡ x
     → YieldsList (split_steps FindsChar (λ a b. b ≡ a)) (λ f. f.now) t (fields_in x)
 splits s t x same text more space = YieldsList-from_str_split 32 x (lit< tt) (ap split_text same ∙ text) (ap split_has_more same ∙ more) (ap split_pattern same ∙ space)
 
--- a text with an empty field, told at that field
+-- a text with an empty field has it at some place
 pub empty_at : (x : List ℕ) (i : ℕ) (f : List ℕ) → (i < length (fields_in x)) × (f ≡ get_or (fields_in x) i f) → is_empty f ≡ true → list_any is_empty (fields_in x) ≡ true
 empty_at x i f here e = list_any_at is_empty (fields_in x) i f here.0 (ap is_empty (sym here.1) ∙ e)
 
--- the fields so far, none of them empty, with one more
+-- the fields so far, none of them empty, with one more field
 pub filled_push : (fs : List (Bor (List ℕ))) (f : Bor (List ℕ)) → list_any is_empty (map (λ g. g.now) fs) ≡ false → is_empty f.now ≡ false
     → list_any is_empty (map (λ g. g.now) (fs ++ f ∷ [])) ≡ false
 filled_push fs f filled e =
     ap (list_any is_empty) (map_push (λ g. g.now) fs f) ∙ list_any-append is_empty (map (λ g. g.now) fs) (f.now ∷ [])
     ∙ (λ i. filled i || (e i || false))
 
--- one element more, while there is room and when there is none
+-- one more element, if there is room
 pub take_push : {A : Type 0} (xs : List A) (x : A) → length (take 7 xs) < 7 → take 7 (xs ++ x ∷ []) ≡ take 7 xs ++ x ∷ []
 take_push xs x room =
     let kept = length-take 7 xs in
     let more = length_push xs x in
     take_all 7 (xs ++ x ∷ []) (omega arith) ∙ ap (λ ys. ys ++ x ∷ []) (sym (take_all 7 xs (omega arith)))
 
--- with no room one more is not kept
+-- one more element is not kept if there is no room
 pub take_push_full : {A : Type 0} (xs : List A) (x : A) → 7 ≤ length (take 7 xs) → take 7 (xs ++ x ∷ []) ≡ take 7 xs
 take_push_full xs x full = let kept = length-take 7 xs in take-append-le 7 xs (x ∷ []) (omega arith)
 
--- as many are kept as there is room for
+-- a list that has seven kept elements is full
 pub full : {A : Type 0} (kept all : List A) → kept ≡ take 7 all → (length kept == 7) ≡ true → 7 ≤ length (take 7 all)
 full kept all same is_full = let n = eqb-true (length kept) 7 is_full in let m = ap length same in omega arith
 
--- a line of which fewer fields than could be are kept has these fields, and is made of them
+-- a line with less than seven kept fields has exactly these, and is made of them
 pub line_of_kept : (x : List ℕ) (fs : List (List ℕ)) → take 7 (fields_in x) ≡ fs → length fs < 7 → x ≡ line_of_fields fs
 line_of_kept x fs kept few =
     let counted = length-take 7 (fields_in x) in
     let same = ap length kept in
     sym (join_with_byte-slice_split 32 x) ∙ ap line_of_fields (sym (take_all 7 (fields_in x) (omega arith)) ∙ kept)
 
--- the texts of a slice of one, of two and of four
+-- the texts of slices of one, two and four elements
 pub one : (ts : List (Bor (List ℕ))) (a : Bor (List ℕ)) → 1 ≤ length ts → length ts < 2 → map (λ t. t.now) ts ≡ (get_or ts 0 a).now ∷ []
 one [] a least most = absurd (omega arith)
 one (s ∷ []) a least most = refl

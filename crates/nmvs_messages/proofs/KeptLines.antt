@@ -1,4 +1,4 @@
--- What is kept of a line is enough to judge it.
+-- The kept part of a line is enough to judge it.
 use Rattle.std.proofs.Common.{◌≡◌, ◌<◌, ◌+◌, ◌++◌, ◌∷◌, ◌==◌, [], true, List, ℕ, length, take, min, Some, Result, Ok, Err, refl, sym, ap, ◌∙◌, subst, inl, inr, arith}
 use Rattle.std.proofs.lemmas.List.{take_at, take_all, take_min, take-append-le, length-take, length-take-le}
 use Rattle.std.proofs.Math.Seq.{take-append-add}
@@ -17,31 +17,31 @@ long_reads_command : (x y : List ℕ) (r : Result Command CommandFault) → 200 
 long_reads_command x y (Ok c) lx ly h = let e = long_command_fault x lx in let no = h.1 in absurd (cc (e, no))
 long_reads_command x y (Err fault) lx ly h = long_command_fault y ly ∙ sym (long_command_fault x lx) ∙ h
 
--- what is kept of a command is read as the command is
+-- the kept part of a command is read as the command is
 pub kept_reads_command : (x : List ℕ) (r : Result Command CommandFault) → ReadsCommand (kept_part x) r → ReadsCommand x r
 kept_reads_command x r h = elim (cases_lt 201 (length x)) [
   | inr short ↦ subst (λ (t : List ℕ). ReadsCommand t r) (take_all 201 x short) h
   | inl long ↦ let n = length-take-le 201 x (omega arith) in long_reads_command (kept_part x) x r (omega arith) (omega arith) h
 ]
 
--- bytes more of what is kept
+-- more bytes after the kept part
 pub kept_more : (x y : List ℕ) → kept_part (kept_part x ++ y) ≡ kept_part (x ++ y)
 kept_more x y = elim (cases_lt 201 (length x)) [
   | inr short ↦ ap (λ (t : List ℕ). kept_part (t ++ y)) (take_all 201 x short)
   | inl long ↦ take_at (kept_part x) y 201 (length-take-le 201 x (omega arith)) ∙ sym (take-append-le 201 x y (omega arith))
 ]
 
--- what is kept of what is kept
+-- the kept part of the kept part
 pub kept_twice : (x : List ℕ) → kept_part (kept_part x) ≡ kept_part x
 kept_twice x = let n = length-take 201 x in take_all 201 (kept_part x) (omega arith)
 
--- as many bytes more as there is room for
+-- as many more bytes as there is room for
 pub kept_filled : (x y : List ℕ) (room : ℕ) → room + length x ≡ 201 → x ++ take (min room (length y)) y ≡ kept_part (x ++ y)
 kept_filled x y room whole =
     let n : length x + room ≡ 201 = omega arith in
     ap (λ (t : List ℕ). x ++ t) (take_min room y) ∙ sym (take-append-add x y room) ∙ ap (λ (k : ℕ). take k (x ++ y)) n
 
--- a line of which no byte is kept was not begun
+-- a line without a kept byte was not begun
 pub kept_begun : (line begun tail : List ℕ) → (length line == 0) ≡ true → line ≡ kept_part begun → kept_part tail ≡ kept_part (begun ++ tail)
 kept_begun [] begun tail none is = ap (λ (t : List ℕ). kept_part (t ++ tail)) is ∙ kept_more begun tail
 kept_begun (b ∷ line) begun tail none is = let some = ne_eqb (length (b ∷ line)) 0 (λ z. absurd (omega (arith, z))) in absurd (cc (none, some))

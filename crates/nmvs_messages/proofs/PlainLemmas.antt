@@ -77,7 +77,7 @@ plain_line fs some few plain =
       filled = ap (list_any is_empty) own ∙ none_empty fs plain;
     }
 
--- it has no fault but that of its fields
+-- it has no other fault than that of its fields
 pub line_fault-plain : {F : Type 0} (long bytes empty : F) (of_fields : List (List ℕ) → Option F) (fs : List (List ℕ)) → IsPlainLine fs
     → line_fault long bytes empty of_fields (line_of_fields fs) ≡ of_fields fs
 line_fault-plain long bytes empty of_fields fs plain =

@@ -1,16 +1,16 @@
--- What a release makes of what is withheld.
+-- The answers that a release makes of withheld ones.
 use Rattle.std.proofs.Common.{◌≡◌, not, ◌||◌, if◌then◌else◌, ℕ, Bool, true, false, List, [], ◌∷◌, map, refl, inl, inr}
 use Rattle.nmvs_messages.specs.declared.answer.Answer.{Answer}
 use Rattle.nmvs_messages.specs.declared.answer.Turn.TheVariants as turns
 use Rattle.nmvs_messages.specs.declared.withheld.Withheld.{Withheld}
 use Rattle.nmvs_messages.specs.Withheld.{AreReleased, StaysOrTurns, is_kept, is_of_repository, told_where, turned}
 
--- what is withheld is released by a function of each
+-- withheld answers are released by a function of each
 pub released_by : (f : Withheld → Answer) → ((w : Withheld) → StaysOrTurns w (f w)) → (withheld : List Withheld) → AreReleased (λ w a. a ≡ f w) withheld (map f withheld)
 released_by f stays [] = tt
 released_by f stays (w ∷ withheld) = (refl, stays w, released_by f stays withheld)
 
--- what is kept decides whether a line is turned away that may be
+-- the kept entries decide whether a line is turned away, if it may be
 pub told_stays : (kept : List ℕ) (w : Withheld) → StaysOrTurns w (told_where kept w)
 told_stays kept w = choose (is_kept kept w.basis) (is_of_repository w.answer) refl
   where

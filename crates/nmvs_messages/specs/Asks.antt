@@ -1,4 +1,4 @@
--- Who asks (own).
+-- The user that asks (own).
 use Rattle.nmvs_identifier.specs.Name.{Name}
 use Rattle.nmvs_messages.specs.declared.ask.Ask.{Ask}
 use Rattle.nmvs_messages.specs.declared.ask.Asked.{Asked}

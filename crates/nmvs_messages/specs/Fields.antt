@@ -1,4 +1,4 @@
--- The fields of a line: what stands between single spaces (own).
+-- The fields of a line: the texts between single spaces (own).
 use Rattle.std.specs.Prelude.{ℕ, Bool, List, length, ◌==◌, ◌&&◌, nat_le, nat_lt, not, Option, Some, if◌then◌else◌}
 use Rattle.std.specs.List.{list_all, list_any, slice_split, join_with_byte}
 

@@ -1,4 +1,4 @@
--- Who is at the other end of a connection (own).
+-- The peer at the other end of a connection (own).
 use Rattle.std.specs.Prelude.{Bool, true}
 use Rattle.nmvs_identifier.specs.Name.{Name}
 use Rattle.nmvs_identifier.specs.Texts.{same_text}
@@ -9,12 +9,12 @@ use Rattle.nmvs_messages.specs.declared.peer.Peer.TheVariants as peers
 use Rattle.nmvs_messages.specs.declared.peer.NameOf.{NameOf}
 use Rattle.nmvs_messages.specs.declared.peer.NameOf.TheVariants as names
 
--- who is at the other end of a connection whose certificate has this name
+-- the peer of a connection whose certificate has this name
 abbrev pub peer_named : NameOf → Name → Peer
 peer_named names.User name = peers.User name
 peer_named names.Authorisation name = peers.Authorisation name
 
--- whether the lines of a peer may name a user who has this authorisation: those of a peer that nobody knows may name anyone
+-- whether the lines of a peer may name a user who has this authorisation; those of an unknown peer may name anyone
 abbrev pub speaks_for : Peer → Name → Name → Bool
 speaks_for peers.Anyone user authorisation = true
 speaks_for (peers.User own) user authorisation = same_text user own

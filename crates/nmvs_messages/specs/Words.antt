@@ -1,4 +1,4 @@
--- The words of answers: of replies, and behind FAULT (own).
+-- The words of answers: of replies, and after FAULT (own).
 use Rattle.std.specs.Prelude.{ℕ, List, [], ◌∷◌, codes}
 use Rattle.std.specs.Fmt.{decimal}
 use Rattle.nmvs_rules.specs.declared.reply.Reply.{Reply}
@@ -12,7 +12,7 @@ use Rattle.nmvs_messages.specs.declared.ask.LineFault.TheVariants as faults
 use Rattle.nmvs_messages.specs.declared.answer.Turn.{Turn}
 use Rattle.nmvs_messages.specs.declared.answer.Turn.TheVariants as turns
 
--- why the desk turned a line away
+-- the word of the desk's reason to turn a line away
 abbrev pub turn_word : Turn → List ℕ
 turn_word turns.Clock = codes "CLOCK"
 turn_word turns.Nobody = codes "NOBODY"
@@ -24,7 +24,7 @@ turn_word turns.Rate = codes "RATE"
 turn_word turns.Journal = codes "JOURNAL"
 turn_word turns.Tag = codes "TAG"
 
--- why a line cannot be read
+-- the word of the fault of a line
 abbrev pub fault_word : LineFault → List ℕ
 fault_word faults.Long = codes "LONG"
 fault_word faults.Return = codes "RETURN"

@@ -14,11 +14,10 @@ pub struct Answer<'a> {
     pub content: Content<'a>,
 }
 
-/// What is answered to a line.
+/// The content of the answer to a line.
 #[derive(Drop)]
 pub enum Content<'a> {
-    /// The repository's reply to a question, and the entries that it shows: none for all but a shown
-    /// audit.
+    /// The repository's reply to a question, and the entries that it shows. Only an audit shows entries.
     Replied(Reply, Entries<'a>),
     /// The report of a product code, lines that each end with LF.
     Reported(Text),
@@ -36,7 +35,7 @@ pub enum Content<'a> {
     Bye,
 }
 
-/// Why the desk turned a line away. But for `Journal` nothing was asked of the repository.
+/// The reason for which the desk turned a line away. Unless it is `Journal`, no question was put.
 #[derive(Clone, Copy, Debug, PartialEq, Eq)]
 pub enum Turn {
     /// The clock's seconds are no moment.
@@ -55,7 +54,7 @@ pub enum Turn {
     Rate,
     /// The user has asked something else about the pack with the tag.
     Tag,
-    /// What the answer rests on is not kept: the journal failed. The operation may stand in the record or not.
+    /// The journal failed, and the entries under the answer are not kept. The operation may stand in the record or not.
     Journal,
 }
 
@@ -90,7 +89,7 @@ impl<'a> Entries<'a> {
     }
 }
 
-/// A text that is told as it is.
+/// A text that is written as it is.
 #[derive(Drop)]
 pub struct Text {
     text: String,

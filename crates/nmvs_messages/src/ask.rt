@@ -1,4 +1,4 @@
-//! What lines say.
+//! The meaning of lines.
 ghost use Rattle.std.specs.Prelude.{◌≡◌};
 ghost use Rattle.nmvs_messages.specs.Asks.{user_of};
 
@@ -6,29 +6,29 @@ use nmvs_identifier::{Name, ProductCode, Tag};
 use nmvs_rules::Question;
 use thiserror::Error;
 
-/// What a line says.
+/// The meaning of a line.
 #[derive(Clone, Copy, Debug, PartialEq, Eq)]
 pub enum Line {
-    /// It asks something of the desk.
+    /// It asks the desk.
     Ask(Ask),
-    /// PING: whether anybody answers.
+    /// PING asks whether the program answers.
     Ping,
-    /// VERSION: of which version the program is.
+    /// VERSION asks for the version of the program.
     Version,
-    /// HELP: which lines there are.
+    /// HELP asks for the lines that there are.
     Help,
-    /// QUIT: it ends the session.
+    /// QUIT ends the session.
     Quit,
 }
 
-/// What is asked, and the tag by which it can be asked again.
+/// The ask, and the tag by which it can be asked again.
 #[derive(Clone, Copy, Debug, PartialEq, Eq)]
 pub struct Ask {
     pub tag: Option<Tag>,
     pub asked: Asked,
 }
 
-/// What a user asks.
+/// The ask of a user.
 #[derive(Clone, Copy, Debug, PartialEq, Eq)]
 pub enum Asked {
     /// The question of a user, by name.
@@ -48,14 +48,14 @@ impl Ask {
     }
 }
 
-/// A line that cannot be read: why, and the tag that it begins with, if with one.
+/// A line that cannot be read: its fault, and the tag that it begins with, if there is one.
 #[derive(Clone, Copy, Debug, PartialEq, Eq)]
 pub struct Unread {
     pub tag: Option<Tag>,
     pub fault: LineFault,
 }
 
-/// Why a line cannot be read.
+/// The fault of a line that cannot be read.
 #[derive(Clone, Copy, Debug, PartialEq, Eq, Error)]
 pub enum LineFault {
     #[error("the line has more than 200 bytes")]

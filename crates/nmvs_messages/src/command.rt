@@ -8,13 +8,13 @@ use thiserror::Error;
 pub enum Command {
     /// Lets a user ask in this capacity.
     Enrol(Name, Actor),
-    /// Turns a user away from now on.
+    /// Suspends a user: its lines are turned away from now on.
     Suspend(Name),
-    /// Has a user be unknown from now on.
+    /// Removes a user: it is unknown from now on.
     Remove(Name),
 }
 
-/// Why a command cannot be read.
+/// The fault of a command that cannot be read.
 #[derive(Clone, Copy, Debug, PartialEq, Eq, Error)]
 pub enum CommandFault {
     #[error("the command has more than 200 bytes")]

@@ -11,8 +11,11 @@ use nmvs_identifier::Name;
 use nmvs_rules::{Actor, Role};
 use nmvs_words::role_named;
 
-/// Reads a command, given without its LF: it is read as what it says where it is the line of that, and
-/// else answered by the first fault that it has.
+/// Reads a command, given without its LF.
+///
+/// # Errors
+///
+/// The first fault of the line.
 #[tactic(auto, unfolding(crate::specs::Commands::first_command_fault))]
 pub fn read_command(bytes: &[u8]) -> Result<Command, CommandFault>
     ensures { ReadsCommand bytes.now result }
@@ -59,7 +62,7 @@ fn read_enrol(texts: &[&str]) -> Result<Command, CommandFault>
     read_enrolment(texts[0], texts[1], texts[2], texts[3])
 }
 
-/// The user that alone stands after the word of a command.
+/// The user whose name stands alone after the word of a command.
 fn read_user(texts: &[&str]) -> Result<Name, CommandFault>
     ensures texts { IfOk result (λ user. user.bytes ∷ [] ≡ map (λ t. t.now) texts.now) }
     ensures valid { IfOk result (λ user. IsTrue (is_name user.bytes)) }

@@ -1,4 +1,4 @@
-/// How a session ended.
+/// The reason for which a session ended.
 #[derive(Clone, Copy, Debug, PartialEq, Eq)]
 pub enum End {
     /// QUIT was answered.
@@ -9,7 +9,7 @@ pub enum End {
     ReadFault,
     /// A write or a flush failed.
     WriteFault,
-    /// One line or one read more than the limits allow was there to be served.
+    /// Another line or another read was needed, and the limits allow no more.
     Limit,
     /// There was no memory for the text of an answer.
     Memory,

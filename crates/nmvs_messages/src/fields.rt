@@ -6,15 +6,18 @@ ghost use Rattle.nmvs_messages.specs.Fields.{is_printable, is_empty, fields_in, 
 use crate::LONGEST_LINE;
 use arrayvec::ArrayVec;
 
-/// How many fields of a line are kept: no line has more than six, and a seventh tells that there are
-/// too many.
+/// The most fields of a line that are kept. No line has more than six, so a seventh shows that there are too many.
 pub const KEPT_FIELDS: usize = 7;
 
-/// The fields of a line, or the first of them where there are more than are kept.
+/// The fields of a line, or the first seven if there are more.
 pub type Fields<'a> = ArrayVec<&'a str, KEPT_FIELDS>;
 
-/// The fields of a line. Else the first of these that holds: it is too `long`, it has `bytes` that are
-/// no printable ASCII characters, it has an `empty` field.
+/// The fields of a line.
+///
+/// # Errors
+///
+/// The first of these that holds: it is too `long`, it has `bytes` that are no printable ASCII characters, it has an `empty`
+/// field.
 pub fn fields_of<F: Copy>(line: &[u8], long: F, bytes: F, empty: F) -> Result<Fields<'_>, F>
     ensures fields { IfOk result (λ fields.
         map (λ f. f.now) fields.items ≡ take KEPT_FIELDS (fields_in line.now)) }
@@ -29,7 +32,7 @@ pub fn fields_of<F: Copy>(line: &[u8], long: F, bytes: F, empty: F) -> Result<Fi
     split(text).ok_or(empty)
 }
 
-/// The line as a text, where each byte is a printable ASCII character.
+/// The line as a text, if each byte is a printable ASCII character.
 fn printable_text(bytes: &[u8]) -> Option<&str>
     ensures printable { IsSome result ↔ IsTrue (list_all is_printable bytes.now) }
     ensures same { IfSome result (λ text. text.now ≡ bytes.now) }
@@ -47,7 +50,7 @@ fn are_printable(bytes: &[u8]) -> bool
     bytes.iter().all(|b| matches!(*b, b' '..=b'~'))
 }
 
-/// The fields of a text, where none is empty.
+/// The fields of a text, if none is empty.
 fn split(text: &str) -> Option<Fields<'_>>
     ensures filled { IsNone result ↔ IsTrue (list_any is_empty (fields_in text.now)) }
     ensures fields { IfSome result (λ fields.

@@ -1,6 +1,6 @@
-//! What is said in a session: what lines ask, what a desk answers, and the commands of a registrar.
+//! The messages of a session: the asks of lines, the answers of a desk, and the commands of a registrar.
 //!
-//! A [`Desk`] answers an [`Ask`]; its answers are [`Withheld`] until it has them [`Released`]. [`read_command`] reads the
+//! A [`Desk`] answers an [`Ask`]. Its answers are [`Withheld`] until they are [`Released`]. [`read_command`] reads the
 //! [`Command`] of a line.
 #![tactic(auto)]
 

@@ -1,18 +1,18 @@
-//! How long lines and sessions may be.
+//! The limits of lines and sessions.
 
-/// The most bytes that a line may have, its LF not among them (own).
+/// The most bytes of a line, without its LF (own).
 pub const LONGEST_LINE: usize = 200;
 
 /// The most bytes of one read of a session (own).
 pub const READ_SIZE: usize = 4096;
 
-/// The most lines that are answered of a session that no connection carries (own).
+/// The most lines that a session without a connection may have answered (own).
 pub const MOST_LINES: u64 = 10_000;
 
-/// The most reads that are made of it (own).
+/// The most reads of a session without a connection (own).
 pub const MOST_READS: u64 = 4_000_000;
 
-/// How far a session may go.
+/// The limits of a session.
 #[derive(Clone, Copy, Debug, PartialEq, Eq)]
 pub struct Limits {
     /// The most lines that are answered.
@@ -21,13 +21,13 @@ pub struct Limits {
     pub reads: u64,
 }
 
-/// How far a session that no connection carries may go (own).
+/// The limits of a session without a connection (own).
 pub const SESSION_LIMITS: Limits = Limits {
     lines: MOST_LINES,
     reads: MOST_READS,
 };
 
-/// How far the session of a connection, and the registrar's commands, may go: as far as they last (own).
+/// The limits of a connection's session and of the registrar's commands: none (own).
 pub const NO_LIMITS: Limits = Limits {
     lines: u64::MAX,
     reads: u64::MAX,

@@ -1,13 +1,13 @@
-//! Who is at the other end of a connection.
+//! The peer at the other end of a connection.
 ghost use Rattle.std.specs.Prelude.{◌≡◌};
 ghost use Rattle.nmvs_messages.specs.Peers.{peer_named, speaks_for};
 
 use nmvs_identifier::Name;
 
-/// Who is at the other end of a connection.
+/// The peer at the other end of a connection.
 #[derive(Clone, Copy, Debug, PartialEq, Eq)]
 pub enum Peer {
-    /// Nobody knows: its lines are believed.
+    /// An unknown peer. Its lines are believed.
     Anyone,
     /// This user.
     User(Name),
@@ -28,7 +28,7 @@ impl Peer {
     }
 }
 
-/// Whose name a certificate has.
+/// The kind of name that a certificate has.
 #[derive(Clone, Copy, Debug, PartialEq, Eq)]
 pub enum NameOf {
     User,
@@ -36,7 +36,7 @@ pub enum NameOf {
 }
 
 impl NameOf {
-    /// Who is at the other end, where its certificate has this name.
+    /// The peer whose certificate has this name.
     pub fn peer(self, name: Name) -> Peer
         ensures { result ≡ peer_named self name }
     {

@@ -1,4 +1,4 @@
-//! What is kept of a line that was begun.
+//! The kept part of a line that was begun.
 ghost use Rattle.std.specs.Prelude.{◌≡◌, ◌++◌, ◌==◌, [], length};
 ghost use Rattle.nmvs_messages.specs.PendingLines.{kept_part};
 
@@ -6,11 +6,10 @@ use crate::LONGEST_LINE;
 use arrayvec::ArrayVec;
 use std::marker::Model;
 
-/// How many bytes are kept of a line: one more than a line may have, which tells that it is too
-/// long.
+/// The most bytes of a line that are kept. One more than a line may have shows that it is too long.
 pub(crate) const KEPT: usize = LONGEST_LINE + 1;
 
-/// A line whose LF hasn't come, as much of it as is kept.
+/// The kept part of a line whose LF has not come.
 #[derive(Drop)]
 pub struct PendingLine {
     bytes: ArrayVec<u8, KEPT>,
@@ -25,7 +24,7 @@ impl Model for PendingLine {
 }
 
 impl PendingLine {
-    /// One of which no byte came.
+    /// A line without a byte.
     pub fn new() -> PendingLine
         ensures { result ≡ [] }
     {
@@ -41,14 +40,14 @@ impl PendingLine {
         self.bytes.is_empty()
     }
 
-    /// What is kept of it.
+    /// The kept bytes.
     pub fn as_slice(&self) -> &[u8]
         ensures { result.now ≡ self.now }
     {
         self.bytes.as_slice()
     }
 
-    /// Goes on with these bytes, as far as they are kept.
+    /// Adds these bytes, as far as there is room.
     pub fn extend(&mut self, bytes: &[u8])
         ensures { self.new ≡ kept_part (self.old ++ bytes.now) }
     {

@@ -7,26 +7,25 @@ use arrayvec::ArrayVec;
 use nmvs_identifier::Tag;
 use std::marker::Model;
 
-/// How many answers are withheld at most: one for each question that a read of 4,096 bytes can have, since
-/// the line of none has fewer than 24.
+/// The most withheld answers: enough for the questions in a read of 4,096 bytes. The line of each has at least 24 bytes.
 const MOST_WITHHELD: usize = 176;
 
-/// What an answer rests on: the entries of a shard's trail up to the one at this place, counted from 0 (own).
+/// The entries on which an answer rests: those of a shard's trail up to this place, counted from 0 (own).
 #[derive(Clone, Copy, Debug, PartialEq, Eq)]
 pub struct Basis {
     pub shard: usize,
     pub place: usize,
 }
 
-/// A desk's answer that can't be put in words before the desk has released it, and what it rests on: that has to be kept
-/// first, where answers wait for a journal.
+/// An answer that has no text before the desk has released it, and the entries on which it rests. Answers that wait for a
+/// journal are released after these entries are kept.
 #[derive(Drop)]
 pub struct Withheld<'a> {
     answer: Answer<'a>,
     basis: Option<Basis>,
 }
 
-/// An unused place of a list has it.
+/// The value of an unused place of a list.
 impl<'a> Default for Withheld<'a> {
     fn default() -> Withheld<'a> {
         Withheld::new(Content::Bye)
@@ -34,14 +33,14 @@ impl<'a> Default for Withheld<'a> {
 }
 
 impl<'a> Withheld<'a> {
-    /// Holds an answer that rests on no entry, to a line without a tag.
+    /// Withholds an answer that rests on no entry, to a line without a tag.
     pub fn new(content: Content<'a>) -> Withheld<'a>
         ensures { result ≡ plain content.entry }
     {
         Withheld::resting_on(None, content)
     }
 
-    /// Holds an answer that rests on these entries, if on any, to a line without a tag.
+    /// Withholds an answer to a line without a tag that rests on these entries, if on any.
     pub fn resting_on(basis: Option<Basis>, content: Content<'a>) -> Withheld<'a>
         ensures { result ≡ withheld_on basis content.entry }
     {
@@ -49,7 +48,7 @@ impl<'a> Withheld<'a> {
         Withheld { answer, basis }
     }
 
-    /// Has it be to a line with this tag, if it has one.
+    /// Sets the tag of the line.
     pub fn set_tag(&mut self, tag: Option<Tag>)
         ensures { self.new ≡ tagged tag self.old }
     {
@@ -74,7 +73,7 @@ impl<'a> Withheld<'a> {
         &self.answer
     }
 
-    /// Turns its line away where it rests on more than is kept.
+    /// Turns the line away if its answer rests on more entries than are kept.
     fn turn_unkept(&mut self, kept: &[usize])
         ensures { self.new.answer ≡ told_where kept.now self.old }
     {
@@ -84,7 +83,7 @@ impl<'a> Withheld<'a> {
     }
 }
 
-/// Whether so many entries of each shard have those on which an answer rests.
+/// Whether this number of entries of each shard includes those on which an answer rests.
 fn is_basis_kept(basis: Option<Basis>, kept: &[usize]) -> bool
     ensures { result ≡ is_kept kept.now basis }
 {
@@ -116,7 +115,7 @@ impl<'a> Model for WithheldAnswers<'a> {
 }
 
 impl<'a> WithheldAnswers<'a> {
-    /// None yet.
+    /// No answer.
     pub fn new() -> WithheldAnswers<'a>
         ensures { result ≡ [] }
     {
@@ -125,7 +124,7 @@ impl<'a> WithheldAnswers<'a> {
         }
     }
 
-    /// Holds one more.
+    /// Adds one.
     pub fn push(&mut self, withheld: Withheld<'a>)
         requires { length self.old < MOST_WITHHELD }
         ensures { self.new ≡ self.old ++ withheld.entry ∷ [] }
@@ -133,7 +132,7 @@ impl<'a> WithheldAnswers<'a> {
         self.list.push(withheld);
     }
 
-    /// How many there are.
+    /// The number of answers.
     pub fn len(&self) -> usize
         ensures { result ≡ length self.now }
     {
@@ -165,14 +164,14 @@ impl<'a> WithheldAnswers<'a> {
         }
     }
 
-    /// Lets all of them go.
+    /// Removes all of them.
     pub fn clear(&mut self)
         ensures { self.new ≡ [] }
     {
         self.list.clear();
     }
 
-    /// The answers, for telling. A desk that lets them be told calls it.
+    /// Releases all answers as they are.
     pub fn release(&self) -> Released<'_, 'a>
         ensures { AreReleased (λ withheld said. said ≡ withheld.answer) self.now result }
     {
@@ -181,8 +180,8 @@ impl<'a> WithheldAnswers<'a> {
         }
     }
 
-    /// The answers, for telling, where so many entries of each shard are kept. Of a reply or a report that rests on more the
-    /// line is turned away.
+    /// Releases the answers, if this number of entries of each shard are kept. The line of a reply or a report that rests on
+    /// more is turned away.
     pub fn release_kept(&mut self, kept: &[usize]) -> Released<'_, 'a>
         ensures { AreReleased (λ withheld said. said ≡ told_where kept.now withheld) self.old result }
     {
@@ -218,7 +217,7 @@ impl<'h, 'a> Model for Released<'h, 'a> {
 }
 
 impl<'h, 'a> Released<'h, 'a> {
-    /// So many of them from this place on, where there are so many.
+    /// This number of answers from this place on, if there are enough.
     pub fn part(&self, first: usize, count: usize) -> Option<Released<'h, 'a>>
         ensures there { IsSome result ↔ (first + count ≤ length self.now) }
         ensures part { IfSome result (λ part. part ≡ take count (drop first self.now)) }
@@ -227,14 +226,14 @@ impl<'h, 'a> Released<'h, 'a> {
         Some(Released { list })
     }
 
-    /// How many there are.
+    /// The number of answers.
     pub fn len(&self) -> usize
         ensures { result ≡ length self.now }
     {
         self.list.len()
     }
 
-    /// The answer at this place, where there is one.
+    /// The answer at this place, if there is one.
     pub fn answer(&self, place: usize) -> Option<&Answer<'a>>
         ensures { option_copied result ≡ slice_get self.now place }
     {
@@ -244,7 +243,7 @@ impl<'h, 'a> Released<'h, 'a> {
         }
     }
 
-    /// The first of them and those behind it, where there is one.
+    /// The first answer and the rest, if there is one.
     pub fn split_first(&self) -> Option<(&'h Answer<'a>, Released<'h, 'a>)>
         ensures first { IfSome result (λ cut. self.now ≡ cut.0.now ∷ cut.1) }
         ensures none { IfNone result (self.now ≡ []) }

@@ -4,7 +4,7 @@ ghost use Rattle.nmvs_messages.specs.Words.{fault_word, turn_word};
 
 use crate::{LineFault, Turn};
 
-/// The word behind FAULT of a line that the desk turned away.
+/// The word after FAULT for a line that the desk turned away.
 pub fn word_of_turn(turn: Turn) -> &'static str
     ensures { result.now ≡ turn_word turn }
 {
@@ -21,7 +21,7 @@ pub fn word_of_turn(turn: Turn) -> &'static str
     }
 }
 
-/// The word behind FAULT of a line that cannot be read.
+/// The word after FAULT for a line that cannot be read.
 pub fn word_of_fault(fault: LineFault) -> &'static str
     ensures { result.now ≡ fault_word fault }
 {

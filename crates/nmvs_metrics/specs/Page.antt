@@ -11,7 +11,7 @@ use Rattle.nmvs_metrics.specs.declared.snapshot.Histogram.{Histogram}
 use Rattle.nmvs_metrics.specs.declared.snapshot.LogSnapshot.{LogSnapshot}
 use Rattle.nmvs_metrics.specs.declared.snapshot.Snapshot.{Snapshot}
 
--- what the samples of one name begin with: what they say, and of which type they are
+-- the head of the samples of one name: their help text and their type
 abbrev pub heading : List ℕ → List ℕ → List ℕ → List ℕ
 heading name type help =
     codes "# HELP " ++ (name ++ (codes " " ++ (help ++ (codes "\n# TYPE " ++ (name ++ (codes " " ++ (type ++ codes "\n")))))))
@@ -35,7 +35,7 @@ answered_line a =
 unfoldable pub single : List ℕ → List ℕ → List ℕ → ℕ → List ℕ
 single name type help value = heading name type help ++ sample name value
 
--- the line of what has a word
+-- the line of a count that has a word
 abbrev pub worded_line : List ℕ → List ℕ → Counted → List ℕ
 worded_line name label c = labelled name label c.word.now c.count
 
@@ -43,7 +43,7 @@ worded_line name label c = labelled name label c.word.now c.count
 unfoldable pub worded : List ℕ → List ℕ → List ℕ → List ℕ → List Counted → List ℕ
 worded name type help label counts = heading name type help ++ flat_map (worded_line name label) counts
 
--- the line of what has a number
+-- the line of a count that has a number
 abbrev pub numbered_line : List ℕ → List ℕ → Numbered → List ℕ
 numbered_line name label n = labelled name label (decimal n.number) n.value
 
@@ -55,18 +55,18 @@ numbered name type help label numbers = heading name type help ++ flat_map (numb
 abbrev pub together : ℕ → ℕ → ℕ
 together one other = min (one + other) (2 ^ 64 - 1)
 
--- the line of a bucket of what takes no longer than this
+-- the line of a bucket of times that are no longer than this bound
 unfoldable pub bucket_line : List ℕ → List ℕ → ℕ → List ℕ
 bucket_line name bound count =
     name ++ (codes "_bucket{le=\"" ++ (bound ++ (codes "\"} " ++ (decimal count ++ codes "\n"))))
 
--- the lines of the buckets of one name, where so many are below the first: each counts what those before it count, too
+-- the lines of the buckets of one name, if this number is below the first: each counts what those before it count, too
 abbrev pub bucket_lines : List ℕ → ℕ → List Bucket → List ℕ
 bucket_lines name below [] = []
 bucket_lines name below (b ∷ bs) =
     bucket_line name b.bound.now (together below b.count) ++ bucket_lines name (together below b.count) bs
 
--- how many there are in buckets, where so many are below the first of them
+-- how many there are in buckets, if this number is below the first of them
 abbrev pub bucket_count : ℕ → List Bucket → ℕ
 bucket_count below [] = below
 bucket_count below (b ∷ bs) = bucket_count (together below b.count) bs
@@ -85,7 +85,7 @@ questions_text answered =
     heading (codes "nmvs_questions_total") (codes "counter") (codes "Questions that the repository answered, by kind and reply.")
     ++ flat_map answered_line answered
 
--- what questions came to that were refused, or alerted
+-- the refusals, and the alerts that were flagged
 unfoldable pub warnings_text : Snapshot → List ℕ
 warnings_text f =
     worded (codes "nmvs_refusals_total") (codes "counter") (codes "Questions that the repository refused, by the word of the refusal.") (codes "refusal") f.refusals.items
@@ -112,13 +112,19 @@ connections_text f =
     ++ (numbered (codes "nmvs_connections_total") (codes "counter") (codes "Connections that were accepted, by worker.") (codes "worker") f.accepted.items
     ++ single (codes "nmvs_sessions_total") (codes "counter") (codes "Sessions that have begun in which a line is served.") f.sessions)
 
+-- how much memory the buffers of connections take, and how many connections were closed for it
+unfoldable pub memory_text : Snapshot → List ℕ
+memory_text f =
+    numbered (codes "nmvs_connections_memory_bytes") (codes "gauge") (codes "Memory of the buffers of connections, by worker.") (codes "worker") f.memory.items
+    ++ single (codes "nmvs_connections_evicted_total") (codes "counter") (codes "Connections that were closed because the buffers of all took too much memory.") f.evicted
+
 -- the samples of the audit trail
 unfoldable pub trail_text : Snapshot → List ℕ
 trail_text f =
     numbered (codes "nmvs_entries") (codes "gauge") (codes "Entries of the audit trail, by shard.") (codes "shard") f.entries.items
     ++ numbered (codes "nmvs_packs") (codes "gauge") (codes "Packs that the repository knows, by shard.") (codes "shard") f.packs.items
 
--- for how long the write or sync of the log that is under way has taken
+-- how long the write or sync of the log that is under way has taken
 unfoldable pub writing_text : ℕ → List ℕ
 writing_text nanoseconds =
     heading (codes "nmvs_log_write_seconds") (codes "gauge") (codes "Seconds that the write or sync of the log that is under way has taken, 0 where none is.")
@@ -144,12 +150,12 @@ log_lines j =
     ++ (histogram_text (codes "nmvs_journal_sync_seconds") (codes "histogram") (codes "Seconds that a sync of a journal's file took.") j.syncs
     ++ log_health_text j)
 
--- the samples of the log, where there is one
+-- the samples of the log, if there is one
 unfoldable pub log_text : Option LogSnapshot → List ℕ
 log_text None = []
 log_text (Some j) = log_lines j
 
--- the sample of the memory of the process, where the system reports it
+-- the sample of the memory of the process, if the system reports it
 unfoldable pub resident_text : Option ℕ → List ℕ
 resident_text None = []
 resident_text (Some bytes) =
@@ -165,4 +171,4 @@ process_text f =
 -- all metrics
 abbrev pub page : Snapshot → List ℕ
 page f =
-    process_text f ++ (lines_text f ++ (connections_text f ++ (trail_text f ++ log_text f.log)))
+    process_text f ++ (lines_text f ++ (connections_text f ++ (memory_text f ++ (trail_text f ++ log_text f.log))))

@@ -1,4 +1,4 @@
--- What is answered over HTTP, by method and path, and when a server is ready (own).
+-- The answers over HTTP, by method and path, and when a server is ready (own).
 use Rattle.std.specs.Prelude.{ℕ, List, Bool, ◌||◌, codes, nat_lt, if◌then◌else◌}
 use Rattle.std.specs.Str.{bytes_eq}
 use Rattle.nmvs_metrics.specs.declared.readiness.Readiness.{Readiness}

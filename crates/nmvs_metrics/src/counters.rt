@@ -9,7 +9,7 @@ pub(crate) struct Counters {
 }
 
 impl Counters {
-    /// So many of them, each at 0.
+    /// This number of counters, each at 0.
     pub(crate) fn new(alloc: Global, count: usize) -> Result<Counters, AllocError> {
         let mut list = Vec::with_capacity(alloc, count)?;
         for _ in 0..count {
@@ -18,21 +18,21 @@ impl Counters {
         Ok(Counters { list })
     }
 
-    /// Counts so many more at this place.
+    /// Counts this number more at this place.
     pub(crate) fn add(&self, place: usize, count: u64) {
         if let Some(counter) = self.list.get(place) {
             counter.fetch_add(count, Ordering::SeqCst);
         }
     }
 
-    /// Sets what is counted at this place.
+    /// Sets the count at this place.
     pub(crate) fn set(&self, place: usize, count: u64) {
         if let Some(counter) = self.list.get(place) {
             counter.store(count, Ordering::SeqCst);
         }
     }
 
-    /// What is counted at this place: nothing, where there is none.
+    /// The count at this place: 0 if there is none.
     pub(crate) fn at(&self, place: usize) -> u64 {
         match self.list.get(place) {
             Some(counter) => counter.load(Ordering::SeqCst),

@@ -7,7 +7,7 @@ use crate::{Answered, Bucket, Counted, Histogram, LogSnapshot, Numbered, Snapsho
 use itoa::Buffer;
 use std::alloc::{AllocError, Global};
 
-/// What the samples of one name are called, of which type they are, and what they say.
+/// The name, the type and the help text of samples.
 #[derive(Clone, Copy)]
 struct Family {
     name: &'static str,
@@ -28,7 +28,7 @@ pub fn encode(alloc: Global, snapshot: &Snapshot) -> Result<String, AllocError>
     Ok(text)
 }
 
-/// Puts a part at the end of a text, where there was memory for it.
+/// Puts a part at the end of a text, if there was memory for it.
 fn append(part: Result<String, AllocError>, text: &mut String) -> Result<(), AllocError>
     ensures { (bytes : List ℕ) → IfOk part (λ made. string_bytes made ≡ bytes) → OnOk result (string_bytes text.new ≡ string_bytes text.old ++ bytes) }
 {
@@ -51,6 +51,7 @@ fn append_page(alloc: Global, snapshot: &Snapshot, text: &mut String) -> Result<
     append_process(alloc, snapshot, text)?;
     append_lines(alloc, snapshot, text)?;
     append_connections(alloc, snapshot, text)?;
+    append_memory(alloc, snapshot, text)?;
     append_trail(alloc, snapshot, text)?;
     append_log(alloc, &snapshot.log, text)?;
     Ok(())
@@ -178,6 +179,26 @@ fn append_connections(
     Ok(())
 }
 
+/// How much memory connections take, and how many were closed for it.
+#[tactic(auto, unfolding(crate::specs::Page::memory_text))]
+fn append_memory(alloc: Global, snapshot: &Snapshot, text: &mut String) -> Result<(), AllocError>
+    ensures { OnOk result (string_bytes text.new ≡ string_bytes text.old ++ specs.memory_text snapshot.now) }
+{
+    let memory = Family {
+        name: "nmvs_connections_memory_bytes",
+        kind: "gauge",
+        help: "Memory of the buffers of connections, by worker.",
+    };
+    let evicted = Family {
+        name: "nmvs_connections_evicted_total",
+        kind: "counter",
+        help: "Connections that were closed because the buffers of all took too much memory.",
+    };
+    append(numbered(alloc, memory, "worker", &snapshot.memory), text)?;
+    append(single(alloc, evicted, snapshot.evicted), text)?;
+    Ok(())
+}
+
 #[tactic(auto, using(crate::proofs::Texts::appended), unfolding(crate::specs::Page::trail_text))]
 fn append_trail(alloc: Global, snapshot: &Snapshot, text: &mut String) -> Result<(), AllocError>
     ensures { OnOk result (string_bytes text.new ≡ string_bytes text.old ++ specs.trail_text snapshot.now) }
@@ -264,7 +285,7 @@ fn append_log_health(alloc: Global, log: &LogSnapshot, text: &mut String) -> Res
     Ok(())
 }
 
-/// For how long the write or sync of the log that is under way has taken.
+/// How long the write or sync of the log that is under way has taken.
 #[tactic(auto, unfolding(crate::specs::Page::writing_text))]
 fn writing_text(alloc: Global, nanoseconds: u64) -> Result<String, AllocError>
     ensures { IfOk result (λ text. string_bytes text ≡ specs.writing_text nanoseconds) }
@@ -422,7 +443,7 @@ fn answered_line(alloc: Global, answered: &Answered) -> Result<String, AllocErro
     format!(in alloc; "nmvs_questions_total{{question=\"{question}\",reply=\"{reply}\"}} {count}\n")
 }
 
-/// A histogram of one name: its buckets, the seconds of all, and how often there were any.
+/// A histogram of one name: its buckets, the seconds of all times, and their number.
 #[tactic(auto, unfolding(crate::specs::Page::histogram_text))]
 fn histogram_text(alloc: Global, family: Family, times: &Histogram) -> Result<String, AllocError>
     ensures { IfOk result (λ text. string_bytes text ≡ specs.histogram_text family.name.now family.kind.now family.help.now times.now) }
@@ -433,7 +454,7 @@ fn histogram_text(alloc: Global, family: Family, times: &Histogram) -> Result<St
     format!(in alloc; "{head}{buckets}{name}_sum {nanoseconds}e-9\n{name}_count {count}\n")
 }
 
-/// The lines of the buckets, each with what those before it count, and what all of them count.
+/// The lines of the buckets, each with the count up to it, and the count of all.
 fn bucket_lines(alloc: Global, name: &str, buckets: &[Bucket]) -> Result<(String, u64), AllocError>
     ensures lines { IfOk result (λ made. string_bytes made.0 ≡ specs.bucket_lines name.now 0 buckets.now) }
     ensures count { IfOk result (λ made. made.1 ≡ specs.bucket_count 0 buckets.now) }

@@ -2,8 +2,8 @@
 //!
 //! The threads of a server count what they do in [`Metrics`], which they share and none waits for. Each worker has counters of
 //! its own ([`WorkerMetrics`]). [`Metrics::snapshot`] reads them, and [`encode`] writes them in the text format of Prometheus.
-//! [`serve_metrics`] serves that page over HTTP, and answers whether the server lives and whether it is ready. Beside that it
-//! watches the system's clock for steps.
+//! [`serve_metrics`] serves that page over HTTP, and answers whether the server lives and whether it is ready. It also watches
+//! the system's clock for steps.
 #![tactic(auto)]
 
 mod clock;

@@ -20,16 +20,16 @@ use std::{fs, io};
 /// How many clients are served at once at most: the next one takes the place of the first (own).
 const MOST_CLIENTS: usize = 16;
 
-/// How many clients are accepted one behind the other, before the others are looked at again (own).
+/// How many clients are accepted one after the other, before the earlier ones are looked at again (own).
 const MOST_ACCEPTED: u64 = 4_096;
 
 /// For how many seconds a client stays at most, answered or not (own).
 const TIMEOUT: u64 = 5;
 
-/// How many milliseconds behind each other the end of the server is looked for, and clients that stayed too long (own).
+/// The most milliseconds from one search for the end of the server and for late clients to the next (own).
 const TICK: u64 = 200;
 
-/// How many reads and writes a client has one behind the other, while others may wait (own).
+/// How many reads and writes a client has one after the other, while others may wait (own).
 const MOST_STEPS: u64 = 64;
 
 /// The file that reports how much memory the process has (Linux, proc(5)).
@@ -43,7 +43,7 @@ const ANY: Token = Token(0);
 pub struct MetricsListener {
     listener: TcpListener,
     poll: Poll,
-    /// The system's report of the memory of the process, where there is one.
+    /// The system's report of the memory of the process, if there is one.
     memory: Option<File>,
 }
 
@@ -69,7 +69,7 @@ impl MetricsListener {
         })
     }
 
-    /// The port, where the system reports it.
+    /// The port, if the system reports it.
     pub fn port(&self) -> Option<u16> {
         self.listener
             .local_addr()
@@ -79,8 +79,8 @@ impl MetricsListener {
 }
 
 /// Serves the metrics to clients, and counts and logs each step of the system's clock, until the metrics note that the server
-/// ends: then for less than a second. A client that stays for 5 seconds is closed, and so is the first of 16 where one more
-/// comes: who asks at once is answered at once, however many others stay silent.
+/// ends: then for less than a second. A client that stays for 5 seconds is closed, and so is the first of 16 if one more
+/// comes. A client that asks at once is answered at once, however many others stay silent.
 ///
 /// # Errors
 ///
@@ -106,7 +106,7 @@ struct Client {
 }
 
 impl MetricsListener {
-    /// Accepts clients, and goes on with them, until the metrics note that the server ends. Beside that it checks the clock.
+    /// Accepts clients, and goes on with them, until the metrics note that the server ends. It also checks the clock.
     fn serve<R: Clock + RandomSource + Log>(
         &mut self,
         rt: &R,
@@ -132,7 +132,7 @@ impl MetricsListener {
         Ok(())
     }
 
-    /// Accepts the clients that wait, and answers each what it has asked already. Where there is no room for one more, the client
+    /// Accepts the clients that wait, and answers what each has asked already. If there is no room for one more, the client
     /// that was accepted first is closed.
     fn accept_all<R: RandomSource, S: Service>(
         &self,
@@ -161,7 +161,7 @@ impl MetricsListener {
         })
     }
 
-    /// The stream, where the system reports when it can be read or written.
+    /// Registers the stream, so that the system reports when it can be read or written.
     fn watched(&self, stream: TcpStream) -> Option<TcpStream> {
         let mut stream = stream;
         let both = Interest::READABLE | Interest::WRITABLE;
@@ -186,7 +186,7 @@ fn check_clock<R: Clock + Log>(rt: &R, metrics: &Metrics, last: &mut Option<Cloc
     *last = Some(now);
 }
 
-/// Adds a client behind the others, and answers what it has asked already. Where one more stays than may be, the first one is
+/// Adds a client after the others, and answers what it has asked already. If one more stays than may be, the first one is
 /// closed.
 fn admit<S: Service>(
     service: &mut S,
@@ -216,7 +216,7 @@ fn step_all<S: Service>(service: &mut S, now: Instant, clients: &mut Vec<Client>
     }
 }
 
-/// Goes on with the client at this place, and closes it where it is done or stayed too long.
+/// Goes on with the client at this place, and closes it if it is done or stayed too long.
 fn step_at<S: Service>(service: &mut S, now: Instant, clients: &mut Vec<Client>, place: usize) {
     let stays = match clients.get_mut(place) {
         Some(client) => client.step(service) && !client.is_late(now),
@@ -235,7 +235,7 @@ fn close(clients: &mut Vec<Client>, place: usize)
 }
 
 impl Client {
-    /// Reads, answers and writes as far as that goes without waiting, and answers whether the client stays.
+    /// Reads, answers and writes as far as that goes without waiting. The result is whether the client stays.
     fn step<S: Service>(&mut self, service: &mut S) -> bool {
         for _ in 0..MOST_STEPS {
             self.connection.advance(service);

@@ -20,7 +20,7 @@ pub(crate) enum Readiness {
 }
 
 /// The readiness of a server that listens or not, and whose log failed or not. The write or sync of the log that is under way
-/// has taken this many nanoseconds, or 0 where none is.
+/// has taken this many nanoseconds, or 0 if none is.
 pub(crate) fn readiness_of(listens: bool, has_failed: bool, nanoseconds: u64) -> Readiness
     ensures { result ≡ specs.readiness listens has_failed nanoseconds }
 {

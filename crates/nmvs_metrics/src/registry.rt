@@ -1,4 +1,4 @@
-//! What a running server counts.
+//! The counters of a running server.
 use crate::counters::Counters;
 use crate::kinds::{
     CAUSES, FAULTS, Fault, QUESTIONS, REFUSALS, REPLIES, kind_of_reply, place_of_cause,
@@ -31,10 +31,15 @@ const ACCEPTED: usize = REPORTS + 1;
 
 const ENDED: usize = ACCEPTED + 1;
 
-/// How many entries of each shard were confirmed when answers were released last that waited for them.
-const CONFIRMED: usize = ENDED + 1;
+const EVICTED: usize = ENDED + 1;
 
-/// What is counted of one worker, by itself alone: no two workers write to one counter.
+/// How many bytes the buffers of the worker's connections take.
+const MEMORY: usize = EVICTED + 1;
+
+/// How many entries of each shard were confirmed when the worker last released answers that waited for them.
+const CONFIRMED: usize = MEMORY + 1;
+
+/// The counters of one worker. No other worker writes to them; the thread that accepts counts connections here too.
 #[derive(Drop)]
 struct WorkerCounts {
     rows: Counters,
@@ -58,7 +63,7 @@ impl WorkerCounts {
     }
 }
 
-/// The counters of so many workers.
+/// The counters of this number of workers.
 fn workers_counts(
     alloc: Global,
     workers: usize,
@@ -71,12 +76,12 @@ fn workers_counts(
     Ok(counts)
 }
 
-/// What is counted of the log.
+/// The counters of the log, and how it stands.
 #[derive(Drop)]
 struct LogCounts {
     syncs: Times,
     has_failed: AtomicBool,
-    /// When the write or sync that is under way began, in nanoseconds since the machine runs, or 0 where none is.
+    /// When the write or sync that is under way began, in nanoseconds since the machine runs, or 0 if none is.
     began: AtomicU64,
 }
 
@@ -99,8 +104,8 @@ impl LogCounts {
     }
 }
 
-/// What a running server counts, from its start on. All its threads share it, and none waits for another; a count beyond
-/// 64 bits begins again at 0.
+/// The counters of a running server, from its start on. All its threads share them, and none waits for another; a count
+/// beyond 64 bits begins again at 0.
 #[derive(Drop)]
 pub struct Metrics {
     is_ready: AtomicBool,
@@ -115,7 +120,7 @@ pub struct Metrics {
 }
 
 impl Metrics {
-    /// Nothing is counted yet, of a server with so many workers and shards, with a log or without.
+    /// Counters at 0, of a server with this number of workers and shards, with a log or without.
     ///
     /// # Errors
     ///
@@ -208,7 +213,7 @@ impl Metrics {
         self.sessions.fetch_add(1, Ordering::SeqCst);
     }
 
-    /// Notes that a sync of the log succeeded and took so long.
+    /// Notes that a sync of the log succeeded and took this time.
     pub fn note_sync(&self, time: Duration) {
         if let Some(log) = &self.log {
             log.syncs.add(nanoseconds_of(time), 1);
@@ -238,12 +243,12 @@ impl Metrics {
     }
 }
 
-/// So many nanoseconds, as far as 64 bits hold them.
+/// The nanoseconds of a time, as far as 64 bits hold them.
 fn nanoseconds_of(time: Duration) -> u64 {
     u64::try_from(time.as_nanos()).unwrap_or(u64::MAX)
 }
 
-/// How many nanoseconds the machine runs, or 0 where its clock cannot be read.
+/// How many nanoseconds the machine runs, or 0 if its clock cannot be read.
 fn now() -> u64 {
     nanoseconds_of(uptime().unwrap_or(Duration::ZERO))
 }
@@ -310,7 +315,7 @@ impl<'p> WorkerMetrics<'p> {
         self.add(FAULTED + place_of_fault(fault));
     }
 
-    /// Notes that the log has confirmed so many entries of a shard, as the worker learns: no fewer than before.
+    /// Notes that the log has confirmed this number of entries of a shard, as the worker learns: no fewer than before.
     pub fn note_confirmed(&self, shard: usize, count: u64) {
         if let Some(counts) = self.counts {
             counts.rows.set(CONFIRMED.saturating_add(shard), count);
@@ -325,6 +330,18 @@ impl<'p> WorkerMetrics<'p> {
     /// Counts a connection of the worker that ended.
     pub fn note_ended(&self) {
         self.add(ENDED);
+    }
+
+    /// Counts a connection of the worker that was closed because the buffers of all took too much memory.
+    pub fn note_evicted(&self) {
+        self.add(EVICTED);
+    }
+
+    /// Notes how many bytes the buffers of the worker's connections take.
+    pub fn note_memory(&self, bytes: usize) {
+        if let Some(counts) = self.counts {
+            counts.rows.set(MEMORY, bytes as u64);
+        }
     }
 
     /// Counts one more.
@@ -352,8 +369,8 @@ impl<'p> WorkerMetrics<'p> {
 }
 
 impl Metrics {
-    /// What is counted now, when the machine runs for this long, and how many bytes of memory the process has, where the
-    /// system reports it.
+    /// The counts of this moment, when the machine runs for this long. They have the bytes of memory of the process, if the
+    /// system reports them.
     ///
     /// # Errors
     ///
@@ -377,6 +394,8 @@ impl Metrics {
             open: Vec::new(alloc),
             accepted: Vec::new(alloc),
             sessions: self.sessions.load(Ordering::SeqCst),
+            evicted: self.total(EVICTED),
+            memory: Vec::new(alloc),
             entries: Vec::new(alloc),
             packs: Vec::new(alloc),
             log,
@@ -387,19 +406,20 @@ impl Metrics {
         Ok(snapshot)
     }
 
-    /// Adds what is counted beside the log.
+    /// Adds all counts but those of the log.
     fn push_all(&self, snapshot: &mut Snapshot) -> Result<(), AllocError> {
         self.push_answered(&mut snapshot.answered)?;
         self.push_refusals(&mut snapshot.refusals)?;
         self.push_alerts(&mut snapshot.alerts)?;
         self.push_faults(&mut snapshot.faults)?;
         self.push_open(&mut snapshot.open)?;
-        self.push_accepted(&mut snapshot.accepted)?;
+        self.push_workers(&mut snapshot.accepted, ACCEPTED)?;
+        self.push_workers(&mut snapshot.memory, MEMORY)?;
         self.push_shards(&mut snapshot.entries, &self.entries)?;
         self.push_shards(&mut snapshot.packs, &self.packs)
     }
 
-    /// What all workers have counted at this place.
+    /// The counts of all workers at this place together.
     fn total(&self, place: usize) -> u64 {
         let mut total = 0u64;
         for counts in &self.workers {
@@ -417,7 +437,7 @@ impl Metrics {
         Ok(histogram)
     }
 
-    /// Adds the questions by their kind and the kind of their reply, of which there has been one.
+    /// Adds the counts of questions by their kind and the kind of their reply, without those at 0.
     fn push_answered(&self, answered: &mut Vec<Answered>) -> Result<(), AllocError> {
         for question in QUESTIONS {
             for reply in REPLIES {
@@ -465,7 +485,7 @@ impl Metrics {
         Ok(())
     }
 
-    /// Adds how many connections of each worker are open. Where one ends meanwhile, it is as if it had ended before.
+    /// Adds how many connections of each worker are open. If one ends meanwhile, it is as if it had ended before.
     fn push_open(&self, open: &mut Vec<Numbered>) -> Result<(), AllocError> {
         let mut number = 0u64;
         for counts in &self.workers {
@@ -479,19 +499,20 @@ impl Metrics {
         Ok(())
     }
 
-    fn push_accepted(&self, accepted: &mut Vec<Numbered>) -> Result<(), AllocError> {
+    /// Adds what each worker has counted at this place.
+    fn push_workers(&self, numbers: &mut Vec<Numbered>, place: usize) -> Result<(), AllocError> {
         let mut number = 0u64;
         for counts in &self.workers {
-            accepted.push(Numbered {
+            numbers.push(Numbered {
                 number,
-                value: counts.rows.at(ACCEPTED),
+                value: counts.rows.at(place),
             })?;
             number = number.saturating_add(1);
         }
         Ok(())
     }
 
-    /// Adds what is counted of each shard.
+    /// Adds the count of each shard.
     fn push_shards(
         &self,
         numbers: &mut Vec<Numbered>,
@@ -506,7 +527,7 @@ impl Metrics {
         Ok(())
     }
 
-    /// How many entries of a shard are confirmed: as many as the worker knows that learned of it last.
+    /// How many entries of a shard are confirmed: the most that a worker knows of.
     fn confirmed(&self, shard: usize) -> u64 {
         let mut confirmed = 0u64;
         for counts in &self.workers {
@@ -536,7 +557,7 @@ impl Metrics {
         Ok(Some(snapshot))
     }
 
-    /// Adds what the log has confirmed of each shard.
+    /// Adds how many entries of each shard the log has confirmed, and how many it has not.
     fn push_log(&self, snapshot: &mut LogSnapshot) -> Result<(), AllocError> {
         for shard in 0..self.shards {
             let (number, kept) = (shard as u64, self.confirmed(shard));

@@ -1,4 +1,4 @@
-//! What a client over HTTP is answered.
+//! The answers to clients over HTTP.
 ghost use Rattle.std.specs.Prelude.{◌≡◌};
 ghost use Rattle.nmvs_metrics.specs.Visits as specs;
 
@@ -21,7 +21,7 @@ const TEXT_TYPE: &str = "text/plain; charset=utf-8";
 /// The bytes of a page of memory, as the kernel counts.
 const PAGE_SIZE: u64 = 4_096;
 
-/// What a request is answered.
+/// The answer to a request.
 #[derive(Clone, Copy)]
 pub(crate) enum Content {
     Metrics,
@@ -31,7 +31,7 @@ pub(crate) enum Content {
     NoMethod,
 }
 
-/// What a request of this method for this path is answered by a server of this readiness.
+/// The answer to a request of this method for this path, by a server of this readiness.
 pub(crate) fn told(method: &str, path: &str, readiness: Readiness) -> Content
     ensures { result ≡ specs.told method.now path.now readiness }
 {
@@ -57,7 +57,7 @@ pub struct MetricsService<'p, 'm> {
 }
 
 impl<'p, 'm> Service for MetricsService<'p, 'm> {
-    // What is counted meanwhile, no contract can say.
+    // No contract can say what is counted meanwhile.
     ghost answers = { λ _ _ _ _. Unit {0} };
 
     fn call(
@@ -65,7 +65,7 @@ impl<'p, 'm> Service for MetricsService<'p, 'm> {
         request: &Request<Bytes>,
         response: &mut Response,
     ) -> Result<(), AllocError> {
-        // One answer a connection: the next client is not to wait for one that stays.
+        // One answer a connection: the next client does not wait for a client that stays.
         response.add_header(header::CONNECTION, HeaderValue::from_static("close"))?;
         let (method, path) = (request.method().as_str(), request.uri().path());
         match told(method, path, self.metrics.readiness(self.uptime)) {
@@ -88,8 +88,8 @@ impl<'p, 'm> Service for MetricsService<'p, 'm> {
 }
 
 impl<'p, 'm> MetricsService<'p, 'm> {
-    /// Answers with these metrics, and with the memory of the process, where the system reports it in this file, when the
-    /// machine runs for this long.
+    /// Answers with these metrics, when the machine runs for this long. The file is the system's report of the memory of the
+    /// process, if there is one.
     pub fn new(
         alloc: Global,
         metrics: &'p Metrics,
@@ -123,7 +123,7 @@ fn put(response: &mut Response, kind: HeaderValue, text: &str) -> Result<(), All
     response.body.put_slice(text.as_bytes())
 }
 
-/// How many bytes of memory the process has, where the system reports it.
+/// How many bytes of memory the process has, if the system reports it.
 fn resident(memory: &File) -> Option<u64> {
     let mut buffer = [0; 128];
     let count = memory.read_at(&mut buffer, 0).ok()?;

@@ -1,4 +1,4 @@
-//! What a server has counted, at one moment.
+//! The counts of a server at one moment.
 use nmvs_words::{QuestionKind, ReplyKind};
 
 /// How many questions of a kind had a reply of a kind.
@@ -9,21 +9,21 @@ pub struct Answered {
     pub count: u64,
 }
 
-/// How often was counted what has this word.
+/// The count of refusals, alerts or faults that have this word.
 #[derive(Clone, Copy)]
 pub struct Counted {
     pub word: &'static str,
     pub count: u64,
 }
 
-/// What the worker or the shard of this number has.
+/// A count of the worker or the shard of this number.
 #[derive(Clone, Copy)]
 pub struct Numbered {
     pub number: u64,
     pub value: u64,
 }
 
-/// What took no longer than this, and longer than the bucket before it says.
+/// The count of times that are no longer than this bound, and longer than that of the bucket before.
 #[derive(Clone, Copy)]
 pub struct Bucket {
     /// In seconds, as the page has it.
@@ -40,7 +40,7 @@ pub struct Histogram {
     pub nanoseconds: u64,
 }
 
-/// What a server has counted of its log.
+/// The counts of a server's log, and how it stands.
 #[derive(Drop)]
 pub struct LogSnapshot {
     /// How many entries of each shard are confirmed.
@@ -51,16 +51,16 @@ pub struct LogSnapshot {
     pub syncs: Histogram,
     /// Whether it failed.
     pub has_failed: bool,
-    /// How many nanoseconds the write or sync that is under way has taken, or 0 where none is.
+    /// How many nanoseconds the write or sync that is under way has taken, or 0 if none is.
     pub writing: u64,
 }
 
-/// What a server has counted, at one moment.
+/// The counts of a server at one moment.
 #[derive(Drop)]
 pub struct Snapshot {
     /// Whether it listens.
     pub ready: bool,
-    /// Of the kinds of questions and replies those that have come.
+    /// The questions by their kind and the kind of their reply, without those that have not come.
     pub answered: Vec<Answered>,
     /// The refusals, by their words.
     pub refusals: Vec<Counted>,
@@ -74,18 +74,22 @@ pub struct Snapshot {
     pub replies: Histogram,
     /// How many connections of each worker are open.
     pub open: Vec<Numbered>,
-    /// How many connections each worker has been dealt.
+    /// How many connections were accepted for each worker.
     pub accepted: Vec<Numbered>,
     /// How many sessions have begun in which a line is served.
     pub sessions: u64,
+    /// How many connections were closed because the buffers of all took too much memory.
+    pub evicted: u64,
+    /// How many bytes the buffers of each worker's connections take.
+    pub memory: Vec<Numbered>,
     /// How many entries the trail of each shard has.
     pub entries: Vec<Numbered>,
     /// How many packs each shard has.
     pub packs: Vec<Numbered>,
-    /// Of the log, where there is one.
+    /// The counts of the log, if there is one.
     pub log: Option<LogSnapshot>,
     /// How often the system's clock was set.
     pub clock_steps: u64,
-    /// How many bytes of memory the process has, where the system reports it.
+    /// How many bytes of memory the process has, if the system reports it.
     pub resident: Option<u64>,
 }

@@ -26,7 +26,7 @@ const SECONDS: [&str; 12] = [
     "0.0001", "0.0005", "0.001", "0.005", "0.01", "0.05", "0.1", "0.5", "1", "5", "10", "+Inf",
 ];
 
-/// The bucket of what takes this many nanoseconds.
+/// The bucket of a time of this many nanoseconds.
 fn bucket_of(nanoseconds: u64) -> usize
     ensures within { (bound : ℕ) → slice_get BOUNDS result ≡ Some bound → nanoseconds ≤ bound }
     ensures longer { (i : ℕ) (bound : ℕ) → i < result → slice_get BOUNDS i ≡ Some bound → bound < nanoseconds }
@@ -63,7 +63,7 @@ impl Times {
         self.nanoseconds.fetch_add(all, Ordering::SeqCst);
     }
 
-    /// Adds what is counted here to a histogram.
+    /// Adds these times to a histogram.
     pub(crate) fn add_to(&self, histogram: &mut Histogram) {
         for place in 0..histogram.buckets.len() {
             if let Some(bucket) = histogram.buckets.get_mut(place) {

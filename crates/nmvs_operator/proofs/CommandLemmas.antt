@@ -26,7 +26,7 @@ use Rattle.nmvs_operator.specs.Commands.{Office, Does, Counts, Ways, Said, sayin
 use Rattle.nmvs_operator.specs.Progress.{AnsweredOrders, StoppedIn, CarriesOutLines, StoppedBy}
 use Rattle.nmvs_operator.proofs.OrderLemmas.{kept_reads_order}
 
--- what is kept of an order ends as the order does
+-- the kept part of an order ends as the order does
 kept_ends : {S : Type 0} (does : Does S) (old : Office S) (x : List ℕ) (a : Result Order ObeyFault) (new : Office S) → Ends does old (kept_part x) a new → Ends does old x a new
 kept_ends does old x (Ok order) new h = record { read = kept_reads_order x (Ok order) h.read; performs = h.performs; changes = h.changes }
 kept_ends does old x (Err (obey.Unread fault)) new h = (kept_reads_order x (Err fault) h.0, h.1)
@@ -53,7 +53,7 @@ kept_ends does old x (Err obey.Memory) new (inr (inr h)) =
 kept_ends does old x (Err obey.Users) new h = (kept_reads_order x (Ok orders.Reload) h.0, h.1)
 kept_ends does old x (Err obey.Unended) new h = absurd h
 
--- what is kept of an order is answered as the order is
+-- the kept part of an order is answered as the order is
 kept_answers : {S : Type 0} (ways : Ways S) (old : Office S) (x : List ℕ) (a : Said) (new : Office S) → AnswersOrder ways old (kept_part x) a new → AnswersOrder ways old x a new
 kept_answers ways old x a new h = (kept_ends ways.does old x a.ends new h.0, h.1)
 
@@ -92,7 +92,7 @@ stop_lines counts old (Ok (orders.Count t)) lines none stop = absurd cc
 stop_lines counts old (Ok orders.Help) lines none stop = absurd cc
 stop_lines counts old (Err f) lines none stop = absurd cc
 
--- one order more, which stops the server; what is behind it is not looked at
+-- one order more, which stops the server; the lines after it are not looked at
 pub one_stop : {S : Type 0} {ways : Ways S} {first now : Office S} {start sink : Taken} {lines : List (List ℕ)} (new : Office S) (sink' : Taken) (x : List ℕ) (a : Said) (input : List ℕ) (rest : List (List ℕ))
     → AnsweredOrders ways first start now sink lines → AnswersOrder ways now (kept_part x) a new
     → Tries sink sink' (answer_text a) → is_stop a ≡ true → input_lines input ≡ (lines ++ x ∷ []) ++ rest → StoppedIn ways first start new sink' input
@@ -115,13 +115,13 @@ pub same_lines : {S : Type 0} {ways : Ways S} {first now : Office S} {start sink
     → AnsweredOrders ways first start now sink xs → AnsweredOrders ways first start now sink ys
 same_lines {ways = ways} {first = first} {now = now} {start = start} {sink = sink} e h = subst (λ (t : List (List ℕ)). AnsweredOrders ways first start now sink t) e h
 
--- the answers, where an order was begun behind the last one
+-- the answers, if an order was begun after the last one
 one_last : (begun : List ℕ) (said : List Said) (sink mid sink' : Taken) → 0 < length begun → TellsAnswers sink said mid
     → Tries mid sink' (order_text (Err obey.Unended)) → TellsAnswers sink (said ++ last_answer begun) sink'
 one_last [] said sink mid sink' some told tries = absurd (omega arith)
 one_last (b ∷ begun) said sink mid sink' some told tries = told_more sink said mid sink' (saying [] (Err obey.Unended)) told tries
 
--- the orders of an input behind which an order was begun
+-- the orders of an input after which an order was begun
 pub carried-begun : {S : Type 0} (ways : Ways S) (old new : Office S) (source source' : Told) (sink mid sink' : Taken) (begun : List ℕ)
     → CarriesOutLines ways old source sink new source' mid begun → 0 < length begun → Tries mid sink' (order_text (Err obey.Unended))
     → CarriesOut ways old source sink new source' sink'
@@ -143,7 +143,7 @@ carried-begun ways old new source source' sink mid sink' begun carried some trie
     kept_some [] lt = absurd (omega (arith, lt))
     kept_some (b ∷ x) lt = omega arith
 
--- the orders of an input behind which none was begun
+-- the orders of an input after which none was begun
 pub carried-all : {S : Type 0} (ways : Ways S) (old new : Office S) (source source' : Told) (sink sink' : Taken) (begun : List ℕ)
     → CarriesOutLines ways old source sink new source' sink' begun → (length begun == 0) ≡ true → CarriesOut ways old source sink new source' sink'
 carried-all ways old new source source' sink sink' begun carried none = record {
@@ -186,8 +186,8 @@ end_read old new buffer count none gives = (
   gives.ended ∙ ap (λ (n : ℕ). old.ended || (n == 0)) none ∙ or-true old.ended,
 )
 
--- of the lines of some bytes these were answered; the others, and what has no end, are in the rest of a read and in what
--- was begun before it, of which so much is kept
+-- of the lines of some bytes these were answered; the others, and an unfinished line, are in the rest of a read and in the
+-- begun line, of which this part is kept
 pub record OrdersAhead {S : Type 0} (ways : Ways S) (first : Office S) (start : Taken) (now : Office S) (sink : Taken) (line rest bytes : List ℕ) : Type 0 where
   pub done : List (List ℕ)
   pub begun : List ℕ
@@ -209,17 +209,17 @@ ahead_first input chunk is so_far = record {
   left = sym (rest_after-append [] input chunk);
 }
 
--- the line that is next, with those behind it
+-- the line that is next, with those after it
 pub ahead_next : {S : Type 0} {ways : Ways S} {first now : Office S} {start sink : Taken} {line rest bytes : List ℕ} (p : OrdersAhead ways first start now sink line rest bytes)
     (x behind : List ℕ) → lines_after p.begun rest ≡ x ∷ input_lines behind → (p.done ++ x ∷ []) ++ input_lines behind ≡ input_lines bytes
 ahead_next p x behind cut =
     append_assoc p.done (x ∷ []) (input_lines behind) ∙ ap (λ (t : List (List ℕ)). p.done ++ t) (sym cut) ∙ p.ahead
 
--- what is kept of a line that was begun and goes on
+-- the kept part of a line that was begun and goes on
 pub goes_on : {line : List ℕ} (begun tail : List ℕ) → line ≡ kept_part begun → kept_part (line ++ tail) ≡ kept_part (begun ++ tail)
 goes_on begun tail keeps = ap (λ (t : List ℕ). kept_part (t ++ tail)) keeps ∙ kept_more begun tail
 
--- a text that was tried is the one that is to be told
+-- the text that was tried is the wanted one
 pub tells : {old new : Taken} {text wanted : List ℕ} → text ≡ wanted → Tries old new text → Tries old new wanted
 tells {old} {new} e tries = subst (λ (t : List ℕ). Tries old new t) e tries
 
@@ -289,7 +289,7 @@ figures_told ways office line before after topic bytes (Err e) read made tries =
   refl,
 )
 
--- what went well has no fault
+-- a result that is Ok has no fault
 pub no_err : {A E : Type 0} (r : Result A E) → true ≡ is_ok r → result_err r ≡ None
 no_err (Ok x) well = refl
 no_err (Err e) well = absurd cc

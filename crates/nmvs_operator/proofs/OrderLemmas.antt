@@ -1,4 +1,4 @@
--- The line of an order is read, of as much of it as is kept too.
+-- The line of an order is read, and its kept part in the same way.
 use Rattle.std.proofs.Common.{◌≡◌, ◌≢◌, ◌<◌, ◌≤◌, ℕ, Bool, true, false, cond, List, [], ◌∷◌, length, get_or, map, take, Some, Result, Ok, Err, refl, sym, ◌∙◌, subst, inl, inr, arith, lit≤, codes}
 use Rattle.std.specs.Prelude.{IfOk, IsTrue}
 use Rattle.std.specs.Str.{bytes_eq}
@@ -58,7 +58,7 @@ listing_fault-take (word ∷ texts) = λ i.
     (cond (bytes_eq word (codes "CONNECTIONS")) (alone_fault-take texts i)
     (cond (bytes_eq word (codes "ALERTS")) (alone_fault-take texts i) (change_fault-take (word ∷ texts) i))))
 
--- what is kept of a line's fields tells their fault
+-- the first seven fields of a line decide their fault
 pub order_fault-take : (fs : List (List ℕ)) → order_fault (take 7 fs) ≡ order_fault fs
 order_fault-take [] = refl
 order_fault-take (word ∷ texts) = λ i.
@@ -87,7 +87,7 @@ listing_fault-change now (word ∷ texts) d some users stats connections alerts 
       differs (now word) (codes "ALERTS") alerts,
     ) refl
 
--- an order that is none of three has the fault of one that asks for lines or changes the users
+-- an order that is none of three has the fault of an order that asks for lines or changes the users
 pub order_fault-listing : {B : Type 0} (now : B → List ℕ) (fields : List B) (d : B) → 1 ≤ length fields → now (get_or fields 0 d) ≢ codes "EXPORT"
     → now (get_or fields 0 d) ≢ codes "STOP" → now (get_or fields 0 d) ≢ codes "HELP" → listing_fault (map now fields) ≡ order_fault (map now fields)
 order_fault-listing now [] d some exports stops helps = absurd (omega (arith, some))
@@ -102,7 +102,7 @@ long_reads : (x y : List ℕ) (r : Result Order CommandFault) → 200 < length x
 long_reads x y (Ok o) lx ly h = let e = long_fault x lx in let no = h.1 in absurd (cc (e, no))
 long_reads x y (Err f) lx ly h = long_fault y ly ∙ sym (long_fault x lx) ∙ h
 
--- what is kept of an order is read as the order is
+-- the kept part of an order is read as the order is
 pub kept_reads_order : (x : List ℕ) (r : Result Order CommandFault) → ReadsOrder (kept_part x) r → ReadsOrder x r
 kept_reads_order x r h = elim (cases_lt 201 (length x)) [
   | inr short ↦ subst (λ (t : List ℕ). ReadsOrder t r) (take_all 201 x short) h

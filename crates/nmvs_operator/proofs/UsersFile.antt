@@ -13,7 +13,7 @@ use Rattle.nmvs_operator.specs.Users.{change_of, says, AreLinesOf, Adds, AddsAll
 use Rattle.nmvs_operator.specs.declared.faults.LoadFault.{LoadFault}
 use Rattle.nmvs_operator.specs.declared.faults.LoadFault.TheVariants as load
 
--- these lines, which are those of commands whose changes were added, are the first of these bytes; the rest is behind
+-- these lines, which are those of commands whose changes were added, are the first of these bytes; the rest is after
 -- them, and the line of this number comes next
 pub record Added (bytes rest : List ℕ) (number : ℕ) (before now : List Change) : Type 0 where
   pub seen : List (List ℕ)
@@ -52,7 +52,7 @@ pub added_none : (bytes : List ℕ) (before : List Change) → Added bytes bytes
 added_none bytes before =
     record { seen = []; lines = refl; left = refl; count = refl; commands = []; file = no_lines; changes = sym (append-nil before) }
 
--- the lines of a file up to one that comes next
+-- the lines of a file up to the line that comes next
 lines_to : {bytes rest : List ℕ} {number : ℕ} {before now : List Change} (line behind : List ℕ) (p : Added bytes rest number before now)
     → input_lines rest ≡ line ∷ input_lines behind → input_lines bytes ≡ p.seen ++ line ∷ input_lines behind
 lines_to line behind p cut = p.lines ∙ ap (λ (t : List (List ℕ)). p.seen ++ t) cut
@@ -73,7 +73,7 @@ added_more {before = before} line behind now' more p cut left is adds = record {
       ∙ ap (λ (t : List Change). before ++ t) (sym (map-append change_of p.commands more));
 }
 
--- behind the last LF there is nothing, or what has no end
+-- if the rest has no whole line, the lines of the file are those that were gone through
 lines_all : {bytes rest : List ℕ} {number : ℕ} {before now : List Change} (p : Added bytes rest number before now)
     → input_lines rest ≡ [] → input_lines bytes ≡ p.seen
 lines_all p none = p.lines ∙ ap (λ (t : List (List ℕ)). p.seen ++ t) none ∙ append-nil p.seen
@@ -112,7 +112,7 @@ adds_first-adds {bytes} after p same = record {
   changes = same ∙ p.changes;
 }
 
--- what the fault of a line tells of the file
+-- the meaning of the fault of a line for the file
 pub tells : {bytes rest : List ℕ} {number : ℕ} {before now : List Change} (line behind : List ℕ) (after : List Change)
     → Added bytes rest number before now → input_lines rest ≡ line ∷ input_lines behind → after ≡ now → (f : LoadFault)
     → (f ≡ load.Memory) ⊎ ((fault : CommandFault) × (f ≡ load.Line number fault) × (says line ≡ true) × (first_command_fault line ≡ Some fault))
@@ -156,7 +156,7 @@ not_added source source' reads bytes before after load.Read read ended h = absur
 not_added source source' reads bytes before after (load.Line number fault) read ended h = (bytes, read, ended, h)
 not_added source source' reads bytes before after (load.Unended number) read ended h = (bytes, read, ended, h)
 
--- what a fault tells of a file whose changes are added is that those of its first lines are
+-- at a fault the changes of the first lines of a file were added
 pub tells_first : (bytes : List ℕ) (before after : List Change) (f : LoadFault) → Tells bytes before after f → AddsFirst bytes before after
 tells_first bytes before after (load.Line number fault) h =
     record { first = h.first; rest = h.line ∷ h.rest; these = h.these; commands = h.commands; file = h.file; changes = h.changes }

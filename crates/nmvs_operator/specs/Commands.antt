@@ -26,7 +26,7 @@ use Rattle.nmvs_operator.specs.declared.service.Deed.TheVariants as deeds
 use Rattle.nmvs_operator.specs.declared.service.ServiceFault.{ServiceFault}
 use Rattle.nmvs_operator.specs.declared.service.ServiceFault.TheVariants as service
 
--- what orders change: the register; the list of changes that the latest notice tells, if one was shown; the server
+-- the state that orders change: the register; the list of changes of the latest notice, if one was shown; the server
 pub record Office (S : Type 0) : Type 0 where
   pub register : Register
   pub latest : Option (List Change)
@@ -35,15 +35,15 @@ pub record Office (S : Type 0) : Type 0 where
 abbrev pub office : {S : Type 0} → Register → Option (List Change) → S → Office S
 office register latest service = record { register = register; latest = latest; service = service }
 
--- what a server may do, and be in which state then
+-- the deeds that a server in a state may do, with their faults and the states after them
 abbrev pub Does : Type 0 → Type 1
 Does S = S → Deed → Option ServiceFault → S → Type 0
 
--- what a server in a state may count of a topic
+-- the figures that a server in a state may count of a topic
 abbrev pub Counts : Type 0 → Type 1
 Counts S = S → Topic → List Figure → Type 0
 
--- what a server may do and count
+-- the deeds and figures of a server
 pub record Ways (S : Type 0) : Type 1 where
   pub does : Does S
   pub counts : Counts S
@@ -58,14 +58,14 @@ IsKeepFile (deeds.Keep command) bytes = ⊥
 IsKeepFile (deeds.Export path) bytes = ⊥
 IsKeepFile deeds.Stop bytes = ⊥
 
--- the server kept the changes of a users file that has no fault, where no fault is that it did
+-- the server kept the changes of a users file that has no fault, or failed to with this fault
 pub record KeepsFile {S : Type 0} (does : Does S) (old : S) (bytes : List ℕ) (fault : Option ServiceFault) (new : S) : Type 0 where
   pub faultless : faults_from 1 bytes ≡ []
   pub deed : Deed
   pub file : IsKeepFile deed bytes
   pub done : does old deed fault new
 
--- the server did what an order asks of it, where no fault is that it did
+-- the server did what an order asks of it, or failed to with this fault
 abbrev pub Performs : {S : Type 0} → Does S → S → Order → Option ServiceFault → S → Type 0
 Performs does old (orders.Change command) fault new = does old (deeds.Keep command) fault new
 Performs does old (orders.Export path) fault new = does old (deeds.Export path) fault new
@@ -79,14 +79,14 @@ Performs does old (orders.Count topic) (Some fault) new = ⊥
 Performs does old orders.Help None new = new ≡ old
 Performs does old orders.Help (Some fault) new = ⊥
 
--- a change is published behind all that were pending, and the latest notice tells all that is published
+-- a change is published after all that were pending, and the latest notice has all that is published
 pub record Publishes {S : Type 0} (old : Office S) (command : Command) (new : Office S) : Type 0 where
   pub all : new.register.published ≡ old.register.published ++ (old.register.pending ++ change_of command ∷ [])
   pub none_left : new.register.pending ≡ []
   pub told : new.latest ≡ Some new.register.published
 
--- the changes of a users file that the server keeps are published behind all that were pending, and the latest notice
--- tells all that is published
+-- the changes of a users file that the server keeps are published after all that were pending; the latest notice has all
+-- that is published
 pub record Reloads {S : Type 0} (does : Does S) (old : Office S) (new : Office S) : Type 0 where
   pub bytes : List ℕ
   pub kept : KeepsFile does old.service bytes None new.service
@@ -100,7 +100,7 @@ pub record Reloads {S : Type 0} (does : Does S) (old : Office S) (new : Office S
 abbrev pub UsersStay : {S : Type 0} → Office S → Office S → Type 0
 UsersStay old new = (new.register ≡ old.register) × (new.latest ≡ old.latest)
 
--- what is done of an order beside the server
+-- the change of the users and of the latest notice by an order
 abbrev pub Changes : {S : Type 0} → Does S → Office S → Order → Office S → Type 0
 Changes does old (orders.Change command) new = Publishes old command new
 Changes does old orders.Reload new = Reloads does old new
@@ -173,7 +173,7 @@ abbrev pub Ends : {S : Type 0} → Does S → Office S → List ℕ → Result O
 Ends does old line (Ok order) new = Obeys does old line order new
 Ends does old line (Err fault) new = Refuses does old line fault new
 
--- the lines that are told to an order that ended so: those of the published users, those of some of the figures that the
+-- the lines of the answer to an order that ended so: those of the published users, those of some of the figures that the
 -- server may count, those of the faults of a users file, and else none
 abbrev pub Lists : {S : Type 0} → Counts S → Office S → Result Order ObeyFault → List ℕ → Type 0
 Lists counts old (Ok orders.Users) lines = lines ≡ user_lines (users_of old.register.published)
@@ -190,7 +190,7 @@ Lists counts old (Err (obey.Undone fault)) lines = lines ≡ []
 Lists counts old (Err obey.Memory) lines = lines ≡ []
 Lists counts old (Err obey.Unended) lines = lines ≡ []
 
--- what is said to an order: the lines that it asked for, and how it ended
+-- the answer to an order: the lines that it asked for, and how it ended
 pub record Said : Type 0 where
   pub lines : List ℕ
   pub ends : Result Order ObeyFault
@@ -209,7 +209,7 @@ AnswersOrders {S} ways old (x ∷ xs) (a ∷ said) new = (mid : Office S) × Ans
 AnswersOrders ways old [] (a ∷ said) new = ⊥
 AnswersOrders ways old (x ∷ xs) [] new = ⊥
 
--- why a line can't be read
+-- the word of the fault of a line that can't be read
 abbrev pub command_word : CommandFault → List ℕ
 command_word commands.Long = codes "LONG"
 command_word commands.Bytes = codes "BYTES"
@@ -220,7 +220,7 @@ command_word commands.User = codes "NAME"
 command_word commands.Authorisation = codes "NAME"
 command_word commands.Premises = codes "NAME"
 
--- why the server did not do what was asked
+-- the word of the fault of a server that did not do what was asked
 abbrev pub service_word : ServiceFault → List ℕ
 service_word service.Journal = codes "JOURNAL"
 service_word service.Write = codes "WRITE"
@@ -229,11 +229,11 @@ service_word service.Clock = codes "CLOCK"
 service_word service.Read = codes "READ"
 service_word service.NoFile = codes "NOFILE"
 
--- the lines that there are
+-- the answer to HELP: the list of the orders, and its last line
 abbrev pub help_text : List ℕ
 help_text = codes "ENROL user role authorisation premises\nSUSPEND user\nREMOVE user\nRELOAD\nEXPORT file\nUSERS\nSTATS\nCONNECTIONS\nALERTS\nSTOP\nHELP\nDONE\n"
 
--- the last line that is said to an order; and to HELP all of them
+-- the last line of the answer to an order; and to HELP the whole answer
 abbrev pub order_text : Result Order ObeyFault → List ℕ
 order_text (Ok orders.Help) = help_text
 order_text (Ok _) = codes "DONE\n"
@@ -243,21 +243,21 @@ order_text (Err obey.Memory) = codes "FAULT MEMORY\n"
 order_text (Err obey.Users) = codes "FAULT USERS\n"
 order_text (Err obey.Unended) = codes "FAULT UNENDED\n"
 
--- a text was delivered, but for what a failed write left of it
+-- a text was delivered, or a part of it before a failed write
 abbrev pub Tries : Taken → Taken → List ℕ → Type 0
 Tries old new text = Delivers old new text ⊎ DeliversPart old new text
 
--- the text of what is said to an order
+-- the text of the answer to an order
 abbrev pub answer_text : Said → List ℕ
 answer_text said = said.lines ++ order_text said.ends
 
--- the texts of these answers were delivered one by one, but for what a failed write left of one
+-- the texts of these answers were delivered one by one, or of one a part of it before a failed write
 abbrev pub TellsAnswers : Taken → List Said → Taken → Type 0
 TellsAnswers old [] new = new ≡ old
 TellsAnswers old (a ∷ said) new =
     (mid : Taken) × Tries old mid (answer_text a) × TellsAnswers mid said new
 
--- the answer to what was begun and has no end: none where nothing was begun
+-- the answer to a line that was begun and has no end: none if nothing was begun
 abbrev pub last_answer : List ℕ → List Said
 last_answer [] = []
 last_answer (b ∷ begun) = saying [] (Err obey.Unended) ∷ []
@@ -280,7 +280,7 @@ abbrev pub InputEnds : Told → Told → Type 0
 InputEnds source source' =
     (source'.ended ≡ true) ⊎ ((source'.failed ≡ true) ⊎ (source'.reads ≡ source.reads + 18446744073709551615))
 
--- all lines of an input that have their LF were answered, and none stopped the server; what was begun behind them is
+-- all lines of an input that have their LF were answered, and none stopped the server; a line that was begun after them is
 -- answered, and not carried out
 pub record EndsWithInput (input : List ℕ) (source : Told) (sink : Taken) (lines : List (List ℕ)) (said : List Said) (source' : Told) (sink' : Taken) : Type 0 where
   pub all : lines ≡ input_lines input
@@ -288,7 +288,7 @@ pub record EndsWithInput (input : List ℕ) (source : Told) (sink : Taken) (line
   pub told : TellsAnswers sink (said ++ last_answer (unfinished_line input)) sink'
   pub ends : InputEnds source source'
 
--- the first lines of an input were answered, up to the one that stopped the server; no other was looked at
+-- the first lines of an input were answered, up to the line that stopped the server; no other was looked at
 pub record EndsByStop (input : List ℕ) (sink : Taken) (lines : List (List ℕ)) (said : List Said) (sink' : Taken) : Type 0 where
   pub rest : List (List ℕ)
   pub these : input_lines input ≡ lines ++ rest
@@ -297,7 +297,7 @@ pub record EndsByStop (input : List ℕ) (sink : Taken) (lines : List (List ℕ)
   pub goes_on : GoesOn before
   pub told : TellsAnswers sink said sink'
 
--- the orders of a source were carried out and answered, up to its end or to the one that stopped the server
+-- the orders of a source were carried out and answered, up to its end or to the order that stopped the server
 pub record CarriesOut {S : Type 0} (ways : Ways S) (old : Office S) (source : Told) (sink : Taken) (new : Office S) (source' : Told) (sink' : Taken) : Type 0 where
   -- these bytes were read
   pub input : List ℕ

@@ -1,4 +1,4 @@
--- What the operator is told of what a server counts (own).
+-- The lines of a server's figures for the operator (own).
 use Rattle.std.specs.Prelude.{ℕ, List, [], ◌∷◌, codes, decimal}
 use Rattle.std.specs.List.{flat_map}
 use Rattle.nmvs_words.specs.Words.{spaced}

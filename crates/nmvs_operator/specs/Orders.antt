@@ -10,7 +10,7 @@ use Rattle.nmvs_operator.specs.declared.figures.Topic.TheVariants.{Stats, Connec
 use Rattle.nmvs_operator.specs.declared.order.Order.{Order}
 use Rattle.nmvs_operator.specs.declared.order.Order.TheVariants as orders
 
--- the word of what numbers are asked about
+-- the word of a topic
 abbrev pub topic_word : Topic → List ℕ
 topic_word Stats = codes "STATS"
 topic_word Connections = codes "CONNECTIONS"

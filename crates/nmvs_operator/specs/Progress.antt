@@ -13,14 +13,14 @@ pub record AnsweredOrders {S : Type 0} (ways : Ways S) (first : Office S) (start
   pub told : TellsAnswers start said sink
   pub goes_on : GoesOn said
 
--- the first lines of an input were answered, up to the one that stopped the server
+-- the first lines of an input were answered, up to the line that stopped the server
 pub record StoppedIn {S : Type 0} (ways : Ways S) (first : Office S) (start : Taken) (now : Office S) (sink : Taken) (input : List ℕ) : Type 0 where
   pub lines : List (List ℕ)
   pub said : List Said
   pub answers : AnswersOrders ways first lines said now
   pub ends : EndsByStop input start lines said sink
 
--- so many bytes were read as there could be, their lines answered, and this is kept of what was begun behind them
+-- the bytes of an input were read to its end, their lines answered, and this part is kept of the line begun after them
 pub record CarriesOutLines {S : Type 0} (ways : Ways S) (first : Office S) (source : Told) (start : Taken) (now : Office S) (source' : Told) (sink : Taken) (begun : List ℕ) : Type 0 where
   pub input : List ℕ
   pub read : source'.bytes ≡ source.bytes ++ input
@@ -28,7 +28,7 @@ pub record CarriesOutLines {S : Type 0} (ways : Ways S) (first : Office S) (sour
   pub kept : begun ≡ kept_part (unfinished_line input)
   pub ends : InputEnds source source'
 
--- these bytes were read, and their lines answered up to the one that stopped the server
+-- these bytes were read, and their lines answered up to the line that stopped the server
 pub record StoppedBy {S : Type 0} (ways : Ways S) (first : Office S) (source : Told) (start : Taken) (now : Office S) (source' : Told) (sink : Taken) : Type 0 where
   pub input : List ℕ
   pub read : source'.bytes ≡ source.bytes ++ input

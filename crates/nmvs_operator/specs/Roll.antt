@@ -1,4 +1,4 @@
--- What the operator is told of the users (own).
+-- The users and how they stand, as lines for the operator (own).
 use Rattle.std.specs.Prelude.{ℕ, List, [], ◌∷◌, codes, None, Some}
 use Rattle.std.specs.List.{flat_map}
 use Rattle.nmvs_identifier.specs.Name.{Name}
@@ -16,7 +16,7 @@ abbrev pub suspended : List ℕ → Actor → List ℕ
 suspended name actor =
     spaced (codes "USER" ∷ name ∷ role_word actor.role ∷ actor.authorisation.bytes ∷ actor.premises.bytes ∷ codes "SUSPENDED" ∷ [])
 
--- the line of a user, with LF: one that was never enrolled has no role; one that was removed has no line
+-- the line of a user, with LF: a user who was never enrolled has no role, and a user who was removed has no line
 abbrev pub user_line : Name × Standing → List ℕ
 user_line (name, Enrolled actor) = enrolled name.bytes actor
 user_line (name, Suspended (Some actor)) = suspended name.bytes actor

@@ -75,7 +75,7 @@ pub record StopsShort (bytes : List ℕ) (number : ℕ) (before after : List Cha
   pub file : AreLinesOf (input_lines bytes) commands
   pub changes : Adds commands before after
 
--- what a fault tells of a users file, and of what is pending since
+-- the meaning of a fault for a users file, and for the changes that are pending since
 abbrev pub Tells : List ℕ → List Change → List Change → LoadFault → Type 0
 Tells bytes before after (load.Line number fault) = StopsAt bytes number fault before after
 Tells bytes before after (load.Unended number) = StopsShort bytes number before after
@@ -91,18 +91,18 @@ pub record Loads (source source' : Told) (published pending published' : List Ch
   pub adds : AddsAll bytes pending added
   pub all : published' ≡ published ++ added
 
--- a read failed, or so many reads did not reach the end
+-- a read failed, or this number of reads did not reach the end
 abbrev pub CannotRead : Told → Told → ℕ → Type 0
 CannotRead source source' reads = (source'.failed ≡ true) ⊎ ((source'.reads ≡ source.reads + reads) × (source'.ended ≡ false))
 
--- why the bytes of a users file are not had: memory was wanting for those that were read, or they were not read to the end
+-- why the bytes of a users file are not there: memory was wanting for those that were read, or they were not read to the end
 abbrev pub ReadFails : Told → Told → ℕ → LoadFault → Type 0
 ReadFails source source' reads load.Memory = (bytes : List ℕ) × (source'.bytes ≡ source.bytes ++ bytes)
 ReadFails source source' reads load.Read = CannotRead source source' reads
 ReadFails source source' reads (load.Line number fault) = ⊥
 ReadFails source source' reads (load.Unended number) = ⊥
 
--- what a fault tells of the users file, of which at most so many reads were to be made, and of what is pending since
+-- the meaning of a fault for a users file of which at most this number of reads were made, and for the changes pending since
 abbrev pub LoadFails : Told → Told → ℕ → List Change → List Change → LoadFault → Type 0
 LoadFails source source' reads before after (load.Line number fault) =
     (bytes : List ℕ) × (source'.bytes ≡ source.bytes ++ bytes) × (source'.ended ≡ true) × StopsAt bytes number fault before after
@@ -112,7 +112,7 @@ LoadFails source source' reads before after load.Read = CannotRead source source
 LoadFails source source' reads before after load.Memory =
     (bytes : List ℕ) × (source'.bytes ≡ source.bytes ++ bytes) × AddsFirst bytes before after
 
--- what is wrong with a line of a users file, in whole words
+-- the fault of a line of a users file, in whole words and by its word
 abbrev pub users_trouble : CommandFault → List ℕ
 users_trouble commands.Long = codes "it has more than 200 bytes: LONG"
 users_trouble commands.Bytes = codes "it has a byte that is no printable ASCII character: BYTES"

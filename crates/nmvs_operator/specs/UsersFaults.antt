@@ -11,11 +11,11 @@ use Rattle.nmvs_operator.specs.declared.faults.LoadFault.{LoadFault}
 use Rattle.nmvs_operator.specs.declared.faults.LoadFault.TheVariants.{Line, Unended, Read, Memory}
 use Rattle.nmvs_operator.specs.declared.users_check.UsersFault.{UsersFault}
 
--- what a fault says, and the line that it is about
+-- a fault, and the line that it is about
 abbrev pub shown : UsersFault → LoadFault × List ℕ
 shown f = (f.fault, f.line.now)
 
--- this fault of the line of this number, where it is one
+-- this fault of the line of this number, if there is one
 abbrev pub fault_list : ℕ → List ℕ → Option CommandFault → List (LoadFault × List ℕ)
 fault_list number line None = []
 fault_list number line (Some fault) = (Line number fault, line) ∷ []
@@ -29,7 +29,7 @@ abbrev pub lines_faults : ℕ → List (List ℕ) → List (LoadFault × List �
 lines_faults number [] = []
 lines_faults number (line ∷ lines) = line_faults number line ++ lines_faults (number + 1) lines
 
--- the fault of what follows the last LF, if anything does
+-- the fault of the bytes after the last LF, if there are any
 abbrev pub end_faults : ℕ → List ℕ → List (LoadFault × List ℕ)
 end_faults number [] = []
 end_faults number (b ∷ bs) = (Unended number, b ∷ bs) ∷ []
@@ -50,22 +50,22 @@ line_word commands.User = codes "USER"
 line_word commands.Authorisation = codes "AUTHORISATION"
 line_word commands.Premises = codes "PREMISES"
 
--- what the operator is told of one fault: the number of its line, and its word
+-- the line about one fault for the operator: the number of the faulty line, and the word of the fault
 abbrev pub fault_line : LoadFault × List ℕ → List ℕ
 fault_line (Line number fault, line) = spaced (codes "LINE" ∷ decimal number ∷ line_word fault ∷ [])
 fault_line (Unended number, line) = spaced (codes "LINE" ∷ decimal number ∷ codes "UNENDED" ∷ [])
 fault_line (Read, line) = []
 fault_line (Memory, line) = []
 
--- the same of the faults that a check found
+-- the lines about the faults that a check found
 abbrev pub told_faults : List UsersFault → List ℕ
 told_faults faults = flat_map (λ f. fault_line (shown f)) faults
 
--- what the operator is told of faults
+-- the lines about faults for the operator
 abbrev pub fault_lines : List (LoadFault × List ℕ) → List ℕ
 fault_lines faults = flat_map fault_line faults
 
--- the answer to one who asks that a users file with these faults be taken: none where it has none
+-- the answer to RELOAD about these faults of a users file: empty if there are none
 abbrev pub faults_text : List (LoadFault × List ℕ) → List ℕ
 faults_text [] = []
 faults_text (f ∷ fs) = fault_lines (f ∷ fs) ++ codes "FAULT USERS\n"

@@ -1,6 +1,7 @@
-//! The options that a command line may have, and what its help says of them.
+//! The options that a command line may have, and their help.
 use crate::options::{
-    MOST_CONNECTIONS, MOST_IDLE, MOST_RATE, MOST_SESSIONS, MOST_SHARDS, MOST_WORKERS,
+    MOST_CONNECTION_MEMORY, MOST_CONNECTIONS, MOST_IDLE, MOST_RATE, MOST_SESSIONS, MOST_SHARDS,
+    MOST_WORKERS,
 };
 use clap::{Arg, ArgAction, Command, value_parser};
 use nmvs_identifier::LAST_MOMENT;
@@ -26,7 +27,7 @@ struct Described {
     help: &'static str,
 }
 
-/// What an option takes.
+/// The value that an option takes.
 #[derive(Clone, Copy)]
 enum Value {
     /// Nothing: the option is a flag.
@@ -40,7 +41,7 @@ enum Value {
 }
 
 /// The options, in the order in which the help shows them.
-static OPTIONS: [Described; 24] = [
+static OPTIONS: [Described; 25] = [
     Described {
         name: "users",
         value: Value::Text("FILE"),
@@ -94,6 +95,12 @@ static OPTIONS: [Described; 24] = [
         value: Value::Number(1, MOST_CONNECTIONS as i64),
         default: Some("10000"),
         help: "Connections that are open at once, 1 to 100000",
+    },
+    Described {
+        name: "connection-memory",
+        value: Value::Number(1, MOST_CONNECTION_MEMORY as i64),
+        default: Some("256"),
+        help: "Memory of the buffers of all connections in MiB, 1 to 1048576; above it the connection that takes most is closed",
     },
     Described {
         name: "sessions",

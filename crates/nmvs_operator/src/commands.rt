@@ -38,9 +38,9 @@ const HELP: &str =
 /// Carries out the orders of a console one by one, as they come, and answers each. A change of the users is kept by the
 /// server first, then published at once, and its notice shown as the latest.
 ///
-/// It ends with the input, at a failed read, or once it has told the server to stop, and then it looks at no further
-/// line. What was begun at the end of the input, and has no LF, is answered and not carried out. A failed write changes
-/// nothing. It waits for the lock of the latest notice, and lets it go.
+/// It ends with the input, at a failed read, or once it has stopped the server, and then it looks at no further line. A line
+/// without LF at the end of the input is answered and not carried out. A failed write changes nothing. It waits for the
+/// lock of the latest notice, and lets it go.
 pub fn obey_all<'r, J: Naming, R: Wait, A: Allocator, T: Sides, S: Service>(
     alloc: Global,
     console: &mut Console<T>,
@@ -63,8 +63,8 @@ pub fn obey_all<'r, J: Naming, R: Wait, A: Allocator, T: Sides, S: Service>(
     }
 }
 
-/// Carries out and answers the orders that have their LF, and gives what is kept of what was begun behind them; or
-/// nothing, where the server was stopped.
+/// Carries out and answers the orders that have their LF. The result is the kept part of the line that was begun after
+/// them, or nothing if the server was stopped.
 fn obey_lines<'r, J: Naming, R: Wait, A: Allocator, T: Sides, S: Service>(
     alloc: Global,
     console: &mut Console<T>,
@@ -105,7 +105,7 @@ fn obey_lines<'r, J: Naming, R: Wait, A: Allocator, T: Sides, S: Service>(
     Some(line)
 }
 
-/// Goes on with the bytes of one read, behind the line that was begun, and tells whether the server was stopped.
+/// Goes on with the bytes of one read, after the line that was begun. The result is whether the server was stopped.
 fn obey_chunk<'r, J: Naming, R: Wait, A: Allocator, W: Sink, S: Service>(
     alloc: Global,
     line: &mut PendingLine,
@@ -139,8 +139,8 @@ fn obey_chunk<'r, J: Naming, R: Wait, A: Allocator, W: Sink, S: Service>(
     false
 }
 
-/// Carries out one order, of which as much is given as is kept of it, answers it, and tells whether it stopped the
-/// server. A failed write changes nothing.
+/// Carries out one order, of which the kept part is given, and answers it. The result is whether it stopped the server.
+/// A failed write changes nothing.
 fn obey_line<'r, J: Naming, R: Wait, A: Allocator, W: Sink, S: Service>(
     alloc: Global,
     line: &[u8],
@@ -220,7 +220,7 @@ fn carry_out<'r, J: Naming, R: Wait, A: Allocator, S: Service>(
     Ok(())
 }
 
-/// Has the server do what an order other than `RELOAD` asks of it.
+/// The server does what an order other than `RELOAD` asks of it.
 fn perform<S: Service>(order: &Order<'_>, service: &mut S) -> Result<(), ServiceFault>
     requires other { order.now ≢ Order.Reload }
     ensures { Performs S.does service.old order.now (result_err result) service.new }
@@ -291,7 +291,7 @@ fn listed_text<J: Naming, R: Wait + Drop, A: Allocator>(
     Ok(text)
 }
 
-/// Answers an order by a text, or tells that there was no memory for it.
+/// Answers an order by a text, or by `FAULT MEMORY` if there was no memory for it.
 fn tell_made<W: Sink>(text: Result<String, AllocError>, sink: &mut W)
     ensures { MatchResult text (λ text. Tries (W.taken sink.old) (W.taken sink.new) (string_bytes text))
         (λ _. Tries (W.taken sink.old) (W.taken sink.new) (codes "FAULT MEMORY\n")) }

@@ -1,4 +1,4 @@
-//! What a server counts, and what its operator is told of it.
+//! The figures that a server counts, and their lines for the operator.
 ghost use Rattle.std.specs.Prelude.{◌≡◌, ◌++◌, IfOk, OnOk, string_bytes};
 ghost use Rattle.std.specs.List.{flat_map};
 ghost use Rattle.nmvs_operator.specs.Figures.{figure_line as line_of_figure, figure_lines};
@@ -6,14 +6,14 @@ ghost use Rattle.nmvs_operator.specs.Figures.{figure_line as line_of_figure, fig
 use nmvs_identifier::Name;
 use std::alloc::{AllocError, Global};
 
-/// What the operator asks numbers about (own).
+/// A topic that the operator asks numbers about (own).
 #[derive(Clone, Copy)]
 pub enum Topic {
-    /// What is served, and what is recorded.
+    /// Connections, sessions and entries.
     Stats,
     /// The connections of each worker.
     Connections,
-    /// Who has raised most flagged alerts.
+    /// The users who have raised most flagged alerts.
     Alerts,
 }
 
@@ -32,7 +32,7 @@ pub enum Figure {
     Alerts(Name, Name, u64),
 }
 
-/// The lines of figures, one a line.
+/// The lines of figures, one for each.
 ///
 /// # Errors
 ///

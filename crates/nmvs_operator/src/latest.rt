@@ -4,8 +4,8 @@ use nmvs_directory::{Naming, Notice};
 use std::marker::Model;
 use std::sync::{Mutex, Wait};
 
-/// Where the latest notice of a directory is shown to all who ask by it: under a lock. Contracts see the list of changes
-/// of the notice that was shown here last, if one was.
+/// The lock under which all who ask find the latest notice of a directory. Contracts see the list of changes of the
+/// notice that was shown here last, if one was.
 #[derive(Drop)]
 pub struct Latest<'l, J: Naming, R: Wait> {
     rt: &'l R,
@@ -35,7 +35,7 @@ impl<'l, J: Naming, R: Wait> Latest<'l, J, R> {
         }
     }
 
-    /// Shows a notice in place of the one that is there. It waits for the lock, and lets it go.
+    /// Shows a notice in place of the earlier one. It waits for the lock, and lets it go.
     pub fn show(&mut self, notice: Notice<J>)
         ensures { self.new ≡ Some notice }
     {

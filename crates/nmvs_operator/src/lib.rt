@@ -2,7 +2,7 @@
 //!
 //! [`read_options`] reads a command line. [`load_users`] publishes the users of a file, all at once, by a
 //! `nmvs_directory::Registrar`; [`users_faults`] lists all that is wrong with one. [`obey_all`] carries out the
-//! [`Order`]s of a [`Console`] as they come. It shows the notice of changed users by a [`Latest`] before it answers, and
+//! [`Order`]s of a [`Console`] as they come. It shows the notice of changed users by a [`Latest`] before it answers. It
 //! asks a [`Service`] for all that only a server can do or count.
 //!
 //! It serves no lines: `nmvs_server` decides what is served, and when commands are read.

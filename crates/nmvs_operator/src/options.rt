@@ -14,10 +14,10 @@ use nmvs_messages::NameOf;
 use std::alloc::{AllocError, Global};
 use std::net::{IpAddr, SocketAddr};
 
-/// The most shards: a repository has at most so many locks, each of a type of its own.
+/// The most shards: a repository has at most 8 locks, each of a type of its own.
 pub const MOST_SHARDS: u64 = 8;
 
-/// The most workers: each asks by a window of the directory, which has at most so many.
+/// The most workers: each asks by a window of the directory, which has at most 8.
 pub const MOST_WORKERS: u64 = 8;
 
 /// The upper limit of `--sessions` (own).
@@ -25,6 +25,9 @@ pub const MOST_SESSIONS: u64 = 1_000_000;
 
 /// The most connections that are open at once (own).
 pub const MOST_CONNECTIONS: u64 = 100_000;
+
+/// The most memory of the buffers of all connections, in MiB: 1 TiB (own).
+pub const MOST_CONNECTION_MEMORY: u64 = 1_048_576;
 
 /// The longest that a connection may ask nothing, in seconds: a day (own).
 pub const MOST_IDLE: u64 = 86_400;
@@ -44,7 +47,7 @@ pub struct Options {
     pub import: Option<String>,
     /// Path that the export is written to at the end.
     pub export: Option<String>,
-    /// Path of the folder of the journals.
+    /// Path of the folder of the log.
     pub journal: Option<String>,
     /// How many shards the repository has, 1 to 8.
     pub shards: usize,
@@ -54,21 +57,23 @@ pub struct Options {
     pub sessions: u64,
     /// How many connections are open at once, 1 to 100,000.
     pub connections: usize,
-    /// How long a connection may ask nothing, in seconds, 0 to 86,400, where 0 is without end.
+    /// The most memory that the buffers of all connections take, in MiB, 1 to 1,048,576.
+    pub connection_memory: u64,
+    /// How long a connection may ask nothing, in seconds, 0 to 86,400; 0 is without end.
     pub idle: u64,
-    /// How many lines of each user are let through in a second, 0 to 1,000,000, where 0 is all.
+    /// How many lines of each user are let through in a second, 0 to 1,000,000; 0 is all.
     pub rate: u64,
-    /// How many of them at once, 0 to 1,000,000: as many as in a second where the command line does not say.
+    /// How many of them at once, 0 to 1,000,000: as many as in a second if the command line does not say.
     pub burst: u64,
-    /// The address that is listened on, where no socket is; port 0 is one that the system chooses.
+    /// The address that is listened on, if no socket is; for port 0 the system chooses a free port.
     pub address: SocketAddr,
     /// Path of a Unix socket that is listened on, in place of the address.
     pub socket: Option<String>,
-    /// The address at which lines come over HTTP, if they do; port 0 is one that the system chooses.
+    /// The address at which lines come over HTTP, if they do; for port 0 the system chooses a free port.
     pub http: Option<SocketAddr>,
     /// Path of a Unix socket at which lines come over HTTP, in place of the address.
     pub http_socket: Option<String>,
-    /// Whose name the gateway's header has that each connection begins with, where it begins with one.
+    /// Whether the gateway's header names a user or an authorisation, if each connection begins with one.
     pub proxy: Option<NameOf>,
     /// The moment of every line, in place of the clock's.
     pub moment: Option<Moment>,
@@ -76,14 +81,14 @@ pub struct Options {
     pub stdin: bool,
     /// Path of a Unix socket that takes the operator's commands, in addition to standard input.
     pub admin: Option<String>,
-    /// The address of the metrics; port 0 is one that the system chooses.
+    /// The address of the metrics; for port 0 the system chooses a free port.
     pub metrics: Option<SocketAddr>,
-    /// What is logged: events of this level and above.
+    /// Events of this level and above are logged.
     pub log_level: LevelFilter,
     pub log_format: LogFormat,
     /// The event of an alert has the user and the premises that raised it.
     pub log_users: bool,
-    /// Nothing is started: what is wrong with the options and the users file is said.
+    /// Nothing is started: all faults of the file of options and the users file are printed.
     pub check: bool,
 }
 
@@ -107,7 +112,7 @@ impl From<AllocError> for OptionFault {
 ///
 /// # Errors
 ///
-/// The words are no command line, or ask for help or the version.
+/// The words are no command line, or ask for help or the version; or there is no memory.
 pub fn read_options(alloc: Global, words: &[String]) -> Result<Options, OptionFault>
     ensures { IfOk result AreInRange }
 {
@@ -137,6 +142,13 @@ fn values_of(alloc: Global, matches: &ArgMatches<'_>) -> Result<Options, OptionF
     let workers = within(alloc, matches, "workers", 1, MOST_WORKERS)? as usize;
     let sessions = within(alloc, matches, "sessions", 0, MOST_SESSIONS)?;
     let connections = within(alloc, matches, "connections", 1, MOST_CONNECTIONS)? as usize;
+    let connection_memory = within(
+        alloc,
+        matches,
+        "connection-memory",
+        1,
+        MOST_CONNECTION_MEMORY,
+    )?;
     let idle = within(alloc, matches, "idle", 0, MOST_IDLE)?;
     let rate = within(alloc, matches, "rate", 0, MOST_RATE)?;
     let burst = burst_of(alloc, matches, rate)?;
@@ -156,6 +168,7 @@ fn values_of(alloc: Global, matches: &ArgMatches<'_>) -> Result<Options, OptionF
         workers,
         sessions,
         connections,
+        connection_memory,
         idle,
         rate,
         burst,
@@ -194,7 +207,7 @@ fn take_paths(
     take_path(alloc, matches, "admin", &mut options.admin)
 }
 
-/// Takes the path that an option names, where it is given.
+/// Takes the path that an option names, if it is given.
 fn take_path(
     alloc: Global,
     matches: &ArgMatches<'_>,
@@ -207,7 +220,7 @@ fn take_path(
     Ok(())
 }
 
-/// Takes the path of a socket that is listened on, where an option names one and no address.
+/// Takes the path of a socket that is listened on, if an option names one and no address.
 fn take_socket(
     alloc: Global,
     matches: &ArgMatches<'_>,
@@ -273,7 +286,7 @@ fn address_of(alloc: Global, matches: &ArgMatches<'_>) -> Result<SocketAddr, Opt
     Ok(address)
 }
 
-/// The address of `--listen`. For the path of a socket it is one that is not listened on.
+/// The address of `--listen`. For the path of a socket it is an address that is not listened on.
 fn listened_address(alloc: Global, matches: &ArgMatches<'_>) -> Result<SocketAddr, OptionFault> {
     match matches.get_str("listen") {
         Some(text) if !is_path(text) => spelled(alloc, text, "listen"),
@@ -321,14 +334,14 @@ fn no_address(alloc: Global, text: &str, option: &str) -> OptionFault {
     }
 }
 
-/// What is logged.
+/// The level from which events are logged.
 fn level_of(alloc: Global, matches: &ArgMatches<'_>) -> Result<LevelFilter, OptionFault> {
     matches
         .get_one::<LevelFilter>("log-level")
         .ok_or_else(|| unreadable(alloc))
 }
 
-/// How it is logged.
+/// The format of the log.
 fn format_of(alloc: Global, matches: &ArgMatches<'_>) -> Result<LogFormat, OptionFault> {
     match matches.get_str("log-format") {
         Some("text") => Ok(LogFormat::Text),
@@ -337,7 +350,7 @@ fn format_of(alloc: Global, matches: &ArgMatches<'_>) -> Result<LogFormat, Optio
     }
 }
 
-/// Whose name a gateway's header has, where the option is given.
+/// Whether a gateway's header names a user or an authorisation, if the option is given.
 fn proxy_of(alloc: Global, matches: &ArgMatches<'_>) -> Result<Option<NameOf>, OptionFault> {
     match matches.get_str("proxy") {
         None => Ok(None),
@@ -347,7 +360,7 @@ fn proxy_of(alloc: Global, matches: &ArgMatches<'_>) -> Result<Option<NameOf>, O
     }
 }
 
-/// The moment of every line, where the option is given, or a rehearsal has one of its own.
+/// The moment of every line, if the option is given, or if a rehearsal has one of its own.
 fn moment_of(alloc: Global, matches: &ArgMatches<'_>) -> Result<Option<Moment>, OptionFault>
     ensures { IfOk result (λ m. IfSome m (λ m. m ≤ last_moment)) }
 {
@@ -366,7 +379,7 @@ fn moment_of(alloc: Global, matches: &ArgMatches<'_>) -> Result<Option<Moment>, 
     }
 }
 
-/// The number of an option. The parser took it between these two already, and here it is shown.
+/// The number of an option. The parser takes none but between these two; the check here shows that to the prover.
 fn within(
     alloc: Global,
     matches: &ArgMatches<'_>,

@@ -7,7 +7,7 @@ ghost use Rattle.nmvs_operator.specs.Orders.{ReadsOrder, order_fields, is_order,
 use crate::Topic;
 use nmvs_messages::{Command, CommandFault, command_of, fields_of};
 
-/// What a line of the operator asks for (own).
+/// The order that a line of the operator gives (own).
 #[derive(Clone, Copy)]
 pub enum Order<'l> {
     /// A change of the users.
@@ -18,16 +18,15 @@ pub enum Order<'l> {
     Export(&'l str),
     /// The users that were published, and how they stand.
     Users,
-    /// What the server counts.
+    /// The figures of a topic that the server counts.
     Count(Topic),
     /// The end of the server.
     Stop,
-    /// The lines that there are.
+    /// The list of the orders.
     Help,
 }
 
-/// Reads a line of the operator, given without its LF: it is read as what it says where it is the line of that, and else
-/// answered by the first fault that it has.
+/// Reads a line of the operator, given without its LF: as the order whose line it is, else with its first fault.
 #[tactic(auto, unfolding(crate::specs::Orders::first_order_fault))]
 pub fn read_order(line: &[u8]) -> Result<Order<'_>, CommandFault>
     ensures { ReadsOrder line.now result }
@@ -64,7 +63,7 @@ fn read_fields<'l>(fields: &[&'l str]) -> Result<Order<'l>, CommandFault>
     }
 }
 
-/// The order that has these fields, where it asks for lines or changes the users.
+/// The order that has these fields, if it asks for lines or changes the users.
 #[tactic(auto, unfolding(crate::specs::Orders::listing_fault))]
 fn read_listing<'l>(fields: &[&'l str]) -> Result<Order<'l>, CommandFault>
     ensures fields { IfOk result (λ order. order_fields order ≡ map (λ f. f.now) fields.now) }
@@ -118,7 +117,7 @@ fn stands_alone(texts: &[&str]) -> Result<(), CommandFault>
     }
 }
 
-/// The order that has these fields, where it changes the users.
+/// The order that has these fields, if it changes the users.
 #[tactic(auto, unfolding(crate::specs::Orders::change_fault))]
 fn read_change<'l>(fields: &[&'l str]) -> Result<Order<'l>, CommandFault>
     ensures fields { IfOk result (λ order. order_fields order ≡ map (λ f. f.now) fields.now) }

@@ -67,7 +67,7 @@ fn reload_from<'r, J: Naming, R: Wait, A: Allocator, W: Sink, S: Service>(
     }
 }
 
-/// Has the server keep the changes of a users file that has no fault, and publishes them.
+/// Hands the changes of a users file that has no fault to the server, which keeps them, and publishes them.
 ///
 /// # Errors
 ///

@@ -1,4 +1,4 @@
-//! What the operator is told of the users.
+//! The users and how they stand, as lines for the operator.
 ghost use Rattle.std.specs.Prelude.{◌≡◌, IfOk, string_bytes};
 ghost use Rattle.nmvs_directory.specs.Registrar.{published};
 ghost use Rattle.nmvs_directory.specs.Users.{users_of};

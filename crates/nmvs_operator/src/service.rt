@@ -1,4 +1,4 @@
-//! What a server does for its operator.
+//! The deeds and figures that a server's operator asks for.
 ghost use Rattle.std.specs.Prelude.{List, Option, IfOk};
 ghost use Rattle.std.specs.Result.{result_err};
 ghost use Rattle.nmvs_operator.specs.declared.figures.Figure.{Figure as TheFigure};
@@ -11,7 +11,7 @@ use nmvs_messages::Command;
 use std::alloc::{AllocError, Global};
 use thiserror::Error;
 
-/// What an order asks of the server (own).
+/// A deed that an order asks of the server (own).
 #[derive(Clone, Copy)]
 pub enum Deed<'l> {
     /// To keep a change of the users beyond its own end.
@@ -56,7 +56,7 @@ pub trait Service {
     /// The bytes of the users file, as it is now.
     fn read_users(&self, alloc: Global) -> Result<Vec<u8>, ServiceFault>;
 
-    /// Counts what an order asks numbers about.
+    /// Counts the figures of a topic that an order asks about.
     ///
     /// # Errors
     ///

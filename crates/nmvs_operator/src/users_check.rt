@@ -1,4 +1,4 @@
-//! All that is wrong with a users file, for an operator who corrects it.
+//! All faults of a users file, for an operator who corrects it.
 ghost use Rattle.std.specs.Prelude.{◌≡◌, ◌++◌, map, IfOk, OnOk, string_bytes};
 ghost use Rattle.nmvs_operator.specs.UsersFaults.{shown, line_faults, faults_from, fault_line as line_of_fault, told_faults as lines_of_faults, faults_text as text_of_faults, line_word as word_of_fault, changes_nothing as is_silent};
 
@@ -42,7 +42,7 @@ pub fn users_faults(alloc: Global, bytes: &[u8]) -> Result<Vec<UsersFault<'_>>, 
     Ok(faults)
 }
 
-/// Adds the fault of a line of this number, where it has one.
+/// Adds the fault of a line of this number, if it has one.
 fn push_fault<'f>(
     faults: &mut Vec<UsersFault<'f>>,
     line: &'f [u8],
@@ -60,7 +60,7 @@ fn push_fault<'f>(
     Ok(())
 }
 
-/// The answer to one who asks that a users file of these bytes be taken: nothing where it has no fault.
+/// The answer to `RELOAD` about the faults of a users file of these bytes: empty if there are none.
 ///
 /// # Errors
 ///
@@ -77,7 +77,7 @@ pub(crate) fn faults_text(alloc: Global, bytes: &[u8]) -> Result<String, AllocEr
     Ok(text)
 }
 
-/// What the operator is told of faults, one a line.
+/// The lines about faults for the operator, one for each.
 fn fault_lines(alloc: Global, faults: &[UsersFault<'_>]) -> Result<String, AllocError>
     ensures { IfOk result (λ text. string_bytes text ≡ lines_of_faults faults.now) }
 {
@@ -89,7 +89,7 @@ fn fault_lines(alloc: Global, faults: &[UsersFault<'_>]) -> Result<String, Alloc
     Ok(text)
 }
 
-/// What the operator is told of one fault: the number of its line, and its word.
+/// The line about one fault for the operator: the number of the faulty line, and the word of the fault.
 fn fault_line(alloc: Global, found: &UsersFault<'_>) -> Result<String, AllocError>
     ensures { IfOk result (λ text. string_bytes text ≡ line_of_fault (shown found.now)) }
 {

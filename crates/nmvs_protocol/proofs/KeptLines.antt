@@ -1,4 +1,4 @@
--- What is kept of a line is enough to read it.
+-- The kept part of a line is enough to read it.
 use Rattle.std.proofs.Common.{◌≡◌, ◌<◌, List, ℕ, length, Option, Some, None, Result, Ok, Err, refl, sym, ◌∙◌, subst, inl, inr, arith}
 use Rattle.std.proofs.lemmas.List.{take_all, length-take-le}
 use Rattle.std.proofs.lemmas.Bool.{lt-ltb, cases_lt}
@@ -23,14 +23,14 @@ long_reads : (x y : List ℕ) (r : Result Line Unread) → 200 < length x → 20
 long_reads x y (Ok l) lx ly same h = let e = long_fault x lx in let no = h.1 in absurd (cc (e, no))
 long_reads x y (Err unread) lx ly same h = (long_fault y ly ∙ sym (long_fault x lx) ∙ h.0, h.1 ∙ same)
 
--- what is kept of a line is read as the line is
+-- the kept part of a line is read as the line is
 pub kept_reads : (x : List ℕ) (r : Result Line Unread) → ReadsLine (kept_part x) r → ReadsLine x r
 kept_reads x r h = elim (cases_lt 201 (length x)) [
   | inr short ↦ subst (λ (t : List ℕ). ReadsLine t r) (take_all 201 x short) h
   | inl long ↦ let n = length-take-le 201 x (omega arith) in long_reads (kept_part x) x r (omega arith) (omega arith) (tag_kept x) h
 ]
 
--- and the other way round
+-- the line is read as its kept part is
 pub reads_kept : (x : List ℕ) (r : Result Line Unread) → ReadsLine x r → ReadsLine (kept_part x) r
 reads_kept x r h = elim (cases_lt 201 (length x)) [
   | inr short ↦ subst (λ (t : List ℕ). ReadsLine t r) (sym (take_all 201 x short)) h

@@ -26,7 +26,7 @@ several_are_no_quit front user word texts e =
 quit_is_no_fault : first_fault (line_text lines.Quit) ≡ None
 quit_is_no_fault = first_fault-text lines.Quit refl
 
--- what is not read as QUIT is not its text
+-- a line that is not read as QUIT does not have its text
 pub not_quit : (x : List ℕ) (r : Result Line Unread) → ReadsLine x r → r ≢ Ok lines.Quit → x ≢ line_text lines.Quit
 not_quit x (Ok lines.Ping) h other e = let n : 80 ≡ 81 = ap (λ (t : List ℕ). get_or t 0 0) (sym h.0 ∙ e) in absurd (omega (arith, n))
 not_quit x (Ok lines.Version) h other e = let n : 86 ≡ 81 = ap (λ (t : List ℕ). get_or t 0 0) (sym h.0 ∙ e) in absurd (omega (arith, n))
@@ -39,7 +39,7 @@ not_quit x (Ok (lines.Ask a)) h other e = asks a.asked (sym h.0 ∙ e)
     asks (asked.Report user code) = several_are_no_quit (tag_text a.tag) user.bytes report_word (code.bytes ∷ [])
 not_quit x (Err unread) h other e = let f = ap first_fault e in let n = quit_is_no_fault in let no = h.0 in cc (no, f, n)
 
--- a line is read as QUIT where it is its text
+-- a line is read as QUIT exactly if it has its text
 pub quit_is_read : (b : Bool) (x : List ℕ) (r : Result Line Unread) → ReadsLine x r → (IsTrue b ↔ (r ≡ Ok lines.Quit)) → (IsTrue b ↔ (x ≡ line_text lines.Quit))
 quit_is_read true x r reads is = (λ yes. let h = subst (λ (t : Result Line Unread). ReadsLine x t) (is.0 yes) reads in h.0, λ e. refl)
 quit_is_read false x r reads is = (λ no. absurd (cc no), λ e. absurd (not_quit x r reads (λ (q : r ≡ Ok lines.Quit). absurd (cc (is.1 q))) e))

@@ -1,4 +1,4 @@
--- How a session goes on by one line and by one read.
+-- The steps of a session, by one line and by one read.
 use Rattle.std.proofs.Common.{◌≡◌, ◌≢◌, ◌==◌, ◌+◌, ◌-◌, take, drop, ◌<◌, ◌≤◌, ℕ, true, false, List, [], ◌∷◌, ◌++◌, All, IfNone, Option, Some, None, length, map, refl, sym, ap, ◌∙◌, subst, inl, inr, arith}
 use Rattle.std.proofs.lemmas.List.{append-nil, length-append, length_push, append_assoc, take_at, drop_at, take_all, take-append-drop, length-drop}
 use Rattle.std.proofs.lemmas.Bool.{ne_eqb}
@@ -37,7 +37,7 @@ whole_left n bytes rest whole =
     let left = length-drop n rest in
     ap (λ (t : List ℕ). (bytes ++ take n rest) ++ t) (take_all (length rest - n) (drop n rest) (omega (arith, left))) ∙ whole_cut n bytes rest whole
 
--- what is behind a line
+-- the bytes after a line
 pub behind_line : (bytes tail behind : List ℕ) {rest all : List ℕ} → bytes ++ rest ≡ all → rest ≡ tail ++ 10 ∷ behind → (bytes ++ (tail ++ 10 ∷ [])) ++ behind ≡ all
 behind_line bytes tail behind whole cut =
     append_assoc bytes (tail ++ 10 ∷ []) behind ∙ ap (λ (t : List ℕ). bytes ++ t) (append_assoc tail (10 ∷ []) behind ∙ sym cut) ∙ whole
@@ -49,7 +49,7 @@ some_bytes bytes tail none =
     let k = length-append tail (10 ∷ []) in
     omega (arith, n, m, k)
 
--- the bytes that are left tell how many were taken
+-- the bytes that are left give the number of bytes that were taken
 pub taken_part : {bytes left all : List ℕ} → bytes ++ left ≡ all → (take (length all - length left) all ≡ bytes) × (drop (length all - length left) all ≡ left)
 taken_part {bytes} {left} {all} whole =
     let n = length-append bytes left in
@@ -67,7 +67,7 @@ module _ {D : Type 0} (takes : D → Ask → Withheld → D → Type 0) where
   taken_more old [] (v ∷ withheld) now new x w t one = absurd t
   taken_more old (y ∷ ys) [] now new x w t one = absurd t
 
-  -- how far a session has taken bytes: the answers to the lines of the first are withheld
+  -- the progress of a session: the answers to the lines of the first bytes are withheld
   pub record TakesOn (session : TheSession) (first : D) (withheld : List Withheld) (begun bytes : List ℕ) (session' : TheSession) (now : D) (withheld' : List Withheld) : Type 0 where
     pub held : List Withheld
     pub behind : withheld' ≡ withheld ++ held
@@ -103,7 +103,7 @@ module _ {D : Type 0} (takes : D → Ask → Withheld → D → Type 0) where
     rest_after-append begun bytes (tail ++ 10 ∷ []) ∙ left_cut (rest_after begun bytes) tail [] refl none,
   )
 
-  -- one line more is taken
+  -- one more line is taken
   pub took_line : {session session' session'' : TheSession} {first now new : D} {withheld withheld' withheld'' : List Withheld} {begun bytes : List ℕ} {end : Option End} (tail left : List ℕ) (w : Withheld)
       → (k : TakesOn session first withheld begun bytes session' now withheld') → session'.answered < session'.limit → HasNoLf tail → TakesLine takes now (rest_after begun bytes ++ tail) w new
       → session''.answered ≡ session'.answered + 1 → session''.limit ≡ session'.limit → session''.line ≡ [] → withheld'' ≡ withheld' ++ w ∷ []
@@ -126,7 +126,7 @@ module _ {D : Type 0} (takes : D → Ask → Withheld → D → Type 0) where
             (subst (λ (xs : List (List ℕ)). Halts end session.limit session''.answered xs [] left) (sym cut.0) halts);
       }
 
-  -- and the answer is short
+  -- its answer is short
   pub takes_line : {session session' session'' : TheSession} {first now new : D} {withheld withheld' withheld'' : List Withheld} {begun bytes : List ℕ} (tail : List ℕ) (w : Withheld)
       → (k : TakesOn session first withheld begun bytes session' now withheld') → session'.answered < session'.limit → HasNoLf tail → TakesLine takes now (rest_after begun bytes ++ tail) w new
       → session''.answered ≡ session'.answered + 1 → session''.limit ≡ session'.limit → session''.line ≡ [] → withheld'' ≡ withheld' ++ w ∷ []
@@ -162,7 +162,7 @@ module _ {D : Type 0} (takes : D → Ask → Withheld → D → Type 0) where
     halts = halts;
   }
 
-  -- told by how many bytes were taken
+  -- the progress as the number of bytes that were taken
   pub took_until : {session session' : TheSession} {first now : D} {withheld withheld' : List Withheld} {begun bytes left all : List ℕ} {end : Option End} (result : Taking)
       → bytes ++ left ≡ all → result ≡ record { bytes = length all - length left; end = end } → Took takes session first withheld begun bytes left session' now withheld' end
       → Took takes session first withheld begun (take result.bytes all) (drop result.bytes all) session' now withheld' result.end
@@ -172,7 +172,7 @@ module _ {D : Type 0} (takes : D → Ask → Withheld → D → Type 0) where
       (subst (λ (l : List ℕ). Took takes session first withheld begun (take (length all - length left) all) l session' now withheld' end) (sym part.1)
       (subst (λ (b : List ℕ). Took takes session first withheld begun b left session' now withheld' end) (sym part.0) t))
 
-  -- none was withheld before
+  -- no answer was withheld before
   pub took_first : {session session' : TheSession} {first now : D} {withheld withheld' : List Withheld} {begun bytes left : List ℕ} {end : Option End}
       → withheld ≡ [] → Took takes session first withheld begun bytes left session' now withheld' end → Took takes session first [] begun bytes left session' now withheld' end
   took_first {session} {session'} {first} {now} {withheld} {withheld'} {begun} {bytes} {left} {end} none t =
@@ -186,7 +186,7 @@ module _ {D : Type 0} (takes : D → Ask → Withheld → D → Type 0) where
       subst (λ (l : List ℕ). Took takes session first withheld begun (take (length all) all) l session' now withheld' end) (sym (drop-length all))
       (subst (λ (b : List ℕ). Took takes session first withheld begun b [] session' now withheld' end) (whole ∙ sym (take_all (length all) all (omega arith))) t)
 
-  -- what is left ends no line
+  -- the bytes that are left end no line
   pub took_rest : {session session' session'' : TheSession} {first now : D} {withheld withheld' : List Withheld} {begun bytes : List ℕ} (rest : List ℕ)
       → (k : TakesOn session first withheld begun bytes session' now withheld') → HasNoLf rest → session''.line ≡ kept_part (session'.line ++ rest)
       → session''.answered ≡ session'.answered → session''.limit ≡ session'.limit → Took takes session first withheld begun (bytes ++ rest) [] session'' now withheld' None
@@ -206,7 +206,7 @@ module _ {D : Type 0} (takes : D → Ask → Withheld → D → Type 0) where
       }
 
   module _ (releases : D → D → Withheld → Answer → Type 0) (moves : D → D → Type 0) where
-    -- an answer is withheld for each line, and one released for each withheld
+    -- as many answers are withheld as there are lines, and as many are released as are withheld
     taken_length : (old : D) (xs : List (List ℕ)) (held : List Withheld) (new : D) → TakesLines takes old xs held new → length held ≡ length xs
     taken_length old [] [] new t = refl
     taken_length old (x ∷ xs) (w ∷ held) new t = let n = taken_length t.0 xs held new t.2 in omega arith
@@ -256,7 +256,7 @@ module _ {D : Type 0} (takes : D → Ask → Withheld → D → Type 0) where
       answers_are = (λ i. a.answers_are i ++ b.answers_are i) ∙ sym (flat_map-append (λ (r : Round). r.said) a.rounds b.rounds);
     }
 
-    -- lines whose answers were all released, and told so
+    -- lines whose answers were all released and written in this way
     pub record AllTold (session : TheSession) (first : D) (start : Taken) (now : D) (sink : Taken) (count : ℕ) (lines : List (List ℕ)) (end : Option End) : Type 0 where
       pub said : List Answer
       pub answers : AnswersLines takes releases moves first lines said now
@@ -274,7 +274,7 @@ module _ {D : Type 0} (takes : D → Ask → Withheld → D → Type 0) where
       told = record { bytes = sym (append-nil start.bytes); flushed = λ none. refl; failed = refl };
     }
 
-    -- lines more, whose answers were withheld, and are told so
+    -- more lines, whose answers were withheld, and are written in this way
     tells : {session : TheSession} {first : D} {start : Taken} {now new : D} {sink sink' : Taken} {count count' : ℕ} {lines : List (List ℕ)} (at : D) (xs : List (List ℕ)) (withheld : List Withheld) (end : Option End)
         → AllTold session first start now sink count lines None → TakesLines takes now xs withheld at → count' ≡ count + length withheld → count' ≤ session.limit
         → AreShortButLast (map answer_of withheld) → TellsWithheld releases moves withheld at new end sink sink' → AllTold session first start new sink' count' (lines ++ xs) end
@@ -290,7 +290,7 @@ module _ {D : Type 0} (takes : D → Ask → Withheld → D → Type 0) where
           told = tells_more end start sink sink' k.said t.0 k.told (t.2 short);
         }
 
-    -- all lines are told so, and those behind them are left
+    -- the answers to all lines are written in this way, and the lines after them are left
     answered_so : (session session' : TheSession) (first : D) (start : Taken) (now : D) (sink : Taken) (lines left all : List (List ℕ)) (said : List Answer) (end : Option End)
         → AnswersLines takes releases moves first lines said now → lines ++ left ≡ all → session'.answered ≡ session.answered + length said → session'.limit ≡ session.limit → session'.answered ≤ session.limit
         → Stands end (Gathers start sink) session.limit session'.answered lines left said start sink → (start.failed ≡ false → sink.failed ≡ has_write_fault end)
@@ -316,7 +316,7 @@ module _ {D : Type 0} (takes : D → Ask → Withheld → D → Type 0) where
         answered_so session session' first start now sink lines left all a.said (Some end) a.answers these a.counted limit a.within
         (broken end session.limit session'.answered lines left a.said start sink quit a.told) (tells_sound (Some end) start sink a.said a.told)
 
-    -- it goes on, or ends, with all told
+    -- the session goes on, or ends, after all answers are written
     pub fed_all : {session session' : TheSession} {first : D} {start : Taken} {now : D} {sink : Taken} {lines : List (List ℕ)} (left all : List (List ℕ)) (end : Option End)
         → (a : AllTold session first start now sink session'.answered lines (None)) → lines ++ left ≡ all → session'.limit ≡ session.limit → has_write_fault end ≡ false
         → Stands end (Gathers start sink) session.limit session'.answered lines left a.said start sink
@@ -324,7 +324,7 @@ module _ {D : Type 0} (takes : D → Ask → Withheld → D → Type 0) where
     fed_all {session} {session'} {first} {start} {now} {sink} {lines} left all end a these limit none stands =
         answered_so session session' first start now sink lines left all a.said end a.answers these a.counted limit a.within stands (λ sound. tells_sound (None) start sink a.said a.told sound ∙ sym none)
 
-    -- all lines that the bytes complete are told
+    -- the answers to all lines that the bytes complete are written
     pub fed_whole : {session session' : TheSession} {first : D} {start : Taken} {now : D} {sink : Taken} {lines : List (List ℕ)} (all : List (List ℕ)) (end : Option End)
         → AllTold session first start now sink session'.answered lines end → lines ≡ all → session'.limit ≡ session.limit → NoQuit lines → Fed takes releases moves session first start all session' now sink end
     fed_whole {lines = lines} all None a these limit quit = fed_all [] all None a (append-nil lines ∙ these) limit refl (record { all = refl; no_quit = quit }, a.told)
@@ -340,7 +340,7 @@ module _ {D : Type 0} (takes : D → Ask → Withheld → D → Type 0) where
       no_quit = no_quit_both xs b.before a b.no_quit;
     }
 
-    -- the lines that the first bytes complete are told so, and the session stands behind these bytes
+    -- the answers to the lines of the first bytes are written in this way, and the session stands after these bytes
     pub record Ahead (session : TheSession) (first : D) (start : Taken) (now : D) (sink : Taken) (session' : TheSession) (begun bytes : List ℕ) : Type 0 where
       pub told : AllTold session first start now sink session'.answered (lines_after begun bytes) None
       pub no_quit : NoQuit (lines_after begun bytes)
@@ -351,7 +351,7 @@ module _ {D : Type 0} (takes : D → Ask → Withheld → D → Type 0) where
     unfolding lines_after rest_after
     ahead_none session first start begun within line = record { told = all_told_none session first start within; no_quit = All-nil _; line = line; limit = refl }
 
-    -- what the next bytes complete is taken, and told so
+    -- the lines that the next bytes complete are taken, and their answers written in this way
     pub told_on : {session session' session'' : TheSession} {first : D} {start : Taken} {now at new : D} {sink sink' : Taken} {begun bytes : List ℕ} {withheld : List Withheld} {halt : Option End} (more left : List ℕ) (end : Option End)
         → (a : Ahead session first start now sink session' begun bytes) → Took takes session' now [] (rest_after begun bytes) more left session'' at withheld halt
         → TellsWithheld releases moves withheld at new end sink sink' → AllTold session first start new sink' session''.answered (lines_after begun (bytes ++ more)) end
@@ -392,7 +392,7 @@ module _ {D : Type 0} (takes : D → Ask → Withheld → D → Type 0) where
     behind begun bytes more left all whole =
         ap (λ (t : List ℕ). lines_after begun (bytes ++ more) ++ lines_after t left) (sym (rest_after-append begun bytes more)) ∙ sym (lines_after-append begun (bytes ++ more) left) ∙ ap (lines_after begun) whole
 
-    -- the session ends with what was taken last: writing broke off, or there was no memory; ..
+    -- the session ends with the last taking: writing broke off, or there was no memory; ..
     pub feed_broken : {session session' session'' : TheSession} {first : D} {start : Taken} {now at new : D} {sink sink' : Taken} {begun bytes : List ℕ} {withheld : List Withheld} {halt : Option End} (more left all : List ℕ) (end : End)
         → (a : Ahead session first start now sink session' begun bytes) → Took takes session' now [] (rest_after begun bytes) more left session'' at withheld halt
         → TellsWithheld releases moves withheld at new (Some end) sink sink' → (bytes ++ more) ++ left ≡ all
@@ -401,7 +401,7 @@ module _ {D : Type 0} (takes : D → Ask → Withheld → D → Type 0) where
         fed_broken (lines_after (rest_after (rest_after begun bytes) more) left) (lines_after begun all) end (told_on more left (Some end) a t told) (behind begun bytes more left all whole) (t.limit ∙ a.limit)
         (last_on halt _ session''.answered begun bytes more left a.no_quit t.halts)
 
-    -- .. or the taking told its end
+    -- .. or the taking had this end
     halted : {session session' : TheSession} {first : D} {start : Taken} {now : D} {sink sink' : Taken} {begun bytes : List ℕ} {new : D} (session'' : TheSession) (more left : List ℕ) (halt : End)
         → (a : Ahead session first start now sink session' begun bytes) → (told : AllTold session first start new sink' session''.answered (lines_after begun (bytes ++ more)) None)
         → Halts (Some halt) session'.limit session''.answered (lines_after (rest_after begun bytes) more) (rest_after (rest_after begun bytes) more) left
@@ -429,7 +429,7 @@ module _ {D : Type 0} (takes : D → Ask → Withheld → D → Type 0) where
     no_rest [] none = refl
     no_rest (x ∷ xs) none = let some = ne_eqb (length (x ∷ xs)) 0 (λ z. absurd (omega (arith, z))) in absurd (cc (none, some))
 
-    -- all bytes are told of
+    -- the answers to all bytes are written
     pub feed_all : {session session' : TheSession} {first : D} {start : Taken} {now : D} {sink : Taken} {bytes : List ℕ} (fed rest all : List ℕ)
         → (a : Ahead session first start now sink session' (unfinished_line fed) bytes) → bytes ++ rest ≡ all → (length rest == 0) ≡ true
         → Fed takes releases moves session first start (lines_after (unfinished_line fed) all) session' now sink None
@@ -440,7 +440,7 @@ module _ {D : Type 0} (takes : D → Ask → Withheld → D → Type 0) where
           a.line ∙ ap (λ (t : List ℕ). kept_part (rest_after (unfinished_line fed) t)) is ∙ ap kept_part (sym (rest_after-append [] fed all)),
         )
 
-    -- what was fed is flushed
+    -- the gathered text is flushed
     pub served : {session session' : TheSession} {first now : D} {start mid new : Taken} {lines : List (List ℕ)} (end : Option End) → has_write_fault end ≡ false → Flushes mid new
         → Fed takes releases moves session first start lines session' now mid end → Served takes releases moves session first start lines session' now new end
     served {session} {session'} {start = start} {mid = mid} {new = new} end none f h = record {
@@ -521,7 +521,7 @@ module _ {D : Type 0} (takes : D → Ask → Withheld → D → Type 0) where
       flushed = λ some. b.flushed;
     }
 
-    -- the lines of one read more
+    -- the lines of one more read
     pub so_far_more : {limit : ℕ} {first now new : D} {start sink sink' : Taken} {session session' : TheSession} {input : List ℕ} (chunk : List ℕ) → SoFar limit first start now sink session input
         → Served takes releases moves session now sink (lines_after (unfinished_line input) chunk) session' new sink' None → session'.line ≡ kept_part (unfinished_line (input ++ chunk))
         → SoFar limit first start new sink' session' (input ++ chunk)
@@ -595,7 +595,7 @@ module _ {D : Type 0} (takes : D → Ask → Withheld → D → Type 0) where
     closes limits source source' chunk ends.Ended one is a h = absurd h.stands
     closes limits source source' chunk ends.ReadFault one is a h = absurd h.stands
 
-    -- no read told such an end
+    -- no read had such an end
     source_marks : (end : End) (tells : List Answer → Type 0) (limit count : ℕ) (answered left : List (List ℕ)) (said : List Answer) (sink sink' : Taken)
         → Stands (Some end) tells limit count answered left said sink sink' → (is_input_end end ≡ false) × (is_read_fault end ≡ false)
     source_marks ends.Quit tells limit count answered left said sink sink' h = (refl, refl)

@@ -1,4 +1,4 @@
--- How answers that were withheld are released together and told: gathered, broken off, and handed on.
+-- The release of withheld answers, and their writing: gathered, broken off, and handed on.
 use Rattle.std.proofs.Common.{◌≡◌, ◌≢◌, ◌==◌, ◌+◌, ℕ, true, false, List, [], ◌∷◌, ◌++◌, All, IsTrue, Option, Some, None, Result, Ok, Err, length, take, map, refl, sym, ap, ◌∙◌, subst, inl, inr, arith}
 use Rattle.std.proofs.lemmas.List.{flat_map_more, append-nil, append_assoc, length-append, take_at}
 use Rattle.std.proofs.lemmas.List.Elements.{All-append, All-cons, All-nil, All-tail}
@@ -24,11 +24,11 @@ use Rattle.nmvs_messages.specs.Withheld.{answer_of, content_is_long, content_tak
 use Rattle.nmvs_protocol.specs.Session.{ReleasesAll, NoQuit, NoQuitBeforeLast, session_text}
 use Rattle.nmvs_protocol.specs.Progress.{AreShortButLast, Gathers, Delivered, Tells, TellsFirst, TellsWithheld, Stands, has_write_fault}
 
--- one line more that is not QUIT
+-- one more line that is not QUIT
 pub no_quit_more : (xs : List (List ℕ)) (x : List ℕ) → NoQuit xs → x ≢ line_text lines.Quit → NoQuit (xs ++ x ∷ [])
 no_quit_more xs x none other = All-append (λ (y : List ℕ). y ≢ line_text lines.Quit) xs (x ∷ []) none (All-cons (λ (y : List ℕ). y ≢ line_text lines.Quit) x [] other (All-nil (λ (y : List ℕ). y ≢ line_text lines.Quit)))
 
--- the text of what is withheld is short
+-- the text of a withheld answer is short
 abbrev pub IsShort : Withheld → Type 0
 IsShort w = takes_memory w.answer ≡ false
 
@@ -44,7 +44,7 @@ short_of contents.Version short = refl
 short_of contents.Help short = refl
 short_of contents.Bye short = refl
 
--- what is short, and one more
+-- short answers, and one more
 pub short_but_last : (withheld : List Withheld) (w : Withheld) → All IsShort withheld → AreShortButLast (map answer_of (withheld ++ w ∷ []))
 short_but_last [] w short = tt
 short_but_last (h ∷ []) w short = (short 0 h (omega arith), tt)
@@ -55,7 +55,7 @@ all_short [] short = tt
 all_short (h ∷ []) short = tt
 all_short (h ∷ g ∷ withheld) short = (short 0 h (omega arith), all_short (g ∷ withheld) (All-tail IsShort h (g ∷ withheld) short))
 
--- behind an answer whose text takes memory there is none
+-- no answer stands after an answer whose text takes memory
 pub none_behind : (before : List Answer) (a : Answer) (later : List Answer) → AreShortButLast (before ++ a ∷ later) → IsTrue (takes_memory a) → later ≡ []
 none_behind [] a [] short long = refl
 none_behind [] a (b ∷ later) short long = absurd (cc (short.0, long))
@@ -76,14 +76,14 @@ released_short releases (w ∷ []) (a ∷ b ∷ said) r short = absurd r.2
 released_short releases [] (a ∷ said) r short = absurd r
 released_short releases (w ∷ withheld) [] r short = absurd r
 
--- what is told of some that were withheld
+-- the result of writing some withheld answers
 pub told_withheld : {D : Type 0} (releases : D → D → Withheld → Answer → Type 0) (moves : D → D → Type 0) (withheld : List Withheld) (old new : D) (said : List Answer) (end : Option End) (sink sink' : Taken)
     → (length withheld == 0) ≡ false → moves old new → AreReleased (releases old new) withheld said → (AreShortButLast said → Tells end sink sink' said) → TellsWithheld releases moves withheld old new end sink sink'
 told_withheld releases moves [] old new said end sink sink' some m r told = absurd (cc some)
 told_withheld releases moves (w ∷ withheld) old new said end sink sink' some m r told =
     (said, (m, r), λ short. told (released_short (releases old new) (w ∷ withheld) said r short))
 
--- what is told of what was withheld, if any was
+-- the result of writing the withheld answers, if there are any
 pub told_of : {D : Type 0} (releases : D → D → Withheld → Answer → Type 0) (moves : D → D → Type 0) (withheld : List Withheld) (old new : D) (end : Option End) (sink sink' : Taken)
     → TellsWithheld releases moves withheld old new end sink sink' → (said : List Answer) × ReleasesAll releases moves old withheld said new × (AreShortButLast (map answer_of withheld) → Tells end sink sink' said)
 told_of releases moves [] old new end sink sink' t = (
@@ -94,7 +94,7 @@ told_of releases moves [] old new end sink sink' t = (
 )
 told_of releases moves (w ∷ withheld) old new end sink sink' t = t
 
--- there is an answer for each that was withheld
+-- there is an answer for each withheld one
 released_length : (releases : Withheld → Answer → Type 0) (withheld : List Withheld) (said : List Answer) → AreReleased releases withheld said → length said ≡ length withheld
 released_length releases [] [] r = refl
 released_length releases (w ∷ withheld) (a ∷ said) r = let n = released_length releases withheld said r.2 in omega arith
@@ -133,7 +133,7 @@ part_more old mid new p q a b = record {
   failed = b.failed;
 }
 
--- and of a text that goes on
+-- a failed write within a longer text
 pub part_of : (old new : Taken) (p q : List ℕ) → DeliversPart old new p → DeliversPart old new (p ++ q)
 part_of old new p q t = record {
   written = t.written;
@@ -144,12 +144,12 @@ part_of old new p q t = record {
   failed = t.failed;
 }
 
--- what a call comes to that fails
+-- the result of a call that fails
 pub on_err : {T E P : Type 0} (r : Result T E) → P → OnErr r P
 on_err (Ok t) p = tt
 on_err (Err e) p = p
 
--- what the second of two writes comes to
+-- the result of the second of two writes
 pub both_ok : {T E : Type 0} (r : Result T E) (old mid new : Taken) (p q : List ℕ) → Writes old mid p → OnOk r (Writes mid new q) → OnOk r (Writes old new (p ++ q))
 both_ok (Ok t) old mid new p q a b = writes_more old mid new p q a b
 both_ok (Err e) old mid new p q a b = tt
@@ -158,7 +158,7 @@ pub both_err : {T E : Type 0} (r : Result T E) (old mid new : Taken) (p q : List
 both_err (Ok t) old mid new p q a b = tt
 both_err (Err e) old mid new p q a b = part_more old mid new p q a b
 
--- the lines of a text that are written, each behind the same bytes: those of its first bytes, which end a line
+-- the written lines of a text, each after the same bytes: those of its first bytes, which end a line
 pub record LinesWritten (old now : Taken) (front text rest : List ℕ) : Type 0 where
   pub before : List ℕ
   pub whole : before ++ rest ≡ text
@@ -174,7 +174,7 @@ no_lines old front text = record {
   written = record { bytes = sym (append-nil old.bytes); flushed = λ none. refl; failed = refl };
 }
 
--- the lines up to the end of one more
+-- the lines up to the end of one more line
 more_lines : (front before line : List ℕ) → rest_after [] before ≡ [] → HasNoLf line
     → (lines_behind front (before ++ (line ++ 10 ∷ [])) ≡ lines_behind front before ++ (front ++ (line ++ 10 ∷ []))) × (rest_after [] (before ++ (line ++ 10 ∷ [])) ≡ [])
 unfolding lines_after rest_after
@@ -206,7 +206,7 @@ line_written old now new front text rest line behind l cut none w =
       written = subst (λ (t : List ℕ). Writes old new t) (sym more.0) (writes_more old now new (lines_behind front l.before) (front ++ (line ++ 10 ∷ [])) l.written w);
     }
 
--- a write fails within one more
+-- a write fails within one more line
 pub line_broken : (old now new : Taken) (front text rest line behind : List ℕ) → LinesWritten old now front text rest → rest ≡ line ++ 10 ∷ behind → HasNoLf line
     → DeliversPart now new (front ++ (line ++ 10 ∷ [])) → DeliversPart old new (lines_behind front text)
 line_broken old now new front text rest line behind l cut none w =
@@ -220,7 +220,7 @@ line_broken old now new front text rest line behind l cut none w =
     subst (λ (t : List ℕ). DeliversPart old new t) (sym more.0) (part_more old now new (lines_behind front l.before) (front ++ (line ++ 10 ∷ [])) l.written w) in
     subst (λ (t : List ℕ). DeliversPart old new t) all (part_of old new (lines_behind front some) (flat_map tell (lines_after (rest_after [] some) behind)) part)
 
--- what is left ends no line
+-- the bytes that are left end no line
 pub lines_written : (old now : Taken) (front text rest : List ℕ) → LinesWritten old now front text rest → HasNoLf rest → Writes old now (lines_behind front text)
 lines_written old now front text rest l none =
     let tell : List ℕ → List ℕ = λ x. front ++ (x ++ 10 ∷ []) in
@@ -229,7 +229,7 @@ lines_written old now front text rest l none =
     ∙ ap (λ (t : List (List ℕ)). lines_after [] l.before ++ t) (no_line (rest_after [] l.before) rest none).0 ∙ append-nil (lines_after [] l.before) in
     subst (λ (t : List ℕ). Writes old now t) (sym (ap (flat_map tell) all)) l.written
 
--- the lines of a report, each behind the tag
+-- the lines of a report, each after the tag
 pub reported_text : (a : Answer) (g : Tag) (t front content : List ℕ) → a.tag ≡ Some g → a.content ≡ contents.Reported t → front ≡ tag_text a.tag → content ≡ content_text a.content
     → lines_behind front content ≡ text a
 unfolding text content_text
@@ -245,7 +245,7 @@ breaks_after : (old mid new : Taken) (before more : List Answer) → Gathers old
 breaks_after old mid new before more a b =
     subst (λ (t : List ℕ). DeliversPart old new t) (sym (flat_map-append text before more)) (part_more old mid new (session_text before) (session_text more) a b)
 
--- writing breaks off at an answer, after those that were told, or there is no memory for its text
+-- writing breaks off at an answer, after the earlier ones were written, or there is no memory for its text
 pub tells_until : (end : End) (old mid new : Taken) (before : List Answer) (a : Answer) (later : List Answer) → Gathers old mid before
     → Tells (Some end) mid new (a ∷ []) → TellsFirst (Some end) old new (before ++ a ∷ later)
 tells_until ends.WriteFault old mid new before a later g t =
@@ -270,7 +270,7 @@ tells_until ends.Limit old mid new before a later g t = absurd t
 tells_until ends.Ended old mid new before a later g t = absurd t
 tells_until ends.ReadFault old mid new before a later g t = absurd t
 
--- behind an answer that there is no memory for there is none, where none but the last takes memory
+-- no answer stands after one that there is no memory for, if only the last takes memory
 pub tells_short : (end : Option End) (sink sink' : Taken) (said : List Answer) → AreShortButLast said → TellsFirst end sink sink' said → Tells end sink sink' said
 tells_short (Some ends.Memory) sink sink' said short t =
     let last = none_behind t.before t.last t.later (subst AreShortButLast t.these short) t.memory in record {
@@ -287,7 +287,7 @@ tells_short (Some ends.Limit) sink sink' said short t = absurd t
 tells_short (Some ends.Ended) sink sink' said short t = absurd t
 tells_short (Some ends.ReadFault) sink sink' said short t = absurd t
 
--- what is told of answers after others
+-- the result of writing answers after others
 pub tells_more : (end : Option End) (old mid new : Taken) (before more : List Answer) → Gathers old mid before → Tells end mid new more → Tells end old new (before ++ more)
 tells_more (None) old mid new before more a b = gathers_more old mid new before more a b
 tells_more (Some ends.WriteFault) old mid new before more a b = breaks_after old mid new before more a b
@@ -312,7 +312,7 @@ tells_sound (Some ends.Limit) old new said t sound = absurd t
 tells_sound (Some ends.Ended) old new said t sound = absurd t
 tells_sound (Some ends.ReadFault) old new said t sound = absurd t
 
--- where writing broke off, or there was no memory
+-- writing broke off, or there was no memory
 pub broken : (end : End) (limit count : ℕ) (answered left : List (List ℕ)) (said : List Answer) (old new : Taken) → NoQuitBeforeLast answered → Tells (Some end) old new said
     → Stands (Some end) (Gathers old new) limit count answered left said old new
 broken ends.WriteFault limit count answered left said old new quit t = (quit, t)
@@ -322,7 +322,7 @@ broken ends.Limit limit count answered left said old new quit t = absurd t
 broken ends.Ended limit count answered left said old new quit t = absurd t
 broken ends.ReadFault limit count answered left said old new quit t = absurd t
 
--- a flush hands on what was gathered
+-- a flush hands on the gathered text
 handed_on : (old mid new : Taken) (said : List Answer) → Gathers old mid said → Flushes mid new → Delivered old new said
 handed_on old mid new said g f = record { bytes = f.bytes ∙ g.bytes; flushed = f.flushed; failed = f.failed ∙ g.failed }
 
@@ -337,7 +337,7 @@ flushes (Some ends.WriteFault) limit count answered left said old mid new none f
 flushes (Some ends.Ended) limit count answered left said old mid new none f s = absurd s
 flushes (Some ends.ReadFault) limit count answered left said old mid new none f s = absurd s
 
--- where a write failed there is nothing to hand on
+-- after a failed write there is nothing to hand on
 pub unflushed : (end : Option End) (limit count : ℕ) (answered left : List (List ℕ)) (said : List Answer) (old new : Taken)
     → has_write_fault end ≡ true → Stands end (Gathers old new) limit count answered left said old new → Stands end (Delivered old new) limit count answered left said old new
 unflushed (Some ends.WriteFault) limit count answered left said old new fault s = s

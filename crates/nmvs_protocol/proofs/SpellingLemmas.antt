@@ -1,4 +1,4 @@
--- The text of a line is read, and is the text of no other.
+-- The text of a line is read as it, and is the text of no other line.
 use Rattle.std.proofs.Common.{◌≡◌, ◌≢◌, ◌≤◌, ◌<◌, ◌==◌, ◌&&◌, ◌||◌, not, ℕ, true, false, List, [], ◌∷◌, ◌++◌, length, map, take, drop, get_or, codes, Bor, Option, Some, None, inl, inr, refl, sym, ap, ◌∙◌, lit≤, cond, arith, Result, Ok, Err}
 use Rattle.std.specs.Prelude.{IfOk, IsTrue}
 use Rattle.std.specs.Result.{result_err}
@@ -159,7 +159,7 @@ same_line lines.Quit lines.Version g e = let n : 81 ≡ 86 = ap first_byte e in 
 same_line lines.Quit lines.Help g e = let n : 81 ≡ 72 = ap first_byte e in absurd (omega (arith, n))
 same_line lines.Quit lines.Quit g e = refl
 
--- what begins with a name begins with no tag
+-- a text that begins with a name begins with no tag
 named_untagged : (user rest : List ℕ) → is_name user ≡ true → tag_of (user ++ rest) ≡ None
 named_untagged [] rest e = absurd (cc e)
 named_untagged (c ∷ cs) rest e = no_tag c (cs ++ rest) (alphanumeric_name c cs e)
@@ -248,7 +248,7 @@ all_read-none (g ∷ gs) (t ∷ ts) e =
 same_count : (m n : ℕ) → m ≡ n → (m == n) ≡ true
 same_count m n e = grind (arith, nat_tests)
 
--- so many texts as there are grammars, of a user with a name, have no fault but that of the first that is misread
+-- if there are as many texts as grammars, and the user is a name, the first misread text has the only fault
 texts_fault-whole : (gs : List Grammar) (user : List ℕ) (ts : List (List ℕ)) → length ts ≡ length gs → is_name user ≡ true
     → texts_fault gs user ts ≡ first_misread gs ts
 texts_fault-whole gs user ts count name =
@@ -287,7 +287,7 @@ same_fault : (a : Asked) → fields_fault (asked_fields a) ≡ asked_fault (aske
 same_fault (asked.Question user q) = refl
 same_fault (asked.Report user c) = refl
 
--- what is asked has no fault behind its tag
+-- an ask has no fault after its tag
 fault_behind-none : (g : Option Tag) (a : Asked) → is_tag_or_none g ≡ true → is_asked a ≡ true
     → length (tag_text g ++ line_of_fields (asked_fields a)) ≤ 200 → fault_behind g (tag_text g ++ line_of_fields (asked_fields a)) ≡ None
 fault_behind-none None a tag e short =
@@ -316,7 +316,7 @@ first_fault-text l e = ap (λ (g : Option Tag). fault_behind g (line_text l)) (t
 pub each_is_read : EachIsRead
 each_is_read l e = (refl, first_fault-text l e, e)
 
--- a text without a tag whose fields are read as a line, or have this fault, is read so
+-- a text without a tag is read as a line, or with a fault, if its fields are
 pub reads_fields : (x : List ℕ) (fs : List (List ℕ)) (r : Result Line LineFault) → fs ≡ take 7 (fields_in x) → IfOk r (λ l. line_tag l ≡ None)
     → IfOk r (λ l. fields l ≡ fs) → IfOk r (λ l. IsTrue (is_line l)) → result_err r ≡ fault_behind None x → ReadsUntagged x r
 reads_fields x fs (Ok l) kept untagged same valid none = (
@@ -326,13 +326,13 @@ reads_fields x fs (Ok l) kept untagged same valid none = (
 )
 reads_fields x fs (Err f) kept untagged same valid told = sym told
 
--- what is behind a tag is the text of what its fields are read as
+-- the text after a tag is the text of the ask that its fields are read as
 pub reads_asked : (x : List ℕ) (fs : List (List ℕ)) (r : Result Asked LineFault) → fs ≡ take 7 (fields_in x) → IfOk r (λ a. asked_fields a ≡ fs)
     → IfOk r (λ a. IsTrue (is_asked a)) → IfOk r (λ a. x ≡ line_of_fields (asked_fields a))
 reads_asked x fs (Ok a) kept same valid = line_of_kept x (asked_fields a) (sym (same ∙ kept)) (few_asked_fields a valid)
 reads_asked x fs (Err f) kept same valid = tt
 
--- a line is its tag and what is read behind it
+-- a line is its tag and the ask that is read after it
 pub reads_tagged : (x : List ℕ) (g : Tag) (y : List ℕ) (a : Asked) → tag_of x ≡ Some g → y ≡ behind_tag g x → y ≡ line_of_fields (asked_fields a) → IsTrue (is_asked a)
     → None ≡ asked_line_fault (length x) y → ReadsLine x (Ok (lines.Ask (record { tag = Some g; asked = a })))
 unfolding first_fault
@@ -343,7 +343,7 @@ reads_tagged x g y a tag behind text valid fault =
       λ i. shown.1 i && valid i,
     )
 
--- too many texts are too many, however many are kept
+-- too many texts are too many, whatever number is kept
 wrong_count : (gs : List Grammar) (user : List ℕ) (ts : List (List ℕ)) → length ts ≢ length gs → texts_fault gs user ts ≡ Some fault.Fields
 wrong_count gs user ts ne = rw (ne_eqb (length ts) (length gs) ne) refl
 
@@ -359,7 +359,7 @@ question_fault-take : (user : List ℕ) (kind : Option QuestionKind) (ts : List 
 question_fault-take user None ts = refl
 question_fault-take user (Some kind) ts = texts_fault-take (grammars kind) user ts (few_grammars kind)
 
--- what is kept of a line's fields tells their fault
+-- the kept fields of a line have the fault of all its fields
 pub asked_fault-take : (fs : List (List ℕ)) → asked_fault (take 7 fs) ≡ asked_fault fs
 asked_fault-take [] = refl
 asked_fault-take (word ∷ []) = refl

@@ -20,12 +20,12 @@ use Rattle.nmvs_messages.specs.PendingLines.{kept_part}
 use Rattle.nmvs_messages.proofs.PlainLemmas.{no_space, plain_printable}
 use Rattle.nmvs_messages.proofs.FieldLemmas.{printable-utf8}
 
--- what is kept of a line begins with its tag
+-- the kept part of a line begins with its tag
 pub tag_kept : (x : List ℕ) → tag_of (kept_part x) ≡ tag_of x
 unfolding tag_of
 tag_kept x = ap (λ (t : List ℕ). first_tag (fields_in t)) (take-take 22 201 x (lit≤ tt))
 
--- a field that is a tag
+-- the field of a tag
 named : (f : List ℕ) (g : Tag) → tag_named f ≡ Some g → (f ≡ 35 ∷ g.bytes) × (is_tag g.bytes ≡ true)
 named [] g e = absurd (cc e)
 named (b ∷ bs) g e = by (b == 35 && is_tag bs) refl e
@@ -44,7 +44,7 @@ first_named (f ∷ next ∷ fs) g e =
     let is = named f g e in
     (line_of_fields (next ∷ fs), is.1, ap (λ (t : List ℕ). t ++ 32 ∷ line_of_fields (next ∷ fs)) is.0 ∙ sym (append_assoc (35 ∷ g.bytes) (32 ∷ []) (line_of_fields (next ∷ fs))))
 
--- a line that begins with a tag is its text, and what is behind it
+-- a line that begins with a tag is its text and the bytes after it
 pub tag_shown : (x : List ℕ) (g : Tag) → tag_of x ≡ Some g → (x ≡ tag_text (Some g) ++ behind_tag g x) × (is_tag g.bytes ≡ true)
 unfolding tag_of
 tag_shown x g e =
@@ -55,7 +55,7 @@ tag_shown x g e =
     let rest : behind_tag g x ≡ named.0 ++ drop 22 x = ap (behind_tag g) whole ∙ drop_at (tag_text (Some g)) (named.0 ++ drop 22 x) (length (tag_text (Some g))) refl in
     (whole ∙ ap (λ (t : List ℕ). tag_text (Some g) ++ t) (sym rest), named.1)
 
--- behind the text of a tag is what follows it
+-- the bytes after the text of a tag are those that follow it
 pub behind_text : (g : Tag) (y : List ℕ) → behind_tag g (tag_text (Some g) ++ y) ≡ y
 behind_text g y = drop_at (tag_text (Some g)) y (length (tag_text (Some g))) refl
 
@@ -88,7 +88,7 @@ alphanumeric_name c cs e is =
     let no : is_ascii_alphanumeric 35 ≡ false = refl in
     true≢false (sym characters.0 ∙ ap is_ascii_alphanumeric is ∙ no)
 
--- what begins with another character begins with no tag
+-- a text that begins with another character begins with no tag
 pub no_tag : (b : ℕ) (bs : List ℕ) → b ≢ 35 → tag_of (b ∷ bs) ≡ None
 no_tag b bs other = by (tag_of (b ∷ bs)) refl
   where
@@ -107,7 +107,7 @@ pub empty_untagged : (x : List ℕ) → length x ≡ 0 → tag_of x ≡ None
 empty_untagged [] none = unmarked [] (λ e. absurd (omega (arith, e)))
 empty_untagged (b ∷ bs) none = absurd (omega (arith, none))
 
--- a line begins with the tag that its first field is
+-- a line begins with the tag of its first field
 pub cut_first : (line field behind : List ℕ) (n : ℕ) → n ≡ min 22 (length line) → fields_in (take n line) ≡ field ∷ fields_in behind → tag_of line ≡ tag_named field
 unfolding tag_of
 cut_first line field behind n is cut =
@@ -121,7 +121,7 @@ cut_none line n is one =
     let window : take 22 line ≡ take n line = sym (take_min 22 line) ∙ ap (λ (k : ℕ). take k line) (sym is) in
     ap (λ (t : List ℕ). first_tag (fields_in t)) window ∙ ap first_tag one
 
--- behind the field that is a tag, and its space, is what follows the tag
+-- after the field of a tag and its space come the bytes that follow the tag
 pub cut_behind : (line field : List ℕ) (g : Tag) → tag_named field ≡ Some g → take (length line - (length field + 1)) (drop (length field + 1) line) ≡ behind_tag g line
 cut_behind line field g e =
     let is = named field g e in
@@ -133,7 +133,7 @@ pub fields_whole : (t : List ℕ) → ((k : ℕ) → 0 ≤ k → k < length t �
 fields_whole t none =
     slice_split_none is_space t (λ k d within. false_from_ne_true (is_space (get_or t k d)) (λ e. none k (omega arith) within (ap is_space (get_or_default t k 0 d within) ∙ e)))
 
--- a text with a space is what stands before it, and the fields behind it
+-- a text with a space is the bytes before it and the fields after it
 pub fields_cut : (t : List ℕ) (n : ℕ) → n < length t → ((k : ℕ) → 0 ≤ k → k < n → (slice_index t k == 32) ≡ true → ⊥) → (slice_index t n == 32) ≡ true
     → fields_in t ≡ take n t ∷ fields_in (take (length t - (n + 1)) (drop (n + 1) t))
 fields_cut t n within none at =
@@ -147,7 +147,7 @@ fields_cut t n within none at =
     (ap is_space (get_or_default t k 0 d (omega (arith, before, long, within)) ∙ sym (get_or-take n t k d (omega (arith, before, long)))) ∙ e))) refl
     ∙ ap (λ (r : List ℕ). take n t ∷ fields_in r) (sym (take_all (length t - (n + 1)) (drop (n + 1) t) (omega (arith, length-drop (n + 1) t))))
 
--- what is no text is no tag
+-- a field that is no text is no tag
 pub no_text : (f : List ℕ) → (IsUtf8 (drop 1 f) → ⊥) → tag_named f ≡ None
 no_text [] other = refl
 no_text (b ∷ bs) other = by (b == 35) (is_tag bs) refl

@@ -26,7 +26,7 @@ use Rattle.nmvs_protocol.specs.Tags.{tag_text, tag_of, behind_tag}
 abbrev pub report_word : List ℕ
 report_word = codes "REPORT"
 
--- the fields of what is asked: the user, the word of it, and the texts of what it names
+-- the fields of an ask: the user, the word, and the texts that it names
 abbrev pub asked_fields : Asked → List (List ℕ)
 asked_fields (asked.Question user q) = user.bytes ∷ kind_word (kind_of q) ∷ texts_of q
 asked_fields (asked.Report user c) = user.bytes ∷ report_word ∷ c.bytes ∷ []
@@ -39,7 +39,7 @@ line_tag lines.Version = None
 line_tag lines.Help = None
 line_tag lines.Quit = None
 
--- the fields behind it
+-- the fields after it
 abbrev pub fields : Line → List (List ℕ)
 fields (lines.Ask a) = asked_fields a.asked
 fields lines.Ping = codes "PING" ∷ []
@@ -51,7 +51,7 @@ fields lines.Quit = codes "QUIT" ∷ []
 abbrev pub line_text : Line → List ℕ
 line_text l = tag_text (line_tag l) ++ line_of_fields (fields l)
 
--- a field's grammar, and the fault where a text is not in it
+-- a field's grammar, and the fault of a text that is not in it
 abbrev pub Grammar : Type 0
 Grammar = (List ℕ → Bool) × LineFault
 
@@ -75,25 +75,25 @@ abbrev pub first_misread : List Grammar → List (List ℕ) → Option LineFault
 first_misread (g ∷ gs) (t ∷ ts) = if g.0 t then first_misread gs ts else Some g.1
 first_misread _ _ = None
 
--- the first fault of a user and of the texts after a word that these grammars belong to
+-- the first fault of a user and of the texts after a word with these grammars
 abbrev pub texts_fault : List Grammar → List ℕ → List (List ℕ) → Option LineFault
 texts_fault gs user texts =
     if not (length texts == length gs) then Some fault.Fields
     else if not (is_name user) then Some fault.User
     else first_misread gs texts
 
--- the first fault of a question that a user puts by a word of this kind
+-- the first fault of a user's question with a word of this kind
 abbrev pub question_fault : List ℕ → Option QuestionKind → List (List ℕ) → Option LineFault
 question_fault user None texts = Some fault.Word
 question_fault user (Some kind) texts = texts_fault (grammars kind) user texts
 
--- the first fault of what a user asks by this word: a report, or else a question
+-- the first fault of a user's ask with this word: a report, or else a question
 abbrev pub ask_fault : List ℕ → List ℕ → List (List ℕ) → Option LineFault
 ask_fault user word texts =
     if bytes_eq word report_word then texts_fault report_grammars user texts
     else question_fault user (kind_named word) texts
 
--- the first fault of these fields, which ask something
+-- the first fault of these fields of an ask
 abbrev pub asked_fault : List (List ℕ) → Option LineFault
 asked_fault (user ∷ word ∷ texts) = ask_fault user word texts
 asked_fault _ = Some fault.Fields
@@ -107,11 +107,11 @@ abbrev pub fields_fault : List (List ℕ) → Option LineFault
 fields_fault (word ∷ []) = if stands_alone word then None else Some fault.Fields
 fields_fault fs = asked_fault fs
 
--- the fault of a line with a byte that is not printable: one of its own where its last byte is CR (13)
+-- the fault of a line with a byte that is not printable; a line that ends with CR (13) has a fault of its own
 abbrev pub byte_fault : List ℕ → LineFault
 byte_fault x = if slice_index x (length x - 1) == 13 then fault.Return else fault.Bytes
 
--- the first fault of a line of so many bytes, of which these are behind its tag
+-- the first fault of a line with this number of bytes and these bytes after its tag
 abbrev pub asked_line_fault : ℕ → List ℕ → Option LineFault
 asked_line_fault count behind =
     if nat_lt 200 count then Some fault.Long
@@ -126,13 +126,13 @@ fault_behind (Some g) x = asked_line_fault (length x) (behind_tag g x)
 unfoldable pub first_fault : List ℕ → Option LineFault
 first_fault x = fault_behind (tag_of x) x
 
--- whether each text is in the grammar that stands at its place
+-- whether each text is in the grammar at its place
 abbrev pub all_read : List Grammar → List (List ℕ) → Bool
 all_read [] [] = true
 all_read (g ∷ gs) (t ∷ ts) = g.0 t && all_read gs ts
 all_read _ _ = false
 
--- whether the texts of what is asked are in their grammars
+-- whether the texts of an ask are in their grammars
 abbrev pub is_asked : Asked → Bool
 is_asked (asked.Question user q) = is_name user.bytes && all_read (grammars (kind_of q)) (texts_of q)
 is_asked (asked.Report user c) = is_name user.bytes && all_read report_grammars (c.bytes ∷ [])
@@ -145,12 +145,12 @@ is_line lines.Version = true
 is_line lines.Help = true
 is_line lines.Quit = true
 
--- a line that begins with no tag is read as what it says where it is the text of that, else with its first fault
+-- a text without a tag is read as the line whose text it is, else with its first fault
 abbrev pub ReadsUntagged : List ℕ → Result Line LineFault → Type 0
 ReadsUntagged x (Ok l) = (x ≡ line_text l) × (fault_behind None x ≡ None) × IsTrue (is_line l)
 ReadsUntagged x (Err f) = fault_behind None x ≡ Some f
 
--- a line is read as what it says where it is the text of that, else with its first fault and the tag that it begins with
+-- a text is read as the line whose text it is, else with its first fault and the tag that it begins with
 abbrev pub ReadsLine : List ℕ → Result Line Unread → Type 0
 ReadsLine x (Ok l) = (x ≡ line_text l) × (first_fault x ≡ None) × IsTrue (is_line l)
 ReadsLine x (Err u) = (first_fault x ≡ Some u.fault) × (u.tag ≡ tag_of x)

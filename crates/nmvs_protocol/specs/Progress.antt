@@ -1,4 +1,4 @@
--- How a session stands between its lines and between its reads (own).
+-- The state of a session between its lines and between its reads (own).
 use Rattle.std.specs.Prelude.{◌≡◌, ◌≤◌, ◌<◌, ◌+◌, ℕ, Bool, false, List, [], ◌∷◌, ◌++◌, length, map, Option, Some, None, IsTrue}
 use Rattle.nmvs_stream.specs.Sink.{Taken}
 use Rattle.nmvs_stream.specs.Delivery.{Writes, Delivers, DeliversPart}
@@ -13,7 +13,7 @@ use Rattle.nmvs_messages.specs.PendingLines.{kept_part}
 use Rattle.nmvs_messages.specs.Withheld.{answer_of, takes_memory}
 use Rattle.nmvs_protocol.specs.Session.{TakesLines, ReleasesAll, AnswersLines, AnswersAll, NoQuit, EndsWithQuit, NoQuitBeforeLast, LacksLast, session_text, is_write_fault}
 
--- of these answers none but perhaps the last has a text that takes memory
+-- only the last of these answers, if any, has a text that takes memory
 abbrev pub AreShortButLast : List Answer → Type 0
 AreShortButLast [] = Unit {0}
 AreShortButLast (a ∷ []) = Unit {0}
@@ -27,7 +27,7 @@ Gathers sink sink' said = Writes sink sink' (session_text said)
 abbrev pub Delivered : Taken → Taken → List Answer → Type 0
 Delivered sink sink' said = Delivers sink sink' (session_text said)
 
--- what writing the text of these answers comes to
+-- the result of writing the text of these answers
 abbrev pub Tells : Option End → Taken → Taken → List Answer → Type 0
 Tells (None) sink sink' said = Gathers sink sink' said
 Tells (Some ends.WriteFault) sink sink' said = DeliversPart sink sink' (session_text said)
@@ -37,7 +37,7 @@ Tells (Some ends.Limit) sink sink' said = ⊥
 Tells (Some ends.Ended) sink sink' said = ⊥
 Tells (Some ends.ReadFault) sink sink' said = ⊥
 
--- of these answers the first are told so; the text of the next takes memory, and is missing with those behind it
+-- the first of these answers are written in this way; the text of the next takes memory, and is missing with those after it
 pub record LacksRest (tells : List Answer → Type 0) (said : List Answer) : Type 0 where
   pub before : List Answer
   pub last : Answer
@@ -46,12 +46,12 @@ pub record LacksRest (tells : List Answer → Type 0) (said : List Answer) : Typ
   pub memory : IsTrue (takes_memory last)
   pub told : tells before
 
--- what writing the text of any answers comes to
+-- the result of writing the text of any answers
 abbrev pub TellsFirst : Option End → Taken → Taken → List Answer → Type 0
 TellsFirst (Some ends.Memory) sink sink' said = LacksRest (Gathers sink sink') said
 TellsFirst end sink sink' said = Tells end sink sink' said
 
--- what telling what is withheld comes to, and what it makes of the desk: where there is none the desk is not asked
+-- the result of releasing and writing the withheld answers, and the desk after it; without such answers the desk is not asked
 abbrev pub TellsWithheld : {D : Type 0} → (D → D → Withheld → Answer → Type 0) → (D → D → Type 0) → List Withheld → D → D → Option End → Taken → Taken → Type 0
 TellsWithheld releases moves [] old new end sink sink' = (new ≡ old) × (end ≡ None) × (sink' ≡ sink)
 TellsWithheld releases moves (w ∷ withheld) old new end sink sink' =
@@ -63,7 +63,7 @@ pub record LimitReached (count limit : ℕ) (left : List (List ℕ)) : Type 0 wh
   pub reached : count ≡ limit
   pub more : 0 < length left
 
--- what the end of a taking says of the lines that were taken, and of the bytes that are left
+-- the meaning of the end of a taking for the lines that were taken and the bytes that are left
 abbrev pub Halts : Option End → ℕ → ℕ → List (List ℕ) → List ℕ → List ℕ → Type 0
 Halts (None) limit count taken begun left = NoQuit taken
 Halts (Some ends.Quit) limit count taken begun left = EndsWithQuit taken
@@ -73,8 +73,8 @@ Halts (Some ends.Memory) limit count taken begun left = ⊥
 Halts (Some ends.Ended) limit count taken begun left = ⊥
 Halts (Some ends.ReadFault) limit count taken begun left = ⊥
 
--- a session took the lines that these bytes complete, behind the line that was begun, and their answers were put behind those
--- that were withheld; these bytes are left
+-- a session took the lines that these bytes complete, after the line that was begun, and added their answers to those that were
+-- withheld; these bytes are left
 pub record Took {D : Type 0} (takes : D → Ask → Withheld → D → Type 0) (session : Session) (desk : D) (withheld : List Withheld) (begun bytes left : List ℕ) (session' : Session) (desk' : D) (withheld' : List Withheld) (end : Option End) : Type 0 where
   pub held : List Withheld
   pub behind : withheld' ≡ withheld ++ held
@@ -86,7 +86,7 @@ pub record Took {D : Type 0} (takes : D → Ask → Withheld → D → Type 0) (
   pub short : AreShortButLast (map answer_of held)
   pub halts : Halts end session.limit session'.answered (lines_after begun bytes) (rest_after begun bytes) left
 
--- what may be said after some bytes, where None is to go on and an answer is told so
+-- the answers that may be given after some bytes; None means that the session goes on
 abbrev pub Stands : Option End → (List Answer → Type 0) → ℕ → ℕ → List (List ℕ) → List (List ℕ) → List Answer → Taken → Taken → Type 0
 Stands (None) tells limit count answered left said sink sink' = AnswersAll answered left × tells said
 Stands (Some ends.Quit) tells limit count answered left said sink sink' = EndsWithQuit answered × tells said
@@ -101,7 +101,7 @@ abbrev pub has_write_fault : Option End → Bool
 has_write_fault (None) = false
 has_write_fault (Some end) = is_write_fault end
 
--- of the lines that some bytes complete the first were answered, and told so
+-- the first of the lines that some bytes complete were answered, and their answers written in this way
 pub record AnsweredSo {D : Type 0} (tells : Taken → Taken → List Answer → Type 0) (takes : D → Ask → Withheld → D → Type 0) (releases : D → D → Withheld → Answer → Type 0) (moves : D → D → Type 0) (session : Session) (desk : D) (sink : Taken) (lines : List (List ℕ)) (session' : Session) (desk' : D) (sink' : Taken) (end : Option End) : Type 0 where
   pub answered : List (List ℕ)
   pub left : List (List ℕ)
@@ -114,10 +114,10 @@ pub record AnsweredSo {D : Type 0} (tells : Taken → Taken → List Answer → 
   pub stands : Stands end (tells sink sink') session.limit session'.answered answered left said sink sink'
   pub sound : sink.failed ≡ false → sink'.failed ≡ has_write_fault end
 
--- and their texts are written, and are to be flushed
+-- their texts are written, and are to be flushed
 abbrev pub Fed : {D : Type 0} → (D → Ask → Withheld → D → Type 0) → (D → D → Withheld → Answer → Type 0) → (D → D → Type 0) → Session → D → Taken → List (List ℕ) → Session → D → Taken → Option End → Type 0
 Fed takes releases moves = AnsweredSo Gathers takes releases moves
 
--- and their texts are written and flushed
+-- their texts are written and flushed
 abbrev pub Served : {D : Type 0} → (D → Ask → Withheld → D → Type 0) → (D → D → Withheld → Answer → Type 0) → (D → D → Type 0) → Session → D → Taken → List (List ℕ) → Session → D → Taken → Option End → Type 0
 Served takes releases moves = AnsweredSo Delivered takes releases moves

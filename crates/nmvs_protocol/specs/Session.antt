@@ -1,4 +1,4 @@
--- Sessions: which lines were answered and how, what was written, and what each end means (own).
+-- Sessions: the lines that were answered and their answers, the bytes that were written, and the meaning of each end (own).
 use Rattle.std.specs.Prelude.{◌≡◌, ◌≢◌, ◌<◌, ◌≤◌, ◌+◌, ◌⊎◌, ℕ, Bool, true, false, List, [], ◌∷◌, ◌++◌, length, All, Result, Ok, Err, IsTrue}
 use Rattle.std.specs.List.{flat_map}
 use Rattle.nmvs_stream.specs.Source.{Told}
@@ -18,8 +18,8 @@ use Rattle.nmvs_protocol.specs.Lines.{line_text, ReadsLine}
 use Rattle.nmvs_protocol.specs.Texts.{text}
 use Rattle.nmvs_stream.specs.InputLines.{input_lines}
 
--- what is withheld where a line is read so, the desk going from old to new: PING, VERSION, HELP and QUIT are answered
--- without it, and what it answers to all else gets the line's tag
+-- the answer that is withheld for a line with this reading, as the desk goes from old to new; PING, VERSION, HELP and QUIT are
+-- answered without the desk, and its answer to any other line gets the line's tag
 abbrev pub Answers : {D : Type 0} → (D → Ask → Withheld → D → Type 0) → D → Result Line Unread → Withheld → D → Type 0
 Answers takes old (Ok (lines.Ask ask)) withheld new = (w : Withheld) × takes old ask w new × (withheld ≡ tagged ask.tag w)
 Answers takes old (Ok lines.Ping) withheld new = (withheld ≡ plain contents.Pong) × (new ≡ old)
@@ -28,30 +28,30 @@ Answers takes old (Ok lines.Help) withheld new = (withheld ≡ plain contents.He
 Answers takes old (Ok lines.Quit) withheld new = (withheld ≡ plain contents.Bye) × (new ≡ old)
 Answers takes old (Err unread) withheld new = (withheld ≡ tagged unread.tag (plain (contents.Unread unread.fault))) × (new ≡ old)
 
--- a line is taken with an answer that is withheld, the desk going from old to new
+-- a line is taken, and its answer withheld, as the desk goes from old to new
 pub record TakesLine {D : Type 0} (takes : D → Ask → Withheld → D → Type 0) (old : D) (x : List ℕ) (withheld : Withheld) (new : D) : Type 0 where
   pub reading : Result Line Unread
   pub reads : ReadsLine x reading
   pub answers : Answers takes old reading withheld new
 
--- lines are taken with answers that are withheld, one a line, the desk going from old to new
+-- lines are taken, and one answer to each withheld, as the desk goes from old to new
 abbrev pub TakesLines : {D : Type 0} → (D → Ask → Withheld → D → Type 0) → D → List (List ℕ) → List Withheld → D → Type 0
 TakesLines takes old [] [] new = new ≡ old
 TakesLines {D} takes old (x ∷ xs) (w ∷ withheld) new = (mid : D) × TakesLine takes old x w mid × TakesLines takes mid xs withheld new
 TakesLines takes old [] (w ∷ withheld) new = ⊥
 TakesLines takes old (x ∷ xs) [] new = ⊥
 
--- what is withheld is released at once, all of it, by one step of the desk; where there is none the desk is not asked
+-- all withheld answers are released at once, by one step of the desk; without such answers the desk is not asked
 abbrev pub ReleasesAll : {D : Type 0} → (D → D → Withheld → Answer → Type 0) → (D → D → Type 0) → D → List Withheld → List Answer → D → Type 0
 ReleasesAll releases moves old [] said new = (said ≡ []) × (new ≡ old)
 ReleasesAll releases moves old (w ∷ withheld) said new = moves old new × AreReleased (releases old new) (w ∷ withheld) said
 
--- the lines that were taken between two releases, and the answers that the second let be told
+-- the lines that were taken between two releases, and the answers of the second release
 pub record Round : Type 0 where
   pub lines : List (List ℕ)
   pub said : List Answer
 
--- a round takes the desk from old to new: its lines are taken, and then what is withheld is released
+-- a round takes the desk from old to new: its lines are taken, and then the withheld answers are released
 pub record GoesRound {D : Type 0} (takes : D → Ask → Withheld → D → Type 0) (releases : D → D → Withheld → Answer → Type 0) (moves : D → D → Type 0) (old : D) (round : Round) (new : D) : Type 0 where
   pub held : List Withheld
   pub asked : D
@@ -71,7 +71,7 @@ lines_of rounds = flat_map (λ (r : Round). r.lines) rounds
 abbrev pub answers_of : List Round → List Answer
 answers_of rounds = flat_map (λ (r : Round). r.said) rounds
 
--- lines are answered so, one answer a line, in order, in rounds that take the desk from old to new
+-- lines have these answers, one a line, in order, in rounds that take the desk from old to new
 pub record AnswersLines {D : Type 0} (takes : D → Ask → Withheld → D → Type 0) (releases : D → D → Withheld → Answer → Type 0) (moves : D → D → Type 0) (old : D) (xs : List (List ℕ)) (said : List Answer) (new : D) : Type 0 where
   pub rounds : List Round
   pub desk : GoesRounds takes releases moves old rounds new
@@ -88,7 +88,7 @@ pub record EndsWithQuit (xs : List (List ℕ)) : Type 0 where
   pub these : xs ≡ before ++ line_text lines.Quit ∷ []
   pub no_quit : NoQuit before
 
--- none of these lines but perhaps the last is QUIT
+-- only the last of these lines, if any, is QUIT
 abbrev pub NoQuitBeforeLast : List (List ℕ) → Type 0
 NoQuitBeforeLast xs = NoQuit xs ⊎ EndsWithQuit xs
 
@@ -101,8 +101,8 @@ pub record DeliversAll (old new : Taken) (said : List Answer) : Type 0 where
   pub bytes : new.bytes ≡ old.bytes ++ session_text said
   pub flushed : 0 < length said → new.flushed ≡ true
 
--- the sink took the text of these answers up to some point in those to the lines that one read completed. The answers to
--- what was read before it were written, and flushed
+-- the sink took the text of these answers up to some point in the answers to the lines of one read; the answers to earlier
+-- reads were written and flushed
 pub record BreaksOff (old new : Taken) (input : List ℕ) (said : List Answer) : Type 0 where
   pub earlier : List ℕ
   pub last : List ℕ
@@ -118,7 +118,7 @@ pub record BreaksOff (old new : Taken) (input : List ℕ) (said : List Answer) :
   pub bytes : new.bytes ≡ old.bytes ++ session_text before ++ written
   pub flushed : written ≡ [] → 0 < length before → new.flushed ≡ true
 
--- these are the answers of which all but the last are told so; that one's text takes memory, and is missing
+-- all of these answers but the last are written in this way; the text of the last takes memory, and is missing
 pub record LacksLast (tells : List Answer → Type 0) (said : List Answer) : Type 0 where
   pub before : List Answer
   pub last : Answer
@@ -141,7 +141,7 @@ pub record ReadLimit (limit : ℕ) (left : List (List ℕ)) (source source' : To
   pub reached : source'.reads ≡ source.reads + limit
   pub all : left ≡ []
 
--- what an end means for the lines and the text
+-- the meaning of an end for the lines and the text
 abbrev pub Closes : End → Limits → List ℕ → List (List ℕ) → List (List ℕ) → List Answer → Told → Told → Taken → Taken → Type 0
 Closes ends.Quit limits input answered left said source source' sink sink' = EndsWithQuit answered × DeliversAll sink sink' said
 Closes ends.Ended limits input answered left said source source' sink sink' = AnswersAll answered left × DeliversAll sink sink' said
@@ -166,16 +166,16 @@ abbrev pub is_write_fault : End → Bool
 is_write_fault ends.WriteFault = true
 is_write_fault _ = false
 
--- how far a session goes that no connection carries: 10,000 lines, and 4,000,000 reads (own)
+-- the limits of a session without a connection: 10,000 lines and 4,000,000 reads (own)
 abbrev pub session_limits : Limits
 session_limits = record { lines = 10000; reads = 4000000 }
 
--- a session that ended so, with the desk, the source and the sink before and after
+-- a session with this end, with the desk, the source and the sink before and after it
 pub record Session {D : Type 0} (takes : D → Ask → Withheld → D → Type 0) (releases : D → D → Withheld → Answer → Type 0) (moves : D → D → Type 0) (limits : Limits) (desk : D) (source : Told) (sink : Taken) (desk' : D) (source' : Told) (sink' : Taken) (end : End) : Type 0 where
   -- these bytes were read
   pub input : List ℕ
   pub read : source'.bytes ≡ source.bytes ++ input
-  -- of their lines the first were answered
+  -- the first of their lines were answered
   pub answered : List (List ℕ)
   pub left : List (List ℕ)
   pub these : input_lines input ≡ answered ++ left
@@ -185,7 +185,7 @@ pub record Session {D : Type 0} (takes : D → Ask → Withheld → D → Type 0
   -- within the limits
   pub lines_within : length said ≤ limits.lines
   pub reads_within : source'.reads ≤ source.reads + limits.reads
-  -- what the end means, and which marks tell it
+  -- the meaning of the end, and the marks that show it
   pub closes : Closes end limits input answered left said source source' sink sink'
   pub ended : source'.ended ≡ is_input_end end
   pub read_failed : source'.failed ≡ is_read_fault end

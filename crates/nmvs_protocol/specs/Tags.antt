@@ -4,29 +4,29 @@ use Rattle.nmvs_identifier.specs.Tag.{Tag, is_tag}
 use Rattle.nmvs_identifier.specs.Texts.{longest_text}
 use Rattle.nmvs_messages.specs.Fields.{fields_in}
 
--- what stands before a line with a tag, and before its reply: the tag behind #, and a space
+-- the bytes before a line with a tag, and before its reply: #, the tag and a space
 abbrev pub tag_text : Option Tag → List ℕ
 tag_text None = []
 tag_text (Some g) = 35 ∷ g.bytes ++ 32 ∷ []
 
--- how many bytes this has at most
+-- the most bytes that this has
 abbrev pub longest_tag_text : ℕ
 longest_tag_text = longest_text + 2
 
--- the tag that a field is: # and 1 to 20 characters of a name
+-- the tag of a field that is # and 1 to 20 characters of a name
 abbrev pub tag_named : List ℕ → Option Tag
 tag_named [] = None
 tag_named (b ∷ bs) = if b == 35 && is_tag bs then Some (record { bytes = bs }) else None
 
--- the tag that these fields begin with: the first of them, where another one follows
+-- the tag that these fields begin with: the first of them, if another one follows
 abbrev pub first_tag : List (List ℕ) → Option Tag
 first_tag (f ∷ next ∷ fs) = tag_named f
 first_tag _ = None
 
--- the tag that a line begins with, if with one
+-- the tag that a line begins with, if there is one
 unfoldable pub tag_of : List ℕ → Option Tag
 tag_of x = first_tag (fields_in (take longest_tag_text x))
 
--- what follows the tag and its space
+-- the bytes after the tag and its space
 abbrev pub behind_tag : Tag → List ℕ → List ℕ
 behind_tag g x = drop (length (tag_text (Some g))) x

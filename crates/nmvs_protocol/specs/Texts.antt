@@ -17,7 +17,7 @@ use Rattle.nmvs_protocol.specs.Tags.{tag_text}
 abbrev pub reply_text : Reply → List Entry → List ℕ
 reply_text r shown = spaced (reply_words r) ++ export_text shown
 
--- what the answer to HELP lists: each line that there is by an example and what it is for, and END
+-- the lines of the answer to HELP: each line that there is, by an example and its purpose, and END
 abbrev pub help_lines : List (List ℕ)
 help_lines =
     codes "mah1 UPLOAD 09506000134352 SN1 B1 280200  a new pack"
@@ -45,7 +45,7 @@ help_lines =
 unfoldable pub help_text : List ℕ
 help_text = flat_map (λ line. codes "HELP " ++ (line ++ 10 ∷ [])) help_lines
 
--- the text of what is answered to a line without a tag
+-- the text of the answer to a line without a tag
 unfoldable pub content_text : Content → List ℕ
 content_text (contents.Replied r shown) = reply_text r shown
 content_text (contents.Reported t) = t
@@ -56,11 +56,11 @@ content_text contents.Version = spaced (codes "VERSION" ∷ codes "0.9.0" ∷ []
 content_text contents.Help = help_text
 content_text contents.Bye = spaced (codes "BYE" ∷ [])
 
--- the lines of a text, each behind the same bytes
+-- the lines of a text, each after the same bytes
 abbrev pub lines_behind : List ℕ → List ℕ → List ℕ
 lines_behind front t = flat_map (λ line. front ++ (line ++ 10 ∷ [])) (input_lines t)
 
--- the text of what is answered to a line with this tag, if it has one: the tag begins each line of it that is no entry line
+-- the text of the answer to a line with this tag, if it has one: the tag begins each of its lines that is no entry line
 abbrev pub tagged_text : Option Tag → Content → List ℕ
 tagged_text (Some g) (contents.Reported t) = lines_behind (tag_text (Some g)) t
 tagged_text g content = tag_text g ++ content_text content

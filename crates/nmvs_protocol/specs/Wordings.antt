@@ -1,4 +1,4 @@
--- The text of an answer, as it is had (own).
+-- The text of an answer in its three forms (own).
 use Rattle.std.specs.Prelude.{ℕ, List, string_bytes}
 use Rattle.nmvs_protocol.specs.declared.wording.Wording.{Wording}
 use Rattle.nmvs_protocol.specs.declared.wording.Wording.TheVariants as wordings

@@ -1,8 +1,8 @@
-//! The lines that there are, with an example of each.
+//! The lines that there are, each with an example.
 ghost use Rattle.std.specs.Prelude.{◌≡◌};
 ghost use Rattle.nmvs_protocol.specs.Texts.{help_text};
 
-/// The answer to `HELP`. No line of it is longer than the longest reply of one line.
+/// The answer to `HELP`. None of its lines is longer than the longest reply of one line.
 const HELP: &str = "HELP mah1 UPLOAD 09506000134352 SN1 B1 280200  a new pack\n\
     HELP ph1 VERIFY 09506000134352 SN1             is it authentic?\n\
     HELP ph1 STATUS 09506000134352 SN1             without an alert\n\

@@ -17,8 +17,11 @@ use nmvs_rules::Question;
 use nmvs_words::{BatchQuestion, PackQuestion, QuestionKind};
 use std::alloc::{AllocError, Allocator};
 
-/// Reads a line, given without its LF: it is read as what it says where it is the text of that, and
-/// else answered by the first fault that it has, and its tag.
+/// Reads a line, given without its LF.
+///
+/// # Errors
+///
+/// The first fault of the line, and its tag.
 #[tactic(auto, unfolding(crate::specs::Lines::first_fault))]
 pub fn read_line(bytes: &[u8]) -> Result<Line, Unread>
     ensures { ReadsLine bytes.now result }
@@ -44,7 +47,7 @@ fn read_untagged(bytes: &[u8]) -> Result<Line, LineFault>
     read_fields(&fields)
 }
 
-/// Reads what is asked behind the tag of a line of so many bytes.
+/// Reads the ask after the tag of a line that has this number of bytes.
 fn read_tagged(count: usize, behind: &[u8]) -> Result<Asked, LineFault>
     ensures text { IfOk result (λ asked. behind.now ≡ line_of_fields (asked_fields asked)) }
     ensures valid { IfOk result (λ asked. IsTrue (is_asked asked)) }
@@ -62,7 +65,7 @@ fn read_tagged(count: usize, behind: &[u8]) -> Result<Asked, LineFault>
     read_asked(&fields)
 }
 
-/// The fault of a line with a byte that is not printable: it has one of its own where it ends with CR LF (own).
+/// The fault of a line with a byte that is not printable. A line that ends with CR LF has a fault of its own (own).
 fn byte_fault(line: &[u8]) -> LineFault
     ensures { result ≡ fault_of_byte line.now }
 {
@@ -94,7 +97,7 @@ fn read_fields(fields: &[&str]) -> Result<Line, LineFault>
     }
 }
 
-/// What is asked by these fields.
+/// The ask of these fields.
 fn read_asked(fields: &[&str]) -> Result<Asked, LineFault>
     ensures fields { IfOk result (λ asked. asked_fields asked ≡ map (λ f. f.now) fields.now) }
     ensures valid { IfOk result (λ asked. IsTrue (is_asked asked)) }
@@ -106,7 +109,7 @@ fn read_asked(fields: &[&str]) -> Result<Asked, LineFault>
     }
 }
 
-/// What a user asks by this word and the texts after it.
+/// The ask of a user with this word and the texts after it.
 fn read_ask(user: &str, word: &str, texts: &[&str]) -> Result<Asked, LineFault>
     ensures fields { IfOk result (λ asked.
         asked_fields asked ≡ user.now ∷ word.now ∷ map (λ t. t.now) texts.now) }
@@ -119,7 +122,7 @@ fn read_ask(user: &str, word: &str, texts: &[&str]) -> Result<Asked, LineFault>
     }
 }
 
-/// The question that a user puts by this word and the texts after it.
+/// The question of a user with this word and the texts after it.
 fn read_question(user: &str, word: &str, texts: &[&str]) -> Result<Asked, LineFault>
     ensures fields { IfOk result (λ asked.
         asked_fields asked ≡ user.now ∷ word.now ∷ map (λ t. t.now) texts.now) }
@@ -138,7 +141,7 @@ fn read_question(user: &str, word: &str, texts: &[&str]) -> Result<Asked, LineFa
     }
 }
 
-/// The report that a user asks for by the texts after its word.
+/// The report that a user asks for with these texts after its word.
 fn read_report(user: &str, texts: &[&str]) -> Result<Asked, LineFault>
     ensures fields { IfOk result (λ asked.
         asked_fields asked ≡ user.now ∷ report_word ∷ map (λ t. t.now) texts.now) }
@@ -254,7 +257,11 @@ fn read_expiry(text: &str) -> Result<Expiry, LineFault>
     Expiry::read(text).or(Err(LineFault::Expiry))
 }
 
-/// The text of a line, without LF. It fails only out of memory.
+/// The text of a line, without LF.
+///
+/// # Errors
+///
+/// `AllocError` if there is no memory for the text.
 pub fn line_text<A: Allocator>(alloc: A, line: &Line) -> Result<String<A>, AllocError>
     ensures line { IfOk result (λ text. string_bytes text ≡ text_of_line line.now) }
     ensures grammar { IsTrue (is_line line.now) }
@@ -273,7 +280,7 @@ pub fn line_text<A: Allocator>(alloc: A, line: &Line) -> Result<String<A>, Alloc
     }
 }
 
-/// The text of what is asked, without a tag.
+/// The text of an ask, without a tag.
 fn asked_text<A: Allocator>(alloc: A, asked: &Asked) -> Result<String<A>, AllocError>
     ensures line { IfOk result (λ text. string_bytes text ≡ line_of_fields (asked_fields asked.now)) }
     ensures grammar { IsTrue (is_asked asked.now) }

@@ -20,11 +20,10 @@ use nmvs_words::{
 };
 use std::alloc::{AllocError, Global};
 
-/// The version of the program, which each of its programs says of itself (own).
+/// The version of the program, which each of its programs prints (own).
 pub const VERSION: &str = "0.9.0";
 
-/// The most bytes that the text of a short answer has: those of a status with the longest words and
-/// values, and LF.
+/// The most bytes of the text of a short answer: a status with the longest words and values, and LF.
 pub(crate) const LONGEST_REPLY: usize = 67;
 
 /// The text of a reply and of the entries that it shows: its line, and then the line of each entry.
@@ -44,7 +43,7 @@ pub fn reply_text(alloc: Global, reply: &Reply, shown: &[Entry]) -> Result<Strin
     Ok(text)
 }
 
-/// The text of what is answered, without a tag, with the LF that ends it. That of a shown audit alone takes memory.
+/// The text of an answer's content, without a tag, with its last LF. Only a shown audit takes memory.
 #[tactic(auto, unfolding(crate::specs::Texts::content_text))]
 pub(crate) fn wording<'w>(
     alloc: Global,
@@ -65,7 +64,7 @@ pub(crate) fn wording<'w>(
     })
 }
 
-/// The text of a reply, composed in place where it shows no entry.
+/// The text of a reply, composed in place if it shows no entry.
 fn reply_wording<'w>(
     alloc: Global,
     reply: &Reply,

@@ -12,11 +12,10 @@ use nmvs_messages::{Desk, End, Limits, Peer, READ_SIZE, WithheldAnswers};
 use nmvs_stream::{Failed, Sink, Source};
 use std::alloc::Global;
 
-/// Serves a session of a peer: answers the lines of the source in order. The answers to the whole lines that one read
-/// completes are written together, and flushed before more is read and before the session ends (own).
+/// Serves a session of a peer: answers the lines of the source in order. The answers to the whole lines of one read are written
+/// together. They are flushed before the next read and before the session ends (own).
 ///
-/// Bytes after the last LF get no answer. QUIT ends the session. What memory is taken for, and how long a line
-/// may be, see [`Session::feed`].
+/// Bytes after the last LF get no answer. QUIT ends the session. [`Session::feed`] has the limits of memory and of lines.
 pub fn serve<'a, R: Source, W: Sink, D: Desk<'a>>(
     alloc: Global,
     source: &mut R,
@@ -50,7 +49,7 @@ pub fn serve<'a, R: Source, W: Sink, D: Desk<'a>>(
     End::Limit
 }
 
-/// Feeds the session the bytes of one read, and flushes what was answered.
+/// Feeds the bytes of one read to the session, and flushes the answers.
 fn serve_read<'a, W: Sink, D: Desk<'a>>(
     alloc: Global,
     session: &mut Session,

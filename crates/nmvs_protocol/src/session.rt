@@ -1,4 +1,4 @@
-//! A session that is fed bytes.
+//! A session that takes bytes.
 ghost use Rattle.std.specs.Prelude.{◌≡◌, ◌==◌, ◌≤◌, ◌<◌, ◌-◌, ◌++◌, ◌∷◌, ◌↔◌, [], List, ℕ, Ok, IsTrue, IfNone, OnOk, OnErr, not, length, take, drop};
 ghost use Rattle.nmvs_stream.specs.Delivery.{Writes, DeliversPart};
 ghost use Rattle.nmvs_stream.specs.InputLines.{lines_after, unfinished_line};
@@ -19,7 +19,7 @@ use nmvs_messages::{
 use nmvs_stream::{Failed, Sink, cut_line, write_all};
 use std::alloc::Global;
 
-/// How far a session has come: the line that was begun, how many lines were answered, and how many may be.
+/// The state of a session: the line that was begun, the number of lines that were answered, and the limit of that number.
 #[derive(Drop)]
 pub struct Session {
     line: PendingLine,
@@ -27,17 +27,17 @@ pub struct Session {
     limit: u64,
 }
 
-/// How far a session has taken bytes.
+/// The progress of a session through some bytes.
 #[derive(Clone, Copy, Debug, PartialEq, Eq)]
 pub struct Taking {
-    /// How many bytes it took, from the front.
+    /// The number of bytes that it took, from the front.
     pub bytes: usize,
-    /// How it ends once the answers are told, where it does.
+    /// The end of the session after its answers are written, if it ends.
     pub end: Option<End>,
 }
 
 impl Session {
-    /// A session that nothing was fed, and that answers so many lines at most.
+    /// A session without a byte yet, which answers at most this number of lines.
     pub fn new(limit: u64) -> Session
         ensures line { result.line ≡ [] }
         ensures answered { result.answered ≡ 0 }
@@ -57,15 +57,15 @@ impl Session {
         !self.line.is_empty()
     }
 
-    /// Answers the whole lines that these bytes of a peer complete, after what was fed before. The texts of the answers
-    /// are written to the sink, which is left to be flushed; lines are taken until no more answers can be withheld,
-    /// and then those are released together.
+    /// Answers the whole lines that these bytes of a peer complete, after the earlier bytes. It writes the texts of the answers
+    /// to the sink, and leaves the flush to the caller. It takes lines until no more answers can be withheld, and then releases
+    /// those together.
     ///
-    /// A line of more than 200 bytes is answered once, at its LF, and takes no memory. Memory is taken for the
-    /// text of a shown audit alone, which may be of any length; a report and the help are written as they are, and
-    /// all other texts are composed in place.
+    /// A line of more than 200 bytes is answered once, at its LF, and takes no memory. Only the text of a shown audit takes
+    /// memory, since it may be of any length. A report and the help are written as they are, and all other texts are composed
+    /// in place.
     ///
-    /// `None` is to go on; else the session has ended so, and is fed no more.
+    /// `None` means that the session goes on. Else it has this end, and takes no more bytes.
     pub fn feed<'a, W: Sink, D: Desk<'a>>(
         &mut self,
         alloc: Global,
@@ -96,10 +96,10 @@ impl Session {
         None
     }
 
-    /// Takes the lines that these bytes of a peer complete, after what was taken before, and puts their answers behind those
-    /// that are withheld. It stops after a line whose answer may be long, and before a line whose answer finds no room.
+    /// Takes the lines that these bytes of a peer complete, after the earlier bytes, and adds their answers to the withheld
+    /// ones. It stops after a line whose answer may be long, and before a line whose answer finds no room.
     ///
-    /// Once those answers are told, the session goes on with the bytes that are left, or has ended.
+    /// After those answers are written, the session goes on with the bytes that are left, or has ended.
     pub fn take<'a, D: Desk<'a>>(
         &mut self,
         more: &[u8],
@@ -140,7 +140,7 @@ impl Session {
         }
     }
 
-    /// Takes the line that these bytes end, and tells whether it is QUIT.
+    /// Takes the line that these bytes end. The second value is whether it is QUIT.
     fn take_tail<'a, D: Desk<'a>>(
         &mut self,
         tail: &[u8],
@@ -165,7 +165,7 @@ impl Session {
     }
 }
 
-/// What was taken where these bytes are left.
+/// The progress through some bytes of which these are left.
 fn taken_until(more: &[u8], left: &[u8], end: Option<End>) -> Taking
     requires { length left.now ≤ length more.now }
     ensures { result ≡ record { bytes = length more.now - length left.now; end = end } }
@@ -176,7 +176,7 @@ fn taken_until(more: &[u8], left: &[u8], end: Option<End>) -> Taking
     }
 }
 
-/// Takes a line, of which as much is given as is kept of it, or more, and tells whether it is QUIT.
+/// Takes a line, given with at least its kept bytes. The second value is whether it is QUIT.
 fn take_line<'a, D: Desk<'a>>(line: &[u8], from: &Peer, desk: &mut D) -> (Withheld<'a>, bool)
     ensures takes { (x : List ℕ) → kept_part line.now ≡ kept_part x → TakesLine (TakesFrom D.takes from.now) desk.old x result.0 desk.new }
     ensures quit { (x : List ℕ) → kept_part line.now ≡ kept_part x → (IsTrue result.1 ↔ (x ≡ line_text Line.Quit)) }
@@ -186,7 +186,7 @@ fn take_line<'a, D: Desk<'a>>(line: &[u8], from: &Peer, desk: &mut D) -> (Withhe
     (withheld, is_quit(&reading))
 }
 
-/// The answer to what was read. PING, VERSION, HELP and QUIT are answered without the desk.
+/// The answer to a reading. PING, VERSION, HELP and QUIT are answered without the desk.
 fn answer<'a, D: Desk<'a>>(
     reading: &Result<Line, Unread>,
     from: &Peer,
@@ -218,7 +218,7 @@ fn is_quit(reading: &Result<Line, Unread>) -> bool
     matches!(reading, Ok(Line::Quit))
 }
 
-/// Has the answers released that are withheld, and writes their texts. None is withheld then.
+/// Releases the withheld answers, and writes their texts. No answer is withheld then.
 fn tell<'a, W: Sink, D: Desk<'a>>(
     alloc: Global,
     withheld: &mut WithheldAnswers<'a>,
@@ -237,9 +237,9 @@ fn tell<'a, W: Sink, D: Desk<'a>>(
     told
 }
 
-/// Writes the texts of the answers, up to one that there is no memory for. The sink is left to be flushed.
+/// Writes the texts of the answers, up to an answer for which there is no memory. It leaves the flush to the caller.
 ///
-/// `None` is that all were written; else the session has ended so.
+/// `None` means that all were written. Else the session has this end.
 pub fn write_texts<W: Sink>(alloc: Global, released: Released<'_, '_>, sink: &mut W) -> Option<End>
     ensures { TellsFirst result (W.taken sink.old) (W.taken sink.new) released.entry }
 {
@@ -285,7 +285,7 @@ fn write_tagged<W: Sink>(answer: &Answer<'_>, content: &[u8], sink: &mut W) -> R
     }
 }
 
-/// Writes one text, and another one behind it.
+/// Writes one text, and another one after it.
 fn write_both<W: Sink>(first: &[u8], second: &[u8], sink: &mut W) -> Result<(), Failed>
     ensures ok { OnOk result (Writes (W.taken sink.old) (W.taken sink.new) (first.now ++ second.now)) }
     ensures err { OnErr result (DeliversPart (W.taken sink.old) (W.taken sink.new) (first.now ++ second.now)) }
@@ -294,7 +294,7 @@ fn write_both<W: Sink>(first: &[u8], second: &[u8], sink: &mut W) -> Result<(), 
     write_all(sink, second)
 }
 
-/// Writes the lines of a text, each behind a tag.
+/// Writes the lines of a text, each after a tag.
 fn write_lines<W: Sink>(tag: &[u8], text: &[u8], sink: &mut W) -> Result<(), Failed>
     ensures ok { OnOk result (Writes (W.taken sink.old) (W.taken sink.new) (lines_behind tag.now text.now)) }
     ensures err { OnErr result (DeliversPart (W.taken sink.old) (W.taken sink.new) (lines_behind tag.now text.now)) }

@@ -8,16 +8,16 @@ use arrayvec::ArrayString;
 use memchr::memchr;
 use nmvs_identifier::Tag;
 
-/// The most bytes that stand before a line with a tag: `#`, the tag and a space (own).
+/// The most bytes before a line with a tag: `#`, the tag and a space (own).
 pub(crate) const LONGEST_TAG_TEXT: usize = 22;
 
-/// The tag that a line begins with, if with one, and what is behind it: it stands behind `#` and before a space (own).
+/// The tag that a line begins with, if there is one, and the bytes after it. A tag stands after `#` and before a space (own).
 pub(crate) fn cut_tag(line: &[u8]) -> Option<(Tag, &[u8])>
     ensures tag { IfSome result (λ cut. tag_of line.now ≡ Some cut.0) }
     ensures behind { IfSome result (λ cut. cut.1.now ≡ behind_tag cut.0 line.now) }
     ensures none { IfNone result (tag_of line.now ≡ None) }
 {
-    // Most lines have none.
+    // Most lines have no tag.
     if line.is_empty() || line[0] != b'#' {
         return None;
     }
@@ -27,7 +27,7 @@ pub(crate) fn cut_tag(line: &[u8]) -> Option<(Tag, &[u8])>
     Some((tag, &line[field.len() + 1..]))
 }
 
-/// The first field of a text that has another one, and what is behind it and its space.
+/// The first field of a text that has another field, and the bytes after its space.
 fn cut_field(text: &[u8]) -> Option<(&[u8], &[u8])>
     ensures cut { IfSome result (λ cut. fields_in text.now ≡ cut.0.now ∷ fields_in cut.1.now) }
     ensures within { IfSome result (λ cut. length cut.0.now < length text.now) }
@@ -37,7 +37,7 @@ fn cut_field(text: &[u8]) -> Option<(&[u8], &[u8])>
     Some((&text[..space], &text[space + 1..]))
 }
 
-/// The tag that a field is.
+/// The tag of a field.
 fn tag_named(field: &[u8]) -> Option<Tag>
     ensures { result ≡ tag_of_field field.now }
 {
@@ -50,7 +50,7 @@ fn tag_named(field: &[u8]) -> Option<Tag>
     }
 }
 
-/// What stands before a line with this tag, and before its reply: nothing where there is none.
+/// The bytes before a line with this tag, and before its reply. Without a tag there are none.
 pub(crate) fn tag_text(tag: &Option<Tag>) -> ArrayString<LONGEST_TAG_TEXT>
     ensures text { result.bytes ≡ text_of_tag tag.now }
     ensures grammar { IsTrue (is_tag_or_none tag.now) }

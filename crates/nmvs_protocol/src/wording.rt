@@ -4,14 +4,14 @@ ghost use Rattle.nmvs_protocol.specs.Wordings.{wording_text};
 use crate::replies::LONGEST_REPLY;
 use arrayvec::ArrayString;
 
-/// The text of an answer, as it is had.
+/// The text of an answer in its three forms.
 #[derive(Drop)]
 pub(crate) enum Wording<'w> {
-    /// A short one, composed in place.
+    /// A short text, composed in place.
     Composed(ArrayString<LONGEST_REPLY>),
-    /// One of any length, made on the heap.
+    /// A text of any length, made on the heap.
     Made(String),
-    /// One that the answer has.
+    /// A text that the answer has.
     Lent(&'w str),
 }
 

@@ -1,4 +1,4 @@
--- How many lines are let through at most.
+-- The most lines that are let through.
 use Rattle.std.proofs.Common.{◌≡◌, ◌≤◌, ◌+◌, ◌-◌, ◌*◌, ℕ, Bool, true, false, if◌then◌else◌, max, List, [], ◌∷◌, length, refl, arith, mul-le-mul_left}
 use Rattle.std.specs.List.{All, AllByRecursion}
 use Rattle.std.proofs.Math.Nat.{min-le_left, min-le_right}
@@ -9,7 +9,7 @@ use Rattle.nmvs_rate.specs.Buckets.{LINE, filled, passes, passing}
 use Rattle.nmvs_rate.specs.Laws.{allowed, NeverMore}
 use Rattle.nmvs_rate.proofs.Steps.{taken, whole, gained}
 
--- what a line and those after it take, where those after it take no more than is there and comes in
+-- the parts that a line and those after it take, if those after it take no more than is there and comes in
 one_more : (rate : Rate) (bucket : Bucket) (now to : ℕ) → now ≤ to → (later : Bucket → List ℕ)
     → ((b : Bucket) → length (later b) * LINE ≤ b.parts + rate.lines * (to - b.moment))
     → (p : Bool) → passes rate bucket now ≡ p
@@ -30,7 +30,7 @@ spent rate bucket to [] within = omega arith
 spent rate bucket to (now ∷ later) within =
     one_more rate bucket now to within.0 (λ b. passing rate b later) (λ b. spent rate b to later within.1) (passes rate bucket now) refl
 
--- what a line between two moments and those after it take, where a line before them takes no more than the rate has
+-- the parts that a line between two moments and those after it take, if a line before them takes no more than the rate has
 first : (rate : Rate) (bucket : Bucket) (from now to : ℕ) → from ≤ now → now ≤ to → (later : Bucket → List ℕ)
     → ((b : Bucket) → length (later b) * LINE ≤ b.parts + rate.lines * (to - b.moment))
     → length (later bucket) * LINE ≤ allowed rate from to

@@ -1,4 +1,4 @@
--- Since when a refused line is one too many.
+-- The moment since which a refused line is one too many.
 use Rattle.std.proofs.Common.{◌≡◌, ◌⊎◌, ◌≤◌, ◌<◌, ◌+◌, ◌-◌, ◌*◌, ◌∙◌, ℕ, Bool, true, false, cond, if◌then◌else◌, nat_le, max, List, [], ◌∷◌, ◌++◌, refl, inl, inr, sym, ap, subst, arith, mul-add, mul-zero, append_assoc, append-nil}
 use Rattle.std.specs.List.{count_by}
 use Rattle.std.proofs.lemmas.Bool.{cases_lt, le-leb}
@@ -28,7 +28,7 @@ sooner : (at now : ℕ) (moments : List ℕ) → at ≤ now → Ascends now mome
 sooner at now [] e later = tt
 sooner at now (m ∷ ms) e later = (omega (arith, e, later.0), later.1)
 
--- what the rate has in a span, by its two parts
+-- the lines that the rate has in a span, by the span's two parts
 parted : (rate : Rate) (from at now : ℕ) → from ≤ at → at ≤ now → allowed rate from now ≡ allowed rate from at + rate.lines * (now - at)
 parted rate from at now e f =
     let sum : rate.lines * (at - from) + rate.lines * (now - at) ≡ rate.lines * (now - from) = sym (mul-add rate.lines (at - from) (now - at)) ∙ ap (λ (n : ℕ). rate.lines * n) (omega (arith, e, f)) in
@@ -71,7 +71,7 @@ refused rate bucket past now some e short uses =
     let all = uses.all in
     (uses.from, omega (arith, e, uses.before), omega (arith, sum, all, some, short))
 
--- one line more, where those after it are as they are said to be
+-- one more line, if the law holds of those after it
 next : (rate : Rate) (bucket : Bucket) (past : List ℕ) (m now : ℕ) → bucket.moment ≤ m → (moments : List ℕ) → Ascends m moments → UsesAll rate bucket past
     → (later : Bucket → List ℕ) → (is_refused : Bucket → Type 0)
     → ((b : Bucket) (earlier : List ℕ) → Ascends b.moment moments → UsesAll rate b earlier → is_refused b → OneTooMany rate (earlier ++ later b) now)

@@ -1,9 +1,9 @@
--- What a user may still ask (own). Moments are in milliseconds since some beginning.
+-- The lines that a user may still ask (own). Moments are in milliseconds since some beginning.
 use Rattle.std.specs.Prelude.{ℕ, Bool, ◌+◌, ◌-◌, ◌*◌, min, max, not, nat_lt, if◌then◌else◌, List, [], ◌∷◌}
 use Rattle.nmvs_rate.specs.declared.rate.Rate.{Rate}
 use Rattle.nmvs_rate.specs.declared.bucket.Bucket.{Bucket}
 
--- how many parts a line has: of one line a second a part comes in each millisecond
+-- the number of parts of a line: at one line a second a part comes in each millisecond
 abbrev pub LINE : ℕ
 LINE = 1000
 
@@ -15,7 +15,7 @@ full rate now = record { parts = rate.burst * LINE; moment = now }
 abbrev pub filled : Rate → Bucket → ℕ → ℕ
 filled rate bucket now = min (bucket.parts + rate.lines * (now - bucket.moment)) (rate.burst * LINE)
 
--- whether a line is let through: where a whole one is there
+-- whether a line is let through: if a whole one is there
 abbrev pub passes : Rate → Bucket → ℕ → Bool
 passes rate bucket now = not (nat_lt (filled rate bucket now) LINE)
 

@@ -1,4 +1,4 @@
--- What a rate is worth: in thousandths of a line, and milliseconds (own).
+-- The laws of a rate, in thousandths of a line and in milliseconds (own).
 use Rattle.std.specs.Prelude.{◌≡◌, ◌≤◌, ◌<◌, ℕ, false, nat_le, ◌+◌, ◌-◌, ◌*◌, List, [], ◌∷◌, ◌++◌, length, All, count_by}
 use Rattle.nmvs_rate.specs.declared.rate.Rate.{Rate}
 use Rattle.nmvs_rate.specs.declared.bucket.Bucket.{Bucket}
@@ -20,7 +20,7 @@ abbrev pub Ascends : ℕ → List ℕ → Type 0
 Ascends from [] = Unit {0}
 Ascends from (m ∷ ms) = (from ≤ m) × Ascends m ms
 
--- a line that is refused would be one more than the rate has since some moment, whoever began with a full bucket and asked
+-- a line that is refused would be one more than the rate has since some moment, if the user began with a full bucket and asked
 -- lines in order
 abbrev pub NeverFewer : Type 0
 NeverFewer =

@@ -25,6 +25,6 @@ pub record Asks {S : Type 0} (rate : Rate) (old : HashMap Name Bucket S) (user :
   pub own : bucket_of new user ≡ Some (after rate (asked_of rate (bucket_of old user) now) now)
   pub others : (other : Name) → same_text user other ≡ false → bucket_of new other ≡ bucket_of old other
 
--- each user has the bucket of before
+-- each user keeps its bucket
 abbrev pub Keeps : {S : Type 0} → HashMap Name Bucket S → HashMap Name Bucket S → Type 0
 Keeps old new = (user : Name) → bucket_of new user ≡ bucket_of old user

@@ -4,15 +4,15 @@ ghost use Rattle.nmvs_rate.specs.Buckets.{after, filled, full, passes};
 
 use crate::Rate;
 
-/// How many parts a line has: in each millisecond a bucket gains a part for each line a second of its rate.
+/// The number of parts of a line. In each millisecond a bucket gains one part for each line a second of its rate.
 const LINE: u64 = 1_000;
 
-/// What is left of the lines that a user may ask. Moments are in milliseconds since some beginning (own).
+/// The lines that a user may still ask. Moments are in milliseconds since some beginning (own).
 #[derive(Clone, Copy)]
 pub struct Bucket {
-    /// The parts of lines that were left when a line was last taken out.
+    /// The parts of lines that were left at `moment`.
     parts: u64,
-    /// When that was.
+    /// The moment when a line was last taken out, or when the bucket began.
     moment: u64,
 }
 
@@ -35,7 +35,7 @@ impl Bucket {
         self.parts.saturating_add(gained).min(rate.burst() * LINE)
     }
 
-    /// Takes a line out at this moment, where a whole one is there. Else it takes nothing.
+    /// Takes a line out at this moment, if a whole one is there. Else it takes nothing.
     pub fn take(&mut self, rate: Rate, now: u64) -> bool
         ensures taken { result ≡ passes rate self.old now }
         ensures left { self.new ≡ after rate self.old now }

@@ -1,4 +1,4 @@
-//! How many lines a second each user may ask: a rate limiter with a bucket for each user.
+//! A rate limiter for the lines that each user may ask in a second, with a bucket for each user.
 #![tactic(auto)]
 
 mod bucket;

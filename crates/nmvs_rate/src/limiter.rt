@@ -9,8 +9,8 @@ use nmvs_identifier::Name;
 use std::alloc::{AllocError, Allocator};
 use std::hash::{BuildHasherDefault, FoldHasher};
 
-/// Limits the lines of each user to one rate. Moments are in milliseconds since some beginning. It is as large as there are
-/// users of whom a line was asked: a bucket stays.
+/// Limits the lines of each user to one rate. Moments are in milliseconds since some beginning. It keeps a bucket for each
+/// user of whom a line was asked.
 #[derive(Drop)]
 pub struct RateLimiter<A: Allocator> {
     rate: Rate,

@@ -1,7 +1,7 @@
 //! Rates.
 ghost use Rattle.std.specs.Prelude.{◌≡◌, ◌<◌, ◌≤◌, ◌^◌, ◌↔◌, IsSome, IfSome};
 
-/// How many lines of each user are let through (own).
+/// The rate at which lines of each user are let through (own).
 #[derive(Clone, Copy)]
 pub struct Rate {
     lines: u32,
@@ -9,7 +9,7 @@ pub struct Rate {
 }
 
 impl Rate {
-    /// So many lines a second, and so many at once. Each is 1 to 4,294,967,295.
+    /// This number of lines a second, and this number at once. Each is 1 to 4,294,967,295.
     pub fn new(lines: u64, burst: u64) -> Option<Rate>
         ensures in_range { IsSome result ↔ ((0 < lines) × (lines < 2 ^ 32) × (0 < burst) × (burst < 2 ^ 32)) }
         ensures kept { IfSome result (λ rate. (rate.lines ≡ lines) × (rate.burst ≡ burst)) }
@@ -23,14 +23,14 @@ impl Rate {
         }
     }
 
-    /// Lines that come in each second.
+    /// The lines that come in each second.
     pub fn lines(self) -> u64
         ensures { result ≡ self.lines }
     {
         u64::from(self.lines)
     }
 
-    /// Lines that there are at most.
+    /// The most lines at once.
     pub fn burst(self) -> u64
         ensures { result ≡ self.burst }
     {

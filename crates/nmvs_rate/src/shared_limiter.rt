@@ -16,8 +16,8 @@ pub struct SharedLimiter<A: Allocator> {
 }
 
 impl<A: Allocator + Copy> SharedLimiter<A> {
-    /// No buckets yet. Moments count from now on, by a clock of the machine that never goes back. If it cannot be read no
-    /// lines come in.
+    /// A limiter without buckets. Moments count from now on, by a clock of the machine that never goes back. If it cannot be
+    /// read, no lines come in.
     pub fn new(rt: &impl Clock, alloc: A, rate: Rate) -> SharedLimiter<A> {
         SharedLimiter {
             limiter: Mutex::new(RateLimiter::new(alloc, rate)),
@@ -26,7 +26,7 @@ impl<A: Allocator + Copy> SharedLimiter<A> {
     }
 }
 
-/// Whether a line of this user is let through now: each is, where there is no limiter. It waits for the lock.
+/// Whether a line of this user is let through now. Each line is, if there is no limiter. It waits for the lock.
 ///
 /// # Errors
 ///
@@ -45,7 +45,7 @@ pub fn admit<R: Wait + Clock, A: Allocator>(
     limiter.admit(user, milliseconds_since(rt, shared.begun))
 }
 
-/// The milliseconds since an instant, or 0 where the clock cannot be read.
+/// The milliseconds since an instant, or 0 if the clock cannot be read.
 fn milliseconds_since(rt: &impl Clock, begun: Option<Instant>) -> u64 {
     match (Instant::now(rt), begun) {
         (Ok(now), Some(begun)) => {

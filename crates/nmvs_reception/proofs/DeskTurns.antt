@@ -1,4 +1,4 @@
--- How the program's desk answers.
+-- The steps of the program's desk.
 use Rattle.std.proofs.Common.{◌≡◌, ◌≢◌, ◌<◌, ◌+◌, ◌⊎◌, ◌∙◌, ◌++◌, ◌∷◌, ℕ, ℤ, Bool, true, List, [], Option, Some, None, IfSome, length, refl, sym, ap, subst, inl, inr, arith, length-append}
 use Rattle.std.specs.Borrow.{Bor}
 use Rattle.std.specs.Global.{Global}
@@ -31,7 +31,7 @@ use Rattle.nmvs_messages.specs.declared.withheld.Basis.{Basis}
 use Rattle.nmvs_journal.specs.Told.{IsWithin}
 use Rattle.nmvs_reception.specs.Desk.{DeskView, Admits, AnswersAdmitted, IsMoment, Knows, LetsGo, LooksUp, Refuses, Replies, RestsOnAll, Says, SeesShard, Serves}
 
--- the clock gave a moment, the clerk was told of the notice, and the directory said this of the user
+-- the clock gave a moment, the clerk learned the notice, and the directory said this of the user
 pub looks_up : (notice : List Change) (old : DeskView) (user : Name) (look : Look) (told new : ClerkView) (times : ℕ) (gave : ℤ) → times ≡ old.asked + 1 → IsMoment gave
     → told ≡ record old.clerk { seen = told.seen } → IsPrefix old.clerk.seen told.seen → IsPrefix notice told.seen
     → Reads told.seen new.seen user look → new ≡ record told { seen = new.seen } → LooksUp notice old user look (record old { clerk = new; asked = times; gave = gave })
@@ -42,17 +42,17 @@ looks_up notice old user look told new times gave once moment learns seen latest
   same = λ i. record old { clerk = looks i; asked = times; gave = gave };
 }
 
--- a line that the rate turns away, or want of memory
+-- a line is turned away by the rate, or for want of memory
 pub over_rate : (notice : List Change) (old : DeskView) (from : Peer) (ask : Ask) (turn : Turn) (actor : Actor) (new : DeskView) → old.rated ≡ true
     → (turn ≡ turns.Rate) ⊎ (turn ≡ turns.Memory) → Knows notice old from ask true actor new → Refuses notice old from ask turn new
 over_rate notice old from ask turn actor new rated (inl is) knows = subst (λ t. Refuses notice old from ask t new) (sym is) (rated, actor, knows)
 over_rate notice old from ask turn actor new rated (inr is) knows = subst (λ t. Refuses notice old from ask t new) (sym is) (rated, actor, knows)
 
--- what the clerk has seen of the trails stays where the user is looked up
+-- the trails that the clerk has seen stay as the user is looked up
 looked : (notice : List Change) (old : DeskView) (user : Name) (look : Look) (new : DeskView) → LooksUp notice old user look new → new.clerk.sights ≡ old.clerk.sights
 looked notice old user look new is = ap (λ (d : DeskView). d.clerk.sights) is.same ∙ ap (λ (d : DeskView). d.clerk.sights) is.is.same
 
--- and where a line is turned away
+-- and as a line is turned away
 refused : (notice : List Change) (old : DeskView) (from : Peer) (ask : Ask) (turn : Turn) (new : DeskView) → Refuses notice old from ask turn new → new.clerk.sights ≡ old.clerk.sights
 refused notice old from ask turns.Clock new is = ap (λ (d : DeskView). d.clerk.sights) is.same
 refused notice old from ask turns.Nobody new (inl is) = looked _ _ _ _ _ is
@@ -65,7 +65,7 @@ refused notice old from ask turns.Role new is = looked _ _ _ _ _ is.1.looks
 refused notice old from ask turns.Journal new is = absurd is
 refused notice old from ask turns.Tag new is = absurd is
 
--- what was seen of each shard begins what is seen
+-- the earlier sight of each shard begins the new one
 abbrev Grows : DeskView → DeskView → Type 0
 Grows old new = (i : ℕ) → IsPrefix (row old.clerk.sights i) (row new.clerk.sights i)
 
@@ -92,7 +92,7 @@ admitted_grows old tag (asked.Question user q) moment actor said basis new (inl 
 admitted_grows old tag (asked.Question user q) moment actor said basis new (inr is) = same_grows old new (ap (λ (d : DeskView). d.clerk.sights) is.1)
 admitted_grows old tag (asked.Report user c) moment actor said basis new is = one_grows old new _ is.0.shown.begins is.0.others
 
--- whatever is asked, what was seen begins what is seen then
+-- whatever the ask is, the earlier sights begin the new ones
 pub grows : (old : DeskView) (from : Peer) (ask : Ask) (said : Content) (basis : Option Basis) (new : DeskView) → Serves old from ask said basis new → Grows old new
 grows old from ask said basis new serves =
     elim serves.1 [
@@ -140,11 +140,11 @@ reaches old from ask said basis new serves =
       | inr is ↦ admitted_within is.2 ask.tag ask.asked is.0 is.1 said basis new is.4
     ]
 
--- what is withheld rests on no more than was seen, where more was seen since
+-- withheld answers rest on no more entries than were seen, even if more were seen since
 pub within_more : (reach : List ℕ) (old new : List (List Entry)) → ((i : ℕ) → IsPrefix (row old i) (row new i)) → IsWithin reach old → IsWithin reach new
 within_more reach old new grown within i = omega (arith, within i, prefix_length (row old i) (row new i) (grown i))
 
--- a release lets the receipts go
+-- a release empties the receipts
 pub lets_go : (was now : ClerkView) (shards : ℕ) (rated : Bool) (times : ℕ) (gave : ℤ) → ((i : ℕ) → IsPrefix (row was.sights i) (row now.sights i))
     → now ≡ record was { sights = now.sights; receipts = [] }
     → LetsGo (record { clerk = was; shards = shards; rated = rated; asked = times; gave = gave }) (record { clerk = now; shards = shards; rated = rated; asked = times; gave = gave })

@@ -1,4 +1,4 @@
--- Who has raised flagged alerts, and how many (own).
+-- The users who have raised flagged alerts, and how many (own).
 use Rattle.std.specs.Prelude.{◌≡◌, ◌+◌, ℕ, List, take, reverse, min, Option, Some, None}
 use Rattle.std.specs.List.Sorted.{IsNonDecreasingBy, IsPermutation}
 use Rattle.std.specs.Map.{lookup}
@@ -7,22 +7,22 @@ use Rattle.nmvs_identifier.specs.Name.{Name}
 use Rattle.nmvs_identifier.specs.Texts.{same_text}
 use Rattle.nmvs_reception.specs.declared.tally.Raised.{Raised}
 
--- how many a user has raised of whom this is known, if anything is
+-- the number of alerts of a user with this row, if there is one
 abbrev pub count_of : Option Raised → ℕ
 count_of None = 0
 count_of (Some raised) = raised.count
 
--- the users after one alert more, each once: one who has raised some keeps its place, and another goes last. A count ends at the
--- most that 64 bits hold
+-- the users after one more alert, each once: a user with earlier alerts keeps its place, and a new one goes last; a count ends
+-- at the most that 64 bits hold
 abbrev pub with_alert : List (Name × Raised) → Name → Name → List (Name × Raised)
 with_alert users user premises =
     insert_entry same_text users user (record { premises = premises; count = min (count_of (lookup (same_text user) users) + 1) 18446744073709551615 })
 
--- how many the user of a row has raised
+-- the number of alerts of a row's user
 abbrev pub row_count : Name × Raised → ℕ
 row_count row = row.1.count
 
--- of these users so many are found: those who have raised most, most first
+-- at most this number of these users: those who have raised most, most first
 pub record FindsMost (most : ℕ) (users found : List (Name × Raised)) : Type 0 where
   pub all : List (Name × Raised)
   pub same : IsPermutation users all

@@ -1,4 +1,4 @@
--- The program's desk: which lines it admits, what it may answer, and what it then has recorded (own).
+-- The program's desk: the lines that it admits, the answers that it may give, and the entries that it then records (own).
 use Rattle.std.specs.Prelude.{◌≡◌, ◌≢◌, ◌+◌, ◌⊎◌, ℕ, ℤ, pos, ◌≤ℤ◌, Bool, true, false, List, [], Option, Some, None, length}
 use Rattle.std.specs.Borrow.{Bor}
 use Rattle.std.specs.Global.{Global}
@@ -36,8 +36,8 @@ use Rattle.nmvs_messages.specs.declared.withheld.Basis.{Basis}
 use Rattle.nmvs_messages.specs.declared.withheld.Withheld.{Withheld}
 use Rattle.nmvs_record.specs.Report.{report_text}
 
--- a desk: its clerk, how many shards its repository has, whether its users have a rate, how often its clock was asked, and what
--- the clock gave last
+-- a desk: its clerk, the number of its repository's shards, and whether its users have a rate; how often its clock was asked,
+-- and the seconds that it gave last
 pub record DeskView : Type 0 where
   pub clerk : ClerkView
   pub shards : ℕ
@@ -49,7 +49,7 @@ pub record DeskView : Type 0 where
 abbrev pub IsMoment : ℤ → Type 0
 IsMoment seconds = pos 0 ≤ℤ seconds × seconds ≤ℤ pos last_moment
 
--- the same desk, whose clerk has seen this of the directory
+-- the same desk, after its clerk has seen these changes of the directory
 abbrev pub with_seen : List Change → DeskView → DeskView
 with_seen seen desk = record desk { clerk = record desk.clerk { seen = seen } }
 
@@ -58,15 +58,14 @@ pub record StopsAtClock (old new : DeskView) : Type 0 where
   pub same : new ≡ record old { asked = old.asked + 1; gave = new.gave }
   pub none : IsMoment new.gave → ⊥
 
--- the clock was asked once, and gives a moment; and by this notice the clerk is told of the latest publication. Nothing else
--- changes
+-- the clock was asked once, and gives a moment; the clerk learns the latest publication from this notice; nothing else changes
 pub record IsTold (notice : List Change) (old new : DeskView) : Type 0 where
   pub same : new ≡ record (with_seen new.clerk.seen old) { asked = old.asked + 1; gave = new.gave }
   pub moment : IsMoment new.gave
   pub seen : IsPrefix old.clerk.seen new.clerk.seen
   pub latest : IsPrefix notice new.clerk.seen
 
--- then the directory says this of the user. Nothing else changes
+-- the directory then says this of the user; nothing else changes
 pub record LooksUp (notice : List Change) (old : DeskView) (user : Name) (look : Look) (new : DeskView) : Type 0 where
   pub told : DeskView
   pub is : IsTold notice old told
@@ -78,7 +77,7 @@ pub record Knows (notice : List Change) (old : DeskView) (from : Peer) (ask : As
   pub looks : LooksUp notice old (user_of ask) (looks.Known actor) new
   pub speaks : speaks_for from (user_of ask) actor.authorisation ≡ may
 
--- whether who has this role may ask this: each may put a question, since a refusal is a reply
+-- whether a user with this role may ask this: each may put a question, since a refusal is a reply
 abbrev pub may_ask_this : Asked → Role → Bool
 may_ask_this (asked.Question user q) r = true
 may_ask_this (asked.Report user c) r = may_report r
@@ -89,7 +88,7 @@ pub record Admits (notice : List Change) (old : DeskView) (from : Peer) (ask : A
   pub at : pos moment ≡ new.gave
   pub may : may_ask_this ask.asked actor.role ≡ true
 
--- why a line is turned away. The first reason counts: the clock gives no moment; the directory does not know the user, or not
+-- the reason to turn a line away, the first that holds: the clock gives no moment; the directory does not know the user, or not
 -- now, or cannot be entered; the peer may not speak for the user; the user's lines are over the rate, or there is no memory to
 -- count them; the role gets no report
 abbrev pub Refuses : List Change → DeskView → Peer → Ask → Turn → DeskView → Type 0
@@ -103,14 +102,14 @@ Refuses notice old from ask turns.Role new = (actor : Actor) × Knows notice old
 Refuses notice old from ask turns.Journal new = ⊥
 Refuses notice old from ask turns.Tag new = ⊥
 
--- what is said of an outcome in the shard of this number, and on what that rests: the reply of the entry that answers the
--- question, with what it shows, on the entries up to that one; or that the tag is another question's
+-- the answer to an outcome in the shard of this number, and its basis: the reply of the entry that answers the question, with
+-- the entries that it shows, on the entries up to that one; or a turn, since the tag is another question's
 abbrev pub Says : ℕ → Outcome (Bor Global) → Content → Option Basis → Type 0
 Says shard (outcomes.New a) said basis = (said ≡ contents.Replied a.reply a.shown.items) × (basis ≡ Some (record { shard = shard; place = a.place }))
 Says shard (outcomes.Again a) said basis = (said ≡ contents.Replied a.reply a.shown.items) × (basis ≡ Some (record { shard = shard; place = a.place }))
 Says shard outcomes.Other said basis = (said ≡ contents.Turned turns.Tag) × (basis ≡ None)
 
--- the clerk asks the question in the shard of this number, once, and the desk says what became of it. Nothing else changes
+-- the clerk asks the question in the shard of this number, once, and the desk gives the outcome; nothing else changes
 pub record Replies (old : DeskView) (shard : ℕ) (put : Put) (said : Content) (basis : Option Basis) (new : DeskView) : Type 0 where
   pub outcome : Outcome (Bor Global)
   pub answers : Answers old.shards shard put old.clerk new.clerk outcome
@@ -121,42 +120,42 @@ pub record Replies (old : DeskView) (shard : ℕ) (put : Put) (said : Content) (
 abbrev pub WantsMemory : Content → Option Basis → Type 0
 WantsMemory said basis = (said ≡ contents.Turned turns.Memory) × (basis ≡ None)
 
--- the clerk has seen more of a shard alone: a lawful trail of it, which begins with all that it had seen. Nothing else changes
+-- the clerk has seen more of one shard alone: a lawful trail of it, which begins with its earlier sight; nothing else changes
 pub record SeesShard (old : DeskView) (shard : ℕ) (new : DeskView) : Type 0 where
   pub shown : IsShown old.shards shard (row old.clerk.sights shard) (row new.clerk.sights shard)
   pub others : (i : ℕ) → i ≢ shard → row new.clerk.sights i ≡ row old.clerk.sights i
   pub same : new ≡ record old { clerk = record old.clerk { sights = new.clerk.sights } }
 
--- what rests on all of a shard's trail
+-- the basis of an answer that rests on all of a shard's trail
 abbrev pub RestsOnAll : ℕ → List Entry → Option Basis → Type 0
 RestsOnAll shard t None = length t ≡ 0
 RestsOnAll shard t (Some basis) = (basis.shard ≡ shard) × (basis.place + 1 ≡ length t)
 
--- the report of the product code on what the clerk has seen of its shard, and that it rests on all of that
+-- the report of the product code on the clerk's sight of its shard, and all of that as its basis
 pub record Reports (new : DeskView) (shard : ℕ) (code : ProductCode) (said : Content) (basis : Option Basis) : Type 0 where
   pub text : List ℕ
   pub is : said ≡ contents.Reported text
   pub reports : text ≡ report_text (row new.clerk.sights shard) code
   pub rests : RestsOnAll shard (row new.clerk.sights shard) basis
 
--- what the desk may answer to an admitted question
+-- the answers that the desk may give to an admitted question
 abbrev pub AnswersQuestion : DeskView → Put → Content → Option Basis → DeskView → Type 0
 AnswersQuestion old put said basis new =
     Replies old (shard_of old.shards (code_of put.question)) put said basis new ⊎ (WantsMemory said basis × (new ≡ old))
 
--- what it may answer to who may have a report
+-- the answers that it may give to a user who may have a report
 abbrev pub AnswersReport : DeskView → ProductCode → Content → Option Basis → DeskView → Type 0
 AnswersReport old code said basis new =
     let shard = shard_of old.shards code in
     SeesShard old shard new × (Reports new shard code said basis ⊎ WantsMemory said basis)
 
--- what it may answer to an admitted line
+-- the answers that it may give to an admitted line
 abbrev pub AnswersAdmitted : DeskView → Option Tag → Asked → ℕ → Actor → Content → Option Basis → DeskView → Type 0
 AnswersAdmitted old tag (asked.Question user q) moment actor said basis new =
     AnswersQuestion old (record { moment = moment; user = user; actor = actor; question = q; tag = tag }) said basis new
 AnswersAdmitted old tag (asked.Report user c) moment actor said basis new = AnswersReport old c said basis new
 
--- what it may answer to a line, and on what that rests, by the notice that it was told: the line is turned away, or admitted and
+-- the answers that it may give to a line, and their bases, after it learned a notice: the line is turned away, or admitted and
 -- answered
 abbrev pub Serves : DeskView → Peer → Ask → Content → Option Basis → DeskView → Type 0
 Serves old from ask said basis new =
@@ -169,12 +168,12 @@ Serves old from ask said basis new =
 abbrev pub Takes : DeskView → Peer → Ask → Withheld → DeskView → Type 0
 Takes old from ask withheld new = Serves old from ask withheld.answer.content withheld.basis new
 
--- a release of answers that waited: the receipts are let go, and the clerk may have seen more of each shard
+-- a release of answers that waited: the receipts go, and the clerk may have seen more of each shard
 pub record LetsGo (old new : DeskView) : Type 0 where
   pub sights : (i : ℕ) → IsPrefix (row old.clerk.sights i) (row new.clerk.sights i)
   pub same : new ≡ record old { clerk = record old.clerk { sights = new.clerk.sights; receipts = [] } }
 
--- a desk whose answers wait for a log: the clerk's desk, and the trail that it knows the log to have confirmed
+-- a desk whose answers wait for a log: the clerk's desk, and the trail that it knows to be confirmed
 pub record WaitingView : Type 0 where
   pub desk : DeskView
   pub confirmed : List Entry
@@ -183,6 +182,6 @@ pub record WaitingView : Type 0 where
 abbrev pub TakesWaiting : WaitingView → Peer → Ask → Withheld → WaitingView → Type 0
 TakesWaiting old from ask withheld new = Takes old.desk from ask withheld new.desk × (new.confirmed ≡ old.confirmed)
 
--- a release lets its clerk's receipts go, and it may know more to be confirmed
+-- a release empties its clerk's receipts, and it may know more to be confirmed
 abbrev pub LearnsMore : WaitingView → WaitingView → Type 0
 LearnsMore old new = LetsGo old.desk new.desk × IsPrefix old.confirmed new.confirmed

@@ -1,4 +1,4 @@
-//! Flagged alerts, as the workers of a server raise them.
+//! The flagged alerts that the workers of a server raise.
 ghost use Rattle.std.specs.Prelude.{IfOk, List};
 ghost use Rattle.nmvs_identifier.specs.Name.{Name as TheName};
 ghost use Rattle.nmvs_reception.specs.Alerts.{FindsMost};
@@ -12,7 +12,7 @@ use nmvs_words::cause_word;
 use std::alloc::{AllocError, Global};
 use std::sync::{Mutex, Wait};
 
-/// Who has raised flagged alerts since the start. All workers share it, and take its lock at a flagged alert alone.
+/// The users who have raised flagged alerts since the start. All workers share it, and take its lock only at a flagged alert.
 #[derive(Drop)]
 pub struct Alerts {
     tally: Mutex<Tally<Global>>,
@@ -20,7 +20,7 @@ pub struct Alerts {
 }
 
 impl Alerts {
-    /// None yet. The event of an alert has its user and premises where these are to be logged.
+    /// No alert yet. The event of an alert has its user and premises if these are to be logged.
     pub fn new(alloc: Global, logs_users: bool) -> Alerts {
         Alerts {
             tally: Mutex::new(Tally::new(alloc)),
@@ -28,8 +28,8 @@ impl Alerts {
         }
     }
 
-    /// Counts and logs an alert that is flagged as a potential falsification (Article 36). It waits for the lock. Where memory
-    /// for its user is refused the alert is not counted; its reply stays.
+    /// Counts and logs an alert that is flagged as a potential falsification (Article 36). It waits for the lock. If memory for
+    /// its user is refused, the alert is not counted, and its reply stays.
     pub(crate) fn note<R: Wait + Log>(&self, rt: &R, put: &Put, cause: Cause, number: u64) {
         let (user, premises) = (&put.user, &put.actor.premises);
         let _uncounted = self.tally.lock(rt).note(user, premises);
@@ -43,7 +43,7 @@ impl Alerts {
         }
     }
 
-    /// The users who have raised most, most first, so many of them at most. It waits for the lock, and lets it go before it
+    /// The users who have raised most, most first, at most this number of them. It waits for the lock, and lets it go before it
     /// sorts.
     ///
     /// # Errors

@@ -1,11 +1,11 @@
-//! What time it is.
+//! Clocks.
 ghost use Rattle.std.specs.Prelude.{◌≡◌, ◌+◌, ℕ, ℤ, ◌∷◌, length, pos, IfSome};
 
 use boxcar::tag::{Names, Tag};
 use nmvs_identifier::Moment;
 use std::time::SystemTime;
 
-/// A clock. It tells contracts how often it was asked, and what it gave last.
+/// A clock. Contracts see how often it was asked, and the seconds that it gave last.
 pub trait Clock {
     ghost asked: { Self → ℕ };
 
@@ -17,7 +17,7 @@ pub trait Clock {
         ensures gave { gave self.new ≡ result };
 }
 
-/// The clock of the program: the system's, or one that stands still.
+/// The clock of the program: the system's, or a clock that stands still.
 #[derive(Drop)]
 pub struct ProgramClock<'a, R: std::rt::Clock> {
     rt: &'a R,
@@ -27,7 +27,7 @@ pub struct ProgramClock<'a, R: std::rt::Clock> {
 }
 
 impl<'a, R: std::rt::Clock> ProgramClock<'a, R> {
-    /// The system's clock, or one that stands still at the moment.
+    /// The system's clock, or a clock that stands still at this moment.
     pub fn new(rt: &'a R, still: Option<Moment>) -> ProgramClock<'a, R>
         ensures still { result.still ≡ still }
         ensures asked { length result.asked.numbers ≡ 0 }
@@ -41,7 +41,7 @@ impl<'a, R: std::rt::Clock> ProgramClock<'a, R> {
         }
     }
 
-    /// The seconds of the system's clock, or -1 where it cannot be read or stands before 1970.
+    /// The seconds of the system's clock, or -1 if it cannot be read or stands before 1970.
     fn system_seconds(&self) -> i64 {
         let Ok(now) = SystemTime::now(self.rt) else {
             return -1;
@@ -53,7 +53,7 @@ impl<'a, R: std::rt::Clock> ProgramClock<'a, R> {
     }
 }
 
-/// One number more for each time that a clock was asked.
+/// Adds one number for each call of a clock.
 pub(crate) struct OneMore;
 
 impl Names<Tag> for OneMore {

@@ -26,8 +26,8 @@ use std::marker::Model;
 use std::rt;
 use std::sync::{Mutex, Wait};
 
-/// Answers lines by a clerk of a repository, at the moments of a clock, which it asks once a line. A line is admitted first.
-/// Before that the clerk learns the latest notice (own).
+/// Answers lines by a clerk of a repository, at the moments of a clock, which it asks once a line. Before it admits a line, the
+/// clerk learns the latest notice (own).
 #[derive(Drop)]
 pub struct ClerkDesk<'r, 'a, R: Wait, J: Naming, H: Histories, K: Clock> {
     rt: &'r R,
@@ -65,9 +65,9 @@ impl<'r, 'a, R: Wait + rt::Clock + Log, J: Naming, H: Histories, K: Clock> Clerk
     ghost use Rattle.nmvs_reception.specs.Desk.{Admits, AnswersAdmitted, AnswersQuestion, AnswersReport, Refuses, RestsOnAll, SeesShard, Serves};
 
     /// A desk over a clerk of this repository, the lock of the latest notice, and the limiter of the users' rate, if they have
-    /// one. Its answers are counted in the metrics, and its flagged alerts noted.
+    /// one. The metrics count its answers, and its flagged alerts are noted.
     ///
-    /// Condition: the clerk is one that `open` gave with the repository, which the names of their histories say.
+    /// Condition: `open` gave the clerk with the repository, which the names of their histories say.
     pub fn new(
         rt: &'r R,
         clerk: Clerk<'a, J, H>,
@@ -101,7 +101,7 @@ impl<'r, 'a, R: Wait + rt::Clock + Log, J: Naming, H: Histories, K: Clock> Clerk
         self.clerk
     }
 
-    /// The answer to a line of this peer, and on what it rests. It waits for the notice's lock, and lets it go.
+    /// The answer to a line of this peer, and its basis. It waits for the notice's lock, and lets it go.
     pub(crate) fn answer(&mut self, from: &Peer, ask: &Ask) -> (Content<'a>, Option<Basis>)
         ensures { Serves self.old from.now ask.now result.0 result.1 self.new }
     {
@@ -113,10 +113,10 @@ impl<'r, 'a, R: Wait + rt::Clock + Log, J: Naming, H: Histories, K: Clock> Clerk
         }
     }
 
-    /// Admits a line, or tells why it is turned away. It looks at these, in this order: whether the clock gives a moment; whether
-    /// the directory knows the user, looked up once, after the clerk has learnt the latest notice; whether the peer may speak for
-    /// the user; whether the line is within the user's rate, for which it waits for the limiter's lock; and whether the user's
-    /// role gets the report that it asks for.
+    /// Admits a line, or gives the reason to turn it away. The reasons come in this order. The clock gives no moment. The
+    /// directory does not know the user, who is looked up once, after the clerk has learnt the latest notice. The peer may not
+    /// speak for the user. The line is over the user's rate, or there is no memory to count it; this waits for the limiter's
+    /// lock. The user's role gets no report.
     fn admit(&mut self, notice: &Notice<J>, from: &Peer, ask: &Ask) -> Result<(Moment, Actor), Turn>
         ensures admits { IfOk result (λ r. Admits notice.now self.old from.now ask.now r.0 r.1 self.new) }
         ensures refuses { IfErr result (λ turn. Refuses notice.now self.old from.now ask.now turn self.new) }
@@ -144,7 +144,7 @@ impl<'r, 'a, R: Wait + rt::Clock + Log, J: Naming, H: Histories, K: Clock> Clerk
         Ok((moment, actor))
     }
 
-    /// The answer to a line that was admitted, and on what it rests.
+    /// The answer to an admitted line, and its basis.
     fn answer_admitted(
         &mut self,
         moment: Moment,
@@ -165,7 +165,7 @@ impl<'r, 'a, R: Wait + rt::Clock + Log, J: Naming, H: Histories, K: Clock> Clerk
         }
     }
 
-    /// Asks a question by the clerk, and counts it where it was put.
+    /// Asks a question by the clerk, and counts it if it was put.
     fn ask(&mut self, put: &Put) -> (Content<'a>, Option<Basis>)
         ensures { AnswersQuestion self.old put.now result.0 result.1 self.new }
     {
@@ -193,7 +193,7 @@ impl<'r, 'a, R: Wait + rt::Clock + Log, J: Naming, H: Histories, K: Clock> Clerk
         }
     }
 
-    /// The report of a product code, by its shard, on all of whose trail it rests.
+    /// The report of a product code, by its shard. It rests on all of the shard's trail.
     fn report_on(&mut self, code: &ProductCode) -> Result<(String, Option<Basis>), AllocError>
         ensures sees { SeesShard self.old (shard_of self.old.shards code.now) self.new }
         ensures reports { IfOk result (λ r. string_bytes r.0 ≡ report_text (row self.new.clerk.sights (shard_of self.old.shards code.now)) code.now) }
@@ -221,7 +221,7 @@ impl<'r, 'a, R: Wait + rt::Clock + Log, J: Naming, H: Histories, K: Clock> Clerk
     ghost use Rattle.nmvs_journal.specs.Told.{IsTold, IsWithin};
     ghost use Rattle.nmvs_reception.specs.Desk.{LetsGo};
 
-    /// Releases answers by the log of the repository, once it has confirmed what they rest on.
+    /// Releases answers by the log of the repository, once it has confirmed the entries on which they rest.
     pub(crate) fn release_by<'h, D: Store + Drop, L: LogName>(
         &mut self,
         log: &CommitLog<'_, 'a, D, H, L>,
@@ -241,8 +241,8 @@ impl<'r, 'a, R: Wait + rt::Clock + Log, J: Naming, H: Histories, K: Clock> Clerk
     }
 }
 
-/// Why the rate turns a line of this user away, or None where it does not: each line passes where there is no limiter. It waits
-/// for the limiter's lock.
+/// The rate's turn for a line of this user, or `None` if there is none. Each line passes if there is no limiter. It waits for
+/// the limiter's lock.
 fn turn_by_rate<R: Wait + rt::Clock>(
     rt: &R,
     limiter: Option<&SharedLimiter<Global>>,
@@ -257,7 +257,7 @@ fn turn_by_rate<R: Wait + rt::Clock>(
     }
 }
 
-/// Whether who has this role may ask this: each may put a question, since a refusal is a reply.
+/// Whether a user with this role may ask this. Each may put a question, since a refusal is a reply.
 fn may_ask_this(asked: &Asked, role: Role) -> bool
     ensures { result ≡ may_ask_this asked.now role }
 {
@@ -267,7 +267,7 @@ fn may_ask_this(asked: &Asked, role: Role) -> bool
     }
 }
 
-/// What is said of an outcome in the shard of this number, and on what that rests.
+/// The answer to an outcome in the shard of this number, and its basis.
 fn answer_by<'a>(shard: usize, outcome: Outcome<&'a Global>) -> (Content<'a>, Option<Basis>)
     ensures { Says shard outcome.entry result.0 result.1 }
 {
@@ -308,7 +308,7 @@ fn note_put<R: Wait + Log>(
     }
 }
 
-/// Counts what is confirmed of each shard that was waited for.
+/// Counts the confirmed entries of each shard that was waited for.
 fn note_confirmed(metrics: &WorkerMetrics<'_>, counts: &[usize]) {
     for (shard, count) in counts.iter().enumerate() {
         if *count > 0 {
@@ -317,7 +317,7 @@ fn note_confirmed(metrics: &WorkerMetrics<'_>, counts: &[usize]) {
     }
 }
 
-/// What rests on all of a trail of so many entries.
+/// The basis of an answer that rests on a whole trail with this number of entries.
 fn basis_of(shard: usize, count: usize) -> Option<Basis>
     ensures { (t : List TheEntry) → length t ≡ count → RestsOnAll shard t result }
 {

@@ -1,4 +1,4 @@
-//! The program's desk where answers wait for the log.
+//! The program's desk with a log that answers wait for.
 ghost use Rattle.std.specs.Prelude.{◌≡◌};
 
 use crate::{ClerkDesk, Clock};
@@ -12,8 +12,8 @@ use std::marker::Model;
 use std::rt;
 use std::sync::Wait;
 
-/// Answers lines as a clerk's desk does, and lets an answer go only once the log of the repository has confirmed the entries
-/// on which it rests. The clerk's receipts are let go then (own).
+/// Answers lines as a clerk's desk does. It releases an answer once the log of the repository has confirmed the entries on
+/// which it rests. Then the clerk's receipts go (own).
 ///
 /// Contracts see the clerk's desk, and the trail that this desk knows to be confirmed.
 #[derive(Drop)]
@@ -59,7 +59,7 @@ impl<
     D: Store + Drop,
     L: LogName,
 > JournalDesk<'r, 'v, 'f, 'a, R, J, H, K, D, L> {
-    /// A desk over a clerk's, the log of its repository, and what that has confirmed.
+    /// A desk over a clerk's desk, the log of its repository, and the confirmed trail.
     pub fn new(
         desk: ClerkDesk<'r, 'a, R, J, H, K>,
         log: &'v CommitLog<'f, 'a, D, H, L>,

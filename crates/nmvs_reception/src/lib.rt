@@ -1,8 +1,8 @@
-//! Where lines are answered.
+//! The desks of the server.
 //!
-//! [`ClerkDesk`] answers lines by a clerk of a repository, at the moments of a [`Clock`]; over a [`JournalDesk`] each answer
-//! waits until the log has confirmed what it rests on. [`Alerts`] knows who raised flagged alerts. [`Opening`] is what a
-//! repository and its clerks are opened with.
+//! [`ClerkDesk`] answers lines by a clerk of a repository, at the moments of a [`Clock`]. With a [`JournalDesk`] each answer
+//! waits until the log has confirmed the entries on which it rests. [`Alerts`] counts the flagged alerts of each user.
+//! [`Opening`] has the values with which a repository and its clerks are opened.
 #![tactic(auto)]
 
 mod alerts;

@@ -1,4 +1,4 @@
-//! A repository as it is opened.
+//! The opening of a server's repository.
 ghost use Rattle.std.specs.Prelude.{◌≡◌, ◌≤◌, ℕ, length, map, vec_len, All, IfOk};
 ghost use Rattle.nmvs_desk.specs.Opening.{table_of, IsNew};
 ghost use Rattle.nmvs_desk.specs.Placing.{IsPartOf};
@@ -10,14 +10,14 @@ use nmvs_history::Histories;
 use nmvs_shard::Shard;
 use std::alloc::{AllocError, Global};
 
-/// What a repository is opened with.
+/// The values with which a repository is opened.
 #[derive(Drop)]
 pub struct Opening<'a, J: Naming> {
-    /// One for each clerk.
+    /// A window for each clerk.
     pub windows: Vec<Window<J, &'a Global>, &'a Global>,
-    /// One for each shard, as it was found.
+    /// Each shard, as it was found.
     pub shards: Vec<Shard<&'a Global>, &'a Global>,
-    /// One for each shard.
+    /// A keeper for each shard.
     pub keepers: Keepers<'a>,
 }
 

@@ -1,4 +1,4 @@
-//! How many flagged alerts each user has raised.
+//! The number of flagged alerts of each user.
 ghost use Rattle.std.specs.Prelude.{◌≡◌, OnOk};
 ghost use Rattle.nmvs_reception.specs.Alerts.{FindsMost};
 
@@ -8,16 +8,16 @@ use std::alloc::{AllocError, Allocator, Global};
 use std::hash::{BuildHasherDefault, FoldHasher};
 use std::marker::Model;
 
-/// What is known of a user who has raised flagged alerts.
+/// The premises and the number of flagged alerts of a user.
 #[derive(Clone, Copy, Debug, PartialEq, Eq)]
 pub struct Raised {
-    /// The premises of the user when it raised the last of them.
+    /// The premises of the user at the last of them.
     pub premises: Name,
-    /// How many there are.
+    /// The number of alerts.
     pub count: u64,
 }
 
-/// The users who have raised flagged alerts, in the order of their first. It is as large as there are such users.
+/// The users who have raised flagged alerts, in the order of their first. It takes memory for each such user.
 #[derive(Drop)]
 pub struct Tally<A: Allocator> {
     users: IndexMap<Name, Raised, BuildHasherDefault<FoldHasher>, A>,
@@ -36,7 +36,7 @@ impl<A: Allocator> Model for Tally<A> {
 impl<A: Allocator + Copy> Tally<A> {
     ghost use Rattle.std.specs.Prelude.{[]};
 
-    /// Nobody has raised any yet.
+    /// A tally without a user.
     pub fn new(alloc: A) -> Tally<A>
         ensures { result ≡ [] }
     {
@@ -92,7 +92,7 @@ impl<A: Allocator> Tally<A> {
     }
 }
 
-/// Keeps so many users of a list: those who have raised most, most first.
+/// Keeps at most this number of users of a list: those who have raised most, most first.
 ///
 /// # Errors
 ///

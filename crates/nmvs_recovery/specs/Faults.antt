@@ -1,4 +1,4 @@
--- Why a file is not read or not written, and the texts that are then told (own).
+-- The faults of files that are read or written, and their texts (own).
 use Rattle.std.specs.Prelude.{ℕ, List, ◌++◌, codes}
 use Rattle.std.specs.Fmt.{decimal}
 use Rattle.nmvs_recovery.specs.declared.fault.FileFault.{FileFault}
@@ -25,7 +25,7 @@ file_fault_text (faults.NoDigest path) = path.now ++ codes ".sha256 is no digest
 file_fault_text (faults.CannotReadDigest path) = codes "cannot read " ++ path.now ++ codes ".sha256"
 file_fault_text faults.Memory = codes "out of memory"
 
--- the status that a fault makes
+-- the exit status of a fault
 abbrev pub file_fault_status : FileFault → ℕ
 file_fault_status (faults.ImportLine number) = 3
 file_fault_status (faults.ImportUnlawful number) = 3
@@ -36,7 +36,7 @@ file_fault_status (faults.NoDigest path) = 3
 file_fault_status (faults.CannotWrite path) = 4
 file_fault_status _ = 1
 
--- what is told of the import of this path, in which this was found
+-- the text of the fault of the import of this path, by this finding
 abbrev pub import_text : List ℕ → Finding → List ℕ
 import_text path findings.Read = codes "cannot read " ++ path
 import_text path (findings.Unended number) = codes "import line " ++ decimal number
@@ -45,7 +45,7 @@ import_text path (findings.Line number (objections.Unlawful stored rules)) = cod
 import_text path (findings.Line number objections.Repeated) = codes "import line " ++ decimal number ++ codes " was asked before with its tag"
 import_text path (findings.Line number objection) = codes "import line " ++ decimal number
 
--- what is told where it is not known which digest the import of this path has to have
+-- the text of the fault of the import of this path whose digest is not known
 abbrev pub digest_text : List ℕ → DigestFault → List ℕ
 digest_text path digests.Memory = codes "out of memory"
 digest_text path digests.Unread = codes "cannot read " ++ path ++ codes ".sha256"

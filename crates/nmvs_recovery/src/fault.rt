@@ -1,4 +1,4 @@
-//! Why a file is not read, or not written.
+//! Faults of files that are read or written.
 ghost use Rattle.std.specs.Prelude.{◌≡◌, Some};
 ghost use Rattle.nmvs_recovery.specs.Faults.{digest_text, file_fault_status, file_fault_text, import_text};
 
@@ -8,7 +8,7 @@ use nmvs_operator::users_trouble;
 use nmvs_record::{Finding, Objection};
 use std::fmt;
 
-/// Why a file that a run begins with is not taken, or the export is not written (own).
+/// The reason for which a file at the start is not taken, or the export is not written (own).
 #[derive(Clone, Copy)]
 pub enum FileFault<'a> {
     /// The file of this path can't be opened or read.
@@ -25,15 +25,15 @@ pub enum FileFault<'a> {
     ImportUnlawful(usize),
     /// The question in this line of the import was asked before with its tag, and put all the same.
     ImportRepeated(usize),
-    /// The log in the folder of this path is not gone on from.
+    /// The log in the folder of this path is refused.
     JournalRefused(&'a str),
-    /// The digest of the import of this path is not the one that stands beside it.
+    /// The digest of the import of this path is not the one in the file next to it.
     ImportDigest(&'a str),
-    /// What stands beside the import of this path is no digest of it.
+    /// The file next to the import of this path has no digest of it.
     NoDigest(&'a str),
-    /// The digest beside the import of this path can't be read.
+    /// The digest next to the import of this path cannot be read.
     CannotReadDigest(&'a str),
-    /// Memory was wanting.
+    /// There was no memory.
     Memory,
 }
 
@@ -68,8 +68,8 @@ impl<'a> fmt::Display for FileFault<'a> {
 }
 
 impl<'a> FileFault<'a> {
-    /// The status that the program ends with: 3 where a line of the import, its digest or a journal is refused, 4 where the
-    /// export is not written, and else 1.
+    /// The exit status of the program. It is 3 if a line of the import, its digest or a journal is refused, and 4 if the export
+    /// is not written. Else it is 1.
     pub fn status(&self) -> u8
         ensures { result ≡ file_fault_status self.now }
     {
@@ -83,8 +83,8 @@ impl<'a> FileFault<'a> {
         }
     }
 
-    /// Why the import of this path, in which this was found, is not taken. (In this toolchain a fault that holds the finding,
-    /// and so a reply, gets no generated proof.)
+    /// The fault of the import of this path, by this finding in it. (In this toolchain a fault that holds the finding, and so a
+    /// reply, gets no generated proof.)
     pub(crate) fn of_import(path: &'a str, finding: Finding) -> FileFault<'a>
         ensures { file_fault_text result ≡ import_text path.now finding }
     {
@@ -98,7 +98,7 @@ impl<'a> FileFault<'a> {
         }
     }
 
-    /// Why it is not known which digest the import of this path has to have.
+    /// The fault of the import of this path whose digest is not known.
     pub(crate) fn of_digest(path: &'a str, fault: DigestFault) -> FileFault<'a>
         ensures { file_fault_text result ≡ digest_text path.now fault }
     {

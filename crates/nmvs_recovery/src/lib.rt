@@ -1,12 +1,12 @@
-//! The files of a server: what a start reads, and what a server writes.
+//! The files of a server: those that a start reads, and those that a server writes.
 //!
-//! - [`prepare`] reads what a run begins with: the users, and the shards of an import or of the log ([`Ready`]).
-//! - [`kept_text`] and [`kept_file`] are what the users file ([`UsersLog`]) keeps of a command and of another users file, and
-//!   [`whole_lines`] what of it a start reads.
+//! - [`prepare`] reads the files of a start: the users, and the shards of an import or of the log ([`Ready`]).
+//! - [`kept_text`] and [`kept_file`] are the texts of a command and of another users file that the users file ([`UsersLog`])
+//!   keeps. [`whole_lines`] is the part of it that a start reads.
 //! - [`mark`] notes how far the log is confirmed.
 //! - [`export`] and [`write_export`] write the audit trail of a repository to a file, and [`export_summed`] to any sink.
 //!
-//! It serves nobody, so it names neither connections nor the desks behind them.
+//! It serves nobody, so it names neither connections nor desks.
 #![tactic(auto)]
 
 mod export_files;

@@ -1,4 +1,4 @@
-//! How far a long work has come, told to the operator.
+//! The progress of a long work, for the operator.
 use log::{Level, Log, info, log_enabled};
 use memchr::memchr_iter;
 use nmvs_log::LogFormat;
@@ -8,27 +8,27 @@ use std::rt::Clock;
 use std::sync::atomic::{AtomicU64, Ordering};
 use std::time::Instant;
 
-/// For how many milliseconds nothing is told, at the begin and between two times (own).
+/// The milliseconds without a report, at the beginning and between two reports (own).
 const PAUSE: u64 = 2_000;
 
-/// What the whole of a work is.
+/// The size of the whole work.
 #[derive(Clone, Copy)]
 pub(crate) enum Whole {
     Bytes(u64),
     Lines(u64),
 }
 
-/// Where it is told.
+/// The place of the reports.
 #[derive(Clone, Copy, PartialEq, Eq)]
 pub(crate) enum Place {
-    /// In the log, a line each time.
+    /// The log, with a line for each report.
     Log,
-    /// On a terminal, where one line is written again and again.
+    /// A terminal, where one line is written again and again.
     Terminal,
 }
 
 impl Place {
-    /// On standard error, where that is a terminal and the log is a text.
+    /// The terminal of standard error, if there is one and the log is a text. Else the log.
     pub(crate) fn of_log(format: LogFormat) -> Place {
         if format == LogFormat::Text && libc::isatty(libc::STDERR_FILENO) == 1 {
             Place::Terminal
@@ -38,7 +38,7 @@ impl Place {
     }
 }
 
-/// How far a work has come, by one thread or several.
+/// The progress of a work, by one thread or several.
 #[derive(Drop)]
 pub(crate) struct Progress<'p, R> {
     rt: &'p R,
@@ -46,11 +46,11 @@ pub(crate) struct Progress<'p, R> {
     work: &'static str,
     whole: Whole,
     place: Place,
-    /// When it began, where a clock told.
+    /// The time at which it began, if the clock gave one.
     begun: Option<Instant>,
     bytes: AtomicU64,
     lines: AtomicU64,
-    /// Behind how many milliseconds it is told next.
+    /// The milliseconds after which it reports next.
     due: AtomicU64,
 }
 
@@ -74,7 +74,7 @@ impl<'p, R: Log + Clock + Eprint> Progress<'p, R> {
         }
     }
 
-    /// Notes these bytes as done, and tells how far the work is where it is time to.
+    /// Notes these bytes as done, and reports the progress if it is time.
     fn note(&self, bytes: &[u8]) {
         self.bytes.fetch_add(bytes.len() as u64, Ordering::SeqCst);
         let lines = memchr_iter(b'\n', bytes).count() as u64;
@@ -84,7 +84,7 @@ impl<'p, R: Log + Clock + Eprint> Progress<'p, R> {
             return;
         }
         let next = passed.saturating_add(PAUSE);
-        // Of several threads one tells it.
+        // One of several threads reports it.
         let is_first = self
             .due
             .compare_exchange(due, next, Ordering::SeqCst, Ordering::SeqCst)
@@ -94,7 +94,7 @@ impl<'p, R: Log + Clock + Eprint> Progress<'p, R> {
         }
     }
 
-    /// How many milliseconds have passed.
+    /// The milliseconds since the work began.
     fn passed(&self) -> u64 {
         match (self.begun, Instant::now(self.rt)) {
             (Some(begun), Ok(now)) => {
@@ -127,7 +127,7 @@ impl<'p, R: Log + Clock + Eprint> Progress<'p, R> {
         }
     }
 
-    /// Ends the work: it is told how much was done, and in what time.
+    /// Ends the work: it logs the number of lines that were done, and the milliseconds.
     pub(crate) fn end(&self) {
         let (passed, work) = (self.passed(), self.work);
         let lines = self.lines.load(Ordering::SeqCst);
@@ -138,12 +138,12 @@ impl<'p, R: Log + Clock + Eprint> Progress<'p, R> {
     }
 }
 
-/// So many parts of a whole, of which these are done.
+/// The done share of a whole, in this number of parts.
 fn share(done: u64, parts: u64, whole: u64) -> u64 {
     done.saturating_mul(parts).checked_div(whole).unwrap_or(0)
 }
 
-/// A file that is read or written from its begin to its end. How far that is, is told, and why it failed.
+/// A file that is read or written from its beginning to its end. It reports its progress, and logs the reason of a failure.
 #[derive(Drop)]
 pub(crate) struct Watched<'w, 'p, R, F> {
     file: F,

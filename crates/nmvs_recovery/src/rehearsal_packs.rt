@@ -1,4 +1,4 @@
-//! What a rehearsal over connections begins with: users, and a pack for each status.
+//! The users of a rehearsal over connections, and a pack for each status.
 
 /// The users of the rehearsal, as a users file has them (own).
 pub(crate) const USERS: &str = "ENROL mah1 HOLDER MAH-1 HQ\n\
@@ -10,7 +10,7 @@ pub(crate) const USERS: &str = "ENROL mah1 HOLDER MAH-1 HQ\n\
     ENROL mf1 MANUFACTURER MF-1 F1\n\
     ENROL au1 AUTHORITY AU-1 A1\n";
 
-/// The entry lines of the packs, oldest first; docs/TERMINALS.md lists them (own). They are judged as those of any import.
+/// The entry lines of the packs, oldest first; docs/TERMINALS.md lists them (own). They are judged as lines of any import.
 pub(crate) const PACKS: &str =
     r#"[2,1762041600,"mah1","HOLDER","MAH-1","HQ",["UPLOAD","09506000134352","ACTIVE","B1","280200"],["UPLOADED"]]
 [2,1762041600,"mah1","HOLDER","MAH-1","HQ",["UPLOAD","09506000134352","EXPIRED","B2","251231"],["UPLOADED"]]

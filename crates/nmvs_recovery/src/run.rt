@@ -1,4 +1,4 @@
-//! What a run uses of the machine, and what it goes by.
+//! The machine and the options of a run.
 use log::Log;
 use nmvs_operator::Options;
 use nmvs_shard::HashKey;
@@ -10,18 +10,18 @@ use std::rt::{Clock, Files};
 use std::sync::Wait;
 use std::thread::Threads;
 
-/// What a run uses of the machine. What happens is told to the operator by its log.
+/// The calls of the machine that a run uses. Its log informs the operator.
 pub trait Host: Files<File = File> + Clock + Threads + Wait + Net + RandomSource + Eprint + Log {}
 
 impl<R: Files<File = File> + Clock + Threads + Wait + Net + RandomSource + Eprint + Log> Host
     for R {}
 
-/// What a run goes by.
+/// The runtime, the memory and the options of a run.
 #[derive(Drop)]
 pub struct Run<'r, 'o, H> {
     pub rt: &'r H,
     pub alloc: &'r Global,
     pub options: &'o Options,
-    /// What the tables of the shards hash with, drawn for this run.
+    /// The key of the hashes in the shards' tables, drawn for this run.
     pub key: HashKey,
 }

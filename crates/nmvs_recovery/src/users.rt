@@ -15,10 +15,10 @@ use std::fs::File;
 use std::rt::Files;
 use std::sync::Wait;
 
-/// How many users are logged by name whom a kept command has stand otherwise than the users file (own).
+/// The most users that are logged by name, if a kept command changed them after the users file (own).
 const MOST_DIFFERING: usize = 10;
 
-/// Publishes the users of the users file, or those of the rehearsal where the options name none.
+/// Publishes the users of the users file, or those of the rehearsal if the options name none.
 pub(crate) fn publish_users<'r, 'o, J: Naming, H: Host>(
     run: &Run<'r, 'o, H>,
     registrar: &mut Registrar<J, &'r H, &'r Global>,
@@ -47,7 +47,7 @@ pub(crate) fn publish_users<'r, 'o, J: Naming, H: Host>(
 ///
 /// # Errors
 ///
-/// The options name none; it cannot be read to its end; or there is no memory for it.
+/// The options name none, it cannot be read to its end, or there is no memory for it.
 pub fn read_users<H: Files<File = File> + Log>(
     run: &Run<'_, '_, H>,
     alloc: Global,
@@ -96,7 +96,7 @@ fn tell_no_users<R: Log>(rt: &R, path: &str) {
     warn!(rt; "the users file {path} names no user");
 }
 
-/// Logs how many users are enrolled, and how many suspended.
+/// Logs the number of users that are enrolled, and of those that are suspended.
 pub(crate) fn tell_users<'r, J: Naming, H: Host>(
     run: &Run<'r, '_, H>,
     registrar: &Registrar<J, &'r H, &'r Global>,
@@ -112,12 +112,12 @@ pub(crate) fn tell_users<'r, J: Naming, H: Host>(
     tell_counts(run.rt, enrolled, suspended);
 }
 
-/// Logs how many users there are.
+/// Logs these numbers of users.
 fn tell_counts<R: Log>(rt: &R, enrolled: usize, suspended: usize) {
     info!(rt; enrolled, suspended; "users");
 }
 
-/// How the users that are published stand, in the order in which they were first named.
+/// The states of the published users, in the order in which they were first named.
 fn standings<'r, J: Naming, H: Host>(
     run: &Run<'r, '_, H>,
     registrar: &Registrar<J, &'r H, &'r Global>,
@@ -131,8 +131,7 @@ fn standings<'r, J: Naming, H: Host>(
     Ok(standings)
 }
 
-/// Logs which users do not stand as the users file says, since a kept command names them: some by name, and if there are
-/// more, how many they are in all.
+/// Logs the users whose state a kept command changed after the users file: some by name, and if there are more, their number.
 fn tell_differing<'r, J: Naming, H: Host>(
     run: &Run<'r, '_, H>,
     registrar: &Registrar<J, &'r H, &'r Global>,
@@ -167,7 +166,7 @@ fn publish_rehearsal<'r, 'o, J: Naming, H: Files + Wait>(
     }
 }
 
-/// Publishes the users that the folder of the log keeps. Those that then do not stand as before are logged.
+/// Publishes the users that the folder of the log keeps, and logs those whose state that changes.
 pub(crate) fn publish_kept<'r, 'o, J: Naming, H: Host>(
     run: &Run<'r, 'o, H>,
     registrar: &mut Registrar<J, &'r H, &'r Global>,

@@ -22,8 +22,8 @@ use Rattle.nmvs_messages.specs.declared.answer.Turn.TheVariants as turns
 use Rattle.nmvs_messages.specs.declared.withheld.Withheld.{Withheld}
 use Rattle.nmvs_rehearsal.specs.Roster.{post_of, IsRostered}
 
--- how far a rehearsal is: its trail, and the moments of the lines that reach the desk from now on; the last moment
--- serves all later lines too
+-- the state of a rehearsal: its trail, and the moments of the lines that reach the desk from now on; the last moment serves all
+-- later lines too
 pub record Rehearsal : Type 0 where
   pub trail : List Entry
   pub moments : List ℕ
@@ -45,7 +45,7 @@ pub record TakesMoment (old : Rehearsal) (moment : ℕ) (new : Rehearsal) : Type
   pub moments : new.moments ≡ later old.moments
   pub trail : new.trail ≡ old.trail
 
--- a question of a user in some capacity, put at a moment, with the tag that its line has
+-- a question of a user in some capacity, put at a moment, with the tag of its line
 abbrev pub put_at : ℕ → Name → Actor → Option Tag → Question → Put
 put_at moment user actor tag question = record { moment = moment; user = user; actor = actor; question = question; tag = tag }
 
@@ -56,21 +56,21 @@ pub record Steps (old : List Entry) (put : Put) (said : Reply) (shown new : List
   pub shows : shown ≡ shown_of old put
   pub grows : new ≡ old ++ answered put said ∷ []
 
--- a question was asked before, and is answered again by the entry that it repeats, and shows nothing
+-- a question was asked before; it is answered again by the entry that it repeats, and shows nothing
 pub record Repeats (old : List Entry) (put : Put) (said : Reply) (shown new : List Entry) : Type 0 where
   pub place : ℕ
   pub repeats : repeat_of old put ≡ repeat.Same place said
   pub shows : shown ≡ []
   pub same : new ≡ old
 
--- the question is answered so, in the capacity that the roster gives its user
+-- the question has this answer, in the capacity that the roster gives its user
 pub record Replies (moment : ℕ) (old new : Rehearsal) (user : Name) (tag : Option Tag) (question : Question) (said : Reply) (shown : List Entry) : Type 0 where
   pub actor : Actor
   pub rostered : IsRostered user actor
   pub answers : Steps old.trail (put_at moment user actor tag question) said shown new.trail ⊎ Repeats old.trail (put_at moment user actor tag question) said shown new.trail
   pub moments : new.moments ≡ old.moments
 
--- the tag is that of something else which the user asked about the pack
+-- the user asked something else about the pack with this tag
 pub record AsksOther (moment : ℕ) (old : Rehearsal) (user : Name) (tag : Option Tag) (question : Question) : Type 0 where
   pub actor : Actor
   pub rostered : IsRostered user actor
@@ -81,13 +81,12 @@ pub record Stays (old new : Rehearsal) : Type 0 where
   pub trail : new.trail ≡ old.trail
   pub moments : new.moments ≡ old.moments
 
--- the roster gives the user a role that gets reports or does not
+-- whether the roster gives the user a role that gets reports
 abbrev pub GetsReports : Name → Bool → Type 0
 GetsReports user answer = (actor : Actor) × IsRostered user actor × (may_report actor.role ≡ answer)
 
--- what the desk of the rehearsal may answer to a question at this moment: the rules' reply, or that of the entry that it repeats;
--- or that nobody has the user's name, that memory was wanting, or that its tag is that of something else, and then there is no
--- entry
+-- the answers that the desk of the rehearsal may give to a question at this moment: the rules' reply, or that of the entry that
+-- it repeats; or a turn without an entry: nobody has the user's name, there was no memory, or its tag is that of something else
 abbrev pub JudgesQuestion : ℕ → Rehearsal → Name → Option Tag → Question → Content → Rehearsal → Type 0
 JudgesQuestion moment old user g q (contents.Replied r shown) new = Replies moment old new user g q r shown
 JudgesQuestion moment old user g q (contents.Turned turns.Nobody) new = (post_of user.bytes ≡ None) × Stays old new
@@ -95,8 +94,8 @@ JudgesQuestion moment old user g q (contents.Turned turns.Memory) new = IsSome (
 JudgesQuestion moment old user g q (contents.Turned turns.Tag) new = AsksOther moment old user g q × Stays old new
 JudgesQuestion _ _ _ _ _ _ _ = ⊥
 
--- what it may answer to who asks for a report: that of the trail; or that nobody has the user's name, that the role gets no
--- report, or that memory was wanting
+-- the answers that it may give to a user who asks for a report: that of the trail; or a turn: nobody has the user's name, the
+-- role gets no report, or there was no memory
 abbrev pub JudgesReport : List Entry → Name → ProductCode → Content → Type 0
 JudgesReport trail user c (contents.Reported text) = GetsReports user true × (text ≡ report_text trail c)
 JudgesReport trail user c (contents.Turned turns.Nobody) = post_of user.bytes ≡ None
@@ -104,7 +103,7 @@ JudgesReport trail user c (contents.Turned turns.Role) = GetsReports user false
 JudgesReport trail user c (contents.Turned turns.Memory) = GetsReports user true
 JudgesReport _ _ _ _ = ⊥
 
--- what it may answer to the next line, which takes its moment first; a report leaves no entry
+-- the answers that it may give to the next line, which takes its moment first; a report leaves no entry
 abbrev pub Judges : Rehearsal → Option Tag → Asked → Content → Rehearsal → Type 0
 Judges old tag (asked.Question user q) said new =
     (moment : ℕ) × (begun : Rehearsal) × TakesMoment old moment begun × JudgesQuestion moment begun user tag q said new

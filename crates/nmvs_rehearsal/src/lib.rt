@@ -1,6 +1,6 @@
 //! The rehearsal: one session over an empty trail, with users of its own, to learn the repository by.
 //!
-//! [`rehearse_on_standard_input`] is what a program makes of it; [`rehearse`] is the session over any source and sink.
+//! [`rehearse_on_standard_input`] is the rehearsal of a program. [`rehearse`] is the session over any source and sink.
 #![tactic(auto)]
 
 mod rehearsal;

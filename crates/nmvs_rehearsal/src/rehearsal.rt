@@ -20,16 +20,16 @@ use nmvs_stream::{Sink, Source};
 use std::alloc::{AllocError, Global};
 use std::marker::Model;
 
-/// The seed of a rehearsal's hashes: who makes some collide delays nobody else.
+/// The seed of a rehearsal's hashes: a user who makes some collide delays nobody else.
 const NO_SECRET: u64 = 0;
 
 /// 1 January 2026, 00:00:00 UTC (own).
 const NEW_YEAR: i64 = 1_767_225_600;
 
-/// One session of anyone over one empty shard, with eight users of its own (own).
+/// One session of an unknown peer over one empty shard, with eight users of its own (own).
 ///
-/// The first line that reaches the desk is judged at the first moment, the next at the second and so on, and all later
-/// ones at the last. At most 10,000 lines are answered and 4,000,000 reads made.
+/// The first line that reaches the desk is judged at the first moment, the next at the second and so on. All later lines are
+/// judged at the last moment. At most 10,000 lines are answered and 4,000,000 reads made.
 pub fn rehearse<R: Source, W: Sink>(
     alloc: Global,
     source: &mut R,
@@ -105,7 +105,7 @@ impl<'a> RehearsalDesk<'a> {
         }
     }
 
-    /// Judges a question that is put at the moment.
+    /// Judges a question at the moment.
     fn judge(
         &mut self,
         moment: Moment,
@@ -133,7 +133,7 @@ impl<'a> RehearsalDesk<'a> {
         }
     }
 
-    /// Reports on a product code to those who may have it. It leaves no entry.
+    /// Reports on a product code to a user who may have it. It leaves no entry.
     fn report(&self, user: &Name, code: &ProductCode) -> Content<'a>
         ensures { JudgesReport self.now.trail user.now code.now result }
     {
@@ -150,7 +150,7 @@ impl<'a> RehearsalDesk<'a> {
     }
 }
 
-/// The reply to a question, and the entries that are shown with it.
+/// The reply to a question, with the entries that it shows.
 fn told<'a>(answered: Answered<&'a Global>) -> Content<'a>
     ensures { result ≡ Replied answered.entry.reply answered.entry.shown.items }
 {
@@ -167,7 +167,7 @@ impl<'a> Desk<'a> for RehearsalDesk<'a> {
 
     ghost moves = { Stays };
 
-    /// Whoever asks is believed.
+    /// Every peer is believed.
     fn take(&mut self, _from: &Peer, ask: &Ask) -> Withheld<'a> {
         let moment = self.next_moment();
         Withheld::new(match &ask.asked {

@@ -6,7 +6,7 @@ ghost use Rattle.nmvs_rehearsal.specs.Roster.{post, post_of, Holds, IsRostered};
 use nmvs_identifier::Name;
 use nmvs_rules::{Actor, Role};
 
-/// In what capacity a user of the rehearsal asks, where the name is one of its eight (own).
+/// The capacity of a user of the rehearsal; `None` if the name is not one of its eight (own).
 pub fn actor_of(user: &Name) -> Option<Actor>
     ensures unknown { IsNone result ↔ (post_of user.now.bytes ≡ None) }
     ensures known { IfSome result (IsRostered user.now) }

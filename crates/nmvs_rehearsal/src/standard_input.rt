@@ -6,7 +6,7 @@ use std::alloc::Global;
 use std::io::{IsTerminal, Write};
 use std::rt::HostRuntime;
 
-/// What the rehearsal is, told where somebody sits at a terminal.
+/// The greeting of the rehearsal on a terminal.
 const GREETING: &str =
     "A rehearsal: nothing is kept. Users: mah1 mah2 ph1 ph1b ph2 wh1 mf1 au1. QUIT or Ctrl-D ends it.\n\
     A line is a user and a question, as ph1 STATUS 09506000134352 SN1; HELP tells them all.";

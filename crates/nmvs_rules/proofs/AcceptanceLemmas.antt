@@ -1,4 +1,4 @@
--- An upload, a handover, a recall or withdrawal and a theft report are accepted exactly where the laws let them be.
+-- An upload, a handover, a recall or withdrawal and a theft report are accepted exactly if the laws allow it.
 use Rattle.std.proofs.Common.{◌≡◌, ◌↔◌, ℕ, Bool, true, false, not, ◌&&◌, ◌||◌, cond, List, reverse, Option, Some, None, IsFalse, IsSomeAnd, ◌⊎◌, inl, inr, refl, sym, ap, subst, ◌∙◌}
 use Rattle.std.proofs.Math.Bool.{and-true, and-false}
 use Rattle.std.proofs.lemmas.Bool.{not-false}
@@ -53,7 +53,7 @@ a-pharmacy : (r : Role) → is_supplier r ≡ true → r ≡ role.Pharmacy
 a-pharmacy role.Pharmacy h = refl
 a-pharmacy r h = cc
 
--- a pack is known where it was uploaded
+-- a pack is known exactly if it was uploaded
 known-uploaded : (t : List Entry) (p : Pack) → is_some (known t p) ≡ list_any (uploads p) t
 known-uploaded t p = is_some-known t p ∙ ap is_some (sym (first-upload t p)) ∙ is_some-find (uploads p) t
 
@@ -172,13 +172,13 @@ same-active : (o : OwnStatus) → same_own own.Active o ≡ is_active o
 same-active own.Active = refl
 same-active o = refl
 
--- tests of which each passes where the other does
+-- two tests, each of which passes if the other does, are the same
 alike : (a b : Bool) → (a ≡ true → b ≡ true) → (b ≡ true → a ≡ true) → a ≡ b
 alike true b f g = sym (f refl)
 alike false true f g = g refl
 alike false false f g = refl
 
--- a pack circulates where its own status is Active
+-- a pack circulates exactly if its own status is Active
 active-circulates : (t : List Entry) (p : Pack) → is_own own.Active (own_of t p) ≡ circulates t p
 active-circulates t p = by (mark t p) refl ∙ ap (λ o. option_map_or (λ m. uploads p m || reverts p m) o false) (sym (last-operation t p))
   where
@@ -197,7 +197,7 @@ counted t c b q r = refl
 count-circulating : (t : List Entry) (c : ProductCode) (b : Batch) → count_of t c b own.Active ≡ circulating t c b
 count-circulating t c b = λ i. count_by (λ e. counted t c b e.put.question e.reply i) t
 
--- what a recall or withdrawal that is accepted tells, asked by one who may ask it or not
+-- the facts that an accepted recall or withdrawal shows, asked by a user who may ask it or not
 record IsLocked (is_known held : Bool) (l : BatchLock) (count n : ℕ) (may : Bool) : Type 0 where
   pub may_ask : may ≡ true
   pub known : is_known ≡ true

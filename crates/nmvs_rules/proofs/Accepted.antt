@@ -1,4 +1,4 @@
--- The laws' words, told by question and reply, are the rules' words: what an entry that is accepted asks.
+-- The words of the laws, by question and reply, agree with the words of the rules on accepted entries.
 use Rattle.std.proofs.Common.{◌≡◌, Bool, true, false, ◌&&◌, ◌||◌, List, reverse, Some, refl, sym, ◌∙◌}
 use Rattle.std.proofs.Math.Bool.{and-true, and-false, or-false}
 use Rattle.std.specs.Cmp.{second_so}
@@ -128,31 +128,31 @@ operation-is p (Revert s) r = sym (and-false (same_pack p s))
 operation-is p (Theft s) r = sym (and-false (same_pack p s))
 operation-is p q r = sym (and-false (names p (pack_of q)))
 
--- what the laws call an upload of the pack is an accepted upload of it
+-- an upload of the pack in the words of the laws is an accepted upload of it
 pub uploads-is : (p : Pack) (e : Entry) → uploads p e ≡ accepted_upload p e
 uploads-is p e = upload-is p e.put.question e.reply
 
--- so with its decommissioning
+-- so is its decommissioning
 pub decommissions-is : (p : Pack) (e : Entry) → decommissions p e ≡ accepted_decommissioning p e
 decommissions-is p e = decommissioning-is p e.put.question e.reply
 
--- with its handover
+-- so is its handover
 pub hands_over-is : (p : Pack) (e : Entry) → hands_over p e ≡ accepted_handover p e
 hands_over-is p e = handover-is p e.put.question e.reply
 
--- with its supply
+-- so is its supply
 pub supplies-is : (p : Pack) (e : Entry) → supplies p e ≡ accepted_supply p e
 supplies-is p e = supply-is p e.put.question e.reply
 
--- with its reversion
+-- so is its reversion
 pub reverts-is : (p : Pack) (e : Entry) → reverts p e ≡ accepted_reversion p e
 reverts-is p e = reversion-is p e.put.question e.reply
 
--- with a verification that is answered Authentic
+-- so is a verification that is answered Authentic
 pub confirms-is : (p : Pack) (e : Entry) → confirms p e ≡ authentic_answer p e
 confirms-is p e = confirmation-is p e.put.question e.reply
 
--- with a recall or withdrawal of the batch
+-- so is a recall or withdrawal of the batch
 pub binds-is : (c : ProductCode) (b : Batch) (e : Entry) → binds c b e ≡ accepted_lock c b e
 binds-is c b e = lock-is c b e.put.question e.reply
 
@@ -187,7 +187,7 @@ left p (Recall c b) r h = let none : false ≡ true = h in cc
 left p (Withdraw c b) r h = let none : false ≡ true = h in cc
 left p q r h = let none : false ≡ true = second_so (names p (pack_of q)) (accepts q r) h in cc
 
--- what a decommissioning was for is told by its own status
+-- a decommissioning for destruction gives the own status Destroyed
 pub destroyed-by : (p : Pack) (q : Question) (r : Reply) → destruction_done p q r ≡ true → is_destroyed (own_given q) ≡ true
 destroyed-by p (Decommission s reason.Destroy) reply.Decommissioned h = refl
 destroyed-by p q r h = let none : false ≡ true = h in cc
@@ -198,7 +198,7 @@ supplied-by p (Decommission s reason.Supply) reply.Decommissioned h = refl
 supplied-by p (Handover s) reply.HandedOver h = refl
 supplied-by p q r h = let none : false ≡ true = h in cc
 
--- a theft report gives Stolen
+-- a theft report gives the own status Stolen
 pub stolen-by : (p : Pack) (q : Question) (r : Reply) → theft_done p q r ≡ true → is_stolen (own_given q) ≡ true
 stolen-by p (Theft s) reply.MarkedStolen h = refl
 stolen-by p q r h = let none : false ≡ true = h in cc
@@ -212,7 +212,7 @@ not-destroyed_by p (Decommission s reason.Sample) reply.Decommissioned h n = ref
 not-destroyed_by p (Decommission s reason.Destroy) reply.Decommissioned h n = sym h ∙ n
 not-destroyed_by p q r h n = let none : false ≡ true = h in cc
 
--- one that is no supply does not give Supplied
+-- a decommissioning that is no supply does not give Supplied
 pub not-supplied_by : (p : Pack) (q : Question) (r : Reply) → decommissioning_done p q r ≡ true → supply_done p q r ≡ false → is_supplied (own_given q) ≡ false
 not-supplied_by p (Decommission s reason.Supply) reply.Decommissioned h n = sym h ∙ n
 not-supplied_by p (Decommission s reason.Hold) reply.Decommissioned h n = refl
@@ -221,7 +221,7 @@ not-supplied_by p (Decommission s reason.Sample) reply.Decommissioned h n = refl
 not-supplied_by p (Decommission s reason.Destroy) reply.Decommissioned h n = refl
 not-supplied_by p q r h n = let none : false ≡ true = h in cc
 
--- and none gives Stolen
+-- no decommissioning gives Stolen
 pub not-stolen_by : (p : Pack) (q : Question) (r : Reply) → decommissioning_done p q r ≡ true → is_stolen (own_given q) ≡ false
 not-stolen_by p (Decommission s reason.Supply) reply.Decommissioned h = refl
 not-stolen_by p (Decommission s reason.Hold) reply.Decommissioned h = refl

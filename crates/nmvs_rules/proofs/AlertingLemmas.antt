@@ -1,4 +1,4 @@
--- What is answered where a pack is not authentic.
+-- The replies about a pack that is not authentic.
 use Rattle.std.proofs.Common.{◌≡◌, ◌≢◌, ◌+◌, Bool, true, false, ◌&&◌, cond, List, reverse, Option, Some, None, inl, inr, refl, sym, ap, ◌∙◌}
 use Rattle.std.proofs.Math.Bool.{and-false}
 use Rattle.std.specs.Cmp.{first_so}
@@ -38,7 +38,7 @@ use Rattle.nmvs_rules.proofs.ReplyLemmas.{reply-admitted}
 unknown : (t : List Entry) (p : Pack) → list_any (uploads p) t ≡ false → known t p ≡ None
 unknown t p h = ap (known_from t p) (is-none (born t p) (ap is_some (sym (first-upload t p)) ∙ is_some-find (uploads p) t ∙ h))
 
--- of a pack that was never uploaded the alert says so
+-- the alert on a pack that was never uploaded says so
 pub unknown-alerts : (t : List Entry) (q : Put) (p : Pack) → AsksAuthenticity p q.question → may_ask q.actor.role q.question ≡ true → list_any (uploads p) t ≡ false → reply_of t q ≡ reply.Alert cause.Unknown true (alerts_of t p.code + 1)
 unknown-alerts t q p (inl is) may h =
     reply-admitted t q (Verify p) is may
@@ -60,7 +60,7 @@ known-alerts t q p k l (inr is) may known_as locked h =
     ∙ ap (λ m. decommission_reply k m (alerts_of t p.code)) locked
     ∙ ap (λ b. cond b reply.Decommissioned (alert_on k l (alerts_of t p.code))) h
 
--- what is known of a pack that was uploaded
+-- the values known of a pack that was uploaded
 uploaded-known : (t : List Entry) (p : Pack) (b : Batch) (x : Expiry) (m : Entry) → IsUploadedWith t p b x → last_operation t p ≡ Some m → known t p ≡ Some (record { batch = b; expiry = x; own = own_given m.put.question; mark = mark_after (mark_place t p) m })
 uploaded-known t p b x m uploaded last =
     let upload = birth-of t p b x uploaded in
@@ -126,7 +126,7 @@ verification-alerts t q p is may other = ap alert_number whole ∙ by (known t p
     by None wrong = refl
     by (Some k) wrong = either k (is_authentic k.own (lock_on t p k)) (wrong k)
 
--- so with a decommissioning that is not carried out
+-- so does a decommissioning that is not carried out
 pub decommissioning-alerts : (t : List Entry) (q : Put) (p : Pack) (w : Reason) → q.question ≡ Decommission p w → may_ask q.actor.role q.question ≡ true → reply_of t q ≢ reply.Decommissioned → alert_number (reply_of t q) ≡ Some (alerts_of t p.code + 1)
 decommissioning-alerts t q p w is may other = ap alert_number whole ∙ by (known t p) (λ f. other (whole ∙ f))
   where

@@ -1,4 +1,4 @@
--- What an audit shows.
+-- The entries that an audit shows.
 use Rattle.std.proofs.Common.{◌≡◌, ◌≢◌, true, false, cond, List, [], length, refl, sym, ap, ◌∙◌}
 use Rattle.std.specs.Prelude.{filter}
 use Rattle.std.proofs.lemmas.List.Sums.{length-filter}
@@ -14,7 +14,7 @@ use Rattle.nmvs_rules.specs.Questions.{may_ask}
 use Rattle.nmvs_rules.specs.Trail.{is_about, about_of}
 use Rattle.nmvs_rules.specs.Rules.{reply_of, shown_of, shown_to}
 
--- an audit by one who may ask it shows the entries about its pack
+-- an audit by a user who may ask it shows the entries about its pack
 pub shown-audit : (t : List Entry) (q : Put) (p : Pack) → q.question ≡ Audit p → may_ask q.actor.role q.question ≡ true → shown_of t q ≡ filter (is_about p) t
 shown-audit t q p is may =
     ap (shown_to t q.actor.role) is
@@ -29,7 +29,7 @@ shown-counted t q p is may =
     ∙ ap (λ b. cond b (reply.Shown (about_of t p)) (reply.Refused refusal.Role)) (ap (may_ask q.actor.role) (sym is) ∙ may)
     ∙ ap reply.Shown (sym (ap length (shown-audit t q p is may) ∙ length-filter (is_about p) t))
 
--- one who may not ask is shown nothing
+-- a question of a user who may not ask it shows nothing
 pub shown-refused : (t : List Entry) (q : Put) → may_ask q.actor.role q.question ≡ false → shown_of t q ≡ []
 shown-refused t q = by q.actor.role q.question
   where

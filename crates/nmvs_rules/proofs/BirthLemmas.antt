@@ -25,7 +25,7 @@ is_some-known_from t p None h = refl
 is_some-known_from t p (Some u) h =
     is_some-known_at t p (unwrap_or (mark t p) u) u.put.question (first_so _ _ (first_so _ _ (find-passes (accepted_upload p) t u h)))
 
--- a pack is known where it was uploaded
+-- a pack is known exactly if it was uploaded
 pub is_some-known : (t : List Entry) (p : Pack) → is_some (known t p) ≡ is_some (born t p)
 is_some-known t p = is_some-known_from t p (born t p) refl
 
@@ -35,7 +35,7 @@ births-more None false e n m fresh h k = omega arith
 births-more (Some u) true e n m fresh h k = let wrong = fresh refl in cc
 births-more (Some u) false e n m fresh h k = omega arith
 
--- in a lawful trail a pack has one accepted upload where there is a first one
+-- in a lawful trail a pack has one accepted upload if there is a first one
 births-exact : (t : List Entry) (p : Pack) → IsLawful t → count_by (accepted_upload p) t ≡ cond (is_some (born t p)) 1 0
 births-exact t p lawful = IsLawful-keeps P step refl t lawful
   where
@@ -47,7 +47,7 @@ births-exact t p lawful = IsLawful-keeps P step refl t lawful
         births-more (born u p) (accepted_upload p e) e _ _ (λ b. sym (is_some-known u p) ∙ accepted_upload-tells u e p is b) h (count_by-push (accepted_upload p) u e)
         ∙ ap (λ o. cond (is_some o) 1 0) (sym (born-push u e p))
 
--- in a lawful trail a pack has one accepted upload where it is known, and else none
+-- in a lawful trail a pack has one accepted upload if it is known, and else none
 pub births-known : (t : List Entry) (p : Pack) → IsLawful t → count_by (accepted_upload p) t ≡ cond (is_some (known t p)) 1 0
 births-known t p lawful = births-exact t p lawful ∙ ap (λ b. cond b 1 0) (sym (is_some-known t p))
 

@@ -1,4 +1,4 @@
--- What is said of a product code rests on its own entries.
+-- The state of a product code rests on its own entries.
 use Rattle.std.proofs.Common.{◌≡◌, ℕ, ◌+◌, Bool, true, false, ◌&&◌, cond, ◌||◌, zero-add, List, [], ◌∷◌, ◌++◌, reverse, Option, Some, None, refl, sym, ap, ◌∙◌}
 use Rattle.std.proofs.lemmas.List.{reverse-append}
 use Rattle.std.proofs.lemmas.List.Elements.{filter-append}
@@ -104,7 +104,7 @@ about-filter t p = count_by-filter (is_about p) (has_code p.code) (λ e h. about
 holder-code : (t : List Entry) (c : ProductCode) → holder_of (part_of t c) c ≡ holder_of t c
 holder-code t c = ap (option_map (λ e. e.put.actor.authorisation)) (find-filter _ (has_code c) (λ e h. second_so _ _ (first_so _ _ h)) t)
 
--- what is known of a pack, but for the place of its mark
+-- the values known of a pack, but for the place of its mark
 abbrev forget : Known → Known
 forget k = record k { mark = record k.mark { place = 0 } }
 

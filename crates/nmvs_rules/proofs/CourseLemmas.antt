@@ -81,7 +81,7 @@ course t e p k lawful is marks = by e.put.question refl
     by q h =
         let none : false ≡ true = second_so (names p (pack_of q)) (accepts q e.reply) (sym (ap (λ q. names p (pack_of q) && accepts q e.reply) h) ∙ marks) in cc
 
--- what is known of a pack after an accepted operation on it
+-- the values known of a pack after an accepted operation on it
 known-after-mark : (t : List Entry) (e : Entry) (p : Pack) (k : Known) → known t p ≡ Some k → is_mark p e ≡ true → known (t ++ e ∷ []) p ≡ Some (record k { own = own_given e.put.question; mark = mark_after (length t) e })
 known-after-mark t e p k is marks =
     known-push t e p
@@ -91,7 +91,7 @@ known-after-mark t e p k is marks =
 known-after-other : (t : List Entry) (e : Entry) (p : Pack) → is_mark p e ≡ false → known (t ++ e ∷ []) p ≡ known t p
 known-after-other t e p other = known-push t e p ∙ ap (λ b. cond b (marked_by (length t) e (known t p)) (known t p)) other
 
--- an entry that is no operation on a pack leaves what is known of it
+-- an entry that is no operation on a pack leaves the values known of it
 pub kept-by-other : (t : List Entry) (e : Entry) (p : Pack) → operates p e ≡ false → known (t ++ e ∷ []) p ≡ known t p
 kept-by-other t e p other = known-after-other t e p (sym (operates-is p e) ∙ other)
 
@@ -194,19 +194,19 @@ pub never : (b : Bool) → (b ≡ true → true ≡ false) → b ≡ false
 never true h = h refl
 never false h = refl
 
--- what a lawful trail tells of an entry d that stands behind an entry e
+-- the facts that a lawful trail gives of an entry d after an entry e
 pub record Behind (u v : List Entry) (e d : Entry) : Type 0 where
   pub first : e.reply ≡ reply_of u e.put
   pub between : IsLawfulAfter (u ++ e ∷ []) v
   pub later : d.reply ≡ reply_of (u ++ e ∷ v) d.put
 
--- what stands behind an entry of a lawful trail
+-- an entry after another entry of a lawful trail
 pub behind : (before between after : List Entry) (e later : Entry) → IsLawful (before ++ e ∷ between ++ later ∷ after) → Behind before between e later
 behind before between after e later lawful =
     let at_e = IsLawful-rest before (e ∷ between) (IsLawfulAfter-first [] (before ++ e ∷ between) (later ∷ after) lawful) in
     record { first = at_e.0; between = at_e.1; later = (IsLawful-rest (before ++ e ∷ between) (later ∷ after) lawful).0 }
 
--- what an entry makes true, and what each lawful entry behind it keeps, is true behind it
+-- a property that an entry makes true, and that each lawful entry after it keeps, is true after it
 pub behind-keeps : (P : List Entry → Type 0) → ((t : List Entry) (e : Entry) → P t → e.reply ≡ reply_of t e.put → P (t ++ e ∷ [])) → (u v : List Entry) (e : Entry) → P (u ++ e ∷ []) → IsLawfulAfter (u ++ e ∷ []) v → P (u ++ e ∷ v)
 behind-keeps P step u v e h lawful = subst P (append_assoc u (e ∷ []) v) (IsLawfulAfter-keeps P step (u ++ e ∷ []) v h lawful)
 
@@ -275,7 +275,7 @@ out-keeps t e p h lawful unreverted = by (is_mark p e) refl
         (record h.0 { own = own_given e.put.question; mark = mark_after (length t) e }, known-after-mark t e p h.0 h.1 marks, out e.put.question refl marks)
     by false other = (h.0, known-after-other t e p other ∙ h.1, h.2)
 
--- where no entry reverts a pack that is out of circulation, it stays out
+-- a pack that is out of circulation stays out, if no entry reverts it
 stays-out : (u es : List Entry) (p : Pack) → Stands is_out u p → IsLawfulAfter u es → list_any (accepted_reversion p) es ≡ false → Stands is_out (u ++ es) p
 stays-out u [] p h lawful unreverted = let P : List Entry → Type 0 = λ t. Stands is_out t p in subst P (sym (append-nil u)) h
 stays-out u (e ∷ es) p h lawful unreverted =

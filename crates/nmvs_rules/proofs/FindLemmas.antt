@@ -3,7 +3,7 @@ use Rattle.std.proofs.Common.{◌≡◌, Bool, true, false, ◌||◌, cond, List
 use Rattle.std.specs.List.{find, list_any}
 use Rattle.std.specs.Option.{is_some, option_map_or}
 
--- what `find` gives passes
+-- an element that `find` gives passes
 pub find-passes : {X : Type 0} (p : X → Bool) → (xs : List X) (x : X) → find p xs ≡ Some x → p x ≡ true
 find-passes p [] x found = cc
 find-passes p (y ∷ ys) x found =
@@ -12,7 +12,7 @@ find-passes p (y ∷ ys) x found =
       | false ↦ λ here is. find-passes p ys x is
     ] refl found
 
--- where `find` gives an element that passes another test, some element passes it
+-- if `find` gives an element that passes another test, some element passes it
 pub find-any : {X : Type 0} (p q : X → Bool) → (xs : List X) (x : X) → find p xs ≡ Some x → q x ≡ true → list_any q xs ≡ true
 find-any p q [] x e h = cc
 find-any p q (y ∷ ys) x e h =
@@ -21,7 +21,7 @@ find-any p q (y ∷ ys) x e h =
       | false ↦ λ is. grind (arith, find-any p q ys x is h)
     ] e
 
--- `find` gives an element where some element passes
+-- `find` gives an element exactly if some element passes
 pub is_some-find : {X : Type 0} (p : X → Bool) (xs : List X) → is_some (find p xs) ≡ list_any p xs
 is_some-find p [] = refl
 is_some-find {X} p (x ∷ xs) = by (p x) (is_some-find {X = X} p xs)
@@ -30,12 +30,12 @@ is_some-find {X} p (x ∷ xs) = by (p x) (is_some-find {X = X} p xs)
     by true h = refl
     by false h = h
 
--- what is not some is none
+-- an option that is not some is none
 pub is-none : {X : Type 0} (o : Option X) → is_some o ≡ false → o ≡ None
 is-none None h = refl
 is-none (Some x) h = cc
 
--- what holds of an option's value, where it has one, as a pair with that value
+-- a property of an option's value, as a pair with that value
 pub from-some : {X : Type 0} (o : Option X) (P : X → Type 0) → IsSomeAnd o P → (x : X) × (o ≡ Some x) × P x
 from-some None P h = absurd h
 from-some (Some x) P h = (x, refl, h)

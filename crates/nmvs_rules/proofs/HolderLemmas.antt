@@ -1,4 +1,4 @@
--- What is accepted from the holder of a product code alone.
+-- Questions that are accepted from the holder of a product code alone.
 use Rattle.std.proofs.Common.{◌≡◌, ℕ, true, false, List, Option, Some, None, IsSomeAnd, inl, inr, sym, ap, ◌∙◌}
 use Rattle.std.proofs.lemmas.Bool.{not-false}
 use Rattle.std.specs.List.{find, list_any}
@@ -25,7 +25,7 @@ use Rattle.nmvs_rules.proofs.ReplyLemmas.{upload-holder, theft-holder, lock-hold
 pub holder-first : (t : List Entry) (c : ProductCode) → holder_of t c ≡ option_map (λ e. e.put.actor.authorisation) (find (uploads_code c) t)
 holder-first t c = ap (option_map (λ e. e.put.actor.authorisation)) (sym (first-upload_of_code t c))
 
--- one that is the holder uploaded first
+-- the holder uploaded first
 pub held : (t : List Entry) (c : ProductCode) (n : Name) → is_held_by (holder_of t c) n ≡ true → IsHeldBy t c n
 held t c n h = by (find (uploads_code c) t) (sym (ap (λ o. is_held_by o n) (holder-first t c)) ∙ h)
   where
@@ -33,7 +33,7 @@ held t c n h = by (find (uploads_code c) t) (sym (ap (λ o. is_held_by o n) (hol
     by None wrong = cc
     by (Some u) same = same_text-bytes u.put.actor.authorisation n same
 
--- so is one beside whom nobody is, where there was an upload
+-- so did an authorisation next to which there is no other holder, if there was an upload
 pub not-other : (t : List Entry) (c : ProductCode) (n : Name) → has_other_holder (holder_of t c) n ≡ false → list_any (uploads_code c) t ≡ true → IsHeldBy t c n
 not-other t c n h some = by (find (uploads_code c) t) (is_some-find (uploads_code c) t ∙ some) (sym (ap (λ o. has_other_holder o n) (holder-first t c)) ∙ h)
   where

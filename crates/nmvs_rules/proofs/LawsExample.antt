@@ -142,7 +142,7 @@ owned-0 = refl
 owned-1 : owned (0 ∷ 0 ∷ 1 ∷ 0 ∷ []) (upload ∷ confirmation ∷ other_alert ∷ hold ∷ []) 1 ≡ other_alert ∷ []
 owned-1 = refl
 
--- what lets the pack go on
+-- the entries by which the pack goes on
 goes_on-trail : filter (goes_on first) trail ≡ confirmation ∷ hold ∷ revert ∷ supply ∷ []
 goes_on-trail = refl
 
@@ -159,7 +159,7 @@ decommission w = entry (Decommission first w) reply.Decommissioned
 holds-each : filter (holds first) (map decommission (reason.Supply ∷ reason.Hold ∷ reason.Export ∷ reason.Sample ∷ reason.Destroy ∷ [])) ≡ hold ∷ []
 holds-each = refl
 
--- what an alert says after each: Destroyed and the locks are not flagged
+-- the alert after each: Destroyed and the locks are not flagged
 alarm-decommissioned : map (λ w. alarm (Decommission first w)) (reason.Supply ∷ reason.Hold ∷ reason.Export ∷ reason.Sample ∷ reason.Destroy ∷ []) ≡ Some (cause.Supplied, true) ∷ Some (cause.Held, true) ∷ Some (cause.Exported, true) ∷ Some (cause.Sampled, true) ∷ Some (cause.Destroyed, false) ∷ []
 alarm-decommissioned = refl
 

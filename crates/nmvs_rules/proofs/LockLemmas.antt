@@ -1,4 +1,4 @@
--- A batch is free where no entry recalled or withdrew it.
+-- A batch is free exactly if no entry recalled or withdrew it.
 use Rattle.std.proofs.Common.{◌≡◌, Bool, true, false, not, List, Option, Some, None, refl, sym, ap, ◌∙◌}
 use Rattle.std.specs.Cmp.{first_so}
 use Rattle.std.specs.List.{find, list_any}
@@ -26,11 +26,11 @@ is_free-lock_of t c b =
     ∙ ap not (is_some-find (accepted_lock c b) t)
     ∙ (λ i. not (list_any (λ e. sym (binds-is c b e) i) t))
 
--- a batch that nothing bound is free
+-- a batch that no entry recalled or withdrew is free
 pub free-unlocked : (t : List Entry) (c : ProductCode) (b : Batch) → IsUnlocked t c b → is_free (lock_of t c b) ≡ true
 free-unlocked t c b h = is_free-lock_of t c b ∙ ap not h
 
--- nothing bound a batch that is free
+-- no entry recalled or withdrew a batch that is free
 pub unlocked-free : (t : List Entry) (c : ProductCode) (b : Batch) → is_free (lock_of t c b) ≡ true → IsUnlocked t c b
 unlocked-free t c b h = by _ (sym (is_free-lock_of t c b) ∙ h)
   where

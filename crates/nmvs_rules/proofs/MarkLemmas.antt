@@ -25,7 +25,7 @@ some-or None false x = refl
 some-or (Some y) true x = refl
 some-or (Some y) false x = refl
 
--- a list has a last element that passes where it has one that passes
+-- a list has a last element that passes exactly if some element passes
 pub is_some-find-reverse : {X : Type 0} (p : X → Bool) (xs : List X) → is_some (find p (reverse xs)) ≡ list_any p xs
 is_some-find-reverse p [] = refl
 is_some-find-reverse {X} p (x ∷ xs) =
@@ -34,7 +34,7 @@ is_some-find-reverse {X} p (x ∷ xs) =
     ∙ some-or (find p (reverse xs)) (p x) x
     ∙ ap (λ b. p x || b) (is_some-find-reverse p xs)
 
--- what is some has a value
+-- an option that is some has a value
 pub is-some : {X : Type 0} (o : Option X) → is_some o ≡ true → (x : X) × (o ≡ Some x)
 is-some None h = cc
 is-some (Some x) h = (x, refl)
@@ -65,7 +65,7 @@ known_at-by t p u m (Upload r b x) k is birth marked h =
     subst P same (record { upload = u; pack = r; last = m; born = birth; question = is; marked = marked; known = refl })
 known_at-by t p u m q k is birth marked h = cc
 
--- what is known of a pack comes from its first accepted upload and its mark
+-- the values known of a pack comes from its first accepted upload and its mark
 pub known-by : (t : List Entry) (p : Pack) (k : Known) → known t p ≡ Some k → KnownBy t p k
 known-by t p k h = by (born t p) refl h
   where
@@ -76,7 +76,7 @@ known-by t p k h = by (born t p) refl h
         known_at-by t p u marked.0 u.put.question k refl birth marked.1
         (ap (λ m. known_at t p (unwrap_or m u) u.put.question) (sym marked.1) ∙ is)
 
--- what is known of a pack that was uploaded and marked
+-- the values known of a pack that was uploaded and marked
 pub known-made : (t : List Entry) (p r : Pack) (u m : Entry) (b : Batch) (x : Expiry) → born t p ≡ Some u → u.put.question ≡ Upload r b x → mark t p ≡ Some m → known t p ≡ Some (record { batch = b; expiry = x; own = own_given m.put.question; mark = mark_after (mark_place t p) m })
 known-made t p r u m b x birth question marked =
     ap (known_from t p) birth

@@ -1,4 +1,4 @@
--- A trail without a handover says what it said before packs could be handed over, and is lawful where it was.
+-- A trail without a handover says the same as before packs could be handed over, and is lawful exactly if it was.
 use Rattle.std.proofs.Common.{◌≡◌, ◌↔◌, ℕ, ◌+◌, ◌-◌, Bool, true, false, not, ◌&&◌, ◌||◌, cond, List, [], ◌∷◌, ◌++◌, reverse, length, Option, Some, None, refl, sym, ap, ◌∙◌}
 use Rattle.std.proofs.lemmas.Bool.{or_parts}
 use Rattle.std.proofs.lemmas.List.Folds.{list_any-append}
@@ -31,7 +31,7 @@ use Rattle.nmvs_rules.proofs.FindLemmas.{find-any, is_some-find}
 use Rattle.nmvs_rules.proofs.MarkLemmas.{is_some-find-reverse}
 use Rattle.nmvs_rules.proofs.PushLemmas.{count_by-cons}
 
--- two tests that agree wherever a third one fails find and count alike in a list where that one always fails
+-- two tests that agree if a third one fails find and count alike in a list all of which fails the third
 module _ {X : Type 0} (c p q : X → Bool) (alike : (x : X) → c x ≡ false → p x ≡ q x) where
   find-alike : (xs : List X) → list_any c xs ≡ false → find p xs ≡ find q xs
   find-alike [] h = refl
@@ -64,7 +64,7 @@ module _ {X : Type 0} (c p q : X → Bool) (alike : (x : X) → c x ≡ false �
 reverse-none : {X : Type 0} (c : X → Bool) (xs : List X) → list_any c xs ≡ false → list_any c (reverse xs) ≡ false
 reverse-none c xs h = sym (is_some-find c (reverse xs)) ∙ is_some-find-reverse c xs ∙ h
 
--- what is found in a list fails where all of the list does
+-- an element that is found in a list fails a test that all of the list fails
 found-none : {X : Type 0} (c p : X → Bool) (xs : List X) (x : X) → list_any c xs ≡ false → find p xs ≡ Some x → c x ≡ false
 found-none c p xs x h found = by (c x) refl
   where
@@ -185,7 +185,7 @@ module _ (t : List Entry) (none : list_any asks_handover t ≡ false) where
   admitted-alike n a (Theft p) h = λ i. on_pack (known-alike p i) (reply.Refused refusal.Unknown) (λ k. theft_reply a (holder-alike p.code i) k)
   admitted-alike n a (Audit p) h = refl
 
-  -- the reply to a question that is no handover is that of then
+  -- the reply to a question that is no handover is that of the old rules
   reply-alike : (q : Put) → is_handover q.question ≡ false → reply_of t q ≡ past_rules.reply_of t q
   reply-alike q h = λ i. cond (may-alike q.actor.role q.question h i) (admitted-alike q.moment q.actor q.question h i) (reply.Refused refusal.Role)
 
@@ -200,6 +200,6 @@ after-alike u (e ∷ es) none rest =
     let behind = after-alike (u ++ e ∷ []) es (push-none u e none neither.0) neither.1 in
     (λ h. (h.0 ∙ same, behind.0 h.1), λ h. (h.0 ∙ sym same, behind.1 h.1))
 
--- a trail without a handover is lawful exactly where it was
+-- a trail without a handover is lawful exactly if it was
 pub lawful-alike : (t : List Entry) → list_any asks_handover t ≡ false → IsLawful t ↔ past_rules.IsLawful t
 lawful-alike t none = after-alike [] t refl none

@@ -1,4 +1,4 @@
--- What one more entry changes.
+-- The changes by one more entry.
 use Rattle.std.proofs.Common.{◌≡◌, ℕ, ◌+◌, ◌-◌, Bool, true, false, not, ◌&&◌, ◌||◌, cond, List, [], ◌∷◌, ◌++◌, length, Option, Some, None, refl, ap, ◌∙◌, arith, length-append, zero-add}
 use Rattle.std.proofs.lemmas.List.{reverse-append}
 use Rattle.std.proofs.lemmas.List.Folds.{find-append, list_any-append}
@@ -43,11 +43,11 @@ born-push t e p = find-push _ t e
 pub mark-push : (t : List Entry) (e : Entry) (p : Pack) → mark (t ++ e ∷ []) p ≡ cond (is_mark p e) (Some e) (mark t p)
 mark-push t e p = last-push (is_mark p) t e
 
--- how many entries are about a pack, after one more
+-- the number of entries about a pack, after one more
 pub about_of-push : (t : List Entry) (e : Entry) (p : Pack) → about_of (t ++ e ∷ []) p ≡ about_of t p + cond (is_about p e) 1 0
 about_of-push t e p = count_by-push (is_about p) t e
 
--- how many alerts a product code has had, after one more entry
+-- the number of alerts on a product code, after one more entry
 pub alerts_of-push : (t : List Entry) (e : Entry) (c : ProductCode) → alerts_of (t ++ e ∷ []) c ≡ alerts_of t c + cond (has_code c e && is_alert e.reply) 1 0
 alerts_of-push t e c = count_by-push (λ x. has_code c x && is_alert x.reply) t e
 
@@ -83,7 +83,7 @@ known_from-push t e p (Some first) b =
     let passes : ((is_upload first.put.question && is_about p first) && is_accepted first) ≡ true = find-passes _ t first b in
     known_at-push t (t ++ e ∷ []) p e first (length t) (is_mark p e) first.put.question (first_so _ _ (first_so _ _ passes)) (mark-push t e p) (mark_place-push t e p)
 
--- one more entry changes what is known of a pack by its mark alone
+-- one more entry changes the values known of a pack by its mark alone
 pub known-push : (t : List Entry) (e : Entry) (p : Pack) → known (t ++ e ∷ []) p ≡ known_after p (length t) e (known t p)
 known-push t e p = ap (known_from (t ++ e ∷ []) p) (born-push t e p) ∙ known_from-push t e p (born t p) refl
 

@@ -1,4 +1,4 @@
--- What follows where a question is asked again.
+-- The laws of questions that are asked again.
 use Rattle.std.proofs.Common.{◌≡◌, ◌∙◌, ◌≤◌, ◌+◌, ◌-◌, ℕ, zero, suc, Bool, true, false, not, ◌||◌, ◌&&◌, ◌<◌, cond, List, [], ◌∷◌, ◌++◌, length, take, drop, reverse, Option, Some, None, refl, sym, ap, subst, inl, inr, ◌⊎◌, arith, length-append, append-nil, append_assoc}
 use Rattle.std.specs.Prelude.{nat_lt, slice_get}
 use Rattle.std.specs.Cmp.{first_so, second_so}
@@ -44,7 +44,7 @@ module _ {X : Type 0} (p : X → Bool) where
   prefix-stops [] b e h = let at : prefix_len p (e ∷ b) ≡ 0 = ap (λ c. cond c (1 + prefix_len p b) 0) h in omega (arith, at)
   prefix-stops (x ∷ a) b e h = one-more a (prefix_len p (a ++ e ∷ b)) (p x) (prefix-stops a b e h)
 
-  -- the run at the end of a list is no longer than what stands behind an element that does not pass
+  -- the run at the end of a list is no longer than the rest after an element that does not pass
   pub suffix-stops : (a b : List X) (e : X) → p e ≡ false → suffix_len p (a ++ e ∷ b) ≤ length b
   suffix-stops a b e h =
       let turned : reverse (a ++ e ∷ b) ≡ reverse b ++ e ∷ reverse a =
@@ -91,7 +91,7 @@ module _ {X : Type 0} (p : X → Bool) where
   pub split-last : (xs : List X) → (suffix_len p xs ≡ length xs) ⊎ IsSplit p xs
   split-last xs = ends-after [] xs (inl refl)
 
--- what stands behind an element
+-- the rest after an element
 pub rest-at : {X : Type 0} (a b : List X) (e : X) → drop (suc (length a)) (a ++ e ∷ b) ≡ b
 rest-at [] b e = refl
 rest-at (x ∷ a) b e = rest-at a b e
@@ -101,7 +101,7 @@ pub at-split : {X : Type 0} (a b : List X) (e : X) → slice_get (a ++ e ∷ b) 
 at-split [] b e = refl
 at-split (x ∷ a) b e = at-split a b e
 
--- more of a list has no less that passes
+-- a longer rest of a list has no fewer elements that pass
 pub count-rest : {X : Type 0} (q : X → Bool) (xs : List X) (k m : ℕ) → k ≤ m → count_by q (drop m xs) ≤ count_by q (drop k xs)
 count-rest q xs k m le =
     let up : k + (m - k) ≡ m = omega (arith, le) in
@@ -137,7 +137,7 @@ module _ (t : List Entry) (p : Pack) (user : Name) (g : Tag) where
   abbrev Misses : Entry → Bool
   Misses e = not (is_tagged p user g e)
 
-  -- where the last entry with the tag stands
+  -- the place of the last entry with the tag
   pub last-at : (s : IsSplit Misses t) → last_tagged t p user g ≡ suc (length s.before)
   last-at s = omega (arith, s.run, ap length s.whole, length-append s.before (s.at ∷ s.after))
 
@@ -148,7 +148,7 @@ module _ (t : List Entry) (p : Pack) (user : Name) (g : Tag) where
   tagged-at true h = refl
   tagged-at false h = cc
 
-  -- a place that is told is that of an entry with the tag
+  -- a place that is found is that of an entry with the tag
   pub place-found : (place : ℕ) → place_tagged t p user g ≡ Some place → IsFound t p user g place
   place-found place h = by (split-last Misses t)
     where
@@ -165,14 +165,14 @@ module _ (t : List Entry) (p : Pack) (user : Name) (g : Tag) where
             tagged = tagged-at (is_tagged p user g s.at) s.stops;
           }
 
--- the entries behind a beginning were new behind it
+-- the entries after a beginning were new after it
 AreNewAfter-rest : (w u v : List Entry) → AreNewAfter w (u ++ v) → AreNewAfter (w ++ u) v
 AreNewAfter-rest w [] v new = let P : List Entry → Type 0 = λ t. AreNewAfter t v in subst P (sym (append-nil w)) new
 AreNewAfter-rest w (e ∷ u) v new =
     let P : List Entry → Type 0 = λ t. AreNewAfter t v in
     subst P (append_assoc w (e ∷ []) u) (AreNewAfter-rest (w ++ e ∷ []) u v new.1)
 
--- a run of elements that pass, behind one that does not
+-- a run of elements that pass, after one that does not
 passes-after : {X : Type 0} (p : X → Bool) (xs ys : List X) → list_any (λ y. not (p y)) ys ≡ false → suffix_len p (xs ++ ys) ≡ suffix_len p xs + length ys
 passes-after p xs [] h = omega (arith, ap (suffix_len p) (append-nil xs))
 passes-after p xs (y ∷ ys) h =
@@ -195,14 +195,14 @@ module _ (p : Pack) (user : Name) (g : Tag) where
       let both = neither (is_tagged p user g x) (list_any (is_tagged p user g) xs) h in
       (λ i. not (not (both.0 i)) || list_any (λ x. not (Missed x)) xs) ∙ none-missed xs both.1
 
-  -- no entry with a tag is found where there is none
+  -- no entry with a tag is found if there is none
   pub found-none : (t : List Entry) → list_any (is_tagged p user g) t ≡ false → place_tagged t p user g ≡ None
   found-none t none =
       let all = passes-after Missed [] t (none-missed t none) in
       let at : last_tagged t p user g ≡ 0 = omega (arith, all) in
       ap (place_up_to t p) at
 
-  -- and else the last one, where fewer than 16 others behind it are about the pack
+  -- and else the last one is, if fewer than 16 others after it are about the pack
   pub found-last : (u v : List Entry) (e : Entry) → is_tagged p user g e ≡ true → list_any (is_tagged p user g) v ≡ false
       → place_tagged (u ++ e ∷ v) p user g ≡ cond (nat_lt (about_of v p) entries_looked_over) (Some (length u)) None
   found-last u v e tagged last =
@@ -213,7 +213,7 @@ module _ (p : Pack) (user : Name) (g : Tag) where
       ap (place_up_to (u ++ e ∷ v) p) at
       ∙ ap (λ (t : List Entry). cond (nat_lt (about_of t p) entries_looked_over) (Some (length u)) None) (rest-at u v e)
 
--- a question within a day of an entry whose reply lasts is not new beside it
+-- a question within a day of an entry whose reply lasts is not new next to it
 beside-known : (q : Put) (place : ℕ) (e : Entry) → is_in_day e.put.moment q.moment ≡ true → tells_state e.reply ≡ false → beside q place e ≡ repeat.New → ⊥
 beside-known q place e day lasting h = by (asks_same q e.put) (sym is ∙ h)
   where
@@ -228,7 +228,7 @@ beside-known q place e day lasting h = by (asks_same q e.put) (sym is ∙ h)
 in-day : (earlier later : ℕ) → later ≤ earlier + 86400 → is_in_day earlier later ≡ true
 in-day earlier later h = grind (arith, nat_tests)
 
--- the next entry with a tag stands a day later, or behind 16 others about the pack
+-- the next entry with a tag comes a day later, or after 16 others about the pack
 pub at-most-once : (u v w : List Entry) (e f : Entry) (p : Pack) (user : Name) (g : Tag) → AreNew (u ++ (e ∷ v) ++ (f ∷ w)) → is_tagged p user g e ≡ true → is_tagged p user g f ≡ true
     → list_any (is_tagged p user g) v ≡ false → tells_state e.reply ≡ false → f.put.moment ≤ e.put.moment + 86400 → 16 ≤ about_of v p
 at-most-once u v w e f p user g new first second last lasting day = late (nat_lt (about_of v p) entries_looked_over) refl
@@ -270,7 +270,7 @@ answered-again u v e p g moment named tag last few lasting day =
     ∙ ap (λ c. cond c (beside_same (length u) e) repeat.Other) same
     ∙ ap (λ c. cond c repeat.New (repeat.Same (length u) e.reply)) lasting
 
--- what is answered again beside an entry
+-- the reply of an entry that answers again
 pub record IsBeside (q : Put) (n : ℕ) (e : Entry) (place : ℕ) (reply : Reply) : Type 0 where
   pub here : n ≡ place
   pub asks : asks_same q e.put ≡ true
@@ -323,7 +323,7 @@ module _ (t : List Entry) (q : Put) (place : ℕ) (reply : Reply) where
       by (Some p) None tag h = cc
       by (Some p) (Some g) tag h = placed p g tag (place_tagged t p q.user g) refl h
 
--- each reply of what is lawful is that of the rules
+-- each reply of lawful entries is that of the rules
 lawful-at : (u es : List Entry) (n : ℕ) (e : Entry) → IsLawfulAfter u es → slice_get es n ≡ Some e → e.reply ≡ reply_of (u ++ take n es) e.put
 lawful-at u [] n e lawful h = cc
 lawful-at u (x ∷ es) zero e lawful h =
@@ -335,11 +335,11 @@ lawful-at u (x ∷ es) (suc n) e lawful h =
     let Q : List Entry → Type 0 = λ t. e.reply ≡ reply_of t e.put in
     subst Q (append_assoc u (x ∷ []) (take n es)) (lawful-at (u ++ x ∷ []) es n e lawful.1 h)
 
--- a reply that is answered again is that of the rules where it was answered first
+-- a reply that is answered again is that of the rules at the place of its entry
 pub repeated-by-rules : (t : List Entry) (q : Put) (place : ℕ) (reply : Reply) → IsLawful t → (again : IsRepeated t q place reply) → reply ≡ reply_of (take place t) again.entry.put
 repeated-by-rules t q place reply lawful again = again.same ∙ lawful-at [] t place again.entry lawful again.stands
 
--- a reply that says how a pack stands is that of the rules at its moment
+-- a reply that gives the state of a pack is that of the rules at its moment
 pub told-now : (t : List Entry) (q : Put) (said : Reply) → tells_state said ≡ true → answer_of t q ≡ Some said → reply_of t q ≡ said
 told-now t q said state = by (repeat_of t q) refl
   where

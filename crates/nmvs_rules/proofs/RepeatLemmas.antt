@@ -18,7 +18,7 @@ use Rattle.nmvs_rules.specs.contracts.question.QuestionPartialEq.TheImpl as ques
 use Rattle.nmvs_rules.specs.Repeats.{same_role, same_reason, same_actor, same_question}
 use Rattle.nmvs_rules.proofs.TextLemmas.{same_text-equal, same_text-refl, same_pack-equal, same_pack-refl}
 
--- what `==` says of roles
+-- the `==` of roles is that of the definitions
 derived-role : (r s : Role) → (role_eq.ghosts).eq r s ≡ same_role r s
 derived-role role.Holder role.Holder = refl
 derived-role role.Manufacturer role.Manufacturer = refl
@@ -27,7 +27,7 @@ derived-role role.Pharmacy role.Pharmacy = refl
 derived-role role.Authority role.Authority = refl
 derived-role _ _ = refl
 
--- and of reasons
+-- so is that of reasons
 derived-reason : (r s : Reason) → (reason_eq.ghosts).eq r s ≡ same_reason r s
 derived-reason reason.Supply reason.Supply = refl
 derived-reason reason.Hold reason.Hold = refl
@@ -36,11 +36,11 @@ derived-reason reason.Sample reason.Sample = refl
 derived-reason reason.Destroy reason.Destroy = refl
 derived-reason _ _ = refl
 
--- what `==` says of actors
+-- so is that of actors
 pub derived-actor : (a b : Actor) → (actor_eq.ghosts).eq a b ≡ same_actor a b
 derived-actor a b = ap (λ s. s && (same_text a.authorisation b.authorisation && same_text a.premises b.premises)) (derived-role a.role b.role)
 
--- and of questions
+-- so is that of questions
 pub derived-question : (q r : Question) → (question_eq.ghosts).eq q r ≡ same_question q r
 derived-question (Upload p b x) (Upload q c y) = refl
 derived-question (Verify p) (Verify q) = refl

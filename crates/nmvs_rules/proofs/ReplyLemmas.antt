@@ -1,4 +1,4 @@
--- What a reply tells of the trail that it was given on.
+-- The facts that a reply shows of the trail that it was given on.
 use Rattle.std.proofs.Common.{◌≡◌, ℕ, Bool, true, false, not, ◌&&◌, cond, List, Option, Some, None, refl, sym, ap, subst, ◌∙◌}
 use Rattle.std.proofs.lemmas.Bool.{not-false}
 use Rattle.std.specs.Cmp.{first_so, second_so}
@@ -26,16 +26,16 @@ use Rattle.nmvs_rules.specs.Laws.{is_handover}
 use Rattle.nmvs_rules.proofs.Accepted.{is_decommissioning, is_reversion, is_theft, is_confirmed, accepted_upload, accepted_decommissioning, accepted_handover, accepted_reversion, authentic_answer}
 use Rattle.nmvs_rules.proofs.TextLemmas.{same_pack-equal}
 
--- the pack is known, and this holds of what is known of it
+-- the pack is known, and this holds of the values known of it
 abbrev pub KnownAnd : List Entry → Pack → (Known → Type 0) → Type 0
 KnownAnd t p P = (k : Known) × (known t p ≡ Some k) × P k
 
--- a reply that isn't the first branch's comes from the second
+-- a reply that is not the first branch's comes from the second
 pub cond-else : (b : Bool) (x y z : Reply) → (x ≡ z → ⊥) → cond b x y ≡ z → (b ≡ false) × (y ≡ z)
 cond-else true x y z other e = absurd (other e)
 cond-else false x y z other e = (refl, e)
 
--- and one that isn't the second's from the first
+-- and a reply that is not the second's comes from the first
 pub cond-then : (b : Bool) (x y z : Reply) → (y ≡ z → ⊥) → cond b x y ≡ z → (b ≡ true) × (x ≡ z)
 cond-then true x y z other e = (refl, e)
 cond-then false x y z other e = absurd (other e)
@@ -56,13 +56,13 @@ pub record IsAuthentic (t : List Entry) (p : Pack) (k : Known) : Type 0 where
   pub active : is_active k.own ≡ true
   pub free : is_free (lock_on t p k) ≡ true
 
--- what a handover that is accepted tells
+-- the facts that an accepted handover shows
 pub record IsHeldHere (t : List Entry) (a : Actor) (p : Pack) (k : Known) : Type 0 where
   pub free : is_free (lock_on t p k) ≡ true
   pub held : is_held k.own ≡ true
   pub same_house : is_same_house a k.mark ≡ true
 
--- what a reversion that is accepted tells
+-- the facts that an accepted reversion shows
 pub record IsReversible (t : List Entry) (n : ℕ) (a : Actor) (p : Pack) (k : Known) : Type 0 where
   pub free : is_free (lock_on t p k) ≡ true
   pub not_active : is_active k.own ≡ false
@@ -141,7 +141,7 @@ upload-holder t n a p b x h =
     let admitted = cond-then (may_ask a.role (Upload p b x)) _ _ _ (λ e. cc) (sym h) in
     (cond-else (has_other_holder (holder_of t p.code) a.authorisation) _ _ _ (λ e. cc) admitted.1).0
 
--- a recall or withdrawal that is accepted, by one that may ask it or not
+-- a recall or withdrawal that is accepted, by a user who may ask it or not
 pub lock-holder : (t : List Entry) (a : Actor) (c : ProductCode) (b : Batch) (n : ℕ) (may : Bool) → reply.LockedNow n ≡ cond may (lock_reply a (is_known_batch t c b) (holder_of t c) (lock_of t c b) (count_of t c b own.Active)) (reply.Refused refusal.Role) → is_held_by (holder_of t c) a.authorisation ≡ true
 lock-holder t a c b n may h =
     let admitted = cond-then may _ _ _ (λ e. cc) (sym h) in
@@ -167,7 +167,7 @@ upload-tells t n a p b x h =
 KnownAnd-map : (t : List Entry) (p : Pack) (P Q : Known → Type 0) → ((k : Known) → P k → Q k) → KnownAnd t p P → KnownAnd t p Q
 KnownAnd-map t p P Q f h = (h.0, h.1, f h.0 h.2)
 
--- a pack is confirmed only where it is authentic
+-- a pack is confirmed only if it is authentic
 pub authentic_answer-tells : (t : List Entry) (e : Entry) (p : Pack) → e.reply ≡ reply_of t e.put → authentic_answer p e ≡ true → KnownAnd t p (IsAuthentic t p)
 authentic_answer-tells t e p lawful h = by e.put.question e.reply lawful h
   where
@@ -178,7 +178,7 @@ authentic_answer-tells t e p lawful h = by e.put.question e.reply lawful h
         (KnownAnd-map t s _ _ (λ k tells. tells.0) (verify-tells t e.put.moment e.put.actor s b x late is))
     by q r is c = let none : false ≡ true = second_so (names p (pack_of q)) (is_confirmed q r) c in cc
 
--- a pack is decommissioned only where it is authentic
+-- a pack is decommissioned only if it is authentic
 pub accepted_decommissioning-tells : (t : List Entry) (e : Entry) (p : Pack) → e.reply ≡ reply_of t e.put → accepted_decommissioning p e ≡ true → KnownAnd t p (IsAuthentic t p)
 accepted_decommissioning-tells t e p lawful h = by e.put.question e.reply lawful h
   where
@@ -189,7 +189,7 @@ accepted_decommissioning-tells t e p lawful h = by e.put.question e.reply lawful
     by (Decommission s w) r is c = let none : false ≡ true = second_so (same_pack p s) false (first_so (same_pack p s && false) true c) in cc
     by q r is c = let none : false ≡ true = second_so (names p (pack_of q) && accepts q r) (is_decommissioning q) c in cc
 
--- a pack is handed over only where it is held in the same house
+-- a pack is handed over only if it is held in the same house
 pub accepted_handover-tells : (t : List Entry) (e : Entry) (p : Pack) → e.reply ≡ reply_of t e.put → accepted_handover p e ≡ true → KnownAnd t p (IsHeldHere t e.put.actor p)
 accepted_handover-tells t e p lawful h = by e.put.question e.reply lawful h
   where
@@ -200,7 +200,7 @@ accepted_handover-tells t e p lawful h = by e.put.question e.reply lawful h
     by (Handover s) r is c = let none : false ≡ true = second_so (same_pack p s) false (first_so (same_pack p s && false) true c) in cc
     by q r is c = let none : false ≡ true = second_so (names p (pack_of q) && accepts q r) (is_handover q) c in cc
 
--- a pack is reverted only where Article 13 lets it be
+-- a pack is reverted only if Article 13 allows it
 pub accepted_reversion-tells : (t : List Entry) (e : Entry) (p : Pack) → e.reply ≡ reply_of t e.put → accepted_reversion p e ≡ true → KnownAnd t p (IsReversible t e.put.moment e.put.actor p)
 accepted_reversion-tells t e p lawful h = by e.put.question e.reply lawful h
   where
@@ -211,7 +211,7 @@ accepted_reversion-tells t e p lawful h = by e.put.question e.reply lawful h
     by (Revert s) r is c = let none : false ≡ true = second_so (same_pack p s) false (first_so (same_pack p s && false) true c) in cc
     by q r is c = let none : false ≡ true = second_so (names p (pack_of q) && accepts q r) (is_reversion q) c in cc
 
--- a pack is uploaded only where it is not known
+-- a pack is uploaded only if it is not known
 pub accepted_upload-tells : (t : List Entry) (e : Entry) (p : Pack) → e.reply ≡ reply_of t e.put → accepted_upload p e ≡ true → is_some (known t p) ≡ false
 accepted_upload-tells t e p lawful h = by e.put.question e.reply lawful h
   where
@@ -225,13 +225,13 @@ accepted_upload-tells t e p lawful h = by e.put.question e.reply lawful h
 pub reply-question : (t : List Entry) (q : Put) (n : Question) → q.question ≡ n → reply_of t q ≡ cond (may_ask q.actor.role n) (admitted_reply t q.moment q.actor n) (reply.Refused refusal.Role)
 reply-question t q n is = ap (λ z. cond (may_ask q.actor.role z) (admitted_reply t q.moment q.actor z) (reply.Refused refusal.Role)) is
 
--- the reply to a question by one that may ask it
+-- the reply to a question by a user who may ask it
 pub reply-admitted : (t : List Entry) (q : Put) (n : Question) → q.question ≡ n → may_ask q.actor.role q.question ≡ true → reply_of t q ≡ admitted_reply t q.moment q.actor n
 reply-admitted t q n is may =
     reply-question t q n is
     ∙ ap (λ c. cond c (admitted_reply t q.moment q.actor n) (reply.Refused refusal.Role)) (sym (ap (may_ask q.actor.role) is) ∙ may)
 
--- what is not refused for its role was asked by one that may
+-- a question that is not refused for its role was asked by a user who may ask it
 pub may-tells : (t : List Entry) (n : ℕ) (a : Actor) (q : Question) (r : Reply) → (reply.Refused refusal.Role ≡ r → ⊥) → IsReply t n a q r → may_ask a.role q ≡ true
 may-tells t n a q r other h = (cond-then (may_ask a.role q) _ _ _ other (sym h)).0
 
@@ -246,7 +246,7 @@ thefts-tells t e p lawful h = by e.put.question e.reply lawful h
     by (Theft s) r is c = let none : false ≡ true = second_so (same_pack p s) false (first_so (same_pack p s && false) true c) in cc
     by q r is c = let none : false ≡ true = second_so (names p (pack_of q) && accepts q r) (is_theft q) c in cc
 
--- what holds of the pack that is known, at a name of its own
+-- a property of the values known of a pack, for a name of these values
 pub known-holds : (t : List Entry) (p : Pack) (k : Known) (P : Known → Type 0) → known t p ≡ Some k → KnownAnd t p P → P k
 known-holds t p k P is h = let same : h.0 ≡ k = some-same h.0 k (sym h.1 ∙ is) in subst P same h.2
   where

@@ -1,4 +1,4 @@
--- A reversion is accepted exactly where Article 13(1) lets it be.
+-- A reversion is accepted exactly if Article 13(1) allows it.
 use Rattle.std.specs.Prelude.{int_lt}
 use Rattle.std.proofs.Common.{◌≡◌, ◌↔◌, ℕ, ◌≤◌, ℤ, pos, ◌≤ℤ◌, Bool, true, false, List, reverse, Some, IsTrue, nat_le, refl, sym, ap, ◌∙◌, arith}
 use Rattle.std.proofs.lemmas.Int.{ints}

@@ -1,4 +1,4 @@
--- Without its tags a trail says what it says with them.
+-- A trail says the same without its tags.
 use Rattle.std.proofs.Common.{◌≡◌, ◌∙◌, ◌↔◌, ℕ, ◌+◌, ◌-◌, Bool, true, false, not, ◌&&◌, ◌||◌, cond, List, [], ◌∷◌, ◌++◌, reverse, map, Option, Some, None, refl, sym, ap, subst, All, arith, suc}
 use Rattle.std.proofs.lemmas.List.{map-append, length-map, reverse-append}
 use Rattle.std.specs.List.{find, list_any, count_by, prefix_len}
@@ -24,7 +24,7 @@ use Rattle.nmvs_rules.specs.Rules.{on_pack, alert_unknown, upload_reply, verify_
 use Rattle.nmvs_rules.specs.Repeats.{untagged, without_tag, without_tags, repeat_by, AreNewAfter, AreNew}
 use Rattle.nmvs_rules.proofs.PushLemmas.{count_by-cons}
 
--- what is found in, and counted of, a list each element of which was changed
+-- the elements found and counted in a list whose elements were changed
 module _ {X Y : Type 0} (f : X → Y) (p : Y → Bool) where
   find-changed : (xs : List X) → find p (map f xs) ≡ option_map f (find (λ x. p (f x)) xs)
   find-changed [] = refl
@@ -166,7 +166,7 @@ bare-lawful u (e ∷ es) lawful =
     let P : List Entry → Type 0 = λ t. IsLawfulAfter t (without_tags es) in
     (lawful.0 ∙ reply-untagged u e.put, bare-lawful (u ++ e ∷ []) es (subst P (sym (map-append untagged u (e ∷ []))) lawful.1))
 
--- a trail is lawful where it is without its tags
+-- a trail is lawful exactly if it is lawful without its tags
 pub lawful-untagged : (t : List Entry) → IsLawful (without_tags t) ↔ IsLawful t
 lawful-untagged t = (bare-lawful [] t, lawful-bare [] t)
 
@@ -182,6 +182,6 @@ new-untagged-after u (e ∷ es) all =
       new-untagged-after (u ++ e ∷ []) es (λ k d within. all (suc k) d (omega (arith, within))),
     )
 
--- where no entry has a tag, each question was new
+-- if no entry has a tag, each question was new
 pub new-untagged : (t : List Entry) → All (λ e. e.put.tag ≡ None) t → AreNew t
 new-untagged t all = new-untagged-after [] t all

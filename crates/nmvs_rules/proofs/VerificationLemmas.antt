@@ -1,4 +1,4 @@
--- A pack is confirmed, and decommissioned, exactly where it is authentic.
+-- A pack is confirmed, and decommissioned, exactly if it is authentic.
 use Rattle.std.specs.Prelude.{int_lt}
 use Rattle.std.proofs.Common.{◌≡◌, ◌↔◌, ℕ, Bool, true, false, pos, ◌&&◌, ◌||◌, List, reverse, Option, Some, IsTrue, refl, sym, ap, subst, ◌∙◌}
 use Rattle.std.proofs.Math.Bool.{or-false}
@@ -49,7 +49,7 @@ active-by p (Upload s b x) r h = refl
 active-by p (Revert s) r h = refl
 active-by p q r h = let none : false ≡ true = h in cc
 
--- what is known of a genuine pack
+-- the values known of a genuine pack
 genuine-known : (t : List Entry) (p : Pack) (b : Batch) (x : Expiry) → IsGenuine t p b x → (k : Known) × (known t p ≡ Some k) × (k.batch ≡ b) × (k.expiry ≡ x) × IsAuthentic t p k
 genuine-known t p b x h =
     let upload = birth-of t p b x h.uploaded in

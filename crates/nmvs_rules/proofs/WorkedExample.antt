@@ -63,7 +63,7 @@ put user a q = record { moment = new_year; user = text user; actor = a; question
 abbrev after : List Entry → Put → List Entry
 after t q = t ++ answered q (reply_of t q) ∷ []
 
--- what is known of the pack where a mark of this actor at this place gave it an own status
+-- the values known of the pack after a mark of this actor at this place gave it an own status
 abbrev known_as : OwnStatus → ℕ → Actor → Option Known
 known_as s place a = Some (record {
   batch = batch;
@@ -72,7 +72,7 @@ known_as s place a = Some (record {
   mark = record { place = place; moment = new_year; authorisation = a.authorisation; premises = a.premises };
 })
 
--- the record of the batch with this lock and so many active and held packs
+-- the record of the batch with this lock and these numbers of active and held packs
 abbrev batch_with : BatchLock → ℕ → ℕ → Option BatchRecord
 batch_with l active held = Some (record {
   lock = l;
@@ -184,8 +184,8 @@ status-reply = refl
 alerts-read : alerts_of (after verified status) code ≡ 1
 alerts-read = refl
 
--- it is shown the entries about the pack, the recall of its batch not among them, and told how many they are; the
--- pharmacy is shown none
+-- an audit shows it the entries about the pack, the recall of its batch not among them, and their number; it shows the
+-- pharmacy none
 abbrev audit : Put
 audit = put (codes "au1") authority (Audit pack)
 
@@ -212,7 +212,7 @@ was-lawful = (refl, (refl, (refl, (refl, (refl, (refl, tt))))))
 abbrev at : ℕ → Put → Put
 at moment q = record { moment = moment; user = q.user; actor = q.actor; question = q.question; tag = q.tag }
 
--- the first second of a day so many days later
+-- the first second of the day n days later
 abbrev days_later : ℕ → ℕ
 days_later n = new_year + n * 86_400
 
@@ -238,7 +238,7 @@ revert-day_eleven = refl
 revert-day_before : reply_of held (at 1_765_497_600 revert) ≡ reply.Reverted
 revert-day_before = ap (λ d. if int_lt d (pos 20_434) then reply.Refused refusal.Expired else reply.Reverted) day-280200
 
--- other premises of the same authorisation are told so before the days are counted
+-- other premises of the same authorisation get this refusal before the days are counted
 abbrev other_premises : Actor
 other_premises = record pharmacy { premises = text (codes "P2") }
 
@@ -283,6 +283,6 @@ handover-recalled = refl
 handover-elsewhere : reply_of held (put (codes "ph2") other_premises (Handover pack)) ≡ reply.Refused refusal.Other
 handover-elsewhere = refl
 
--- before that was a question nobody might ask it
+-- before, handovers were questions that nobody might ask
 handover-before : before_handover.reply_of held handover ≡ reply.Refused refusal.Role
 handover-before = refl

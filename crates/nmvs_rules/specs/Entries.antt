@@ -1,4 +1,4 @@
--- What every entry of a trail is: its texts are in their grammars, and its numbers in their ranges (Article 4; the
+-- The form of every entry of a trail: its texts are in their grammars, and its numbers in their ranges (Article 4; the
 -- grammars of names and the ranges are own).
 use Rattle.std.specs.Prelude.{ℕ, ◌^◌, Bool, true, ◌&&◌, nat_lt, List, Option, Some, None, IsTrue}
 use Rattle.std.specs.List.{All}
@@ -29,7 +29,7 @@ is_batch_and_expiry b x = is_batch b.bytes && is_expiry x.bytes
 abbrev pub is_actor : Actor → Bool
 is_actor a = is_name a.authorisation.bytes && is_name a.premises.bytes
 
--- whether what a question names is in its grammar
+-- whether the texts that a question names are in their grammars
 abbrev pub is_question : Question → Bool
 is_question (Upload p b x) = is_pack p && is_batch_and_expiry b x
 is_question (Verify p) = is_pack p
@@ -64,6 +64,6 @@ is_put q = is_moment q.moment && (is_name q.user.bytes && (is_actor q.actor && (
 abbrev pub is_entry : Entry → Bool
 is_entry e = is_put e.put && is_reply e.reply
 
--- all entries of a trail are such
+-- all entries of a trail are in their grammars and ranges
 abbrev pub AreEntries : List Entry → Type 0
 AreEntries t = All (λ e. IsTrue (is_entry e)) t

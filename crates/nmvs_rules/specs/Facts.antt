@@ -20,12 +20,12 @@ use Rattle.nmvs_rules.specs.Questions.{pack_of, code_of, locked_batch, may_ask}
 use Rattle.nmvs_rules.specs.Trail.{known, batch_record, holder_of, alerts_of, about_of}
 use Rattle.nmvs_rules.specs.Rules.{on_pack, upload_reply, alert_unknown, verify_reply, status_reply, decommission_reply, handover_reply, revert_reply, lock_reply, theft_reply}
 
--- what is known of the pack that a question names
+-- the values known of the pack that a question names
 abbrev pub pack_fact : List Entry → Option Pack → Option Known
 pack_fact t None = None
 pack_fact t (Some p) = known t p
 
--- how many entries are about the pack that a question names
+-- the number of entries about the pack that a question names
 abbrev pub about_fact : List Entry → Option Pack → ℕ
 about_fact t None = 0
 about_fact t (Some p) = about_of t p
@@ -40,7 +40,7 @@ abbrev pub batch_named : List Entry → ProductCode → Option Batch → Option 
 batch_named t c None k = batch_by_known t c k
 batch_named t c (Some b) k = batch_record t c b
 
--- the record of the batch that a question is about, where it is known
+-- the record of the batch that a question is about, if it is known
 abbrev pub batch_fact : List Entry → Question → Option BatchRecord
 batch_fact t q = batch_named t (code_of q) (locked_batch q) (pack_fact t (pack_of q))
 
@@ -59,7 +59,7 @@ abbrev pub lock_in : Option BatchRecord → BatchLock
 lock_in None = lock.Free
 lock_in (Some r) = r.lock
 
--- how many packs of a batch are active, by its record
+-- the number of active packs of a batch, by its record
 abbrev pub active_in : Option BatchRecord → ℕ
 active_in None = 0
 active_in (Some r) = r.counts.active

@@ -1,4 +1,4 @@
--- What the laws over the rules speak of.
+-- The words of the laws over the rules.
 use Rattle.std.specs.Prelude.{ℕ, ◌≡◌, ◌+◌, ◌≤◌, ◌==◌, pos, ◌≤ℤ◌, Bool, true, false, ◌&&◌, ◌||◌, ◌⊎◌, IsTrue, IsFalse, if◌then◌else◌, List, [], ◌∷◌, length, filter, filter_map, find, count_by, Some, IsSomeAnd}
 use Rattle.std.specs.List.{list_any}
 use Rattle.std.specs.Option.{option_map_or}
@@ -38,11 +38,11 @@ abbrev pub is_handover : Question → Bool
 is_handover (Handover _) = true
 is_handover _ = false
 
--- whether the entry's question does
+-- whether the entry's question hands a pack over
 abbrev pub asks_handover : Entry → Bool
 asks_handover e = is_handover e.put.question
 
--- the entries of one owner, in order, where the owners are listed beside the entries (own)
+-- the entries of one owner, in order; the list of owners has one for each entry (own)
 abbrev pub owned : List ℕ → List Entry → ℕ → List Entry
 owned (o ∷ owners) (e ∷ t) i = if o == i then e ∷ owned owners t i else owned owners t i
 owned owners t i = []
@@ -70,7 +70,7 @@ circulates t p = option_map_or (λ m. uploads p m || reverts p m) (last_operatio
 abbrev pub IsUnlocked : List Entry → ProductCode → Batch → Type 0
 IsUnlocked t c b = IsFalse (list_any (binds c b) t)
 
--- all that Article 11 asks of an authentic pack with this batch and this expiry date: it was uploaded, its identifier
+-- the conditions of Article 11 on an authentic pack with this batch and this expiry date: it was uploaded, its identifier
 -- is active, and its batch was neither recalled nor withdrawn (Article 40)
 pub record IsGenuine (t : List Entry) (p : Pack) (b : Batch) (x : Expiry) : Type 0 where
   pub uploaded : IsUploadedWith t p b x
@@ -82,7 +82,7 @@ abbrev pub uploads_circulating : List Entry → Question → Bool
 uploads_circulating t (Upload p _ _) = circulates t p
 uploads_circulating t _ = false
 
--- how many uploads are of packs of the batch that circulate: in a lawful trail a pack has one (after Article 40)
+-- the number of uploads of packs of the batch that circulate: in a lawful trail a pack has one (after Article 40)
 abbrev pub circulating : List Entry → ProductCode → Batch → ℕ
 circulating t c b = count_by (λ e. uploads_in c b e && uploads_circulating t e.put.question) t
 
@@ -104,7 +104,7 @@ may_become own.Stolen _ = false
 may_become _ own.Stolen = true
 may_become _ _ = false
 
--- what an operation e, before which `place` entries stand, makes of what is known of its pack: from k to n
+-- an operation e, before which `place` entries stand, takes the values known of its pack from k to n
 pub record IsMovedOn (k : Known) (place : ℕ) (e : Entry) (n : Known) : Type 0 where
   pub left : own_left e.put.question ≡ Some n.own
   pub course : IsTrue (may_become k.own n.own)
@@ -112,18 +112,18 @@ pub record IsMovedOn (k : Known) (place : ℕ) (e : Entry) (n : Known) : Type 0 
   pub expiry : n.expiry ≡ k.expiry
   pub mark : n.mark ≡ record { place = place; moment = e.put.moment; authorisation = e.put.actor.authorisation; premises = e.put.actor.premises }
 
--- what is known of a pack after its upload e, before which `place` entries stand
+-- the values known of a pack after its upload e, before which `place` entries stand
 pub record IsBorn (place : ℕ) (e : Entry) (n : Known) : Type 0 where
   pub pack : Pack
   pub question : e.put.question ≡ Upload pack n.batch n.expiry
   pub active : n.own ≡ own.Active
   pub mark : n.mark ≡ record { place = place; moment = e.put.moment; authorisation = e.put.actor.authorisation; premises = e.put.actor.premises }
 
--- a question that is answered with an alert where the pack is not authentic (Article 36)
+-- a question that is answered with an alert if the pack is not authentic (Article 36)
 abbrev pub AsksAuthenticity : Pack → Question → Type 0
 AsksAuthenticity p q = (q ≡ Verify p) ⊎ ((w : Reason) × (q ≡ Decommission p w))
 
--- a question that locks the batch where it is accepted (Article 40)
+-- a question that locks the batch if it is accepted (Article 40)
 abbrev pub AsksLock : ProductCode → Batch → Question → Type 0
 AsksLock c b q = (q ≡ Recall c b) ⊎ (q ≡ Withdraw c b)
 
@@ -131,7 +131,7 @@ AsksLock c b q = (q ≡ Recall c b) ⊎ (q ≡ Withdraw c b)
 abbrev pub alert_numbers : List Entry → ProductCode → List ℕ
 alert_numbers t c = filter_map (λ e. alert_number e.reply) (part_of t c)
 
--- all that Article 13(1) asks of a reversion q of the pack p
+-- the conditions of Article 13(1) on a reversion q of the pack p
 pub record IsRevertible (t : List Entry) (p : Pack) (q : Put) : Type 0 where
   pub batch : Batch
   pub expiry : Expiry
@@ -154,14 +154,14 @@ pub record IsRevertible (t : List Entry) (p : Pack) (q : Put) : Type 0 where
   -- (e) not supplied to the public
   pub not_supplied : IsFalse (supplies p last)
 
--- all that an upload of the pack p by the authorisation n asks for
+-- the conditions on an upload of the pack p by the authorisation n
 pub record IsUploadable (t : List Entry) (p : Pack) (n : Name) : Type 0 where
   -- no pack with this unique identifier was uploaded before (Articles 4 and 33)
   pub first : IsFalse (list_any (uploads p) t)
   -- the product code was uploaded by nobody, or first by this authorisation (own)
   pub allowed : IsFalse (list_any (uploads_code p.code) t) ⊎ IsHeldBy t p.code n
 
--- all that a handover q of the pack p asks for (own, after Article 25)
+-- the conditions on a handover q of the pack p (own, after Article 25)
 pub record IsSuppliable (t : List Entry) (p : Pack) (q : Put) : Type 0 where
   pub batch : Batch
   pub expiry : Expiry
@@ -176,13 +176,13 @@ pub record IsSuppliable (t : List Entry) (p : Pack) (q : Put) : Type 0 where
   -- neither recalled nor withdrawn (Article 40)
   pub unlocked : IsUnlocked t p.code batch
 
--- all that a recall or withdrawal of the batch b by the authorisation n asks for (Article 40)
+-- the conditions on a recall or withdrawal of the batch b by the authorisation n (Article 40)
 pub record IsLockable (t : List Entry) (c : ProductCode) (b : Batch) (n : Name) : Type 0 where
   pub uploaded : IsTrue (list_any (uploads_in c b) t)
   pub holder : IsHeldBy t c n
   pub unlocked : IsUnlocked t c b
 
--- all that a report by the authorisation n that the pack p was stolen asks for (Article 40)
+-- the conditions on a report by the authorisation n that the pack p was stolen (Article 40)
 pub record IsReportable (t : List Entry) (p : Pack) (n : Name) : Type 0 where
   pub holder : IsHeldBy t p.code n
   -- the pack was uploaded, and the last operation on it was no theft report

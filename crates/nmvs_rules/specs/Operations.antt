@@ -1,5 +1,5 @@
--- What was carried out, told by question and reply alone: the laws speak in these words, so that they judge the rules'
--- own words (accepted, own status, lock) and do not rest on them.
+-- Operations that were carried out, seen in question and reply alone. The laws speak in these words, so that they judge
+-- the rules' own words (accepted, own status, lock) and do not rest on them.
 use Rattle.std.specs.Prelude.{ℕ, Bool, true, false, ◌&&◌, ◌||◌, List, reverse, find, Option, Some, None}
 use Rattle.nmvs_identifier.specs.Batch.{Batch}
 use Rattle.nmvs_identifier.specs.ProductCode.{ProductCode}
@@ -79,7 +79,7 @@ abbrev pub confirmation_done : Pack → Question → Reply → Bool
 confirmation_done p (Verify r) (reply.Authentic _ _ _) = same_pack p r
 confirmation_done p _ _ = false
 
--- whether this was done by the entry
+-- whether the entry did this
 abbrev pub uploads : Pack → Entry → Bool
 uploads p e = upload_done p e.put.question e.reply
 
@@ -142,7 +142,7 @@ own_left (Handover _) = Some own.Supplied
 own_left (Theft _) = Some own.Stolen
 own_left _ = None
 
--- what an alert says after such an operation on the pack, or such a lock of its batch: its cause, and whether it is
+-- the content of an alert after such an operation on the pack, or such a lock of its batch: its cause, and whether it is
 -- flagged as a potential falsification. An upload or a reversion gives no cause (after Article 36)
 abbrev pub alarm : Question → Option (Cause × Bool)
 alarm (Decommission _ reason.Supply) = Some (cause.Supplied, true)

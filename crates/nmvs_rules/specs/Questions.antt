@@ -1,4 +1,4 @@
--- What a question names, and who may ask it.
+-- Questions: the pack, the product code and the batch that they name, and the roles that may ask them.
 use Rattle.std.specs.Prelude.{Bool, true, false, Option, Some, None}
 use Rattle.nmvs_identifier.specs.ProductCode.{ProductCode}
 use Rattle.nmvs_identifier.specs.Batch.{Batch}
@@ -11,7 +11,7 @@ use Rattle.nmvs_rules.specs.declared.reason.Reason.TheVariants as reason
 use Rattle.nmvs_rules.specs.declared.question.Question.{Question}
 use Rattle.nmvs_rules.specs.declared.question.Question.TheVariants.{Upload, Verify, Status, Decommission, Handover, Revert, Recall, Withdraw, Theft, Audit}
 
--- the pack that a question names; a recall or withdrawal names none, for it binds a whole batch (Article 40)
+-- the pack that a question names; a recall or withdrawal names none, because it binds a whole batch (Article 40)
 abbrev pub pack_of : Question → Option Pack
 pack_of (Upload p b x) = Some p
 pack_of (Verify p) = Some p
@@ -48,7 +48,7 @@ abbrev pub names : Pack → Option Pack → Bool
 names p None = false
 names p (Some r) = same_pack p r
 
--- who may decommission for which reason (own, after Articles 22 and 25)
+-- whether a role may decommission for a reason (own, after Articles 22 and 25)
 abbrev pub may_decommission : Role → Reason → Bool
 may_decommission role.Manufacturer reason.Export = true
 may_decommission role.Manufacturer reason.Sample = true
@@ -63,29 +63,29 @@ may_decommission role.Pharmacy reason.Hold = true
 may_decommission role.Pharmacy reason.Supply = true
 may_decommission _ _ = false
 
--- who handles packs: manufacturers, wholesalers and those who supply to the public (own, after Articles 10 to 13)
+-- whether a role handles packs: manufacturers, wholesalers and suppliers to the public (own, after Articles 10 to 13)
 abbrev pub is_handler : Role → Bool
 is_handler role.Manufacturer = true
 is_handler role.Wholesaler = true
 is_handler role.Pharmacy = true
 is_handler _ = false
 
--- who supplies packs to the public, a healthcare institution among them (Article 25)
+-- whether a role supplies packs to the public, a healthcare institution among them (Article 25)
 abbrev pub is_supplier : Role → Bool
 is_supplier role.Pharmacy = true
 is_supplier _ = false
 
--- a marketing authorisation holder (Article 40)
+-- whether a role is that of a marketing authorisation holder (Article 40)
 abbrev pub is_holder : Role → Bool
 is_holder role.Holder = true
 is_holder _ = false
 
--- a competent authority, which is shown the record of operations (Articles 35 and 39)
+-- whether a role is that of a competent authority, which sees the record of operations (Articles 35 and 39)
 abbrev pub is_authority : Role → Bool
 is_authority role.Authority = true
 is_authority _ = false
 
--- who may ask what; the status may be read by all (own, after Articles 22, 25, 36 and 40)
+-- whether a role may ask a question; all may read the status (own, after Articles 22, 25, 36 and 40)
 abbrev pub may_ask : Role → Question → Bool
 may_ask r (Upload _ _ _) = is_holder r
 may_ask r (Recall _ _) = is_holder r
@@ -98,6 +98,6 @@ may_ask r (Handover _) = is_supplier r
 may_ask r (Status _) = true
 may_ask r (Audit _) = is_authority r
 
--- who gets the report of a product code, which is no question of a trail (own, after Articles 36 and 39)
+-- whether a role gets the report of a product code, which is no question of a trail (own, after Articles 36 and 39)
 abbrev pub may_report : Role → Bool
 may_report r = is_authority r

@@ -1,4 +1,4 @@
--- A question that is asked again with the tag that it had (own).
+-- A question that is asked again with the same tag (own).
 use Rattle.std.specs.Prelude.{ℕ, zero, suc, ◌≡◌, ◌+◌, ◌-◌, ◌≤◌, IsFalse, nat_lt, Bool, true, false, not, ◌&&◌, List, [], ◌∷◌, ◌++◌, length, map, drop, slice_get, Option, Some, None, if◌then◌else◌}
 use Rattle.std.specs.List.{suffix_len}
 use Rattle.std.specs.Option.{option_map_or}
@@ -61,7 +61,7 @@ same_question (Theft p) (Theft q) = same_pack p q
 same_question (Audit p) (Audit q) = same_pack p q
 same_question _ _ = false
 
--- whether both ask the same in the same capacity, at whatever moments
+-- whether both ask the same in the same capacity, at any moments
 abbrev pub asks_same : Put → Put → Bool
 asks_same q r = same_actor q.actor r.actor && same_question q.question r.question
 
@@ -78,21 +78,21 @@ is_by user g q = has_tag g q.tag && same_text user q.user
 abbrev pub is_tagged : Pack → Name → Tag → Entry → Bool
 is_tagged p user g e = is_about p e && is_by user g e.put
 
--- how many entries the trail has up to the last one about the pack, of this user, with this tag, that one counted; 0 where
--- there is none
+-- the number of entries up to the last one about the pack, of this user, with this tag, which counts too; 0 if there is
+-- none
 abbrev pub last_tagged : List Entry → Pack → Name → Tag → ℕ
 last_tagged t p user g = length t - suffix_len (λ e. not (is_tagged p user g e)) t
 
--- the place of the last of the first n entries, where it is among the last 16 about the pack
+-- the place of the last of the first n entries, if it is among the last 16 about the pack
 abbrev pub place_up_to : List Entry → Pack → ℕ → Option ℕ
 place_up_to t p zero = None
 place_up_to t p (suc n) = if nat_lt (about_of (drop (suc n) t) p) entries_looked_over then Some n else None
 
--- where the last entry of this user with this tag stands among the last 16 about the pack
+-- the place of the last entry of this user with this tag, if it is among the last 16 about the pack
 abbrev pub place_tagged : List Entry → Pack → Name → Tag → Option ℕ
 place_tagged t p user g = place_up_to t p (last_tagged t p user g)
 
--- whether the reply says how a pack stands at its moment: such a reply is never answered again
+-- whether the reply gives the state of a pack at its moment: such a reply never answers again
 abbrev pub tells_state : Reply → Bool
 tells_state (reply.Authentic b x past) = true
 tells_state (reply.StatusIs own lock onward b x) = true
@@ -104,31 +104,30 @@ tells_state _ = false
 abbrev pub is_in_day : ℕ → ℕ → Bool
 is_in_day earlier later = not (nat_lt (earlier + seconds_answered) later)
 
--- what a question is beside the entry at a place that asked the same
+-- the relation of a question to the entry at a place that asked the same
 abbrev pub beside_same : ℕ → Entry → Repeat
 beside_same place e = if tells_state e.reply then repeat.New else repeat.Same place e.reply
 
--- what a question is beside the entry at a place, which has its user and its tag
+-- the relation of a question to the entry at a place, which has its user and its tag
 abbrev pub beside : Put → ℕ → Entry → Repeat
 beside q place e =
     if is_in_day e.put.moment q.moment then (if asks_same q e.put then beside_same place e else repeat.Other) else repeat.New
 
--- what a question is, by the place of such an entry
+-- the relation of a question to a trail, by the place of such an entry
 abbrev pub repeat_at : List Entry → Put → Option ℕ → Repeat
 repeat_at t q None = repeat.New
 repeat_at t q (Some place) = option_map_or (beside q place) (slice_get t place) repeat.New
 
--- what a question is, by the pack that it names and its tag
+-- the relation of a question to a trail, by the pack that it names and its tag
 abbrev pub repeat_by : List Entry → Put → Option Pack → Option Tag → Repeat
 repeat_by t q (Some p) (Some g) = repeat_at t q (place_tagged t p q.user g)
 repeat_by t q _ _ = repeat.New
 
--- what a question is beside the entries of a trail
+-- the relation of a question to a trail
 abbrev pub repeat_of : List Entry → Put → Repeat
 repeat_of t q = repeat_by t q (pack_of q.question) q.tag
 
--- the reply that the asker gets, by what the question is: that of the rules where it is new, that of the entry which it repeats,
--- or none
+-- the reply that the asker gets: that of the rules if the question is new, that of the entry that it repeats, or none
 abbrev pub reply_by : List Entry → Put → Repeat → Option Reply
 reply_by t q repeat.New = Some (reply_of t q)
 reply_by t q (repeat.Same place r) = Some r
@@ -138,7 +137,7 @@ reply_by t q repeat.Other = None
 abbrev pub answer_of : List Entry → Put → Option Reply
 answer_of t q = reply_by t q (repeat_of t q)
 
--- each of the entries es, which follow the entries u, asked what was new on all entries before it
+-- each question of the entries es, which follow the entries u, was new on all entries before it
 abbrev pub AreNewAfter : List Entry → List Entry → Type 0
 AreNewAfter u [] = Unit {0}
 AreNewAfter u (e ∷ es) = (repeat_of u e.put ≡ repeat.New) × AreNewAfter (u ++ e ∷ []) es
@@ -147,8 +146,8 @@ AreNewAfter u (e ∷ es) = (repeat_of u e.put ≡ repeat.New) × AreNewAfter (u 
 abbrev pub AreNew : List Entry → Type 0
 AreNew t = AreNewAfter [] t
 
--- the entry at a place asked what the question asks, by the same user, with the same tag and in the same capacity, at most a
--- day before; and its reply, which is this one, does not say how a pack stands
+-- the entry at a place asked the question, by the same user, with the same tag and in the same capacity, at most a day
+-- earlier; its reply is this one, and does not give the state of a pack
 pub record IsRepeated (t : List Entry) (q : Put) (place : ℕ) (reply : Reply) : Type 0 where
   pub entry : Entry
   pub stands : slice_get t place ≡ Some entry

@@ -3,7 +3,7 @@ use Rattle.std.specs.Prelude.{ℕ}
 use Rattle.nmvs_rules.specs.declared.refusal.Refusal.{Refusal}
 use Rattle.nmvs_rules.specs.declared.refusal.Refusal.TheVariants as refusal
 
--- the number by which a refusal is told (own)
+-- the number of a refusal in replies and entries (own)
 abbrev pub refusal_number : Refusal → ℕ
 refusal_number refusal.Role = 1
 refusal_number refusal.Unknown = 2

@@ -1,5 +1,5 @@
--- The reply that the rules give to a question on a trail. Of the conditions on a question the first that fails decides;
--- their order is own.
+-- The reply that the rules give to a question on a trail. The first condition on a question that fails decides; the order
+-- of the conditions is own.
 use Rattle.std.specs.Prelude.{ℕ, ◌+◌, ◌≡◌, pos, int_lt, nat_le, Bool, true, false, not, ◌&&◌, List, [], ◌∷◌, ◌++◌, filter, Option, Some, None, is_some, if◌then◌else◌}
 use Rattle.nmvs_identifier.specs.Name.{Name}
 use Rattle.nmvs_identifier.specs.Expiry.{Expiry, expiry_day}
@@ -64,8 +64,8 @@ abbrev pub is_supplied : OwnStatus → Bool
 is_supplied own.Supplied = true
 is_supplied _ = false
 
--- why a pack of a free batch is not authentic: its own status. An active one is authentic and has no alert (after
--- Article 36)
+-- the cause why a pack of a free batch is not authentic, by its own status; an active one is authentic and has no alert
+-- (after Article 36)
 abbrev pub cause_by_own : OwnStatus → Cause
 cause_by_own own.Active = cause.Unknown
 cause_by_own own.Held = cause.Held
@@ -75,18 +75,18 @@ cause_by_own own.Sampled = cause.Sampled
 cause_by_own own.Destroyed = cause.Destroyed
 cause_by_own own.Stolen = cause.Stolen
 
--- why a known pack is not authentic: its batch's lock where that is not free, else its own status (after Article 36)
+-- the cause why a known pack is not authentic: its batch's lock unless that is free, else its own status (after Article 36)
 abbrev pub cause_of : OwnStatus → BatchLock → Cause
 cause_of o lock.Free = cause_by_own o
 cause_of o lock.Recalled = cause.Recalled
 cause_of o lock.Withdrawn = cause.Withdrawn
 
--- whether an alert on a known pack is flagged as a potential falsification: not where the pack is recalled, withdrawn
--- or decommissioned for destruction (after Article 36)
+-- whether an alert on a known pack is flagged as a potential falsification: not if the pack is recalled, withdrawn or
+-- decommissioned for destruction (after Article 36)
 abbrev pub is_flagged : OwnStatus → BatchLock → Bool
 is_flagged o l = is_free l && not (is_destroyed o)
 
--- where a pack of a free batch may go (Article 12; the words, and what a held and a supplied pack give, are own)
+-- where a pack of a free batch may go (Article 12; the words are own, and so are those for a held and a supplied pack)
 abbrev pub onward_by_own : OwnStatus → Onward
 onward_by_own own.Active = onward.Stock
 onward_by_own own.Held = onward.Supply
@@ -143,7 +143,7 @@ abbrev pub verify_reply : ℕ → Known → BatchLock → ℕ → Reply
 verify_reply moment k l n =
     if is_authentic k.own l then reply.Authentic k.batch k.expiry (is_past k.expiry moment) else alert_on k l n
 
--- the status of a known pack, told without an alert (Article 36)
+-- the status of a known pack, given without an alert (Article 36)
 abbrev pub status_reply : Known → BatchLock → Reply
 status_reply k l = reply.StatusIs k.own l (onward_by k.own l) k.batch k.expiry
 
@@ -199,7 +199,7 @@ upload_reply a holder k =
 abbrev pub lock_on : List Entry → Pack → Known → BatchLock
 lock_on t p k = lock_of t p.code k.batch
 
--- one reply where the pack is unknown, another where it is known
+-- one reply if the pack is unknown, another if it is known
 abbrev pub on_pack : Option Known → Reply → (Known → Reply) → Reply
 on_pack None unknown f = unknown
 on_pack (Some k) unknown f = f k
@@ -224,7 +224,7 @@ admitted_reply t moment a (Theft p) =
     on_pack (known t p) (reply.Refused refusal.Unknown) (λ k. theft_reply a (holder_of t p.code) k)
 admitted_reply t moment a (Audit p) = reply.Shown (about_of t p)
 
--- the reply of the rules: who may not ask is refused before all else (own)
+-- the reply of the rules: a user who may not ask is refused before all else (own)
 abbrev pub reply_of : List Entry → Put → Reply
 reply_of t q =
     if may_ask q.actor.role q.question then admitted_reply t q.moment q.actor q.question else reply.Refused refusal.Role

@@ -1,5 +1,5 @@
--- What a trail says of packs, batches and product codes. A trail is the complete record of all operations, oldest entry
--- first (Article 35). Nothing is kept beside it: each definition looks back over the whole list.
+-- The state of packs, batches and product codes on a trail. A trail is the complete record of all operations, oldest entry
+-- first (Article 35). Nothing is kept next to it: each definition looks back over the whole list.
 use Rattle.std.specs.Prelude.{ℕ, ◌-◌, Bool, true, false, not, ◌&&◌, List, reverse, length, find, count_by, Option, Some, None, unwrap_or, if◌then◌else◌}
 use Rattle.std.specs.List.{list_any, suffix_len}
 use Rattle.std.specs.Option.{option_map, option_map_or}
@@ -85,7 +85,7 @@ is_mark p e = is_about p e && is_accepted e
 abbrev pub mark : List Entry → Pack → Option Entry
 mark t p = last (is_mark p) t
 
--- how many entries stand before the mark: all but the mark itself and the run of other entries at the end (own)
+-- the number of entries before the mark: all but the mark itself and the run of other entries at the end (own)
 abbrev pub mark_place : List Entry → Pack → ℕ
 mark_place t p = length t - suffix_len (λ e. not (is_mark p e)) t - 1
 
@@ -105,7 +105,7 @@ own_given (Handover _) = own.Supplied
 own_given (Theft _) = own.Stolen
 own_given _ = own.Active
 
--- a pack's own status, where it has a mark (Articles 22, 25 and 40)
+-- a pack's own status, if it has a mark (Articles 22, 25 and 40)
 abbrev pub own_of : List Entry → Pack → Option OwnStatus
 own_of t p = option_map (λ m. own_given m.put.question) (mark t p)
 
@@ -125,21 +125,20 @@ abbrev pub holder_of : List Entry → ProductCode → Option Name
 holder_of t c =
     option_map (λ e. e.put.actor.authorisation) (find (λ e. (is_upload e.put.question && has_code c e) && is_accepted e) t)
 
--- how many alerts a product code has had (own)
+-- the number of alerts on a product code (own)
 abbrev pub alerts_of : List Entry → ProductCode → ℕ
 alerts_of t c = count_by (λ e. has_code c e && is_alert e.reply) t
 
--- how many entries are about a pack (Article 35)
+-- the number of entries about a pack (Article 35)
 abbrev pub about_of : List Entry → Pack → ℕ
 about_of t p = count_by (is_about p) t
 
--- what is kept of an entry as a mark: its place, its moment, and by which authorisation and at which premises (Article
--- 13(1))
+-- the mark that an entry leaves: its place, its moment, its authorisation and its premises (Article 13(1))
 abbrev pub mark_after : ℕ → Entry → Mark
 mark_after place e =
     record { place = place; moment = e.put.moment; authorisation = e.put.actor.authorisation; premises = e.put.actor.premises }
 
--- what is known by an accepted upload and a mark m: batch and expiry from the upload, the rest from m
+-- the values known by an accepted upload and a mark m: batch and expiry from the upload, the rest from m
 abbrev pub known_at : List Entry → Pack → Entry → Question → Option Known
 known_at t p m (Upload _ b x) =
     Some (record {
@@ -150,27 +149,27 @@ known_at t p m (Upload _ b x) =
     })
 known_at t p m _ = None
 
--- what is known by the accepted upload u, and the mark: as u is accepted there is one, so `unwrap_or` never falls back
--- on u
+-- the values known by the accepted upload u and the mark; because u is accepted there is a mark, and `unwrap_or` never
+-- falls back on u
 abbrev pub known_from : List Entry → Pack → Option Entry → Option Known
 known_from t p None = None
 known_from t p (Some u) = known_at t p (unwrap_or (mark t p) u) u.put.question
 
--- what is known of a pack: nothing before its accepted upload (Articles 4 and 11)
+-- the values known of a pack: nothing before its accepted upload (Articles 4 and 11)
 abbrev pub known : List Entry → Pack → Option Known
 known t p = known_from t p (born t p)
 
--- what an accepted question at a place makes known of a pack that was unknown: an upload all, another nothing
+-- the values known of an unknown pack after an accepted question at a place: an upload gives all, another none
 abbrev pub born_by : ℕ → Entry → Question → Option Known
 born_by place e (Upload _ b x) = Some (record { batch = b; expiry = x; own = own.Active; mark = mark_after place e })
 born_by place e _ = None
 
--- what is known of a pack after one more accepted entry about it
+-- the values known of a pack after one more accepted entry about it
 abbrev pub marked_by : ℕ → Entry → Option Known → Option Known
 marked_by place e None = born_by place e e.put.question
 marked_by place e (Some k) = Some (record k { own = own_given e.put.question; mark = mark_after place e })
 
--- what is known of a pack after one more entry
+-- the values known of a pack after one more entry
 abbrev pub known_after : Pack → ℕ → Entry → Option Known → Option Known
 known_after p place e k = if is_mark p e then marked_by place e k else k
 
@@ -203,11 +202,11 @@ abbrev pub stands_at : List Entry → OwnStatus → Option Pack → Bool
 stands_at t s None = false
 stands_at t s (Some p) = is_own s (own_of t p)
 
--- how many packs of the batch have the own status s now: a lawful trail has one accepted upload for each known pack
+-- the number of packs of the batch with own status s now: a lawful trail has one accepted upload for each known pack
 abbrev pub count_of : List Entry → ProductCode → Batch → OwnStatus → ℕ
 count_of t c b s = count_by (λ e. is_birth_in c b e && stands_at t s (pack_of e.put.question)) t
 
--- how many packs of the batch have each own status now
+-- the number of packs of the batch in each own status now
 abbrev pub counts_of : List Entry → ProductCode → Batch → Counts
 counts_of t c b = record {
   active = count_of t c b own.Active;
@@ -219,7 +218,7 @@ counts_of t c b = record {
   stolen = count_of t c b own.Stolen;
 }
 
--- what is kept of a batch, where it is known
+-- the record of a batch, if it is known
 abbrev pub batch_record : List Entry → ProductCode → Batch → Option BatchRecord
 batch_record t c b =
     if is_known_batch t c b then Some (record { lock = lock_of t c b; counts = counts_of t c b }) else None

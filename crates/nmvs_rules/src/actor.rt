@@ -4,7 +4,7 @@ ghost use Rattle.nmvs_rules.specs.Entries.{is_actor};
 use crate::Role;
 use nmvs_identifier::Name;
 
-/// In what capacity a user asks: by which authorisation or entitlement, and at which premises (Article 13(1)).
+/// The capacity in which a user asks: role, authorisation or entitlement, and premises (Article 13(1)).
 #[derive(Clone, Copy, Debug, PartialEq, Eq)]
 pub struct Actor {
     pub role: Role,
@@ -13,7 +13,7 @@ pub struct Actor {
 }
 
 impl Actor {
-    /// Tells a proof that the names are in their grammar, and does nothing.
+    /// Proves that the names are in their grammar, and does nothing else.
     pub fn tell_grammar(&self)
         ensures { IsTrue (is_actor self.now) }
     {

@@ -1,5 +1,5 @@
-//! Who may ask what. Each `match` on a role names every one, so that a new role is decided on here before anything
-//! compiles.
+//! The questions that each role may ask. Each `match` on a role names all of them, so a new role does not compile until
+//! it is decided here.
 ghost use Rattle.std.specs.Prelude.{◌≡◌};
 ghost use Rattle.nmvs_rules.specs.Questions.{may_ask, may_report, may_decommission, is_handler, is_supplier, is_holder, is_authority};
 

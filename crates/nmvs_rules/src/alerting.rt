@@ -1,10 +1,10 @@
-//! Alerts, where authenticity is not confirmed (Article 36).
+//! Alerts if authenticity is not confirmed (Article 36).
 ghost use Rattle.std.specs.Prelude.{◌≡◌, ◌+◌, ◌<◌, ◌^◌};
 ghost use Rattle.nmvs_rules.specs.Rules.{alert_on, alert_unknown, cause_of, is_flagged};
 
 use crate::{BatchLock, Cause, Known, OwnStatus, Reply};
 
-/// The alert on a known pack, `alerts` being those of its product code so far.
+/// The alert on a known pack, after `alerts` earlier ones on its product code.
 pub(crate) fn alert_on(known: &Known, lock: BatchLock, alerts: u64) -> Reply
     requires { alerts + 1 < 2 ^ 64 }
     ensures { result ≡ alert_on known.now lock alerts }
@@ -16,7 +16,7 @@ pub(crate) fn alert_on(known: &Known, lock: BatchLock, alerts: u64) -> Reply
     }
 }
 
-/// The alert on an unknown pack, `alerts` being those of its product code so far.
+/// The alert on an unknown pack, after `alerts` earlier ones on its product code.
 pub(crate) fn alert_unknown(alerts: u64) -> Reply
     requires { alerts + 1 < 2 ^ 64 }
     ensures { result ≡ alert_unknown alerts }

@@ -1,4 +1,4 @@
-/// Why authenticity is not confirmed (Article 36).
+/// The reason why authenticity is not confirmed (Article 36).
 #[derive(Clone, Copy, Debug, PartialEq, Eq)]
 pub enum Cause {
     /// The repository has no such pack.

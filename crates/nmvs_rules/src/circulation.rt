@@ -22,7 +22,7 @@ pub fn onward_of(own: OwnStatus, lock: BatchLock) -> Onward
     }
 }
 
-/// The reply to a verification of a known pack, `alerts` being those of its product code so far.
+/// The reply to a verification of a known pack, after `alerts` alerts on its product code.
 pub(crate) fn verify_reply(moment: Moment, known: &Known, lock: BatchLock, alerts: u64) -> Reply
     requires { alerts + 1 < 2 ^ 64 }
     ensures { result ≡ verify_reply moment known.now lock alerts }
@@ -50,7 +50,7 @@ pub(crate) fn status_reply(known: &Known, lock: BatchLock) -> Reply
     }
 }
 
-/// The reply to a decommissioning of a known pack, `alerts` being those of its product code so far.
+/// The reply to a decommissioning of a known pack, after `alerts` alerts on its product code.
 pub(crate) fn decommission_reply(known: &Known, lock: BatchLock, alerts: u64) -> Reply
     requires { alerts + 1 < 2 ^ 64 }
     ensures { result ≡ decommission_reply known.now lock alerts }

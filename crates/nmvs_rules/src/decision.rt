@@ -15,8 +15,8 @@ use crate::{BatchLock, BatchRecord, Facts, Put, Question, Refusal, Reply, may};
 /// The reply of the rules to a question as it is put, by the facts that it rests on (Articles 11 to 13, 22, 25, 35, 36
 /// and 40).
 ///
-/// Of the conditions on a question the first that fails decides; a refusal is a reply, and so is an alert. The user's
-/// name plays no part in it.
+/// The first condition on the question that fails decides. A refusal is a reply, and so is an alert. The user's name
+/// plays no part in it.
 pub fn decide(facts: &Facts, put: &Put) -> Reply
     requires { facts.now.alerts + 1 < 2 ^ 64 }
     ensures by_facts { result ≡ reply_by_facts facts.now put.now }

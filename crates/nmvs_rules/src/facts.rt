@@ -1,4 +1,4 @@
-//! What a reply rests on.
+//! The facts that a reply rests on.
 
 use crate::{BatchLock, OwnStatus};
 use nmvs_identifier::{Batch, Expiry, Moment, Name};
@@ -6,14 +6,14 @@ use nmvs_identifier::{Batch, Expiry, Moment, Name};
 /// The last accepted entry about a pack.
 #[derive(Clone, Copy, Debug, PartialEq, Eq)]
 pub struct Mark {
-    /// How many entries stand before it in the trail.
+    /// The number of entries before it in the trail.
     pub place: u64,
     pub moment: Moment,
     pub authorisation: Name,
     pub premises: Name,
 }
 
-/// What is known of a pack.
+/// The values known of a pack.
 #[derive(Clone, Copy, Debug, PartialEq, Eq)]
 pub struct Known {
     pub batch: Batch,
@@ -22,7 +22,7 @@ pub struct Known {
     pub mark: Mark,
 }
 
-/// How many packs of a batch have each own status.
+/// The number of packs of a batch in each own status.
 #[derive(Clone, Copy, Debug, PartialEq, Eq)]
 pub struct Counts {
     pub active: u64,
@@ -34,24 +34,24 @@ pub struct Counts {
     pub stolen: u64,
 }
 
-/// What is kept of a batch.
+/// The record of a batch.
 #[derive(Clone, Copy, Debug, PartialEq, Eq)]
 pub struct BatchRecord {
     pub lock: BatchLock,
     pub counts: Counts,
 }
 
-/// What the reply to a question rests on.
+/// The facts that the reply to a question rests on.
 #[derive(Clone, Copy, Debug, PartialEq, Eq)]
 pub struct Facts {
-    /// The pack that the question names, where it is known.
+    /// The pack that the question names, if it is known.
     pub pack: Option<Known>,
-    /// How many entries are about that pack.
+    /// The number of entries about that pack.
     pub about: u64,
-    /// The batch of that pack, or the one that a recall or withdrawal names. None stands for a free one.
+    /// The batch of that pack, or the one that a recall or withdrawal names. None if it is unknown, which counts as free.
     pub batch: Option<BatchRecord>,
     /// The holder of the product code.
     pub holder: Option<Name>,
-    /// How many alerts the product code has had.
+    /// The number of alerts on the product code so far.
     pub alerts: u64,
 }

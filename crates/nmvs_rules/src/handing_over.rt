@@ -1,4 +1,4 @@
-//! Handing over a pack that was decommissioned for supply before (own, after Article 25).
+//! The handover of a pack that was decommissioned for supply earlier (own, after Article 25).
 ghost use Rattle.std.specs.Prelude.{◌≡◌};
 ghost use Rattle.nmvs_rules.specs.Rules.{handover_reply};
 

@@ -1,5 +1,4 @@
-//! What the holder of a product code does: uploads, recalls, withdrawals and reports of theft
-//! (Articles 33 and 40).
+//! The operations of a product code's holder: uploads, recalls, withdrawals and theft reports (Articles 33 and 40).
 ghost use Rattle.std.specs.Prelude.{◌≡◌, is_some};
 ghost use Rattle.nmvs_rules.specs.Rules.{upload_reply, lock_reply, theft_reply, is_held_by, has_other_holder};
 ghost use Rattle.nmvs_rules.specs.Facts.{lock_in, active_in};

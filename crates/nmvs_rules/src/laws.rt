@@ -1,6 +1,6 @@
-//! What follows from the rules. A function here does nothing: its contract is the law.
+//! Statements that follow from the rules. A function here does nothing: its contract is the law.
 //!
-//! The laws tell what was carried out by question and reply alone, so that a wrong word of the rules breaks them.
+//! The laws see an operation in its question and reply alone, so a wrong word of the rules breaks them.
 
 mod acceptance;
 mod answers;

@@ -1,9 +1,9 @@
-//! The rules of the repository: what may be asked, and the reply that the Regulation gives on a trail.
+//! The rules of the repository: the questions that may be asked, and the reply that the Regulation gives on a trail.
 //!
 //! A [`Put`] is a [`Question`] as an [`Actor`] puts it at a moment. [`decide`] gives the [`Reply`] from the [`Facts`],
 //! the few things that it rests on: `decide(&facts, &put)`. Its contract says that this is the reply of the definitions
 //! in `specs` on every trail that has these facts. An [`Entry`] is a put with its reply, and a trail is a list of them,
-//! oldest first. [`laws`] has what follows from the rules.
+//! oldest first. [`laws`] has the statements that follow from the rules.
 //!
 //! It keeps no trail and finds no facts in one: `nmvs_tables` and `nmvs_shard` do. It knows no texts of lines or
 //! replies.

@@ -1,4 +1,4 @@
-/// Why a pack is decommissioned (Articles 22 and 25).
+/// The reason of a decommissioning (Articles 22 and 25).
 #[derive(Clone, Copy, Debug, PartialEq, Eq)]
 pub enum Reason {
     /// It is handed over to the public now.

@@ -1,8 +1,8 @@
-//! Why a question is refused.
+//! Refusals of questions.
 ghost use Rattle.std.specs.Prelude.{◌≡◌};
 ghost use Rattle.nmvs_rules.specs.Replies.{refusal_number};
 
-/// Why a question is refused (after Articles 13 and 40; the names, numbers and order are own).
+/// The reason why a question is refused (after Articles 13 and 40; the names, numbers and order are own).
 #[derive(Clone, Copy, Debug, PartialEq, Eq)]
 pub enum Refusal {
     /// The role may not ask this.

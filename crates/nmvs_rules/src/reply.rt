@@ -1,4 +1,4 @@
-//! What is answered.
+//! Replies to questions.
 ghost use Rattle.std.specs.Prelude.{◌≡◌, IsTrue};
 ghost use Rattle.nmvs_rules.specs.Entries.{is_reply};
 ghost use Rattle.nmvs_rules.specs.Repeats.{tells_state};
@@ -35,16 +35,16 @@ pub enum Reply {
     Decommissioned,
     HandedOver,
     Reverted,
-    /// The batch is recalled or withdrawn from now on; the number tells how many of its packs were active.
+    /// The batch is recalled or withdrawn from now on; the number is that of its packs that were active.
     LockedNow(u64),
     MarkedStolen,
-    /// The number tells how many earlier entries are about the pack.
+    /// The number of earlier entries about the pack.
     Shown(u64),
     Refused(Refusal),
 }
 
 impl Reply {
-    /// Whether it says how a pack stands at its moment, so that it is never answered again (own).
+    /// Whether it gives the state of a pack at its moment, so that it never answers again (own).
     pub fn tells_state(&self) -> bool
         ensures { result ≡ tells_state self.now }
     {
@@ -54,7 +54,7 @@ impl Reply {
         )
     }
 
-    /// Tells a proof that the reply's texts are in their grammars and its numbers in their ranges, and does nothing.
+    /// Proves that the reply's texts are in their grammars and its numbers in their ranges, and does nothing else.
     pub fn tell_ranges(&self)
         ensures { IsTrue (is_reply self.now) }
     {
@@ -64,7 +64,7 @@ impl Reply {
                 expiry.tell_grammar();
             }
             Reply::Alert { number, .. } => {
-                // A proof learns that a number behind a reference fits its type once it is read.
+                // A proof learns that the number in a reference fits its type once it is read.
                 let _number = *number;
             }
             Reply::LockedNow(count) | Reply::Shown(count) => {

@@ -1,4 +1,4 @@
-/// What a user is to the repository.
+/// The role of a user.
 ///
 /// Source: the addressees of Articles 10 to 13, 22, 25, 35, 36 and 40 of the Regulation; the names are own.
 #[derive(Clone, Copy, Debug, PartialEq, Eq)]

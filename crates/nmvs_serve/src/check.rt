@@ -1,4 +1,4 @@
-//! What `--check` says: all that is wrong with the file of options and with the users file. Nothing is started.
+//! The check of `--check`, which prints all faults of the file of options and of the users file. Nothing is started.
 use crate::report::{ended, say};
 use crate::{read_text, refuse_file};
 use nmvs_config::{ConfigFault, EntryFault, entry_faults};
@@ -9,12 +9,12 @@ use std::fs;
 use std::process::ExitCode;
 use std::rt::{Clock, Files};
 
-/// Whether the words of a command line ask for it.
+/// Whether the words of a command line ask for the check.
 pub(crate) fn asks_check(words: &[String]) -> bool {
     words.iter().any(|word| word.as_str() == "--check")
 }
 
-/// Says each fault of the entries of the file of options at this path. Where there is one, it gives the status of a start.
+/// Prints each fault of the entries of the file of options at this path. If there is one, it returns the status of a start.
 pub(crate) fn check_file<R: Files + Eprint + Clock + AllocGlobal>(
     rt: &R,
     format: LogFormat,
@@ -44,7 +44,8 @@ fn faults_of_file<R: Files + AllocGlobal>(
     entry_faults(rt.alloc(), &text)
 }
 
-/// Says each fault of the users file of the options, and if it names no user, and gives the status of a start with it.
+/// Prints each fault of the users file of the options, and a warning if the file names no user. It returns the status of a
+/// start with it.
 pub(crate) fn check_users<R: Files + Eprint + Clock + AllocGlobal>(
     rt: &R,
     options: &Options,
@@ -69,7 +70,7 @@ pub(crate) fn check_users<R: Files + Eprint + Clock + AllocGlobal>(
     }
 }
 
-/// Says the faults of a users file, each with its line in quotes.
+/// Prints the faults of a users file, each with its line in quotes.
 fn say_all<R: Eprint + Clock>(rt: &R, format: LogFormat, faults: &[UsersFault<'_>]) -> ExitCode {
     let mut status = ExitCode::SUCCESS;
     for found in faults {
@@ -79,7 +80,7 @@ fn say_all<R: Eprint + Clock>(rt: &R, format: LogFormat, faults: &[UsersFault<'_
     status
 }
 
-/// Says a fault of a users file, with its line in quotes.
+/// Prints a fault of a users file, with its line in quotes.
 fn say_fault<R: Eprint + Clock>(rt: &R, format: LogFormat, found: &UsersFault<'_>) {
     let line = found.line.escape_ascii();
     let opening = "nmvs-serve";

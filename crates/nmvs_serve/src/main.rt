@@ -56,7 +56,7 @@ fn main(rt: HostRuntime) -> ExitCode {
     }
 }
 
-/// Serves connections, while commands come by the console and by the socket of the options, where they name one.
+/// Serves connections, while commands come by the console and by the socket of the options, if they name one.
 fn serve<'o, R: Host + Sync + Copy + Drop, I: Source + Drop, W: Sink + Drop>(
     rt: R,
     alloc: Global,
@@ -81,7 +81,7 @@ fn serve<'o, R: Host + Sync + Copy + Drop, I: Source + Drop, W: Sink + Drop>(
     }
 }
 
-/// Why commands are not taken at this path.
+/// The fault of a console that takes no commands at this path.
 fn fault_of(fault: AdminFault, path: Option<&str>) -> Fault<'_> {
     match (fault, path) {
         (AdminFault::Socket, Some(path)) => Fault::CannotListenAt(path),
@@ -95,8 +95,8 @@ fn words<R: Env + AllocGlobal>(rt: &R) -> io::Result<Vec<String>> {
     Ok(words)
 }
 
-/// The options of the command line and of the file that it names. Where there are none it says why, or prints the help that
-/// was asked for, and gives the status.
+/// The options of the command line and of the file that it names. If there are none, it prints the fault, or the help if the
+/// words ask for it, and returns the status.
 fn options<R: Files + Print + Eprint + Clock + AllocGlobal>(
     rt: &R,
     words: Vec<String>,
@@ -116,8 +116,8 @@ fn options<R: Files + Print + Eprint + Clock + AllocGlobal>(
     }
 }
 
-/// The words of the file that the command line names, where it names one, and behind them those of the command line. One
-/// that asks for help or the version reads no file. Where the file is refused it says why, and gives the status.
+/// The words of the file that the command line names, if it names one, and then those of the command line. A command line that
+/// asks for help or the version reads no file. If the file is refused, it prints the fault, and returns the status.
 fn with_file<R: Files + Eprint + Clock + AllocGlobal>(
     rt: &R,
     words: Vec<String>,
@@ -136,7 +136,7 @@ fn with_file<R: Files + Eprint + Clock + AllocGlobal>(
     read_words(rt, &path, words).map_err(|fault| refuse_file(rt, format, &path, &fault))
 }
 
-/// Says why the file at this path is refused, and gives the status.
+/// Prints the fault of the file at this path, and returns the status.
 pub(crate) fn refuse_file<R: Eprint + Clock>(
     rt: &R,
     format: LogFormat,
@@ -151,7 +151,7 @@ pub(crate) fn refuse_file<R: Eprint + Clock>(
     ExitCode::from(2)
 }
 
-/// The words of the file at this path, and behind them those of the command line.
+/// The words of the file at this path, and then those of the command line.
 fn read_words<R: Files + AllocGlobal>(
     rt: &R,
     path: &str,

@@ -1,6 +1,6 @@
-//! What the program itself says on standard error: why its options are refused, and why it ends in failure.
+//! The program's own messages on standard error: the faults of its options, and the reason of a failure.
 //!
-//! It is a line of text. Where the log is JSON, it is an event of the log, at every level.
+//! A message is a line of text. If the log is JSON, it is an event of the log, at every level.
 use log::{LevelFilter, error};
 use nmvs_log::{EventLog, LogFormat};
 use nmvs_server::Fault;
@@ -8,7 +8,7 @@ use std::fmt::Display;
 use std::process::ExitCode;
 use std::rt::Clock;
 
-/// The form of the log that the words of a command line ask for, also where they are refused.
+/// The form of the log that the words of a command line ask for, even if they are refused.
 pub(crate) fn format_in(words: &[String]) -> LogFormat {
     let mut is_format = false;
     for word in words {
@@ -21,7 +21,7 @@ pub(crate) fn format_in(words: &[String]) -> LogFormat {
     LogFormat::Text
 }
 
-/// Says the faults, and gives the status that the last one makes.
+/// Prints the faults, and returns the status of the last one.
 pub(crate) fn ended<R: Eprint + Clock>(
     rt: &R,
     format: LogFormat,
@@ -37,7 +37,7 @@ pub(crate) fn ended<R: Eprint + Clock>(
     status
 }
 
-/// Says why the words of a command line are refused: of a text of several lines a log in JSON has the first one.
+/// Prints the fault of a command line. A log in JSON has only the first line of a text of several lines.
 pub(crate) fn refuse_words<R: Eprint + Clock>(rt: &R, format: LogFormat, text: &str) -> ExitCode {
     match format {
         LogFormat::Text => {
@@ -56,7 +56,7 @@ pub(crate) fn refuse_words<R: Eprint + Clock>(rt: &R, format: LogFormat, text: &
     ExitCode::from(2)
 }
 
-/// Says one thing.
+/// Prints one message.
 pub(crate) fn say<R: Eprint + Clock, D: Display + Drop>(
     rt: &R,
     format: LogFormat,

@@ -1,4 +1,4 @@
--- What makes the program fail, and the texts that it then tells (own).
+-- The faults of the program, their texts and their statuses (own).
 use Rattle.std.specs.Prelude.{ℕ, List, ◌++◌, codes, Result, Ok, Err}
 use Rattle.std.specs.Fmt.{decimal}
 use Rattle.nmvs_messages.specs.declared.end.End.{End}
@@ -7,7 +7,7 @@ use Rattle.nmvs_recovery.specs.Faults.{file_fault_status, file_fault_text}
 use Rattle.nmvs_server.specs.declared.fault.Fault.{Fault}
 use Rattle.nmvs_server.specs.declared.fault.Fault.TheVariants as faults
 
--- what the end of the session over standard input makes of the program
+-- the result of the program after the session over standard input ended in this way
 abbrev pub outcome : End → Result (Unit {0}) Fault
 outcome ends.Quit = Ok tt
 outcome ends.Ended = Ok tt
@@ -30,7 +30,7 @@ fault_text faults.SessionRead = codes "session read fault"
 fault_text faults.SessionWrite = codes "session write fault"
 fault_text faults.SessionLimit = codes "session limit"
 
--- the status that a fault makes
+-- the status of a fault
 abbrev pub fault_status : Fault → ℕ
 fault_status (faults.File fault) = file_fault_status fault
 fault_status (faults.JournalUnwritten path) = 4

@@ -1,4 +1,4 @@
-//! What a server tells its operator of itself: where it listens, and how long the trails are that it settled.
+//! The lines that a server prints for its operator: where it listens, and the lengths of the trails that it settled.
 ghost use Rattle.std.specs.Prelude.{◌≡◌, ◌++◌, IfOk, OnOk, decimal, string_bytes};
 ghost use Rattle.std.specs.List.{flat_map};
 ghost use Rattle.nmvs_server.specs.Announcements as specs;
@@ -6,7 +6,7 @@ ghost use Rattle.nmvs_server.specs.Announcements as specs;
 use nmvs_shard::Shard;
 use std::alloc::{AllocError, Global};
 
-/// Tells on which port a server listens.
+/// The line that names the port on which a server listens.
 ///
 /// # Errors
 ///
@@ -17,7 +17,7 @@ pub(crate) fn listening_on(alloc: Global, port: u16) -> Result<String, AllocErro
     format!(in alloc; "LISTENING {port}\n")
 }
 
-/// Tells where the socket of a server is.
+/// The line that names the path of the socket at which a server listens.
 ///
 /// # Errors
 ///
@@ -28,7 +28,7 @@ pub(crate) fn listening_at(alloc: Global, path: &str) -> Result<String, AllocErr
     format!(in alloc; "LISTENING {path}\n")
 }
 
-/// Tells on which port a server listens for HTTP.
+/// The line that names the port on which a server listens for HTTP.
 ///
 /// # Errors
 ///
@@ -39,7 +39,7 @@ pub(crate) fn http_on(alloc: Global, port: u16) -> Result<String, AllocError>
     format!(in alloc; "LISTENING HTTP {port}\n")
 }
 
-/// Tells where the socket of a server is at which it listens for HTTP.
+/// The line that names the path of the socket at which a server listens for HTTP.
 ///
 /// # Errors
 ///
@@ -50,7 +50,7 @@ pub(crate) fn http_at(alloc: Global, path: &str) -> Result<String, AllocError>
     format!(in alloc; "LISTENING HTTP {path}\n")
 }
 
-/// Tells that the shards are settled, with the length of each one's trail.
+/// The line that says that the shards are settled, with the length of each trail.
 ///
 /// # Errors
 ///
@@ -64,7 +64,7 @@ pub(crate) fn settled_text(alloc: Global, shards: &[Shard<&Global>]) -> Result<S
     Ok(text)
 }
 
-/// Puts the lengths of trails at the end of a text, each behind a blank.
+/// Puts the lengths of trails at the end of a text, each after a blank.
 fn append_lengths(
     alloc: Global,
     shards: &[Shard<&Global>],

@@ -1,4 +1,4 @@
-//! The end of a server: its trail is marked, exported and settled.
+//! The end of a server: it marks, exports and settles its trail.
 ghost use Rattle.std.specs.Prelude.{◌≡◌, OnOk};
 
 use crate::announcements::settled_text;
@@ -14,7 +14,7 @@ use nmvs_shard::Shard;
 use nmvs_stream::{Sink, deliver};
 use std::alloc::Global;
 
-/// Marks how far the log, where there is one, has confirmed the trail: all of it.
+/// Marks all of the trail as confirmed, if there is a log.
 pub(crate) fn mark_all<'r, 'o, R: Host>(
     config: &Config<'r, 'o, R>,
     paths: Option<&Paths<'o>>,
@@ -32,7 +32,7 @@ pub(crate) fn mark_all<'r, 'o, R: Host>(
     }
 }
 
-/// Marks all of the log, and of the changes of the users.
+/// Marks all of the log, and all changes of the users, as confirmed.
 fn mark_end<'r, 'o, R: Host>(
     config: &Config<'r, 'o, R>,
     paths: &Paths<'o>,
@@ -45,7 +45,7 @@ fn mark_end<'r, 'o, R: Host>(
     }
 }
 
-/// Writes the export, settles the repository, and tells how long the trail of each shard is.
+/// Writes the export, settles the repository, and prints the length of each shard's trail.
 pub(crate) fn close<'r, 'o, J: Naming, H: Histories, R: Host, W: Sink>(
     config: &Config<'r, 'o, R>,
     repository: Repository<'r, H>,
@@ -62,7 +62,7 @@ pub(crate) fn close<'r, 'o, J: Naming, H: Histories, R: Host, W: Sink>(
     }
 }
 
-/// Writes the export, and refuses to settle where not all clerks are back.
+/// Writes the export, and refuses to settle if not all clerks are back.
 fn prepare_settlement<'r, 'o, H: Histories, R: Host>(
     config: &Config<'r, 'o, R>,
     repository: &Repository<'r, H>,
@@ -77,7 +77,7 @@ fn prepare_settlement<'r, 'o, H: Histories, R: Host>(
     Ok(())
 }
 
-/// Writes the export to the file of the options, where they name one.
+/// Writes the export to the file of the options, if they name one.
 pub(crate) fn export_at_end<'r, 'o, H: Histories, R: Host>(
     config: &Config<'r, 'o, R>,
     repository: &Repository<'r, H>,
@@ -89,7 +89,7 @@ pub(crate) fn export_at_end<'r, 'o, H: Histories, R: Host>(
     }
 }
 
-/// Tells that the repository is settled, with the length of each trail. A failed write changes nothing.
+/// Logs that the repository is settled, and prints the length of each trail. A failed write changes nothing.
 fn tell_settled<R: Log, W: Sink>(run: &Run<'_, '_, R>, shards: &[Shard<&Global>], out: &mut W) {
     info!(run.rt; shards = shards.len(); "settled");
     if let Ok(text) = settled_text(*run.alloc, shards) {

@@ -1,4 +1,4 @@
-//! Why the program ends in failure.
+//! The faults with which the program ends.
 ghost use Rattle.std.specs.Prelude.{◌≡◌, None, Some};
 ghost use Rattle.nmvs_server.specs.Faults.{fault_text, fault_status, outcome};
 
@@ -8,24 +8,24 @@ use nmvs_recovery::FileFault;
 use std::fmt;
 use std::net::SocketAddr;
 
-/// Why the program ends in failure (own). It is told on standard error.
+/// A fault with which the program ends (own). The program reports it on standard error.
 #[derive(Clone, Copy)]
 pub enum Fault<'a> {
     /// A file that the run begins with is not taken, or the export is not written.
     File(FileFault<'a>),
-    /// Not all of the trail is confirmed by the journals in the folder of this path.
+    /// The log in the folder of this path did not confirm all of the trail.
     JournalUnwritten(&'a str),
     /// A worker was refused its window on the directory.
     Directory,
-    /// The port is not to be had.
+    /// The server cannot listen on this port.
     CannotListen(u16),
-    /// No socket can be made at this path.
+    /// The server cannot make a socket at this path.
     CannotListenAt(&'a str),
     /// Fewer workers gave their clerk back than there are clerks.
     LostClerk,
     /// The system gives no random bytes.
     Random,
-    /// Memory was wanting, or a thread for a worker.
+    /// Memory or a thread was refused.
     Memory,
     /// A read of the session over standard input failed.
     SessionRead,
@@ -55,7 +55,7 @@ impl<'a> fmt::Display for Fault<'a> {
     }
 }
 
-/// How the program ended: the fault of the session over standard input, and then any other. None of them is success.
+/// How the program ended: the fault of the session over standard input, and any other fault. Success has neither.
 #[derive(Clone, Copy)]
 pub struct Outcome<'a> {
     pub session: Option<Fault<'a>>,
@@ -63,7 +63,7 @@ pub struct Outcome<'a> {
 }
 
 impl<'a> Outcome<'a> {
-    /// No session was served.
+    /// The outcome of this fault, without a fault of the session.
     pub(crate) fn of(program: Fault<'a>) -> Outcome<'a>
         ensures { result ≡ record { session = None; program = Some program.entry } }
     {
@@ -75,8 +75,8 @@ impl<'a> Outcome<'a> {
 }
 
 impl<'a> Fault<'a> {
-    /// The status that the program ends with: 3 where a line of the import, its digest or a journal is refused, 4 where the
-    /// export or a journal is not written, 5 where the repository does not settle, and else 1.
+    /// The status that the program ends with: 3 if a line of the import, its digest or a journal is refused, and 4 if the
+    /// export or a journal is not written. It is 5 if the repository does not settle, and else 1.
     pub fn status(&self) -> u8
         ensures { result ≡ fault_status self.now }
     {
@@ -88,12 +88,12 @@ impl<'a> Fault<'a> {
         }
     }
 
-    /// That it can't be listened where the options say: on their socket, or else on their port.
+    /// The fault of a server that cannot listen where the options say: at their socket, or else on their port.
     pub(crate) fn of_listening(options: &'a Options) -> Fault<'a> {
         Fault::of_place(&options.socket, options.address)
     }
 
-    /// That it can't be listened for HTTP where the options say: on their socket, or else on the port of this address.
+    /// The fault of a server that cannot listen for HTTP: at the socket of the options, or else on the port of this address.
     pub(crate) fn of_http(options: &'a Options, address: SocketAddr) -> Fault<'a> {
         Fault::of_place(&options.http_socket, address)
     }
@@ -106,7 +106,7 @@ impl<'a> Fault<'a> {
     }
 }
 
-/// What the end of the program's session makes of the program.
+/// The result of the program after its session ended in this way.
 ///
 /// # Errors
 ///

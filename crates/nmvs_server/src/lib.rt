@@ -1,11 +1,11 @@
 //! The server of the repository: sessions of users over the rules' shards.
 //!
-//! [`start`] does what the options say, by the desks of `nmvs_reception`. What a server goes through stands in `launch`, from
-//! top to bottom: what it goes by (`Config`), what it goes on from (`Recovered`), what it opens and its workers share
-//! (`Server`), and what it closes.
+//! [`start`] does what the options say, by the desks of `nmvs_reception`. `launch` has the phases of a server, from top to
+//! bottom. `Config` is its configuration, `Recovered` the state that it recovers, and `Server` the state that its workers
+//! share.
 //!
-//! `main` is `nmvs_serve`'s; what a start reads, and an export, are `nmvs_recovery`'s; options, users files and commands are
-//! `nmvs_operator`'s.
+//! `nmvs_serve` has `main`. `nmvs_recovery` reads the files of a start, and writes exports. `nmvs_operator` has options,
+//! users files and commands.
 #![tactic(auto)]
 
 mod announcements;

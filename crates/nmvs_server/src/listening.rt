@@ -1,4 +1,4 @@
-//! Where a server listens.
+//! The sockets and ports at which a server listens.
 use crate::{Fault, Host};
 use libc::types::rlimit;
 use log::{Log, error, info, warn};
@@ -9,10 +9,10 @@ use std::io;
 use std::net::{Net, SocketAddr};
 use std::rt::Files;
 
-/// How many descriptors a server takes beside those of its connections, at most (own).
+/// The most descriptors that a server takes, next to those of its connections (own).
 const FURTHER_DESCRIPTORS: u64 = 48;
 
-/// Listens on the socket of the options, or else on their address. Where one session is served over the console it listens
+/// Listens on the socket of the options, or else on their address. If one session is served over the console, it listens
 /// nowhere.
 ///
 /// # Errors
@@ -66,13 +66,13 @@ fn open_listener<R: Files + Net>(
     }
 }
 
-/// Logs why it can't be listened where the options say.
+/// Logs why the server cannot listen, and returns the fault.
 fn refused<'o, R: Log>(rt: &R, fault: Fault<'o>, error: io::Error) -> Fault<'o> {
     error!(rt; "{fault}: {error}");
     fault
 }
 
-/// Logs how many descriptors the process may have, and that they are too few, where they are.
+/// Logs how many descriptors the process may have, and warns if these are too few.
 fn tell_descriptors<R: Log>(rt: &R, options: &Options) {
     let mut limit = rlimit {
         rlim_cur: 0,

@@ -1,4 +1,4 @@
-//! What a server goes by, and what its workers share.
+//! The configuration of a server, and the state that its workers share.
 use crate::timed_file::LogStore;
 use nmvs_connections::{HttpListener, Listener, WorkerPool};
 use nmvs_desk::Repository;
@@ -12,21 +12,21 @@ use nmvs_recovery::Run;
 use std::alloc::Global;
 use std::sync::Mutex;
 
-/// What a server goes by from its start on.
+/// The configuration of a server from its start on, with its listeners and counts.
 #[derive(Drop)]
 pub(crate) struct Config<'r, 'o, R> {
     pub(crate) run: Run<'r, 'o, R>,
-    /// Connections are accepted here; where there is none, one session is served over the console.
+    /// The listener that accepts connections. If there is none, the server serves one session over the console.
     pub(crate) listener: Option<&'r Listener>,
-    /// Connections are accepted here whose lines come over HTTP, if any are.
+    /// The listener that accepts connections over HTTP, if there is one.
     pub(crate) http: Option<&'r HttpListener>,
-    /// What the run does is counted here.
+    /// The counts of what the run does.
     pub(crate) metrics: &'r Metrics,
-    /// Who raises flagged alerts.
+    /// The users who raise flagged alerts.
     pub(crate) alerts: Alerts,
 }
 
-/// An open server: what its workers share. `J` names its directory of users, `H` the histories of its shards, and its log.
+/// An open server, which its workers share. `J` names its directory of users, `H` the histories of its shards, and its log.
 #[derive(Drop)]
 pub(crate) struct Server<'f, 'r, 'o, R, J: Naming, H: Histories + LogName> {
     pub(crate) config: &'f Config<'r, 'o, R>,
@@ -34,10 +34,10 @@ pub(crate) struct Server<'f, 'r, 'o, R, J: Naming, H: Histories + LogName> {
     /// The notice of the users that were published last.
     pub(crate) latest: &'f Mutex<Notice<J>>,
     pub(crate) repository: &'f Repository<'r, H>,
-    /// The log that answers wait for, where there is one.
+    /// The log that answers wait for, if there is one.
     pub(crate) log: Option<CommitLog<'f, 'r, LogStore<'r>, H, H>>,
     pub(crate) pool: WorkerPool<'r>,
-    /// How much each user may still ask, where there is a rate.
+    /// The lines that each user may still ask, if there is a rate.
     pub(crate) limiter: Option<SharedLimiter<Global>>,
     /// Whether the workers may begin: it is locked until all of them are there.
     pub(crate) ready: Mutex<bool>,

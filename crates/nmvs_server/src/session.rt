@@ -1,4 +1,4 @@
-//! One session over the console, where a server listens nowhere.
+//! One session over the console, by a server that listens nowhere.
 ghost use Rattle.std.specs.Prelude.{◌≡◌, ◌<◌, false, vec_len, pos};
 ghost use Rattle.std.specs.Result.{result_err};
 ghost use Rattle.nmvs_messages.specs.declared.end.End.{End as TheEnd};

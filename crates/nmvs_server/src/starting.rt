@@ -1,4 +1,4 @@
-//! The program from its options on: where metrics are served, and what is logged of its start.
+//! The start of the program by its options: it logs the start, and serves metrics.
 ghost use Rattle.nmvs_operator.specs.Options.{AreInRange};
 ghost use Rattle.nmvs_stream.specs.Console.{IsFresh};
 
@@ -16,8 +16,8 @@ use std::sync::Wait;
 use std::thread;
 use std::thread::Threads;
 
-/// Serves as the options say: one session over the console, or connections at the address or the socket of the options, while
-/// the console gives commands of the registrar and takes their answers. Where the options say so, metrics are served at an
+/// Serves one session over the console, or connections at the address or the socket of the options. With connections, the
+/// console gives commands of the registrar and takes their answers. If the options say so, the program serves metrics at an
 /// address of their own from the start on.
 pub fn start<'o, R: Host + Sync, T: Sides>(
     rt: &R,
@@ -56,7 +56,7 @@ pub fn start<'o, R: Host + Sync, T: Sides>(
     }
 }
 
-/// Logs the version and the options that say how much is served, and what is gone on from.
+/// Logs the version, and the options on shards, workers, connections, idle time, rate, import and journal.
 fn tell_start<R: Log>(rt: &R, options: &Options) {
     let (shards, workers, connections) = (options.shards, options.workers, options.connections);
     let (idle, rate) = (options.idle, options.rate);
@@ -71,7 +71,7 @@ fn metrics_of(alloc: Global, options: &Options) -> Result<Metrics, AllocError> {
     Metrics::new(alloc, workers, options.shards, options.journal.is_some())
 }
 
-/// Opens the address at which metrics are served, and logs its port, or why it cannot be had.
+/// Opens the address at which metrics are served, and logs its port, or why the system refused it.
 fn open_metrics<'o, R: Host>(rt: &R, address: SocketAddr) -> Result<MetricsListener, Fault<'o>> {
     match MetricsListener::open(rt, address) {
         Ok(listener) => {
@@ -93,13 +93,13 @@ fn log_metrics_port<R: Log>(rt: &R, listener: &MetricsListener) {
     }
 }
 
-/// Does this work, while metrics are served in a thread beside it, and ends once both have ended.
+/// Does this work while another thread serves metrics, and returns after both have ended.
 ///
 /// # Errors
 ///
 /// The thread or memory for it was refused. The work is not begun then.
 fn run_beside<
-    // Neither `Host` nor `Files`: what a thread runs may not rest on them.
+    // Neither `Host` nor `Files`: the work of a thread may not rest on them.
     R: Threads + Wait + Clock + RandomSource + Log + Sync,
     O,
     F: FnOnce() -> O,

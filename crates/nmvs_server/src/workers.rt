@@ -1,5 +1,5 @@
-//! The workers that serve connections, and the registrar beside them.
-ghost use Rattle.std.specs.Prelude.{◌≡◌};
+//! The threads of a server: workers, and those that accept connections, write the log and carry out commands.
+ghost use Rattle.std.specs.Prelude.{◌≡◌, ◌*◌, ◌-◌, ◌^◌, min};
 ghost use Rattle.nmvs_server.specs.Bounds.{sessions_of};
 
 use crate::announcements::{http_at, http_on, listening_at, listening_on};
@@ -24,14 +24,16 @@ use std::thread;
 use std::thread::Threads;
 use std::time::Duration;
 
-/// How far the connections of so many workers may go.
+/// The bounds of the connections of this number of workers.
 pub(crate) fn bounds_of(options: &Options, workers: usize) -> Bounds
     ensures connections { result.connections ≡ options.now.connections }
+    ensures memory { result.memory ≡ min (options.now.connection_memory * 1048576) (2 ^ 64 - 1) }
     ensures proxy { result.proxy ≡ options.now.proxy }
     ensures sessions { result.sessions ≡ sessions_of options.now.sessions workers }
 {
     Bounds {
         connections: options.connections,
+        memory: bytes_of(options.connection_memory),
         idle: match options.idle {
             0 => None,
             seconds => Some(Duration::from_secs(seconds)),
@@ -44,8 +46,15 @@ pub(crate) fn bounds_of(options: &Options, workers: usize) -> Bounds
     }
 }
 
-/// Serves the connections that are dealt to the worker of this number, and gives the clerk back. Where it can't go on it
-/// ends the service.
+/// This number of MiB, in bytes.
+fn bytes_of(mebibytes: u64) -> usize
+    ensures { result ≡ min (mebibytes * 1048576) (2 ^ 64 - 1) }
+{
+    mebibytes.saturating_mul(1_048_576) as usize
+}
+
+/// Serves the connections of the worker with this number, and returns the clerk. If the worker cannot go on, it ends the
+/// service.
 fn work<'r, R: Wait + Clock + Log, J: Naming, H: Histories + LogName>(
     server: &Server<'_, 'r, '_, R, J, H>,
     clerk: Clerk<'r, J, H>,
@@ -75,7 +84,7 @@ fn may_begin<R: Wait, J: Naming, H: Histories + LogName>(
     *server.ready.lock(run.rt)
 }
 
-/// The desk of the clerk of the worker of this number. The clerk keeps no receipts: at the end its places alone are looked at.
+/// The desk of the worker with this number. Its clerk keeps no receipts: at the end only its places count.
 fn desk_of<'s, 'r, R: Wait + Clock + Log, J: Naming, H: Histories + LogName>(
     server: &'s Server<'_, 'r, '_, R, J, H>,
     clerk: Clerk<'r, J, H>,
@@ -99,7 +108,7 @@ fn desk_of<'s, 'r, R: Wait + Clock + Log, J: Naming, H: Histories + LogName>(
     )
 }
 
-/// Serves connections by a desk, and gives the desk back. Where it can't go on it ends the service.
+/// Serves connections by a desk, and returns the desk. If it cannot go on, it ends the service.
 fn serve_by_desk<'r, R: Wait + Clock + Log, J: Naming, H: Histories + LogName, D: Desk<'r>>(
     server: &Server<'_, 'r, '_, R, J, H>,
     number: usize,
@@ -113,7 +122,7 @@ fn serve_by_desk<'r, R: Wait + Clock + Log, J: Naming, H: Histories + LogName, D
     desk
 }
 
-/// Accepts connections for the workers. Where it can't go on it ends the service.
+/// Accepts connections for the workers. If it cannot go on, it ends the service.
 fn accept<R: Wait + Log, J: Naming, H: Histories + LogName>(
     server: &Server<'_, '_, '_, R, J, H>,
     acceptor: Poller,
@@ -125,18 +134,18 @@ fn accept<R: Wait + Log, J: Naming, H: Histories + LogName>(
     }
 }
 
-/// The clerks of a server whose workers have ended, and how many entries its log has confirmed, where these are all.
+/// The clerks after the workers have ended, and the number of confirmed entries, or that not all are confirmed.
 pub(crate) type Served<'r, J, H> = (Vec<Clerk<'r, J, H>, &'r Global>, Result<usize, Unconfirmed>);
 
-/// Serves connections in as many threads as there are clerks, accepts them in one more, writes the log in another, and carries
-/// out the operator's commands in this one. It returns once the commands have ended and the pool has closed.
+/// Serves connections in one thread a clerk, accepts them in one more, writes the log in another, and carries out commands in
+/// this one. It returns after the commands have ended and the pool has closed.
 ///
 /// # Errors
 ///
 /// A thread or memory for one was refused. No connection is served then.
 pub(crate) fn serve_connections<
     'r,
-    // Not `Host`: what a thread runs may rest on traits of the library alone.
+    // Not `Host`: the work of a thread may rest on traits of the library alone.
     R: Threads + Wait + Clock + Files<File = File> + Eprint + Log + Sync,
     J: Naming + Send + Sync,
     H: Histories + LogName + Send + Sync,
@@ -154,7 +163,7 @@ pub(crate) fn serve_connections<
     thread::scope(thread::scope_env(), run.rt, |scope| {
         let mut ready = server.ready.lock(run.rt);
         let mut workers = Vec::with_capacity(*run.alloc, clerks.len())?;
-        // room for the clerks is made before anything is served, so that no trail is lost for want of it
+        // room for the clerks is made before anything is served, so that refused memory loses no trail
         let mut back = Vec::with_capacity(run.alloc, clerks.len())?;
         let mut number = 0usize;
         for (clerk, poller) in clerks.into_iter().zip(pollers) {
@@ -207,7 +216,7 @@ fn take_commands<
     obey_all(*config.run.alloc, console, registrar, &mut latest, running);
 }
 
-/// Tells on which port the program listens, or where its socket is. A failed write changes nothing.
+/// Logs and prints the port on which the program listens, or the path of its socket. A failed write changes nothing.
 fn tell_place<R: Log, W: Sink>(config: &Config<'_, '_, R>, listener: &Listener, out: &mut W) {
     let (run, alloc) = (&config.run, *config.run.alloc);
     let text = match (listener.port(), &run.options.socket) {
@@ -226,7 +235,7 @@ fn tell_place<R: Log, W: Sink>(config: &Config<'_, '_, R>, listener: &Listener, 
     }
 }
 
-/// Tells on which port the program listens for HTTP, or where its socket for that is. A failed write changes nothing.
+/// Logs and prints the port on which the program listens for HTTP, or the path of its socket. A failed write changes nothing.
 fn tell_http<R: Log, W: Sink>(config: &Config<'_, '_, R>, out: &mut W) {
     let (run, alloc) = (&config.run, *config.run.alloc);
     let Some(http) = config.http else {

@@ -4,7 +4,7 @@ use Rattle.std.proofs.lemmas.Bool.{cases_lt, ne_eqb}
 use Rattle.std.proofs.lemmas.List.{append-nil, get_or_append_left, get_or-append_right}
 use Rattle.nmvs_stream.specs.InputLines.{HasNoLf, lines_after, rest_after, input_lines, unfinished_line}
 
--- the lines of bytes that come in two pieces, and what follows the last LF of them
+-- the lines of bytes that come in two pieces, and the bytes after their last LF
 pub lines_after-append : (cur xs ys : List ℕ) → lines_after cur (xs ++ ys) ≡ lines_after cur xs ++ lines_after (rest_after cur xs) ys
 unfolding lines_after rest_after
 lines_after-append cur [] ys = refl
@@ -23,7 +23,7 @@ rest_after-append cur (b ∷ bs) ys =
       | false ↦ rest_after-append (cur ++ b ∷ []) bs ys
     ]
 
--- of bytes without LF those behind the first have none
+-- bytes without LF have none after the first
 pub no_lf_tail : (b : ℕ) (bytes : List ℕ) → HasNoLf (b ∷ bytes) → HasNoLf bytes
 no_lf_tail b bytes h k lt = h (suc k) (omega (arith, lt))
 
@@ -43,7 +43,7 @@ no_line begun (b ∷ bs) none =
     let later = no_line (begun ++ b ∷ []) bs (no_lf_tail b bs none) in
     (rw no later.0, rw no (later.1 ∙ append_assoc begun (b ∷ []) bs))
 
--- the first LF of bytes ends the line that was begun, ..
+-- the first LF of bytes ends the line that they continue, ..
 pub line_cut : {bytes : List ℕ} (begun line behind : List ℕ) → bytes ≡ line ++ 10 ∷ behind → HasNoLf line
     → lines_after begun bytes ≡ (begun ++ line) ∷ input_lines behind
 unfolding lines_after
@@ -51,7 +51,7 @@ line_cut begun line behind cut one =
     let begins = no_line begun line one in
     ap (lines_after begun) cut ∙ lines_after-append begun line (10 ∷ behind) ∙ (λ i. begins.0 i ++ lines_after (begins.1 i) (10 ∷ behind))
 
--- .. and what has no end is behind it
+-- .. and the unfinished line is that of the bytes after it
 pub left_cut : {bytes : List ℕ} (begun line behind : List ℕ) → bytes ≡ line ++ 10 ∷ behind → HasNoLf line
     → rest_after begun bytes ≡ unfinished_line behind
 unfolding rest_after

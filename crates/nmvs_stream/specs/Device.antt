@@ -1,4 +1,4 @@
--- What a device tells as a source and as a sink. (own)
+-- The model of a device, as a source and as a sink (own).
 use Rattle.std.specs.Prelude.{length}
 use Rattle.nmvs_stream.specs.Source.{Told}
 use Rattle.nmvs_stream.specs.Sink.{Taken}

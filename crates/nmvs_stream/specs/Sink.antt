@@ -1,17 +1,17 @@
 -- Sinks of bytes. (own)
 use Rattle.std.specs.Prelude.{◌≡◌, ◌≤◌, ◌<◌, ◌==◌, ◌&&◌, ℕ, List, [], ◌++◌, length, take, Bool, true, false}
 
--- what a sink tells: the bytes that it took, whether all of them were flushed, and whether a write or a flush failed
+-- the model of a sink: the bytes that it took, whether all of them were flushed, and whether a write or a flush failed
 pub record Taken : Type 0 where
   pub bytes : List ℕ
   pub flushed : Bool
   pub failed : Bool
 
--- what a sink tells to which nothing was written
+-- the model of a sink to which nothing was written
 abbrev pub untouched_sink : Taken
 untouched_sink = record { bytes = []; flushed = true; failed = false }
 
--- a write took so many bytes from the front of the buffer, at least one where there is one
+-- a write took this number of bytes from the front of the buffer, at least one unless the buffer is empty
 pub record Takes (old new : Taken) (buffer : List ℕ) (count : ℕ) : Type 0 where
   pub some : 0 < length buffer → 0 < count
   pub fits : count ≤ length buffer

@@ -1,19 +1,18 @@
 -- Sources of bytes. (own)
 use Rattle.std.specs.Prelude.{◌≡◌, ◌≤◌, ◌+◌, ◌==◌, ◌||◌, ℕ, List, [], ◌++◌, length, take, Bool, true, false}
 
--- what a source tells: the bytes that it gave, how many reads were made of it, whether its end was read, and whether a
--- read failed
+-- the model of a source: the bytes that it gave, the number of reads, whether its end was read, and whether a read failed
 pub record Told : Type 0 where
   pub bytes : List ℕ
   pub reads : ℕ
   pub ended : Bool
   pub failed : Bool
 
--- what a source tells of which nothing was read
+-- the model of a source of which nothing was read
 abbrev pub untouched_source : Told
 untouched_source = record { bytes = []; reads = 0; ended = false; failed = false }
 
--- a read gave so many bytes at the front of the buffer; none is the end
+-- a read gave this number of bytes at the front of the buffer; 0 is the end
 pub record Gives (old new : Told) (buffer : List ℕ) (count : ℕ) : Type 0 where
   pub fits : count ≤ length buffer
   pub bytes : new.bytes ≡ old.bytes ++ take count buffer

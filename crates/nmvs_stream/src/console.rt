@@ -16,8 +16,7 @@ impl<I: Source, W: Sink> Sides for (I, W) {
     type Sink = W;
 }
 
-/// Where a program reads and writes besides connections and files: one session, or the operator's orders and their
-/// answers.
+/// The streams of a program next to its connections and files: one session, or the operator's commands and their answers.
 #[derive(Drop)]
 pub struct Console<T: Sides> {
     pub source: T::Source,

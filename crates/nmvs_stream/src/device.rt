@@ -5,9 +5,9 @@ use crate::tape::{Tape, longer_tag};
 use boxcar::tag::Tag;
 use std::io::{Read, Write};
 
-/// A reader or a writer of std as a source or a sink. What it tells binds code that is generic over
-/// `Source` or `Sink`, and what it gives or takes is what a reader or writer in memory gives or
-/// takes; what a file or a socket really gave is beyond any contract. It tries no call again.
+/// A reader or a writer of std as a source or a sink. Its contracts bind code that is generic over `Source` or `Sink`. For
+/// a reader or writer in memory they say which bytes it gave or took. No contract covers the bytes that a file or a socket
+/// really gave. It repeats no call.
 #[derive(Drop)]
 pub struct Device<D> {
     inner: D,
@@ -24,7 +24,7 @@ impl<D> Device<D> {
     ghost use Rattle.nmvs_stream.specs.Sink.{untouched_sink};
     ghost use Rattle.nmvs_stream.specs.Device.{told_of, taken_of};
 
-    /// A device of which nothing was read, to which nothing was written, and which hasn't failed.
+    /// A device of which nothing was read, to which nothing was written, and which has not failed.
     pub fn new(inner: D) -> Device<D>
         ensures source { told_of result ≡ untouched_source }
         ensures sink { taken_of result ≡ untouched_sink }

@@ -4,16 +4,16 @@ ghost use Rattle.nmvs_stream.specs.Sink.{Taken, Takes, Flushes, FailsToTake};
 
 use crate::failed::Failed;
 
-/// Takes bytes. It tells contracts which bytes it took, whether all of them were flushed, and
-/// whether a write or a flush failed.
+/// Takes bytes. Contracts see which bytes it took, whether all of them were flushed, and whether a write or a flush
+/// failed.
 pub trait Sink {
     ghost taken: { Self → Taken };
 
-    // The bytes that it holds, where they are known.
+    // The bytes that it holds, if they are known.
     ghost held: { Self → Option (List ℕ) } = { λ _. None };
 
-    /// Takes some bytes from the front of the buffer, at least one where there is one, and tells
-    /// how many. Of an empty buffer it takes none, which is no failure.
+    /// Takes some bytes from the front of the buffer, at least one unless it is empty, and returns their number. It takes
+    /// none of an empty buffer, which is no failure.
     ///
     /// # Errors
     ///
@@ -23,7 +23,7 @@ pub trait Sink {
         ensures ok { IfOk result (Takes (taken self.old) (taken self.new) buffer.now) }
         ensures err { OnErr result (FailsToTake (taken self.old) (taken self.new)) };
 
-    /// Hands on whatever was taken.
+    /// Flushes all bytes that it took.
     ///
     /// # Errors
     ///

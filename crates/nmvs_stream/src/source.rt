@@ -4,15 +4,15 @@ ghost use Rattle.nmvs_stream.specs.Source.{Told, Gives, FailsToGive};
 
 use crate::failed::Failed;
 
-/// Gives bytes. It tells contracts which bytes it gave, how many reads were made of it, whether its
-/// end was read, and whether a read failed.
+/// Gives bytes. Contracts see which bytes it gave, the number of reads, whether its end was read, and whether a read
+/// failed.
 pub trait Source {
     ghost told: { Self → Told };
 
-    // The bytes that are still to come, where they are known.
+    // The bytes that are still to come, if they are known.
     ghost left: { Self → Option (List ℕ) } = { λ _. None };
 
-    /// Reads some bytes into the front of the buffer, and tells how many. None is the end.
+    /// Reads some bytes into the front of the buffer, and returns their number. 0 is the end.
     ///
     /// # Errors
     ///

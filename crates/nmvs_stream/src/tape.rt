@@ -2,15 +2,14 @@ ghost use Rattle.std.specs.Prelude.{◌≡◌, ◌+◌, [], ◌++◌, ◌∷◌,
 
 use boxcar::tag::{Names, Tag};
 
-/// The bytes that a device gave, and one number for each read. It takes no memory: its content is
-/// known to contracts alone.
+/// The bytes that a device gave, and one number for each read. It takes no memory: contracts alone know its content.
 #[derive(Drop)]
 pub struct Tape {
     pub bytes: Tag,
     pub calls: Tag,
 }
 
-/// What a tag holds, and what comes after it.
+/// The content of a tag, with more bytes after it.
 #[derive(Clone, Copy)]
 struct Extended<'a> {
     tag: &'a Tag,
@@ -44,7 +43,7 @@ impl Tape {
     }
 }
 
-/// The tag of what the old one holds and these bytes.
+/// The tag with the old tag's content, and these bytes after it.
 pub fn longer_tag(tag: &Tag, more: &[u8]) -> Tag
     ensures { result.numbers ≡ tag.now.numbers ++ more.now }
 {

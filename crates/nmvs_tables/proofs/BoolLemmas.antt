@@ -1,4 +1,4 @@
--- Tests put together.
+-- Combined tests.
 use Rattle.std.proofs.Common.{◌≡◌, Bool, true, false, ◌||◌, cond, refl, sym, true≢false}
 
 -- a test whose passing is absurd fails
@@ -6,7 +6,7 @@ pub not-so : (b : Bool) → (b ≡ true → false ≡ true) → b ≡ false
 not-so true h = sym (h refl)
 not-so false h = refl
 
--- where neither passes the first does not
+-- if neither passes, the first does not
 pub or-left : (a b : Bool) → (a || b) ≡ false → a ≡ false
 or-left true b h = h
 or-left false b h = refl

@@ -22,7 +22,7 @@ module _ {K X : Type 0} {eq : K → K → Bool} (laws : IsEquivalence eq) (k : K
       ∙ twice (eq k q) (Some v) (Some e.1) (lookup (eq q) es)
       ∙ ap (λ b. cond (eq k q) (Some v) (cond b (Some e.1) (lookup (eq q) es))) (sym alike)
 
-  -- a key that is written has the value, and each other key what it had
+  -- a key that is written has the value, and each other key keeps its own
   pub lookup-insert_entry : (es : List (K × X)) → lookup (eq q) (insert_entry eq es k v) ≡ cond (eq k q) (Some v) (lookup (eq q) es)
   lookup-insert_entry [] = ap (λ b. cond b (Some v) None) (laws.symm q k)
   lookup-insert_entry (e ∷ es) =

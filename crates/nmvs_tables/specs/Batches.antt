@@ -1,4 +1,4 @@
--- What is kept of a batch.
+-- The record of a batch.
 use Rattle.std.specs.Prelude.{ℕ, ◌≡◌, ◌+◌, Bool, false, ◌&&◌, List, [], ◌∷◌, ◌++◌, fold, Option, Some, None, unwrap_or, if◌then◌else◌}
 use Rattle.std.specs.HashMap.{HashMap, get, keys}
 use Rattle.std.specs.List.{filter_map, list_any}
@@ -47,7 +47,7 @@ pub record AreBatchesOf {S : Type 0} (m : HashMap BatchKey BatchRecord S) (t : L
   pub records : (b : BatchKey) → get same_batch m b ≡ batch_record t b.code b.batch
   pub order : keys m ≡ batches_of t
 
--- how many packs have an own status, by the counts
+-- the number of packs in an own status, by the counts
 abbrev pub count_in : Counts → OwnStatus → ℕ
 count_in n own.Active = n.active
 count_in n own.Held = n.held
@@ -66,11 +66,11 @@ batch_meant (Recall c b) None = Some (record { code = c; batch = b })
 batch_meant (Withdraw c b) None = Some (record { code = c; batch = b })
 batch_meant _ None = None
 
--- the batch that an entry changes: none where the question was not accepted
+-- the batch that an entry changes: none if the question was not accepted
 abbrev pub batch_changed : Entry → Option Known → Option BatchKey
 batch_changed e k = if is_accepted e then batch_meant e.put.question k else None
 
--- the own status that a pack has before an accepted question, where it is known
+-- the own status that a pack has before an accepted question, if it is known
 abbrev pub own_before : Option Known → Option OwnStatus
 own_before k = option_map (λ x. x.own) k
 
@@ -110,7 +110,7 @@ abbrev pub batches_after : List BatchKey → Option BatchKey → List BatchKey
 batches_after bs None = bs
 batches_after bs (Some b) = with_batch bs b
 
--- the batch that an entry changes, where it is not yet among the batches
+-- the batch that an entry changes, if it is not yet among the batches
 abbrev pub first_of : List BatchKey → Option BatchKey → Option BatchKey
 first_of bs None = None
 first_of bs (Some b) = if list_any (same_batch b) bs then None else Some b

@@ -1,4 +1,4 @@
--- What is kept of a product code.
+-- The record of a product code.
 use Rattle.std.specs.Prelude.{ℕ, ◌≡◌, ◌+◌, Bool, false, ◌&&◌, List, count_by, Option, Some, None, unwrap_or, if◌then◌else◌}
 use Rattle.std.specs.HashMap.{HashMap, get}
 use Rattle.std.specs.Option.{option_or}
@@ -16,11 +16,11 @@ abbrev pub is_flagged_alert : Reply → Bool
 is_flagged_alert (reply.Alert _ flagged _) = flagged
 is_flagged_alert _ = false
 
--- how many alerts of the product code were flagged (Article 36)
+-- the number of alerts on the product code that were flagged (Article 36)
 abbrev pub flagged_alerts_of : List Entry → ProductCode → ℕ
 flagged_alerts_of t c = count_by (λ e. has_code c e && is_flagged_alert e.reply) t
 
--- the product code's holder, and how many alerts and flagged alerts it has had
+-- the product code's holder, and its numbers of alerts and of flagged alerts
 abbrev pub code_record : List Entry → ProductCode → CodeRecord
 code_record t c = record { holder = holder_of t c; alerts = alerts_of t c; flagged = flagged_alerts_of t c }
 
@@ -36,11 +36,11 @@ code_in m c = unwrap_or (get same_text m c) no_code
 abbrev pub AreCodesOf : {S : Type 0} → HashMap ProductCode CodeRecord S → List Entry → Type 0
 AreCodesOf m t = (c : ProductCode) → code_in m c ≡ code_record t c
 
--- one where the test passes, else none
+-- 1 if the test passes, else 0
 abbrev pub one_if : Bool → ℕ
 one_if b = if b then 1 else 0
 
--- the authorisation that an accepted upload makes holder, where there is none yet (own)
+-- the authorisation that an accepted upload makes holder, if there is none yet (own)
 abbrev pub uploader : Entry → Option Name
 uploader e = if is_upload e.put.question && is_accepted e then Some e.put.actor.authorisation else None
 

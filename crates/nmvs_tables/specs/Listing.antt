@@ -22,7 +22,7 @@ code_batches t c = of_code c (batches_of t)
 abbrev pub same_index : BatchIndex → BatchIndex → Bool
 same_index a b = same_text a.code b.code && (a.index == b.index)
 
--- how many batches of a product code a table counts
+-- the number of batches of a product code, by a table
 abbrev pub listed_in : {S : Type 0} → HashMap ProductCode ℕ S → ProductCode → ℕ
 listed_in m c = unwrap_or (get same_text m c) 0
 

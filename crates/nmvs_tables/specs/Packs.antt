@@ -1,4 +1,4 @@
--- What is kept of a pack.
+-- The record of a pack.
 use Rattle.std.specs.Prelude.{ℕ, ◌≡◌, ◌+◌, ◌-◌, ◌==◌, not, List, length, Option, Some, None, unwrap_or, if◌then◌else◌}
 use Rattle.std.specs.HashMap.{HashMap, get}
 use Rattle.std.specs.List.{suffix_len}
@@ -13,12 +13,12 @@ use Rattle.nmvs_tables.specs.declared.packs.PackRow.{PackRow}
 abbrev pub pack_record : List Entry → Pack → Option PackRecord
 pack_record t p = if about_of t p == 0 then None else Some (record { about = about_of t p; known = known t p })
 
--- how many entries the trail has up to the last one about the pack, that one counted: all but the run of other entries
--- at the end, and 0 where none is about it (own)
+-- the number of entries up to the last one about the pack, which counts too: all but the run of other entries at the end,
+-- and 0 if none is about it (own)
 abbrev pub last_of : List Entry → Pack → ℕ
 last_of t p = length t - suffix_len (λ e. not (is_about p e)) t
 
--- what is kept of a pack: its record, and where its last entry is
+-- the row of a pack: its record, and the place of its last entry
 abbrev pub pack_row : List Entry → Pack → PackRow
 pack_row t p = record { about = about_of t p; known = known t p; last = last_of t p }
 

@@ -52,7 +52,7 @@ pub(crate) fn record_named<A: Allocator>(
     record_of(batches, &key)
 }
 
-/// The batch that an accepted question changes, of a pack that is known or not.
+/// The batch that an accepted question changes, about a pack that is known or not.
 fn batch_meant(question: &Question, known: &Option<Known>) -> Option<BatchKey>
     ensures { result ≡ batch_meant question.now known.now }
 {
@@ -93,7 +93,7 @@ fn lock_after(question: &Question, lock: BatchLock) -> BatchLock
     }
 }
 
-/// The own status that a pack has, where it is known.
+/// The own status of a pack, if it is known.
 fn own_before(known: &Option<Known>) -> Option<OwnStatus>
     ensures { result ≡ own_before known.now }
 {
@@ -126,8 +126,8 @@ fn record_after(old: &BatchRecord, question: &Question, known: &Option<Known>) -
     }
 }
 
-/// Notes an entry, for whose batch room was made, about a pack that is known before it or not. Tells the batch that the
-/// entry is the first accepted upload of, if any.
+/// Notes an entry about a pack that was known before it or not. Room was made for its batch. Returns the batch of which the
+/// entry is the first accepted upload, if any.
 pub(crate) fn note<A: Allocator>(
     batches: &mut Batches<A>,
     entry: &Entry,

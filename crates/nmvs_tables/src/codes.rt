@@ -11,13 +11,13 @@ use nmvs_identifier::{Name, ProductCode};
 use nmvs_rules::{Entry, Question, Reply};
 use std::alloc::Allocator;
 
-/// What is kept of a product code.
+/// The record of a product code.
 #[derive(Clone, Copy)]
 pub(crate) struct CodeRecord {
     /// The authorisation of the first accepted upload.
     pub holder: Option<Name>,
     pub alerts: u64,
-    /// How many of the alerts were flagged as a potential falsification.
+    /// The number of alerts that were flagged as a potential falsification.
     pub flagged: u64,
 }
 
@@ -38,7 +38,7 @@ pub(crate) fn record_of<A: Allocator>(codes: &Codes<A>, code: &ProductCode) -> C
 }
 
 impl CodeRecord {
-    /// The record after an entry that names the product code, or None where the entry leaves it as it is.
+    /// The record after an entry that names the product code, or None if the entry leaves it as it is.
     fn changed_by(&self, entry: &Entry) -> Option<CodeRecord>
         requires alerts { self.now.alerts + 1 < 2 ^ 64 }
         requires flagged { self.now.flagged + 1 < 2 ^ 64 }
@@ -65,7 +65,7 @@ impl CodeRecord {
     }
 }
 
-/// Notes an entry, for whose product code room was made.
+/// Notes an entry. Room was made for its product code.
 pub(crate) fn note<A: Allocator>(codes: &mut Codes<A>, entry: &Entry)
     requires room { 0 < spare codes.old }
     requires alerts { (c : ProductCode) → (code_in codes.old c).alerts + 1 < 2 ^ 64 }

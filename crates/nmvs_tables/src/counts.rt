@@ -1,4 +1,4 @@
-//! How many packs of a batch have each own status.
+//! Numbers of packs of a batch in each own status.
 ghost use Rattle.std.specs.Prelude.{◌≡◌, ◌+◌, ◌<◌, ◌≤◌, ◌^◌};
 ghost use Rattle.std.specs.Option.{ForSome};
 ghost use Rattle.nmvs_rules.specs.declared.own_status.OwnStatus.{OwnStatus};

@@ -10,12 +10,12 @@ pub struct Cursor {
     pub pack: Pack,
     /// The place of the next one, counted from 0.
     pub next: usize,
-    /// How many there are.
+    /// The number of them.
     pub left: usize,
 }
 
-/// A cursor over a trail has as many entries left as it says. It is one over each longer trail, where it has the same ones
-/// left. It does nothing.
+/// Proves that a cursor over a trail has as many entries left as it says, and that on each longer trail it has the same
+/// ones left. It does nothing else.
 pub fn cursors_stay()
     ensures count { CursorsCount }
     ensures stay { CursorsStay }

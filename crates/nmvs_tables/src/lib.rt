@@ -1,7 +1,8 @@
 //! The current records of packs, batches and product codes, kept in step with an audit trail.
 //!
-//! The rules of the repository look back over the whole trail. [`Tables`] keeps what they would find there, so that
-//! no answer has to: three maps in the order of insertion, each entry noted once.
+//! The rules of the repository look back over the whole trail. [`Tables`] keeps the results of this, so that no answer has
+//! to look back: maps of packs, batches and product codes in the order of insertion, the list of each code's batches, and
+//! a link for each entry. Each entry is noted once.
 #![tactic(auto)]
 
 mod batches;

@@ -19,7 +19,7 @@ pub(crate) struct BatchIndex {
     pub index: u64,
 }
 
-/// How many batches each product code has, and which one is at each index.
+/// The number of batches of each product code, and the batch at each index.
 #[derive(Drop)]
 pub(crate) struct Listing<A: Allocator> {
     counts: IndexMap<ProductCode, u64, HashKey, A>,
@@ -39,7 +39,7 @@ impl<A: Allocator + Copy> Listing<A> {
 }
 
 impl<A: Allocator> Listing<A> {
-    /// How many batches a product code has.
+    /// The number of batches of a product code.
     pub fn count(&self, code: &ProductCode) -> u64
         ensures { result ≡ listed_in self.now.counts code.now }
     {
@@ -53,7 +53,7 @@ impl<A: Allocator> Listing<A> {
         self.batches.get(index).copied()
     }
 
-    /// Makes room for one more batch, and changes nothing else. Refused only out of memory.
+    /// Makes room for one more batch, and changes nothing else. It fails only if there is no memory.
     pub fn reserve(&mut self) -> Result<(), AllocError>
         ensures room { OnOk result (HasRoomToList self.new) }
         ensures kept { (bs : List BatchKey) → AreListed self.old bs → AreListed self.new bs }

@@ -13,20 +13,20 @@ use nmvs_identifier::Pack;
 use nmvs_rules::{Entry, Known, Mark, OwnStatus, Question};
 use std::alloc::Allocator;
 
-/// What is kept of a pack that some entry is about (Article 35).
+/// The record of a pack that some entry is about (Article 35).
 #[derive(Clone, Copy, Debug, PartialEq, Eq)]
 pub struct PackRecord {
-    /// How many entries are about the pack.
+    /// The number of entries about the pack.
     pub about: u64,
     pub known: Option<Known>,
 }
 
-/// The record of a pack, and where its last entry is: some 110 bytes, beside the 38 of the pack itself.
+/// The record of a pack, and the place of its last entry: some 110 bytes, next to the 38 of the pack itself.
 #[derive(Clone, Copy)]
 pub(crate) struct PackRow {
     pub about: u64,
     pub known: Option<Known>,
-    /// How many entries the trail has up to the last one about the pack, that one counted.
+    /// The number of entries up to the last one about the pack, which counts too.
     pub last: u64,
 }
 
@@ -71,7 +71,7 @@ pub(crate) fn row_named<A: Allocator>(packs: &Packs<A>, question: &Question) -> 
     }
 }
 
-/// What is known of a pack after an accepted entry at a place about it.
+/// The values known of a pack after an accepted entry at a place about it.
 fn marked_by(place: u64, entry: &Entry, known: Option<Known>) -> Option<Known>
     ensures { result ≡ marked_by place entry.now known }
 {
@@ -114,7 +114,7 @@ fn row_after(place: u64, entry: &Entry, old: &PackRow) -> PackRow
     }
 }
 
-/// Notes an entry at a place, for whose pack room was made, and tells the row of the pack before it.
+/// Notes an entry at a place, and returns the row of its pack before it. Room was made for the pack.
 pub(crate) fn note<A: Allocator>(packs: &mut Packs<A>, place: u64, entry: &Entry) -> PackRow
     requires room { 0 < spare packs.old }
     requires about { (p : Pack) → (row_in packs.old p).about + 1 < 2 ^ 64 }

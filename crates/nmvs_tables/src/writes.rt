@@ -1,4 +1,4 @@
-//! A key's value found, and written where it was found.
+//! Values of keys: found, and written at the same index.
 ghost use Rattle.std.specs.Prelude.{◌≡◌, ◌<◌, Some, cond};
 ghost use Rattle.indexmap.specs.IndexMap.{get, index_of, insert_entry, spare};
 
@@ -20,7 +20,7 @@ pub(crate) fn find<K: Eq + Hash, V: Copy, S: BuildHasher, A: Allocator>(
     }
 }
 
-/// Gives a key its value, for which room was made.
+/// Gives a key its value. Room was made for it.
 pub(crate) fn insert<K: Eq + Hash + Copy, V: Copy, S: BuildHasher, A: Allocator>(
     table: &mut IndexMap<K, V, S, A>,
     key: K,
@@ -34,7 +34,7 @@ pub(crate) fn insert<K: Eq + Hash + Copy, V: Copy, S: BuildHasher, A: Allocator>
     table.insert(key, value).unwrap();
 }
 
-/// Gives a key its value, at the index where it was found. A new key, for which room was made, goes last.
+/// Gives a key its value, at the index that was found for it. A new key, for which room was made, goes last.
 pub(crate) fn write<K: Eq + Hash + Copy, V: Copy, S: BuildHasher, A: Allocator>(
     table: &mut IndexMap<K, V, S, A>,
     index: Option<usize>,

@@ -21,7 +21,7 @@ const COMMANDS: &[u8] =
     AAAAAAAAAAAAAAAAAAAAAAAAAAAAAAAAAAAAAAAAAAAAAAAAAAAAAAAAAAAAAAAAAAAAAAAAAAAAAAAAAAAAAAAAAAAAAAAAAAAAA\n\
     suspend ph9\nSUSPEND ph9\nENROL ph9 PHARMACY PH-9 P9";
 
-/// What stops the server, and a command behind it.
+/// Commands up to the one that stops the server, and a command after it.
 const STOP: &[u8] =
     b"EXPORT full\nEXPORT trail.txt\nHELP\nUSERS\nSTATS\nCONNECTIONS\nALERTS\nSUSPEND ph9\nSTOP\nENROL ph9 PHARMACY PH-9 P9\n";
 
@@ -30,8 +30,8 @@ const HELPED: &[u8] =
     ALERTS\nSTOP\nHELP\nDONE\nUSER ph9 PHARMACY PH-9 P9 SUSPENDED\nDONE\nCONNECTIONS 2\nSESSIONS 3\nENTRIES 0 5\nENTRIES 1 0\nDONE\n\
     WORKER 0 2\nDONE\nALERTS ph9 P9 3\nDONE\nFAULT JOURNAL\nDONE\n.";
 
-/// A server that keeps so many changes, has this users file, if any, and writes no file named `full`. One user has raised three
-/// alerts at its premises.
+/// A server that keeps this number of changes, has this users file, if any, and writes no file named `full`. One user has
+/// raised three alerts at its premises.
 #[derive(Drop)]
 struct Narrow {
     keeps: u64,
@@ -80,7 +80,7 @@ impl Service for Narrow {
     }
 }
 
-/// Takes these bytes and no others. (It owns what it needs: in this toolchain a console may hold no references.)
+/// Takes exactly these bytes. (It owns its values: in this toolchain a console may hold no references.)
 #[derive(Drop)]
 struct Awaited {
     left: &'static [u8],
@@ -102,7 +102,7 @@ impl Write for Awaited {
     }
 }
 
-/// Carries out orders, which have these answers, a full stop behind them.
+/// Asserts that these commands have these answers, with a full stop after them.
 fn has_answers<'r, J: Naming, R: Wait + Abort + Sync>(
     rt: &'r R,
     alloc: Global,
@@ -121,7 +121,7 @@ fn has_answers<'r, J: Naming, R: Wait + Abort + Sync>(
         &mut Latest::new(rt, latest),
         service,
     );
-    // the sink takes it behind all answers alone
+    // the sink takes the full stop only after all answers
     assert_eq!(rt; deliver(&mut console.sink, b"."), Ok(()));
 }
 
@@ -181,13 +181,13 @@ fn commands_are_carried_out_as_they_come(rt: HostRuntime) {
     commands_come::<Brand, _>(&rt, rt.alloc(), Directory::new());
 }
 
-/// A users file of which the second and the last line have faults.
+/// A users file with faults in its second and its last line.
 const FAULTY: &[u8] = b"ENROL ph9 PHARMACY PH-9 P9\nENROL ph9 DOCTOR PH-9 P9\n\nSUSPEND ph9";
 
 /// A users file without fault.
 const WHOLE: &[u8] = b"# ph9\nENROL ph9 PHARMACY PH-9 P9\nSUSPEND ph8\n";
 
-/// Sends `RELOAD` to a server with this users file, which has room to keep one more change, and this answer.
+/// Asserts that a server with this users file and room for one more change answers `RELOAD` with this.
 fn reloads<'r, J: Naming, R: Wait + Abort + Sync>(
     rt: &'r R,
     alloc: Global,

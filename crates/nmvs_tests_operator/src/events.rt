@@ -13,7 +13,7 @@ use std::time::Duration;
 /// 25 November 2026, 06:41:29.007 UTC, in milliseconds since 1970.
 const MILLIS: u64 = 1_795_588_889_007;
 
-/// A clock that stands still, and a standard error that notes whether it was given this line.
+/// A clock that stands still, and a standard error that notes whether it received this line.
 #[derive(Drop)]
 struct Expecting {
     alloc: Global,

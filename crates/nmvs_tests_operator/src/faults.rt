@@ -5,7 +5,7 @@ use std::fmt::Display;
 use std::process::Abort;
 use std::test::*;
 
-/// Whether a fault is shown so.
+/// Whether a fault is shown as this text.
 fn is_shown(rt: &impl Abort, alloc: Global, fault: &impl Display, text: &str) -> bool {
     let shown = format!(in alloc; "{fault}").expect(rt, "memory");
     shown.as_str() == text

@@ -57,6 +57,12 @@ nmvs_connections_total{worker="0"} 7
 # HELP nmvs_sessions_total Sessions that have begun in which a line is served.
 # TYPE nmvs_sessions_total counter
 nmvs_sessions_total 9
+# HELP nmvs_connections_memory_bytes Memory of the buffers of connections, by worker.
+# TYPE nmvs_connections_memory_bytes gauge
+nmvs_connections_memory_bytes{worker="0"} 4096
+# HELP nmvs_connections_evicted_total Connections that were closed because the buffers of all took too much memory.
+# TYPE nmvs_connections_evicted_total counter
+nmvs_connections_evicted_total 8
 # HELP nmvs_entries Entries of the audit trail, by shard.
 # TYPE nmvs_entries gauge
 nmvs_entries{shard="0"} 5
@@ -130,6 +136,8 @@ fn snapshot(alloc: Global) -> Result<Snapshot, AllocError> {
         open: vec![in alloc; numbered(0, 1), numbered(1, 0)]?,
         accepted: vec![in alloc; numbered(0, 7)]?,
         sessions: 9,
+        evicted: 8,
+        memory: vec![in alloc; numbered(0, 4_096)]?,
         entries: vec![in alloc; numbered(0, 5)]?,
         packs: vec![in alloc; numbered(0, 3)]?,
         log: None,
@@ -163,7 +171,7 @@ fn the_page_is_as_written_by_hand(rt: HostRuntime) {
     assert!(rt; page.strip_prefix(PAGE) == Some(LOG));
 }
 
-/// How long the machine runs when metrics are asked for.
+/// The time for which the machine runs when metrics are asked for.
 fn later() -> Duration {
     Duration::from_secs(1_000)
 }
@@ -179,7 +187,7 @@ fn has_line(alloc: Global, metrics: &Metrics, line: &str) -> bool {
     }
 }
 
-/// The question that a line puts.
+/// The question of a line.
 fn question(line: &str) -> Option<Question> {
     match read_line(line.as_bytes()) {
         Ok(
@@ -194,7 +202,7 @@ fn question(line: &str) -> Option<Question> {
     }
 }
 
-/// Counts that this line, whose entry is in shard 1, had this reply.
+/// Counts this reply to this line, whose entry is in shard 1.
 fn note(metrics: &Metrics, line: &str, reply: Reply) {
     if let Some(question) = question(line) {
         metrics.worker(1).note_put(1, &question, &reply);
@@ -280,6 +288,8 @@ fn connections_and_syncs_are_counted(rt: HostRuntime) {
         metrics.worker(worker).note_accepted();
     }
     metrics.worker(1).note_ended();
+    metrics.worker(1).note_evicted();
+    metrics.worker(1).note_memory(4_096);
     metrics.worker(0).note_confirmed(0, 3);
     metrics.worker(1).note_confirmed(0, 4);
     metrics.note_sync(Duration::from_micros(100));
@@ -291,6 +301,9 @@ fn connections_and_syncs_are_counted(rt: HostRuntime) {
         "nmvs_connections_open{worker=\"1\"} 1",
         "nmvs_connections_total{worker=\"1\"} 2",
         "nmvs_sessions_total 1",
+        "nmvs_connections_evicted_total 1",
+        "nmvs_connections_memory_bytes{worker=\"0\"} 0",
+        "nmvs_connections_memory_bytes{worker=\"1\"} 4096",
         "nmvs_journal_confirmed_entries{shard=\"0\"} 4",
         "nmvs_journal_waiting_entries{shard=\"0\"} 1",
         "nmvs_journal_sync_seconds_bucket{le=\"0.0001\"} 1",
@@ -327,7 +340,7 @@ fn each_line_has_the_time_of_its_release(rt: HostRuntime) {
     assert!(rt; has_line(rt.alloc(), &metrics, "nmvs_reply_seconds_count 4"));
 }
 
-/// What a request is answered with.
+/// The answer to a request.
 fn answer_to(rt: &HostRuntime, metrics: &Metrics, request: &str) -> io::Result<Vec<u8>> {
     let alloc = rt.alloc();
     let keys = RandomState::new(rt)?;

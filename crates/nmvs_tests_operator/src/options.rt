@@ -31,6 +31,7 @@ fn options_have_defaults(rt: HostRuntime) {
     );
     assert_eq!(rt; (options.moment, options.stdin), (None, false));
     assert_eq!(rt; (options.connections, options.idle), (10_000, 300));
+    assert_eq!(rt; options.connection_memory, 256);
     assert_eq!(rt; (options.rate, options.burst), (0, 0));
     assert_eq!(rt; options.address, own(7161));
     assert!(rt; options.socket.is_none() && options.proxy.is_none() && options.journal.is_none());
@@ -52,7 +53,7 @@ fn own_v6(port: u16) -> SocketAddr {
     SocketAddr::new(IpAddr::V6(Ipv6Addr::new(0, 0, 0, 0, 0, 0, 0, 1)), port)
 }
 
-/// Whether a path is this one.
+/// Whether a path is this text.
 fn is_path(path: &Option<String>, text: &str) -> bool {
     match path {
         Some(path) => path.as_str() == text,
@@ -70,6 +71,7 @@ fn all_options_are_taken_together(rt: HostRuntime) {
         "--workers=8",
         "--sessions=1000000",
         "--connections=100000",
+        "--connection-memory=1048576",
         "--idle=86400",
         "--rate=1000000",
         "--burst=1",
@@ -91,6 +93,7 @@ fn all_options_are_taken_together(rt: HostRuntime) {
     );
     assert!(rt; options.stdin);
     assert_eq!(rt; (options.connections, options.idle), (100_000, 86_400));
+    assert_eq!(rt; options.connection_memory, 1_048_576);
     assert_eq!(rt; (options.rate, options.burst), (1_000_000, 1));
     assert!(rt; is_path(&options.socket, "S"));
     assert_eq!(rt; options.proxy, Some(NameOf::Authorisation));
@@ -157,6 +160,8 @@ fn other_lines_are_refused(rt: HostRuntime) {
         "--sessions=1000001",
         "--connections=0",
         "--connections=100001",
+        "--connection-memory=0",
+        "--connection-memory=1048577",
         "--idle=86401",
         "--rate=1000001",
         "--burst=0",
@@ -209,6 +214,6 @@ fn help_and_version_are_told(rt: HostRuntime) {
         let version = read(&rt, rt.alloc(), &[word]);
         assert!(rt; matches!(version, Err(OptionFault::Help(_))), "{word}");
     }
-    // A line VERSION is answered with the same number.
+    // The answer to a line VERSION begins with the same number.
     assert!(rt; nmvs_operator::VERSION.starts_with(nmvs_protocol::VERSION));
 }

@@ -7,7 +7,7 @@ fn suspends(line: &[u8]) -> bool {
     matches!(read_order(line), Ok(Order::Change(Command::Suspend(_))))
 }
 
-/// Why a line is no order, if it is none.
+/// The fault of a line that is no order, if it is none.
 fn fault_of(line: &[u8]) -> Option<CommandFault> {
     match read_order(line) {
         Ok(_) => None,

@@ -26,7 +26,7 @@ fn load<J: Naming, R: Wait>(
     load_users(alloc, &mut Device::new(text.as_bytes()), registrar, reads)
 }
 
-/// Files that are refused.
+/// Asserts that these files are refused.
 fn refuses_files<J: Naming, R: Wait + Abort>(
     rt: &R,
     alloc: Global,
@@ -71,7 +71,7 @@ fn a_users_file_is_published_or_refused(rt: HostRuntime) {
     users_are_loaded::<Brand, _>(&rt, rt.alloc(), Directory::new());
 }
 
-/// Asserts what fault stands at this place, and of which line.
+/// Asserts the fault at this place, and its line.
 fn assert_fault(
     rt: &impl Abort,
     faults: &[UsersFault<'_>],

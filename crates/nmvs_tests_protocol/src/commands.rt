@@ -1,4 +1,4 @@
-//! Commands as they are read.
+//! The reading of commands.
 use nmvs_identifier::Name;
 use nmvs_messages::{Command, CommandFault, read_command};
 use nmvs_rules::{Actor, Role};

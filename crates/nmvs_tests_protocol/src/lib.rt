@@ -12,4 +12,6 @@ mod rehearsals;
 #[cfg(test)]
 mod replies;
 #[cfg(test)]
+mod reply_json;
+#[cfg(test)]
 mod sessions;

@@ -1,4 +1,4 @@
-//! Lines as they are read and written.
+//! The reading and writing of lines.
 use linked_list_allocator::LocalHeap;
 use nmvs_identifier::{Batch, Expiry, Name, Pack, ProductCode, Serial, Tag};
 use nmvs_messages::{Ask, Asked, Line, LineFault, Unread};
@@ -56,7 +56,7 @@ fn is_written_again(alloc: Global, line: &str) -> bool {
     }
 }
 
-/// Whether a line's text is written on a heap of so many bytes.
+/// Whether a line's text is written on a heap of this number of bytes.
 fn is_written_on(rt: &impl Abort, alloc: Global, bytes: usize) -> bool {
     let line = "#a17 mah1 WITHDRAW 09506000134352 ABC/DEF%GHI/JKL%MN12";
     let read = read_line(line.as_bytes()).expect(rt, "a line");
@@ -159,12 +159,12 @@ fn faults_of_lines(rt: HostRuntime) {
     }
 }
 
-/// What is told of a line that is unread, and begins with a tag or not.
+/// An unread line with this tag, or without a tag.
 fn unread(tag: Option<Tag>, fault: LineFault) -> Result<Line, Unread> {
     Err(Unread { tag, fault })
 }
 
-/// Whether a line of so many `A`, with a tag before them or without one, is unread for this reason, and told so with its tag.
+/// Whether a line of this number of bytes, all `A` after the tag if there is one, has this fault and this tag.
 fn is_unread(length: usize, tag: Option<&str>, fault: LineFault) -> bool {
     let mut line = [b'A'; 201];
     let mut told = None;

@@ -1,4 +1,4 @@
-//! Whose lines a peer may send.
+//! The lines that a peer may send.
 use nmvs_identifier::Name;
 use nmvs_messages::{
     Ask, Content, Desk, End, NameOf, Peer, Released, SESSION_LIMITS, Turn, Withheld,
@@ -36,7 +36,7 @@ fn a_peer_speaks_for_its_own_users(rt: HostRuntime) {
     }
 }
 
-/// Turns each line away: another peer's as one of nobody, its own as one over the rate.
+/// Turns each line away: its own peer's with RATE, another peer's with NOBODY.
 #[derive(Clone, Copy)]
 struct Own {
     peer: Peer,

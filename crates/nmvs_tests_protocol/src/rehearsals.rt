@@ -92,7 +92,7 @@ fn push_line(rt: &impl Abort, bytes: &mut Vec<u8>, line: &str) {
     bytes.push(b'\n').expect(rt, "memory");
 }
 
-/// What a rehearsal over these bytes writes, and how it ends.
+/// The output of a rehearsal over these bytes, and its end.
 fn rehearsed(rt: &impl Abort, alloc: Global, seconds: &[i64], input: &[u8]) -> (Vec<u8>, End) {
     let mut moments = Vec::new(alloc);
     for second in seconds {
@@ -121,7 +121,7 @@ fn a_session_has_at_most_10_000_lines(rt: HostRuntime) {
     ends_behind(&rt, rt.alloc(), &input, 70_000, End::Limit);
 }
 
-/// A rehearsal over these bytes writes so many bytes, and ends so.
+/// Asserts that a rehearsal over these bytes writes this number of bytes, and has this end.
 fn ends_behind(rt: &impl Abort, alloc: Global, input: &[u8], written: usize, wanted: End) {
     let (output, end) = rehearsed(rt, alloc, &[NEW_YEAR], input);
     assert!(rt; output.len() == written);
@@ -156,14 +156,14 @@ fn product_code(alloc: Global, digits: u64) -> Result<String, AllocError> {
     format!(in alloc; "{digits:013}{check}")
 }
 
-/// A session that is written line by line, with what is replied to it.
+/// A session that is written line by line, with the replies to its lines.
 #[derive(Drop)]
 struct Written {
     input: Vec<u8>,
     wanted: Vec<u8>,
 }
 
-/// Adds a line, where there was memory for it, and what is replied to it.
+/// Adds a line, if there was memory for it, and its reply.
 fn push_both(
     rt: &impl Abort,
     written: &mut Written,

@@ -8,7 +8,7 @@ use std::alloc::Global;
 use std::process::Abort;
 use std::rt::HostRuntime;
 
-/// Whether the answer is told as this text.
+/// Whether the answer has this text.
 fn is_told(alloc: Global, answer: Content<'_>, text: &str) -> bool {
     let mut withheld = WithheldAnswers::new();
     withheld.push(Withheld::new(answer));

@@ -26,8 +26,8 @@ const AMPLE: Limits = Limits {
     reads: 1_000,
 };
 
-/// Knows the batch and expiry that were uploaded last, and takes every pack for one of them. Its answers rest on as many
-/// entries as were asked for, of which so many are kept.
+/// Knows the batch and expiry of the last upload, and takes every pack for one of them. Its answers rest on one entry for
+/// each ask, and it keeps the number in `kept`.
 #[derive(Clone, Copy)]
 struct Shelf<'a> {
     alloc: &'a Global,
@@ -85,7 +85,7 @@ impl<'a> Desk<'a> for Shelf<'a> {
     }
 }
 
-/// Gives or takes so many bytes a call, for so many calls, and is then interrupted.
+/// Gives or takes this number of bytes in each of this number of calls, and is interrupted after them.
 #[derive(Drop)]
 struct Pieces<D> {
     inner: D,
@@ -123,7 +123,7 @@ impl<D: Write> Write for Pieces<D> {
     }
 }
 
-/// Gives one line a call, and fails where a reply isn't flushed.
+/// Gives one line a call, and fails if a reply is not flushed.
 #[derive(Drop)]
 struct LineByLine<'a> {
     input: &'a [u8],
@@ -144,7 +144,7 @@ impl<'a> Read for LineByLine<'a> {
     }
 }
 
-/// Takes bytes, and tells whether they are flushed.
+/// Takes bytes, and notes whether they are flushed.
 #[derive(Drop)]
 struct Flushing<'a> {
     inner: &'a mut Vec<u8>,
@@ -187,7 +187,7 @@ fn run<R: Read + Drop, W: Write + Drop>(
     )
 }
 
-/// The answers to the whole lines in so many bytes of the input.
+/// The answers to the whole lines in this number of bytes of the input.
 fn answers_to(bytes: usize) -> &'static [u8] {
     match bytes {
         0..41 => b"",
@@ -306,7 +306,7 @@ fn each_reply_is_flushed_before_more_is_read(rt: HostRuntime) {
     assert_eq!(rt; taken.as_slice(), OUTPUT);
 }
 
-/// Lines that are fed in pieces: the bytes of a piece, and how often answers are released. No more than 176 are withheld at once.
+/// Many short lines and the input are fed in pieces of each of these sizes. At most 176 answers are withheld at once.
 #[test]
 fn a_session_is_fed_in_any_pieces(rt: HostRuntime) {
     let alloc = rt.alloc();
@@ -348,7 +348,7 @@ fn a_session_is_fed_in_any_pieces(rt: HostRuntime) {
     }
 }
 
-/// What is answered at this place, in a word.
+/// The kind of the answer at this place, in a word.
 fn kind_at(released: &Released<'_, '_>, place: usize) -> &'static str {
     let Some(answer) = released.answer(place) else {
         return "none";
@@ -361,7 +361,7 @@ fn kind_at(released: &Released<'_, '_>, place: usize) -> &'static str {
     }
 }
 
-/// Each line of the help but the last has an example, which is a line that is read, and is no longer than a reply of one line.
+/// Each line of the help but the last has an example, which is a line that is read. No line is longer than a reply of one line.
 #[test]
 fn help_lists_lines_that_are_read(rt: HostRuntime) {
     let alloc = rt.alloc();
@@ -398,7 +398,7 @@ fn help_lists_lines_that_are_read(rt: HostRuntime) {
     assert!(rt; examples == 19 && help.ends_with("\nHELP END\n"));
 }
 
-/// The lines after a report wait until it is told.
+/// The lines after a report wait until its answer is released.
 #[test]
 fn a_session_takes_no_line_after_a_report(rt: HostRuntime) {
     let alloc = rt.alloc();
@@ -416,7 +416,7 @@ fn a_session_takes_no_line_after_a_report(rt: HostRuntime) {
     assert!(rt; withheld.ends_long());
 }
 
-/// Answers stand in the order in which their lines were taken, and each session goes on behind its own.
+/// Answers stand in the order in which their lines were taken, and each session goes on with its own bytes.
 #[test]
 fn two_sessions_take_into_one_list(rt: HostRuntime) {
     let alloc = rt.alloc();
@@ -469,7 +469,7 @@ fn what_is_not_kept_is_not_told(rt: HostRuntime) {
     );
 }
 
-/// They are answered where nothing is kept, and the desk is not asked.
+/// PING and VERSION are answered if no entry is kept, and the desk is not asked.
 #[test]
 fn ping_and_version_ask_nothing(rt: HostRuntime) {
     let alloc = rt.alloc();

@@ -1,5 +1,5 @@
-//! What no contract of `nmvs_record` can say: that lines, exports and reports have the right texts, that
-//! each fault is reported, that reads and writes may come in pieces; and memory that is refused.
+//! Tests of the claims that no contract of `nmvs_record` can state. Lines, exports and reports have the right texts, each fault
+//! is reported, and reads and writes may come in pieces. Memory is refused, too.
 #![tactic(auto)]
 
 #[cfg(test)]

@@ -61,7 +61,7 @@ fn the_command_line_comes_first(rt: HostRuntime) {
     assert!(rt; gives(&rt, rt.alloc(), "# none\nstdin = false\n", &[], &[]));
 }
 
-/// The fault of the entry of this key, for which a file with this text is refused.
+/// The fault of the entry of this key, if the fault refuses a file with this text.
 fn entry_fault(alloc: Global, text: &str, key: &str) -> Option<EntryFault> {
     let read = with_config(alloc, text, Vec::new(alloc));
     match &read {
@@ -70,7 +70,7 @@ fn entry_fault(alloc: Global, text: &str, key: &str) -> Option<EntryFault> {
     }
 }
 
-/// The line for which a file with this text is no TOML.
+/// The number of the line at which a file with this text is no TOML.
 fn syntax_fault(alloc: Global, text: &str) -> Option<usize> {
     let read = with_config(alloc, text, Vec::new(alloc));
     match &read {
@@ -142,7 +142,7 @@ fn the_path_is_found(rt: HostRuntime) {
     }
 }
 
-/// How a file of these bytes is read.
+/// The result of reading a file of these bytes.
 fn reading(alloc: Global, bytes: &[u8]) -> &'static str {
     match read_config(alloc, &mut Device::new(bytes)) {
         Ok(_) => "read",

@@ -2,7 +2,7 @@ use nmvs_digest::{Digested, digest_line, read_digest};
 use nmvs_stream::{Device, Source};
 use std::rt::HostRuntime;
 
-/// What `sha256sum` tells of a file `abc.txt` with the three bytes `abc`, whose digest FIPS 180-4 gives as an example.
+/// The line that `sha256sum` prints for a file `abc.txt` with the three bytes `abc`, an example of FIPS 180-4.
 const LINE: &str = "ba7816bf8f01cfea414140de5dae2223b00361a396177a9cb410ff61f20015ad  abc.txt\n";
 
 #[test]

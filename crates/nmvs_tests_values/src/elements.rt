@@ -3,8 +3,8 @@ use nmvs_elements::{
 };
 use std::rt::HostRuntime;
 
-/// One pack in several printed forms (GS1 General Specifications, chapter 5 and sections 3.2 and 7.8): each symbology identifier,
-/// four orders, separators at the front, at the end and behind values of predefined length.
+/// One pack in several printed forms (GS1 General Specifications, chapter 5 and sections 3.2 and 7.8). They have each symbology
+/// identifier, four orders, separators at the front, at the end and after values of predefined length.
 const FORMS: [&[u8]; 6] = [
     b"]d20109506000134352172802001010A1\x1D21SN1",
     b"]C1\x1D010950600013435221SN1\x1D1010A1\x1D17280200",
@@ -14,13 +14,13 @@ const FORMS: [&[u8]; 6] = [
     b"010950600013435217280200\x1D21SN1\x1D1010A1",
 ];
 
-/// What each refused scan is told as.
+/// The fault of each refused scan.
 const REFUSED: [(&[u8], ScanFault); 22] = [
     // A plain Data Matrix, as that of a PPN, and EAN-13 with and without its symbology identifier.
     (b"]d1[)>\x1E069N110375286414", ScanFault::PlainDataMatrix),
     (b"]E04006381333931", ScanFault::Symbology),
     (b"4006381333931", ScanFault::NoElement),
-    // Another element first, and behind others.
+    // Another element first, and after others.
     (b"]d224012345", ScanFault::NoElement),
     (
         b"]d20109506000134352240A\x1D1728020010A1\x1D21SN1",

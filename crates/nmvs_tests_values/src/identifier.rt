@@ -35,8 +35,8 @@ fn serials_and_batches(rt: HostRuntime) {
     assert!(rt; Batch::read("#1") == Err(Set82Fault::Character));
 }
 
-/// The characters of ISO/IEC 646, columns 2 to 7, a column a line, with a blank for each that is not in the GS1 character
-/// set 82 (GS1 General Specifications, figure 7.11-1).
+/// The characters of ISO/IEC 646, columns 2 to 7, a column a line. A character that is not in the GS1 character set 82 is blank
+/// (GS1 General Specifications, figure 7.11-1).
 const SET_82: [&str; 6] = [
     " !\"  %&'()*+,-./",
     "0123456789:;<=>?",
@@ -46,7 +46,7 @@ const SET_82: [&str; 6] = [
     "pqrstuvwxyz     ",
 ];
 
-/// The same of the characters of names (own).
+/// The same table for the characters of names (own).
 const NAMES: [&str; 6] = [
     "             -. ",
     "0123456789      ",
@@ -56,7 +56,7 @@ const NAMES: [&str; 6] = [
     "pqrstuvwxyz     ",
 ];
 
-/// The same of those that a name may begin with (own).
+/// The same table for the first character of a name (own).
 const FIRST_OF_NAMES: [&str; 6] = [
     "                ",
     "0123456789      ",
@@ -96,7 +96,7 @@ fn characters_of_texts_are_those_of_the_tables(rt: HostRuntime) {
     assert!(rt; Name::read("\u{E9}") == Err(NameFault::Character));
 }
 
-/// The day of an expiry date that is read.
+/// The day of an expiry date.
 fn day_of(text: &str) -> Option<i32> {
     match Expiry::read(text) {
         Ok(expiry) => Some(expiry.day()),
@@ -169,7 +169,7 @@ fn packs_are_the_same_by_code_and_serial(rt: HostRuntime) {
     );
 }
 
-/// Whether a value is shown so.
+/// Whether a value is shown as this text.
 fn shows<T: Display>(alloc: Global, value: &T, text: &str) -> bool {
     format!(in alloc; "{value}").is_ok_and(|shown| shown.as_str() == text)
 }

@@ -24,7 +24,7 @@ fn rates_have_lines_and_a_burst(rt: HostRuntime) {
     }
 }
 
-/// Two lines a second, and three at once: a line comes in each half second. A moment before the last brings none.
+/// At two lines a second, and three at once, a line comes in each half second. An earlier moment brings none.
 #[test]
 fn a_bucket_gives_what_comes_in(rt: HostRuntime) {
     let rate = rate(&rt, 2, 3);
@@ -66,7 +66,7 @@ fn each_user_has_a_bucket_of_its_own(rt: HostRuntime) {
     }
 }
 
-/// Whether a user gets a bucket on a heap of so many bytes, which then gives one line.
+/// Whether a user gets a bucket on a heap of this number of bytes. The bucket then gives one line.
 fn has_bucket_on(rt: &impl Abort, alloc: Global, bytes: usize) -> bool {
     let heap = LocalHeap::new(alloc, bytes).expect(rt, "memory");
     let mut limiter = RateLimiter::new(&heap, rate(rt, 1, 1));
@@ -90,7 +90,7 @@ fn each_growth_is_refused_in_turn(rt: HostRuntime) {
     panic!(rt; "never enough memory");
 }
 
-/// Of a line a second and two at once, the third within a second is refused. Without a limiter each is let through.
+/// At a line a second, and two at once, the third within a second is refused. Without a limiter each is let through.
 #[test]
 fn a_shared_limiter_counts_by_the_machines_clock(rt: HostRuntime) {
     let ph1 = name(&rt, "ph1");

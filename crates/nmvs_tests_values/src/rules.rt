@@ -61,7 +61,7 @@ fn may_each(question: &Question) -> [bool; 5] {
     ]
 }
 
-/// Whether they get the report of a product code.
+/// Whether the same roles get the report of a product code.
 fn may_report_each() -> [bool; 5] {
     [
         may_report(Role::Holder),
@@ -72,7 +72,7 @@ fn may_report_each() -> [bool; 5] {
     ]
 }
 
-/// What a repository knows before any upload.
+/// The facts before any upload.
 fn nothing() -> Facts {
     Facts {
         pack: None,
@@ -83,7 +83,7 @@ fn nothing() -> Facts {
     }
 }
 
-/// What it knows once the pack was uploaded and the pharmacy gave it this own status at the new year.
+/// The facts after the upload of the pack, to which the pharmacy gave this own status at the new year.
 fn facts(rt: &impl Abort, own: OwnStatus, lock: BatchLock, expiry: &str) -> Facts {
     let by = pharmacy(rt);
     let known = Known {
@@ -142,7 +142,7 @@ const PHARMACY: [bool; 5] = [false, false, false, true, false];
 
 const AUTHORITY: [bool; 5] = [false, false, false, false, true];
 
-/// Questions about the pack, with who may ask them.
+/// Questions about the pack, with the roles that may ask them.
 fn pack_questions(pack: &Pack) -> [(Question, [bool; 5]); 11] {
     let by_reason = |reason| Question::Decommission(*pack, reason);
     [
@@ -214,7 +214,7 @@ fn questions_name_a_code_and_mostly_a_pack(rt: HostRuntime) {
     assert!(rt; recall.pack() == None);
 }
 
-/// Who asks on which facts, how many seconds after 1970-01-01, and what is answered.
+/// The capacity, the facts, the seconds since 1970-01-01, and the reply.
 type Case<'a> = (&'a Actor, &'a Facts, i64, Reply);
 
 fn are_answered(rt: &impl Abort, question: &Question, cases: &[Case]) {
@@ -235,7 +235,7 @@ fn alert(cause: Cause, flagged: bool) -> Reply {
     }
 }
 
-/// The pack, which is authentic, as it is told.
+/// The reply for the pack, which is authentic.
 fn authentic(rt: &impl Abort, expired: bool) -> Reply {
     Reply::Authentic {
         batch: batch(rt),
@@ -391,7 +391,7 @@ fn tag(rt: &impl Abort, text: &str) -> Tag {
     Tag::read(text).expect(rt, "a tag")
 }
 
-/// A verification as a pharmacy's user puts it at the new year, with a tag.
+/// A verification of a pharmacy's user at the new year, with a tag.
 fn tagged(rt: &impl Abort) -> Put {
     Put {
         moment: at(rt, NEW_YEAR),
@@ -402,7 +402,7 @@ fn tagged(rt: &impl Abort) -> Put {
     }
 }
 
-/// Whether a question asks the same is told by its words and its capacity alone.
+/// A question asks the same if its words and its capacity are the same.
 #[test]
 fn the_same_is_asked_at_any_moment_and_with_any_tag(rt: HostRuntime) {
     let put = tagged(&rt);
@@ -444,7 +444,7 @@ fn first_alert() -> Reply {
     }
 }
 
-/// An entry answers again what it asked, for a day, unless its reply says how a pack stood.
+/// An entry answers its question again for a day, unless its reply depends on the status of a pack.
 #[test]
 fn an_earlier_entry_answers_what_it_asked(rt: HostRuntime) {
     let entry = Entry {

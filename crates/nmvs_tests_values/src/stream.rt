@@ -25,7 +25,7 @@ impl Write for Broken {
     }
 }
 
-/// Is interrupted at its first call, and then goes on. It counts what it was told to flush.
+/// Is interrupted at its first call, and then goes on. It counts the flushes.
 #[derive(Drop)]
 struct InterruptedOnce<'a, D> {
     inner: D,

@@ -4,8 +4,8 @@ pub const NEW_YEAR: i64 = 1_767_225_600;
 
 const DAY: i64 = 86_400;
 
-/// A session: what it shows, the moments of its lines (the last serves all later lines), and each line with its reply
-/// (whose last LF is left out).
+/// A session: its subject, the moments of its lines (the last one serves all later lines), and each line with its reply,
+/// here without its last LF.
 pub struct Example {
     pub shows: &'static str,
     pub moments: &'static [i64],

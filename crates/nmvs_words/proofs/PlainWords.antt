@@ -47,7 +47,7 @@ role_plain role.Wholesaler = (lit≤ tt, lit≤ tt, refl)
 role_plain role.Pharmacy = (lit≤ tt, lit≤ tt, refl)
 role_plain role.Authority = (lit≤ tt, lit≤ tt, refl)
 
--- of an own status
+-- so is that of an own status
 pub own_plain : (o : OwnStatus) → IsPlain (own_word o)
 own_plain own.Active = (lit≤ tt, lit≤ tt, refl)
 own_plain own.Held = (lit≤ tt, lit≤ tt, refl)
@@ -57,13 +57,13 @@ own_plain own.Sampled = (lit≤ tt, lit≤ tt, refl)
 own_plain own.Destroyed = (lit≤ tt, lit≤ tt, refl)
 own_plain own.Stolen = (lit≤ tt, lit≤ tt, refl)
 
--- of a lock
+-- so is that of a lock
 pub lock_plain : (l : BatchLock) → IsPlain (lock_word l)
 lock_plain lock.Free = (lit≤ tt, lit≤ tt, refl)
 lock_plain lock.Recalled = (lit≤ tt, lit≤ tt, refl)
 lock_plain lock.Withdrawn = (lit≤ tt, lit≤ tt, refl)
 
--- of where a pack may go
+-- so is the word that says where a pack may go
 pub onward_plain : (o : Onward) → IsPlain (onward_word o)
 onward_plain onward.Stock = (lit≤ tt, lit≤ tt, refl)
 onward_plain onward.Supply = (lit≤ tt, lit≤ tt, refl)
@@ -72,7 +72,7 @@ onward_plain onward.Disposal = (lit≤ tt, lit≤ tt, refl)
 onward_plain onward.Authorities = (lit≤ tt, lit≤ tt, refl)
 onward_plain onward.Nowhere = (lit≤ tt, lit≤ tt, refl)
 
--- of a cause
+-- so is that of a cause
 pub cause_plain : (c : Cause) → IsPlain (cause_word c)
 cause_plain cause.Unknown = (lit≤ tt, lit≤ tt, refl)
 cause_plain cause.Recalled = (lit≤ tt, lit≤ tt, refl)
@@ -84,17 +84,17 @@ cause_plain cause.Sampled = (lit≤ tt, lit≤ tt, refl)
 cause_plain cause.Destroyed = (lit≤ tt, lit≤ tt, refl)
 cause_plain cause.Stolen = (lit≤ tt, lit≤ tt, refl)
 
--- of whether a pack has expired
+-- so is the word that says whether a pack has expired
 pub validity_plain : (expired : Bool) → IsPlain (validity_word expired)
 validity_plain true = (lit≤ tt, lit≤ tt, refl)
 validity_plain false = (lit≤ tt, lit≤ tt, refl)
 
--- of whether an alert is flagged
+-- so is the word that says whether an alert is flagged
 pub flag_plain : (flagged : Bool) → IsPlain (flag_word flagged)
 flag_plain true = (lit≤ tt, lit≤ tt, refl)
 flag_plain false = (lit≤ tt, lit≤ tt, refl)
 
--- and of a reply
+-- so is that of a reply
 pub reply_word_plain : (k : ReplyKind) → IsPlain (reply_word k)
 reply_word_plain kinds.Uploaded = (lit≤ tt, lit≤ tt, refl)
 reply_word_plain kinds.Authentic = (lit≤ tt, lit≤ tt, refl)

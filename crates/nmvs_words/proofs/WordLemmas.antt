@@ -1,4 +1,4 @@
--- Words and what they name.
+-- Words and the values that they name.
 use Rattle.std.proofs.Common.{◌≡◌, ℕ, Bool, true, false, List, Some, refl, sym, ap, ◌∙◌}
 use Rattle.std.specs.Str.{bytes_eq}
 use Rattle.std.proofs.lemmas.Option.{same_Some}
@@ -66,7 +66,7 @@ role_named-of_word role.Authority = refl
 pub role_word-one : (r r' : Role) → role_word r ≡ role_word r' → r ≡ r'
 role_word-one r r' e = same_Some r r' (sym (role_named-of_word r) ∙ ap role_named e ∙ role_named-of_word r')
 
--- each other word finds what it is the word of
+-- the word of an own status finds it
 pub own_named-of_word : (x : OwnStatus) → own_named (own_word x) ≡ Some x
 own_named-of_word own.Active = refl
 own_named-of_word own.Held = refl
@@ -76,13 +76,13 @@ own_named-of_word own.Sampled = refl
 own_named-of_word own.Destroyed = refl
 own_named-of_word own.Stolen = refl
 
--- the word of a lock names it
+-- so does the word of a lock
 pub lock_named-of_word : (x : BatchLock) → lock_named (lock_word x) ≡ Some x
 lock_named-of_word lock.Free = refl
 lock_named-of_word lock.Recalled = refl
 lock_named-of_word lock.Withdrawn = refl
 
--- so does that of where a pack may go
+-- so does the word that says where a pack may go
 pub onward_named-of_word : (x : Onward) → onward_named (onward_word x) ≡ Some x
 onward_named-of_word onward.Stock = refl
 onward_named-of_word onward.Supply = refl
@@ -91,7 +91,7 @@ onward_named-of_word onward.Disposal = refl
 onward_named-of_word onward.Authorities = refl
 onward_named-of_word onward.Nowhere = refl
 
--- of a cause
+-- so does the word of a cause
 pub cause_named-of_word : (x : Cause) → cause_named (cause_word x) ≡ Some x
 cause_named-of_word cause.Unknown = refl
 cause_named-of_word cause.Recalled = refl
@@ -103,12 +103,12 @@ cause_named-of_word cause.Sampled = refl
 cause_named-of_word cause.Destroyed = refl
 cause_named-of_word cause.Stolen = refl
 
--- of whether a pack has expired
+-- so does the word that says whether a pack has expired
 pub validity_named-of_word : (x : Bool) → validity_named (validity_word x) ≡ Some x
 validity_named-of_word true = refl
 validity_named-of_word false = refl
 
--- and of whether an alert is flagged
+-- so does the word that says whether an alert is flagged
 pub flag_named-of_word : (x : Bool) → flag_named (flag_word x) ≡ Some x
 flag_named-of_word true = refl
 flag_named-of_word false = refl

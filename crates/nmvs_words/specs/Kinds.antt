@@ -53,7 +53,7 @@ kind_of (question.Withdraw c b) = OfBatch Withdraw
 kind_of (question.Theft p) = OfPack Theft
 kind_of (question.Audit p) = OfPack Audit
 
--- the texts of what a question names, in the order in which they are written
+-- the texts that a question names, in the order in which they are written
 abbrev pub texts_of : Question → List (List ℕ)
 texts_of (question.Upload p b x) = p.code.bytes ∷ p.serial.bytes ∷ b.bytes ∷ x.bytes ∷ []
 texts_of (question.Verify p) = p.code.bytes ∷ p.serial.bytes ∷ []

@@ -73,7 +73,7 @@ locks = lock.Free ∷ lock.Recalled ∷ lock.Withdrawn ∷ []
 abbrev pub lock_named : List ℕ → Option BatchLock
 lock_named w = find (λ l. bytes_eq w (lock_word l)) locks
 
--- the word of where a pack may go
+-- the word that says where a pack may go
 abbrev pub onward_word : Onward → List ℕ
 onward_word onward.Stock = codes "STOCK"
 onward_word onward.Supply = codes "SUPPLY"
@@ -112,7 +112,7 @@ causes =
 abbrev pub cause_named : List ℕ → Option Cause
 cause_named w = find (λ c. bytes_eq w (cause_word c)) causes
 
--- the word of whether an expiry date is past
+-- the word that says whether an expiry date is past
 abbrev pub validity_word : Bool → List ℕ
 validity_word expired = if expired then codes "EXPIRED" else codes "VALID"
 
@@ -120,7 +120,7 @@ validity_word expired = if expired then codes "EXPIRED" else codes "VALID"
 abbrev pub validity_named : List ℕ → Option Bool
 validity_named w = find (λ b. bytes_eq w (validity_word b)) (false ∷ true ∷ [])
 
--- the word of whether an alert is flagged as a potential falsification
+-- the word that says whether an alert is flagged as a potential falsification
 abbrev pub flag_word : Bool → List ℕ
 flag_word flagged = if flagged then codes "FLAGGED" else codes "UNFLAGGED"
 

@@ -7,7 +7,7 @@ ghost use Rattle.nmvs_words.specs.declared.question_kind.QuestionKind.TheVariant
 use nmvs_identifier::{Batch, ProductCode};
 use nmvs_rules::Question;
 
-/// What is asked of a batch, without the batch.
+/// A question about a batch, without the batch.
 #[derive(Clone, Copy, Debug, PartialEq, Eq)]
 pub enum BatchQuestion {
     Recall,

@@ -1,10 +1,11 @@
 //! The words of the formats: one for each role, status, lock, cause, refusal and kind of question.
 //!
 //! Lines, replies, commands and stored entries use the same words, so they stand here once, in code and in specs, each
-//! next to its value. [`QuestionKind`] is what is asked without what it names: `QuestionKind::named("VERIFY")` finds it
-//! by its word, and `word` gives the word back. The other words are functions, as [`role_word`] and [`role_named`].
+//! next to its value. [`QuestionKind`] is a question without the values that it names. `QuestionKind::named("VERIFY")`
+//! finds it by its word, and `word` gives the word back. The other words are functions, as [`role_word`] and
+//! [`role_named`].
 //!
-//! It composes no lines: `nmvs_protocol` does.
+//! It composes no lines: `nmvs_line` and `nmvs_protocol` do.
 #![tactic(auto)]
 
 mod batch_question;

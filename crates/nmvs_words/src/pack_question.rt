@@ -7,7 +7,7 @@ ghost use Rattle.nmvs_words.specs.declared.question_kind.QuestionKind.TheVariant
 use nmvs_identifier::Pack;
 use nmvs_rules::{Question, Reason};
 
-/// What is asked of a pack, without the pack.
+/// A question about a pack, without the pack.
 #[derive(Clone, Copy, Debug, PartialEq, Eq)]
 pub enum PackQuestion {
     Verify,

@@ -5,7 +5,7 @@ ghost use Rattle.nmvs_words.specs.Kinds.{kind_of, kind_word, kind_named};
 use crate::{BatchQuestion, PackQuestion, reason_word};
 use nmvs_rules::{Question, Reason};
 
-/// What is asked, without what it is asked of. Each kind has a word, and what follows the word is by the variant.
+/// A question without the values that it names. Each kind has a word, and the variant decides which values follow it.
 #[derive(Clone, Copy, Debug, PartialEq, Eq)]
 pub enum QuestionKind {
     Upload,

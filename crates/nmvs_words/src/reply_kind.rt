@@ -2,7 +2,7 @@
 ghost use Rattle.std.specs.Prelude.{◌≡◌};
 ghost use Rattle.nmvs_words.specs.ReplyKinds.{reply_word, reply_named};
 
-/// What a reply says, without its values. Each kind has a word, and what follows the word is by the kind.
+/// A reply without its values. Each kind has a word, and decides which values follow it.
 #[derive(Clone, Copy, Debug, PartialEq, Eq)]
 pub enum ReplyKind {
     Uploaded,

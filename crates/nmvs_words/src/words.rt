@@ -98,7 +98,7 @@ pub fn lock_named(word: &str) -> Option<BatchLock>
     }
 }
 
-/// The word of where a pack may go.
+/// The word that says where a pack may go.
 pub fn onward_word(onward: Onward) -> &'static str
     ensures { result.now ≡ words.onward_word onward }
 {
@@ -162,7 +162,7 @@ pub fn cause_named(word: &str) -> Option<Cause>
     }
 }
 
-/// The word of whether an expiry date is past.
+/// The word that says whether an expiry date is past.
 pub fn validity_word(expired: bool) -> &'static str
     ensures { result.now ≡ words.validity_word expired }
 {
@@ -180,7 +180,7 @@ pub fn validity_named(word: &str) -> Option<bool>
     }
 }
 
-/// The word of whether an alert is flagged as a potential falsification.
+/// The word that says whether an alert is flagged as a potential falsification.
 pub fn flag_word(flagged: bool) -> &'static str
     ensures { result.now ≡ words.flag_word flagged }
 {

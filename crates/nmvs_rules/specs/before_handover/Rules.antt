@@ -1,5 +1,5 @@
--- Who might ask what, and the reply of the rules, before a pack could be handed over. `may_ask` and `admitted_reply`
--- have changed since; the others are as in `specs/Rules`, over these two and the trail of then.
+-- The questions that each role might ask, and the reply of the rules, before a pack could be handed over. `may_ask` and
+-- `admitted_reply` have changed since; the others are as in `specs/Rules`, over these two and the trail of that time.
 use Rattle.std.specs.Prelude.{ℕ, ◌≡◌, Bool, true, false, List, [], ◌∷◌, ◌++◌, if◌then◌else◌}
 use Rattle.nmvs_identifier.specs.declared.pack.Pack.{Pack}
 use Rattle.nmvs_rules.specs.declared.actor.Actor.{Actor}
@@ -19,7 +19,7 @@ use Rattle.nmvs_rules.specs.Trail.{alerts_of, about_of}
 use Rattle.nmvs_rules.specs.Rules.{on_pack, upload_reply, alert_unknown, verify_reply, status_reply, decommission_reply, revert_reply, lock_reply, theft_reply}
 use Rattle.nmvs_rules.specs.before_handover.Trail.{known, lock_of, holder_of, count_of, is_known_batch}
 
--- who might ask what; nobody might hand over a pack
+-- whether a role might ask a question; none might hand over a pack
 abbrev pub may_ask : Role → Question → Bool
 may_ask r (Upload _ _ _) = is_holder r
 may_ask r (Recall _ _) = is_holder r

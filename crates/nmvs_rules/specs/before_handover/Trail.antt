@@ -1,5 +1,5 @@
--- What a trail said before a pack could be handed over. `accepts` and `own_given` have changed since; the others are as
--- in `specs/Trail`, over these two.
+-- The state of packs on a trail before a pack could be handed over. `accepts` and `own_given` have changed since; the
+-- others are as in `specs/Trail`, over these two.
 use Rattle.std.specs.Prelude.{ℕ, ◌-◌, Bool, true, false, not, ◌&&◌, List, length, find, count_by, Option, Some, None, unwrap_or}
 use Rattle.std.specs.List.{list_any, suffix_len}
 use Rattle.std.specs.Option.{option_map, option_map_or}

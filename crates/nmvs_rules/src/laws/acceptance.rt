@@ -1,4 +1,4 @@
-//! Laws on what is accepted.
+//! Laws on accepted questions.
 ghost use Rattle.std.specs.Prelude.{◌≡◌, ◌↔◌, ℕ, IsTrue, List};
 ghost use Rattle.nmvs_identifier.specs.Batch.{Batch};
 ghost use Rattle.nmvs_identifier.specs.Expiry.{Expiry};
@@ -14,7 +14,7 @@ ghost use Rattle.nmvs_rules.specs.Questions.{may_ask};
 ghost use Rattle.nmvs_rules.specs.Rules.{reply_of};
 ghost use Rattle.nmvs_rules.specs.Laws.{IsGenuine, IsRevertible, IsUploadable, IsSuppliable, IsLockable, IsReportable, AsksLock, circulating};
 
-/// An upload is accepted exactly where a holder asks for it, the pack was not uploaded before, and its product code was
+/// An upload is accepted exactly if a holder asks for it, the pack was not uploaded before, and its product code was
 /// uploaded by nobody or first by the same authorisation (Articles 4 and 33; who may upload it is own). On every trail.
 pub fn uploading()
     ensures { (t : List Entry) (q : Put) (p : Pack) (b : Batch) (x : Expiry) → q.question ≡ Upload p b x →
@@ -22,7 +22,7 @@ pub fn uploading()
         ((q.actor.role ≡ role.Holder) × IsUploadable t p q.actor.authorisation) }
 {}
 
-/// A decommissioning is accepted exactly where the role may ask it and a verification would be answered Authentic
+/// A decommissioning is accepted exactly if the role may ask it and a verification would be answered Authentic
 /// (Articles 22 and 25). On every trail.
 pub fn decommissioning()
     ensures { (t : List Entry) (q : Put) (p : Pack) (w : Reason) → q.question ≡ Decommission p w →
@@ -31,16 +31,16 @@ pub fn decommissioning()
         × ((b : Batch) × (x : Expiry) × IsGenuine t p b x)) }
 {}
 
-/// A handover is accepted exactly where a pharmacy asks for it, the last operation on the pack decommissioned it to be
-/// held, with the same authorisation and in the same premises, and its batch was neither recalled nor withdrawn (own,
-/// after Articles 25 and 40). On every trail.
+/// A handover is accepted exactly if a pharmacy asks for it, the last operation on the pack decommissioned it to be held,
+/// and its batch was neither recalled nor withdrawn. The pharmacy has the authorisation and the premises of that operation
+/// (own, after Articles 25 and 40). On every trail.
 pub fn handover()
     ensures { (t : List Entry) (q : Put) (p : Pack) → q.question ≡ Handover p →
         (reply_of t q ≡ reply.HandedOver) ↔
         ((q.actor.role ≡ role.Pharmacy) × IsSuppliable t p q) }
 {}
 
-/// A reversion is accepted exactly where the role may revert and all that Article 13(1) asks for is met. On every
+/// A reversion is accepted exactly if the role may revert and all that Article 13(1) asks for is met. On every
 /// trail.
 pub fn reversion()
     ensures { (t : List Entry) (q : Put) (p : Pack) → q.question ≡ Revert p →
@@ -48,9 +48,9 @@ pub fn reversion()
         (IsTrue (may_ask q.actor.role q.question) × IsRevertible t p q) }
 {}
 
-/// A recall or withdrawal is accepted exactly where a holder asks for it who is the holder of the product code, a pack of
-/// the batch was uploaded, and the batch was neither recalled nor withdrawn; it is answered with how many packs of the
-/// batch circulate (Article 40). On every trail.
+/// A recall or withdrawal is accepted exactly if the product code's holder asks for it, in the role of a holder, a pack of
+/// the batch was uploaded, and the batch was neither recalled nor withdrawn. The reply has the number of packs of the
+/// batch that circulate (Article 40). On every trail.
 pub fn locking()
     ensures { (t : List Entry) (q : Put) (c : ProductCode) (b : Batch) (active : ℕ) → AsksLock c b q.question →
         (reply_of t q ≡ reply.LockedNow active) ↔
@@ -58,7 +58,7 @@ pub fn locking()
         × (active ≡ circulating t c b)) }
 {}
 
-/// A theft report is accepted exactly where a holder asks for it who is the holder of the product code, the pack was
+/// A theft report is accepted exactly if the product code's holder asks for it, in the role of a holder, the pack was
 /// uploaded, and the last operation on it was no theft report (Article 40). On every trail.
 pub fn theft()
     ensures { (t : List Entry) (q : Put) (p : Pack) → q.question ≡ Theft p →

@@ -1,4 +1,4 @@
-//! Laws on what is answered.
+//! Laws on replies.
 ghost use Rattle.std.specs.Prelude.{◌≡◌, ◌≢◌, ◌↔◌, ◌+◌, ℕ, Bool, true, IsTrue, IsFalse, List, [], length, filter, find, Some, pos, int_lt};
 ghost use Rattle.std.specs.List.{list_any, range_with_len};
 ghost use Rattle.nmvs_identifier.specs.Batch.{Batch};
@@ -19,9 +19,9 @@ ghost use Rattle.nmvs_rules.specs.Rules.{reply_of, shown_of, IsLawful};
 ghost use Rattle.nmvs_rules.specs.Operations.{uploads, uploads_code, binds, last_operation, alarm, alert_number};
 ghost use Rattle.nmvs_rules.specs.Laws.{IsUploadedWith, IsUnlocked, IsGenuine, IsHeldBy, IsRevertible, AsksAuthenticity, AsksLock, alert_numbers};
 
-/// A verification is answered Authentic exactly where the role may verify and the pack was uploaded with the batch and
-/// expiry of the answer, was last uploaded or reverted, and its batch was neither recalled nor withdrawn (Articles 11
-/// and 40). On every trail.
+/// A verification is answered Authentic exactly if the role may verify and the pack is genuine: it was uploaded with the
+/// batch and expiry of the answer, was last uploaded or reverted, and its batch was neither recalled nor withdrawn
+/// (Articles 11 and 40). On every trail.
 pub fn verification()
     ensures { (t : List Entry) (q : Put) (p : Pack) (b : Batch) (x : Expiry) (expired : Bool) →
         q.question ≡ Verify p →
@@ -30,10 +30,10 @@ pub fn verification()
         × (expired ≡ int_lt (expiry_day x.bytes) (pos (day_of q.moment)))) }
 {}
 
-/// A verification or decommissioning by one who may ask it is answered with the next alert on the product code wherever
-/// it is not answered Authentic or Decommissioned (Article 36). On every trail. The alert tells that the pack is
-/// unknown, or how its batch was first locked, or else what was last done to it; and it is flagged as a potential
-/// falsification as that asks for.
+/// A verification or decommissioning by a user who may ask it is answered Authentic or Decommissioned, or else with the
+/// next alert on the product code (Article 36). On every trail. The alert says that the pack is unknown, or how its batch
+/// was first locked, or else the last operation on the pack. The same decides whether it is flagged as a potential
+/// falsification.
 pub fn alerting()
     ensures verification { (t : List Entry) (q : Put) (p : Pack) →
         q.question ≡ Verify p → IsTrue (may_ask q.actor.role q.question) →
@@ -66,8 +66,8 @@ pub fn alerts()
         alert_numbers t c ≡ range_with_len 1 (alerts_of t c) }
 {}
 
-/// Once a product code was uploaded, an upload, a recall, a withdrawal or a theft report of it is accepted from the
-/// authorisation that uploaded it first alone, its holder (Article 40; who the holder is, is own). On every trail.
+/// Once a product code was uploaded, an upload, a recall, a withdrawal or a theft report of it is accepted only from its
+/// holder: the authorisation that uploaded it first (Article 40; the choice of the holder is own). On every trail.
 pub fn holders()
     ensures uploads { (t : List Entry) (q : Put) (p : Pack) (b : Batch) (x : Expiry) →
         q.question ≡ Upload p b x → IsTrue (list_any (uploads_code p.code) t) →
@@ -80,8 +80,8 @@ pub fn holders()
         IsHeldBy t p.code q.actor.authorisation }
 {}
 
-/// An audit by one who may ask it shows the entries about its pack, in their order, and is answered with how many they
-/// are (Article 35). One who may not is shown none, and no other question shows any. On every trail.
+/// An audit by a user who may ask it shows the entries about its pack, in their order, and its reply has their number
+/// (Article 35). An audit by any other user shows none, and no other question shows any. On every trail.
 pub fn auditing()
     ensures shown { (t : List Entry) (q : Put) (p : Pack) →
         q.question ≡ Audit p → IsTrue (may_ask q.actor.role q.question) →

@@ -1,4 +1,4 @@
-//! Laws on what becomes of a pack.
+//! Laws on the course of a pack.
 ghost use Rattle.std.specs.Prelude.{◌≡◌, IsTrue, IsFalse, List, [], ◌∷◌, ◌++◌, length, Some, None, is_some, IsSomeAnd, count_by, if◌then◌else◌};
 ghost use Rattle.std.specs.List.{list_any};
 ghost use Rattle.nmvs_identifier.specs.Batch.{Batch};
@@ -11,16 +11,16 @@ ghost use Rattle.nmvs_rules.specs.Rules.{IsLawful};
 ghost use Rattle.nmvs_rules.specs.Operations.{uploads, decommissions, supplies, reverts, binds, goes_on, operates};
 ghost use Rattle.nmvs_rules.specs.Laws.{IsUploadedWith, IsMovedOn, IsBorn};
 
-/// In a lawful trail a pack has one accepted upload where it is known, and none where it is not (Articles 4 and 11). So
-/// the counts of a batch are numbers of packs.
+/// In a lawful trail a pack has one accepted upload if it is known, and none if it is not (Articles 4 and 11). So the
+/// counts of a batch are numbers of packs.
 pub fn one_birth()
     ensures { (t : List Entry) (p : Pack) → IsLawful t →
         count_by (uploads p) t ≡ (if is_some (known t p) then 1 else 0) }
 {}
 
-/// An entry that is no operation on a pack leaves what is known of it, and an unknown pack becomes known by its upload
-/// alone: on every trail. In a lawful trail an operation on a known pack moves it on: to the own status that the
-/// operation leaves, which may follow the one before, with the mark of the entry (Articles 12, 13, 22, 25, 33 and 40).
+/// An entry that is no operation on a pack leaves the values known of it, and only its upload makes an unknown pack known.
+/// This holds on every trail. In a lawful trail an operation on a known pack gives it the mark of the entry and the own
+/// status that the operation leaves, which may follow the one before (Articles 12, 13, 22, 25, 33 and 40).
 pub fn course()
     ensures kept { (t : List Entry) (e : Entry) (p : Pack) → IsFalse (operates p e) →
         known (t ++ e ∷ []) p ≡ known t p }
@@ -42,16 +42,16 @@ pub fn decommissioned_once()
         IsTrue (list_any (reverts p) between) }
 {}
 
-/// No pack is supplied twice: after its supply to the public in a lawful trail, at its decommissioning or by a later
-/// handover, it is never decommissioned, handed over or reverted and never answered Authentic (Articles 11, 13 and 25).
+/// No pack is supplied twice. A supply to the public is a decommissioning or a later handover. After it in a lawful trail
+/// the pack is never decommissioned, handed over, reverted or answered Authentic (Articles 11, 13 and 25).
 pub fn supplied_once()
     ensures { (before between after : List Entry) (supply later : Entry) (p : Pack) →
         IsLawful (before ++ supply ∷ between ++ later ∷ after) → IsTrue (supplies p supply) →
         IsFalse (goes_on p later) }
 {}
 
-/// A recall or withdrawal binds for ever: after it in a lawful trail no pack of its batch, uploaded before it or later,
-/// is decommissioned, handed over, reverted or answered Authentic (Articles 13, 25 and 40).
+/// A recall or withdrawal binds for ever. After it in a lawful trail no pack of its batch, uploaded before it or later, is
+/// decommissioned, handed over, reverted or answered Authentic (Articles 13, 25 and 40).
 pub fn recall_binds()
     ensures { (before between after : List Entry) (recall later : Entry)
         (p : Pack) (b : Batch) (x : Expiry) →

@@ -1,4 +1,4 @@
-//! Laws on questions that are asked again with the tag that they had (own).
+//! Laws on questions that are asked again with the same tag (own).
 ghost use Rattle.std.specs.Prelude.{◌≡◌, ◌↔◌, ◌<◌, ◌≤◌, ◌+◌, ℕ, Bool, IsTrue, IsFalse, List, ◌∷◌, ◌++◌, length, Some, None, take};
 ghost use Rattle.std.specs.List.{All, list_any};
 ghost use Rattle.nmvs_identifier.specs.Batch.{Batch};
@@ -18,9 +18,9 @@ ghost use Rattle.nmvs_rules.specs.Trail.{about_of};
 ghost use Rattle.nmvs_rules.specs.Rules.{reply_of, IsLawful};
 ghost use Rattle.nmvs_rules.specs.Repeats.{answer_of, is_tagged, repeat_of, tells_state, AreNew, IsRepeated, without_tag, without_tags};
 
-/// What was carried out, refused or raised as an alert for a question with a tag is not done again, where each question was
-/// looked for before it was put: the next entry about the pack, of that user and with that tag, stands more than a day later,
-/// or behind at least 16 others about the pack.
+/// A question with a tag counts once for a day: it was carried out, refused or answered with an alert, and each question was
+/// looked for before it was put. The next entry about the pack, of that user and with that tag, comes more than a day later,
+/// or after at least 16 others about the pack.
 pub fn once()
     ensures { (u v w : List Entry) (e f : Entry) (p : Pack) (user : Name) (g : Tag) →
         AreNew (u ++ (e ∷ v) ++ (f ∷ w)) → IsTrue (is_tagged p user g e) → IsTrue (is_tagged p user g f) →
@@ -28,8 +28,8 @@ pub fn once()
         f.put.moment ≤ e.put.moment + 86400 → 16 ≤ about_of v p }
 {}
 
-/// Asked again with its tag, at a moment at most a day later and before 16 others about the pack were put, such a question is
-/// answered by its entry.
+/// Such a question is answered from its entry if it is asked again with its tag, at most a day later and before 16 others
+/// about the pack.
 pub fn asked_again()
     ensures { (u v : List Entry) (e : Entry) (p : Pack) (g : Tag) (moment : ℕ) →
         pack_of e.put.question ≡ Some p → e.put.tag ≡ Some g →
@@ -38,8 +38,8 @@ pub fn asked_again()
         repeat_of (u ++ e ∷ v) (record e.put { moment = moment }) ≡ repeat.Same (length u) e.reply }
 {}
 
-/// A reply that says how a pack stands is what the rules say on the trail of that moment, also where the question was asked
-/// before. So Authentic is the reply for a pack alone that was uploaded with that batch and expiry, was last uploaded or
+/// A reply that gives the state of a pack is the reply of the rules on the trail of that moment, even if the question was
+/// asked before. So the reply is Authentic only for a pack that was uploaded with that batch and expiry, was last uploaded or
 /// reverted, and whose batch was neither recalled nor withdrawn (Articles 11 and 40). On every trail.
 pub fn states_are_current()
     ensures state { (t : List Entry) (q : Put) (said : Reply) → IsTrue (tells_state said) →
@@ -48,9 +48,9 @@ pub fn states_are_current()
         q.question ≡ Verify p → answer_of t q ≡ Some (reply.Authentic b x expired) → IsGenuine t p b x }
 {}
 
-/// A reply that is answered again is that of an earlier entry, which asked the same by the same user, with the same tag and
-/// in the same capacity, at most a day before; and it does not say how a pack stands. In a lawful trail it is the reply of the
-/// rules there.
+/// A repeated reply is that of an earlier entry: the same question of the same user, with the same tag and in the same
+/// capacity, at most a day earlier. It does not give the state of a pack. In a lawful trail it is the reply of the rules
+/// there.
 pub fn repetition()
     ensures entry { (t : List Entry) (q : Put) (place : ℕ) (reply : Reply) →
         repeat_of t q ≡ repeat.Same place reply → IsRepeated t q place reply }
@@ -59,7 +59,7 @@ pub fn repetition()
         reply ≡ reply_of (take place t) again.entry.put }
 {}
 
-/// Tags change no reply of the rules. So a trail is lawful exactly where it is without its tags; and in one without tags
+/// Tags change no reply of the rules. So a trail is lawful exactly if it is lawful without its tags. In a trail without tags
 /// each question was new.
 pub fn untagged()
     ensures replies { (t : List Entry) (q : Put) →

@@ -14,6 +14,6 @@ returns-in-Ok-compare_with-clause-told g c =
     λ t. Tells t told.0.trail c.in-Ok-compare_with.goes_on (g.W.Sink.taken c.args.sink.now) (g.W.Sink.taken c.compare_with.new.sink) in
     (c.in-Ok.before, before, told.0, told.1, subst these c.shard.ensures told.2)
 
--- what was found of the new export is what is given
+-- the finding about the new export is the one that is returned
 pub returns-in-Err-Found-clause-new_found : goal.returns-in-Err-Found-clause-new_found
 returns-in-Err-Found-clause-new_found g c finding same = c.in-Err-Found.ensures.found finding (cc)

@@ -1,9 +1,17 @@
-use Rattle.std.proofs.Common.{◌≡◌, ◌∙◌, ◌++◌, ℕ, List, Option, None, inr, take, refl, sym, ap, subst, arith, rules}
+use Rattle.std.proofs.Common.{◌≡◌, ◌≤◌, ◌∙◌, ◌++◌, ℕ, List, Option, None, inr, length, take, refl, sym, ap, subst, arith, rules}
+use Rattle.std.proofs.lemmas.List.{length-take, take-take}
 use Rattle.nmvs_messages.specs.declared.peer.Peer.{Peer}
 use Rattle.nmvs_connections.specs.Turns.{TakesBy}
 use Rattle.nmvs_stream.specs.InputLines.{input_lines, lines_after, unfinished_line}
 use Rattle.nmvs_connections.proofs.ConnectionLemmas.{kept_same, lines_kept, lines_more}
 use Rattle.nmvs_connections.proofs.peer_session.take_lines.Goals as goal
+
+-- what is taken of the first bytes is taken of all
+of_part : (bytes part : List ℕ) (first count : ℕ) → first ≤ length bytes → part ≡ take first bytes → count ≤ length part → (take count part ≡ take count bytes) × (count ≤ length bytes)
+of_part bytes part first count fits is within =
+    let size = ap (λ (l : List ℕ). length l) is ∙ length-take first bytes in
+    let least : count ≤ first = omega (arith, within, size) in
+    (ap (λ (l : List ℕ). take count l) is ∙ take-take count first bytes least, omega (arith, least, fits))
 
 pub returns-in_default-clause-takes : goal.returns-in_default-clause-takes
 returns-in_default-clause-takes g c = lines_kept _ _ _ _ _ _ _ _ refl refl (kept_same c.args.session.now c.args.session.now refl)
@@ -14,10 +22,20 @@ returns-then-is_some-clause-takes g c = lines_kept _ _ _ _ _ _ _ _ refl refl (ke
 pub returns-then-waiting-ne0-clause-takes : goal.returns-then-waiting-ne0-clause-takes
 returns-then-waiting-ne0-clause-takes g c = lines_kept _ _ _ _ _ _ _ _ refl refl (kept_same c.args.session.now c.args.session.now refl)
 
+pub returns-clause-within : goal.returns-clause-within
+returns-clause-within g c =
+    let p = c.part_for_now.ensures in
+    (of_part c.args.bytes.now c.part_for_now.result.now p.0 c.take.result p.1 p.2 c.take.ensures.within).1
+
+pub returns-clause-fed : goal.returns-clause-fed
+returns-clause-fed g c =
+    let p = c.part_for_now.ensures in
+    c.take.ensures.fed ∙ ap (λ (l : List ℕ). c.args.session.now.fed ++ l) (of_part c.args.bytes.now c.part_for_now.result.now p.0 c.take.result p.1 p.2 c.take.ensures.within).0
+
 pub returns-clause-takes : goal.returns-clause-takes
 returns-clause-takes g c =
     let fed = c.args.session.now.fed in
-    let bytes = take c.take.result c.args.bytes.now in
+    let bytes = take c.take.result c.part_for_now.result.now in
     let e = c.take.ensures in
     let a = e.asks in
     let open_still : c.args.session.now.ended ≡ None = search rules in

@@ -8,10 +8,10 @@ use Rattle.nmvs_http.proofs.response.write_head.Goals as goal
 pub returns-in_err-write_both-clause-err : goal.returns-in_err-write_both-clause-err
 returns-in_err-write_both-clause-err g c =
     let taken = g.W.Sink.taken in
-    let first = c.front_of.result.now ++ c.connection_of.result.now in
+    let first = c.args.front.now ++ c.connection_of.result.now in
     let second = c.as_bytes-digits.result.now ++ codes "\r\n\r\n" in
-    let whole : first ++ second ≡ head_text c.args.asks c.args.stays c.args.count =
-    λ i. (c.front_of.ensures i ++ c.connection_of.ensures i) ++ ((c.as_bytes-digits.ensures.value ∙ c.format.ensures.text) i ++ codes "\r\n\r\n") in
+    let whole : first ++ second ≡ head_text c.args.front.now c.args.stays c.args.count =
+    λ i. (c.args.front.now ++ c.connection_of.ensures i) ++ ((c.as_bytes-digits.ensures.value ∙ c.format.ensures.text) i ++ codes "\r\n\r\n") in
     let old = taken c.args.sink.now in
     let new = taken c.write_both.new.sink in
     on_err c.from_residual.result (subst (λ (t : List ℕ). DeliversPart old new t) whole (part_of old new first second c.in_err-write_both.ensures.err))
@@ -19,10 +19,10 @@ returns-in_err-write_both-clause-err g c =
 pub returns : goal.returns
 returns g c =
     let taken = g.W.Sink.taken in
-    let first = c.front_of.result.now ++ c.connection_of.result.now in
+    let first = c.args.front.now ++ c.connection_of.result.now in
     let second = c.as_bytes-digits.result.now ++ codes "\r\n\r\n" in
-    let whole : first ++ second ≡ head_text c.args.asks c.args.stays c.args.count =
-    λ i. (c.front_of.ensures i ++ c.connection_of.ensures i) ++ ((c.as_bytes-digits.ensures.value ∙ c.format.ensures.text) i ++ codes "\r\n\r\n") in
+    let whole : first ++ second ≡ head_text c.args.front.now c.args.stays c.args.count =
+    λ i. (c.args.front.now ++ c.connection_of.ensures i) ++ ((c.as_bytes-digits.ensures.value ∙ c.format.ensures.text) i ++ codes "\r\n\r\n") in
     let r = c.write_both-2.result in
     let old = taken c.args.sink.now in
     let mid = taken c.write_both.new.sink in

@@ -11,7 +11,7 @@ told : (tag : Option Tag) (q : Put) → q.tag ≡ tag → is_in (version_of tag)
 told None q e = ap (λ (t : Option Tag). not (is_some t)) e
 told (Some tag) q e = ap (λ (t : Option Tag). is_some t) e
 
--- the line that an entry is written in is a line of it
+-- the line in which an entry is written is one of its lines
 own_line : (text : List ℕ) (e : Entry) → text ≡ entry_line e → is_line text (version_of e.put.tag) e ≡ true
 own_line text e is = ap (λ (b : Bool). b && bytes_eq text (entry_line e)) (told e.put.tag e.put refl) ∙ (bytes_eq-Decides text (entry_line e)).1 is
 

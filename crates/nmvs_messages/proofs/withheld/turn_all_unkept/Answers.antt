@@ -6,7 +6,7 @@ use Rattle.nmvs_messages.specs.declared.withheld.Withheld.{Withheld}
 use Rattle.nmvs_messages.specs.Withheld.{answer_of, told_where}
 use Rattle.nmvs_messages.proofs.withheld.turn_all_unkept.Goals as goal
 
--- what is told of one more
+-- one more answer is turned as its entries require
 turned_more : (tell : Withheld → Answer) (all now : List Withheld) (i : ℕ) (w new : Withheld) → i < length now → length now ≡ length all
     → map answer_of (take i now) ≡ map tell (take i all) → drop i now ≡ drop i all → new.answer ≡ tell (get_or now i w)
     → (map answer_of (take (i + 1) (set now i new)) ≡ map tell (take (i + 1) all)) × (drop (i + 1) (set now i new) ≡ drop (i + 1) all)

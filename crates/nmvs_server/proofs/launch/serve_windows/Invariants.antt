@@ -13,6 +13,6 @@ ghosts-open_repository-H-Histories g a = record {
   opening = row a.opening.shards.items;
 }
 
--- the log that was just made, where there is one
+-- the log that was just made, if there is one
 abbrev pub ghosts-open_repository-H-LogName : goal.ghosts-open_repository-H-LogName
 ghosts-open_repository-H-LogName g a = record { book = book_of a.log }

@@ -3,7 +3,7 @@ use Rattle.nmvs_connections.specs.Turns.{EachGoes}
 use Rattle.nmvs_connections.proofs.TurnSteps.{ToldSoFar}
 use Rattle.nmvs_connections.proofs.event_loop.EventLoop.tell_each.Given as goal
 
--- those that are left to be told are still on the list
+-- the connections that have still to send their answers are on the list
 abbrev pub invariant-loop-key : goal.invariant-loop-key
 invariant-loop-key g l = EachGoes (ToldSoFar l.released l.initial.self.awaiting.items l.self.awaiting.items) l.initial.self.connections l.self.connections
 

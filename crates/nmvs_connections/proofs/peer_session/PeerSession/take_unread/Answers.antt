@@ -1,9 +1,13 @@
-use Rattle.std.proofs.Common.{◌≡◌, ◌∙◌, ◌++◌, ◌≤◌, ◌-◌, ℕ, List, inr, take, drop, length, sym, ap, subst, arith}
+use Rattle.std.proofs.Common.{◌≡◌, ◌∙◌, ◌++◌, ◌≤◌, ◌-◌, ℕ, List, inr, take, drop, length, refl, sym, ap, subst, arith}
 use Rattle.nmvs_connections.specs.LineStreams.{before_of, carried}
 use Rattle.nmvs_connections.specs.declared.peer_session.Stage.TheVariants as stages
+use Rattle.nmvs_connections.proofs.ConnectionLemmas.{kept_same, steps_kept}
 use Rattle.nmvs_connections.proofs.LineSteps.{stands_taken}
 use Rattle.nmvs_connections.proofs.PeerSteps.{cut_front}
 use Rattle.nmvs_connections.proofs.peer_session.PeerSession.take_unread.Goals as goal
+
+pub returns-then-before_list-eq0 : goal.returns-then-before_list-eq0
+returns-then-before_list-eq0 g c = rw (← c.self.view_is) (steps_kept _ _ _ _ _ _ _ _ refl refl (kept_same _ _ refl) (λ peer known. known) (c.self.inside.unread.items, c.self.invariant.0))
 
 pub invariant_of-self : goal.invariant_of-self
 invariant_of-self g c =

@@ -3,7 +3,7 @@ use Rattle.std.proofs.lemmas.List.{length-append, length-replicate, drop-replica
 use Rattle.std.proofs.Math.Seq.{drop-append_seam, take-append_seam}
 use Rattle.nmvs_identifier.proofs.short_text.ShortText.from.Goals as goal
 
--- the cells that a text leaves, with zeros behind it
+-- the cells that hold a text, with zeros after it
 record Filled (cap : ℕ) (text cells : List ℕ) : Type 0 where
   all : length cells ≡ cap
   zeros : drop (length text) cells ≡ replicate (cap - length text) 0

@@ -7,7 +7,7 @@ use Rattle.nmvs_reception.specs.declared.tally.Raised.{Raised}
 use Rattle.nmvs_reception.proofs.tally.Tally.list.Goals as goal
 use Rattle.nmvs_reception.proofs.tally.Tally.list.Goals.{in-Some+in_ok-push-in-Some, in-None}
 
--- one row more
+-- one more row
 take_more : {X : Type 0} (xs : List X) (i : ℕ) (x : X) → slice_get xs i ≡ Some x → take (i + 1) xs ≡ take i xs ++ x ∷ []
 take_more xs i x e =
     let on : i + 1 ≡ suc i = omega arith in

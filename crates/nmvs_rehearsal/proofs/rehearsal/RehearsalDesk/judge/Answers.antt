@@ -8,11 +8,11 @@ use Rattle.nmvs_rehearsal.specs.Rehearsal.{put_at, Repeats, Steps}
 use Rattle.nmvs_rehearsal.proofs.rehearsal.RehearsalDesk.judge.Goals as goal
 use Rattle.nmvs_rehearsal.proofs.rehearsal.RehearsalDesk.judge.Goals.{in-Ok-New, in-Ok-Again, in-Ok-Other, in-Err}
 
--- what a shard says of a question that it put
+-- the answer of a shard to a question that it put
 steps : {A : Type 0} (old new : List Entry) (put : Put) (a : Answered A) → Asks old put new (outcome.New a) → Steps old put a.reply a.shown.items new
 steps old new put a (first, step) = record { first = first; lawful = step.reply; shows = step.shows; grows = step.trail }
 
--- and of one that it answers again
+-- the answer of a shard to a question that it answers again
 repeats : {A : Type 0} (old new : List Entry) (put : Put) (a : Answered A) → Asks old put new (outcome.Again a) → Repeats old put a.reply a.shown.items new
 repeats old new put a (same, again) = record { place = a.place; repeats = again.repeat; shows = again.shows; same = same }
 

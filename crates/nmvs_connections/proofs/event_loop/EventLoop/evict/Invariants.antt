@@ -1,0 +1,15 @@
+use Rattle.std.proofs.Common.{◌≡◌, ◌≤◌, ℕ}
+use Rattle.slab.specs.Slab.{slab_len}
+use Rattle.nmvs_connections.specs.Turns.{EachGoes}
+use Rattle.nmvs_connections.proofs.event_loop.EventLoop.evict.Given as goal
+
+-- connections were closed, and none where all take no more already
+abbrev pub invariant-loop-self : goal.invariant-loop-self
+invariant-loop-self g l = record {
+  awaiting : l.self.awaiting ≡ l.initial.self.awaiting;
+  connections : EachGoes (λ key a b. b ≡ a) l.initial.self.connections l.self.connections;
+  within : l.initial.self.memory ≤ l.most → l.self ≡ l.initial.self;
+}
+
+abbrev pub decreases-loop-self : goal.decreases-loop-self
+decreases-loop-self g l = slab_len l.self.connections

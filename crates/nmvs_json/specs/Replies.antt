@@ -1,0 +1,175 @@
+-- The JSON of a reply (RFC 8259), and the problem where there is none (RFC 9457). Names and statuses are our own choice.
+use Rattle.std.specs.Prelude.{ℕ, Bool, false, List, [], ◌∷◌, ◌++◌, ◌==◌, ◌||◌, codes, drop, find, Option, Some, None, option_map, unwrap_or, if◌then◌else◌}
+use Rattle.std.specs.List.{after_first, before_first, flat_map}
+use Rattle.std.specs.Str.{bytes_eq}
+use Rattle.nmvs_stream.specs.InputLines.{input_lines}
+use Rattle.nmvs_messages.specs.Fields.{is_space}
+use Rattle.nmvs_json.specs.declared.reply.Problem.{Problem}
+use Rattle.nmvs_json.specs.declared.reply.Problem.TheVariants.{Unprocessable, Forbidden, TooManyRequests, Unavailable, Unknown}
+
+-- a character in a string: a backslash stands before a quotation mark and before a backslash (RFC 8259, section 7)
+abbrev pub escaped : ℕ → List ℕ
+escaped b = if b == 34 || b == 92 then 92 ∷ b ∷ [] else b ∷ []
+
+-- a string
+abbrev pub quoted : List ℕ → List ℕ
+quoted text = 34 ∷ (flat_map escaped text ++ 34 ∷ [])
+
+-- what a table has for a word
+abbrev pub named : {T : Type 0} → List (List ℕ × T) → List ℕ → Option T
+named table word = option_map (λ row. row.1) (find (λ row. bytes_eq word row.0) table)
+
+-- how a word of a line stands in its object: as a string or as a number, under a name; or not at all, where the next name says the same
+pub data Place : Type 0 where
+  string : List ℕ → Place
+  number : List ℕ → Place
+  label : Place
+
+-- the lines of replies: the first word, and the places of the others
+abbrev pub rows : List (List ℕ × List Place)
+rows =
+    (codes "UPLOADED", [])
+    ∷ (codes "AUTHENTIC", string (codes "batch") ∷ string (codes "expiry") ∷ string (codes "validity") ∷ [])
+    ∷ (codes "ALERT", string (codes "cause") ∷ string (codes "flag") ∷ number (codes "number") ∷ [])
+    ∷ (codes "STATUS", string (codes "own") ∷ string (codes "lock") ∷ string (codes "onward") ∷ string (codes "batch") ∷ string (codes "expiry") ∷ [])
+    ∷ (codes "NOPACK", [])
+    ∷ (codes "DECOMMISSIONED", [])
+    ∷ (codes "HANDED_OVER", [])
+    ∷ (codes "REVERTED", [])
+    ∷ (codes "LOCKED", number (codes "packs") ∷ [])
+    ∷ (codes "STOLEN", [])
+    ∷ (codes "SHOWN", number (codes "number") ∷ [])
+    ∷ (codes "REFUSED", number (codes "number") ∷ string (codes "refusal") ∷ [])
+    ∷ (codes "PRODUCT", string (codes "code") ∷ label ∷ string (codes "holder") ∷ label ∷ number (codes "alerts") ∷ label ∷ number (codes "flagged") ∷ [])
+    ∷ []
+
+-- the places of a line that begins with this word, where it is that of a reply
+unfoldable pub places_of : List ℕ → Option (List Place)
+places_of word = named rows word
+
+-- the first word of a line, and the words behind it
+abbrev pub first_word : List ℕ → List ℕ
+first_word line = before_first is_space line
+
+abbrev pub later_words : List ℕ → List ℕ
+later_words line = after_first is_space line
+
+-- the words of a line at their places
+abbrev pub placed : List Place → List ℕ → List (Place × List ℕ)
+placed [] line = []
+placed (place ∷ places) line = (place, first_word line) ∷ placed places (later_words line)
+
+-- a word at its place as a member of an object, after a comma
+abbrev pub member : Place × List ℕ → List ℕ
+member (string name, word) = codes ",\"" ++ (name ++ (codes "\":" ++ quoted word))
+member (number name, word) = codes ",\"" ++ (name ++ (codes "\":" ++ word))
+member (label, word) = []
+
+-- the words of a line as members
+abbrev pub members : List Place → List ℕ → List ℕ
+members places line = flat_map member (placed places line)
+
+-- texts, of which the first stands behind this and each other one behind a comma
+unfoldable pub separated : List ℕ → List (List ℕ) → List ℕ
+separated front [] = []
+separated front (x ∷ xs) = front ++ (x ++ separated (codes ",") xs)
+
+-- whether a word is a tag: it begins with #, as no other first word of a line does
+abbrev pub is_tag : List ℕ → Bool
+is_tag [] = false
+is_tag (b ∷ bs) = b == 35
+
+-- a line without its tag
+abbrev pub untagged : List ℕ → List ℕ
+untagged line = if is_tag line then later_words line else line
+
+-- the places of the words of a batch, behind BATCH and the batch number
+unfoldable pub batch_places : List Place
+batch_places =
+    string (codes "lock")
+    ∷ label ∷ number (codes "active") ∷ label ∷ number (codes "held") ∷ label ∷ number (codes "supplied") ∷ label ∷ number (codes "exported")
+    ∷ label ∷ number (codes "sampled") ∷ label ∷ number (codes "destroyed") ∷ label ∷ number (codes "stolen") ∷ []
+
+-- the object of a batch, by the words behind BATCH
+abbrev pub batch_object : List ℕ → List ℕ
+batch_object line =
+    codes "{\"batch\":" ++ (quoted (first_word line) ++ (members batch_places (later_words line) ++ codes "}"))
+
+-- the objects of the batches in lines of a report, up to the first other line
+unfoldable pub batch_objects : List (List ℕ) → List (List ℕ)
+batch_objects [] = []
+batch_objects (line ∷ lines) =
+    if bytes_eq (first_word (untagged line)) (codes "BATCH") then batch_object (later_words (untagged line)) ∷ batch_objects lines else []
+
+-- what the later lines of a reply show: the entries of an audit, as they are; or the batches of a report
+unfoldable pub later_members : List ℕ → List (List ℕ) → List ℕ
+later_members word lines =
+    if bytes_eq word (codes "SHOWN") then codes ",\"entries\":[" ++ (separated [] lines ++ codes "]")
+    else (if bytes_eq word (codes "PRODUCT") then codes ",\"batches\":[" ++ (separated [] (batch_objects lines) ++ codes "]")
+    else [])
+
+-- the object of a reply, by its first line without the tag, the places of the words in it, and its later lines
+abbrev pub reply_object : List Place → List ℕ → List (List ℕ) → List ℕ
+reply_object places line lines =
+    codes "{\"reply\":" ++ (quoted (first_word line) ++ (members places (later_words line) ++ (later_members (first_word line) lines ++ codes "}\n")))
+
+-- the faults of lines, and the problem that each is
+abbrev pub problems : List (List ℕ × Problem)
+problems =
+    (codes "LONG", Unprocessable) ∷ (codes "RETURN", Unprocessable) ∷ (codes "BYTES", Unprocessable) ∷ (codes "FIELDS", Unprocessable)
+    ∷ (codes "WORD", Unprocessable) ∷ (codes "USER", Unprocessable) ∷ (codes "CODE", Unprocessable) ∷ (codes "SERIAL", Unprocessable)
+    ∷ (codes "BATCH", Unprocessable) ∷ (codes "EXPIRY", Unprocessable) ∷ (codes "TAG", Unprocessable)
+    ∷ (codes "NOBODY", Forbidden) ∷ (codes "SUSPENDED", Forbidden) ∷ (codes "ROLE", Forbidden)
+    ∷ (codes "RATE", TooManyRequests)
+    ∷ (codes "CLOCK", Unavailable) ∷ (codes "CLOSED", Unavailable) ∷ (codes "MEMORY", Unavailable)
+    ∷ []
+
+-- the problem that a fault is: JOURNAL, and what stands in no table, may be recorded
+unfoldable pub problem_named : List ℕ → Problem
+problem_named fault = unwrap_or (named problems fault) Unknown
+
+-- a problem up to its fault, and behind that (RFC 9457, section 3; `fault` and `recorded` are own)
+unfoldable pub problem_front : Problem → List ℕ
+problem_front Unprocessable = codes "{\"type\":\"about:blank\",\"title\":\"Unprocessable Content\",\"status\":422,\"fault\":"
+problem_front Forbidden = codes "{\"type\":\"about:blank\",\"title\":\"Forbidden\",\"status\":403,\"fault\":"
+problem_front TooManyRequests = codes "{\"type\":\"about:blank\",\"title\":\"Too Many Requests\",\"status\":429,\"fault\":"
+problem_front Unavailable = codes "{\"type\":\"about:blank\",\"title\":\"Service Unavailable\",\"status\":503,\"fault\":"
+problem_front Unknown = codes "{\"type\":\"about:blank\",\"title\":\"Service Unavailable\",\"status\":503,\"fault\":"
+
+abbrev pub problem_end : Problem → List ℕ
+problem_end Unknown = codes ",\"recorded\":\"unknown\"}\n"
+problem_end _ = codes ",\"recorded\":\"no\"}\n"
+
+-- the problem that is a fault
+abbrev pub problem_object : List ℕ → List ℕ
+problem_object fault = problem_front (problem_named fault) ++ (quoted fault ++ problem_end (problem_named fault))
+
+-- the fault of a line that is that of no reply: the words behind FAULT; ENDED where it is no line of a session's, or there is none
+abbrev pub fault_of : List ℕ → List ℕ
+fault_of line = if bytes_eq (first_word line) (codes "FAULT") then later_words line else codes "ENDED"
+
+-- the body for a first line without its tag, and the later lines
+abbrev pub body_where : Option (List Place) → List ℕ → List (List ℕ) → List ℕ
+body_where (Some places) line lines = reply_object places line lines
+body_where None line lines = problem_object (fault_of line)
+
+-- the problem for a first line without its tag
+abbrev pub problem_where : Option (List Place) → List ℕ → Option Problem
+problem_where (Some places) line = None
+problem_where None line = Some (problem_named (fault_of line))
+
+-- the first of these lines without its tag; an empty one where there is none
+abbrev pub first_line : List (List ℕ) → List ℕ
+first_line [] = []
+first_line (line ∷ lines) = untagged line
+
+-- the body for a text that a session of lines wrote to one line
+unfoldable pub body_text : List ℕ → List ℕ
+body_text text =
+    let lines = input_lines text in
+    body_where (places_of (first_word (first_line lines))) (first_line lines) (drop 1 lines)
+
+-- the problem that the text is, where it is no reply
+unfoldable pub problem_of : List ℕ → Option Problem
+problem_of text =
+    let line = first_line (input_lines text) in problem_where (places_of (first_word line)) line

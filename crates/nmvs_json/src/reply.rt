@@ -1,0 +1,457 @@
+//! The JSON of replies.
+ghost use Rattle.std.specs.Prelude.{◌≡◌, ◌++◌, [], codes, drop, find, map, option_map, IfOk, OnOk};
+ghost use Rattle.std.specs.Str.{bytes_eq};
+ghost use Rattle.nmvs_stream.specs.InputLines.{input_lines};
+ghost use Rattle.nmvs_json.specs.Places.{place_of};
+ghost use Rattle.nmvs_json.specs.Replies as specs;
+
+use memchr::memchr;
+use nmvs_stream::cut_line;
+use std::alloc::{AllocError, Allocator};
+
+/// Why there is no reply to a question, as the statuses of HTTP part the faults.
+#[derive(Clone, Copy, Debug, PartialEq, Eq)]
+pub enum Problem {
+    /// The line cannot be read, or its tag is that of another question.
+    Unprocessable,
+    /// The user may not ask this.
+    Forbidden,
+    /// The user asks more than the rate allows.
+    TooManyRequests,
+    /// The server cannot answer now. Nothing is recorded.
+    Unavailable,
+    /// The server cannot answer now. The question may be recorded.
+    Unknown,
+}
+
+/// How a word of a line stands in its object.
+#[derive(Clone, Copy)]
+pub(crate) enum Place {
+    /// As a string of this name.
+    String(&'static [u8]),
+    /// As a number of this name.
+    Number(&'static [u8]),
+    /// Not at all: the next name says the same.
+    Label,
+}
+
+/// The most bytes that a body has beyond those of the text (own). A report's has more, and so has a batch number that is escaped.
+const ROOM: usize = 128;
+
+/// The first words of lines that are more than words at places.
+const FAULT: &[u8] = b"FAULT";
+
+const SHOWN: &[u8] = b"SHOWN";
+
+const PRODUCT: &[u8] = b"PRODUCT";
+
+const BATCH: &[u8] = b"BATCH";
+
+/// The lines of replies: the first word, and the places of the others.
+const ROWS: &[(&str, &[Place])] = &[
+    ("UPLOADED", &[]),
+    (
+        "AUTHENTIC",
+        &[
+            Place::String(b"batch"),
+            Place::String(b"expiry"),
+            Place::String(b"validity"),
+        ],
+    ),
+    (
+        "ALERT",
+        &[
+            Place::String(b"cause"),
+            Place::String(b"flag"),
+            Place::Number(b"number"),
+        ],
+    ),
+    (
+        "STATUS",
+        &[
+            Place::String(b"own"),
+            Place::String(b"lock"),
+            Place::String(b"onward"),
+            Place::String(b"batch"),
+            Place::String(b"expiry"),
+        ],
+    ),
+    ("NOPACK", &[]),
+    ("DECOMMISSIONED", &[]),
+    ("HANDED_OVER", &[]),
+    ("REVERTED", &[]),
+    ("LOCKED", &[Place::Number(b"packs")]),
+    ("STOLEN", &[]),
+    ("SHOWN", &[Place::Number(b"number")]),
+    (
+        "REFUSED",
+        &[Place::Number(b"number"), Place::String(b"refusal")],
+    ),
+    (
+        "PRODUCT",
+        &[
+            Place::String(b"code"),
+            Place::Label,
+            Place::String(b"holder"),
+            Place::Label,
+            Place::Number(b"alerts"),
+            Place::Label,
+            Place::Number(b"flagged"),
+        ],
+    ),
+];
+
+/// The faults of lines, and the problem that each is.
+const PROBLEMS: &[(&str, Problem)] = &[
+    ("LONG", Problem::Unprocessable),
+    ("RETURN", Problem::Unprocessable),
+    ("BYTES", Problem::Unprocessable),
+    ("FIELDS", Problem::Unprocessable),
+    ("WORD", Problem::Unprocessable),
+    ("USER", Problem::Unprocessable),
+    ("CODE", Problem::Unprocessable),
+    ("SERIAL", Problem::Unprocessable),
+    ("BATCH", Problem::Unprocessable),
+    ("EXPIRY", Problem::Unprocessable),
+    ("TAG", Problem::Unprocessable),
+    ("NOBODY", Problem::Forbidden),
+    ("SUSPENDED", Problem::Forbidden),
+    ("ROLE", Problem::Forbidden),
+    ("RATE", Problem::TooManyRequests),
+    ("CLOCK", Problem::Unavailable),
+    ("CLOSED", Problem::Unavailable),
+    ("MEMORY", Problem::Unavailable),
+];
+
+/// The problem that a session's answer to one question is, or none if it is a reply.
+#[tactic(auto, unfolding(crate::specs::Replies::problem_of))]
+pub fn problem_of(text: &[u8]) -> Option<Problem>
+    ensures { result ≡ specs.problem_of text.now }
+{
+    let (line, _) = first_line(text);
+    let (word, _) = cut_word(line);
+    match places_of(word) {
+        Some(_) => None,
+        None => Some(problem_named(fault_of(line))),
+    }
+}
+
+/// The body of the response: a session's answer to one question as JSON.
+///
+/// # Errors
+///
+/// There is no memory for it.
+pub fn body_of<A: Allocator>(alloc: A, text: &[u8]) -> Result<Vec<u8, A>, AllocError>
+    ensures { IfOk result (λ body. body.items ≡ specs.body_text text.now) }
+{
+    let mut body = Vec::with_capacity(alloc, text.len() + ROOM)?;
+    push_body(&mut body, text)?;
+    Ok(body)
+}
+
+#[tactic(auto, unfolding(crate::specs::Replies::body_text))]
+fn push_body<A: Allocator>(body: &mut Vec<u8, A>, text: &[u8]) -> Result<(), AllocError>
+    ensures { OnOk result (body.new.items ≡ body.old.items ++ specs.body_text text.now) }
+{
+    let (line, later) = first_line(text);
+    let (word, _) = cut_word(line);
+    match places_of(word) {
+        Some(places) => push_reply(body, places, line, later),
+        None => push_problem(body, fault_of(line)),
+    }
+}
+
+/// The first line of a text without its tag, and the bytes after it.
+fn first_line(text: &[u8]) -> (&[u8], &[u8])
+    ensures line { result.0.now ≡ specs.first_line (input_lines text.now) }
+    ensures later { input_lines result.1.now ≡ drop 1 (input_lines text.now) }
+{
+    match cut_line(text) {
+        Some((line, later)) => (untagged(line), later),
+        None => (b"", b""),
+    }
+}
+
+/// A line without its tag.
+fn untagged(line: &[u8]) -> &[u8]
+    ensures { result.now ≡ specs.untagged line.now }
+{
+    match line {
+        [b'#', ..] => cut_word(line).1,
+        _ => line,
+    }
+}
+
+/// The first word of a line, and the words after it.
+fn cut_word(line: &[u8]) -> (&[u8], &[u8])
+    ensures first { result.0.now ≡ specs.first_word line.now }
+    ensures later { result.1.now ≡ specs.later_words line.now }
+{
+    match memchr(b' ', line) {
+        Some(space) => (&line[..space], &line[space + 1..]),
+        None => (line, b""),
+    }
+}
+
+/// What a table has for this word.
+fn named<T: Copy>(table: &[(&str, T)], word: &[u8]) -> Option<T>
+    ensures { result ≡ option_map (λ row. row.1) (find (λ row. bytes_eq word.now row.0.now) table.now) }
+{
+    for (name, value) in table {
+        if word == name.as_bytes() {
+            return Some(*value);
+        }
+    }
+    None
+}
+
+/// The places of the words that follow this one in the first line of a reply.
+#[tactic(auto, unfolding(crate::specs::Replies::places_of))]
+fn places_of(word: &[u8]) -> Option<&'static [Place]>
+    ensures { option_map (λ places. map place_of places.now) result ≡ specs.places_of word.now }
+{
+    named(ROWS, word)
+}
+
+/// The problem that a fault is.
+#[tactic(auto, unfolding(crate::specs::Replies::problem_named))]
+fn problem_named(fault: &[u8]) -> Problem
+    ensures { result ≡ specs.problem_named fault.now }
+{
+    named(PROBLEMS, fault).unwrap_or(Problem::Unknown)
+}
+
+/// The fault of a line that is that of no reply.
+fn fault_of(line: &[u8]) -> &[u8]
+    ensures { result.now ≡ specs.fault_of line.now }
+{
+    let (word, fault) = cut_word(line);
+    if word == FAULT { fault } else { b"ENDED" }
+}
+
+/// Puts the object of a reply at the end of a body.
+fn push_reply<A: Allocator>(
+    body: &mut Vec<u8, A>,
+    places: &[Place],
+    line: &[u8],
+    later: &[u8],
+) -> Result<(), AllocError>
+    ensures { OnOk result (body.new.items ≡ body.old.items ++ specs.reply_object (map place_of places.now) line.now (input_lines later.now)) }
+{
+    let (word, words) = cut_word(line);
+    body.extend_from_slice(b"{\"reply\":")?;
+    push_string(body, word)?;
+    push_members(body, places, words)?;
+    push_later(body, word, later)?;
+    body.extend_from_slice(b"}\n")
+}
+
+/// Puts what the later lines of a reply show at the end of a body.
+#[tactic(auto, unfolding(crate::specs::Replies::later_members))]
+fn push_later<A: Allocator>(
+    body: &mut Vec<u8, A>,
+    word: &[u8],
+    later: &[u8],
+) -> Result<(), AllocError>
+    ensures { OnOk result (body.new.items ≡ body.old.items ++ specs.later_members word.now (input_lines later.now)) }
+{
+    if word == SHOWN {
+        return push_entries(body, later);
+    }
+    if word == PRODUCT {
+        return push_batches(body, later);
+    }
+    Ok(())
+}
+
+fn push_entries<A: Allocator>(body: &mut Vec<u8, A>, later: &[u8]) -> Result<(), AllocError>
+    ensures { OnOk result (body.new.items ≡ body.old.items ++ (codes ",\"entries\":[" ++ (specs.separated [] (input_lines later.now) ++ codes "]"))) }
+{
+    body.extend_from_slice(b",\"entries\":[")?;
+    push_lines(body, later)?;
+    body.extend_from_slice(b"]")
+}
+
+/// Puts lines as they are at the end of a body, with a comma between each two.
+fn push_lines<A: Allocator>(body: &mut Vec<u8, A>, lines: &[u8]) -> Result<(), AllocError>
+    ensures { OnOk result (body.new.items ≡ body.old.items ++ specs.separated [] (input_lines lines.now)) }
+{
+    let mut comma: &[u8] = b"";
+    let mut rest = lines;
+    while let Some((line, after)) = cut_line(rest) {
+        body.extend_from_slice(comma)?;
+        body.extend_from_slice(line)?;
+        comma = b",";
+        rest = after;
+    }
+    Ok(())
+}
+
+fn push_batches<A: Allocator>(body: &mut Vec<u8, A>, later: &[u8]) -> Result<(), AllocError>
+    ensures { OnOk result (body.new.items ≡ body.old.items ++ (codes ",\"batches\":[" ++ (specs.separated [] (specs.batch_objects (input_lines later.now)) ++ codes "]"))) }
+{
+    body.extend_from_slice(b",\"batches\":[")?;
+    push_batch_lines(body, later)?;
+    body.extend_from_slice(b"]")
+}
+
+/// Puts the batches of a report at the end of a body, with a comma between each two.
+fn push_batch_lines<A: Allocator>(body: &mut Vec<u8, A>, lines: &[u8]) -> Result<(), AllocError>
+    ensures { OnOk result (body.new.items ≡ body.old.items ++ specs.separated [] (specs.batch_objects (input_lines lines.now))) }
+{
+    let mut front: &[u8] = b"";
+    let mut rest = lines;
+    while let Some((line, after)) = cut_line(rest) {
+        let (word, words) = cut_word(untagged(line));
+        if word != BATCH {
+            return Ok(());
+        }
+        body.extend_from_slice(front)?;
+        push_batch(body, words)?;
+        front = b",";
+        rest = after;
+    }
+    Ok(())
+}
+
+/// Puts the object of a batch at the end of a body, by the words after `BATCH`.
+fn push_batch<A: Allocator>(body: &mut Vec<u8, A>, line: &[u8]) -> Result<(), AllocError>
+    ensures { OnOk result (body.new.items ≡ body.old.items ++ specs.batch_object line.now) }
+{
+    let (batch, words) = cut_word(line);
+    body.extend_from_slice(b"{\"batch\":")?;
+    push_string(body, batch)?;
+    push_members(body, batch_places(), words)?;
+    body.extend_from_slice(b"}")
+}
+
+/// The places of the words of a batch in a report, after `BATCH` and the batch number.
+#[tactic(auto, unfolding(crate::specs::Replies::batch_places))]
+fn batch_places() -> &'static [Place]
+    ensures { map place_of result.now ≡ specs.batch_places }
+{
+    &[
+        Place::String(b"lock"),
+        Place::Label,
+        Place::Number(b"active"),
+        Place::Label,
+        Place::Number(b"held"),
+        Place::Label,
+        Place::Number(b"supplied"),
+        Place::Label,
+        Place::Number(b"exported"),
+        Place::Label,
+        Place::Number(b"sampled"),
+        Place::Label,
+        Place::Number(b"destroyed"),
+        Place::Label,
+        Place::Number(b"stolen"),
+    ]
+}
+
+/// Puts the words of a line at the end of a body, each as the member that its place names.
+fn push_members<A: Allocator>(
+    body: &mut Vec<u8, A>,
+    places: &[Place],
+    words: &[u8],
+) -> Result<(), AllocError>
+    ensures { OnOk result (body.new.items ≡ body.old.items ++ specs.members (map place_of places.now) words.now) }
+{
+    let mut rest = words;
+    for place in places {
+        let (word, after) = cut_word(rest);
+        push_member(body, *place, word)?;
+        rest = after;
+    }
+    Ok(())
+}
+
+fn push_member<A: Allocator>(
+    body: &mut Vec<u8, A>,
+    place: Place,
+    word: &[u8],
+) -> Result<(), AllocError>
+    ensures { OnOk result (body.new.items ≡ body.old.items ++ specs.member (place_of place, word.now)) }
+{
+    match place {
+        Place::String(name) => {
+            push_name(body, name)?;
+            push_string(body, word)
+        }
+        Place::Number(name) => {
+            push_name(body, name)?;
+            body.extend_from_slice(word)
+        }
+        Place::Label => Ok(()),
+    }
+}
+
+/// Puts the name of a member at the end of a body, with the comma before it and the colon after it.
+fn push_name<A: Allocator>(body: &mut Vec<u8, A>, name: &[u8]) -> Result<(), AllocError>
+    ensures { OnOk result (body.new.items ≡ body.old.items ++ (codes ",\"" ++ (name.now ++ codes "\":"))) }
+{
+    body.extend_from_slice(b",\"")?;
+    body.extend_from_slice(name)?;
+    body.extend_from_slice(b"\":")
+}
+
+/// Puts a string at the end of a body.
+fn push_string<A: Allocator>(body: &mut Vec<u8, A>, text: &[u8]) -> Result<(), AllocError>
+    ensures { OnOk result (body.new.items ≡ body.old.items ++ specs.quoted text.now) }
+{
+    body.extend_from_slice(b"\"")?;
+    for byte in text {
+        push_escaped(body, *byte)?;
+    }
+    body.extend_from_slice(b"\"")
+}
+
+fn push_escaped<A: Allocator>(body: &mut Vec<u8, A>, byte: u8) -> Result<(), AllocError>
+    ensures { OnOk result (body.new.items ≡ body.old.items ++ specs.escaped byte) }
+{
+    if byte == b'"' || byte == b'\\' {
+        body.push(b'\\')?;
+    }
+    Ok(body.push(byte)?)
+}
+
+/// Puts the problem that is a fault at the end of a body.
+fn push_problem<A: Allocator>(body: &mut Vec<u8, A>, fault: &[u8]) -> Result<(), AllocError>
+    ensures { OnOk result (body.new.items ≡ body.old.items ++ specs.problem_object fault.now) }
+{
+    let problem = problem_named(fault);
+    body.extend_from_slice(problem_front(problem))?;
+    push_string(body, fault)?;
+    body.extend_from_slice(problem_end(problem))
+}
+
+/// A problem up to its fault (RFC 9457).
+#[tactic(auto, unfolding(crate::specs::Replies::problem_front))]
+fn problem_front(problem: Problem) -> &'static [u8]
+    ensures { result.now ≡ specs.problem_front problem }
+{
+    match problem {
+        Problem::Unprocessable => {
+            b"{\"type\":\"about:blank\",\"title\":\"Unprocessable Content\",\"status\":422,\"fault\":"
+        }
+        Problem::Forbidden => {
+            b"{\"type\":\"about:blank\",\"title\":\"Forbidden\",\"status\":403,\"fault\":"
+        }
+        Problem::TooManyRequests => {
+            b"{\"type\":\"about:blank\",\"title\":\"Too Many Requests\",\"status\":429,\"fault\":"
+        }
+        Problem::Unavailable | Problem::Unknown => {
+            b"{\"type\":\"about:blank\",\"title\":\"Service Unavailable\",\"status\":503,\"fault\":"
+        }
+    }
+}
+
+/// A problem after its fault: whether something is recorded.
+fn problem_end(problem: Problem) -> &'static [u8]
+    ensures { result.now ≡ specs.problem_end problem }
+{
+    match problem {
+        Problem::Unknown => b",\"recorded\":\"unknown\"}\n",
+        _ => b",\"recorded\":\"no\"}\n",
+    }
+}
