@@ -10,7 +10,7 @@ except ModuleNotFoundError:
     # From the top of a checkout, as `from tools.terminal import Terminal`.
     from tools.scans import line_of
 
-# Faults after which the same line is sent again, with its tag (docs/TERMINALS.md).
+# Faults after which the same line is sent again, with its tag.
 AGAIN = ("FAULT RATE", "FAULT JOURNAL")
 
 

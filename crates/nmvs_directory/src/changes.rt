@@ -96,7 +96,7 @@ impl<A: Allocator> Changes<A> {
     }
 
     /// Whether a change is pending.
-    pub(crate) fn has_pending(&self) -> bool
+    pub fn has_pending(&self) -> bool
         ensures { MatchBool result (0 < length (pending_changes self.now))
             (pending_changes self.now ≡ []) }
     {

@@ -2,11 +2,12 @@
 ghost use Rattle.std.specs.Prelude.{◌≡◌, ◌+◌, ◌<◌, ◌≤◌, ◌++◌, [], ◌∷◌, take, length, slice_get, fold, MatchResult, IfOk, IsOk};
 ghost use Rattle.left_right.specs.Handles;
 ghost use Rattle.nmvs_directory.specs.Changes.{entered_changes};
+ghost use Rattle.nmvs_directory.specs.Known.{known};
 ghost use Rattle.nmvs_directory.specs.Users.{users_of};
 
 use crate::history::{History, Tail};
 use crate::users::Users;
-use crate::{Change, Changes, Naming, Notice, Standing};
+use crate::{Change, Changes, Look, Naming, Notice, Standing};
 use left_right::{Absorb, WriteHandle};
 use nmvs_identifier::Name;
 use std::alloc::{AllocError, Allocator};
@@ -159,6 +160,13 @@ impl<J: Naming, R: Wait + Drop, A: Allocator> Registrar<J, R, A> {
         ensures { result ≡ slice_get (users_of (published self.now)) place }
     {
         self.writer.published().user(place)
+    }
+
+    /// The answer about a user, by the last published change that names it. It is never `Closed`, and waits for nobody.
+    pub fn look(&self, user: &Name) -> Look
+        ensures { result ≡ known (published self.now) user.now }
+    {
+        self.writer.published().look(user)
     }
 
     /// Ends the directory. Pending changes are lost, and the later answers of its windows are left open. It waits for

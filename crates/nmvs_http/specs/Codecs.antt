@@ -12,8 +12,7 @@ use Rattle.nmvs_http.specs.declared.codec.Decoded.{Decoded}
 use Rattle.nmvs_http.specs.declared.codec.Decoded.TheVariants as decoded
 use Rattle.nmvs_http.specs.declared.codec.Hand.{Hand}
 use Rattle.nmvs_http.specs.declared.fault.Fault.{Fault}
-use Rattle.nmvs_http.specs.RequestLines.{carried_by}
-use Rattle.nmvs_http.specs.Requests.{asks_of, wants_head}
+use Rattle.nmvs_http.specs.Requests.{asks_of, carried_by, wants_head}
 use Rattle.nmvs_http.specs.Responses.{invitation_text, response_text}
 use Rattle.nmvs_http.specs.StreamState.{StreamState, request_limits}
 use Rattle.nmvs_http.specs.Streams.{ReadsRequests}

@@ -1,6 +1,7 @@
-pub mod Requests
 pub mod RequestLines
+pub mod Requests
 pub mod Responses
 pub mod StreamState
 pub mod Streams
 pub mod Codecs
+pub mod OneLine

@@ -1,15 +1,22 @@
--- What a request asks (own).
-use Rattle.std.specs.Prelude.{ℕ, Bool, true, false, not, ◌&&◌, ◌||◌, ◌==◌, List, [], ◌∷◌, take, drop, codes, Option, Some, None, option_map, if◌then◌else◌}
+-- What a request asks, and the lines that it carries (own).
+use Rattle.std.specs.Prelude.{ℕ, Bool, true, false, not, ◌&&◌, ◌||◌, ◌==◌, List, [], ◌∷◌, length, take, drop, codes, Option, Some, None, option_map, Result, Ok, Err, if◌then◌else◌}
 use Rattle.std.specs.Option.{is_some}
 use Rattle.std.specs.Str.{bytes_eq}
 use Rattle.http.specs.declared.request.Request.{Request}
-use Rattle.http.specs.Request.{head_of}
+use Rattle.http.specs.Request.{body_of, head_of}
 use Rattle.http_header.specs.HeaderMap.{get}
 use Rattle.http_header.specs.Token.{lowercase}
 use Rattle.http_uri.specs.Uri.{uri_path}
+use Rattle.nmvs_json.specs.declared.asked_kind.AskedKind.{AskedKind}
+use Rattle.nmvs_json.specs.declared.question_fault.QuestionFault.{QuestionFault}
+use Rattle.nmvs_json.specs.declared.question_fault.QuestionFault.TheVariants as questions
+use Rattle.nmvs_json.specs.Questions.{asked_at, question_line}
 use Rattle.nmvs_http.specs.declared.asked.Asks.{Asks}
-use Rattle.nmvs_http.specs.declared.asked.Asks.TheVariants.{Lines, Health, Refused}
+use Rattle.nmvs_http.specs.declared.asked.Asks.TheVariants.{Lines, Question, Health, Refused}
+use Rattle.nmvs_http.specs.declared.fault.Fault.{Fault}
 use Rattle.nmvs_http.specs.declared.fault.Fault.TheVariants as faults
+use Rattle.nmvs_http.specs.declared.reading.Reading.{Reading}
+use Rattle.nmvs_http.specs.RequestLines.{whole_lines}
 
 -- the first value of a field
 abbrev pub field_value : Request (List ℕ) → List ℕ → Option (List ℕ)
@@ -29,40 +36,88 @@ abbrev pub ends_name : List ℕ → Bool
 ends_name [] = true
 ends_name (b ∷ _) = b == 59 || b == 32
 
--- whether a media type is that of lines, whatever its parameters (RFC 9110, section 8.3.1; the type is our own)
-abbrev pub is_lines_type : List ℕ → Bool
-is_lines_type kind = bytes_eq (lowercase (take 26 kind)) (codes "application/vnd.nmvs.lines") && ends_name (drop 26 kind)
+-- whether a media type has this name, whatever its parameters (RFC 9110, section 8.3.1)
+abbrev pub is_type : List ℕ → List ℕ → Bool
+is_type name kind = bytes_eq (lowercase (take (length name) kind)) (lowercase name) && ends_name (drop (length name) kind)
 
 -- whether there is such a media type
-abbrev pub are_lines : Option (List ℕ) → Bool
-are_lines None = false
-are_lines (Some kind) = is_lines_type kind
+abbrev pub has_type : List ℕ → Option (List ℕ) → Bool
+has_type name None = false
+has_type name (Some kind) = is_type name kind
 
 -- whether the head tells where the body ends
 abbrev pub has_length : Request (List ℕ) → Bool
 has_length request = is_some (field_value request (codes "content-length")) || is_some (field_value request (codes "transfer-encoding"))
 
--- what a request to /v1/lines asks: by its method, the site and the type that it names, and whether it has a length
-abbrev pub asks_by_lines : List ℕ → Option (List ℕ) → Option (List ℕ) → Bool → Asks
-asks_by_lines method site kind sized =
-    if not (bytes_eq method (codes "POST")) then Refused faults.MethodOfLines
-    else (if is_foreign site then Refused faults.Site
-    else (if not (are_lines kind) then Refused faults.Type
-    else (if not sized then Refused faults.Length
-    else Lines)))
+-- the fault of a request that has to be a POST from no other site, of a type, and with a length
+abbrev pub post_fault : List ℕ → Option (List ℕ) → Bool → Bool → Option Fault
+post_fault method site typed sized =
+    if not (bytes_eq method (codes "POST")) then Some faults.MethodOfLines
+    else (if is_foreign site then Some faults.Site
+    else (if not typed then Some faults.Type
+    else (if not sized then Some faults.Length
+    else None)))
+
+-- the same, of a request whose body has to have this media type
+abbrev pub fault_of_post : List ℕ → Request (List ℕ) → Option Fault
+fault_of_post name request =
+    post_fault (head_of request).method (field_value request (codes "sec-fetch-site")) (has_type name (field_value request (codes "content-type"))) (has_length request)
 
 -- what a request to /healthz asks
 abbrev pub asks_by_health : List ℕ → Asks
 asks_by_health method =
     if bytes_eq method (codes "GET") || bytes_eq method (codes "HEAD") then Health else Refused faults.MethodOfHealth
 
+-- a request that is refused carries no lines
+abbrev pub refused_for : Fault → Reading
+refused_for fault = record { asks = Refused fault; lines = [] }
+
+-- a request with this fault, or with this body of lines
+abbrev pub reading_of_lines : Option Fault → List ℕ → Reading
+reading_of_lines None body = record { asks = Lines; lines = whole_lines body }
+reading_of_lines (Some fault) body = refused_for fault
+
+-- the fault of a question of JSON
+abbrev pub fault_of_question : QuestionFault → Fault
+fault_of_question questions.Key = faults.Key
+fault_of_question questions.Json = faults.Json
+fault_of_question questions.Fields = faults.Fields
+fault_of_question questions.Memory = faults.Busy
+
+-- a request whose key and body mean this line, or have this fault
+abbrev pub reading_of_line : Result (List ℕ) QuestionFault → Reading
+reading_of_line (Ok line) = record { asks = Question; lines = line }
+reading_of_line (Err fault) = refused_for (fault_of_question fault)
+
+-- a request with this fault, or whose key and body mean this line or have this fault
+abbrev pub reading_of_question : Option Fault → Result (List ℕ) QuestionFault → Reading
+reading_of_question None line = reading_of_line line
+reading_of_question (Some fault) line = refused_for fault
+
+-- the line that a request means at the path of this question, or the fault
+abbrev pub line_of : AskedKind → Request (List ℕ) → Result (List ℕ) QuestionFault
+line_of kind request = question_line kind (field_value request (codes "idempotency-key")) (body_of request)
+
+-- a request at the path of this question, or at none
+abbrev pub reading_at : Option AskedKind → Request (List ℕ) → Reading
+reading_at None request = refused_for faults.Path
+reading_at (Some kind) request = reading_of_question (fault_of_post (codes "application/json") request) (line_of kind request)
+
+-- what a request asks, and the bytes of lines that it carries
+unfoldable pub reading_of : Request (List ℕ) → Reading
+reading_of request =
+    let path = uri_path (head_of request).uri in
+    if bytes_eq path (codes "/v1/lines") then reading_of_lines (fault_of_post (codes "application/vnd.nmvs.lines") request) (body_of request)
+    else (if bytes_eq path (codes "/healthz") then record { asks = asks_by_health (head_of request).method; lines = [] }
+    else reading_at (asked_at path) request)
+
 -- what a request asks
-unfoldable pub asks_of : Request (List ℕ) → Asks
-asks_of request =
-    let head = head_of request in
-    if bytes_eq (uri_path head.uri) (codes "/v1/lines") then asks_by_lines head.method (field_value request (codes "sec-fetch-site")) (field_value request (codes "content-type")) (has_length request)
-    else (if bytes_eq (uri_path head.uri) (codes "/healthz") then asks_by_health head.method
-    else Refused faults.Path)
+abbrev pub asks_of : Request (List ℕ) → Asks
+asks_of request = (reading_of request).asks
+
+-- the bytes of lines that it carries
+abbrev pub carried_by : Request (List ℕ) → List ℕ
+carried_by request = (reading_of request).lines
 
 -- whether a request wants the head of a response alone (RFC 9110, section 9.3.2)
 abbrev pub wants_head : Request (List ℕ) → Bool

@@ -13,6 +13,9 @@ use Rattle.nmvs_http.specs.declared.fault.Fault.TheVariants as faults
 -- the status of a fault (RFC 9110, section 15)
 abbrev pub status : Fault → List ℕ
 status faults.Request = codes "400 Bad Request"
+status faults.Key = codes "400 Bad Request"
+status faults.Json = codes "400 Bad Request"
+status faults.Fields = codes "400 Bad Request"
 status faults.Site = codes "403 Forbidden"
 status faults.Path = codes "404 Not Found"
 status faults.MethodOfLines = codes "405 Method Not Allowed\r\nallow: POST"
@@ -29,6 +32,9 @@ status faults.Busy = codes "503 Service Unavailable"
 -- the problem that a fault is told as: nothing is recorded (RFC 9457)
 unfoldable pub problem : Fault → List ℕ
 problem faults.Request = codes "{\"type\":\"about:blank\",\"title\":\"Bad Request\",\"status\":400,\"fault\":\"REQUEST\",\"recorded\":\"no\"}\n"
+problem faults.Key = codes "{\"type\":\"about:blank\",\"title\":\"Bad Request\",\"status\":400,\"fault\":\"KEY\",\"recorded\":\"no\"}\n"
+problem faults.Json = codes "{\"type\":\"about:blank\",\"title\":\"Bad Request\",\"status\":400,\"fault\":\"JSON\",\"recorded\":\"no\"}\n"
+problem faults.Fields = codes "{\"type\":\"about:blank\",\"title\":\"Bad Request\",\"status\":400,\"fault\":\"FIELDS\",\"recorded\":\"no\"}\n"
 problem faults.Site = codes "{\"type\":\"about:blank\",\"title\":\"Forbidden\",\"status\":403,\"fault\":\"SITE\",\"recorded\":\"no\"}\n"
 problem faults.Path = codes "{\"type\":\"about:blank\",\"title\":\"Not Found\",\"status\":404,\"fault\":\"PATH\",\"recorded\":\"no\"}\n"
 problem faults.MethodOfLines = codes "{\"type\":\"about:blank\",\"title\":\"Method Not Allowed\",\"status\":405,\"fault\":\"METHOD\",\"recorded\":\"no\"}\n"
@@ -42,7 +48,7 @@ problem faults.Head = codes "{\"type\":\"about:blank\",\"title\":\"Request Heade
 problem faults.Coding = codes "{\"type\":\"about:blank\",\"title\":\"Not Implemented\",\"status\":501,\"fault\":\"CODING\",\"recorded\":\"no\"}\n"
 problem faults.Busy = codes "{\"type\":\"about:blank\",\"title\":\"Service Unavailable\",\"status\":503,\"fault\":\"BUSY\",\"recorded\":\"no\"}\n"
 
--- the status of the response to one question, by the problem that its text is: 200 exactly where it is a reply
+-- the status of the response to one question, by the problem that its text is: 200 exactly if it is a reply
 abbrev pub status_where : Option Problem → List ℕ
 status_where None = codes "200 OK"
 status_where (Some problems.Unprocessable) = codes "422 Unprocessable Content"
@@ -56,7 +62,7 @@ abbrev pub type_where : Option Problem → List ℕ
 type_where None = codes "application/json"
 type_where (Some problem) = codes "application/problem+json"
 
--- the status of the response to what was asked: to lines 200, exactly where they are not refused
+-- the status of the response: 200 to lines, exactly if they are not refused
 abbrev pub status_of : Asks → List ℕ → List ℕ
 status_of Lines replies = codes "200 OK"
 status_of Question replies = status_where (problem_of replies)

@@ -17,8 +17,7 @@ use Rattle.nmvs_http.specs.declared.fault.Fault.TheVariants as faults
 use Rattle.nmvs_http.specs.declared.request_stream.Asked.{Asked}
 use Rattle.nmvs_http.specs.declared.request_stream.Next.{Next}
 use Rattle.nmvs_http.specs.declared.request_stream.Next.TheVariants as nexts
-use Rattle.nmvs_http.specs.RequestLines.{carried_by}
-use Rattle.nmvs_http.specs.Requests.{asks_of, wants_head}
+use Rattle.nmvs_http.specs.Requests.{asks_of, carried_by, wants_head}
 use Rattle.nmvs_http.specs.StreamState.{StreamState}
 
 -- the stream is these requests of HTTP/1.1's grammar (RFC 9112), one after the other, and then the rest

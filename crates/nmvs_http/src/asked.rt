@@ -13,7 +13,7 @@ use http::Request;
 pub enum Asks {
     /// The replies to the lines of its body.
     Lines,
-    /// The reply to one question, as JSON.
+    /// The reply to the one question that its body of JSON is.
     Question,
     /// Whether the server lives.
     Health,
@@ -23,25 +23,15 @@ pub enum Asks {
 
 /// The type of a body of lines (own, as RFC 6838, section 3.2, has it). A page of another site cannot send it without leave: the
 /// types that it can are `text/plain` and those of forms (Fetch, section 2.2.2).
-const LINES_TYPE: &[u8] = b"application/vnd.nmvs.lines";
+pub(crate) const LINES_TYPE: &[u8] = b"application/vnd.nmvs.lines";
+
+/// The type of a question (RFC 8259, section 11), which a page of another site cannot send either.
+pub(crate) const JSON_TYPE: &[u8] = b"application/json";
 
 /// What a browser calls the site of the server itself, and a request that no page made (W3C Fetch Metadata, section 2.3).
 const SAME_ORIGIN: &[u8] = b"same-origin";
 
 const NO_SITE: &[u8] = b"none";
-
-/// What a request asks.
-#[tactic(auto, unfolding(crate::specs::Requests::asks_of))]
-pub(crate) fn asks_of(request: &Request<Bytes>) -> Asks
-    ensures { result ≡ specs.asks_of request.now }
-{
-    let method = request.method().as_str();
-    match request.uri().path() {
-        "/v1/lines" => asks_by_lines(method, request),
-        "/healthz" => asks_by_health(method),
-        _ => Asks::Refused(Fault::Path),
-    }
-}
 
 /// Whether a request wants the head of a response alone.
 pub(crate) fn is_head(request: &Request<Bytes>) -> bool
@@ -50,7 +40,8 @@ pub(crate) fn is_head(request: &Request<Bytes>) -> bool
     request.method().as_str() == "HEAD"
 }
 
-fn asks_by_health(method: &str) -> Asks
+/// What a request asks of the server's health.
+pub(crate) fn asks_by_health(method: &str) -> Asks
     ensures { result ≡ specs.asks_by_health method.now }
 {
     match method {
@@ -59,26 +50,27 @@ fn asks_by_health(method: &str) -> Asks
     }
 }
 
-fn asks_by_lines(method: &str, request: &Request<Bytes>) -> Asks
-    ensures { result ≡ specs.asks_by_lines method.now (specs.field_value request.now (codes "sec-fetch-site")) (specs.field_value request.now (codes "content-type")) (specs.has_length request.now) }
+/// The fault of a request that has to be a POST from no other site, whose body has this type and a length.
+pub(crate) fn fault_of_post(name: &[u8], request: &Request<Bytes>) -> Option<Fault>
+    ensures { result ≡ specs.fault_of_post name.now request.now }
 {
-    if method != "POST" {
-        return Asks::Refused(Fault::MethodOfLines);
+    if request.method().as_str() != "POST" {
+        return Some(Fault::MethodOfLines);
     }
     if is_foreign(request) {
-        return Asks::Refused(Fault::Site);
+        return Some(Fault::Site);
     }
-    if !has_lines(request) {
-        return Asks::Refused(Fault::Type);
+    if !has_type(name, request) {
+        return Some(Fault::Type);
     }
     if !has_length(request) {
-        return Asks::Refused(Fault::Length);
+        return Some(Fault::Length);
     }
-    Asks::Lines
+    None
 }
 
 /// The value of a field, the first where it stands more than once.
-fn field<'r>(request: &'r Request<Bytes>, name: &str) -> Option<&'r [u8]>
+pub(crate) fn field<'r>(request: &'r Request<Bytes>, name: &str) -> Option<&'r [u8]>
     ensures { option_copied result ≡ specs.field_value request.now (lowercase name.now) }
 {
     match request.headers().get(name) {
@@ -103,30 +95,30 @@ fn is_foreign_site(site: &[u8]) -> bool
     site != SAME_ORIGIN && site != NO_SITE
 }
 
-/// Whether the body is of the type of lines.
-fn has_lines(request: &Request<Bytes>) -> bool
-    ensures { result ≡ specs.are_lines (specs.field_value request.now (codes "content-type")) }
+/// Whether the body has a media type of this name.
+fn has_type(name: &[u8], request: &Request<Bytes>) -> bool
+    ensures { result ≡ specs.has_type name.now (specs.field_value request.now (codes "content-type")) }
 {
     match field(request, "content-type") {
-        Some(kind) => is_lines_type(kind),
+        Some(kind) => is_type(name, kind),
         None => false,
     }
 }
 
-/// Whether a media type is that of lines, whatever its parameters.
+/// Whether a media type has this name, whatever its parameters.
 #[tactic(auto, using(std::proofs::lemmas::List::take_min, std::proofs::lemmas::List::drop_min))]
-fn is_lines_type(kind: &[u8]) -> bool
-    ensures { result ≡ specs.is_lines_type kind.now }
+fn is_type(name: &[u8], kind: &[u8]) -> bool
+    ensures { result ≡ specs.is_type name.now kind.now }
 {
-    let count = LINES_TYPE.len().min(kind.len());
-    is_lines_name(&kind[..count]) && ends_name(&kind[count..])
+    let count = name.len().min(kind.len());
+    is_same_name(&kind[..count], name) && ends_name(&kind[count..])
 }
 
-/// Whether a media type without parameters is that of lines.
-fn is_lines_name(name: &[u8]) -> bool
-    ensures { result ≡ bytes_eq (lowercase name.now) (codes "application/vnd.nmvs.lines") }
+/// Whether two names of media types are the same.
+fn is_same_name(a: &[u8], b: &[u8]) -> bool
+    ensures { result ≡ bytes_eq (lowercase a.now) (lowercase b.now) }
 {
-    name.eq_ignore_ascii_case(LINES_TYPE)
+    a.eq_ignore_ascii_case(b)
 }
 
 /// Whether no more of a media type's name follows.

@@ -5,11 +5,17 @@
 pub enum Fault {
     /// Its bytes are no request.
     Request,
+    /// Its key is no tag.
+    Key,
+    /// Its body is no JSON object, or an object in it has a member twice.
+    Json,
+    /// The members of its body are not those of the question, or a value cannot be a field of the line.
+    Fields,
     /// A page of another site sent it.
     Site,
     /// Nothing is at its path.
     Path,
-    /// Its method does not go with `/v1/lines`.
+    /// Its method is not `POST`.
     MethodOfLines,
     /// Its method does not go with `/healthz`.
     MethodOfHealth,

@@ -1,11 +1,13 @@
 //! HTTP/1.1 as a carrier of lines. The bodies of requests are the bytes that a session of lines is fed, and the replies that it gives
-//! are the bodies of the responses.
+//! are the bodies of the responses. A question of JSON is the one line that it means.
 #![tactic(auto)]
 
 mod asked;
 mod byte_tag;
 mod codec;
 mod fault;
+mod laws;
+mod reading;
 mod request_lines;
 mod request_stream;
 mod response;
@@ -15,5 +17,6 @@ pub use asked::Asks;
 pub use byte_tag::extended;
 pub use codec::{CodecStage, Decoded, HttpCodec};
 pub use fault::Fault;
+pub use laws::questions_are_lines;
 pub use response::write_refusal;
 pub use write_buffer::WriteBuffer;

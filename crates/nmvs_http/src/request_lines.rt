@@ -1,23 +1,12 @@
-//! The lines that requests carry.
+//! The lines that a body is.
 ghost use Rattle.std.specs.Prelude.{◌≡◌, ◌∷◌, ◌++◌, [], IfOk};
 ghost use Rattle.nmvs_http.specs.RequestLines as specs;
 
-use crate::asked::Asks;
 use bytes::{Bytes, BytesMut};
 use std::alloc::{AllocError, Global};
 
-/// The bytes of lines that a body carries, where its request asks so; else none.
-pub(crate) fn lines_asked(alloc: Global, asks: Asks, body: &Bytes) -> Result<Bytes, AllocError>
-    ensures { IfOk result (λ lines. lines ≡ specs.lines_asked asks body.now) }
-{
-    match asks {
-        Asks::Lines => whole_lines(alloc, body),
-        Asks::Question | Asks::Health | Asks::Refused(_) => Ok(Bytes::new()),
-    }
-}
-
 /// A body, and LF after it if its last line has none.
-fn whole_lines(alloc: Global, body: &Bytes) -> Result<Bytes, AllocError>
+pub(crate) fn whole_lines(alloc: Global, body: &Bytes) -> Result<Bytes, AllocError>
     ensures { IfOk result (λ lines. lines ≡ specs.whole_lines body.now) }
 {
     if ends_line(body.as_slice()) {

@@ -6,9 +6,9 @@ ghost use Rattle.nmvs_http.specs.StreamState.{StreamState, request_limits, strea
 ghost use Rattle.nmvs_http.specs.Streams.{IsNext, IsNextOf, ReadsAsked, ReadsRequests};
 ghost use Rattle.nmvs_http.specs.Streams as specs;
 
-use crate::asked::{Asks, asks_of, is_head};
+use crate::asked::{Asks, is_head};
 use crate::fault::Fault;
-use crate::request_lines::lines_asked;
+use crate::reading::read_request;
 use bytes::Bytes;
 use http::{Request, StatusCode};
 use http_server::{Config, Connection, Reason, Refusal, Response, Service, State};
@@ -156,23 +156,22 @@ impl Service for Reader {
         if self.asked.is_some() {
             return Err(AllocError);
         }
-        let asked = read_request(self.alloc, request)?;
+        let asked = read_asked(self.alloc, request)?;
         response.status = StatusCode::NO_CONTENT;
         self.asked = Some(asked);
         Ok(())
     }
 }
 
-/// What a request asks.
-fn read_request(alloc: Global, request: &Request<Bytes>) -> Result<Asked, AllocError>
+/// What a request asks, and what of it is wanted.
+fn read_asked(alloc: Global, request: &Request<Bytes>) -> Result<Asked, AllocError>
     ensures { IfOk result (λ asked. ReadsAsked request.now (Some asked)) }
 {
-    let asks = asks_of(request);
-    let lines = lines_asked(alloc, asks, request.body())?;
+    let reading = read_request(alloc, request)?;
     Ok(Asked {
-        asks,
+        asks: reading.asks,
         head_alone: is_head(request),
-        lines,
+        lines: reading.lines,
     })
 }
 

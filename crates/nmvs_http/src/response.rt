@@ -115,7 +115,7 @@ fn front_of_fault(fault: Fault) -> &'static [u8]
     ensures { result.now ≡ specs.front_text (Asks.Refused fault) [] }
 {
     match fault {
-        Fault::Request =>
+        Fault::Request | Fault::Key | Fault::Json | Fault::Fields =>
             b"HTTP/1.1 400 Bad Request\r\ncontent-type: application/problem+json\r\ncache-control: no-store\r\n",
         Fault::Site =>
             b"HTTP/1.1 403 Forbidden\r\ncontent-type: application/problem+json\r\ncache-control: no-store\r\n",
@@ -152,6 +152,12 @@ fn problem(fault: Fault) -> &'static [u8]
     match fault {
         Fault::Request =>
             b"{\"type\":\"about:blank\",\"title\":\"Bad Request\",\"status\":400,\"fault\":\"REQUEST\",\"recorded\":\"no\"}\n",
+        Fault::Key =>
+            b"{\"type\":\"about:blank\",\"title\":\"Bad Request\",\"status\":400,\"fault\":\"KEY\",\"recorded\":\"no\"}\n",
+        Fault::Json =>
+            b"{\"type\":\"about:blank\",\"title\":\"Bad Request\",\"status\":400,\"fault\":\"JSON\",\"recorded\":\"no\"}\n",
+        Fault::Fields =>
+            b"{\"type\":\"about:blank\",\"title\":\"Bad Request\",\"status\":400,\"fault\":\"FIELDS\",\"recorded\":\"no\"}\n",
         Fault::Site =>
             b"{\"type\":\"about:blank\",\"title\":\"Forbidden\",\"status\":403,\"fault\":\"SITE\",\"recorded\":\"no\"}\n",
         Fault::Path =>

@@ -1,2 +1,4 @@
 pub mod ReplyLemmas
 pub mod LawLemmas
+pub mod UniqueKeys
+pub mod Bodies

@@ -1,3 +1,4 @@
+pub mod Questions
 pub mod Replies
 pub mod Places
 pub mod Laws

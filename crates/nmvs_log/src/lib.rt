@@ -9,6 +9,8 @@ mod event;
 mod event_log;
 mod forward;
 mod log_format;
+mod utc;
 
 pub use event_log::EventLog;
 pub use log_format::LogFormat;
+pub use utc::Utc;

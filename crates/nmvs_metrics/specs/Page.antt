@@ -118,6 +118,10 @@ memory_text f =
     numbered (codes "nmvs_connections_memory_bytes") (codes "gauge") (codes "Memory of the buffers of connections, by worker.") (codes "worker") f.memory.items
     ++ single (codes "nmvs_connections_evicted_total") (codes "counter") (codes "Connections that were closed because the buffers of all took too much memory.") f.evicted
 
+-- the number of users, by state
+unfoldable pub users_text : Snapshot → List ℕ
+users_text f = worded (codes "nmvs_users") (codes "gauge") (codes "Users, by state.") (codes "state") f.users.items
+
 -- the samples of the audit trail
 unfoldable pub trail_text : Snapshot → List ℕ
 trail_text f =
@@ -155,20 +159,25 @@ unfoldable pub log_text : Option LogSnapshot → List ℕ
 log_text None = []
 log_text (Some j) = log_lines j
 
--- the sample of the memory of the process, if the system reports it
-unfoldable pub resident_text : Option ℕ → List ℕ
-resident_text None = []
-resident_text (Some bytes) =
-    single (codes "process_resident_memory_bytes") (codes "gauge") (codes "Resident memory size in bytes.") bytes
+-- the sample of a value of a clock or of the system, if it is reported
+unfoldable pub reported : List ℕ → List ℕ → List ℕ → Option ℕ → List ℕ
+reported name type help None = []
+reported name type help (Some value) = single name type help value
 
--- the samples of the process: whether it listens, the steps of its clock, and its memory
+-- since when the process runs, and its memory
+unfoldable pub system_text : Snapshot → List ℕ
+system_text f =
+    reported (codes "process_start_time_seconds") (codes "gauge") (codes "Start time of the process since 1970 in seconds.") f.started
+    ++ reported (codes "process_resident_memory_bytes") (codes "gauge") (codes "Resident memory size in bytes.") f.resident
+
+-- the samples of the process: whether it listens, the steps of its clock, since when it runs, and its memory
 unfoldable pub process_text : Snapshot → List ℕ
 process_text f =
     single (codes "nmvs_ready") (codes "gauge") (codes "Whether the server listens, 1 or 0.") (if f.ready then 1 else 0)
     ++ (single (codes "nmvs_clock_steps_total") (codes "counter") (codes "Steps of the system's clock by more than 2 seconds.") f.clock_steps
-    ++ resident_text f.resident)
+    ++ system_text f)
 
 -- all metrics
 abbrev pub page : Snapshot → List ℕ
 page f =
-    process_text f ++ (lines_text f ++ (connections_text f ++ (memory_text f ++ (trail_text f ++ log_text f.log))))
+    process_text f ++ (lines_text f ++ (connections_text f ++ (memory_text f ++ (users_text f ++ (trail_text f ++ log_text f.log)))))

@@ -52,12 +52,13 @@ fn append_page(alloc: Global, snapshot: &Snapshot, text: &mut String) -> Result<
     append_lines(alloc, snapshot, text)?;
     append_connections(alloc, snapshot, text)?;
     append_memory(alloc, snapshot, text)?;
+    append_users(alloc, snapshot, text)?;
     append_trail(alloc, snapshot, text)?;
     append_log(alloc, &snapshot.log, text)?;
     Ok(())
 }
 
-#[tactic(auto, unfolding(crate::specs::Page::process_text))]
+#[tactic(auto, using(crate::proofs::Texts::appended), unfolding(crate::specs::Page::process_text))]
 fn append_process(alloc: Global, snapshot: &Snapshot, text: &mut String) -> Result<(), AllocError>
     ensures { OnOk result (string_bytes text.new ≡ string_bytes text.old ++ specs.process_text snapshot.now) }
 {
@@ -73,23 +74,39 @@ fn append_process(alloc: Global, snapshot: &Snapshot, text: &mut String) -> Resu
     };
     append(single(alloc, ready, as_number(snapshot.ready)), text)?;
     append(single(alloc, steps, snapshot.clock_steps), text)?;
-    append(resident_text(alloc, snapshot.resident), text)?;
+    append_system(alloc, snapshot, text)?;
     Ok(())
 }
 
-#[tactic(auto, unfolding(crate::specs::Page::resident_text))]
-fn resident_text(alloc: Global, bytes: Option<u64>) -> Result<String, AllocError>
-    ensures { IfOk result (λ text. string_bytes text ≡ specs.resident_text bytes) }
+/// What a clock and the system report of the process.
+#[tactic(auto, using(crate::proofs::Texts::appended), unfolding(crate::specs::Page::system_text))]
+fn append_system(alloc: Global, snapshot: &Snapshot, text: &mut String) -> Result<(), AllocError>
+    ensures { OnOk result (string_bytes text.new ≡ string_bytes text.old ++ specs.system_text snapshot.now) }
 {
-    let Some(bytes) = bytes else {
-        return Ok(String::new(alloc));
+    let started = Family {
+        name: "process_start_time_seconds",
+        kind: "gauge",
+        help: "Start time of the process since 1970 in seconds.",
     };
     let resident = Family {
         name: "process_resident_memory_bytes",
         kind: "gauge",
         help: "Resident memory size in bytes.",
     };
-    single(alloc, resident, bytes)
+    append(reported(alloc, started, snapshot.started), text)?;
+    append(reported(alloc, resident, snapshot.resident), text)?;
+    Ok(())
+}
+
+/// A sample of one name without a label, where there is a value.
+#[tactic(auto, unfolding(crate::specs::Page::reported))]
+fn reported(alloc: Global, family: Family, value: Option<u64>) -> Result<String, AllocError>
+    ensures { IfOk result (λ text. string_bytes text ≡ specs.reported family.name.now family.kind.now family.help.now value) }
+{
+    match value {
+        Some(value) => single(alloc, family, value),
+        None => Ok(String::new(alloc)),
+    }
 }
 
 #[tactic(auto, using(crate::proofs::Texts::appended), unfolding(crate::specs::Page::lines_text))]
@@ -197,6 +214,19 @@ fn append_memory(alloc: Global, snapshot: &Snapshot, text: &mut String) -> Resul
     append(numbered(alloc, memory, "worker", &snapshot.memory), text)?;
     append(single(alloc, evicted, snapshot.evicted), text)?;
     Ok(())
+}
+
+/// Appends the number of users, by state.
+#[tactic(auto, unfolding(crate::specs::Page::users_text))]
+fn append_users(alloc: Global, snapshot: &Snapshot, text: &mut String) -> Result<(), AllocError>
+    ensures { OnOk result (string_bytes text.new ≡ string_bytes text.old ++ specs.users_text snapshot.now) }
+{
+    let users = Family {
+        name: "nmvs_users",
+        kind: "gauge",
+        help: "Users, by state.",
+    };
+    append(worded(alloc, users, "state", &snapshot.users), text)
 }
 
 #[tactic(auto, using(crate::proofs::Texts::appended), unfolding(crate::specs::Page::trail_text))]

@@ -21,6 +21,6 @@ pub use clock::{ClockReading, uptime};
 pub use exposition::encode;
 pub use kinds::Fault;
 pub use listener::{MetricsListener, serve_metrics};
-pub use registry::{Metrics, WorkerMetrics};
+pub use registry::{Metrics, UserState, WorkerMetrics};
 pub use service::{MetricsService, resident_in};
 pub use snapshot::{Answered, Bucket, Counted, Histogram, LogSnapshot, Numbered, Snapshot};

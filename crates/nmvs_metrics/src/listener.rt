@@ -116,6 +116,9 @@ impl MetricsListener {
         clients: &mut Vec<Client>,
     ) -> io::Result<()> {
         let mut clock = ClockReading::now(rt);
+        if let Some(start) = clock {
+            metrics.note_start(start.since_1970);
+        }
         for _ in 0..u64::MAX {
             self.poll.poll(events, Some(Duration::from_millis(TICK)))?;
             if metrics.has_ended() {

@@ -104,6 +104,13 @@ impl LogCounts {
     }
 }
 
+/// The state of a user, by which the metrics count.
+#[derive(Clone, Copy)]
+pub enum UserState {
+    Enrolled,
+    Suspended,
+}
+
 /// The counters of a running server, from its start on. All its threads share them, and none waits for another; a count
 /// beyond 64 bits begins again at 0.
 #[derive(Drop)]
@@ -115,6 +122,10 @@ pub struct Metrics {
     packs: Counters,
     shards: usize,
     sessions: AtomicU64,
+    enrolled: AtomicU64,
+    suspended: AtomicU64,
+    /// The start of the metrics, in seconds since 1970, or 0 if no clock gave it.
+    started: AtomicU64,
     clock_steps: AtomicU64,
     log: Option<LogCounts>,
 }
@@ -147,6 +158,9 @@ impl Metrics {
             packs,
             shards,
             sessions: AtomicU64::new(0),
+            enrolled: AtomicU64::new(0),
+            suspended: AtomicU64::new(0),
+            started: AtomicU64::new(0),
             clock_steps: AtomicU64::new(0),
             log,
         })
@@ -201,6 +215,34 @@ impl Metrics {
         for shard in 0..self.shards {
             worker.note_confirmed(shard, self.entries.at(shard));
         }
+    }
+
+    /// Notes how many users are enrolled, and how many suspended.
+    pub fn note_users(&self, enrolled: u64, suspended: u64) {
+        self.enrolled.store(enrolled, Ordering::SeqCst);
+        self.suspended.store(suspended, Ordering::SeqCst);
+    }
+
+    /// Notes the states of a user before and after a change. One that is unknown has none.
+    pub fn note_user(&self, before: Option<UserState>, after: Option<UserState>) {
+        if let Some(state) = before {
+            self.users_in(state).fetch_sub(1, Ordering::SeqCst);
+        }
+        if let Some(state) = after {
+            self.users_in(state).fetch_add(1, Ordering::SeqCst);
+        }
+    }
+
+    fn users_in(&self, state: UserState) -> &AtomicU64 {
+        match state {
+            UserState::Enrolled => &self.enrolled,
+            UserState::Suspended => &self.suspended,
+        }
+    }
+
+    /// Notes the start of the metrics: the time since 1970-01-01 00:00:00 UTC.
+    pub(crate) fn note_start(&self, since_1970: Duration) {
+        self.started.store(since_1970.as_secs(), Ordering::SeqCst);
     }
 
     /// Counts a step of the system's clock.
@@ -396,10 +438,12 @@ impl Metrics {
             sessions: self.sessions.load(Ordering::SeqCst),
             evicted: self.total(EVICTED),
             memory: Vec::new(alloc),
+            users: Vec::new(alloc),
             entries: Vec::new(alloc),
             packs: Vec::new(alloc),
             log,
             clock_steps: self.clock_steps.load(Ordering::SeqCst),
+            started: self.started(),
             resident,
         };
         self.push_all(&mut snapshot)?;
@@ -415,6 +459,7 @@ impl Metrics {
         self.push_open(&mut snapshot.open)?;
         self.push_workers(&mut snapshot.accepted, ACCEPTED)?;
         self.push_workers(&mut snapshot.memory, MEMORY)?;
+        self.push_users(&mut snapshot.users)?;
         self.push_shards(&mut snapshot.entries, &self.entries)?;
         self.push_shards(&mut snapshot.packs, &self.packs)
     }
@@ -510,6 +555,24 @@ impl Metrics {
             number = number.saturating_add(1);
         }
         Ok(())
+    }
+
+    fn push_users(&self, users: &mut Vec<Counted>) -> Result<(), AllocError> {
+        for (word, state) in [("enrolled", &self.enrolled), ("suspended", &self.suspended)] {
+            users.push(Counted {
+                word,
+                count: state.load(Ordering::SeqCst),
+            })?;
+        }
+        Ok(())
+    }
+
+    /// The start of the metrics, in seconds since 1970, if a clock gave it.
+    fn started(&self) -> Option<u64> {
+        match self.started.load(Ordering::SeqCst) {
+            0 => None,
+            seconds => Some(seconds),
+        }
     }
 
     /// Adds the count of each shard.

@@ -82,6 +82,8 @@ pub struct Snapshot {
     pub evicted: u64,
     /// How many bytes the buffers of each worker's connections take.
     pub memory: Vec<Numbered>,
+    /// The number of users, by state.
+    pub users: Vec<Counted>,
     /// How many entries the trail of each shard has.
     pub entries: Vec<Numbered>,
     /// How many packs each shard has.
@@ -90,6 +92,8 @@ pub struct Snapshot {
     pub log: Option<LogSnapshot>,
     /// How often the system's clock was set.
     pub clock_steps: u64,
+    /// The start of the metrics, in seconds since 1970-01-01 00:00:00 UTC, if a clock gave it.
+    pub started: Option<u64>,
     /// How many bytes of memory the process has, if the system reports it.
     pub resident: Option<u64>,
 }

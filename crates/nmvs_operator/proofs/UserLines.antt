@@ -1,8 +1,9 @@
--- The lines of users, one by one.
-use Rattle.std.proofs.Common.{◌≡◌, ℕ, suc, ◌+◌, ◌<◌, arith, List, [], ◌∷◌, ◌++◌, take, length, Some, None, inl, inr, ap, ◌∙◌}
-use Rattle.std.specs.List.{flat_map, slice_get}
+-- The lines of users, and how many there are, one by one.
+use Rattle.std.proofs.Common.{◌≡◌, ℕ, suc, ◌+◌, ◌<◌, arith, List, [], ◌∷◌, ◌++◌, take, length, Bool, cond, Some, None, inl, inr, ap, ◌∙◌}
+use Rattle.std.specs.List.{filter, flat_map, slice_get}
 use Rattle.std.proofs.lemmas.List.{append-nil}
 use Rattle.std.proofs.lemmas.List.Concat.{flat_map-append}
+use Rattle.std.proofs.lemmas.List.Filters.{length-filter_more}
 use Rattle.std.proofs.lemmas.Option.{slice_get_within, get_or_from_slice_get, slice_get_cases}
 use lib.Seq.{take-suc}
 
@@ -13,6 +14,13 @@ lines_more f xs i x is =
     let on : i + 1 ≡ suc i = omega arith in
     ap (λ n. flat_map f (take n xs)) on ∙ ap (flat_map f) (take-suc xs i x (slice_get_within xs i x e) ∙ ap (λ y. take i xs ++ y ∷ []) (get_or_from_slice_get xs i x x e))
     ∙ flat_map-append f (take i xs) (x ∷ []) ∙ ap (λ (y : List ℕ). flat_map f (take i xs) ++ y) (append-nil (f x))
+
+-- how many pass a test of one item more
+pub passing_more : {X : Type 0} (p : X → Bool) (xs : List X) (i : ℕ) (x : X) → Some x ≡ slice_get xs i → length (filter p (take (i + 1) xs)) ≡ length (filter p (take i xs)) + cond (p x) 1 0
+passing_more p xs i x is =
+    let e : slice_get xs i ≡ Some x = cc in
+    length-filter_more p xs i x (slice_get_within xs i x e)
+    ∙ ap (λ y. length (filter p (take i xs)) + cond (p y) 1 0) (get_or_from_slice_get xs i x x e)
 
 -- each place of a list has an item
 pub none_behind : {X : Type 0} (xs : List X) (i : ℕ) → None ≡ slice_get xs i → i < length xs → ⊥

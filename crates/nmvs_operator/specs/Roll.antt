@@ -1,5 +1,5 @@
--- The users and how they stand, as lines for the operator (own).
-use Rattle.std.specs.Prelude.{ℕ, List, [], ◌∷◌, codes, None, Some}
+-- The users and how they stand, as lines and as numbers for the operator (own).
+use Rattle.std.specs.Prelude.{ℕ, List, [], ◌∷◌, Bool, true, false, codes, None, Some}
 use Rattle.std.specs.List.{flat_map}
 use Rattle.nmvs_identifier.specs.Name.{Name}
 use Rattle.nmvs_rules.specs.declared.actor.Actor.{Actor}
@@ -26,3 +26,23 @@ user_line (name, Removed) = []
 -- the lines of users, in their order
 abbrev pub user_lines : List (Name × Standing) → List ℕ
 user_lines users = flat_map user_line users
+
+-- whether a user that stands so is enrolled
+abbrev pub stands_enrolled : Standing → Bool
+stands_enrolled (Enrolled actor) = true
+stands_enrolled (Suspended actor) = false
+stands_enrolled Removed = false
+
+-- whether a user that stands so is suspended
+abbrev pub stands_suspended : Standing → Bool
+stands_suspended (Enrolled actor) = false
+stands_suspended (Suspended actor) = true
+stands_suspended Removed = false
+
+-- whether a user is enrolled
+abbrev pub is_enrolled : Name × Standing → Bool
+is_enrolled (name, standing) = stands_enrolled standing
+
+-- whether a user is suspended
+abbrev pub is_suspended : Name × Standing → Bool
+is_suspended (name, standing) = stands_suspended standing

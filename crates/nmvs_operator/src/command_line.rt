@@ -46,7 +46,7 @@ static OPTIONS: [Described; 25] = [
         name: "users",
         value: Value::Text("FILE"),
         default: None,
-        help: "Users file: one command a line, ENROL user role authorisation premises or SUSPEND user",
+        help: "Users file: one command a line, ENROL user role authorisation premises, SUSPEND user or REMOVE user",
     },
     Described {
         name: "rehearsal",

@@ -1,5 +1,5 @@
 //! The operator's orders, carried out.
-ghost use Rattle.std.specs.Prelude.{◌≡◌, ◌≢◌, ◌⊎◌, ◌<◌, ◌++◌, ◌∷◌, [], ℕ, List, length, OnOk, OnErr, IfOk, IfErr, IfSome, IfNone, MatchBool, MatchResult, Ok, Err, codes, string_bytes};
+ghost use Rattle.std.specs.Prelude.{◌≡◌, ◌≢◌, ◌⊎◌, ◌<◌, ◌++◌, ◌∷◌, [], ℕ, List, length, OnOk, OnErr, IfOk, IfErr, IfSome, IfNone, MatchBool, MatchResult, Some, Ok, Err, codes, string_bytes};
 ghost use Rattle.std.specs.Result.{result_err};
 ghost use Rattle.nmvs_directory.specs.Changes.{pending_changes, KeepsEntered, IsFull};
 ghost use Rattle.nmvs_directory.specs.Registrar.{register_of, published, pending};
@@ -17,9 +17,10 @@ ghost use Rattle.nmvs_operator.specs.Progress.{AnsweredOrders, StoppedIn, Carrie
 
 use crate::figures::figures_text;
 use crate::reload::reload;
-use crate::roll::users_text;
+use crate::roll::{count_users, users_text};
 use crate::{Deed, Latest, ObeyFault, Order, Service, ServiceFault, Topic, read_order};
-use nmvs_directory::{Changes, Naming, Notice, Registrar};
+use nmvs_directory::{Changes, Look, Naming, Notice, Registrar};
+use nmvs_identifier::Name;
 use nmvs_messages::{Command, CommandFault, PendingLine};
 use nmvs_stream::{Console, Failed, Sides, Sink, Source, cut_line, deliver};
 use std::alloc::{AllocError, Allocator, Global};
@@ -212,8 +213,13 @@ fn carry_out<'r, J: Naming, R: Wait, A: Allocator, S: Service>(
 {
     perform(order, service).map_err(ObeyFault::Undone)?;
     if let Order::Change(command) = order {
+        let user = user_of(command);
+        let before = look_before(registrar, &user);
         match publish(*command, registrar) {
-            Ok(notice) => latest.show(notice),
+            Ok(notice) => {
+                latest.show(notice);
+                note_change(before, &user, registrar, service);
+            }
             Err(AllocError) => return Err(ObeyFault::Memory),
         }
     }
@@ -247,6 +253,38 @@ fn publish<J: Naming, R: Wait + Drop, A: Allocator>(
 {
     add(&mut registrar.changes, command)?;
     registrar.publish()
+}
+
+/// The user that a command names.
+fn user_of(command: &Command) -> Name {
+    match command {
+        Command::Enrol(user, _) | Command::Suspend(user) | Command::Remove(user) => *user,
+    }
+}
+
+/// The answer about a user before its change is published, unless other changes are pending.
+fn look_before<J: Naming, R: Wait + Drop, A: Allocator>(
+    registrar: &Registrar<J, R, A>,
+    user: &Name,
+) -> Option<Look> {
+    if registrar.changes.has_pending() {
+        None
+    } else {
+        Some(registrar.look(user))
+    }
+}
+
+/// Has the server count the published change of a user, or all users if the answer about it before is unknown.
+fn note_change<J: Naming, R: Wait + Drop, A: Allocator, S: Service>(
+    before: Option<Look>,
+    user: &Name,
+    registrar: &Registrar<J, R, A>,
+    service: &S,
+) {
+    match before {
+        Some(before) => service.note_user(before, registrar.look(user)),
+        None => service.note_users(count_users(registrar)),
+    }
 }
 
 /// Adds the change of a command to those that are pending.

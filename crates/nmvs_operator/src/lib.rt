@@ -32,6 +32,7 @@ pub use options::{
     OptionFault, Options, read_options,
 };
 pub use order::{Order, read_order};
+pub use roll::{UserCounts, count_users};
 pub use service::{Deed, Service, ServiceFault};
 pub use users::{load_users, read_all, users_trouble};
 pub use users_check::{UsersFault, changes_nothing, users_faults};

@@ -9,6 +9,7 @@ ghost use Rattle.nmvs_operator.specs.UsersFaults.{faults_from};
 ghost use Rattle.nmvs_operator.specs.Commands.{office, ways, Obeys, Refuses, Said, AnswersOrder, answer_text, is_stop, Tries};
 
 use crate::commands::{DONE, fault_text, tell};
+use crate::roll::count_users;
 use crate::users::add_all;
 use crate::users_check::faults_text;
 use crate::{Deed, Latest, ObeyFault, Service};
@@ -93,6 +94,7 @@ fn take_users<'r, J: Naming, R: Wait, A: Allocator, S: Service>(
     match publish_all(bytes, registrar) {
         Ok(notice) => {
             latest.show(notice);
+            service.note_users(count_users(registrar));
             Ok(())
         }
         Err(AllocError) => Err(ObeyFault::Memory),

@@ -1,8 +1,9 @@
-//! The users and how they stand, as lines for the operator.
-ghost use Rattle.std.specs.Prelude.{◌≡◌, IfOk, string_bytes};
+//! The users and how they stand, as lines and as numbers for the operator.
+ghost use Rattle.std.specs.Prelude.{◌≡◌, ◌≤◌, IfOk, cond, length, string_bytes};
+ghost use Rattle.std.specs.List.{filter};
 ghost use Rattle.nmvs_directory.specs.Registrar.{published};
 ghost use Rattle.nmvs_directory.specs.Users.{users_of};
-ghost use Rattle.nmvs_operator.specs.Roll.{enrolled, suspended, user_line as line_of_user, user_lines};
+ghost use Rattle.nmvs_operator.specs.Roll.{stands_enrolled, stands_suspended, is_enrolled, is_suspended, enrolled, suspended, user_line as line_of_user, user_lines};
 
 use nmvs_directory::{Naming, Registrar, Standing};
 use nmvs_identifier::Name;
@@ -10,6 +11,54 @@ use nmvs_rules::Actor;
 use nmvs_words::role_word;
 use std::alloc::{AllocError, Allocator, Global};
 use std::sync::Wait;
+
+/// How many users there are.
+#[derive(Clone, Copy)]
+pub struct UserCounts {
+    pub enrolled: u64,
+    pub suspended: u64,
+}
+
+/// Counts the published users by how they stand; one that was removed is none.
+pub fn count_users<J: Naming, R: Wait + Drop, A: Allocator>(
+    registrar: &Registrar<J, R, A>,
+) -> UserCounts
+    ensures enrolled { result.enrolled ≡ length (filter is_enrolled (users_of (published registrar.now))) }
+    ensures suspended { result.suspended ≡ length (filter is_suspended (users_of (published registrar.now))) }
+{
+    let (mut enrolled, mut suspended) = (0, 0);
+    for place in 0..registrar.user_count() {
+        match registrar.user(place) {
+            Some(user) => {
+                let one = count_one(&user.1);
+                enrolled += one.enrolled;
+                suspended += one.suspended;
+            }
+            None => {}
+        }
+    }
+    UserCounts {
+        enrolled,
+        suspended,
+    }
+}
+
+/// Counts one user that stands so.
+fn count_one(standing: &Standing) -> UserCounts
+    ensures enrolled { result.enrolled ≡ cond (stands_enrolled standing.now) 1 0 }
+    ensures suspended { result.suspended ≡ cond (stands_suspended standing.now) 1 0 }
+    ensures few { (result.enrolled ≤ 1) × (result.suspended ≤ 1) }
+{
+    let (enrolled, suspended) = match standing {
+        Standing::Enrolled(_) => (1, 0),
+        Standing::Suspended(_) => (0, 1),
+        Standing::Removed => (0, 0),
+    };
+    UserCounts {
+        enrolled,
+        suspended,
+    }
+}
 
 /// The lines of the published users, one for each that is not removed, in the order in which they were first named.
 ///

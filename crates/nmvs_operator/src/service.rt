@@ -6,7 +6,8 @@ ghost use Rattle.nmvs_operator.specs.declared.figures.Topic.{Topic as TheTopic};
 ghost use Rattle.nmvs_operator.specs.declared.service.Deed.{Deed as TheDeed};
 ghost use Rattle.nmvs_operator.specs.declared.service.ServiceFault.{ServiceFault as TheFault};
 
-use crate::{Figure, Topic};
+use crate::{Figure, Topic, UserCounts};
+use nmvs_directory::Look;
 use nmvs_messages::Command;
 use std::alloc::{AllocError, Global};
 use thiserror::Error;
@@ -55,6 +56,12 @@ pub trait Service {
 
     /// The bytes of the users file, as it is now.
     fn read_users(&self, alloc: Global) -> Result<Vec<u8>, ServiceFault>;
+
+    /// Notes the number of users, after many changes of them were published.
+    fn note_users(&self, counts: UserCounts);
+
+    /// Notes the answers about a user before and after its change was published.
+    fn note_user(&self, before: Look, after: Look);
 
     /// Counts the figures of a topic that an order asks about.
     ///

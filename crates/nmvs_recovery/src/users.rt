@@ -6,8 +6,8 @@ use crate::{FileFault, Host, Paths, Run};
 use log::{Log, error, info, warn};
 use nmvs_directory::{Naming, Notice, Registrar, Standing};
 use nmvs_operator::{
-    LoadFault, ServiceFault, UsersFault, changes_nothing, load_users, read_all, users_faults,
-    users_trouble,
+    LoadFault, ServiceFault, UserCounts, UsersFault, changes_nothing, count_users, load_users,
+    read_all, users_faults, users_trouble,
 };
 use nmvs_stream::Device;
 use std::alloc::{AllocError, Global};
@@ -101,20 +101,11 @@ pub(crate) fn tell_users<'r, J: Naming, H: Host>(
     run: &Run<'r, '_, H>,
     registrar: &Registrar<J, &'r H, &'r Global>,
 ) {
-    let (mut enrolled, mut suspended) = (0usize, 0usize);
-    for place in 0..registrar.user_count() {
-        match registrar.user(place) {
-            Some((_, Standing::Enrolled(_))) => enrolled = enrolled.saturating_add(1),
-            Some((_, Standing::Suspended(_))) => suspended = suspended.saturating_add(1),
-            Some((_, Standing::Removed)) | None => {}
-        }
-    }
-    tell_counts(run.rt, enrolled, suspended);
-}
-
-/// Logs these numbers of users.
-fn tell_counts<R: Log>(rt: &R, enrolled: usize, suspended: usize) {
-    info!(rt; enrolled, suspended; "users");
+    let UserCounts {
+        enrolled,
+        suspended,
+    } = count_users(registrar);
+    info!(run.rt; enrolled, suspended; "users");
 }
 
 /// The states of the published users, in the order in which they were first named.
@@ -144,13 +135,13 @@ fn tell_differing<'r, J: Naming, H: Host>(
                 differing = differing.saturating_add(1);
                 if differing <= MOST_DIFFERING {
                     let user = user.text();
-                    warn!(run.rt; user; "a kept command wins over the users file");
+                    warn!(run.rt; user; "a kept command wins over the users file until RELOAD");
                 }
             }
         }
     }
     if differing > MOST_DIFFERING {
-        warn!(run.rt; users = differing; "kept commands win over the users file");
+        warn!(run.rt; users = differing; "kept commands win over the users file until RELOAD");
     }
 }
 

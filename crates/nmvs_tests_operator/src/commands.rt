@@ -3,7 +3,9 @@ ghost use Rattle.nmvs_directory.specs.Directory.{directory_book};
 
 use nmvs_directory::{Directory, Look, Naming, Notice, Registrar};
 use nmvs_identifier::Name;
-use nmvs_operator::{Deed, Figure, Latest, Service, ServiceFault, Topic, obey_all};
+use nmvs_operator::{
+    Deed, Figure, Latest, Service, ServiceFault, Topic, UserCounts, count_users, obey_all,
+};
 use nmvs_stream::{Console, Device, deliver};
 use std::alloc::{AllocError, Global};
 use std::io;
@@ -62,6 +64,10 @@ impl Service for Narrow {
         let file = self.file.ok_or(ServiceFault::NoFile)?;
         Vec::from_slice(alloc, file).map_err(|_| ServiceFault::Memory)
     }
+
+    fn note_users(&self, _counts: UserCounts) {}
+
+    fn note_user(&self, _before: Look, _after: Look) {}
 
     fn count(&self, alloc: Global, topic: Topic) -> Result<Vec<Figure>, AllocError> {
         match topic {
@@ -230,7 +236,8 @@ fn files_come<J: Naming, R: Wait + Abort + Sync>(rt: &R, alloc: Global, director
     reloads(rt, alloc, &mut registrar, &latest, Some(WHOLE), b"DONE\n.");
     window.learn(&*latest.lock(rt));
     assert!(rt; matches!(window.look(&ph9), Look::Known(_)));
-    assert_eq!(rt; registrar.user_count(), 2);
+    let counts = count_users(&registrar);
+    assert_eq!(rt; (counts.enrolled, counts.suspended), (1, 1));
     registrar.close();
 }
 

@@ -21,6 +21,9 @@ nmvs_ready 1
 # HELP nmvs_clock_steps_total Steps of the system's clock by more than 2 seconds.
 # TYPE nmvs_clock_steps_total counter
 nmvs_clock_steps_total 2
+# HELP process_start_time_seconds Start time of the process since 1970 in seconds.
+# TYPE process_start_time_seconds gauge
+process_start_time_seconds 1767225600
 # HELP process_resident_memory_bytes Resident memory size in bytes.
 # TYPE process_resident_memory_bytes gauge
 process_resident_memory_bytes 8192
@@ -63,6 +66,10 @@ nmvs_connections_memory_bytes{worker="0"} 4096
 # HELP nmvs_connections_evicted_total Connections that were closed because the buffers of all took too much memory.
 # TYPE nmvs_connections_evicted_total counter
 nmvs_connections_evicted_total 8
+# HELP nmvs_users Users, by state.
+# TYPE nmvs_users gauge
+nmvs_users{state="enrolled"} 20000
+nmvs_users{state="suspended"} 3
 # HELP nmvs_entries Entries of the audit trail, by shard.
 # TYPE nmvs_entries gauge
 nmvs_entries{shard="0"} 5
@@ -138,10 +145,12 @@ fn snapshot(alloc: Global) -> Result<Snapshot, AllocError> {
         sessions: 9,
         evicted: 8,
         memory: vec![in alloc; numbered(0, 4_096)]?,
+        users: vec![in alloc; counted("enrolled", 20_000), counted("suspended", 3)]?,
         entries: vec![in alloc; numbered(0, 5)]?,
         packs: vec![in alloc; numbered(0, 3)]?,
         log: None,
         clock_steps: 2,
+        started: Some(1_767_225_600),
         resident: Some(8_192),
     })
 }
@@ -284,6 +293,7 @@ fn connections_and_syncs_are_counted(rt: HostRuntime) {
     let metrics = Metrics::new(rt.alloc(), 2, 1, true).expect(&rt, "memory");
     metrics.note_opening(0, 5, 5);
     metrics.note_session();
+    metrics.note_users(20_000, 3);
     for worker in [0, 1, 1] {
         metrics.worker(worker).note_accepted();
     }
@@ -304,6 +314,8 @@ fn connections_and_syncs_are_counted(rt: HostRuntime) {
         "nmvs_connections_evicted_total 1",
         "nmvs_connections_memory_bytes{worker=\"0\"} 0",
         "nmvs_connections_memory_bytes{worker=\"1\"} 4096",
+        "nmvs_users{state=\"enrolled\"} 20000",
+        "nmvs_users{state=\"suspended\"} 3",
         "nmvs_journal_confirmed_entries{shard=\"0\"} 4",
         "nmvs_journal_waiting_entries{shard=\"0\"} 1",
         "nmvs_journal_sync_seconds_bucket{le=\"0.0001\"} 1",

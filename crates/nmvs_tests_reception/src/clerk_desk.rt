@@ -4,12 +4,12 @@ ghost use Rattle.std.specs.Prelude.{◌∷◌};
 use crate::repository::{Visit, at_repository};
 use boxcar::tag::{Names, Tag};
 use log::Log;
-use nmvs_directory::{Naming, Notice, Registrar};
+use nmvs_directory::{Look, Naming, Notice, Registrar};
 use nmvs_history::Histories;
 use nmvs_identifier::Name;
 use nmvs_messages::{Desk, NameOf, Peer, SESSION_LIMITS};
 use nmvs_metrics::Metrics;
-use nmvs_operator::{Deed, Figure, Latest, Service, ServiceFault, Topic, obey_all};
+use nmvs_operator::{Deed, Figure, Latest, Service, ServiceFault, Topic, UserCounts, obey_all};
 use nmvs_protocol::serve;
 use nmvs_rate::{Rate, SharedLimiter};
 use nmvs_reception::{Alerts, ClerkDesk, Clock, Opened};
@@ -143,6 +143,10 @@ impl Service for Willing {
     fn read_users(&self, _alloc: Global) -> Result<Vec<u8>, ServiceFault> {
         Err(ServiceFault::NoFile)
     }
+
+    fn note_users(&self, _counts: UserCounts) {}
+
+    fn note_user(&self, _before: Look, _after: Look) {}
 
     fn count(&self, alloc: Global, _topic: Topic) -> Result<Vec<Figure>, AllocError> {
         Ok(Vec::new(alloc))

@@ -1,0 +1,184 @@
+-- The fields of a question of JSON are those of one line.
+use Rattle.std.proofs.Common.{◌≡◌, ◌≢◌, ◌+◌, ◌==◌, not, ℕ, zero, suc, Bool, true, false, List, [], ◌∷◌, ◌++◌, length, get_or, Option, Some, None, Result, Ok, Err, codes, cond, refl, sym, ap, ◌∙◌, subst, arith, append_assoc}
+use Rattle.std.specs.Prelude.{IsSomeAnd, option_and_then, option_map}
+use Rattle.std.specs.Char.{is_ascii_graphic}
+use Rattle.std.specs.List.{list_all, AllByRecursion}
+use Rattle.std.proofs.lemmas.Bool.{and_parts}
+use Rattle.std.proofs.lemmas.Bool.Decides.{nat_tests}
+use Rattle.std.proofs.lemmas.List.Elements.{All-from_recursion}
+use Rattle.std.proofs.lemmas.List.Splits.{slice_split_at, slice_split_none}
+use Rattle.std.proofs.lemmas.Option.{same_Some}
+use Rattle.json.specs.Find.{as_str, get}
+use Rattle.json.specs.Json.{Json}
+use Rattle.nmvs_identifier.proofs.PlainTexts.{is_plain, all_weaker, plain_name}
+use Rattle.nmvs_words.specs.Kinds.{kind_word}
+use Rattle.nmvs_words.specs.Words.{followed, spaced}
+use Rattle.nmvs_words.proofs.PlainWords.{word_plain}
+use Rattle.nmvs_stream.specs.InputLines.{HasNoLf, input_lines, lines_after}
+use Rattle.nmvs_stream.proofs.LinesOfPieces.{line_cut, no_lf_both}
+use Rattle.nmvs_messages.specs.Fields.{fields_in, is_space, line_of_fields}
+use Rattle.nmvs_protocol.specs.Tags.{tag_of}
+use Rattle.nmvs_protocol.proofs.TagLemmas.{behind_text, tag_back, unmarked}
+use Rattle.nmvs_json.specs.declared.asked_kind.AskedKind.{AskedKind}
+use Rattle.nmvs_json.specs.declared.asked_kind.AskedKind.TheVariants.{Question, Report}
+use Rattle.nmvs_json.specs.declared.question_fault.QuestionFault.{QuestionFault}
+use Rattle.nmvs_json.specs.declared.question_fault.QuestionFault.TheVariants as fault
+use Rattle.nmvs_json.specs.Questions.{as_field, as_user, count_of, fields_of, is_field, is_key, key_text, line_of, line_of_object, names_of, object_in, question_line, text_of, texts_of, user_of, word_of}
+use Rattle.nmvs_http.specs.OneLine.{IsAskedByOneLine, IsOneLine, fields_behind, key_tag}
+
+-- all characters are visible
+abbrev IsGraphic : List ℕ → Type 0
+IsGraphic t = list_all is_ascii_graphic t ≡ true
+
+graphic-not_space : (b : ℕ) → is_ascii_graphic b ≡ true → is_space b ≡ false
+graphic-not_space b e = grind (arith, nat_tests)
+
+graphic-not_lf : (b : ℕ) → is_ascii_graphic b ≡ true → (b == 10) ≡ false
+graphic-not_lf b e = grind (arith, nat_tests)
+
+no_space : (t : List ℕ) → IsGraphic t → AllByRecursion (λ b. is_space b ≡ false) t
+no_space [] e = tt
+no_space (b ∷ bs) e = let parts = and_parts (is_ascii_graphic b) (list_all is_ascii_graphic bs) e in (graphic-not_space b parts.0, no_space bs parts.1)
+
+plain-graphic : (t : List ℕ) → list_all is_plain t ≡ true → IsGraphic t
+plain-graphic t e = all_weaker is_plain is_ascii_graphic (λ b p. (and_parts (is_ascii_graphic b) (not (b == 92)) p).0) t e
+
+-- a line of such fields has these fields
+fields_back : (f : List ℕ) (fs : List (List ℕ)) → AllByRecursion IsGraphic (f ∷ fs) → fields_in (line_of_fields (f ∷ fs)) ≡ f ∷ fs
+fields_back f [] graphic = slice_split_none is_space f (All-from_recursion _ f (no_space f graphic.0))
+fields_back f (g ∷ fs) graphic =
+    slice_split_at is_space f 32 (line_of_fields (g ∷ fs)) (All-from_recursion _ f (no_space f graphic.0)) refl
+    ∙ ap (λ (rest : List (List ℕ)). f ∷ rest) (fields_back g fs graphic.1)
+
+-- words with spaces and LF are the line of these fields, and LF
+followed_line : (w : List ℕ) (ws : List (List ℕ)) → w ++ followed ws ≡ line_of_fields (w ∷ ws) ++ 10 ∷ []
+followed_line w [] = refl
+followed_line w (x ∷ ws) = ap (λ (t : List ℕ). w ++ 32 ∷ t) (followed_line x ws) ∙ sym (append_assoc w (32 ∷ line_of_fields (x ∷ ws)) (10 ∷ []))
+
+-- no LF is in it
+lf_is_none : (b : ℕ) → (b == 10) ≡ false → b ≢ 10
+lf_is_none b e is = let f : (10 == 10) ≡ false = subst (λ (n : ℕ). (n == 10) ≡ false) is e in absurd (cc f)
+
+no_lf_field : (t : List ℕ) → IsGraphic t → HasNoLf t
+no_lf_field [] e k within is = omega (arith, within)
+no_lf_field (b ∷ bs) e zero within is = lf_is_none b (graphic-not_lf b (and_parts (is_ascii_graphic b) (list_all is_ascii_graphic bs) e).0) is
+no_lf_field (b ∷ bs) e (suc k) within is = no_lf_field bs (and_parts (is_ascii_graphic b) (list_all is_ascii_graphic bs) e).1 k (omega (arith, within)) is
+
+no_lf_space : HasNoLf (32 ∷ [])
+no_lf_space zero within is = omega (arith, is)
+no_lf_space (suc k) within is = omega (arith, within)
+
+no_lf_line : (f : List ℕ) (fs : List (List ℕ)) → AllByRecursion IsGraphic (f ∷ fs) → HasNoLf (line_of_fields (f ∷ fs))
+no_lf_line f [] graphic = no_lf_field f graphic.0
+no_lf_line f (g ∷ fs) graphic =
+    no_lf_both f (32 ∷ line_of_fields (g ∷ fs)) (no_lf_field f graphic.0)
+    (no_lf_both (32 ∷ []) (line_of_fields (g ∷ fs)) no_lf_space (no_lf_line g fs graphic.1))
+
+no_lf_key : (key : Option (List ℕ)) → is_key key ≡ true → HasNoLf (key_text key)
+no_lf_key None e = λ k within is. omega (arith, within)
+no_lf_key (Some key) e = no_lf_both (35 ∷ key) (32 ∷ []) (no_lf_field (35 ∷ key) (plain-graphic key (plain_name key e).2)) no_lf_space
+
+-- a text and LF are one line
+one_line : (x : List ℕ) → HasNoLf x → input_lines (x ++ 10 ∷ []) ≡ x ∷ []
+unfolding lines_after
+one_line x none = line_cut [] x [] refl none
+
+-- the texts of members are such fields
+field_back : (o : Option (List ℕ)) (t : List ℕ) → as_field o ≡ Some t → IsGraphic t
+field_back None t e = absurd (cc e)
+field_back (Some s) t e = by (is_field s) refl e
+  where
+    by : (b : Bool) → is_field s ≡ b → cond b (Some s) None ≡ Some t → IsGraphic t
+    by false p e = absurd (cc e)
+    by true p e = subst IsGraphic (same_Some s t e) (and_parts (not (length s == 0)) (list_all is_ascii_graphic s) p).1
+
+texts_graphic : (names : List (List ℕ)) (j : Json) (ts : List (List ℕ)) → texts_of names j ≡ Some ts → AllByRecursion IsGraphic ts
+texts_graphic [] j ts e = subst (λ (us : List (List ℕ)). AllByRecursion IsGraphic us) (same_Some [] ts e) tt
+texts_graphic (n ∷ ns) j ts e = by (text_of n j) refl (texts_of ns j) (texts_graphic ns j) e
+  where
+    by : (o : Option (List ℕ)) → text_of n j ≡ o → (r : Option (List (List ℕ))) → ((us : List (List ℕ)) → r ≡ Some us → AllByRecursion IsGraphic us) → option_and_then (λ t. option_map (λ us. t ∷ us) r) o ≡ Some ts → AllByRecursion IsGraphic ts
+    by None p r q e = absurd (cc e)
+    by (Some t) p None q e = absurd (cc e)
+    by (Some t) p (Some us) q e =
+        subst (λ (us : List (List ℕ)). AllByRecursion IsGraphic us) (same_Some (t ∷ us) ts e) (field_back (option_and_then as_str (get n j)) t p, q us refl)
+
+-- the user does not begin with #
+user_back : (o : Option (List ℕ)) (u : List ℕ) → as_user o ≡ Some u → (o ≡ Some u) × (get_or u 0 0 ≢ 35)
+user_back None u e = absurd (cc e)
+user_back (Some []) u e = (e, λ is. let n : 0 ≡ 35 = subst (λ (t : List ℕ). get_or t 0 0 ≡ 35) (sym (same_Some [] u e)) is in absurd (omega (arith, n)))
+user_back (Some (c ∷ t)) u e = by (c == 35) refl e
+  where
+    by : (b : Bool) → (c == 35) ≡ b → cond b None (Some (c ∷ t)) ≡ Some u → (Some (c ∷ t) ≡ Some u) × (get_or u 0 0 ≢ 35)
+    by true p e = absurd (cc e)
+    by false p e = (e, λ is. let first : c ≡ 35 = subst (λ (t : List ℕ). get_or t 0 0 ≡ 35) (sym (same_Some (c ∷ t) u e)) is in let n : (35 == 35) ≡ false = subst (λ (n : ℕ). (n == 35) ≡ false) first p in absurd (cc n))
+
+word_graphic : (kind : AskedKind) → IsGraphic (word_of kind)
+word_graphic (Question kind) = plain-graphic (kind_word kind) (word_plain kind).2
+word_graphic Report = refl
+
+-- the fields of a question: a user that does not begin with #, the word, and texts
+record AreFields (kind : AskedKind) (fields : List (List ℕ)) : Type 0 where
+  user : List ℕ
+  texts : List (List ℕ)
+  are : user ∷ word_of kind ∷ texts ≡ fields
+  unmarked_user : get_or user 0 0 ≢ 35
+  graphic : AllByRecursion IsGraphic (user ∷ word_of kind ∷ texts)
+
+are_fields : (kind : AskedKind) (j : Json) (fields : List (List ℕ)) → fields_of kind j ≡ Some fields → AreFields kind fields
+are_fields kind j fields e = by (count_of j == 1 + length (names_of kind)) (user_of j) refl (texts_of (names_of kind) j) refl e
+  where
+    by : (b : Bool) (o : Option (List ℕ)) → user_of j ≡ o → (r : Option (List (List ℕ))) → texts_of (names_of kind) j ≡ r
+        → cond b (option_and_then (λ user. option_map (λ texts. user ∷ word_of kind ∷ texts) r) o) None ≡ Some fields → AreFields kind fields
+    by false o p r q e = absurd (cc e)
+    by true None p r q e = absurd (cc e)
+    by true (Some user) p None q e = absurd (cc e)
+    by true (Some user) p (Some texts) q e =
+        let is = user_back (text_of (codes "user") j) user p in record {
+          user = user;
+          texts = texts;
+          are = same_Some (user ∷ word_of kind ∷ texts) fields e;
+          unmarked_user = is.1;
+          graphic = (field_back (option_and_then as_str (get (codes "user") j)) user is.0, (word_graphic kind, texts_graphic (names_of kind) j texts q));
+        }
+
+-- in front of them stands the tag that the key is
+first_byte : (user rest : List ℕ) → get_or user 0 0 ≢ 35 → get_or (user ++ 32 ∷ rest) 0 0 ≢ 35
+first_byte [] rest other is = omega (arith, is)
+first_byte (c ∷ cs) rest other is = other is
+
+tagged : (key : Option (List ℕ)) (user rest : List ℕ) → is_key key ≡ true → get_or user 0 0 ≢ 35 → tag_of (key_text key ++ (user ++ 32 ∷ rest)) ≡ key_tag key
+tagged None user rest e other = unmarked (user ++ 32 ∷ rest) (first_byte user rest other)
+tagged (Some key) user rest e other = tag_back (record { bytes = key }) (user ++ 32 ∷ rest) e
+
+behind : (key : Option (List ℕ)) (line : List ℕ) (fields : List (List ℕ)) → fields_in line ≡ fields → fields_behind (key_tag key) (key_text key ++ line) ≡ fields
+behind None line fields e = e
+behind (Some key) line fields e = ap fields_in (behind_text (record { bytes = key }) line) ∙ e
+
+is_one_line : (kind : AskedKind) (key : Option (List ℕ)) (fields : List (List ℕ)) (bytes : List ℕ) → is_key key ≡ true → AreFields kind fields → key_text key ++ spaced fields ≡ bytes → IsOneLine bytes (key_tag key) fields
+is_one_line kind key fields bytes e a is =
+    let own = line_of_fields (a.user ∷ word_of kind ∷ a.texts) in
+    let whole : bytes ≡ (key_text key ++ own) ++ 10 ∷ [] =
+    sym is ∙ ap (λ (fs : List (List ℕ)). key_text key ++ spaced fs) (sym a.are) ∙ ap (λ (t : List ℕ). key_text key ++ t) (followed_line a.user (word_of kind ∷ a.texts)) ∙ sym (append_assoc (key_text key) own (10 ∷ [])) in record {
+      line = key_text key ++ own;
+      one = ap input_lines whole ∙ one_line (key_text key ++ own) (no_lf_both (key_text key) own (no_lf_key key e) (no_lf_line a.user (word_of kind ∷ a.texts) a.graphic));
+      tagged = tagged key a.user (line_of_fields (word_of kind ∷ a.texts)) e a.unmarked_user;
+      behind = behind key own fields (fields_back a.user (word_of kind ∷ a.texts) a.graphic ∙ a.are);
+    }
+
+abbrev line_or_none : Result (List ℕ) QuestionFault → List ℕ
+line_or_none (Ok line) = line
+line_or_none (Err f) = []
+
+pub asked_by_one_line : IsAskedByOneLine
+unfolding question_line
+asked_by_one_line kind key body bytes e = by (is_key key) refl (object_in body) e
+  where
+    on : (j : Json) (r : Option (List (List ℕ))) → fields_of kind j ≡ r → is_key key ≡ true → line_of key r ≡ Ok bytes → IsSomeAnd r (λ fields. IsOneLine bytes (key_tag key) fields)
+    on j None p k e = absurd (cc e)
+    on j (Some fields) p k e = is_one_line kind key fields bytes k (are_fields kind j fields p) (ap line_or_none e)
+
+    by : (b : Bool) → is_key key ≡ b → (o : Option Json) → cond b (line_of_object kind key o) (Err fault.Key) ≡ Ok bytes
+        → IsSomeAnd o (λ object. IsSomeAnd (fields_of kind object) (λ fields. IsOneLine bytes (key_tag key) fields))
+    by false k o e = absurd (cc e)
+    by true k None e = absurd (cc e)
+    by true k (Some j) e = on j (fields_of kind j) refl k e

@@ -1,0 +1,116 @@
+//! What requests ask, and the bytes of lines that they carry.
+ghost use Rattle.std.specs.Prelude.{◌≡◌, [], Some, IfOk, codes, string_bytes};
+ghost use Rattle.http.specs.Request.{body_of};
+ghost use Rattle.nmvs_http.specs.Requests as specs;
+
+use crate::asked::{Asks, JSON_TYPE, LINES_TYPE, asks_by_health, fault_of_post, field};
+use crate::fault::Fault;
+use crate::request_lines::whole_lines;
+use bytes::Bytes;
+use http::Request;
+use nmvs_json::{AskedKind, QuestionFault, question_line};
+use std::alloc::{AllocError, Global};
+
+/// What a request asks, and the bytes of lines that it carries.
+#[derive(Drop)]
+pub(crate) struct Reading {
+    pub(crate) asks: Asks,
+    pub(crate) lines: Bytes,
+}
+
+/// What a request asks, and the bytes of lines that it carries. It fails only out of memory.
+#[tactic(auto, unfolding(crate::specs::Requests::reading_of))]
+pub(crate) fn read_request(alloc: Global, request: &Request<Bytes>) -> Result<Reading, AllocError>
+    ensures { IfOk result (λ reading. reading ≡ specs.reading_of request.now) }
+{
+    match request.uri().path() {
+        "/v1/lines" => read_lines(alloc, request),
+        "/healthz" => Ok(without_lines(asks_by_health(request.method().as_str()))),
+        path => read_at(alloc, AskedKind::at(path), request),
+    }
+}
+
+/// A request that carries no lines.
+fn without_lines(asks: Asks) -> Reading
+    ensures { result ≡ record { asks = asks; lines = [] } }
+{
+    Reading {
+        asks,
+        lines: Bytes::new(),
+    }
+}
+
+/// Reads a request at the path of lines.
+fn read_lines(alloc: Global, request: &Request<Bytes>) -> Result<Reading, AllocError>
+    ensures { IfOk result (λ reading. reading ≡ specs.reading_of_lines (specs.fault_of_post (codes "application/vnd.nmvs.lines") request.now) (body_of request.now)) }
+{
+    match fault_of_post(LINES_TYPE, request) {
+        Some(fault) => Ok(without_lines(Asks::Refused(fault))),
+        None => {
+            let lines = whole_lines(alloc, request.body())?;
+            Ok(Reading {
+                asks: Asks::Lines,
+                lines,
+            })
+        }
+    }
+}
+
+/// Reads a request at the path of this question, or at none.
+fn read_at(
+    alloc: Global,
+    kind: Option<AskedKind>,
+    request: &Request<Bytes>,
+) -> Result<Reading, AllocError>
+    ensures { IfOk result (λ reading. reading ≡ specs.reading_at kind request.now) }
+{
+    match kind {
+        Some(kind) => read_question(alloc, kind, request),
+        None => Ok(without_lines(Asks::Refused(Fault::Path))),
+    }
+}
+
+/// Reads a request at the path of this question.
+fn read_question(
+    alloc: Global,
+    kind: AskedKind,
+    request: &Request<Bytes>,
+) -> Result<Reading, AllocError>
+    ensures { IfOk result (λ reading. reading ≡ specs.reading_at (Some kind) request.now) }
+{
+    match fault_of_post(JSON_TYPE, request) {
+        Some(fault) => Ok(without_lines(Asks::Refused(fault))),
+        None => read_body(alloc, kind, request),
+    }
+}
+
+/// Reads the key and the body of a request that asks this question.
+fn read_body(
+    alloc: Global,
+    kind: AskedKind,
+    request: &Request<Bytes>,
+) -> Result<Reading, AllocError>
+    ensures { IfOk result (λ reading. reading ≡ specs.reading_of_line (specs.line_of kind request.now)) }
+{
+    let key = field(request, "idempotency-key");
+    match question_line(alloc, kind, key, request.body().as_slice()) {
+        Ok(line) => Ok(Reading {
+            asks: Asks::Question,
+            lines: bytes_of(line)?,
+        }),
+        Err(QuestionFault::Key) => Ok(without_lines(Asks::Refused(Fault::Key))),
+        Err(QuestionFault::Json) => Ok(without_lines(Asks::Refused(Fault::Json))),
+        Err(QuestionFault::Fields) => Ok(without_lines(Asks::Refused(Fault::Fields))),
+        Err(QuestionFault::Memory) => Err(AllocError),
+    }
+}
+
+/// The bytes of a text.
+fn bytes_of(text: String) -> Result<Bytes, AllocError>
+    ensures { IfOk result (λ bytes. bytes ≡ string_bytes text) }
+{
+    match Bytes::from_vec(text.into_bytes()) {
+        Ok(bytes) => Ok(bytes),
+        Err(_) => Err(AllocError),
+    }
+}

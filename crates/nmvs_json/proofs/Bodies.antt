@@ -1,0 +1,66 @@
+-- What a body and a key are, and how a line grows.
+use Rattle.std.proofs.Common.{◌≡◌, ◌<◌, ◌++◌, ◌∷◌, [], ℕ, Bool, true, false, List, length, codes, Option, Some, None, Bor, Vec, cond, refl, sym, ap, ◌∙◌, append_assoc, arith}
+use Rattle.std.specs.Prelude.{option_and_then, option_map}
+use Rattle.std.specs.List.{list_all, AllByRecursion}
+use Rattle.std.specs.Str.{IsUtf8, is_utf8}
+use Rattle.std.proofs.lemmas.Bool.{and_parts}
+use Rattle.std.proofs.lemmas.Bool.Decides.{nat_tests}
+use Rattle.std.proofs.lemmas.List.Elements.{All-from_recursion}
+use Rattle.std.proofs.lemmas.Str.{IsUtf8-from_ascii, IsUtf8-from_is_utf8, is_utf8-from_IsUtf8}
+use Rattle.std.proofs.lemmas.Str.Ascii.{IsAscii-from_all}
+use Rattle.json.proofs.Trees.{view-Object}
+use Rattle.json.specs.Json.{Json}
+use Rattle.json.specs.Strict.{keys}
+use Rattle.json.specs.Value.{value_view, members_view}
+use Rattle.json.specs.declared.value.Value.{Value, Object}
+use Rattle.nmvs_identifier.specs.Tag.{is_tag}
+use Rattle.nmvs_identifier.proofs.PlainTexts.{is_plain, plain_name}
+use Rattle.nmvs_words.specs.Words.{followed}
+use Rattle.nmvs_json.specs.Questions.{as_object, count_of, object_in, value_in}
+
+plain-small : (b : ℕ) → is_plain b ≡ true → b < 128
+plain-small b e = grind (arith, nat_tests)
+
+all_small : (x : List ℕ) → list_all is_plain x ≡ true → AllByRecursion (λ b. b < 128) x
+all_small [] e = tt
+all_small (b ∷ bs) e =
+    let parts = and_parts (is_plain b) (list_all is_plain bs) e in
+    (plain-small b parts.0, all_small bs parts.1)
+
+-- what is no text is no tag
+pub no_tag : (key : List ℕ) → (IsUtf8 key → ⊥) → is_tag key ≡ false
+no_tag key other = by (is_tag key) refl
+  where
+    by : (b : Bool) → is_tag key ≡ b → b ≡ false
+    by false e = refl
+    by true e = absurd (other (IsUtf8-from_ascii key (IsAscii-from_all key (All-from_recursion _ key (all_small key (plain_name key e).2)))))
+
+-- what is no text is no object
+pub no_object : (body : List ℕ) → (IsUtf8 body → ⊥) → object_in body ≡ None
+no_object body other = by (is_utf8 body) refl
+  where
+    by : (b : Bool) → is_utf8 body ≡ b → cond b (option_and_then as_object (value_in body)) None ≡ None
+    by false e = refl
+    by true e = absurd (other (IsUtf8-from_is_utf8 body e))
+
+-- a text is the object that its value is
+pub object_of : (body : List ℕ) (o : Option Json) → IsUtf8 body → value_in body ≡ o → object_in body ≡ option_and_then as_object o
+object_of body o text is = (λ i. cond (is_utf8-from_IsUtf8 body text i) (option_and_then as_object (is i)) None)
+
+members_counted : {A : Type 0} (ms : List (Bor (List ℕ) × Value A)) → length (keys (members_view ms)) ≡ length ms
+members_counted [] = refl
+members_counted (m ∷ ms) = let rest = members_counted ms in omega (arith, rest)
+
+-- how many members an object has
+pub object_count : {A : Type 0} (v : Vec (Bor (List ℕ) × Value A) A) → count_of (value_view (Object v)) ≡ length v.items
+object_count v = ap count_of (view-Object v) ∙ members_counted v.items
+
+-- an object is one
+pub object_same : {A : Type 0} (v : Vec (Bor (List ℕ) × Value A) A) → as_object (value_view (Object v)) ≡ Some (value_view (Object v))
+object_same v = ap as_object (view-Object v) ∙ ap Some (sym (view-Object v))
+
+-- a line with one text more
+pub line_more : (line text : List ℕ) (o : Option (List (List ℕ)))
+    → option_map (λ ts. ((line ++ codes " ") ++ text) ++ followed ts) o ≡ option_map (λ ts. line ++ followed ts) (option_map (λ ts. text ∷ ts) o)
+line_more line text None = refl
+line_more line text (Some ts) = ap Some (append_assoc (line ++ codes " ") text (followed ts) ∙ append_assoc line (codes " ") (text ++ followed ts))

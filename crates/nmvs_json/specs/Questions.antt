@@ -1,0 +1,154 @@
+-- The line that a question of JSON means (own).
+use Rattle.std.specs.Prelude.{ℕ, ◌+◌, Bool, true, not, ◌&&◌, ◌==◌, if◌then◌else◌, List, [], ◌∷◌, ◌++◌, length, map, find, codes, Option, Some, None, option_map, option_and_then, Result, Ok, Err}
+use Rattle.std.specs.Char.{is_ascii_graphic}
+use Rattle.std.specs.List.{list_all}
+use Rattle.std.specs.Str.{bytes_eq, is_utf8}
+use Rattle.json.specs.Find.{as_str, get}
+use Rattle.json.specs.Json as json
+use Rattle.json.specs.Json.{Json, Items, Members, document}
+use Rattle.json.specs.Strict.{keys}
+use Rattle.nmvs_identifier.specs.Tag.{is_tag}
+use Rattle.nmvs_rules.specs.declared.reason.Reason.TheVariants as reason
+use Rattle.nmvs_words.specs.declared.pack_question.PackQuestion.TheVariants.{Verify, Status, Decommission, Handover, Revert, Theft, Audit}
+use Rattle.nmvs_words.specs.declared.batch_question.BatchQuestion.TheVariants.{Recall, Withdraw}
+use Rattle.nmvs_words.specs.declared.question_kind.QuestionKind.TheVariants.{Upload, OfPack, OfBatch}
+use Rattle.nmvs_words.specs.Kinds.{kind_word, kinds}
+use Rattle.nmvs_words.specs.Words.{spaced}
+use Rattle.nmvs_json.specs.declared.asked_kind.AskedKind.{AskedKind}
+use Rattle.nmvs_json.specs.declared.asked_kind.AskedKind.TheVariants.{Question, Report}
+use Rattle.nmvs_json.specs.declared.question_fault.QuestionFault.{QuestionFault}
+use Rattle.nmvs_json.specs.declared.question_fault.QuestionFault.TheVariants as fault
+
+-- the path of what is asked
+abbrev pub path_of : AskedKind → List ℕ
+path_of (Question Upload) = codes "/v1/upload"
+path_of (Question (OfPack Verify)) = codes "/v1/verify"
+path_of (Question (OfPack Status)) = codes "/v1/status"
+path_of (Question (OfPack (Decommission reason.Supply))) = codes "/v1/supply"
+path_of (Question (OfPack (Decommission reason.Hold))) = codes "/v1/hold"
+path_of (Question (OfPack (Decommission reason.Export))) = codes "/v1/export"
+path_of (Question (OfPack (Decommission reason.Sample))) = codes "/v1/sample"
+path_of (Question (OfPack (Decommission reason.Destroy))) = codes "/v1/destroy"
+path_of (Question (OfPack Handover)) = codes "/v1/handover"
+path_of (Question (OfPack Revert)) = codes "/v1/revert"
+path_of (Question (OfPack Theft)) = codes "/v1/theft"
+path_of (Question (OfPack Audit)) = codes "/v1/audit"
+path_of (Question (OfBatch Recall)) = codes "/v1/recall"
+path_of (Question (OfBatch Withdraw)) = codes "/v1/withdraw"
+path_of Report = codes "/v1/report"
+
+-- what is asked at a path
+abbrev pub asked_at : List ℕ → Option AskedKind
+asked_at path = find (λ k. bytes_eq path (path_of k)) (Report ∷ map Question kinds)
+
+-- the word of its line
+abbrev pub word_of : AskedKind → List ℕ
+word_of (Question kind) = kind_word kind
+word_of Report = codes "REPORT"
+
+-- the members behind the user, in the order of the line
+abbrev pub names_of : AskedKind → List (List ℕ)
+names_of (Question Upload) = codes "code" ∷ codes "serial" ∷ codes "batch" ∷ codes "expiry" ∷ []
+names_of (Question (OfPack _)) = codes "code" ∷ codes "serial" ∷ []
+names_of (Question (OfBatch _)) = codes "code" ∷ codes "batch" ∷ []
+names_of Report = codes "code" ∷ []
+
+-- whether no two of these are equal
+abbrev pub are_distinct : List (List ℕ) → Bool
+are_distinct [] = true
+are_distinct (k ∷ ks) = list_all (λ other. not (bytes_eq k other)) ks && are_distinct ks
+
+-- whether no object in a value has a member twice
+abbrev mutual
+  pub has_unique_keys : Json → Bool
+  has_unique_keys json.null = true
+  has_unique_keys (json.boolean b) = true
+  has_unique_keys (json.number s) = true
+  has_unique_keys (json.string s) = true
+  has_unique_keys (json.array js) = items_have_unique_keys js
+  has_unique_keys (json.object ms) = are_distinct (keys ms) && members_have_unique_keys ms
+
+  pub items_have_unique_keys : Items → Bool
+  items_have_unique_keys json.no_items = true
+  items_have_unique_keys (json.item j js) = has_unique_keys j && items_have_unique_keys js
+
+  pub members_have_unique_keys : Members → Bool
+  members_have_unique_keys json.no_members = true
+  members_have_unique_keys (json.member k j ms) = has_unique_keys j && members_have_unique_keys ms
+
+-- the value of a text (RFC 8259), where no object in it has a member twice
+abbrev pub value_in : List ℕ → Option Json
+value_in text = option_and_then (λ j. if has_unique_keys j then Some j else None) (document text)
+
+-- a value that is an object
+abbrev pub as_object : Json → Option Json
+as_object (json.object ms) = Some (json.object ms)
+as_object _ = None
+
+-- the object that a body is, in UTF-8
+abbrev pub object_in : List ℕ → Option Json
+object_in body = if is_utf8 body then option_and_then as_object (value_in body) else None
+
+-- how many members an object has
+abbrev pub count_of : Json → ℕ
+count_of (json.object ms) = length (keys ms)
+count_of _ = 0
+
+-- whether a text can be a field of a line: one or more visible ASCII characters, ! to ~
+abbrev pub is_field : List ℕ → Bool
+is_field t = not (length t == 0) && list_all is_ascii_graphic t
+
+-- a text that can be a field
+abbrev pub as_field : Option (List ℕ) → Option (List ℕ)
+as_field None = None
+as_field (Some t) = if is_field t then Some t else None
+
+-- a text that does not begin with #: in front of a line it would be a tag
+abbrev pub as_user : Option (List ℕ) → Option (List ℕ)
+as_user None = None
+as_user (Some []) = Some []
+as_user (Some (c ∷ t)) = if c == 35 then None else Some (c ∷ t)
+
+-- the text of the member of a name
+abbrev pub text_of : List ℕ → Json → Option (List ℕ)
+text_of name j = as_field (option_and_then as_str (get name j))
+
+-- the text of the user
+abbrev pub user_of : Json → Option (List ℕ)
+user_of j = as_user (text_of (codes "user") j)
+
+-- the texts of the members of these names, if each can be a field
+abbrev pub texts_of : List (List ℕ) → Json → Option (List (List ℕ))
+texts_of [] j = Some []
+texts_of (name ∷ names) j = option_and_then (λ t. option_map (λ ts. t ∷ ts) (texts_of names j)) (text_of name j)
+
+-- the fields of the line that an object means, whose members are those of what is asked and no others
+abbrev pub fields_of : AskedKind → Json → Option (List (List ℕ))
+fields_of kind j =
+    if count_of j == 1 + length (names_of kind)
+    then option_and_then (λ user. option_map (λ texts. user ∷ word_of kind ∷ texts) (texts_of (names_of kind) j)) (user_of j)
+    else None
+
+-- whether a key is a tag; there may be none
+abbrev pub is_key : Option (List ℕ) → Bool
+is_key None = true
+is_key (Some key) = is_tag key
+
+-- what stands in front of the line of a question with a key
+abbrev pub key_text : Option (List ℕ) → List ℕ
+key_text None = []
+key_text (Some key) = 35 ∷ key ++ 32 ∷ []
+
+-- the line of a question with this key and these fields, or its fault
+abbrev pub line_of : Option (List ℕ) → Option (List (List ℕ)) → Result (List ℕ) QuestionFault
+line_of key None = Err fault.Fields
+line_of key (Some fields) = Ok (key_text key ++ spaced fields)
+
+-- the line of a question with this key and this object as its body, or its fault
+abbrev pub line_of_object : AskedKind → Option (List ℕ) → Option Json → Result (List ℕ) QuestionFault
+line_of_object kind key None = Err fault.Json
+line_of_object kind key (Some j) = line_of key (fields_of kind j)
+
+-- the line, with its LF, of a question with this key and this body, or its first fault
+unfoldable pub question_line : AskedKind → Option (List ℕ) → List ℕ → Result (List ℕ) QuestionFault
+question_line kind key body = if is_key key then line_of_object kind key (object_in body) else Err fault.Key

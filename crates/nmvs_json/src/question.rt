@@ -1,0 +1,174 @@
+//! The line that a question of JSON means.
+ghost use Rattle.std.specs.Prelude.{◌≡◌, ◌≢◌, ◌++◌, true, false, Ok, Err, Some, None, IfOk, IfErr, OnOk, IfSome, IfNone, map, option_map, string_bytes};
+ghost use Rattle.std.specs.Char.{is_ascii_graphic};
+ghost use Rattle.std.specs.List.{list_all};
+ghost use Rattle.std.specs.Option.{option_copied};
+ghost use Rattle.json.specs.Value.{value_view};
+ghost use Rattle.nmvs_identifier.specs.Tag.{is_tag};
+ghost use Rattle.nmvs_words.specs.Words.{followed, spaced};
+ghost use Rattle.nmvs_json.specs.Questions as specs;
+
+use crate::{AskedKind, QuestionFault};
+use json::{Error, Scratch, Value};
+use nmvs_identifier::Tag;
+use std::alloc::Global;
+
+/// The line, with its LF, that a question means: what is asked by its path, its key if it has one, and its body of JSON.
+///
+/// # Errors
+///
+/// The first fault that holds, or out of memory.
+#[tactic(auto, unfolding(crate::specs::Questions::question_line))]
+pub fn question_line(
+    alloc: Global,
+    kind: AskedKind,
+    key: Option<&[u8]>,
+    body: &[u8],
+) -> Result<String, QuestionFault>
+    ensures line { IfOk result (λ line. specs.question_line kind (option_copied key.entry) body.now ≡ Ok (string_bytes line)) }
+    ensures fault { IfErr result (λ fault. fault ≢ QuestionFault.Memory → specs.question_line kind (option_copied key.entry) body.now ≡ Err fault) }
+{
+    let mut line = key_text(alloc, key)?;
+    let mut scratch = Scratch::new(alloc);
+    let object = object_in(alloc, body, &mut scratch)?;
+    push_fields(&mut line, kind, &object)?;
+    Ok(line)
+}
+
+/// What stands in front of a line with this key.
+fn key_text(alloc: Global, key: Option<&[u8]>) -> Result<String, QuestionFault>
+    ensures text { IfOk result (λ text. string_bytes text ≡ specs.key_text (option_copied key.entry)) }
+    ensures key { IfOk result (λ text. specs.is_key (option_copied key.entry) ≡ true) }
+    ensures fault { IfErr result (λ fault. fault ≢ QuestionFault.Memory → (fault ≡ QuestionFault.Key) × (specs.is_key (option_copied key.entry) ≡ false)) }
+{
+    let Some(key) = key else {
+        return Ok(String::new(alloc));
+    };
+    let tag = tag_of(key).ok_or(QuestionFault::Key)?;
+    Ok(format!(in alloc; "#{} ", tag.text())?)
+}
+
+/// The tag that a key is.
+fn tag_of(key: &[u8]) -> Option<Tag>
+    ensures some { IfSome result (λ tag. (tag.bytes ≡ key.now) × (is_tag key.now ≡ true)) }
+    ensures none { IfNone result (is_tag key.now ≡ false) }
+{
+    match str::from_utf8(key) {
+        Ok(key) => Tag::read(key).ok(),
+        Err(_) => None,
+    }
+}
+
+/// The object that a body is.
+fn object_in<'t>(
+    alloc: Global,
+    body: &'t [u8],
+    scratch: &'t mut Scratch,
+) -> Result<Value<'t>, QuestionFault>
+    ensures object { IfOk result (λ v. specs.object_in body.now ≡ Some (value_view v)) }
+    ensures fault { IfErr result (λ fault. fault ≢ QuestionFault.Memory → (fault ≡ QuestionFault.Json) × (specs.object_in body.now ≡ None)) }
+{
+    let Ok(text) = str::from_utf8(body) else {
+        return Err(QuestionFault::Json);
+    };
+    let value = value_in(alloc, text, scratch)?;
+    match value {
+        Value::Object(_) => Ok(value),
+        _ => Err(QuestionFault::Json),
+    }
+}
+
+/// The JSON value that a text is, in which no object has a member twice.
+fn value_in<'t>(
+    alloc: Global,
+    text: &'t str,
+    scratch: &'t mut Scratch,
+) -> Result<Value<'t>, QuestionFault>
+    ensures value { IfOk result (λ v. specs.value_in text.now ≡ Some (value_view v)) }
+    ensures fault { IfErr result (λ fault. fault ≢ QuestionFault.Memory → (fault ≡ QuestionFault.Json) × (specs.value_in text.now ≡ None)) }
+{
+    match Value::parse_strict(alloc, text, scratch) {
+        Ok(value) => Ok(value),
+        Err(Error::Invalid) => Err(QuestionFault::Json),
+        Err(Error::DuplicateKey) => Err(QuestionFault::Json),
+        Err(Error::OutOfMemory | Error::TooLong) => Err(QuestionFault::Memory),
+    }
+}
+
+/// Appends the fields of the line that an object means, and LF.
+fn push_fields(line: &mut String, kind: AskedKind, object: &Value<'_>) -> Result<(), QuestionFault>
+    ensures fields { OnOk result (option_map (λ fields. string_bytes line.old ++ spaced fields) (specs.fields_of kind (value_view object.now)) ≡ Some (string_bytes line.new)) }
+    ensures fault { IfErr result (λ fault. fault ≢ QuestionFault.Memory → (fault ≡ QuestionFault.Fields) × (specs.fields_of kind (value_view object.now) ≡ None)) }
+{
+    let names = kind.names();
+    if count_of(object) != 1 + names.len() {
+        return Err(QuestionFault::Fields);
+    }
+    let user = user_of(object).ok_or(QuestionFault::Fields)?;
+    line.push_str(user)?;
+    line.push_str(" ")?;
+    line.push_str(kind.word())?;
+    push_texts(line, names, object)
+}
+
+/// Appends the texts of the members of these names, with a space before each, and LF.
+fn push_texts(line: &mut String, names: &[&str], object: &Value<'_>) -> Result<(), QuestionFault>
+    ensures texts { OnOk result (option_map (λ texts. string_bytes line.old ++ followed texts) (specs.texts_of (map (λ n. n.now) names.now) (value_view object.now)) ≡ Some (string_bytes line.new)) }
+    ensures fault { IfErr result (λ fault. fault ≢ QuestionFault.Memory → (fault ≡ QuestionFault.Fields) × (specs.texts_of (map (λ n. n.now) names.now) (value_view object.now) ≡ None)) }
+{
+    let mut rest = names;
+    while let [name, later @ ..] = rest {
+        let text = text_of(object, name).ok_or(QuestionFault::Fields)?;
+        line.push_str(" ")?;
+        line.push_str(text)?;
+        rest = later;
+    }
+    line.push_str("\n")?;
+    Ok(())
+}
+
+/// How many members an object has.
+fn count_of(object: &Value<'_>) -> usize
+    ensures { result ≡ specs.count_of (value_view object.now) }
+{
+    match object {
+        Value::Object(members) => members.len(),
+        _ => 0,
+    }
+}
+
+/// The text of the member of this name.
+fn text_of<'v>(object: &'v Value<'_>, name: &str) -> Option<&'v str>
+    ensures { option_copied result ≡ specs.text_of name.now (value_view object.now) }
+{
+    let text = object.get(name)?.as_str()?;
+    if is_field(text.as_bytes()) {
+        Some(text)
+    } else {
+        None
+    }
+}
+
+/// The text of the user. With `#` in front it would be read as a tag.
+fn user_of<'v>(object: &'v Value<'_>) -> Option<&'v str>
+    ensures { option_copied result ≡ specs.user_of (value_view object.now) }
+{
+    let text = text_of(object, "user")?;
+    match text.as_bytes() {
+        [b'#', ..] => None,
+        _ => Some(text),
+    }
+}
+
+/// Whether a text can be a field of a line: one or more visible ASCII characters.
+fn is_field(text: &[u8]) -> bool
+    ensures { result ≡ specs.is_field text.now }
+{
+    !text.is_empty() && are_graphic(text)
+}
+
+fn are_graphic(text: &[u8]) -> bool
+    ensures { result ≡ list_all is_ascii_graphic text.now }
+{
+    text.iter().all(|b| b.is_ascii_graphic())
+}

@@ -1,0 +1,26 @@
+//! Why a question of JSON is refused.
+use std::alloc::AllocError;
+
+/// Why a question of JSON is refused: the first of these that holds.
+#[derive(Clone, Copy, Debug, PartialEq, Eq)]
+pub enum QuestionFault {
+    /// The key is no tag.
+    Key,
+    /// The body is no JSON object, or an object in it has a member twice.
+    Json,
+    /// A member is missing or unknown, or its value cannot be a field of the line.
+    Fields,
+    /// Out of memory. It may come at any time.
+    Memory,
+}
+
+impl From<AllocError> for QuestionFault {
+    ghost use Rattle.nmvs_json.specs.declared.question_fault.QuestionFault.TheVariants.{Memory};
+    ghost use Rattle.std.specs.Prelude.{◌≡◌};
+
+    ghost from_gives = { λ _ fault. fault ≡ Memory };
+
+    fn from(_refused: AllocError) -> QuestionFault {
+        QuestionFault::Memory
+    }
+}
