@@ -12,12 +12,12 @@ abbrev pub key_tag : Option (List ℕ) → Option Tag
 key_tag None = None
 key_tag (Some key) = Some (record { bytes = key })
 
--- the fields of a line, behind its tag if it has one
+-- the fields of a line, after its tag if there is one
 abbrev pub fields_behind : Option Tag → List ℕ → List (List ℕ)
 fields_behind None line = fields_in line
 fields_behind (Some tag) line = fields_in (behind_tag tag line)
 
--- these bytes are one line, with this tag, and behind it these fields
+-- these bytes are one line, with this tag, and these fields after it
 pub record IsOneLine (bytes : List ℕ) (tag : Option Tag) (fields : List (List ℕ)) : Type 0 where
   pub line : List ℕ
   pub one : input_lines bytes ≡ line ∷ []
