@@ -318,7 +318,7 @@ decodes_later old mid new buffer decoded.Whole goes same x = (goes_on_twice old 
 decodes_later old mid new buffer decoded.Nothing goes same x = (goes_on_twice old mid new goes x.0, x.1 ∙ same)
 decodes_later old mid new buffer decoded.Over goes same x = (goes_on_twice old mid new goes x.0, x.1 ∙ same)
 
--- a message does not change the sent bytes
+-- the sent bytes are still among the written ones after a message
 pub tells_within : (gone : ℕ) (items items' text : List ℕ) (stands stage : CodecStage) → gone ≤ length items → Tells items items' text stands stage → gone ≤ length items'
 tells_within gone items items' text stands stage within (inr t) = subst (λ (i : List ℕ). gone ≤ length i) (sym t.0) within
 tells_within gone items items' text stands stage within (inl t) =

@@ -67,7 +67,7 @@ pub(crate) fn lent_body(asks: Asks, replies: &[u8]) -> Option<&[u8]>
     }
 }
 
-/// The status line of the response to what was asked, and the fields that describe its body.
+/// The first lines of a response: its status, and the fields that describe its body.
 #[tactic(auto, unfolding(crate::specs::Responses::front_of))]
 pub(crate) fn front_of(asks: Asks, replies: &[u8]) -> &'static [u8]
     ensures { result.now ≡ specs.front_text asks replies.now }
@@ -148,7 +148,7 @@ fn front_of_fault(fault: Fault) -> &'static [u8]
     }
 }
 
-/// The problem that says what the fault is (RFC 9457).
+/// The problem of a fault (RFC 9457).
 #[tactic(auto, unfolding(crate::specs::Responses::problem))]
 fn problem(fault: Fault) -> &'static [u8]
     ensures { result.now ≡ specs.problem fault }
