@@ -88,8 +88,8 @@ abbrev pub moved_of : Option Moved → Moved
 moved_of None = moves.Blocked
 moved_of (Some moved) = moved
 
--- the request in hand may be responded to at this stage of the connection and this end of its session: all bytes that were read
--- were taken, or QUIT ended the session
+-- the request in hand may be responded to at this stage and this end of the session; all read bytes were taken, or QUIT ended
+-- the session
 pub record EndsIn (stage : Stage) (end : Option End) (all ended : Bool) : Type 0 where
   pub stays : stage ≢ stages.Lingering
   pub goes_on : ended ≡ false → (stage ≡ stages.Serving) × (end ≡ None) × (all ≡ true)
