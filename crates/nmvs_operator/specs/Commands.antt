@@ -173,8 +173,8 @@ abbrev pub Ends : {S : Type 0} → Does S → Office S → List ℕ → Result O
 Ends does old line (Ok order) new = Obeys does old line order new
 Ends does old line (Err fault) new = Refuses does old line fault new
 
--- the lines of the answer to an order that ended so: those of the published users, those of some of the figures that the
--- server may count, those of the faults of a users file, and else none
+-- the lines of the answer to an order, by its result: the published users, some of the figures that the server may count, the
+-- faults of a users file, or none
 abbrev pub Lists : {S : Type 0} → Counts S → Office S → Result Order ObeyFault → List ℕ → Type 0
 Lists counts old (Ok orders.Users) lines = lines ≡ user_lines (users_of old.register.published)
 Lists counts old (Ok (orders.Count topic)) lines = (figures : List Figure) × counts old.service topic figures × (lines ≡ figure_lines figures)
