@@ -78,8 +78,8 @@ impl MetricsListener {
     }
 }
 
-/// Serves the metrics to clients, and counts and logs each step of the system's clock, until the metrics note that the server
-/// ends: then for less than a second. A client that stays for 5 seconds is closed, and so is the first of 16 if one more
+/// Serves the metrics to clients, and counts and logs each step of the system's clock. It ends less than a second after the
+/// metrics note that the server ends. A client that stays for 5 seconds is closed, and so is the first of 16 if one more
 /// comes. A client that asks at once is answered at once, however many others stay silent.
 ///
 /// # Errors
