@@ -1,4 +1,4 @@
-//! Tests of `nmvs_desk` that no contract can replace: calls succeed if there is memory, a look at a shard shows the earlier
+//! Tests of `nmvs_desk` that no contract can replace. Calls succeed if there is memory, a look at a shard shows the earlier
 //! answers, and clerks work in several shards at once. Other tests refuse memory.
 #![tactic(auto)]
 
