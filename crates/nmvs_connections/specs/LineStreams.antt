@@ -39,8 +39,8 @@ abbrev pub before_of : Option Http → Option (List ℕ)
 before_of None = None
 before_of (Some h) = Some h.before.numbers
 
--- the bytes read from the socket are those before the first request, those that the codec was fed, and a rest that was let
--- go; the bytes written to it are the sent bytes of the codec
+-- the bytes read from the socket are those before the first request, those that the codec was fed, and a discarded
+-- rest; the bytes written to it are the sent bytes of the codec
 pub record IsFed (raw : Traffic) (h : Http) : Type 0 where
   pub rest : List ℕ
   pub received_is : raw.received ≡ h.before.numbers ++ (h.codec.stream.fed ++ rest)
