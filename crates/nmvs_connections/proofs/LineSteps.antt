@@ -23,7 +23,7 @@ use Rattle.nmvs_connections.specs.ProxyHeader.{ReadsProxyHeader}
 use Rattle.nmvs_connections.specs.declared.proxy_header.ProxyHeader.TheVariants as proxy_headers
 use Rattle.nmvs_connections.proofs.PeerSteps.{holds_lingering, holds_named, holds_notice, holds_over, holds_quiet, holds_read, holds_sent, holds_taken, nothing, quiet}
 
--- the bytes of a peer's session are those of its header, its lines and its replies, and its lines are carried so
+-- the bytes of a peer's session are those of its header, its lines and its replies, over HTTP or not
 abbrev pub Stands : Option NameOf → Option Peer → Stage → Traffic → Option (List ℕ) → List ℕ → List ℕ → List ℕ → Type 0
 Stands proxy peer stage t before fed replies unread = Holds proxy peer stage t.received t.sent fed replies unread × Behind before peer t.received fed unread stage
 
@@ -88,7 +88,7 @@ stands_taken proxy peer {stage = stage} {fed = fed} {fed' = fed'} {replies = rep
       (subst (λ (u : List ℕ). Behind before peer t.received (fed ++ take n unread) u stage) (sym left) (behind_taken before peer t.received fed unread stage n serving s.1)),
 )
 
--- no more lines are taken, and the unread bytes are let go
+-- no more lines are taken, and the unread bytes are discarded
 pub stands_over : {proxy : Option NameOf} {peer : Option Peer} {stage : Stage} {fed replies unread : List ℕ} (t : Traffic) (before : Option (List ℕ)) (unread' : List ℕ) → stage ≡ stages.Serving
     → Stands proxy peer stage t before fed replies unread → Stands proxy peer stages.Ending t before fed replies unread'
 stands_over {peer = peer} {stage = stage} {fed = fed} {unread = unread} t before unread' serving s =

@@ -6,12 +6,12 @@ use Rattle.slab.proofs.SlabLemmas.{Contains-cons, Contains-cons_cases, Contains-
 use Rattle.nmvs_connections.specs.declared.connection.Connection.{Connection}
 use Rattle.nmvs_connections.specs.Memory.{IsLargest}
 
--- the connection under this key takes so much; where there is no key, it is nothing
+-- the connection under this key takes this much memory; if there is no key, it is 0
 abbrev pub Takes : Slab Connection → ℕ → Option ℕ → Type 0
 Takes connections most None = most ≡ 0
 Takes connections most (Some key) = (connection : Connection) × (get connections key ≡ Some connection) × (connection.memory ≡ most)
 
--- the largest of those that are not left
+-- the largest of the connections that were compared
 pub record LargestSoFar (connections : Slab Connection) (left : List (ℕ × Connection)) (most : ℕ) (largest : Option ℕ) : Type 0 where
   pub seen : (key : ℕ) (connection : Connection) → get connections key ≡ Some connection → Contains left (key, connection) ⊎ (connection.memory ≤ most)
   pub left_is : (key : ℕ) (connection : Connection) → Contains left (key, connection) → get connections key ≡ Some connection
@@ -24,7 +24,7 @@ largest_first connections = record {
   takes = refl;
 }
 
--- of one more that was looked at
+-- one more connection was compared
 seen_more : (connections : Slab Connection) (key : ℕ) (one : Connection) (left : List (ℕ × Connection)) (most most' : ℕ) (largest : Option ℕ)
     → LargestSoFar connections ((key, one) ∷ left) most largest → most ≤ most' → one.memory ≤ most'
     → (other : ℕ) (connection : Connection) → get connections other ≡ Some connection → Contains left (other, connection) ⊎ (connection.memory ≤ most')

@@ -63,7 +63,7 @@ module _ {proxy : Option NameOf} {peer : Option Peer} {stage : Stage} {received 
     ended = h.ended;
   }
 
-  -- no more lines are taken, and the unread bytes are let go
+  -- no more lines are taken, and the unread bytes are discarded
   pub holds_over : (unread' : List ℕ) → stage ≡ stages.Serving → Holds proxy peer stage received sent fed replies unread → Holds proxy peer stages.Ending received sent fed replies unread'
   holds_over unread' serving h = record {
     header = h.header;

@@ -39,8 +39,8 @@ abbrev pub before_of : Option Http → Option (List ℕ)
 before_of None = None
 before_of (Some h) = Some h.before.numbers
 
--- the bytes read from the socket are those before the first request, those that the codec was fed, and a rest that was let
--- go; the bytes written to it are the sent bytes of the codec
+-- the bytes read from the socket are those before the first request, those that the codec was fed, and a discarded
+-- rest; the bytes written to it are the sent bytes of the codec
 pub record IsFed (raw : Traffic) (h : Http) : Type 0 where
   pub rest : List ℕ
   pub received_is : raw.received ≡ h.before.numbers ++ (h.codec.stream.fed ++ rest)
@@ -88,8 +88,8 @@ abbrev pub moved_of : Option Moved → Moved
 moved_of None = moves.Blocked
 moved_of (Some moved) = moved
 
--- the request in hand may be responded to at this stage of the connection and this end of its session: all bytes that were read
--- were taken, or QUIT ended the session
+-- the request in hand may be responded to at this stage and this end of the session; all read bytes were taken, or QUIT ended
+-- the session
 pub record EndsIn (stage : Stage) (end : Option End) (all ended : Bool) : Type 0 where
   pub stays : stage ≢ stages.Lingering
   pub goes_on : ended ≡ false → (stage ≡ stages.Serving) × (end ≡ None) × (all ≡ true)

@@ -11,7 +11,7 @@ use Rattle.nmvs_connections.specs.Replies.{SessionState}
 use Rattle.nmvs_connections.specs.Traffic.{Traffic}
 
 -- a connection: whether a gateway's header names a user or an authorisation, if it begins with one; its peer, once it is known;
--- how far it has come; its bytes; and its session
+-- its stage; its bytes; and its session
 pub record PeerState : Type 0 where
   pub proxy : Option NameOf
   pub peer : Option Peer

@@ -13,8 +13,7 @@ abbrev pub IsNoProxyHeader : List ℕ → Type 0
 IsNoProxyHeader bytes =
     ReadsHeader bytes headers.Broken ⊎ ((name : Name) × (size : ℕ) × ReadsHeader bytes (headers.Whole name size) × (size ≢ length bytes))
 
--- all bytes that were read of a connection, read as a header: one without a byte after it names the peer, by the name of its
--- certificate
+-- the bytes that were read of a connection, as a header; a header without a byte after it names the peer, by its certificate
 abbrev pub ReadsProxyHeader : List ℕ → NameOf → ProxyHeader → Type 0
 ReadsProxyHeader bytes name_of (proxy_headers.Begun missing) = ReadsHeader bytes (headers.Begun missing)
 ReadsProxyHeader bytes name_of (proxy_headers.Whole peer) = (name : Name) × ReadsHeader bytes (headers.Whole name (length bytes)) × (peer ≡ peer_named name_of name)

@@ -20,8 +20,8 @@ pub record SessionState : Type 0 where
   pub first : ℕ
   pub waiting : ℕ
 
--- the lines that are left unanswered, and the text that is left out: up to QUIT and the limit one line for each answer that is
--- waited for, and no text; for want of memory some text is missing, and nothing is waited for
+-- the lines that are left unanswered, and the text that is left out; up to QUIT and the limit each left line waits for its
+-- answer, and no text is left out; if memory ran out, some text is missing, and nothing waits
 abbrev pub Leaves : Option End → ℕ → List (List ℕ) → List ℕ → Type 0
 Leaves (None) waiting left untold = (length left ≡ waiting) × (untold ≡ [])
 Leaves (Some ends.Quit) waiting left untold = (length left ≡ waiting) × (untold ≡ [])

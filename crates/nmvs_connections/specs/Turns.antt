@@ -169,8 +169,8 @@ pub record TellsAll {D : Type 0} (releases : D → D → Withheld → Answer →
 abbrev pub StepsOrStays : List ℕ → ℕ → List (List ℕ) → List Withheld → ℕ → SessionState → SessionState → Type 0
 StepsOrStays awaiting key lines held first old new = (Kept old new × (lines ≡ []) × (held ≡ [])) ⊎ (Contains awaiting key × LinesTaken lines held first old new)
 
--- the turn of the connection under this key: the desk takes its lines, as those of its peer, and their answers
--- are put after those that are withheld; if there are any, it waits for their release. No other connection has changed
+-- the turn of the connection under this key: the desk takes its lines, as those of its peer, and appends their answers to the
+-- withheld ones; if there are any, the connection waits for their release; no other connection has changed
 pub record TurnOfOne {D : Type 0} (takes : D → Peer → Ask → Withheld → D → Type 0) (key : ℕ) (old new : D) (withheld withheld' : List Withheld) (awaiting awaiting' : List ℕ) (connections connections' : Slab Connection) : Type 0 where
   pub connection : PeerState
   pub is : IsConnection connection

@@ -21,7 +21,7 @@ const HTTP: Token = Token(1);
 /// The most milliseconds from an accept that failed, as a rule for want of a descriptor, to the next (own).
 const PAUSE: u64 = 100;
 
-/// The reply to a connection that is one too many.
+/// The reply to a connection above the limit.
 const BUSY: &[u8] = b"FAULT BUSY\n";
 
 /// A listener for connections whose lines are carried over HTTP.
@@ -38,11 +38,11 @@ struct Entrance<'l> {
     listener: &'l Listener,
     /// The keys for the fields of requests, if lines are carried over HTTP.
     http: Option<RandomState>,
-    /// The reply to a connection that is one too many.
+    /// The reply to a connection above the limit.
     busy: &'l [u8],
 }
 
-/// Accepts connections and hands them to the workers in turn, until the pool closes. It turns away one too many.
+/// Accepts connections and hands them to the workers in turn, until the pool closes. It turns away those above the limit.
 ///
 /// # Errors
 ///
@@ -74,7 +74,7 @@ pub fn accept_loop<R: Wait + Log>(
     }
 }
 
-/// The response over HTTP to a connection that is one too many.
+/// The response over HTTP to a connection above the limit.
 fn busy_response(alloc: Global) -> Result<Vec<u8>, AllocError> {
     let mut text = WriteBuffer::new(Vec::new(alloc));
     match write_refusal(&mut text, Fault::Busy) {
@@ -157,7 +157,7 @@ fn accept_all<R: Wait + Log>(
     None
 }
 
-/// Sends a connection the reply to one too many, and closes it.
+/// Sends this reply to a connection above the limit, and closes it.
 fn turn_away(mut socket: Socket, busy: &[u8]) {
     match socket.write(busy) {
         Moved::Bytes(_) => socket.shutdown_write(),

@@ -37,7 +37,7 @@ pub(crate) struct Connection {
     session: PeerSession,
     /// Whether the peer asked nothing for too long.
     was_idle: bool,
-    /// When bytes were moved last, but for those that only go on with a header or a line.
+    /// When bytes were moved last. Bytes that only go on with a header or a line do not count.
     moved: Instant,
     /// Whether the peer ended or broke the connection, so that it is read to its end.
     peer_closed: bool,
@@ -81,7 +81,8 @@ impl Connection {
         self.session.register(registry, key)
     }
 
-    /// Counts the memory of its buffers anew. The result is the memory of the buffers of all connections, which was this before.
+    /// Counts the memory of its buffers anew. The result is the memory of the buffers of all connections, which was this
+    /// before.
     pub(crate) fn count_memory(&mut self, all: usize) -> usize
         ensures session { self.new.session ≡ self.old.session }
         ensures own { length self.new.session.session.unsent ≤ self.new.memory }

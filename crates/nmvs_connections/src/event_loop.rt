@@ -214,8 +214,8 @@ impl EventLoop {
         }
     }
 
-    /// Gives each queued connection its turn, and at most one of them a list. Their answers are released together, unless the list
-    /// of them is full or an answer may be long.
+    /// Gives each queued connection its turn, and at most one of them a list. Their answers are released together, unless the
+    /// list of them is full or an answer may be long.
     fn take_turns<'a, R: Wait + Log, D: Desk<'a>>(
         &mut self,
         rt: &R,
@@ -342,8 +342,8 @@ impl EventLoop {
         self.go_on(rt, pool, key, next);
     }
 
-    /// Takes the next step of a connection that waits for no release. If the buffers of all connections take too much memory then,
-    /// some connections are closed.
+    /// Takes the next step of a connection that waits for no release. If the buffers of all connections take too much memory
+    /// then, some connections are closed.
     fn go_on<R: Wait + Log>(&mut self, rt: &R, pool: &WorkerPool<'_>, key: usize, next: Next)
         ensures awaiting { self.new.awaiting ≡ self.old.awaiting }
         ensures connections { EachGoes (λ key state state'. state' ≡ state) self.old.connections self.new.connections }
@@ -436,7 +436,7 @@ impl EventLoop {
         largest
     }
 
-    /// Closes a connection, whose end has come.
+    /// Closes a connection at its end.
     fn remove<R: Wait + Log>(&mut self, rt: &R, pool: &WorkerPool<'_>, key: usize)
         ensures awaiting { self.new.awaiting ≡ self.old.awaiting }
         ensures gone { get self.new.connections key ≡ None }

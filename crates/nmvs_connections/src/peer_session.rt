@@ -35,7 +35,7 @@ pub(crate) enum Stage {
     Serving,
     /// No more lines are answered, and its replies are sent to the end.
     Ending,
-    /// The write side is shut down, and the peer's bytes are still read: if a connection is closed with bytes unread, the
+    /// The write side is shut down, and the peer's bytes are still read. If a connection is closed with unread bytes, the
     /// system discards the replies that the peer has not received yet.
     Lingering,
 }
@@ -270,8 +270,8 @@ impl PeerSession {
         }
     }
 
-    /// Takes the lines of the unread bytes, or of one read if there are none. Without `lists` it stops before a line that may ask for
-    /// a list.
+    /// Takes the lines of the unread bytes, or of one read if there are none. Without `lists` it stops before a line that may
+    /// ask for a list.
     pub(crate) fn take<'a, R: Wait, D: Desk<'a>>(
         &mut self,
         rt: &R,
@@ -472,8 +472,8 @@ fn is_answered(session: &BufferedSession) -> bool
     session.unsent().is_empty() && session.waiting() == 0
 }
 
-/// Whether the session has ended in the request in hand, if that may be responded to: all bytes that were read were taken,
-/// or QUIT ended the session.
+/// Whether the session has ended in the request in hand, if that may be responded to. It may if all read bytes were taken, or
+/// QUIT ended the session.
 fn ends_in(stage: Stage, end: Option<End>, all: bool) -> Option<bool>
     ensures { IfSome result (λ ended. EndsIn stage end all ended) }
 {

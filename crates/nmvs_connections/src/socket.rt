@@ -60,7 +60,7 @@ impl Socket {
         outcome_of(written)
     }
 
-    /// Shuts down the write side. A connection that is broken stays so.
+    /// Shuts down the write side. A broken connection stays broken.
     pub(crate) fn shutdown_write(&self) {
         let _broken = match self {
             Socket::Tcp(stream) => stream.shutdown(Shutdown::Write),

@@ -117,8 +117,8 @@ impl Inbox {
     }
 }
 
-/// The state that the threads of a server share: the counts of its connections, how each thread is reached, and the metrics
-/// in which they count.
+/// The state that the threads of a server share: the counts of its connections, the wakers and inboxes of its threads, and
+/// its metrics.
 #[derive(Drop)]
 pub struct WorkerPool<'p> {
     bounds: Bounds,

@@ -1,4 +1,4 @@
--- How a codec stays one that carries its requests, from one step to the next.
+-- A codec carries its requests after each step.
 use Rattle.std.proofs.Common.{◌≡◌, ◌≢◌, ◌≤◌, ◌+◌, inl, inr, ℕ, Bool, true, false, cond, List, [], ◌∷◌, ◌++◌, length, take, drop, Option, Some, None, refl, sym, ap, subst, arith, ◌∙◌}
 use Rattle.std.proofs.lemmas.List.{append-nil, append_assoc, drop-append-le, drop-drop, length-append, take-append-drop}
 use Rattle.http.specs.declared.request.Request.{Request}
@@ -18,14 +18,14 @@ use Rattle.nmvs_http.specs.Streams.{IsNext}
 use Rattle.nmvs_http.specs.Codecs.{AnswersLines, AreTold, Carries, CodecState, Decodes, Exchange, Fits, GoesOn, HasRequest, InHand, HandGives, IsCarried, IsCodec, Message, StaysOpen, Tells, bytes_given, lines_in, message_text, replies_in, requests_in, text_of}
 use Rattle.nmvs_http.specs.Codecs as specs
 
--- a text behind what is told
+-- a text after the unsent bytes
 pub unsent_more : (gone : ℕ) (items text : List ℕ) → gone ≤ length items → drop gone (items ++ text) ≡ drop gone items ++ text
 unsent_more gone items text within = drop-append-le gone items text within
 
 told_more : (sent items text : List ℕ) (gone : ℕ) → gone ≤ length items → sent ++ drop gone (items ++ text) ≡ (sent ++ drop gone items) ++ text
 told_more sent items text gone within = ap (λ (t : List ℕ). sent ++ t) (unsent_more gone items text within) ∙ sym (append_assoc sent (drop gone items) text)
 
--- bytes that were sent are no more unsent
+-- bytes move from the unsent to the sent
 pub unsent_less : (sent items : List ℕ) (gone count : ℕ) → (sent ++ take count (drop gone items)) ++ drop (gone + count) items ≡ sent ++ drop gone items
 unsent_less sent items gone count =
     append_assoc sent (take count (drop gone items)) (drop (gone + count) items)
@@ -54,7 +54,7 @@ is_new c none fresh given replies gathered told =
 pub is_lost : (c : CodecState) → c.stage ≡ stages.Lost → IsCodec c
 is_lost c lost = λ sound. absurd (sound lost)
 
--- what is carried does not depend on how the stream stands, as long as its requests stay
+-- the requests of the stream stay, whatever its state
 moved : (c : CodecState) (stream : StreamState) → stream.requests ≡ c.stream.requests → Carries c → Carries (record c { stream = stream })
 moved c stream same x = record {
   messages = x.messages;
@@ -154,7 +154,7 @@ is_replied c replies gathered more grows gathers is =
       (is sound).1,
     )
 
--- a text was told behind what was told before
+-- a text was written after the earlier messages
 text_told : (sent items items' text before : List ℕ) (gone : ℕ) → gone ≤ length items → items' ≡ items ++ text → sent ++ drop gone items ≡ before → sent ++ drop gone items' ≡ before ++ text
 text_told sent items items' text before gone within more is =
     ap (λ (t : List ℕ). sent ++ drop gone t) more ∙ told_more sent items text gone within ∙ ap (λ (t : List ℕ). t ++ text) is
@@ -178,7 +178,7 @@ is_invited c stream stage gone items items' opens unsent within next (inl t) is 
       λ aborts. absurd (cc (aborts, next.1)),
     )
 
--- what is no request was refused
+-- a request was refused
 refused : (c : CodecState) (fault : Fault) (stage : CodecStage) (gone : ℕ) (items items' : List ℕ) → c.stage ≡ stages.Open → c.unsent ≡ drop gone items → gone ≤ length items
     → Tells items items' (response_text (asks.Refused fault) false false []) stages.Closing stage → c.stream.state ≢ states.Aborted → Carries c → IsCodec (record c { stage = stage; unsent = drop gone items' })
 refused c fault stage gone items items' opens unsent within (inr t) sound x = is_lost (record c { stage = stage; unsent = drop gone items' }) t.1
@@ -209,7 +209,7 @@ is_unreadable c stream fault stage gone items items' opens unsent within next t 
     refused (record c { stream = stream }) fault stage gone items items' opens unsent within t (λ aborts. let closing = next.1.1 in absurd (cc (aborts, closing)))
     (moved c stream next.0 (is (sound_open c.stage opens)).0)
 
--- where the connection stays, nothing that was told closes it
+-- an open codec leaves the connection open
 stays_open : (stays : Bool) (stage : CodecStage) → stage ≡ cond stays stages.Open stages.Closing → stage ≡ stages.Open → stays ≡ true
 stays_open true stage is opens = refl
 stays_open false stage is opens = absurd (cc (is, opens))
@@ -260,14 +260,14 @@ is_sent c sent unsent same is =
       (is sound).1,
     )
 
--- nothing was moved but for what is told
+-- the unsent bytes alone have grown
 pub goes_on : (old new : CodecState) (text : List ℕ) → new.stream.fed ≡ old.stream.fed → new.replies ≡ old.replies → new.sent ≡ old.sent → new.unsent ≡ old.unsent ++ text → GoesOn old new
 goes_on old new text fed replies sent unsent = record { fed = fed; replies = replies; sent = sent; text = text; unsent = unsent }
 
 pub goes_on_still : (old new : CodecState) → new.stream.fed ≡ old.stream.fed → new.replies ≡ old.replies → new.sent ≡ old.sent → new.unsent ≡ old.unsent → GoesOn old new
 goes_on_still old new fed replies sent unsent = goes_on old new [] fed replies sent (unsent ∙ sym (append-nil old.unsent))
 
--- what is told may have grown by a text
+-- the unsent bytes may have grown by a text
 pub goes_on_told : (old new : CodecState) (gone : ℕ) (items items' text : List ℕ) (stands stage : CodecStage) → gone ≤ length items → new.stream.fed ≡ old.stream.fed → new.replies ≡ old.replies → new.sent ≡ old.sent
     → old.unsent ≡ drop gone items → new.unsent ≡ drop gone items' → Tells items items' text stands stage → GoesOn old new
 goes_on_told old new gone items items' text stands stage within fed replies sent was now (inl t) =
@@ -275,7 +275,7 @@ goes_on_told old new gone items items' text stands stage within fed replies sent
 goes_on_told old new gone items items' text stands stage within fed replies sent was now (inr t) =
     goes_on_still old new fed replies sent (now ∙ ap (λ (i : List ℕ). drop gone i) t.0 ∙ sym was)
 
--- reading on gave lines of the request in hand, or none
+-- a read gave lines of the request in hand, or none
 pub is_read : (c : CodecState) (old hand : Option Hand) (given bytes : List ℕ) → c.hand ≡ old → HandGives old hand bytes → given ≡ c.given ++ bytes → IsCodec c → IsCodec (record c { hand = hand; given = given })
 is_read c (Some h) (Some h') given bytes was gives more is = is_given c h h' given bytes was gives.1 gives.2 gives.0 more is
 is_read c (Some h) None given bytes was gives more is = absurd gives
@@ -295,7 +295,7 @@ is_read c None None given bytes was gives more is =
       (is sound).1,
     )
 
--- what a step gave, as it is told
+-- the result of a read, by the bytes that it gave
 pub decodes : (old new : CodecState) (buffer : List ℕ) (d : Decoded) → Fits d buffer → GoesOn old new → new.given ≡ old.given ++ bytes_given d buffer → Decodes old new buffer d
 decodes old new buffer (decoded.Lines count) fits goes given = (goes, fits, given)
 decodes old new buffer decoded.Whole fits goes given = (goes, given ∙ append-nil old.given)
@@ -318,14 +318,14 @@ decodes_later old mid new buffer decoded.Whole goes same x = (goes_on_twice old 
 decodes_later old mid new buffer decoded.Nothing goes same x = (goes_on_twice old mid new goes x.0, x.1 ∙ same)
 decodes_later old mid new buffer decoded.Over goes same x = (goes_on_twice old mid new goes x.0, x.1 ∙ same)
 
--- what is told grows behind what was sent
+-- the sent bytes are still among the written ones after a message
 pub tells_within : (gone : ℕ) (items items' text : List ℕ) (stands stage : CodecStage) → gone ≤ length items → Tells items items' text stands stage → gone ≤ length items'
 tells_within gone items items' text stands stage within (inr t) = subst (λ (i : List ℕ). gone ≤ length i) (sym t.0) within
 tells_within gone items items' text stands stage within (inl t) =
     let more = length-append items text in
     subst (λ (i : List ℕ). gone ≤ length i) (sym t.0) (omega (arith, more, within))
 
--- the same, by how it was told
+-- a request was responded to, by the result of the write
 pub is_told : (c : CodecState) (h : Hand) (ended stays : Bool) (stage : CodecStage) (gone : ℕ) (items items' replies gathered : List ℕ) → c.stage ≡ stages.Open → c.hand ≡ Some h → c.unsent ≡ drop gone items → gone ≤ length items
     → AnswersLines c.given c.replies ended → (ended ≡ false → h.lines ≡ []) → (ended ≡ true → stays ≡ false) → replies ≡ c.gathered
     → Tells items items' (response_text h.asks h.head_alone stays replies) (cond stays stages.Open stages.Closing) stage → stage ≢ stages.Lost → gathered ≡ []

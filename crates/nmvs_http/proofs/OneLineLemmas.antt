@@ -141,7 +141,7 @@ are_fields kind j fields e = by (count_of j == 1 + length (names_of kind)) (user
           graphic = (field_back (option_and_then as_str (get (codes "user") j)) user is.0, (word_graphic kind, texts_graphic (names_of kind) j texts q));
         }
 
--- in front of them stands the tag that the key is
+-- the fields come after the tag that the key is
 first_byte : (user rest : List ℕ) → get_or user 0 0 ≢ 35 → get_or (user ++ 32 ∷ rest) 0 0 ≢ 35
 first_byte [] rest other is = omega (arith, is)
 first_byte (c ∷ cs) rest other is = other is

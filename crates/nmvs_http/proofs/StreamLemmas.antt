@@ -80,15 +80,15 @@ stands Upgraded config h answered text interim rest sound serves x =
     last_call config h answered text rest h.unread x.last.call x.last.message serves x.last.calls x.last.request
 stands Aborted config h answered text interim rest sound serves x = absurd (sound refl)
 
--- but for want of memory, what was received is the requests of the calls, and a rest
+-- unless memory ran out, the received bytes are the requests of the calls, and a rest
 pub requests_read : (config : Config) (h : History) → h.state ≢ Aborted → IsServed config h → Requests config h
 requests_read config h sound x = stands h.state config h x.answered x.text x.interim x.rest sound x.serves x.stands
 
--- what a reader answers, as its service says
+-- the contract of a reader's service: it takes a request if it has none
 abbrev pub Answers : Reader → Request (List ℕ) → Response → Reader → Type 0
 Answers old request response new = (old.asked ≡ None) × ReadsAsked request new.asked
 
--- what came of calls, where a reader began that had read nothing: it read none, or one
+-- the calls of a reader that began with no request: it read none, or one
 abbrev pub ReadsOne : List (Request (List ℕ)) → List (Request (List ℕ)) → Option Asking → Type 0
 ReadsOne old new asked =
     ((new ≡ old) × (asked ≡ None)) ⊎ ((r : Request (List ℕ)) × (new ≡ old ++ r ∷ []) × ReadsAsked r asked)
@@ -114,7 +114,7 @@ one_read : (old new : List (Request (List ℕ))) (asked : Option Asking) (a : As
 one_read old new asked a some (inl x) = absurd (cc (x.1, some))
 one_read old new asked a some (inr x) = (x.0, x.1, subst (λ (b : Option Asking). ReadsAsked x.0 b) some x.2)
 
--- what comes next of a stream, by what was read and how the connection stands
+-- the next item of a stream, by the request that was read and the state of the connection
 pub is_next : (result : Next) (asked : Option Asking) (old new : StreamState) → IsNextOf asked new result → ReadsOne old.requests new.requests asked
     → IsNext old new result
 is_next nexts.Nothing asked old new x one = (none_read old.requests new.requests asked x.0 one, x.1)
@@ -123,7 +123,7 @@ is_next (nexts.Request a stays) asked old new x one = (one_read old.requests new
 is_next (nexts.Refused fault) asked old new x one = (none_read old.requests new.requests asked x.0 one, x.1)
 is_next nexts.Lost asked old new x one = tt
 
--- but for want of memory a stream is the requests that were read off it, and a rest
+-- unless memory ran out, a stream is the requests read from it, and a rest
 pub stream_read : (c : Connection) → config_of c ≡ request_limits → (history c).state ≢ Aborted
     → ∥ ((rest : List ℕ) × ReadsRequests request_limits (stream_state c).fed (stream_state c).requests rest) ∥₁
 stream_read c config sound =

@@ -1,4 +1,4 @@
--- HTTP as a carrier of lines: what requests carried, and what their senders were told (own).
+-- HTTP as a carrier of lines: the lines of requests, and the messages to their senders (own).
 use Rattle.std.specs.Prelude.{◌≡◌, ◌≢◌, ◌≤◌, ◌⊎◌, ℕ, Bool, true, false, List, [], ◌∷◌, ◌++◌, length, take, Option, Some, None}
 use Rattle.http.specs.declared.request.Request.{Request}
 use Rattle.http_server.specs.declared.state.State.TheVariants as states
@@ -17,8 +17,8 @@ use Rattle.nmvs_http.specs.Responses.{invitation_text, response_text}
 use Rattle.nmvs_http.specs.StreamState.{StreamState, request_limits}
 use Rattle.nmvs_http.specs.Streams.{ReadsRequests}
 
--- a request and its response: the bytes of lines that were given of it, and those that were left; the replies; whether the session
--- of lines ended in it; and whether the connection stays behind it
+-- a request and its response: the bytes of lines that were given of it, and those that were left; the replies; whether the
+-- session of lines ended in it; and whether the connection stays open after it
 pub record Exchange : Type 0 where
   pub request : Request (List ℕ)
   pub lines : List ℕ
@@ -27,7 +27,7 @@ pub record Exchange : Type 0 where
   pub ended : Bool
   pub stays : Bool
 
--- what a connection is told: an invitation to send the body of a request; the response to a request; or the refusal of what is none
+-- a message to the peer: an invitation to send the body of a request, the response to a request, or a refusal
 pub data Message : Type 0 where
   invitation : Message
   response : Exchange → Message
@@ -38,7 +38,7 @@ message_text invitation = invitation_text
 message_text (response e) = response_text (asks_of e.request) (wants_head e.request) e.stays e.replies
 message_text (refusal fault) = response_text (asks.Refused fault) false false []
 
--- the text of messages, of which the last is listed first
+-- the text of messages; the list has the last one first
 abbrev pub text_of : List Message → List ℕ
 text_of [] = []
 text_of (m ∷ earlier) = text_of earlier ++ message_text m
@@ -59,8 +59,8 @@ replies_in [] = []
 replies_in (response e ∷ earlier) = replies_in earlier ++ e.replies
 replies_in (_ ∷ earlier) = replies_in earlier
 
--- the replies are the text of answers to the lines of what was given, one a line, in order; where the session of lines has ended,
--- of what was given up to there
+-- the replies are the text of one answer to each given line, in order; if the session of lines has ended, to each line up to
+-- its end
 pub record AnswersLines (given replies : List ℕ) (ended : Bool) : Type 0 where
   pub fed : List ℕ
   pub rest : List ℕ
@@ -70,30 +70,30 @@ pub record AnswersLines (given replies : List ℕ) (ended : Bool) : Type 0 where
   pub text : session_text said ≡ replies
   pub all : ended ≡ false → rest ≡ []
 
--- a request that carries lines is given whole, unless the session of lines ended in it; the connection does not stay then
+-- the lines of a request are given whole, unless the session of lines ended in it; the connection closes then
 pub record IsCarried (e : Exchange) : Type 0 where
   pub lines : e.lines ++ e.left ≡ carried_by e.request
   pub whole : e.ended ≡ false → e.left ≡ []
   pub closes : e.ended ≡ true → e.stays ≡ false
 
--- nothing that was told closes the connection
+-- the last message leaves the connection open
 abbrev pub StaysOpen : List Message → Type 0
 StaysOpen [] = Unit {0}
 StaysOpen (invitation ∷ earlier) = Unit {0}
 StaysOpen (response e ∷ earlier) = e.stays ≡ true
 StaysOpen (refusal fault ∷ earlier) = ⊥
 
--- each message was told while the connection was open; and with each response, all that was replied until then is the text of the
--- answers to the lines of all that was given until then
+-- each message was written while the connection was open; at each response, the replies so far are the text of the answers to
+-- the lines given so far
 abbrev pub AreTold : List Message → Type 0
 AreTold [] = Unit {0}
 AreTold (response e ∷ earlier) =
     StaysOpen earlier × IsCarried e × AnswersLines (lines_in earlier ++ e.lines) (replies_in earlier ++ e.replies) e.ended × AreTold earlier
 AreTold (_ ∷ earlier) = StaysOpen earlier × AreTold earlier
 
--- a codec: how it stands; the bytes of HTTP that it was fed, and the requests that were read off them; the request in hand; the bytes
--- of lines that it gave; the replies that it took, of which these are to the request in hand; and the bytes that it told, of which the
--- last may be unsent
+-- a codec: its stage; the bytes of HTTP that it was fed, and the requests read from them; the request in hand; the bytes of
+-- lines that it gave; the replies that it took, and those of them to the request in hand; the bytes that it sent, and the
+-- unsent ones
 pub record CodecState : Type 0 where
   pub stage : CodecStage
   pub stream : StreamState
@@ -104,7 +104,7 @@ pub record CodecState : Type 0 where
   pub sent : List ℕ
   pub unsent : List ℕ
 
--- these bytes were given of the request in hand, which is read behind those that were responded to
+-- these bytes were given of the request in hand, which comes after the requests that have a response
 pub record HasRequest (h : Hand) (given : List ℕ) (earlier requests : List (Request (List ℕ))) : Type 0 where
   pub request : Request (List ℕ)
   pub next : requests ≡ earlier ++ request ∷ []
@@ -116,8 +116,8 @@ abbrev pub InHand : Option Hand → List ℕ → List (Request (List ℕ)) → L
 InHand None given earlier requests = (given ≡ []) × (requests ≡ earlier)
 InHand (Some h) given earlier requests = HasRequest h given earlier requests
 
--- what a codec was told and tells: messages, of which each response is to the next request; the bytes that it gave are those of the
--- lines of the requests in order, and the replies that it took are the bodies of their responses; the rest is of the request in hand
+-- the sent and unsent bytes are messages, in which each response is to the next request; the given bytes are the lines of these
+-- requests in order, and the taken replies are those of their responses; the rest is of the request in hand
 pub record Carries (c : CodecState) : Type 0 where
   pub messages : List Message
   pub told : AreTold messages
@@ -128,16 +128,16 @@ pub record Carries (c : CodecState) : Type 0 where
   pub replies_is : c.replies ≡ replies_in messages ++ c.gathered
   pub text_is : c.sent ++ c.unsent ≡ text_of messages
 
--- what holds of a codec, but for want of memory
+-- the invariant of a codec, unless memory ran out
 abbrev pub IsCodec : CodecState → Type 0
 IsCodec c = c.stage ≢ stages.Lost → Carries c × (c.stream.state ≢ states.Aborted)
 
--- but for want of memory a codec carries the requests that its bytes begin with, each of HTTP's grammar
+-- unless memory ran out, a codec carries the requests that its bytes begin with, each of HTTP's grammar
 abbrev pub CarriesRequests : CodecState → Type 0
 CarriesRequests c =
     c.stage ≢ stages.Lost → Carries c × ∥ ((rest : List ℕ) × ReadsRequests request_limits c.stream.fed c.stream.requests rest) ∥₁
 
--- no bytes of HTTP, no replies and nothing that is told was moved; what is told may have grown
+-- the fed bytes, the replies and the sent bytes are as before; the unsent bytes may have grown
 pub record GoesOn (old new : CodecState) : Type 0 where
   pub fed : new.stream.fed ≡ old.stream.fed
   pub replies : new.replies ≡ old.replies
@@ -145,17 +145,17 @@ pub record GoesOn (old new : CodecState) : Type 0 where
   pub text : List ℕ
   pub unsent : new.unsent ≡ old.unsent ++ text
 
--- what came of reading on: bytes of lines at the front of the buffer; or none
+-- the result of a read: bytes of lines at the front of the buffer, or none
 abbrev pub Decodes : CodecState → CodecState → List ℕ → Decoded → Type 0
 Decodes old new buffer (decoded.Lines count) =
     GoesOn old new × (count ≤ length buffer) × (new.given ≡ old.given ++ take count buffer)
 Decodes old new buffer _ = GoesOn old new × (new.given ≡ old.given)
 
--- the text was told, and the codec stands so; or there was no memory for it
+-- the text was written, and the codec is in this stage; or there was no memory for it
 abbrev pub Tells : List ℕ → List ℕ → List ℕ → CodecStage → CodecStage → Type 0
 Tells old new text stands result = ((new ≡ old ++ text) × (result ≡ stands)) ⊎ ((new ≡ old) × (result ≡ stages.Lost))
 
--- the bytes of lines that reading on gave, at the front of the buffer
+-- the bytes of lines that a read gave, at the front of the buffer
 abbrev pub bytes_given : Decoded → List ℕ → List ℕ
 bytes_given (decoded.Lines count) buffer = take count buffer
 bytes_given _ buffer = []
@@ -164,7 +164,7 @@ abbrev pub Fits : Decoded → List ℕ → Type 0
 Fits (decoded.Lines count) buffer = count ≤ length buffer
 Fits _ buffer = Unit {0}
 
--- these were given of the request in hand
+-- these bytes were given of the request in hand
 abbrev pub HandGives : Option Hand → Option Hand → List ℕ → Type 0
 HandGives (Some old) (Some new) bytes = (old.lines ≡ bytes ++ new.lines) × (new.asks ≡ old.asks) × (new.head_alone ≡ old.head_alone)
 HandGives None None bytes = bytes ≡ []

@@ -12,19 +12,20 @@ abbrev pub key_tag : Option (List ℕ) → Option Tag
 key_tag None = None
 key_tag (Some key) = Some (record { bytes = key })
 
--- the fields of a line, behind its tag if it has one
+-- the fields of a line, after its tag if there is one
 abbrev pub fields_behind : Option Tag → List ℕ → List (List ℕ)
 fields_behind None line = fields_in line
 fields_behind (Some tag) line = fields_in (behind_tag tag line)
 
--- these bytes are one line, with this tag, and behind it these fields
+-- these bytes are one line, with this tag, and these fields after it
 pub record IsOneLine (bytes : List ℕ) (tag : Option Tag) (fields : List (List ℕ)) : Type 0 where
   pub line : List ℕ
   pub one : input_lines bytes ≡ line ∷ []
   pub tagged : tag_of line ≡ tag
   pub behind : fields_behind tag line ≡ fields
 
--- a question of JSON is one line: its tag is the key, and its fields are the user, the word and the texts of the body's members
+-- a question of JSON is one line, with the key as its tag; its fields are the user, the word and the texts of the body's
+-- members
 abbrev pub IsAskedByOneLine : Type 0
 IsAskedByOneLine =
     (kind : AskedKind) (key : Option (List ℕ)) (body bytes : List ℕ) → question_line kind key body ≡ Ok bytes

@@ -1,4 +1,4 @@
--- What a request asks, and the lines that it carries (own).
+-- The kind of a request, and the lines that it carries (own).
 use Rattle.std.specs.Prelude.{ℕ, Bool, true, false, not, ◌&&◌, ◌||◌, ◌==◌, List, [], ◌∷◌, length, take, drop, codes, Option, Some, None, option_map, Result, Ok, Err, if◌then◌else◌}
 use Rattle.std.specs.Option.{is_some}
 use Rattle.std.specs.Str.{bytes_eq}
@@ -26,7 +26,7 @@ field_value request name = option_map (λ v. v.bytes) (get (head_of request).hea
 abbrev pub is_foreign_site : List ℕ → Bool
 is_foreign_site site = not (bytes_eq site (codes "same-origin")) && not (bytes_eq site (codes "none"))
 
--- whether the browser says so: others do not say of which site they are
+-- whether a browser names another site; other clients name none
 abbrev pub is_foreign : Option (List ℕ) → Bool
 is_foreign None = false
 is_foreign (Some site) = is_foreign_site site
@@ -40,12 +40,12 @@ ends_name (b ∷ _) = b == 59 || b == 32
 abbrev pub is_type : List ℕ → List ℕ → Bool
 is_type name kind = bytes_eq (lowercase (take (length name) kind)) (lowercase name) && ends_name (drop (length name) kind)
 
--- whether there is such a media type
+-- whether there is a media type of this name
 abbrev pub has_type : List ℕ → Option (List ℕ) → Bool
 has_type name None = false
 has_type name (Some kind) = is_type name kind
 
--- whether the head tells where the body ends
+-- whether the head says where the body ends
 abbrev pub has_length : Request (List ℕ) → Bool
 has_length request = is_some (field_value request (codes "content-length")) || is_some (field_value request (codes "transfer-encoding"))
 
@@ -58,12 +58,12 @@ post_fault method site typed sized =
     else (if not sized then Some faults.Length
     else None)))
 
--- the same, of a request whose body has to have this media type
+-- the fault of a request that has to be a POST from no other site, of this media type, and with a length
 abbrev pub fault_of_post : List ℕ → Request (List ℕ) → Option Fault
 fault_of_post name request =
     post_fault (head_of request).method (field_value request (codes "sec-fetch-site")) (has_type name (field_value request (codes "content-type"))) (has_length request)
 
--- what a request to /healthz asks
+-- the kind of a request to /healthz, by its method
 abbrev pub asks_by_health : List ℕ → Asks
 asks_by_health method =
     if bytes_eq method (codes "GET") || bytes_eq method (codes "HEAD") then Health else Refused faults.MethodOfHealth
@@ -98,12 +98,12 @@ reading_of_question (Some fault) line = refused_for fault
 abbrev pub line_of : AskedKind → Request (List ℕ) → Result (List ℕ) QuestionFault
 line_of kind request = question_line kind (field_value request (codes "idempotency-key")) (body_of request)
 
--- a request at the path of this question, or at none
+-- a request at the path of this question, or at an unknown path
 abbrev pub reading_at : Option AskedKind → Request (List ℕ) → Reading
 reading_at None request = refused_for faults.Path
 reading_at (Some kind) request = reading_of_question (fault_of_post (codes "application/json") request) (line_of kind request)
 
--- what a request asks, and the bytes of lines that it carries
+-- the kind of a request, and the bytes of lines that it carries
 unfoldable pub reading_of : Request (List ℕ) → Reading
 reading_of request =
     let path = uri_path (head_of request).uri in
@@ -111,7 +111,7 @@ reading_of request =
     else (if bytes_eq path (codes "/healthz") then record { asks = asks_by_health (head_of request).method; lines = [] }
     else reading_at (asked_at path) request)
 
--- what a request asks
+-- the kind of a request
 abbrev pub asks_of : Request (List ℕ) → Asks
 asks_of request = (reading_of request).asks
 

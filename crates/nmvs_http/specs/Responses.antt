@@ -29,7 +29,7 @@ status faults.Head = codes "431 Request Header Fields Too Large"
 status faults.Coding = codes "501 Not Implemented"
 status faults.Busy = codes "503 Service Unavailable"
 
--- the problem that a fault is told as: nothing is recorded (RFC 9457)
+-- the problem of a fault, of which nothing is recorded (RFC 9457)
 unfoldable pub problem : Fault → List ℕ
 problem faults.Request = codes "{\"type\":\"about:blank\",\"title\":\"Bad Request\",\"status\":400,\"fault\":\"REQUEST\",\"recorded\":\"no\"}\n"
 problem faults.Key = codes "{\"type\":\"about:blank\",\"title\":\"Bad Request\",\"status\":400,\"fault\":\"KEY\",\"recorded\":\"no\"}\n"
@@ -48,7 +48,7 @@ problem faults.Head = codes "{\"type\":\"about:blank\",\"title\":\"Request Heade
 problem faults.Coding = codes "{\"type\":\"about:blank\",\"title\":\"Not Implemented\",\"status\":501,\"fault\":\"CODING\",\"recorded\":\"no\"}\n"
 problem faults.Busy = codes "{\"type\":\"about:blank\",\"title\":\"Service Unavailable\",\"status\":503,\"fault\":\"BUSY\",\"recorded\":\"no\"}\n"
 
--- the status of the response to one question, by the problem that its text is: 200 exactly if it is a reply
+-- the status of the response to one question, by the problem in its text: 200 exactly if there is none
 abbrev pub status_where : Option Problem → List ℕ
 status_where None = codes "200 OK"
 status_where (Some problems.Unprocessable) = codes "422 Unprocessable Content"
@@ -87,28 +87,28 @@ body_text (Refused fault) replies = problem fault
 unfoldable pub front_of : List ℕ → List ℕ → List ℕ
 front_of status kind = codes "HTTP/1.1 " ++ (status ++ (codes "\r\ncontent-type: " ++ (kind ++ codes "\r\ncache-control: no-store\r\n")))
 
--- its first lines: the status, and the fields that tell of the body
+-- its first lines: the status, and the fields that describe the body
 abbrev pub front_text : Asks → List ℕ → List ℕ
 front_text asks replies = front_of (status_of asks replies) (type_of asks replies)
 
--- whether the connection stays, and, with its number behind it, how many bytes the body has
+-- the field of the connection, and that of the body's length up to its number
 abbrev pub connection_text : Bool → List ℕ
 connection_text true = codes "connection: keep-alive\r\ncontent-length: "
 connection_text false = codes "connection: close\r\ncontent-length: "
 
--- its head, where the body has so many bytes
+-- the head of a response whose body has this number of bytes
 abbrev pub head_text : List ℕ → Bool → ℕ → List ℕ
 head_text front stays count = (front ++ connection_text stays) ++ (decimal count ++ codes "\r\n\r\n")
 
--- a response of these first lines and this body: the body is left out where the head alone is wanted
+-- a response of these first lines and this body, which is left out if the head alone is wanted
 abbrev pub composed_text : List ℕ → Bool → Bool → List ℕ → List ℕ
 composed_text front head_alone stays body =
     head_text front stays (length body) ++ (if head_alone then [] else body)
 
--- the response
+-- the response to a request of this kind, with these replies
 abbrev pub response_text : Asks → Bool → Bool → List ℕ → List ℕ
 response_text asks head_alone stays replies = composed_text (front_text asks replies) head_alone stays (body_text asks replies)
 
--- what invites a peer to send the body of its request (RFC 9110, section 15.2.1)
+-- the response that invites a peer to send the body of its request (RFC 9110, section 15.2.1)
 abbrev pub invitation_text : List ℕ
 invitation_text = codes "HTTP/1.1 100 Continue\r\n\r\n"

@@ -6,7 +6,7 @@ use Rattle.http_server.specs.declared.state.Config.{Config}
 use Rattle.http_server.specs.declared.state.State.{State}
 use Rattle.http_server.specs.Connection.{history}
 
--- the bytes of a stream, the requests that were read off it, and whether more are
+-- the bytes of a stream, the requests read from it, and the state of its connection
 pub record StreamState : Type 0 where
   pub fed : List ℕ
   pub requests : List (Request (List ℕ))
@@ -16,7 +16,7 @@ pub record StreamState : Type 0 where
 abbrev pub stream_state : Connection → StreamState
 stream_state c = record { fed = (history c).received; requests = map (λ call. call.0) (history c).calls; state = (history c).state }
 
--- the limits of a request: 16 KiB for its head and as much for the rest of its lines, 128 KiB for its body (own)
+-- the limits of a request: 16 KiB each for its head, its chunk extensions and its trailers, 128 KiB for its body (own)
 abbrev pub request_limits : Config
 request_limits = record {
   limits = record { max_head_len = 16384; max_extensions_len = 16384; max_trailers_len = 16384 };

@@ -1,4 +1,4 @@
--- How requests are read off a stream of bytes (own).
+-- The requests that are read from a stream of bytes (own).
 use Rattle.std.specs.Prelude.{◌≡◌, ◌≢◌, ◌↔◌, ◌==◌, ℕ, true, List, [], ◌∷◌, ◌++◌, Option, Some, None, if◌then◌else◌}
 use Rattle.http.specs.declared.error.Error.{Error}
 use Rattle.http.specs.declared.error.Error.TheVariants.{HeaderName, MaxSizeReached, Uri}
@@ -26,7 +26,7 @@ ReadsRequests config stream [] rest = stream ≡ rest
 ReadsRequests config stream (r ∷ requests) rest =
     (message : Wire.Request) × (after : List ℕ) × ReadsCall config stream message r after × ReadsRequests config after requests rest
 
--- this is asked by the request
+-- the record has the kind and the lines of the request, and whether it wants the head alone
 abbrev pub ReadsAsked : Request (List ℕ) → Option Asked → Type 0
 ReadsAsked request None = ⊥
 ReadsAsked request (Some asked) =
@@ -43,7 +43,7 @@ part_fault _ = faults.Request
 abbrev pub reading_fault : ℕ → Fault
 reading_fault status = if status == 414 then faults.Target else (if status == 431 then faults.Head else faults.Request)
 
--- the fault of a request that is refused so
+-- the fault of a refused request
 unfoldable pub fault_of : Refusal → Fault
 fault_of (Unreadable error) = reading_fault (status_of error)
 fault_of (InvalidPart error) = part_fault error
@@ -51,7 +51,7 @@ fault_of BodyTooLarge = faults.Body
 fault_of UnknownCoding = faults.Coding
 fault_of _ = faults.Request
 
--- what comes next, where this was asked and the connection stands so
+-- the next item, by the request that was read and the state of the connection
 abbrev pub IsNextOf : Option Asked → StreamState → Next → Type 0
 IsNextOf asked new nexts.Nothing = (asked ≡ None) × (new.state ≡ states.Open)
 IsNextOf asked new nexts.Invitation = (asked ≡ None) × (new.state ≡ states.Open)
@@ -60,7 +60,7 @@ IsNextOf asked new (nexts.Refused fault) =
     (asked ≡ None) × ((why : Refusal) × (new.state ≡ states.Closing (reasons.Refused why)) × (fault ≡ fault_of why))
 IsNextOf asked new nexts.Lost = Unit {0}
 
--- what came next of a stream: one request more, or none; the connection stays where the stream goes on
+-- the next item of a stream: one more request, or none; the connection stays open exactly if the stream does
 abbrev pub IsNext : StreamState → StreamState → Next → Type 0
 IsNext old new nexts.Nothing = (new.requests ≡ old.requests) × (new.state ≡ states.Open)
 IsNext old new nexts.Invitation = (new.requests ≡ old.requests) × (new.state ≡ states.Open)

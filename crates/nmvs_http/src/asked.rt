@@ -1,4 +1,4 @@
-//! What requests ask.
+//! The kinds of requests.
 ghost use Rattle.std.specs.Prelude.{◌≡◌, codes, option_copied};
 ghost use Rattle.http_header.specs.Token.{lowercase};
 ghost use Rattle.std.specs.Str.{bytes_eq};
@@ -8,27 +8,28 @@ use crate::fault::Fault;
 use bytes::Bytes;
 use http::Request;
 
-/// What a request asks.
+/// The kind of a request.
 #[derive(Clone, Copy, Debug, PartialEq, Eq)]
 pub enum Asks {
-    /// The replies to the lines of its body.
+    /// Asks for the replies to the lines of its body.
     Lines,
-    /// The reply to the one question that its body of JSON is.
+    /// Asks for the reply to the question in its body of JSON.
     Question,
-    /// Whether the server lives.
+    /// Asks whether the server lives.
     Health,
-    /// Nothing: it is refused.
+    /// Is refused for this fault.
     Refused(Fault),
 }
 
-/// The type of a body of lines (own, as RFC 6838, section 3.2, has it). A page of another site cannot send it without leave: the
-/// types that it can are `text/plain` and those of forms (Fetch, section 2.2.2).
+/// The media type of a body of lines (own, a vendor type of RFC 6838, section 3.2). A page of another site cannot send it
+/// without leave: it can send `text/plain` and the types of forms alone (Fetch, section 2.2.2).
 pub(crate) const LINES_TYPE: &[u8] = b"application/vnd.nmvs.lines";
 
 /// The type of a question (RFC 8259, section 11), which a page of another site cannot send either.
 pub(crate) const JSON_TYPE: &[u8] = b"application/json";
 
-/// What a browser calls the site of the server itself, and a request that no page made (W3C Fetch Metadata, section 2.3).
+/// The values of a browser for a page of the same origin, and for a request that no page made (W3C Fetch Metadata, section
+/// 2.3).
 const SAME_ORIGIN: &[u8] = b"same-origin";
 
 const NO_SITE: &[u8] = b"none";
@@ -40,7 +41,7 @@ pub(crate) fn is_head(request: &Request<Bytes>) -> bool
     request.method().as_str() == "HEAD"
 }
 
-/// What a request asks of the server's health.
+/// The kind of a request for the server's health, by its method.
 pub(crate) fn asks_by_health(method: &str) -> Asks
     ensures { result ≡ specs.asks_by_health method.now }
 {
@@ -69,7 +70,7 @@ pub(crate) fn fault_of_post(name: &[u8], request: &Request<Bytes>) -> Option<Fau
     None
 }
 
-/// The value of a field, the first where it stands more than once.
+/// The first value of a field.
 pub(crate) fn field<'r>(request: &'r Request<Bytes>, name: &str) -> Option<&'r [u8]>
     ensures { option_copied result ≡ specs.field_value request.now (lowercase name.now) }
 {

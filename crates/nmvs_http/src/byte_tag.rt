@@ -3,7 +3,7 @@ ghost use Rattle.std.specs.Prelude.{◌≡◌, ◌++◌};
 
 use boxcar::tag::{Names, Tag};
 
-/// What a tag has, and what comes after it.
+/// A tag, and the bytes after its own.
 #[derive(Clone, Copy)]
 struct Longer<'t> {
     tag: &'t Tag,
@@ -16,7 +16,7 @@ impl<'t> Names<Longer<'t>> for Joined {
     ghost numbers = { λ l. l.tag.now.numbers ++ l.more.now };
 }
 
-/// The tag of what this one has, and these bytes.
+/// A tag with the bytes of this tag, and these bytes after them.
 pub fn extended(tag: &Tag, more: &[u8]) -> Tag
     ensures { result.numbers ≡ tag.now.numbers ++ more.now }
 {

@@ -21,56 +21,56 @@ use std::marker::Model;
 /// The most bytes of replies to one request (own).
 const LONGEST_REPLIES: usize = 16 * 1024 * 1024;
 
-/// How a codec stands.
+/// The stage of a codec.
 #[derive(Clone, Copy, Debug, PartialEq, Eq)]
 pub enum CodecStage {
-    /// Requests are read.
+    /// The codec reads requests.
     Open,
-    /// No more requests are read. The connection is closed after the unsent bytes.
+    /// The codec reads no more requests. The connection closes after the unsent bytes.
     Closing,
-    /// There was no memory: the connection is closed.
+    /// Memory ran out, and the connection closes.
     Lost,
 }
 
-/// What came of reading on.
+/// The result of a read.
 #[derive(Clone, Copy, Debug, PartialEq, Eq)]
 pub enum Decoded {
-    /// So many bytes of lines, at the front of the buffer.
+    /// This number of bytes of lines, at the front of the buffer.
     Lines(usize),
-    /// All lines of the request in hand were given: its response comes next.
+    /// The codec gave all lines of the request in hand. Its response comes next.
     Whole,
-    /// Nothing, before more bytes are fed.
+    /// Nothing until the codec is fed more bytes.
     Nothing,
-    /// Nothing any more.
+    /// Nothing: the codec reads no more requests.
     Over,
 }
 
-/// A request that is answered.
+/// The request in hand.
 #[derive(Drop)]
 pub(crate) struct Hand {
     asks: Asks,
     head_alone: bool,
     /// Whether the connection stays open after the response.
     stays: bool,
-    /// The bytes of lines that were not given yet.
+    /// The bytes of lines that the codec has not given yet.
     lines: Bytes,
 }
 
-/// Carries a session of lines over HTTP. It takes the bytes of requests, and gives the lines of their bodies, request by request. It
-/// takes the replies to these, and composes the response to each request. The caller moves the bytes.
+/// Carries a session of lines over HTTP. It takes the bytes of requests, and gives the lines of their bodies, request by
+/// request. It takes the replies to these, and composes the response to each request. The caller moves the bytes.
 #[derive(Drop)]
 pub struct HttpCodec {
     alloc: Global,
     stage: CodecStage,
     requests: RequestStream,
-    /// How many bytes were fed since the last request.
+    /// The number of bytes fed since the last request.
     pending: usize,
     hand: Option<Hand>,
     /// The replies to the request in hand.
     gathered: Vec<u8>,
     /// The bytes for the peer.
     told: WriteBuffer,
-    /// How many bytes of that were sent.
+    /// The number of these bytes that were sent.
     gone: usize,
     given: Tag,
     replies: Tag,
@@ -109,7 +109,7 @@ impl HttpCodec {
         }
     }
 
-    /// How it stands.
+    /// The stage.
     pub fn stage(&self) -> CodecStage
         ensures { result ≡ self.now.stage }
     {
@@ -121,12 +121,12 @@ impl HttpCodec {
         self.hand.is_some()
     }
 
-    /// Whether bytes came of a request that has not come whole.
+    /// Whether bytes were fed since the last request.
     pub fn has_pending_request(&self) -> bool {
         self.pending != 0
     }
 
-    /// The memory that it keeps, in bytes: what came of a request that has not come whole, and the room of replies and responses.
+    /// The memory that it keeps, in bytes: those fed since the last request, and the room of replies and responses.
     pub fn memory(&self) -> usize
         ensures replies { length self.now.gathered ≤ result }
         ensures unsent { length self.now.unsent ≤ result }
@@ -136,7 +136,7 @@ impl HttpCodec {
         self.pending.saturating_add(room)
     }
 
-    /// Goes on with these bytes. The result is the number that it took: all, if there is memory for them.
+    /// Feeds these bytes. Returns the number that it took: all, if there is memory for them.
     pub fn feed(&mut self, more: &[u8]) -> usize
         ensures within { result ≤ length more.now }
         ensures fed { self.new ≡ record self.old { stream = record self.old.stream { fed = self.old.stream.fed ++ take result more.now } } }
@@ -145,7 +145,7 @@ impl HttpCodec {
         self.requests.feed(more)
     }
 
-    /// Reads on: gives bytes of lines of the request in hand, or takes the next one in hand.
+    /// Reads bytes of lines of the request in hand. If none is in hand, takes the next request first.
     pub fn read(&mut self, buffer: &mut [u8]) -> Decoded
         ensures { Decodes self.old self.new buffer.new result }
     {
@@ -158,7 +158,7 @@ impl HttpCodec {
         }
     }
 
-    /// Takes a request in hand if one has come whole. The result says whether one is in hand.
+    /// Takes a request in hand if one has come whole. Returns whether one is in hand.
     fn take_request(&mut self) -> bool
         ensures goes_on { GoesOn self.old self.new }
         ensures given { self.new.given ≡ self.old.given }
@@ -192,7 +192,7 @@ impl HttpCodec {
         decoded
     }
 
-    /// Refuses for this fault what came of a request, or would have, where none is in hand: the connection is closed then.
+    /// Refuses for this fault a request that has not come whole, and closes the connection. Does nothing while one is in hand.
     pub fn refuse(&mut self, fault: Fault)
         ensures goes_on { GoesOn self.old self.new }
         ensures given { self.new.given ≡ self.old.given }
@@ -202,7 +202,7 @@ impl HttpCodec {
         }
     }
 
-    /// Takes replies to the request in hand. The result says whether there was room for them.
+    /// Takes replies to the request in hand. Returns whether there was room for them.
     pub fn write(&mut self, replies: &[u8]) -> bool
         ensures { self.new ≡ (if result then (record self.old { replies = self.old.replies ++ replies.now; gathered = self.old.gathered ++ replies.now }) else self.old) }
     {
@@ -218,8 +218,8 @@ impl HttpCodec {
         }
     }
 
-    /// Responds to the request in hand, where all its lines were given, or the session of lines has ended in it. What was replied
-    /// is the text of the answers to the lines that were given.
+    /// Responds to the request in hand, if all its lines were given or the session of lines has ended in it. The caller answers
+    /// each given line before.
     pub fn respond(&mut self, ended: bool)
         requires { AnswersLines self.old.given self.old.replies ended }
         ensures goes_on { GoesOn self.old self.new }
@@ -243,8 +243,8 @@ impl HttpCodec {
         }
     }
 
-    /// The unsent bytes. With those that were sent they are, in order, the responses to the requests that it was fed, each with the
-    /// text of the answers to its lines.
+    /// The unsent bytes. Unless memory ran out, the sent bytes and these are the messages to the peer, in order. The response
+    /// to each request has the text of the answers to its lines.
     pub fn unsent(&self) -> &[u8]
         ensures bytes { result.now ≡ self.now.unsent }
         ensures carries { CarriesRequests self.now }
@@ -253,7 +253,7 @@ impl HttpCodec {
         &self.told.bytes.as_slice()[self.gone..]
     }
 
-    /// Notes that this number of unsent bytes was sent, from the front.
+    /// Notes that the first unsent bytes, of this number, were sent.
     pub fn advance(&mut self, count: usize)
         requires { count ≤ length self.old.unsent }
         ensures { self.new ≡ record self.old { sent = self.old.sent ++ take count self.old.unsent; unsent = drop count self.old.unsent } }
@@ -287,7 +287,7 @@ impl Hand {
     }
 }
 
-/// The tag of what was given, with what reading on gave after it.
+/// The tag of the given bytes, with those of this read after them.
 fn given_behind(given: &Tag, buffer: &[u8], decoded: Decoded) -> Tag
     requires { Fits decoded buffer.now }
     ensures { result.numbers ≡ given.now.numbers ++ bytes_given decoded buffer.now }
@@ -312,7 +312,7 @@ fn give_of(hand: &mut Option<Hand>, buffer: &mut [u8]) -> Decoded
     Decoded::Lines(give_lines(&mut hand.lines, buffer))
 }
 
-/// Gives bytes of these lines, as many as the buffer has room for. The result is their number.
+/// Gives bytes of these lines, as many as the buffer has room for. Returns their number.
 fn give_lines(lines: &mut Bytes, buffer: &mut [u8]) -> usize
     ensures within { result ≤ length buffer.new }
     ensures given { lines.old ≡ take result buffer.new ++ lines.new }
@@ -337,7 +337,7 @@ fn stays_behind(stays: bool, ended: bool) -> bool
     stays && !ended
 }
 
-/// Invites the sender of a request to send its body. The result is how the codec stands then.
+/// Invites the sender of a request to send its body. Returns the next stage of the codec.
 fn tell_invitation(told: &mut WriteBuffer) -> CodecStage
     ensures { Tells told.old.bytes.items told.new.bytes.items invitation_text CodecStage.Open result }
 {
@@ -348,7 +348,7 @@ fn tell_invitation(told: &mut WriteBuffer) -> CodecStage
     }
 }
 
-/// Refuses for this fault what is no request. The result is how the codec stands then.
+/// Refuses a request for this fault. Returns the next stage of the codec.
 fn tell_refusal(told: &mut WriteBuffer, fault: Fault) -> CodecStage
     ensures { Tells told.old.bytes.items told.new.bytes.items (response_text (Asks.Refused fault) false false []) CodecStage.Closing result }
 {
@@ -359,7 +359,7 @@ fn tell_refusal(told: &mut WriteBuffer, fault: Fault) -> CodecStage
     }
 }
 
-/// Responds to the request in hand with these replies. The result is how the codec stands then.
+/// Responds to the request in hand with these replies. Returns the next stage of the codec.
 fn tell_response(
     alloc: Global,
     told: &mut WriteBuffer,
@@ -379,7 +379,7 @@ fn tell_response(
     }
 }
 
-/// Responds with these first lines and this body. The result is how the codec stands then.
+/// Responds with these first lines and this body. Returns the next stage of the codec.
 fn tell_body(
     told: &mut WriteBuffer,
     front: &[u8],
@@ -397,7 +397,7 @@ fn tell_body(
     }
 }
 
-/// Forgets what was written after this number of bytes: there was no memory for all of it.
+/// Drops the bytes after this number: there was no memory for the whole message.
 fn forget(told: &mut WriteBuffer, count: usize) -> CodecStage
     ensures lost { result ≡ CodecStage.Lost }
     ensures first { told.new.bytes.items ≡ take count told.old.bytes.items }

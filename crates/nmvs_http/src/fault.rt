@@ -1,6 +1,6 @@
-//! Why a request is refused.
+//! The faults of requests.
 
-/// Why a request is refused. Nothing is asked for it.
+/// The fault of a refused request. The session gets no line of it.
 #[derive(Clone, Copy, Debug, PartialEq, Eq)]
 pub enum Fault {
     /// Its bytes are no request.
@@ -15,9 +15,9 @@ pub enum Fault {
     Site,
     /// Nothing is at its path.
     Path,
-    /// Its method is not `POST`.
+    /// Its method is not `POST`, at the path of lines or of a question.
     MethodOfLines,
-    /// Its method does not go with `/healthz`.
+    /// Its method is neither `GET` nor `HEAD`, at `/healthz`.
     MethodOfHealth,
     /// It has not come whole in time.
     Timeout,
@@ -27,12 +27,12 @@ pub enum Fault {
     Body,
     /// Its target is too long.
     Target,
-    /// Its body is of another type than is read.
+    /// Its body has another media type than its path takes.
     Type,
     /// Its head is too long, or has too many fields.
     Head,
-    /// Its body has a coding that is not undone.
+    /// Its body has a coding that the server does not decode.
     Coding,
-    /// It is of a connection that is one too many.
+    /// The server has no room for its connection.
     Busy,
 }

@@ -1,5 +1,5 @@
-//! HTTP/1.1 as a carrier of lines. The bodies of requests are the bytes that a session of lines is fed, and the replies that it gives
-//! are the bodies of the responses. A question of JSON is the one line that it means.
+//! HTTP/1.1 as a carrier of lines. A session of lines is fed the bodies of requests, and its replies are the bodies of the
+//! responses. A question of JSON is the one line that it means.
 #![tactic(auto)]
 
 mod asked;

@@ -1,4 +1,4 @@
-//! What requests ask, and the bytes of lines that they carry.
+//! Reads the kinds of requests, and the bytes of lines that they carry.
 ghost use Rattle.std.specs.Prelude.{◌≡◌, [], Some, IfOk, codes, string_bytes};
 ghost use Rattle.http.specs.Request.{body_of};
 ghost use Rattle.nmvs_http.specs.Requests as specs;
@@ -11,14 +11,14 @@ use http::Request;
 use nmvs_json::{AskedKind, QuestionFault, question_line};
 use std::alloc::{AllocError, Global};
 
-/// What a request asks, and the bytes of lines that it carries.
+/// The kind of a request, and the bytes of lines that it carries.
 #[derive(Drop)]
 pub(crate) struct Reading {
     pub(crate) asks: Asks,
     pub(crate) lines: Bytes,
 }
 
-/// What a request asks, and the bytes of lines that it carries. It fails only out of memory.
+/// Reads the kind of a request, and the bytes of lines that it carries. It fails only if memory runs out.
 #[tactic(auto, unfolding(crate::specs::Requests::reading_of))]
 pub(crate) fn read_request(alloc: Global, request: &Request<Bytes>) -> Result<Reading, AllocError>
     ensures { IfOk result (λ reading. reading ≡ specs.reading_of request.now) }
@@ -56,7 +56,7 @@ fn read_lines(alloc: Global, request: &Request<Bytes>) -> Result<Reading, AllocE
     }
 }
 
-/// Reads a request at the path of this question, or at none.
+/// Reads a request at the path of this question, or at an unknown path.
 fn read_at(
     alloc: Global,
     kind: Option<AskedKind>,

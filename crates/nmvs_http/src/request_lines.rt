@@ -1,4 +1,4 @@
-//! The lines that a body is.
+//! The lines of a body.
 ghost use Rattle.std.specs.Prelude.{◌≡◌, ◌∷◌, ◌++◌, [], IfOk};
 ghost use Rattle.nmvs_http.specs.RequestLines as specs;
 

@@ -20,14 +20,14 @@ use std::marker::Model;
 /// The most bytes of a request's body (own).
 const LONGEST_BODY: usize = 128 * 1024;
 
-/// The bytes that invite a peer to send a body. What the connection would answer a request has more, so that it reads no second
-/// request meanwhile.
+/// The length in bytes of an invitation to send a body. The connection's own response to a request is longer, so it reads no
+/// second request before that is discarded.
 const INVITATION: usize = 25;
 
-/// The bytes that are read at once.
+/// The most bytes of one read.
 const READ_SIZE: usize = 4096;
 
-/// What a request asks.
+/// A request that was read.
 #[derive(Drop)]
 pub(crate) struct Asked {
     pub(crate) asks: Asks,
@@ -37,7 +37,7 @@ pub(crate) struct Asked {
     pub(crate) lines: Bytes,
 }
 
-/// What comes next in a stream.
+/// The next item of a stream.
 #[derive(Drop)]
 pub(crate) enum Next {
     /// No whole request.
@@ -46,13 +46,13 @@ pub(crate) enum Next {
     Invitation,
     /// A request, and whether the connection stays open after its response.
     Request(Asked, bool),
-    /// What can be no request.
+    /// A refusal for this fault.
     Refused(Fault),
     /// There was no memory for a request.
     Lost,
 }
 
-/// A stream of bytes, of which the first are requests.
+/// A stream of bytes that begins with requests.
 #[derive(Drop)]
 pub(crate) struct RequestStream {
     alloc: Global,
@@ -72,7 +72,7 @@ impl Model for RequestStream {
 }
 
 impl RequestStream {
-    /// One that nothing was fed to. The peer chooses the names of fields, so their maps take secret keys.
+    /// An empty stream. The peer chooses the names of fields, so their maps take secret keys.
     pub(crate) fn new(alloc: Global, keys: RandomState) -> RequestStream
         ensures { result ≡ record { fed = []; requests = []; state = State.Open } }
     {
@@ -82,7 +82,7 @@ impl RequestStream {
         }
     }
 
-    /// Goes on with these bytes. The result is the number that it took: all, if there is memory for them.
+    /// Feeds these bytes. Returns the number that it took: all, if there is memory for them.
     pub(crate) fn feed(&mut self, more: &[u8]) -> usize
         ensures within { result ≤ length more.now }
         ensures fed { self.new ≡ record self.old { fed = self.old.fed ++ take result more.now } }
@@ -97,14 +97,14 @@ impl RequestStream {
         more.len()
     }
 
-    /// Notes what was read: but for want of memory the stream is the requests that were read off it, and a rest.
+    /// States that the stream is the requests read from it and a rest, unless memory ran out.
     pub(crate) fn note_read(&self)
         ensures { self.now.state ≢ states.Aborted → ∥ ((rest : List ℕ) × ReadsRequests request_limits self.now.fed self.now.requests rest) ∥₁ }
     {
         let _state = self.connection.state();
     }
 
-    /// What comes next.
+    /// Reads the next item.
     pub(crate) fn next(&mut self) -> Next
         ensures fed { self.new.fed ≡ self.old.fed }
         ensures next { IsNext self.old self.new result }
@@ -121,7 +121,7 @@ impl RequestStream {
     }
 }
 
-/// What comes next, where this was asked, and the connection that reads the stream stands so.
+/// The next item, by the request that was read and the state of the connection.
 fn next_of(asked: Option<Asked>, state: State, waits: bool) -> Next
     ensures { (new : StreamState) → new.state ≡ state → IsNextOf asked new result }
 {
@@ -135,7 +135,7 @@ fn next_of(asked: Option<Asked>, state: State, waits: bool) -> Next
     }
 }
 
-/// Takes one request of a connection, whose own answer goes to nobody.
+/// Takes one request of a connection. Nobody gets the connection's own response.
 #[derive(Drop)]
 pub(crate) struct Reader {
     alloc: Global,
@@ -163,7 +163,7 @@ impl Service for Reader {
     }
 }
 
-/// What a request asks, and what of it is wanted.
+/// Reads the kind and lines of a request, and whether it wants the head of the response alone.
 fn read_asked(alloc: Global, request: &Request<Bytes>) -> Result<Asked, AllocError>
     ensures { IfOk result (λ asked. ReadsAsked request.now (Some asked)) }
 {
@@ -185,7 +185,7 @@ fn config() -> Config
     config
 }
 
-/// Lets go of what a connection would send.
+/// Discards the bytes that a connection would send.
 fn discard_output(connection: &mut Connection)
     ensures stream { stream_state connection.new ≡ stream_state connection.old }
     ensures config { config_of connection.new ≡ config_of connection.old }

@@ -9,7 +9,7 @@ use itoa::Buffer;
 use nmvs_json::{Problem, problem_of};
 use nmvs_stream::{Failed, Sink, write_all};
 
-/// Invites a peer that waits with the body of its request (RFC 9110, section 15.2.1).
+/// The response that invites a waiting peer to send the body of its request (RFC 9110, section 15.2.1).
 const CONTINUE: &[u8] = b"HTTP/1.1 100 Continue\r\n\r\n";
 
 /// Invites the peer to send the body.
@@ -20,7 +20,11 @@ pub(crate) fn write_invitation<W: Sink>(sink: &mut W) -> Result<(), Failed>
     write_all(sink, CONTINUE)
 }
 
-/// Refuses for this fault what came of a request, as the last words to a peer: where it has not come whole in time, say.
+/// Writes the refusal of a request for this fault. It is the last response of a connection.
+///
+/// # Errors
+///
+/// The sink failed.
 pub fn write_refusal<W: Sink>(sink: &mut W, fault: Fault) -> Result<(), Failed>
     ensures ok { OnOk result (Writes (W.taken sink.old) (W.taken sink.new) (specs.response_text (Asks.Refused fault) false false [])) }
     ensures err { OnErr result (DeliversPart (W.taken sink.old) (W.taken sink.new) (specs.response_text (Asks.Refused fault) false false [])) }
@@ -63,7 +67,7 @@ pub(crate) fn lent_body(asks: Asks, replies: &[u8]) -> Option<&[u8]>
     }
 }
 
-/// The status line of the response to what was asked, and the fields that describe its body.
+/// The first lines of a response: its status, and the fields that describe its body.
 #[tactic(auto, unfolding(crate::specs::Responses::front_of))]
 pub(crate) fn front_of(asks: Asks, replies: &[u8]) -> &'static [u8]
     ensures { result.now ≡ specs.front_text asks replies.now }
@@ -78,7 +82,7 @@ pub(crate) fn front_of(asks: Asks, replies: &[u8]) -> &'static [u8]
     }
 }
 
-/// The same of the response to one question, by the problem that its text is.
+/// The first lines of the response to one question, by its problem if there is one.
 #[tactic(auto, unfolding(crate::specs::Responses::front_of))]
 fn front_of_question(problem: Option<Problem>) -> &'static [u8]
     ensures { result.now ≡ specs.front_of (specs.status_where problem) (specs.type_where problem) }
@@ -98,7 +102,7 @@ fn front_of_question(problem: Option<Problem>) -> &'static [u8]
     }
 }
 
-/// Whether the connection stays, and how many bytes the body has.
+/// The field of the connection, and that of the body's length up to its number.
 fn connection_of(stays: bool) -> &'static [u8]
     ensures { result.now ≡ specs.connection_text stays }
 {
@@ -109,7 +113,7 @@ fn connection_of(stays: bool) -> &'static [u8]
     }
 }
 
-/// The same of a request that is refused.
+/// The first lines of the response to a refused request.
 #[tactic(auto, unfolding(crate::specs::Responses::front_of))]
 fn front_of_fault(fault: Fault) -> &'static [u8]
     ensures { result.now ≡ specs.front_text (Asks.Refused fault) [] }
@@ -144,7 +148,7 @@ fn front_of_fault(fault: Fault) -> &'static [u8]
     }
 }
 
-/// The problem that says what the fault is (RFC 9457).
+/// The problem of a fault (RFC 9457).
 #[tactic(auto, unfolding(crate::specs::Responses::problem))]
 fn problem(fault: Fault) -> &'static [u8]
     ensures { result.now ≡ specs.problem fault }

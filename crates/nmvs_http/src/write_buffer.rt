@@ -1,9 +1,9 @@
-//! Bytes that are gathered in memory.
+//! A buffer of bytes to send.
 ghost use Rattle.nmvs_stream.specs.Sink.{Taken};
 
 use nmvs_stream::{Failed, Sink};
 
-/// Bytes that are gathered before they are sent. As a sink it fails where there is no memory for more.
+/// A buffer of bytes to send. As a sink it fails if there is no memory for more.
 #[derive(Drop)]
 pub struct WriteBuffer {
     pub bytes: Vec<u8>,
@@ -14,7 +14,7 @@ pub struct WriteBuffer {
 impl WriteBuffer {
     ghost use Rattle.std.specs.Prelude.{◌≡◌};
 
-    /// None, in this room.
+    /// A buffer of the bytes in this vector, with its room.
     pub fn new(room: Vec<u8>) -> WriteBuffer
         ensures { result.bytes ≡ room }
     {

@@ -1,4 +1,4 @@
--- What a body and a key are, and how a line grows.
+-- The object of a body, the tag of a key, and a line with one text more.
 use Rattle.std.proofs.Common.{◌≡◌, ◌<◌, ◌++◌, ◌∷◌, [], ℕ, Bool, true, false, List, length, codes, Option, Some, None, Bor, Vec, cond, refl, sym, ap, ◌∙◌, append_assoc, arith}
 use Rattle.std.specs.Prelude.{option_and_then, option_map}
 use Rattle.std.specs.List.{list_all, AllByRecursion}
@@ -27,7 +27,7 @@ all_small (b ∷ bs) e =
     let parts = and_parts (is_plain b) (list_all is_plain bs) e in
     (plain-small b parts.0, all_small bs parts.1)
 
--- what is no text is no tag
+-- bytes that are no text are no tag
 pub no_tag : (key : List ℕ) → (IsUtf8 key → ⊥) → is_tag key ≡ false
 no_tag key other = by (is_tag key) refl
   where
@@ -35,7 +35,7 @@ no_tag key other = by (is_tag key) refl
     by false e = refl
     by true e = absurd (other (IsUtf8-from_ascii key (IsAscii-from_all key (All-from_recursion _ key (all_small key (plain_name key e).2)))))
 
--- what is no text is no object
+-- bytes that are no text are no object
 pub no_object : (body : List ℕ) → (IsUtf8 body → ⊥) → object_in body ≡ None
 no_object body other = by (is_utf8 body) refl
   where
@@ -51,11 +51,11 @@ members_counted : {A : Type 0} (ms : List (Bor (List ℕ) × Value A)) → lengt
 members_counted [] = refl
 members_counted (m ∷ ms) = let rest = members_counted ms in omega (arith, rest)
 
--- how many members an object has
+-- the number of members of an object
 pub object_count : {A : Type 0} (v : Vec (Bor (List ℕ) × Value A) A) → count_of (value_view (Object v)) ≡ length v.items
 object_count v = ap count_of (view-Object v) ∙ members_counted v.items
 
--- an object is one
+-- the value of an object is an object
 pub object_same : {A : Type 0} (v : Vec (Bor (List ℕ) × Value A) A) → as_object (value_view (Object v)) ≡ Some (value_view (Object v))
 object_same v = ap as_object (view-Object v) ∙ ap Some (sym (view-Object v))
 

@@ -1,4 +1,4 @@
--- How texts are cut into words and lines, and put together with commas.
+-- The words and lines of texts, and texts with commas between them.
 use Rattle.std.proofs.Common.{◌≡◌, ◌+◌, ◌-◌, ℕ, Bool, true, false, cond, List, [], ◌∷◌, ◌++◌, codes, length, take, drop, get_or, map, Some, option_map, Result, Ok, Err, refl, sym, ap, ◌∙◌, arith}
 use Rattle.std.specs.Prelude.{find, is_ok, OnOk}
 use Rattle.std.specs.Str.{bytes_eq}
@@ -73,7 +73,7 @@ pub no_batches : batch_objects [] ≡ []
 unfolding batch_objects
 no_batches = refl
 
--- what is found in a table, as one that is seen otherwise
+-- a search in a table finds the same in a view of the table
 pub find_view : {R S : Type 0} (view : R → S) (p : R → Bool) (q : S → Bool) → ((r : R) → p r ≡ q (view r)) → (rs : List R) → option_map view (find p rs) ≡ find q (map view rs)
 find_view view p q same [] = refl
 find_view view p q same (r ∷ rs) =

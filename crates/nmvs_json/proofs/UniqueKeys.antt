@@ -1,4 +1,4 @@
--- The test of a value's keys says what a strict read says.
+-- The test of a value's keys agrees with a strict read.
 use Rattle.std.proofs.Common.{◌≡◌, ◌≢◌, ℕ, suc, Bool, true, false, not, List, [], ◌∷◌, Option, Some, None, cond, refl, ap, ◌∙◌, arith, bytes_eq}
 use Rattle.std.specs.Prelude.{IsSomeAnd, option_and_then}
 use Rattle.std.specs.Bool.{Decides}

@@ -1,4 +1,4 @@
--- What the JSON of replies is judged by (own).
+-- The laws of the JSON of replies (own).
 use Rattle.std.specs.Prelude.{◌≡◌, ℕ, Bool, true, false, List, [], ◌∷◌, length, map, Some, option_map}
 use Rattle.std.specs.List.{list_any}
 use Rattle.nmvs_rules.specs.declared.reply.Reply.{Reply}
@@ -16,7 +16,7 @@ is_label (string name) = false
 is_label (number name) = false
 is_label label = true
 
--- for each word behind the first there is a place, and none is left out
+-- each word after the first has a place, and none is left out
 abbrev pub Fits : List (List ℕ) → Type 0
 Fits [] = ⊥
 Fits (word ∷ words) = (option_map length (places_of word) ≡ Some (length words)) × (option_map (list_any is_label) (places_of word) ≡ Some false)

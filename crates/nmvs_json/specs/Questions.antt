@@ -19,7 +19,7 @@ use Rattle.nmvs_json.specs.declared.asked_kind.AskedKind.TheVariants.{Question, 
 use Rattle.nmvs_json.specs.declared.question_fault.QuestionFault.{QuestionFault}
 use Rattle.nmvs_json.specs.declared.question_fault.QuestionFault.TheVariants as fault
 
--- the path of what is asked
+-- the path of a kind of question
 abbrev pub path_of : AskedKind → List ℕ
 path_of (Question Upload) = codes "/v1/upload"
 path_of (Question (OfPack Verify)) = codes "/v1/verify"
@@ -37,16 +37,16 @@ path_of (Question (OfBatch Recall)) = codes "/v1/recall"
 path_of (Question (OfBatch Withdraw)) = codes "/v1/withdraw"
 path_of Report = codes "/v1/report"
 
--- what is asked at a path
+-- the kind of question at a path
 abbrev pub asked_at : List ℕ → Option AskedKind
 asked_at path = find (λ k. bytes_eq path (path_of k)) (Report ∷ map Question kinds)
 
--- the word of its line
+-- the word of the line
 abbrev pub word_of : AskedKind → List ℕ
 word_of (Question kind) = kind_word kind
 word_of Report = codes "REPORT"
 
--- the members behind the user, in the order of the line
+-- the members after the user, in the order of the line
 abbrev pub names_of : AskedKind → List (List ℕ)
 names_of (Question Upload) = codes "code" ∷ codes "serial" ∷ codes "batch" ∷ codes "expiry" ∷ []
 names_of (Question (OfPack _)) = codes "code" ∷ codes "serial" ∷ []
@@ -89,7 +89,7 @@ as_object _ = None
 abbrev pub object_in : List ℕ → Option Json
 object_in body = if is_utf8 body then option_and_then as_object (value_in body) else None
 
--- how many members an object has
+-- the number of members of an object
 abbrev pub count_of : Json → ℕ
 count_of (json.object ms) = length (keys ms)
 count_of _ = 0
@@ -103,7 +103,7 @@ abbrev pub as_field : Option (List ℕ) → Option (List ℕ)
 as_field None = None
 as_field (Some t) = if is_field t then Some t else None
 
--- a text that does not begin with #: in front of a line it would be a tag
+-- a text that does not begin with #, which reads as a tag at the front of a line
 abbrev pub as_user : Option (List ℕ) → Option (List ℕ)
 as_user None = None
 as_user (Some []) = Some []
@@ -122,7 +122,7 @@ abbrev pub texts_of : List (List ℕ) → Json → Option (List (List ℕ))
 texts_of [] j = Some []
 texts_of (name ∷ names) j = option_and_then (λ t. option_map (λ ts. t ∷ ts) (texts_of names j)) (text_of name j)
 
--- the fields of the line that an object means, whose members are those of what is asked and no others
+-- the fields of the line that an object means, if its members are those of the question and no others
 abbrev pub fields_of : AskedKind → Json → Option (List (List ℕ))
 fields_of kind j =
     if count_of j == 1 + length (names_of kind)
@@ -134,7 +134,7 @@ abbrev pub is_key : Option (List ℕ) → Bool
 is_key None = true
 is_key (Some key) = is_tag key
 
--- what stands in front of the line of a question with a key
+-- the text before the line of a question with a key
 abbrev pub key_text : Option (List ℕ) → List ℕ
 key_text None = []
 key_text (Some key) = 35 ∷ key ++ 32 ∷ []

@@ -1,4 +1,4 @@
--- The JSON of a reply (RFC 8259), and the problem where there is none (RFC 9457). Names and statuses are our own choice.
+-- The JSON of a reply (RFC 8259), or the problem if there is none (RFC 9457). Names and statuses are our own choice.
 use Rattle.std.specs.Prelude.{ℕ, Bool, false, List, [], ◌∷◌, ◌++◌, ◌==◌, ◌||◌, codes, drop, find, Option, Some, None, option_map, unwrap_or, if◌then◌else◌}
 use Rattle.std.specs.List.{after_first, before_first, flat_map}
 use Rattle.std.specs.Str.{bytes_eq}
@@ -15,11 +15,11 @@ escaped b = if b == 34 || b == 92 then 92 ∷ b ∷ [] else b ∷ []
 abbrev pub quoted : List ℕ → List ℕ
 quoted text = 34 ∷ (flat_map escaped text ++ 34 ∷ [])
 
--- what a table has for a word
+-- the value of a word in a table
 abbrev pub named : {T : Type 0} → List (List ℕ × T) → List ℕ → Option T
 named table word = option_map (λ row. row.1) (find (λ row. bytes_eq word row.0) table)
 
--- how a word of a line stands in its object: as a string or as a number, under a name; or not at all, where the next name says the same
+-- the place of a word of a line in its object: a string or a number under a name; or none, if the next name says the same
 pub data Place : Type 0 where
   string : List ℕ → Place
   number : List ℕ → Place
@@ -43,11 +43,11 @@ rows =
     ∷ (codes "PRODUCT", string (codes "code") ∷ label ∷ string (codes "holder") ∷ label ∷ number (codes "alerts") ∷ label ∷ number (codes "flagged") ∷ [])
     ∷ []
 
--- the places of a line that begins with this word, where it is that of a reply
+-- the places of a line that begins with this word, if it is the first word of a reply
 unfoldable pub places_of : List ℕ → Option (List Place)
 places_of word = named rows word
 
--- the first word of a line, and the words behind it
+-- the first word of a line, and the words after it
 abbrev pub first_word : List ℕ → List ℕ
 first_word line = before_first is_space line
 
@@ -69,12 +69,12 @@ member (label, word) = []
 abbrev pub members : List Place → List ℕ → List ℕ
 members places line = flat_map member (placed places line)
 
--- texts, of which the first stands behind this and each other one behind a comma
+-- texts, the first after this text and each later one after a comma
 unfoldable pub separated : List ℕ → List (List ℕ) → List ℕ
 separated front [] = []
 separated front (x ∷ xs) = front ++ (x ++ separated (codes ",") xs)
 
--- whether a word is a tag: it begins with #, as no other first word of a line does
+-- whether a word is a tag: it begins with #, and no other first word of a line does
 abbrev pub is_tag : List ℕ → Bool
 is_tag [] = false
 is_tag (b ∷ bs) = b == 35
@@ -83,14 +83,14 @@ is_tag (b ∷ bs) = b == 35
 abbrev pub untagged : List ℕ → List ℕ
 untagged line = if is_tag line then later_words line else line
 
--- the places of the words of a batch, behind BATCH and the batch number
+-- the places of the words of a batch, after BATCH and the batch number
 unfoldable pub batch_places : List Place
 batch_places =
     string (codes "lock")
     ∷ label ∷ number (codes "active") ∷ label ∷ number (codes "held") ∷ label ∷ number (codes "supplied") ∷ label ∷ number (codes "exported")
     ∷ label ∷ number (codes "sampled") ∷ label ∷ number (codes "destroyed") ∷ label ∷ number (codes "stolen") ∷ []
 
--- the object of a batch, by the words behind BATCH
+-- the object of a batch, by the words after BATCH
 abbrev pub batch_object : List ℕ → List ℕ
 batch_object line =
     codes "{\"batch\":" ++ (quoted (first_word line) ++ (members batch_places (later_words line) ++ codes "}"))
@@ -101,7 +101,7 @@ batch_objects [] = []
 batch_objects (line ∷ lines) =
     if bytes_eq (first_word (untagged line)) (codes "BATCH") then batch_object (later_words (untagged line)) ∷ batch_objects lines else []
 
--- what the later lines of a reply show: the entries of an audit, as they are; or the batches of a report
+-- the members of the later lines of a reply: the entries of an audit, as they are, or the batches of a report
 unfoldable pub later_members : List ℕ → List (List ℕ) → List ℕ
 later_members word lines =
     if bytes_eq word (codes "SHOWN") then codes ",\"entries\":[" ++ (separated [] lines ++ codes "]")
@@ -113,7 +113,7 @@ abbrev pub reply_object : List Place → List ℕ → List (List ℕ) → List �
 reply_object places line lines =
     codes "{\"reply\":" ++ (quoted (first_word line) ++ (members places (later_words line) ++ (later_members (first_word line) lines ++ codes "}\n")))
 
--- the faults of lines, and the problem that each is
+-- the faults of lines, and the problem of each
 abbrev pub problems : List (List ℕ × Problem)
 problems =
     (codes "LONG", Unprocessable) ∷ (codes "RETURN", Unprocessable) ∷ (codes "BYTES", Unprocessable) ∷ (codes "FIELDS", Unprocessable)
@@ -124,11 +124,11 @@ problems =
     ∷ (codes "CLOCK", Unavailable) ∷ (codes "CLOSED", Unavailable) ∷ (codes "MEMORY", Unavailable)
     ∷ []
 
--- the problem that a fault is: JOURNAL, and what stands in no table, may be recorded
+-- the problem of a fault: a question with a fault that is not in the table, as JOURNAL, may be recorded
 unfoldable pub problem_named : List ℕ → Problem
 problem_named fault = unwrap_or (named problems fault) Unknown
 
--- a problem up to its fault, and behind that (RFC 9457, section 3; `fault` and `recorded` are own)
+-- a problem up to its fault, and after it (RFC 9457, section 3; `fault` and `recorded` are own)
 unfoldable pub problem_front : Problem → List ℕ
 problem_front Unprocessable = codes "{\"type\":\"about:blank\",\"title\":\"Unprocessable Content\",\"status\":422,\"fault\":"
 problem_front Forbidden = codes "{\"type\":\"about:blank\",\"title\":\"Forbidden\",\"status\":403,\"fault\":"
@@ -140,11 +140,11 @@ abbrev pub problem_end : Problem → List ℕ
 problem_end Unknown = codes ",\"recorded\":\"unknown\"}\n"
 problem_end _ = codes ",\"recorded\":\"no\"}\n"
 
--- the problem that is a fault
+-- the object of the problem of a fault
 abbrev pub problem_object : List ℕ → List ℕ
 problem_object fault = problem_front (problem_named fault) ++ (quoted fault ++ problem_end (problem_named fault))
 
--- the fault of a line that is that of no reply: the words behind FAULT; ENDED where it is no line of a session's, or there is none
+-- the fault of a line without a reply: the words after FAULT, or ENDED if the line does not begin with FAULT
 abbrev pub fault_of : List ℕ → List ℕ
 fault_of line = if bytes_eq (first_word line) (codes "FAULT") then later_words line else codes "ENDED"
 
@@ -158,7 +158,7 @@ abbrev pub problem_where : Option (List Place) → List ℕ → Option Problem
 problem_where (Some places) line = None
 problem_where None line = Some (problem_named (fault_of line))
 
--- the first of these lines without its tag; an empty one where there is none
+-- the first of these lines without its tag, or an empty line if there are none
 abbrev pub first_line : List (List ℕ) → List ℕ
 first_line [] = []
 first_line (line ∷ lines) = untagged line
@@ -169,7 +169,7 @@ body_text text =
     let lines = input_lines text in
     body_where (places_of (first_word (first_line lines))) (first_line lines) (drop 1 lines)
 
--- the problem that the text is, where it is no reply
+-- the problem of the text, if it is no reply
 unfoldable pub problem_of : List ℕ → Option Problem
 problem_of text =
     let line = first_line (input_lines text) in problem_where (places_of (first_word line)) line

@@ -1,11 +1,11 @@
-//! What is asked at which path.
+//! The kinds of questions, and their paths.
 ghost use Rattle.std.specs.Prelude.{◌≡◌, map};
 ghost use Rattle.nmvs_json.specs.Questions as specs;
 
 use nmvs_rules::Reason;
 use nmvs_words::{BatchQuestion, PackQuestion, QuestionKind};
 
-/// What is asked, without who asks and what it names.
+/// The kind of a question or report, without its user and its fields.
 #[derive(Clone, Copy, Debug, PartialEq, Eq)]
 pub enum AskedKind {
     Question(QuestionKind),
@@ -13,7 +13,7 @@ pub enum AskedKind {
 }
 
 impl AskedKind {
-    /// What is asked at this path.
+    /// The kind at this path, if there is one.
     pub fn at(path: &str) -> Option<AskedKind>
         ensures { result ≡ specs.asked_at path.now }
     {
@@ -38,7 +38,7 @@ impl AskedKind {
         Some(AskedKind::Question(QuestionKind::OfPack(of_pack)))
     }
 
-    /// The word of its line.
+    /// The word of the line.
     pub(crate) fn word(self) -> &'static str
         ensures { result.now ≡ specs.word_of self }
     {

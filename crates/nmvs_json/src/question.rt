@@ -13,11 +13,11 @@ use json::{Error, Scratch, Value};
 use nmvs_identifier::Tag;
 use std::alloc::Global;
 
-/// The line, with its LF, that a question means: what is asked by its path, its key if it has one, and its body of JSON.
+/// The line, with its LF, of a question: its kind, its key if there is one, and its body of JSON.
 ///
 /// # Errors
 ///
-/// The first fault that holds, or out of memory.
+/// The first fault that holds. `Memory`: there is no memory.
 #[tactic(auto, unfolding(crate::specs::Questions::question_line))]
 pub fn question_line(
     alloc: Global,
@@ -35,7 +35,7 @@ pub fn question_line(
     Ok(line)
 }
 
-/// What stands in front of a line with this key.
+/// The text before a line with this key: its tag and a space, or nothing without a key.
 fn key_text(alloc: Global, key: Option<&[u8]>) -> Result<String, QuestionFault>
     ensures text { IfOk result (λ text. string_bytes text ≡ specs.key_text (option_copied key.entry)) }
     ensures key { IfOk result (λ text. specs.is_key (option_copied key.entry) ≡ true) }
@@ -127,7 +127,7 @@ fn push_texts(line: &mut String, names: &[&str], object: &Value<'_>) -> Result<(
     Ok(())
 }
 
-/// How many members an object has.
+/// The number of members of an object.
 fn count_of(object: &Value<'_>) -> usize
     ensures { result ≡ specs.count_of (value_view object.now) }
 {
@@ -149,7 +149,7 @@ fn text_of<'v>(object: &'v Value<'_>, name: &str) -> Option<&'v str>
     }
 }
 
-/// The text of the user. With `#` in front it would be read as a tag.
+/// The text of the user. A text that begins with `#` is refused, because it reads as a tag.
 fn user_of<'v>(object: &'v Value<'_>) -> Option<&'v str>
     ensures { option_copied result ≡ specs.user_of (value_view object.now) }
 {

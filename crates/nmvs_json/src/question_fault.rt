@@ -1,7 +1,7 @@
-//! Why a question of JSON is refused.
+//! The faults of questions of JSON.
 use std::alloc::AllocError;
 
-/// Why a question of JSON is refused: the first of these that holds.
+/// The fault of a refused question of JSON: the first of these that holds.
 #[derive(Clone, Copy, Debug, PartialEq, Eq)]
 pub enum QuestionFault {
     /// The key is no tag.
@@ -10,7 +10,7 @@ pub enum QuestionFault {
     Json,
     /// A member is missing or unknown, or its value cannot be a field of the line.
     Fields,
-    /// Out of memory. It may come at any time.
+    /// There is no memory. This fault may come before any other.
     Memory,
 }
 

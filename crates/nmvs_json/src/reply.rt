@@ -9,7 +9,7 @@ use memchr::memchr;
 use nmvs_stream::cut_line;
 use std::alloc::{AllocError, Allocator};
 
-/// Why there is no reply to a question, as the statuses of HTTP part the faults.
+/// The problem of a question without a reply: its faults, grouped by status of HTTP.
 #[derive(Clone, Copy, Debug, PartialEq, Eq)]
 pub enum Problem {
     /// The line cannot be read, or its tag is that of another question.
@@ -24,21 +24,21 @@ pub enum Problem {
     Unknown,
 }
 
-/// How a word of a line stands in its object.
+/// The place of a word of a line in its object.
 #[derive(Clone, Copy)]
 pub(crate) enum Place {
     /// As a string of this name.
     String(&'static [u8]),
     /// As a number of this name.
     Number(&'static [u8]),
-    /// Not at all: the next name says the same.
+    /// Left out: the next name says the same.
     Label,
 }
 
-/// The most bytes that a body has beyond those of the text (own). A report's has more, and so has a batch number that is escaped.
+/// The bytes that a body has room for beyond those of the text (own). A body that needs more grows, as that of a report does.
 const ROOM: usize = 128;
 
-/// The first words of lines that are more than words at places.
+/// The first words of lines that are read in a way of their own.
 const FAULT: &[u8] = b"FAULT";
 
 const SHOWN: &[u8] = b"SHOWN";
@@ -101,7 +101,7 @@ const ROWS: &[(&str, &[Place])] = &[
     ),
 ];
 
-/// The faults of lines, and the problem that each is.
+/// The faults of lines, and the problem of each.
 const PROBLEMS: &[(&str, Problem)] = &[
     ("LONG", Problem::Unprocessable),
     ("RETURN", Problem::Unprocessable),
@@ -123,7 +123,7 @@ const PROBLEMS: &[(&str, Problem)] = &[
     ("MEMORY", Problem::Unavailable),
 ];
 
-/// The problem that a session's answer to one question is, or none if it is a reply.
+/// The problem of a session's answer to one question, or none if it is a reply.
 #[tactic(auto, unfolding(crate::specs::Replies::problem_of))]
 pub fn problem_of(text: &[u8]) -> Option<Problem>
     ensures { result ≡ specs.problem_of text.now }
@@ -193,7 +193,7 @@ fn cut_word(line: &[u8]) -> (&[u8], &[u8])
     }
 }
 
-/// What a table has for this word.
+/// The value of this word in a table.
 fn named<T: Copy>(table: &[(&str, T)], word: &[u8]) -> Option<T>
     ensures { result ≡ option_map (λ row. row.1) (find (λ row. bytes_eq word.now row.0.now) table.now) }
 {
@@ -213,7 +213,7 @@ fn places_of(word: &[u8]) -> Option<&'static [Place]>
     named(ROWS, word)
 }
 
-/// The problem that a fault is.
+/// The problem of a fault.
 #[tactic(auto, unfolding(crate::specs::Replies::problem_named))]
 fn problem_named(fault: &[u8]) -> Problem
     ensures { result ≡ specs.problem_named fault.now }
@@ -221,7 +221,7 @@ fn problem_named(fault: &[u8]) -> Problem
     named(PROBLEMS, fault).unwrap_or(Problem::Unknown)
 }
 
-/// The fault of a line that is that of no reply.
+/// The fault of a line without a reply.
 fn fault_of(line: &[u8]) -> &[u8]
     ensures { result.now ≡ specs.fault_of line.now }
 {
@@ -246,7 +246,7 @@ fn push_reply<A: Allocator>(
     body.extend_from_slice(b"}\n")
 }
 
-/// Puts what the later lines of a reply show at the end of a body.
+/// Puts the entries or batches in the later lines of a reply at the end of a body.
 #[tactic(auto, unfolding(crate::specs::Replies::later_members))]
 fn push_later<A: Allocator>(
     body: &mut Vec<u8, A>,
@@ -415,7 +415,7 @@ fn push_escaped<A: Allocator>(body: &mut Vec<u8, A>, byte: u8) -> Result<(), All
     Ok(body.push(byte)?)
 }
 
-/// Puts the problem that is a fault at the end of a body.
+/// Puts the problem of a fault at the end of a body.
 fn push_problem<A: Allocator>(body: &mut Vec<u8, A>, fault: &[u8]) -> Result<(), AllocError>
     ensures { OnOk result (body.new.items ≡ body.old.items ++ specs.problem_object fault.now) }
 {

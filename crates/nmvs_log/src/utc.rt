@@ -5,7 +5,7 @@ use jiff::tz::Offset;
 use std::fmt;
 use std::fmt::{Display, Formatter};
 
-/// A moment, in seconds since 1970-01-01 00:00:00 UTC: it shows as `2026-11-27T10:00:00Z` (ISO 8601), or as `-` where it has no
+/// A moment, in seconds since 1970-01-01 00:00:00 UTC. It shows as `2026-11-27T10:00:00Z` (ISO 8601), or as `-` if it has no
 /// date.
 #[derive(Clone, Copy)]
 pub struct Utc(pub i64);

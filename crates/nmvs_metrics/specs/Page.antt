@@ -66,7 +66,7 @@ bucket_lines name below [] = []
 bucket_lines name below (b ∷ bs) =
     bucket_line name b.bound.now (together below b.count) ++ bucket_lines name (together below b.count) bs
 
--- how many there are in buckets, if this number is below the first of them
+-- the count of all buckets, with this number below the first of them
 abbrev pub bucket_count : ℕ → List Bucket → ℕ
 bucket_count below [] = below
 bucket_count below (b ∷ bs) = bucket_count (together below b.count) bs
@@ -112,7 +112,7 @@ connections_text f =
     ++ (numbered (codes "nmvs_connections_total") (codes "counter") (codes "Connections that were accepted, by worker.") (codes "worker") f.accepted.items
     ++ single (codes "nmvs_sessions_total") (codes "counter") (codes "Sessions that have begun in which a line is served.") f.sessions)
 
--- how much memory the buffers of connections take, and how many connections were closed for it
+-- the memory of the buffers of connections, and the number of connections that were closed for it
 unfoldable pub memory_text : Snapshot → List ℕ
 memory_text f =
     numbered (codes "nmvs_connections_memory_bytes") (codes "gauge") (codes "Memory of the buffers of connections, by worker.") (codes "worker") f.memory.items
@@ -128,7 +128,7 @@ trail_text f =
     numbered (codes "nmvs_entries") (codes "gauge") (codes "Entries of the audit trail, by shard.") (codes "shard") f.entries.items
     ++ numbered (codes "nmvs_packs") (codes "gauge") (codes "Packs that the repository knows, by shard.") (codes "shard") f.packs.items
 
--- how long the write or sync of the log that is under way has taken
+-- the time that the write or sync of the log under way has taken
 unfoldable pub writing_text : ℕ → List ℕ
 writing_text nanoseconds =
     heading (codes "nmvs_log_write_seconds") (codes "gauge") (codes "Seconds that the write or sync of the log that is under way has taken, 0 where none is.")

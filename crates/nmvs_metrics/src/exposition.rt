@@ -78,7 +78,7 @@ fn append_process(alloc: Global, snapshot: &Snapshot, text: &mut String) -> Resu
     Ok(())
 }
 
-/// What a clock and the system report of the process.
+/// Appends the start and the memory of the process, as a clock and the system report them.
 #[tactic(auto, using(crate::proofs::Texts::appended), unfolding(crate::specs::Page::system_text))]
 fn append_system(alloc: Global, snapshot: &Snapshot, text: &mut String) -> Result<(), AllocError>
     ensures { OnOk result (string_bytes text.new ≡ string_bytes text.old ++ specs.system_text snapshot.now) }
@@ -98,7 +98,7 @@ fn append_system(alloc: Global, snapshot: &Snapshot, text: &mut String) -> Resul
     Ok(())
 }
 
-/// A sample of one name without a label, where there is a value.
+/// A sample of one name without a label, if there is a value.
 #[tactic(auto, unfolding(crate::specs::Page::reported))]
 fn reported(alloc: Global, family: Family, value: Option<u64>) -> Result<String, AllocError>
     ensures { IfOk result (λ text. string_bytes text ≡ specs.reported family.name.now family.kind.now family.help.now value) }
@@ -196,7 +196,7 @@ fn append_connections(
     Ok(())
 }
 
-/// How much memory connections take, and how many were closed for it.
+/// The memory that connections take, and the number of those that were closed for it.
 #[tactic(auto, unfolding(crate::specs::Page::memory_text))]
 fn append_memory(alloc: Global, snapshot: &Snapshot, text: &mut String) -> Result<(), AllocError>
     ensures { OnOk result (string_bytes text.new ≡ string_bytes text.old ++ specs.memory_text snapshot.now) }
@@ -315,7 +315,7 @@ fn append_log_health(alloc: Global, log: &LogSnapshot, text: &mut String) -> Res
     Ok(())
 }
 
-/// How long the write or sync of the log that is under way has taken.
+/// The time that the write or sync of the log under way has taken.
 #[tactic(auto, unfolding(crate::specs::Page::writing_text))]
 fn writing_text(alloc: Global, nanoseconds: u64) -> Result<String, AllocError>
     ensures { IfOk result (λ text. string_bytes text ≡ specs.writing_text nanoseconds) }

@@ -20,7 +20,7 @@ use std::{fs, io};
 /// How many clients are served at once at most: the next one takes the place of the first (own).
 const MOST_CLIENTS: usize = 16;
 
-/// How many clients are accepted one after the other, before the earlier ones are looked at again (own).
+/// The most clients that are accepted one after the other, before the earlier ones have their turn again (own).
 const MOST_ACCEPTED: u64 = 4_096;
 
 /// For how many seconds a client stays at most, answered or not (own).
@@ -29,7 +29,7 @@ const TIMEOUT: u64 = 5;
 /// The most milliseconds from one search for the end of the server and for late clients to the next (own).
 const TICK: u64 = 200;
 
-/// How many reads and writes a client has one after the other, while others may wait (own).
+/// The most reads and writes of a client one after the other, while others may wait (own).
 const MOST_STEPS: u64 = 64;
 
 /// The file that reports how much memory the process has (Linux, proc(5)).
@@ -78,8 +78,8 @@ impl MetricsListener {
     }
 }
 
-/// Serves the metrics to clients, and counts and logs each step of the system's clock, until the metrics note that the server
-/// ends: then for less than a second. A client that stays for 5 seconds is closed, and so is the first of 16 if one more
+/// Serves the metrics to clients, and counts and logs each step of the system's clock. It ends less than a second after the
+/// metrics note that the server ends. A client that stays for 5 seconds is closed, and so is the first of 16 if one more
 /// comes. A client that asks at once is answered at once, however many others stay silent.
 ///
 /// # Errors

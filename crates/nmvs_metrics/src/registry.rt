@@ -76,7 +76,7 @@ fn workers_counts(
     Ok(counts)
 }
 
-/// The counters of the log, and how it stands.
+/// The counters of the log, and its state.
 #[derive(Drop)]
 struct LogCounts {
     syncs: Times,
@@ -223,7 +223,7 @@ impl Metrics {
         self.suspended.store(suspended, Ordering::SeqCst);
     }
 
-    /// Notes the states of a user before and after a change. One that is unknown has none.
+    /// Notes the states of a user before and after a change. An unknown user has none.
     pub fn note_user(&self, before: Option<UserState>, after: Option<UserState>) {
         if let Some(state) = before {
             self.users_in(state).fetch_sub(1, Ordering::SeqCst);
@@ -544,7 +544,7 @@ impl Metrics {
         Ok(())
     }
 
-    /// Adds what each worker has counted at this place.
+    /// Adds the count of each worker at this place.
     fn push_workers(&self, numbers: &mut Vec<Numbered>, place: usize) -> Result<(), AllocError> {
         let mut number = 0u64;
         for counts in &self.workers {
@@ -590,7 +590,7 @@ impl Metrics {
         Ok(())
     }
 
-    /// How many entries of a shard are confirmed: the most that a worker knows of.
+    /// The number of confirmed entries of a shard: the most that a worker knows of.
     fn confirmed(&self, shard: usize) -> u64 {
         let mut confirmed = 0u64;
         for counts in &self.workers {

@@ -40,7 +40,7 @@ pub struct Histogram {
     pub nanoseconds: u64,
 }
 
-/// The counts of a server's log, and how it stands.
+/// The counts of a server's log, and its state.
 #[derive(Drop)]
 pub struct LogSnapshot {
     /// How many entries of each shard are confirmed.

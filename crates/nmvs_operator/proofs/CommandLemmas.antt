@@ -92,7 +92,7 @@ stop_lines counts old (Ok (orders.Count t)) lines none stop = absurd cc
 stop_lines counts old (Ok orders.Help) lines none stop = absurd cc
 stop_lines counts old (Err f) lines none stop = absurd cc
 
--- one order more, which stops the server; the lines after it are not looked at
+-- one order more, which stops the server; the lines after it are not read
 pub one_stop : {S : Type 0} {ways : Ways S} {first now : Office S} {start sink : Taken} {lines : List (List ℕ)} (new : Office S) (sink' : Taken) (x : List ℕ) (a : Said) (input : List ℕ) (rest : List (List ℕ))
     → AnsweredOrders ways first start now sink lines → AnswersOrder ways now (kept_part x) a new
     → Tries sink sink' (answer_text a) → is_stop a ≡ true → input_lines input ≡ (lines ++ x ∷ []) ++ rest → StoppedIn ways first start new sink' input

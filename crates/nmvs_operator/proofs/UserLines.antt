@@ -1,4 +1,4 @@
--- The lines of users, and how many there are, one by one.
+-- The lines of users, and their number, one by one.
 use Rattle.std.proofs.Common.{◌≡◌, ℕ, suc, ◌+◌, ◌<◌, arith, List, [], ◌∷◌, ◌++◌, take, length, Bool, cond, Some, None, inl, inr, ap, ◌∙◌}
 use Rattle.std.specs.List.{filter, flat_map, slice_get}
 use Rattle.std.proofs.lemmas.List.{append-nil}
@@ -15,7 +15,7 @@ lines_more f xs i x is =
     ap (λ n. flat_map f (take n xs)) on ∙ ap (flat_map f) (take-suc xs i x (slice_get_within xs i x e) ∙ ap (λ y. take i xs ++ y ∷ []) (get_or_from_slice_get xs i x x e))
     ∙ flat_map-append f (take i xs) (x ∷ []) ∙ ap (λ (y : List ℕ). flat_map f (take i xs) ++ y) (append-nil (f x))
 
--- how many pass a test of one item more
+-- the number of items that pass a test, with one item more
 pub passing_more : {X : Type 0} (p : X → Bool) (xs : List X) (i : ℕ) (x : X) → Some x ≡ slice_get xs i → length (filter p (take (i + 1) xs)) ≡ length (filter p (take i xs)) + cond (p x) 1 0
 passing_more p xs i x is =
     let e : slice_get xs i ≡ Some x = cc in

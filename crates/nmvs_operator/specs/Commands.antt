@@ -173,8 +173,8 @@ abbrev pub Ends : {S : Type 0} → Does S → Office S → List ℕ → Result O
 Ends does old line (Ok order) new = Obeys does old line order new
 Ends does old line (Err fault) new = Refuses does old line fault new
 
--- the lines of the answer to an order that ended so: those of the published users, those of some of the figures that the
--- server may count, those of the faults of a users file, and else none
+-- the lines of the answer to an order, by its result: the published users, some of the figures that the server may count, the
+-- faults of a users file, or none
 abbrev pub Lists : {S : Type 0} → Counts S → Office S → Result Order ObeyFault → List ℕ → Type 0
 Lists counts old (Ok orders.Users) lines = lines ≡ user_lines (users_of old.register.published)
 Lists counts old (Ok (orders.Count topic)) lines = (figures : List Figure) × counts old.service topic figures × (lines ≡ figure_lines figures)
@@ -220,7 +220,7 @@ command_word commands.User = codes "NAME"
 command_word commands.Authorisation = codes "NAME"
 command_word commands.Premises = codes "NAME"
 
--- the word of the fault of a server that did not do what was asked
+-- the word of the fault of a server that failed to carry out an order
 abbrev pub service_word : ServiceFault → List ℕ
 service_word service.Journal = codes "JOURNAL"
 service_word service.Write = codes "WRITE"
@@ -288,7 +288,7 @@ pub record EndsWithInput (input : List ℕ) (source : Told) (sink : Taken) (line
   pub told : TellsAnswers sink (said ++ last_answer (unfinished_line input)) sink'
   pub ends : InputEnds source source'
 
--- the first lines of an input were answered, up to the line that stopped the server; no other was looked at
+-- the first lines of an input were answered, up to the line that stopped the server; no other was read
 pub record EndsByStop (input : List ℕ) (sink : Taken) (lines : List (List ℕ)) (said : List Said) (sink' : Taken) : Type 0 where
   pub rest : List (List ℕ)
   pub these : input_lines input ≡ lines ++ rest

@@ -1,4 +1,4 @@
--- The users and how they stand, as lines and as numbers for the operator (own).
+-- The users and their states, as lines and as numbers for the operator (own).
 use Rattle.std.specs.Prelude.{ℕ, List, [], ◌∷◌, Bool, true, false, codes, None, Some}
 use Rattle.std.specs.List.{flat_map}
 use Rattle.nmvs_identifier.specs.Name.{Name}
@@ -27,13 +27,13 @@ user_line (name, Removed) = []
 abbrev pub user_lines : List (Name × Standing) → List ℕ
 user_lines users = flat_map user_line users
 
--- whether a user that stands so is enrolled
+-- whether a user of this state is enrolled
 abbrev pub stands_enrolled : Standing → Bool
 stands_enrolled (Enrolled actor) = true
 stands_enrolled (Suspended actor) = false
 stands_enrolled Removed = false
 
--- whether a user that stands so is suspended
+-- whether a user of this state is suspended
 abbrev pub stands_suspended : Standing → Bool
 stands_suspended (Enrolled actor) = false
 stands_suspended (Suspended actor) = true

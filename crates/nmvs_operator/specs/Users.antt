@@ -95,7 +95,8 @@ pub record Loads (source source' : Told) (published pending published' : List Ch
 abbrev pub CannotRead : Told → Told → ℕ → Type 0
 CannotRead source source' reads = (source'.failed ≡ true) ⊎ ((source'.reads ≡ source.reads + reads) × (source'.ended ≡ false))
 
--- why the bytes of a users file are not there: memory was wanting for those that were read, or they were not read to the end
+-- the reason why the bytes of a users file are not there: no memory for those that were read, or a read that did not reach the
+-- end
 abbrev pub ReadFails : Told → Told → ℕ → LoadFault → Type 0
 ReadFails source source' reads load.Memory = (bytes : List ℕ) × (source'.bytes ≡ source.bytes ++ bytes)
 ReadFails source source' reads load.Read = CannotRead source source' reads

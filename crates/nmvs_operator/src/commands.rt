@@ -41,7 +41,7 @@ const HELP: &str =
 ///
 /// It ends with the input, at a failed read, or once it has stopped the server, and then it looks at no further line. A line
 /// without LF at the end of the input is answered and not carried out. A failed write changes nothing. It waits for the
-/// lock of the latest notice, and lets it go.
+/// lock of the latest notice, and releases it.
 pub fn obey_all<'r, J: Naming, R: Wait, A: Allocator, T: Sides, S: Service>(
     alloc: Global,
     console: &mut Console<T>,

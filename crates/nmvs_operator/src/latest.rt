@@ -35,7 +35,7 @@ impl<'l, J: Naming, R: Wait> Latest<'l, J, R> {
         }
     }
 
-    /// Shows a notice in place of the earlier one. It waits for the lock, and lets it go.
+    /// Shows a notice in place of the earlier one. It waits for the lock, and releases it.
     pub fn show(&mut self, notice: Notice<J>)
         ensures { self.new ≡ Some notice }
     {

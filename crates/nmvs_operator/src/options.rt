@@ -59,11 +59,11 @@ pub struct Options {
     pub connections: usize,
     /// The most memory that the buffers of all connections take, in MiB, 1 to 1,048,576.
     pub connection_memory: u64,
-    /// How long a connection may ask nothing, in seconds, 0 to 86,400; 0 is without end.
+    /// The seconds for which a connection may ask nothing, 0 to 86,400; 0 is without end.
     pub idle: u64,
-    /// How many lines of each user are let through in a second, 0 to 1,000,000; 0 is all.
+    /// The most lines of each user that are let through in a second, 0 to 1,000,000; 0 is all.
     pub rate: u64,
-    /// How many of them at once, 0 to 1,000,000: as many as in a second if the command line does not say.
+    /// The most of them at once, 0 to 1,000,000: the same as in a second if the command line does not say.
     pub burst: u64,
     /// The address that is listened on, if no socket is; for port 0 the system chooses a free port.
     pub address: SocketAddr,

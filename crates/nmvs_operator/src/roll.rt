@@ -1,4 +1,4 @@
-//! The users and how they stand, as lines and as numbers for the operator.
+//! The users and their states, as lines and as numbers for the operator.
 ghost use Rattle.std.specs.Prelude.{◌≡◌, ◌≤◌, IfOk, cond, length, string_bytes};
 ghost use Rattle.std.specs.List.{filter};
 ghost use Rattle.nmvs_directory.specs.Registrar.{published};
@@ -12,14 +12,14 @@ use nmvs_words::role_word;
 use std::alloc::{AllocError, Allocator, Global};
 use std::sync::Wait;
 
-/// How many users there are.
+/// The numbers of users by state.
 #[derive(Clone, Copy)]
 pub struct UserCounts {
     pub enrolled: u64,
     pub suspended: u64,
 }
 
-/// Counts the published users by how they stand; one that was removed is none.
+/// Counts the published users by state. A removed user does not count.
 pub fn count_users<J: Naming, R: Wait + Drop, A: Allocator>(
     registrar: &Registrar<J, R, A>,
 ) -> UserCounts
@@ -43,7 +43,7 @@ pub fn count_users<J: Naming, R: Wait + Drop, A: Allocator>(
     }
 }
 
-/// Counts one user that stands so.
+/// Counts one user of this state.
 fn count_one(standing: &Standing) -> UserCounts
     ensures enrolled { result.enrolled ≡ cond (stands_enrolled standing.now) 1 0 }
     ensures suspended { result.suspended ≡ cond (stands_suspended standing.now) 1 0 }

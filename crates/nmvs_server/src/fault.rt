@@ -75,8 +75,8 @@ impl<'a> Outcome<'a> {
 }
 
 impl<'a> Fault<'a> {
-    /// The status that the program ends with: 3 if a line of the import, its digest or a journal is refused, and 4 if the
-    /// export or a journal is not written. It is 5 if the repository does not settle, and else 1.
+    /// The exit status of the program. It is 3 if a line of the import, its digest or a journal is refused. It is 4 if the
+    /// export or a journal is not written, 5 if the repository does not settle, and else 1.
     pub fn status(&self) -> u8
         ensures { result ≡ fault_status self.now }
     {

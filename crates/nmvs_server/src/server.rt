@@ -20,7 +20,7 @@ pub(crate) struct Config<'r, 'o, R> {
     pub(crate) listener: Option<&'r Listener>,
     /// The listener that accepts connections over HTTP, if there is one.
     pub(crate) http: Option<&'r HttpListener>,
-    /// The counts of what the run does.
+    /// The counters of the run.
     pub(crate) metrics: &'r Metrics,
     /// The users who raise flagged alerts.
     pub(crate) alerts: Alerts,

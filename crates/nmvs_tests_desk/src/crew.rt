@@ -1,4 +1,4 @@
-//! How a test opens a repository, lets clerks work in it in threads of their own, and settles it.
+//! Opens a repository, lets clerks work in it in threads of their own, and settles it.
 ghost use Rattle.std.specs.Prelude.{◌≡◌, ◌<◌, ◌≤◌, ℕ, length, vec_len, IfOk};
 ghost use Rattle.nmvs_directory.specs.Directory.{directory_book};
 ghost use Rattle.nmvs_desk.specs.Opening.{table_of};
@@ -19,17 +19,17 @@ use std::sync::Wait;
 use std::thread;
 use std::thread::Threads;
 
-/// How the repository of a test is opened.
+/// The opening of the repository of a test.
 #[derive(Drop)]
 pub struct Stage<'s> {
     pub shards: usize,
     pub clerks: usize,
     pub users: &'s [&'s str],
-    /// The product codes of the packs that are there: an upload of SN1 of each.
+    /// The product codes of which SN1 is uploaded at the opening.
     pub opening: &'s [&'s str],
 }
 
-/// So many shards, with an upload of SN1 of each of these product codes.
+/// This number of shards, with an upload of SN1 of each of these product codes.
 pub fn shards_with<'a, B: Allocator>(
     rt: &impl Abort,
     alloc: &'a B,
@@ -64,7 +64,7 @@ pub fn enrol_all<'a, B: Allocator, J: Naming, R: Wait + Abort>(
     registrar.publish().expect(rt, "memory");
 }
 
-/// What those who work in a repository share.
+/// The place in which clerks work.
 #[derive(Drop)]
 pub struct Place<'s, 'a, R, H: Histories> {
     pub rt: &'s R,
@@ -72,9 +72,9 @@ pub struct Place<'s, 'a, R, H: Histories> {
     pub moment: Moment,
 }
 
-/// What clerks do, each in a thread of its own.
+/// The work of clerks, each in a thread of its own.
 pub trait Crew {
-    /// What the clerk of this number does, counted from 0.
+    /// The work of the clerk of this number, counted from 0.
     fn work<'a, J: Naming, H: Histories, R: Wait + Abort>(
         &self,
         place: &Place<'_, 'a, R, H>,
@@ -144,7 +144,7 @@ impl Crew for Errands<'_> {
     }
 }
 
-/// Works, and gives the clerk back.
+/// Works, and returns the clerk.
 fn work_with<'a, W: Crew, J: Naming, H: Histories, R: Wait + Abort>(
     crew: &W,
     place: &Place<'_, 'a, R, H>,
@@ -155,7 +155,7 @@ fn work_with<'a, W: Crew, J: Naming, H: Histories, R: Wait + Abort>(
     clerk
 }
 
-/// Lets each clerk work in a thread, and gives the clerks back.
+/// Lets each clerk work in a thread, and returns the clerks.
 fn in_threads<
     'a,
     W: Crew + Sync,

@@ -1,5 +1,5 @@
-//! What no contract of `nmvs_desk` can say: that calls succeed if there is memory, that a look at a shard shows what was
-//! answered before, that shards are worked on in parallel; and memory that is refused.
+//! Tests of `nmvs_desk` that no contract can replace. Calls succeed if there is memory, a look at a shard shows the earlier
+//! answers, and clerks work in several shards at once. Other tests refuse memory.
 #![tactic(auto)]
 
 #[cfg(test)]

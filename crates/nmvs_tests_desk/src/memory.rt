@@ -1,4 +1,4 @@
-//! A repository on a full heap, of which 16 bytes more are given back after each refusal.
+//! A repository on a full heap, of which each refusal frees 16 bytes.
 ghost use Rattle.std.specs.Prelude.{◌≡◌, ◌≤◌, ℕ, length, vec_len};
 ghost use Rattle.nmvs_directory.specs.Directory.{directory_book};
 ghost use Rattle.nmvs_desk.specs.Opening.{table_of};
@@ -21,17 +21,17 @@ use std::process::Abort;
 use std::rt::HostRuntime;
 use std::sync::Wait;
 
-/// A heap, and what was taken of it in pieces of 16 bytes.
+/// A heap, and the pieces of 16 bytes that were taken of it.
 #[derive(Drop)]
 struct FullHeap<'h> {
     heap: &'h LocalHeap,
     pieces: Vec<Vec<u8, &'h LocalHeap>>,
-    /// How often 16 bytes were given back since the heap was full.
+    /// The number of pieces that were freed since the heap was full.
     refused: usize,
 }
 
 impl FullHeap<'_> {
-    /// Takes all that is left of the heap.
+    /// Takes the rest of the heap.
     fn fill(&mut self, rt: &impl Abort) {
         self.refused = 0;
         for _piece in 0..100_000u64 {
@@ -42,7 +42,7 @@ impl FullHeap<'_> {
         }
     }
 
-    /// Gives 16 bytes back.
+    /// Frees a piece.
     fn give_back(&mut self, rt: &impl Abort) {
         assert!(rt; self.pieces.pop().is_some());
         self.refused = self.refused.wrapping_add(1);
@@ -61,7 +61,7 @@ fn first_trail<'a, J: Naming, H: Histories, R: Wait + Abort>(
     trail.expect(rt, "memory")
 }
 
-/// Puts the question once. Where it is refused, it is for want of memory, and receipts and shard are as they were.
+/// Puts the question once. If memory is refused, the trail is as it was. Whether the question was answered.
 fn is_answered<'a, J: Naming, H: Histories, R: Wait + Abort>(
     rt: &R,
     alloc: Global,
@@ -86,7 +86,7 @@ fn is_answered<'a, J: Naming, H: Histories, R: Wait + Abort>(
     }
 }
 
-/// Puts the question on a full heap until it is answered. Tells how often it was refused.
+/// Puts the question on a full heap until it is answered. Returns the number of refusals.
 fn is_answered_at_last<'a, J: Naming, H: Histories, R: Wait + Abort>(
     rt: &R,
     alloc: Global,
@@ -107,8 +107,8 @@ fn is_answered_at_last<'a, J: Naming, H: Histories, R: Wait + Abort>(
     full.refused
 }
 
-/// Asks to upload P once more with a tag, by which it was asked before or not. Tells whether it was refused, by the entry at
-/// place 3.
+/// Asks to upload P once more, each time with the same tag. The entry at place 3 refuses that. Whether there was memory for the
+/// answer.
 fn is_refused<'a, J: Naming, H: Histories, R: Wait + Abort>(
     rt: &R,
     repository: &Repository<'a, H, LocalHeap>,
@@ -131,7 +131,7 @@ fn is_refused<'a, J: Naming, H: Histories, R: Wait + Abort>(
     }
 }
 
-/// Asks it on a full heap until it is answered. One receipt is kept.
+/// Asks that on a full heap until it is answered. The clerk has four receipts then.
 fn is_refused_at_last<'a, J: Naming, H: Histories, R: Wait + Abort>(
     rt: &R,
     full: &mut FullHeap,
@@ -160,7 +160,7 @@ fn are_answered_at_last<'a, J: Naming, H: Histories, R: Wait + Abort>(
         // the receipts, the trail, its links, and three tables
         (6, Line::new(rt, "mah1", upload(rt, P), Reply::Uploaded)),
         (0, Line::new(rt, "ph1", verify(rt, P), authentic(rt))),
-        // the list of what is shown
+        // the list of the shown entries
         (1, Line::new(rt, "au1", audit(rt, P), Reply::Shown(2))),
     ] {
         let refused = is_answered_at_last(rt, alloc, full, repository, clerk, &line);
@@ -204,12 +204,12 @@ fn is_settled<'a, J: Naming, H: Histories>(
     unsettled: Unsettled<'a, J, H, LocalHeap>,
 ) {
     let settled = settled_at_last(rt, full, unsettled);
-    // the shards, twice, what is handed out, and a list of owners a shard
+    // the shards, twice, the list that is returned, and a list of owners for each shard
     assert!(rt; full.refused >= 7);
     have_lengths(rt, &settled, [4, 1]);
 }
 
-/// Opens the repository once, and tells whether it was opened. Then all questions were put to it, and it was settled.
+/// Opens the repository once. If that succeeds, puts all questions to it and settles it. Whether it was opened.
 fn is_opened<'a, J: Naming, H: Histories, R: Wait + Abort>(
     rt: &R,
     alloc: Global,
@@ -229,7 +229,7 @@ fn is_opened<'a, J: Naming, H: Histories, R: Wait + Abort>(
     let heap = *windows.allocator();
     match Repository::<H, _>::open(heap, keepers, shards, windows) {
         Ok((repository, mut clerks)) => {
-            // the keepers and their tables, the shards, what they have, the locks, the tokens, the clerks
+            // the keepers and their tables, the shards and their contents, the locks, the tokens, the clerks
             assert!(rt; full.refused >= 8);
             for clerk in clerks.iter_mut() {
                 are_answered_at_last(rt, alloc, full, &repository, clerk);
@@ -269,7 +269,7 @@ fn is_opened_anew<'a, J: Naming, R: Wait + Abort>(
     }
 }
 
-/// Opens the repository at last, with one clerk, and shards that have one upload.
+/// Opens the repository, with one clerk and one upload, after refusals of memory.
 fn is_opened_at_last<J: Naming, R: Wait + Abort + Sync>(
     rt: &R,
     alloc: Global,

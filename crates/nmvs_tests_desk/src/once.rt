@@ -12,7 +12,7 @@ use std::process::Abort;
 use std::rt::HostRuntime;
 use std::sync::Wait;
 
-/// Each clerk asks to supply the pack twice, and then something else, always with the same tag.
+/// Each clerk asks twice to supply the pack, and then asks another question, always with the same tag.
 #[derive(Drop)]
 struct SameTag {
     user: Name,
@@ -22,7 +22,7 @@ struct SameTag {
 }
 
 impl SameTag {
-    /// The place of the entry that answers the question and its reply, or None where the tag is that of another.
+    /// The place of the entry that answers the question, and its reply. `None`: the tag is that of another question.
     fn ask<'a, J: Naming, H: Histories, R: Wait + Abort>(
         &self,
         place: &Place<'_, 'a, R, H>,

@@ -1,4 +1,4 @@
-//! How many shards a repository has, and what its faults are called.
+//! The number of shards of a repository, and the texts of the faults of its opening.
 use nmvs_desk::{Keepers, OpenFault};
 use std::alloc::Global;
 use std::fmt::Display;
@@ -18,7 +18,7 @@ fn a_repository_has_one_to_eight_shards(rt: HostRuntime) {
     }
 }
 
-/// Whether a fault is shown so.
+/// Whether a fault has this text.
 fn is_shown(rt: &impl Abort, alloc: Global, fault: &impl Display, text: &str) -> bool {
     let shown = format!(in alloc; "{fault}").expect(rt, "memory");
     shown.as_str() == text

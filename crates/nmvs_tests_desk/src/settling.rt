@@ -1,4 +1,4 @@
-//! What a journal sees of a shard, what is left once receipts were let go, and what is settled then.
+//! The entries that a log sees of a shard, the receipts that a clerk keeps, and the owners of entries after settling.
 ghost use Rattle.std.specs.Prelude.{◌≡◌, ◌<◌};
 
 use crate::asking::Copied;
@@ -36,7 +36,7 @@ impl<'a, R: Wait, H: Histories> Holder<H> for Meeting<'_, 'a, R, H> {
     }
 }
 
-/// Verifies a pack of shard 0 twice, and lets the first receipt go.
+/// Verifies a pack of shard 0 twice, and drops the first receipt.
 #[derive(Drop)]
 struct LetGo {
     alloc: Global,
@@ -46,7 +46,7 @@ struct LetGo {
 }
 
 impl LetGo {
-    /// Asks, and has one receipt in hand then, for this place.
+    /// Asks. The clerk then has one receipt, for this place.
     fn ask<'a, J: Naming, H: Histories, R: Wait + Abort>(
         &self,
         place: &Place<'_, 'a, R, H>,
@@ -62,7 +62,7 @@ impl LetGo {
         assert_eq!(rt; receipt.place, stands);
     }
 
-    /// How many entries two sights see in shard 0.
+    /// The number of entries that two sights see in shard 0.
     fn seen<'a, H: Histories, R: Wait + Abort>(
         &self,
         place: &Place<'_, 'a, R, H>,
@@ -142,7 +142,7 @@ fn have_owners(rt: &impl Abort, settled: &Settled<'_>, owners: [&[Option<Owner>]
     }
 }
 
-/// Two shards with a pack each, once the one clerk has worked.
+/// Two shards with a pack each, after the one clerk has worked.
 fn settled<'a, R: Threads + Wait + Abort + Sync, C: Crew + Sync>(
     rt: &R,
     alloc: &'a Global,

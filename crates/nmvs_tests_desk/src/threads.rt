@@ -1,4 +1,4 @@
-//! What clerks in threads are answered, and settled to.
+//! The answers to clerks in threads, and the settled trails.
 use crate::crew::{Crew, Errand, Errands, Place, Stage, play, put_of};
 use crate::market::{P, Q, USERS, authentic, decommission, name, pack, upload, verify};
 use nmvs_desk::{Clerk, Reader, Settled};
@@ -42,7 +42,7 @@ fn verifications(rt: &impl Abort, user: &str, digits: &str, times: u64) -> Erran
     }
 }
 
-/// The replies about a product, as they stand in the trail of this shard.
+/// The replies about a product in the trail of this shard.
 fn replies(
     rt: &impl Abort,
     alloc: Global,
@@ -61,7 +61,7 @@ fn replies(
     replies
 }
 
-/// What a thousand is answered.
+/// The replies to the thousand questions.
 fn thousand_replies(rt: &impl Abort, alloc: Global) -> Vec<Reply> {
     let mut replies = Vec::new(alloc);
     replies.push(Reply::Uploaded).expect(rt, "memory");
@@ -119,7 +119,7 @@ fn clerks_in_threads_are_answered_as_one_alone(rt: HostRuntime) {
     }
 }
 
-/// Waits for a flag, and says whether it was raised.
+/// Waits for a flag. Whether it was raised.
 fn is_raised(flag: &AtomicBool) -> bool {
     for _ in 0..100_000_000u64 {
         if flag.load(Ordering::SeqCst) {
@@ -130,7 +130,7 @@ fn is_raised(flag: &AtomicBool) -> bool {
     false
 }
 
-/// Two clerks, of whom the first has its shard held until the second is answered.
+/// Two clerks: the first holds its shard until the second is answered.
 #[derive(Drop)]
 struct Meeting {
     user: Name,
@@ -214,7 +214,7 @@ fn note(rt: &impl Abort, reply: &Reply, counts: &mut [u64; 4]) {
     counts[place] = counts[place].wrapping_add(1);
 }
 
-/// Lets four clerks each supply the pack that is there.
+/// Lets four clerks each supply the uploaded pack.
 fn settled_supplies<'a, R: Threads + Wait + Abort + Sync>(
     rt: &R,
     alloc: &'a Global,

@@ -36,7 +36,7 @@ fn a_peer_speaks_for_its_own_users(rt: HostRuntime) {
     }
 }
 
-/// Turns each line away: its own peer's with RATE, another peer's with NOBODY.
+/// Refuses each line: one of its own peer with RATE, one of another peer with NOBODY.
 #[derive(Clone, Copy)]
 struct Own {
     peer: Peer,

@@ -1,4 +1,4 @@
-//! The JSON of replies: what is expected is written by hand, from the tables of docs/PROTOCOL.md.
+//! The JSON of replies. The expected texts are written by hand, from the tables of docs/PROTOCOL.md.
 use linked_list_allocator::LocalHeap;
 use nmvs_json::{Problem, body_of, problem_of};
 use std::alloc::Global;
@@ -76,7 +76,7 @@ fn entries_and_batches_are_arrays(rt: HostRuntime) {
     }
 }
 
-/// The problem that a fault is, with this title and status, and `recorded`.
+/// The problem of a fault, with this title and status, and `recorded`.
 fn problem(
     rt: &impl Abort,
     alloc: Global,

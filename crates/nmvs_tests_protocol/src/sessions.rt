@@ -18,7 +18,7 @@ const INPUT: &[u8] =
 
 const OUTPUT: &[u8] = b"UPLOADED\nAUTHENTIC B1 280200 VALID\nAUTHENTIC B1 280200 VALID\nBYE\n";
 
-/// As many entries as there can be.
+/// The most entries.
 const ALL: usize = usize::MAX;
 
 const AMPLE: Limits = Limits {
@@ -416,7 +416,7 @@ fn a_session_takes_no_line_after_a_report(rt: HostRuntime) {
     assert!(rt; withheld.ends_long());
 }
 
-/// Answers stand in the order in which their lines were taken, and each session goes on with its own bytes.
+/// Answers are in the order in which their lines were taken, and each session goes on with its own bytes.
 #[test]
 fn two_sessions_take_into_one_list(rt: HostRuntime) {
     let alloc = rt.alloc();

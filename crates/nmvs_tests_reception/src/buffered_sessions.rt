@@ -26,7 +26,7 @@ impl<'a> Desk<'a> for Stranger {
     }
 }
 
-/// Has a session that goes on take these bytes, and tells how many it took.
+/// Feeds a session these bytes, unless it ended or waits. Returns the number that it took.
 fn take(session: &mut BufferedSession, more: &[u8], withheld: &mut WithheldAnswers<'_>) -> usize {
     if session.end().is_none() && session.waiting() == 0 {
         session.take(more, withheld, &Peer::Anyone, &mut Stranger)
@@ -35,7 +35,7 @@ fn take(session: &mut BufferedSession, more: &[u8], withheld: &mut WithheldAnswe
     }
 }
 
-/// Sends so many bytes, where so many are unsent.
+/// Sends this number of bytes, if as many are unsent.
 fn send(session: &mut BufferedSession, count: usize) {
     if count <= session.unsent().len() {
         session.advance(count);

@@ -29,7 +29,7 @@ const USERS: &str =
     "ENROL mah1 HOLDER MAH-1 HQ\nENROL mah2 HOLDER MAH-2 HQ2\nENROL ph1 PHARMACY PH-1 P1\nENROL ph1b PHARMACY PH-1 P1\n\
     ENROL ph2 PHARMACY PH-1 P2\nENROL wh1 WHOLESALER WH-1 W1\nENROL mf1 MANUFACTURER MF-1 F1\nENROL au1 AUTHORITY AU-1 A1\n";
 
-/// Moments that are none, and a registrar's command between two lines.
+/// Lines at times that are no moments, and a registrar's command between two lines.
 const TURNED_AWAY: &[Example] = &[
     Example {
         shows: "nothing is put at seconds of no moment",
@@ -61,7 +61,7 @@ const TURNED_AWAY: &[Example] = &[
     },
 ];
 
-/// One number more for each time that a clock was asked.
+/// One number more for each reading of a clock.
 struct OneMore;
 
 impl Names<Tag> for OneMore {
@@ -107,7 +107,7 @@ impl<'s> Clock for Seconds<'s> {
     }
 }
 
-/// What the desk writes in answer to one line of this peer.
+/// The answer of the desk to one line of this peer.
 fn asked<'a, D: Desk<'a>>(
     alloc: Global,
     desk: &mut D,
@@ -127,7 +127,7 @@ fn asked<'a, D: Desk<'a>>(
     Ok(output)
 }
 
-/// A server that does all that is asked.
+/// A server that carries out each order.
 #[derive(Drop)]
 struct Willing;
 
@@ -175,7 +175,7 @@ impl Write for Awaited {
     }
 }
 
-/// Suspends ph1 by an order, which is answered.
+/// Suspends ph1 by an order, which gets an answer.
 fn suspend<'r, J: Naming, R: Wait + Log + Abort>(
     rt: &'r R,
     alloc: Global,
@@ -194,12 +194,12 @@ fn suspend<'r, J: Naming, R: Wait + Log + Abort>(
         &mut Latest::new(rt, latest),
         &mut Willing,
     );
-    // the sink takes it behind the answer alone
+    // the sink takes it only after the answer
     assert_eq!(rt; deliver(&mut console.sink, b"."), Ok(()));
 }
 
-/// Whether the line at this place is a question that was put, and not one that is answered again by its tag. The examples have
-/// no tagged line that is put twice with one answer.
+/// Whether the line at this place is a question that was put, and was not answered again by its tag. No tagged line of the
+/// examples is put twice with one answer.
 fn is_put(lines: &[(&str, &str)], place: usize) -> bool {
     let Some((line, answer)) = lines.get(place) else {
         return false;
@@ -294,7 +294,7 @@ fn lines_that_are_asked_again_leave_no_receipt(rt: HostRuntime) -> Result<(), Fa
     get_their_answers(&rt, rt.alloc(), examples::REPEATS)
 }
 
-/// Lines, each with the name that its peer's certificate has, and their replies.
+/// Lines with the names in the certificates of their peers, and their replies.
 const OF_PEERS: &[(NameOf, &str, &str, &str)] = &[
     (
         NameOf::User,
@@ -340,7 +340,7 @@ const OF_PEERS: &[(NameOf, &str, &str, &str)] = &[
     ),
 ];
 
-/// Asks the lines of peers, and then one line again and again, over a rate of one line a second.
+/// Asks the lines of peers, and then one line 20 times, above a rate of one line a second.
 #[derive(Drop)]
 struct AskOfPeers;
 

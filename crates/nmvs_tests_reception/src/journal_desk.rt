@@ -31,7 +31,7 @@ use std::thread::{Threads, join};
 
 const QUESTION: &[u8] = b"ph1 STATUS 09506000134352 S1\n";
 
-/// Asks the question in a session of its own, and tells whether its reply was told; else its line was turned away.
+/// Asks the question in a session of its own. Whether it got its reply; else it got `FAULT JOURNAL`.
 fn is_told<'a, D: Desk<'a>>(rt: &impl Abort, alloc: Global, desk: &mut D) -> bool {
     let mut output = Vec::new(alloc);
     let _end = serve(
@@ -49,7 +49,7 @@ fn is_told<'a, D: Desk<'a>>(rt: &impl Abort, alloc: Global, desk: &mut D) -> boo
     false
 }
 
-/// Asks three times, and tells how many replies were told. When one is told the file has confirmed its line.
+/// Asks three times, and returns the number of replies. At each reply the file has confirmed its line.
 fn ask_thrice<'a, D: Desk<'a>>(
     rt: &(impl Wait + Abort),
     alloc: Global,
@@ -198,7 +198,7 @@ fn in_directory<J: Naming, R: Threads + Wait + Clock + Log + Abort + Sync>(
     told
 }
 
-/// How many replies were told over a file whose call of this number fails, and what was done with the file.
+/// The number of replies over a file whose call of this number fails, and the calls of the file.
 fn told_until<R: Threads + Wait + Clock + Log + Abort + Sync>(
     rt: &R,
     alloc: Global,

@@ -1,16 +1,16 @@
-//! The file of a log, and the line that the tests have written to it.
+//! The file of a log, and the line that the tests write to it.
 use nmvs_trials::Calls;
 use std::process::Abort;
 use std::test::*;
 
-/// The line of the entry of a pack that is not known, whose status ph1 asks at the new year.
+/// The entry line of ph1's question at the new year for the status of an unknown pack.
 pub const LINE: &str =
     "[2,1767225600,\"ph1\",\"PHARMACY\",\"PH-1\",\"P1\",[\"STATUS\",\"09506000134352\",\"S1\"],[\"NOPACK\"]]\n";
 
-/// The users file of who asks.
+/// The users file.
 pub const USERS: &str = "ENROL ph1 PHARMACY PH-1 P1\n";
 
-/// Asserts that as many answers were told as the file confirmed lines before its call of this number failed.
+/// Asserts that there is a reply for each line that the file confirmed before its call of this number failed.
 pub fn assert_told(rt: &impl Abort, told: usize, file: &Calls, fails_at: usize) {
     assert_eq!(rt; told, fails_at / 2);
     assert_eq!(rt; file.synced, LINE.len().saturating_mul(told));

@@ -1,5 +1,5 @@
-//! Tests of `nmvs_rate`, `nmvs_connections` and `nmvs_reception`: answers that wait for a log, files that fail,
-//! memory that is refused, and the worked examples at a desk.
+//! Tests of `nmvs_rate`, `nmvs_connections` and `nmvs_reception`: answers that wait for a log, failing files, refused memory,
+//! and the worked examples at a desk.
 #![tactic(auto)]
 
 #[cfg(test)]

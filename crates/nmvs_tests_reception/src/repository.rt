@@ -19,7 +19,7 @@ use std::process::Abort;
 use std::rt::Clock;
 use std::sync::{Mutex, Wait};
 
-/// What a test does at a repository that was just opened.
+/// The visit of a test to a repository that was just opened.
 pub trait Visit {
     type Output;
 

@@ -1,4 +1,4 @@
-//! Who has raised flagged alerts.
+//! The users who have raised flagged alerts.
 use linked_list_allocator::LocalHeap;
 use nmvs_identifier::Name;
 use nmvs_reception::{Raised, Tally, keep_most};
@@ -9,7 +9,7 @@ fn name(rt: &impl Abort, text: &str) -> Name {
     Name::read(text).expect(rt, "a name")
 }
 
-/// Each user has a row of its own, with the premises of its last alert; who has raised most is first, and no more are kept.
+/// Each user has a row, with the premises of its last alert. The rows of the two users who raised most are kept, most first.
 #[test]
 fn who_has_raised_most_is_first(rt: HostRuntime) {
     let alloc = rt.alloc();

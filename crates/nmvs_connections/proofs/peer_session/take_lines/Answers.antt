@@ -6,7 +6,7 @@ use Rattle.nmvs_stream.specs.InputLines.{input_lines, lines_after, unfinished_li
 use Rattle.nmvs_connections.proofs.ConnectionLemmas.{kept_same, lines_kept, lines_more}
 use Rattle.nmvs_connections.proofs.peer_session.take_lines.Goals as goal
 
--- what is taken of the first bytes is taken of all
+-- bytes that are taken of a front part are taken of all
 of_part : (bytes part : List ℕ) (first count : ℕ) → first ≤ length bytes → part ≡ take first bytes → count ≤ length part → (take count part ≡ take count bytes) × (count ≤ length bytes)
 of_part bytes part first count fits is within =
     let size = ap (λ (l : List ℕ). length l) is ∙ length-take first bytes in

@@ -15,7 +15,7 @@ use Rattle.nmvs_http.proofs.reading.read_request.Goals as goal
 differ : (xs ys : List ℕ) → xs ≢ ys → bytes_eq xs ys ≡ false
 differ xs ys other = false_from_ne_true (bytes_eq xs ys) (λ e. other ((bytes_eq-Decides xs ys).0 e))
 
--- a request at another path than those of lines and of health
+-- a request at a path other than those of lines and of health
 other_path : (request : Request (List ℕ)) (kind : Option AskedKind) (path : List ℕ) → path ≡ uri_path (head_of request).uri → path ≢ codes "/v1/lines" → path ≢ codes "/healthz" → kind ≡ asked_at path
     → reading_at kind request ≡ reading_of request
 unfolding reading_of

@@ -3,7 +3,7 @@ use Rattle.slab.specs.Slab.{slab_len}
 use Rattle.nmvs_connections.specs.Turns.{EachGoes}
 use Rattle.nmvs_connections.proofs.event_loop.EventLoop.evict.Given as goal
 
--- connections were closed, and none where all take no more already
+-- connections were closed, and none if all took no more at first
 abbrev pub invariant-loop-self : goal.invariant-loop-self
 invariant-loop-self g l = record {
   awaiting : l.self.awaiting ≡ l.initial.self.awaiting;
