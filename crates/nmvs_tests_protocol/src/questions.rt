@@ -36,7 +36,7 @@ fn questions_of_json_are_lines(rt: HostRuntime) {
         ),
     ] {
         let read = line_at(&rt, rt.alloc(), path, None, body.as_bytes()).expect(&rt, "a question");
-        assert!(rt; read.as_str() == line, "{line}");
+        assert!(rt; read.as_str() == line);
     }
     let read = line_at(&rt, rt.alloc(), "/v1/verify", Some(b"a17"), pack.as_bytes()).expect(
         &rt,
@@ -81,10 +81,7 @@ fn other_bodies_have_a_fault(rt: HostRuntime) {
         ),
         ("{\"user\":\"#t\",\"code\":\"1\"}", QuestionFault::Fields),
     ] {
-        assert!(rt;
-            line_at(&rt, rt.alloc(), "/v1/report", None, body.as_bytes()) == Err(fault),
-            "{body}"
-        );
+        assert!(rt; line_at(&rt, rt.alloc(), "/v1/report", None, body.as_bytes()) == Err(fault));
     }
     assert!(rt;
         line_at(&rt, rt.alloc(), "/v1/report", None, b"\"\xff\"") == Err(QuestionFault::Json)
