@@ -93,7 +93,7 @@ impl Trial for Growing {
         _other: &mut Clerk<'a, J, H>,
         _history: UnnamedLog,
     ) {
-        let alloc = **clerk.allocator();
+        let alloc = *clerk.allocator();
         ask(rt, repository, clerk, FIRST, 1_500);
         ask(rt, repository, clerk, SECOND, 3);
         let calls = Mutex::new(Calls::none(alloc));
@@ -138,7 +138,7 @@ impl Trial for Failing {
         _other: &mut Clerk<'a, J, H>,
         _history: UnnamedLog,
     ) {
-        let alloc = **clerk.allocator();
+        let alloc = *clerk.allocator();
         ask(rt, repository, clerk, FIRST, 2_000);
         let calls = Mutex::new(Calls::none(alloc));
         let file = FakeFile {
