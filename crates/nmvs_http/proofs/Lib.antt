@@ -1,3 +1,4 @@
 pub mod StreamLemmas
 pub mod CodecSteps
 pub mod OneLineLemmas
+pub mod BulkLemmas

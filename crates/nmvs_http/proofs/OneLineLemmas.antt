@@ -23,11 +23,13 @@ use Rattle.nmvs_json.specs.declared.asked_kind.AskedKind.{AskedKind}
 use Rattle.nmvs_json.specs.declared.asked_kind.AskedKind.TheVariants.{Question, Report}
 use Rattle.nmvs_json.specs.declared.question_fault.QuestionFault.{QuestionFault}
 use Rattle.nmvs_json.specs.declared.question_fault.QuestionFault.TheVariants as fault
-use Rattle.nmvs_json.specs.Questions.{as_field, as_user, count_of, fields_of, is_field, is_key, key_text, line_of, line_of_object, names_of, object_in, question_line, text_of, texts_of, user_of, word_of}
+use Rattle.nmvs_json.specs.Questions.{as_field, as_user, count_of, fields_of, has_scan, is_field, is_key, key_text, line_of, line_of_object, names_of, object_in, pack_texts, question_line, string_of, subject_count, subject_of, text_of, texts_of, user_of, word_of}
+use Rattle.nmvs_json.specs.Scans.{pack_in}
+use Rattle.nmvs_json.proofs.ScanLemmas.{texts_plain}
 use Rattle.nmvs_http.specs.OneLine.{IsAskedByOneLine, IsOneLine, fields_behind, key_tag}
 
 -- all characters are visible
-abbrev IsGraphic : List ℕ → Type 0
+abbrev pub IsGraphic : List ℕ → Type 0
 IsGraphic t = list_all is_ascii_graphic t ≡ true
 
 graphic-not_space : (b : ℕ) → is_ascii_graphic b ≡ true → is_space b ≡ false
@@ -102,6 +104,18 @@ texts_graphic (n ∷ ns) j ts e = by (text_of n j) refl (texts_of ns j) (texts_g
     by (Some t) p (Some us) q e =
         subst (λ (us : List (List ℕ)). AllByRecursion IsGraphic us) (same_Some (t ∷ us) ts e) (field_back (option_and_then as_str (get n j)) t p, q us refl)
 
+all_graphic : (ts : List (List ℕ)) → AllByRecursion (λ (t : List ℕ). list_all is_plain t ≡ true) ts → AllByRecursion IsGraphic ts
+all_graphic [] plain = tt
+all_graphic (t ∷ ts) plain = (plain-graphic t plain.0, all_graphic ts plain.1)
+
+subject_graphic : (kind : AskedKind) (j : Json) (ts : List (List ℕ)) → subject_of kind j ≡ Some ts → AllByRecursion IsGraphic ts
+subject_graphic kind j ts e = by (has_scan kind j) (string_of (codes "scan") j) e
+  where
+    by : (b : Bool) (o : Option (List ℕ)) → cond b (option_map (λ scan. pack_texts (pack_in scan)) o) (texts_of (names_of kind) j) ≡ Some ts → AllByRecursion IsGraphic ts
+    by true None e = absurd (cc e)
+    by true (Some scan) e = subst (λ (us : List (List ℕ)). AllByRecursion IsGraphic us) (same_Some (pack_texts (pack_in scan)) ts e) (all_graphic (pack_texts (pack_in scan)) (texts_plain scan))
+    by false o e = texts_graphic (names_of kind) j ts e
+
 -- the user does not begin with #
 user_back : (o : Option (List ℕ)) (u : List ℕ) → as_user o ≡ Some u → (o ≡ Some u) × (get_or u 0 0 ≢ 35)
 user_back None u e = absurd (cc e)
@@ -117,28 +131,30 @@ word_graphic (Question kind) = plain-graphic (kind_word kind) (word_plain kind).
 word_graphic Report = refl
 
 -- the fields of a question: a user that does not begin with #, the word, and texts
-record AreFields (kind : AskedKind) (fields : List (List ℕ)) : Type 0 where
-  user : List ℕ
-  texts : List (List ℕ)
-  are : user ∷ word_of kind ∷ texts ≡ fields
-  unmarked_user : get_or user 0 0 ≢ 35
-  graphic : AllByRecursion IsGraphic (user ∷ word_of kind ∷ texts)
+pub record AreFields (fields : List (List ℕ)) : Type 0 where
+  pub user : List ℕ
+  pub word : List ℕ
+  pub texts : List (List ℕ)
+  pub are : user ∷ word ∷ texts ≡ fields
+  pub unmarked_user : get_or user 0 0 ≢ 35
+  pub graphic : AllByRecursion IsGraphic (user ∷ word ∷ texts)
 
-are_fields : (kind : AskedKind) (j : Json) (fields : List (List ℕ)) → fields_of kind j ≡ Some fields → AreFields kind fields
-are_fields kind j fields e = by (count_of j == 1 + length (names_of kind)) (user_of j) refl (texts_of (names_of kind) j) refl e
+pub are_fields : (others : ℕ) (kind : AskedKind) (j : Json) (fields : List (List ℕ)) → fields_of others kind j ≡ Some fields → AreFields fields
+are_fields others kind j fields e = by (count_of j == others + subject_count kind j) (user_of j) refl (subject_of kind j) refl e
   where
-    by : (b : Bool) (o : Option (List ℕ)) → user_of j ≡ o → (r : Option (List (List ℕ))) → texts_of (names_of kind) j ≡ r
-        → cond b (option_and_then (λ user. option_map (λ texts. user ∷ word_of kind ∷ texts) r) o) None ≡ Some fields → AreFields kind fields
+    by : (b : Bool) (o : Option (List ℕ)) → user_of j ≡ o → (r : Option (List (List ℕ))) → subject_of kind j ≡ r
+        → cond b (option_and_then (λ user. option_map (λ texts. user ∷ word_of kind ∷ texts) r) o) None ≡ Some fields → AreFields fields
     by false o p r q e = absurd (cc e)
     by true None p r q e = absurd (cc e)
     by true (Some user) p None q e = absurd (cc e)
     by true (Some user) p (Some texts) q e =
         let is = user_back (text_of (codes "user") j) user p in record {
           user = user;
+          word = word_of kind;
           texts = texts;
           are = same_Some (user ∷ word_of kind ∷ texts) fields e;
           unmarked_user = is.1;
-          graphic = (field_back (option_and_then as_str (get (codes "user") j)) user is.0, (word_graphic kind, texts_graphic (names_of kind) j texts q));
+          graphic = (field_back (option_and_then as_str (get (codes "user") j)) user is.0, (word_graphic kind, subject_graphic kind j texts q));
         }
 
 -- the fields come after the tag that the key is
@@ -154,16 +170,27 @@ behind : (key : Option (List ℕ)) (line : List ℕ) (fields : List (List ℕ)) 
 behind None line fields e = e
 behind (Some key) line fields e = ap fields_in (behind_text (record { bytes = key }) line) ∙ e
 
-is_one_line : (kind : AskedKind) (key : Option (List ℕ)) (fields : List (List ℕ)) (bytes : List ℕ) → is_key key ≡ true → AreFields kind fields → key_text key ++ spaced fields ≡ bytes → IsOneLine bytes (key_tag key) fields
-is_one_line kind key fields bytes e a is =
-    let own = line_of_fields (a.user ∷ word_of kind ∷ a.texts) in
-    let whole : bytes ≡ (key_text key ++ own) ++ 10 ∷ [] =
-    sym is ∙ ap (λ (fs : List (List ℕ)). key_text key ++ spaced fs) (sym a.are) ∙ ap (λ (t : List ℕ). key_text key ++ t) (followed_line a.user (word_of kind ∷ a.texts)) ∙ sym (append_assoc (key_text key) own (10 ∷ [])) in record {
+-- a line of these fields after this key, and LF
+pub record IsLine (bytes : List ℕ) (key : Option (List ℕ)) (fields : List (List ℕ)) : Type 0 where
+  pub line : List ℕ
+  pub whole : bytes ≡ line ++ 10 ∷ []
+  pub no_lf : HasNoLf line
+  pub tagged : tag_of line ≡ key_tag key
+  pub behind : fields_behind (key_tag key) line ≡ fields
+
+pub is_line : (key : Option (List ℕ)) (fields : List (List ℕ)) (bytes : List ℕ) → is_key key ≡ true → AreFields fields → key_text key ++ spaced fields ≡ bytes → IsLine bytes key fields
+is_line key fields bytes e a is =
+    let own = line_of_fields (a.user ∷ a.word ∷ a.texts) in record {
       line = key_text key ++ own;
-      one = ap input_lines whole ∙ one_line (key_text key ++ own) (no_lf_both (key_text key) own (no_lf_key key e) (no_lf_line a.user (word_of kind ∷ a.texts) a.graphic));
-      tagged = tagged key a.user (line_of_fields (word_of kind ∷ a.texts)) e a.unmarked_user;
-      behind = behind key own fields (fields_back a.user (word_of kind ∷ a.texts) a.graphic ∙ a.are);
+      whole =
+          sym is ∙ ap (λ (fs : List (List ℕ)). key_text key ++ spaced fs) (sym a.are) ∙ ap (λ (t : List ℕ). key_text key ++ t) (followed_line a.user (a.word ∷ a.texts)) ∙ sym (append_assoc (key_text key) own (10 ∷ []));
+      no_lf = no_lf_both (key_text key) own (no_lf_key key e) (no_lf_line a.user (a.word ∷ a.texts) a.graphic);
+      tagged = tagged key a.user (line_of_fields (a.word ∷ a.texts)) e a.unmarked_user;
+      behind = behind key own fields (fields_back a.user (a.word ∷ a.texts) a.graphic ∙ a.are);
     }
+
+is_one_line : (key : Option (List ℕ)) (fields : List (List ℕ)) (bytes : List ℕ) → IsLine bytes key fields → IsOneLine bytes (key_tag key) fields
+is_one_line key fields bytes l = record { line = l.line; one = ap input_lines l.whole ∙ one_line l.line l.no_lf; tagged = l.tagged; behind = l.behind }
 
 abbrev line_or_none : Result (List ℕ) QuestionFault → List ℕ
 line_or_none (Ok line) = line
@@ -173,12 +200,12 @@ pub asked_by_one_line : IsAskedByOneLine
 unfolding question_line
 asked_by_one_line kind key body bytes e = by (is_key key) refl (object_in body) e
   where
-    on : (j : Json) (r : Option (List (List ℕ))) → fields_of kind j ≡ r → is_key key ≡ true → line_of key r ≡ Ok bytes → IsSomeAnd r (λ fields. IsOneLine bytes (key_tag key) fields)
+    on : (j : Json) (r : Option (List (List ℕ))) → fields_of 1 kind j ≡ r → is_key key ≡ true → line_of key r ≡ Ok bytes → IsSomeAnd r (λ fields. IsOneLine bytes (key_tag key) fields)
     on j None p k e = absurd (cc e)
-    on j (Some fields) p k e = is_one_line kind key fields bytes k (are_fields kind j fields p) (ap line_or_none e)
+    on j (Some fields) p k e = is_one_line key fields bytes (is_line key fields bytes k (are_fields 1 kind j fields p) (ap line_or_none e))
 
     by : (b : Bool) → is_key key ≡ b → (o : Option Json) → cond b (line_of_object kind key o) (Err fault.Key) ≡ Ok bytes
-        → IsSomeAnd o (λ object. IsSomeAnd (fields_of kind object) (λ fields. IsOneLine bytes (key_tag key) fields))
+        → IsSomeAnd o (λ object. IsSomeAnd (fields_of 1 kind object) (λ fields. IsOneLine bytes (key_tag key) fields))
     by false k o e = absurd (cc e)
     by true k None e = absurd (cc e)
-    by true k (Some j) e = on j (fields_of kind j) refl k e
+    by true k (Some j) e = on j (fields_of 1 kind j) refl k e

@@ -5,3 +5,4 @@ pub mod StreamState
 pub mod Streams
 pub mod Codecs
 pub mod OneLine
+pub mod BulkLaws

@@ -29,4 +29,4 @@ pub record IsOneLine (bytes : List ℕ) (tag : Option Tag) (fields : List (List 
 abbrev pub IsAskedByOneLine : Type 0
 IsAskedByOneLine =
     (kind : AskedKind) (key : Option (List ℕ)) (body bytes : List ℕ) → question_line kind key body ≡ Ok bytes
-    → IsSomeAnd (object_in body) (λ object. IsSomeAnd (fields_of kind object) (λ fields. IsOneLine bytes (key_tag key) fields))
+    → IsSomeAnd (object_in body) (λ object. IsSomeAnd (fields_of 1 kind object) (λ fields. IsOneLine bytes (key_tag key) fields))

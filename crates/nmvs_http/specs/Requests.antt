@@ -10,9 +10,10 @@ use Rattle.http_uri.specs.Uri.{uri_path}
 use Rattle.nmvs_json.specs.declared.asked_kind.AskedKind.{AskedKind}
 use Rattle.nmvs_json.specs.declared.question_fault.QuestionFault.{QuestionFault}
 use Rattle.nmvs_json.specs.declared.question_fault.QuestionFault.TheVariants as questions
+use Rattle.nmvs_json.specs.Bulks.{bulk_lines}
 use Rattle.nmvs_json.specs.Questions.{asked_at, question_line}
 use Rattle.nmvs_http.specs.declared.asked.Asks.{Asks}
-use Rattle.nmvs_http.specs.declared.asked.Asks.TheVariants.{Lines, Question, Health, Refused}
+use Rattle.nmvs_http.specs.declared.asked.Asks.TheVariants.{Lines, Question, Questions, Health, Refused}
 use Rattle.nmvs_http.specs.declared.fault.Fault.{Fault}
 use Rattle.nmvs_http.specs.declared.fault.Fault.TheVariants as faults
 use Rattle.nmvs_http.specs.declared.reading.Reading.{Reading}
@@ -52,7 +53,7 @@ has_length request = is_some (field_value request (codes "content-length")) || i
 -- the fault of a request that has to be a POST from no other site, of a type, and with a length
 abbrev pub post_fault : List ℕ → Option (List ℕ) → Bool → Bool → Option Fault
 post_fault method site typed sized =
-    if not (bytes_eq method (codes "POST")) then Some faults.MethodOfLines
+    if not (bytes_eq method (codes "POST")) then Some faults.MethodNotPost
     else (if is_foreign site then Some faults.Site
     else (if not typed then Some faults.Type
     else (if not sized then Some faults.Length
@@ -66,7 +67,7 @@ fault_of_post name request =
 -- the kind of a request to /healthz, by its method
 abbrev pub asks_by_health : List ℕ → Asks
 asks_by_health method =
-    if bytes_eq method (codes "GET") || bytes_eq method (codes "HEAD") then Health else Refused faults.MethodOfHealth
+    if bytes_eq method (codes "GET") || bytes_eq method (codes "HEAD") then Health else Refused faults.MethodNotGet
 
 -- a request that is refused carries no lines
 abbrev pub refused_for : Fault → Reading
@@ -103,13 +104,32 @@ abbrev pub reading_at : Option AskedKind → Request (List ℕ) → Reading
 reading_at None request = refused_for faults.Path
 reading_at (Some kind) request = reading_of_question (fault_of_post (codes "application/json") request) (line_of kind request)
 
+-- a bulk whose body means these lines of this number of questions, or has this fault
+abbrev pub reading_of_items : Result (ℕ × List ℕ) QuestionFault → Reading
+reading_of_items (Ok bulk) = record { asks = Questions bulk.0; lines = bulk.1 }
+reading_of_items (Err fault) = refused_for (fault_of_question fault)
+
+-- the lines of a bulk, which has no key of its own, or the fault
+abbrev pub keyless : Option (List ℕ) → List ℕ → Result (ℕ × List ℕ) QuestionFault
+keyless None body = bulk_lines body
+keyless (Some key) body = Err questions.Key
+
+abbrev pub bulk_of : Request (List ℕ) → Result (ℕ × List ℕ) QuestionFault
+bulk_of request = keyless (field_value request (codes "idempotency-key")) (body_of request)
+
+-- a request with this fault, or whose body means these lines or has this fault
+abbrev pub reading_of_bulk : Option Fault → Result (ℕ × List ℕ) QuestionFault → Reading
+reading_of_bulk None bulk = reading_of_items bulk
+reading_of_bulk (Some fault) bulk = refused_for fault
+
 -- the kind of a request, and the bytes of lines that it carries
 unfoldable pub reading_of : Request (List ℕ) → Reading
 reading_of request =
     let path = uri_path (head_of request).uri in
     if bytes_eq path (codes "/v1/lines") then reading_of_lines (fault_of_post (codes "application/vnd.nmvs.lines") request) (body_of request)
+    else (if bytes_eq path (codes "/v1/questions") then reading_of_bulk (fault_of_post (codes "application/json") request) (bulk_of request)
     else (if bytes_eq path (codes "/healthz") then record { asks = asks_by_health (head_of request).method; lines = [] }
-    else reading_at (asked_at path) request)
+    else reading_at (asked_at path) request))
 
 -- the kind of a request
 abbrev pub asks_of : Request (List ℕ) → Asks

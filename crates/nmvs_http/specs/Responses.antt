@@ -6,7 +6,7 @@ use Rattle.nmvs_json.specs.declared.reply.Problem.TheVariants as problems
 use Rattle.nmvs_json.specs.Replies.{problem_of}
 use Rattle.nmvs_json.specs.Replies as json
 use Rattle.nmvs_http.specs.declared.asked.Asks.{Asks}
-use Rattle.nmvs_http.specs.declared.asked.Asks.TheVariants.{Lines, Question, Health, Refused}
+use Rattle.nmvs_http.specs.declared.asked.Asks.TheVariants.{Lines, Question, Questions, Health, Refused}
 use Rattle.nmvs_http.specs.declared.fault.Fault.{Fault}
 use Rattle.nmvs_http.specs.declared.fault.Fault.TheVariants as faults
 
@@ -18,8 +18,8 @@ status faults.Json = codes "400 Bad Request"
 status faults.Fields = codes "400 Bad Request"
 status faults.Site = codes "403 Forbidden"
 status faults.Path = codes "404 Not Found"
-status faults.MethodOfLines = codes "405 Method Not Allowed\r\nallow: POST"
-status faults.MethodOfHealth = codes "405 Method Not Allowed\r\nallow: GET, HEAD"
+status faults.MethodNotPost = codes "405 Method Not Allowed\r\nallow: POST"
+status faults.MethodNotGet = codes "405 Method Not Allowed\r\nallow: GET, HEAD"
 status faults.Timeout = codes "408 Request Timeout"
 status faults.Length = codes "411 Length Required"
 status faults.Body = codes "413 Content Too Large"
@@ -37,8 +37,8 @@ problem faults.Json = codes "{\"type\":\"about:blank\",\"title\":\"Bad Request\"
 problem faults.Fields = codes "{\"type\":\"about:blank\",\"title\":\"Bad Request\",\"status\":400,\"fault\":\"FIELDS\",\"recorded\":\"no\"}\n"
 problem faults.Site = codes "{\"type\":\"about:blank\",\"title\":\"Forbidden\",\"status\":403,\"fault\":\"SITE\",\"recorded\":\"no\"}\n"
 problem faults.Path = codes "{\"type\":\"about:blank\",\"title\":\"Not Found\",\"status\":404,\"fault\":\"PATH\",\"recorded\":\"no\"}\n"
-problem faults.MethodOfLines = codes "{\"type\":\"about:blank\",\"title\":\"Method Not Allowed\",\"status\":405,\"fault\":\"METHOD\",\"recorded\":\"no\"}\n"
-problem faults.MethodOfHealth = codes "{\"type\":\"about:blank\",\"title\":\"Method Not Allowed\",\"status\":405,\"fault\":\"METHOD\",\"recorded\":\"no\"}\n"
+problem faults.MethodNotPost = codes "{\"type\":\"about:blank\",\"title\":\"Method Not Allowed\",\"status\":405,\"fault\":\"METHOD\",\"recorded\":\"no\"}\n"
+problem faults.MethodNotGet = codes "{\"type\":\"about:blank\",\"title\":\"Method Not Allowed\",\"status\":405,\"fault\":\"METHOD\",\"recorded\":\"no\"}\n"
 problem faults.Timeout = codes "{\"type\":\"about:blank\",\"title\":\"Request Timeout\",\"status\":408,\"fault\":\"TIMEOUT\",\"recorded\":\"no\"}\n"
 problem faults.Length = codes "{\"type\":\"about:blank\",\"title\":\"Length Required\",\"status\":411,\"fault\":\"LENGTH\",\"recorded\":\"no\"}\n"
 problem faults.Body = codes "{\"type\":\"about:blank\",\"title\":\"Content Too Large\",\"status\":413,\"fault\":\"BODY\",\"recorded\":\"no\"}\n"
@@ -62,10 +62,11 @@ abbrev pub type_where : Option Problem → List ℕ
 type_where None = codes "application/json"
 type_where (Some problem) = codes "application/problem+json"
 
--- the status of the response: 200 to lines, exactly if they are not refused
+-- the status of the response: 200 to lines and to a bulk, exactly if they are not refused
 abbrev pub status_of : Asks → List ℕ → List ℕ
 status_of Lines replies = codes "200 OK"
 status_of Question replies = status_where (problem_of replies)
+status_of (Questions count) replies = codes "200 OK"
 status_of Health replies = codes "200 OK"
 status_of (Refused fault) replies = status fault
 
@@ -73,13 +74,15 @@ status_of (Refused fault) replies = status fault
 abbrev pub type_of : Asks → List ℕ → List ℕ
 type_of Lines replies = codes "application/vnd.nmvs.lines"
 type_of Question replies = type_where (problem_of replies)
+type_of (Questions count) replies = codes "application/json"
 type_of Health replies = codes "text/plain; charset=utf-8"
 type_of (Refused fault) replies = codes "application/problem+json"
 
--- its body: the replies to lines, word for word; the reply to one question as JSON
+-- its body: the replies to lines, word for word; the reply to one question, or those to a bulk, as JSON
 abbrev pub body_text : Asks → List ℕ → List ℕ
 body_text Lines replies = replies
 body_text Question replies = json.body_text replies
+body_text (Questions count) replies = json.bulk_text count replies
 body_text Health replies = codes "ok\n"
 body_text (Refused fault) replies = problem fault
 

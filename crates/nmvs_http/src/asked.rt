@@ -15,6 +15,8 @@ pub enum Asks {
     Lines,
     /// Asks for the reply to the question in its body of JSON.
     Question,
+    /// Asks for the replies to this number of questions in its body of JSON.
+    Questions(usize),
     /// Asks whether the server lives.
     Health,
     /// Is refused for this fault.
@@ -47,7 +49,7 @@ pub(crate) fn asks_by_health(method: &str) -> Asks
 {
     match method {
         "GET" | "HEAD" => Asks::Health,
-        _ => Asks::Refused(Fault::MethodOfHealth),
+        _ => Asks::Refused(Fault::MethodNotGet),
     }
 }
 
@@ -56,7 +58,7 @@ pub(crate) fn fault_of_post(name: &[u8], request: &Request<Bytes>) -> Option<Fau
     ensures { result ≡ specs.fault_of_post name.now request.now }
 {
     if request.method().as_str() != "POST" {
-        return Some(Fault::MethodOfLines);
+        return Some(Fault::MethodNotPost);
     }
     if is_foreign(request) {
         return Some(Fault::Site);

@@ -8,11 +8,14 @@ use crate::asked::Asks;
 use crate::byte_tag::extended;
 use crate::fault::Fault;
 use crate::request_stream::{Asked, Next, RequestStream};
-use crate::response::{front_of, lent_body, write_invitation, write_refusal, write_response};
+use crate::response::{
+    front_of_fault, front_of_health, front_of_lines, front_of_question, problem, write_invitation,
+    write_refusal, write_response,
+};
 use crate::write_buffer::WriteBuffer;
 use boxcar::tag::Tag;
 use bytes::Bytes;
-use nmvs_json::body_of;
+use nmvs_json::{bulk_body, response_of};
 use nmvs_stream::Failed;
 use std::alloc::Global;
 use std::hash::RandomState;
@@ -369,12 +372,61 @@ fn tell_response(
 ) -> CodecStage
     ensures { Tells told.old.bytes.items told.new.bytes.items (response_text hand.now.asks hand.now.head_alone stays replies.now) (if stays then CodecStage.Open else CodecStage.Closing) result }
 {
-    let front = front_of(hand.asks, replies);
-    if let Some(body) = lent_body(hand.asks, replies) {
-        return tell_body(told, front, hand.head_alone, stays, body);
+    let alone = hand.head_alone;
+    match hand.asks {
+        Asks::Lines => tell_body(told, front_of_lines(), alone, stays, replies),
+        Asks::Question => tell_reply(alloc, told, alone, stays, replies),
+        Asks::Questions(count) => tell_bulk(alloc, told, count, alone, stays, replies),
+        Asks::Health => tell_body(told, front_of_health(), alone, stays, b"ok\n"),
+        Asks::Refused(fault) => {
+            tell_body(told, front_of_fault(fault), alone, stays, problem(fault))
+        }
     }
-    match body_of(alloc, replies) {
-        Ok(body) => tell_body(told, front, hand.head_alone, stays, body.as_slice()),
+}
+
+/// Responds to a question with the answer to it. Returns the next stage of the codec.
+fn tell_reply(
+    alloc: Global,
+    told: &mut WriteBuffer,
+    head_alone: bool,
+    stays: bool,
+    replies: &[u8],
+) -> CodecStage
+    ensures { Tells told.old.bytes.items told.new.bytes.items (response_text Asks.Question head_alone stays replies.now) (if stays then CodecStage.Open else CodecStage.Closing) result }
+{
+    match response_of(alloc, replies) {
+        Ok((problem, body)) => {
+            tell_body(
+                told,
+                front_of_question(problem),
+                head_alone,
+                stays,
+                body.as_slice(),
+            )
+        }
+        Err(_) => CodecStage::Lost,
+    }
+}
+
+/// Responds to a bulk of this number of questions with the answers to them. Returns the next stage of the codec.
+fn tell_bulk(
+    alloc: Global,
+    told: &mut WriteBuffer,
+    count: usize,
+    head_alone: bool,
+    stays: bool,
+    replies: &[u8],
+) -> CodecStage
+    ensures { Tells told.old.bytes.items told.new.bytes.items (response_text (Asks.Questions count) head_alone stays replies.now) (if stays then CodecStage.Open else CodecStage.Closing) result }
+{
+    match bulk_body(alloc, count, replies) {
+        Ok(body) => tell_body(
+            told,
+            front_of_question(None),
+            head_alone,
+            stays,
+            body.as_slice(),
+        ),
         Err(_) => CodecStage::Lost,
     }
 }

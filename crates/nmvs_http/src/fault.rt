@@ -5,20 +5,21 @@
 pub enum Fault {
     /// Its bytes are no request.
     Request,
-    /// Its key is no tag.
+    /// Its key is no tag, or that of one of its questions is none. A bulk has a key, though each of its questions has its own.
     Key,
     /// Its body is no JSON object, or an object in it has a member twice.
     Json,
-    /// The members of its body are not those of the question, or a value cannot be a field of the line.
+    /// The members of its body are not those of the question, or a value cannot be a field of the line. A bulk has no questions, or
+    /// too many.
     Fields,
     /// A page of another site sent it.
     Site,
     /// Nothing is at its path.
     Path,
-    /// Its method is not `POST`, at the path of lines or of a question.
-    MethodOfLines,
+    /// Its method is not `POST`, at the path of lines, of a question or of a bulk.
+    MethodNotPost,
     /// Its method is neither `GET` nor `HEAD`, at `/healthz`.
-    MethodOfHealth,
+    MethodNotGet,
     /// It has not come whole in time.
     Timeout,
     /// Neither a length nor a coding says where its body ends.

@@ -1,5 +1,5 @@
 //! Reads the kinds of requests, and the bytes of lines that they carry.
-ghost use Rattle.std.specs.Prelude.{◌≡◌, [], Some, IfOk, codes, string_bytes};
+ghost use Rattle.std.specs.Prelude.{◌≡◌, ◌≢◌, [], Some, IfOk, codes, string_bytes};
 ghost use Rattle.http.specs.Request.{body_of};
 ghost use Rattle.nmvs_http.specs.Requests as specs;
 
@@ -8,7 +8,7 @@ use crate::fault::Fault;
 use crate::request_lines::whole_lines;
 use bytes::Bytes;
 use http::Request;
-use nmvs_json::{AskedKind, QuestionFault, question_line};
+use nmvs_json::{AskedKind, QuestionFault, bulk_lines, question_line};
 use std::alloc::{AllocError, Global};
 
 /// The kind of a request, and the bytes of lines that it carries.
@@ -25,6 +25,7 @@ pub(crate) fn read_request(alloc: Global, request: &Request<Bytes>) -> Result<Re
 {
     match request.uri().path() {
         "/v1/lines" => read_lines(alloc, request),
+        "/v1/questions" => read_bulk(alloc, request),
         "/healthz" => Ok(without_lines(asks_by_health(request.method().as_str()))),
         path => read_at(alloc, AskedKind::at(path), request),
     }
@@ -98,11 +99,48 @@ fn read_body(
             asks: Asks::Question,
             lines: bytes_of(line)?,
         }),
-        Err(QuestionFault::Key) => Ok(without_lines(Asks::Refused(Fault::Key))),
-        Err(QuestionFault::Json) => Ok(without_lines(Asks::Refused(Fault::Json))),
-        Err(QuestionFault::Fields) => Ok(without_lines(Asks::Refused(Fault::Fields))),
-        Err(QuestionFault::Memory) => Err(AllocError),
+        Err(fault) => refused_for(fault),
     }
+}
+
+/// Reads a request at the path of bulks.
+fn read_bulk(alloc: Global, request: &Request<Bytes>) -> Result<Reading, AllocError>
+    ensures { IfOk result (λ reading. reading ≡ specs.reading_of_bulk (specs.fault_of_post (codes "application/json") request.now) (specs.bulk_of request.now)) }
+{
+    match fault_of_post(JSON_TYPE, request) {
+        Some(fault) => Ok(without_lines(Asks::Refused(fault))),
+        None => read_items(alloc, request),
+    }
+}
+
+/// Reads the body of a request that asks a bulk of questions. Each of them has its own key.
+fn read_items(alloc: Global, request: &Request<Bytes>) -> Result<Reading, AllocError>
+    ensures { IfOk result (λ reading. reading ≡ specs.reading_of_items (specs.bulk_of request.now)) }
+{
+    if field(request, "idempotency-key").is_some() {
+        return refused_for(QuestionFault::Key);
+    }
+    match bulk_lines(alloc, request.body().as_slice()) {
+        Ok(bulk) => Ok(Reading {
+            asks: Asks::Questions(bulk.count),
+            lines: bytes_of(bulk.lines)?,
+        }),
+        Err(fault) => refused_for(fault),
+    }
+}
+
+/// A request that is refused for a fault of its questions.
+fn refused_for(fault: QuestionFault) -> Result<Reading, AllocError>
+    ensures refused { IfOk result (λ reading. reading ≡ specs.refused_for (specs.fault_of_question fault)) }
+    ensures memory { IfOk result (λ reading. fault ≢ QuestionFault.Memory) }
+{
+    let fault = match fault {
+        QuestionFault::Key => Fault::Key,
+        QuestionFault::Json => Fault::Json,
+        QuestionFault::Fields => Fault::Fields,
+        QuestionFault::Memory => return Err(AllocError),
+    };
+    Ok(without_lines(Asks::Refused(fault)))
 }
 
 /// The bytes of a text.

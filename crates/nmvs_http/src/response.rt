@@ -1,12 +1,12 @@
 //! The texts of responses.
-ghost use Rattle.std.specs.Prelude.{◌≡◌, ◌++◌, [], false, if◌then◌else◌, IfSome, IfNone, OnOk, OnErr};
+ghost use Rattle.std.specs.Prelude.{◌≡◌, ◌++◌, [], false, if◌then◌else◌, OnOk, OnErr};
 ghost use Rattle.nmvs_stream.specs.Delivery.{Writes, DeliversPart};
 ghost use Rattle.nmvs_http.specs.Responses as specs;
 
 use crate::asked::Asks;
 use crate::fault::Fault;
 use itoa::Buffer;
-use nmvs_json::{Problem, problem_of};
+use nmvs_json::Problem;
 use nmvs_stream::{Failed, Sink, write_all};
 
 /// The response that invites a waiting peer to send the body of its request (RFC 9110, section 15.2.1).
@@ -54,37 +54,25 @@ fn sent_of(body: &[u8], is_head: bool) -> &[u8]
     if is_head { b"" } else { body }
 }
 
-/// The body of the response, unless it has to be composed.
-pub(crate) fn lent_body(asks: Asks, replies: &[u8]) -> Option<&[u8]>
-    ensures body { IfSome result (λ body. body.now ≡ specs.body_text asks replies.now) }
-    ensures none { IfNone result (asks ≡ Asks.Question) }
+/// The first lines of the response to lines.
+#[tactic(auto, unfolding(crate::specs::Responses::front_of))]
+pub(crate) fn front_of_lines() -> &'static [u8]
+    ensures { result.now ≡ specs.front_text Asks.Lines [] }
 {
-    match asks {
-        Asks::Lines => Some(replies),
-        Asks::Question => None,
-        Asks::Health => Some(b"ok\n"),
-        Asks::Refused(fault) => Some(problem(fault)),
-    }
+    b"HTTP/1.1 200 OK\r\ncontent-type: application/vnd.nmvs.lines\r\ncache-control: no-store\r\n"
 }
 
-/// The first lines of a response: its status, and the fields that describe its body.
+/// The first lines of the response that says that the server lives.
 #[tactic(auto, unfolding(crate::specs::Responses::front_of))]
-pub(crate) fn front_of(asks: Asks, replies: &[u8]) -> &'static [u8]
-    ensures { result.now ≡ specs.front_text asks replies.now }
+pub(crate) fn front_of_health() -> &'static [u8]
+    ensures { result.now ≡ specs.front_text Asks.Health [] }
 {
-    match asks {
-        Asks::Lines =>
-            b"HTTP/1.1 200 OK\r\ncontent-type: application/vnd.nmvs.lines\r\ncache-control: no-store\r\n",
-        Asks::Question => front_of_question(problem_of(replies)),
-        Asks::Health =>
-            b"HTTP/1.1 200 OK\r\ncontent-type: text/plain; charset=utf-8\r\ncache-control: no-store\r\n",
-        Asks::Refused(fault) => front_of_fault(fault),
-    }
+    b"HTTP/1.1 200 OK\r\ncontent-type: text/plain; charset=utf-8\r\ncache-control: no-store\r\n"
 }
 
-/// The first lines of the response to one question, by its problem if there is one.
+/// The first lines of the response to one question, by its problem if there is one. Those of a bulk are those without a problem.
 #[tactic(auto, unfolding(crate::specs::Responses::front_of))]
-fn front_of_question(problem: Option<Problem>) -> &'static [u8]
+pub(crate) fn front_of_question(problem: Option<Problem>) -> &'static [u8]
     ensures { result.now ≡ specs.front_of (specs.status_where problem) (specs.type_where problem) }
 {
     match problem {
@@ -115,7 +103,7 @@ fn connection_of(stays: bool) -> &'static [u8]
 
 /// The first lines of the response to a refused request.
 #[tactic(auto, unfolding(crate::specs::Responses::front_of))]
-fn front_of_fault(fault: Fault) -> &'static [u8]
+pub(crate) fn front_of_fault(fault: Fault) -> &'static [u8]
     ensures { result.now ≡ specs.front_text (Asks.Refused fault) [] }
 {
     match fault {
@@ -125,9 +113,9 @@ fn front_of_fault(fault: Fault) -> &'static [u8]
             b"HTTP/1.1 403 Forbidden\r\ncontent-type: application/problem+json\r\ncache-control: no-store\r\n",
         Fault::Path =>
             b"HTTP/1.1 404 Not Found\r\ncontent-type: application/problem+json\r\ncache-control: no-store\r\n",
-        Fault::MethodOfLines =>
+        Fault::MethodNotPost =>
             b"HTTP/1.1 405 Method Not Allowed\r\nallow: POST\r\ncontent-type: application/problem+json\r\ncache-control: no-store\r\n",
-        Fault::MethodOfHealth =>
+        Fault::MethodNotGet =>
             b"HTTP/1.1 405 Method Not Allowed\r\nallow: GET, HEAD\r\ncontent-type: application/problem+json\r\ncache-control: no-store\r\n",
         Fault::Timeout =>
             b"HTTP/1.1 408 Request Timeout\r\ncontent-type: application/problem+json\r\ncache-control: no-store\r\n",
@@ -150,7 +138,7 @@ fn front_of_fault(fault: Fault) -> &'static [u8]
 
 /// The problem of a fault (RFC 9457).
 #[tactic(auto, unfolding(crate::specs::Responses::problem))]
-fn problem(fault: Fault) -> &'static [u8]
+pub(crate) fn problem(fault: Fault) -> &'static [u8]
     ensures { result.now ≡ specs.problem fault }
 {
     match fault {
@@ -166,7 +154,7 @@ fn problem(fault: Fault) -> &'static [u8]
             b"{\"type\":\"about:blank\",\"title\":\"Forbidden\",\"status\":403,\"fault\":\"SITE\",\"recorded\":\"no\"}\n",
         Fault::Path =>
             b"{\"type\":\"about:blank\",\"title\":\"Not Found\",\"status\":404,\"fault\":\"PATH\",\"recorded\":\"no\"}\n",
-        Fault::MethodOfLines | Fault::MethodOfHealth =>
+        Fault::MethodNotPost | Fault::MethodNotGet =>
             b"{\"type\":\"about:blank\",\"title\":\"Method Not Allowed\",\"status\":405,\"fault\":\"METHOD\",\"recorded\":\"no\"}\n",
         Fault::Timeout =>
             b"{\"type\":\"about:blank\",\"title\":\"Request Timeout\",\"status\":408,\"fault\":\"TIMEOUT\",\"recorded\":\"no\"}\n",

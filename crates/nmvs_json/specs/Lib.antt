@@ -1,4 +1,6 @@
+pub mod Scans
 pub mod Questions
+pub mod Bulks
 pub mod Replies
 pub mod Places
 pub mod Laws

@@ -1,45 +1,55 @@
 -- The line that a question of JSON means (own).
-use Rattle.std.specs.Prelude.{ℕ, ◌+◌, Bool, true, not, ◌&&◌, ◌==◌, if◌then◌else◌, List, [], ◌∷◌, ◌++◌, length, map, find, codes, Option, Some, None, option_map, option_and_then, Result, Ok, Err}
+use Rattle.std.specs.Prelude.{ℕ, ◌+◌, Bool, true, false, not, ◌&&◌, ◌==◌, if◌then◌else◌, List, [], ◌∷◌, ◌++◌, length, take, drop, codes, Option, Some, None, option_map, option_and_then, Result, Ok, Err}
 use Rattle.std.specs.Char.{is_ascii_graphic}
 use Rattle.std.specs.List.{list_all}
+use Rattle.std.specs.Option.{is_some}
 use Rattle.std.specs.Str.{bytes_eq, is_utf8}
 use Rattle.json.specs.Find.{as_str, get}
 use Rattle.json.specs.Json as json
 use Rattle.json.specs.Json.{Json, Items, Members, document}
 use Rattle.json.specs.Strict.{keys}
+use Rattle.nmvs_elements.specs.declared.elements.Elements.{Elements}
 use Rattle.nmvs_identifier.specs.Tag.{is_tag}
 use Rattle.nmvs_rules.specs.declared.reason.Reason.TheVariants as reason
 use Rattle.nmvs_words.specs.declared.pack_question.PackQuestion.TheVariants.{Verify, Status, Decommission, Handover, Revert, Theft, Audit}
 use Rattle.nmvs_words.specs.declared.batch_question.BatchQuestion.TheVariants.{Recall, Withdraw}
 use Rattle.nmvs_words.specs.declared.question_kind.QuestionKind.TheVariants.{Upload, OfPack, OfBatch}
-use Rattle.nmvs_words.specs.Kinds.{kind_word, kinds}
+use Rattle.nmvs_words.specs.Kinds.{kind_word}
 use Rattle.nmvs_words.specs.Words.{spaced}
 use Rattle.nmvs_json.specs.declared.asked_kind.AskedKind.{AskedKind}
 use Rattle.nmvs_json.specs.declared.asked_kind.AskedKind.TheVariants.{Question, Report}
 use Rattle.nmvs_json.specs.declared.question_fault.QuestionFault.{QuestionFault}
 use Rattle.nmvs_json.specs.declared.question_fault.QuestionFault.TheVariants as fault
+use Rattle.nmvs_json.specs.Replies.{named}
+use Rattle.nmvs_json.specs.Scans.{pack_in}
 
--- the path of a kind of question
-abbrev pub path_of : AskedKind → List ℕ
-path_of (Question Upload) = codes "/v1/upload"
-path_of (Question (OfPack Verify)) = codes "/v1/verify"
-path_of (Question (OfPack Status)) = codes "/v1/status"
-path_of (Question (OfPack (Decommission reason.Supply))) = codes "/v1/supply"
-path_of (Question (OfPack (Decommission reason.Hold))) = codes "/v1/hold"
-path_of (Question (OfPack (Decommission reason.Export))) = codes "/v1/export"
-path_of (Question (OfPack (Decommission reason.Sample))) = codes "/v1/sample"
-path_of (Question (OfPack (Decommission reason.Destroy))) = codes "/v1/destroy"
-path_of (Question (OfPack Handover)) = codes "/v1/handover"
-path_of (Question (OfPack Revert)) = codes "/v1/revert"
-path_of (Question (OfPack Theft)) = codes "/v1/theft"
-path_of (Question (OfPack Audit)) = codes "/v1/audit"
-path_of (Question (OfBatch Recall)) = codes "/v1/recall"
-path_of (Question (OfBatch Withdraw)) = codes "/v1/withdraw"
-path_of Report = codes "/v1/report"
+-- the names of the kinds
+abbrev pub kind_names : List (List ℕ × AskedKind)
+kind_names =
+    (codes "upload", Question Upload)
+    ∷ (codes "recall", Question (OfBatch Recall))
+    ∷ (codes "withdraw", Question (OfBatch Withdraw))
+    ∷ (codes "verify", Question (OfPack Verify))
+    ∷ (codes "status", Question (OfPack Status))
+    ∷ (codes "supply", Question (OfPack (Decommission reason.Supply)))
+    ∷ (codes "hold", Question (OfPack (Decommission reason.Hold)))
+    ∷ (codes "export", Question (OfPack (Decommission reason.Export)))
+    ∷ (codes "sample", Question (OfPack (Decommission reason.Sample)))
+    ∷ (codes "destroy", Question (OfPack (Decommission reason.Destroy)))
+    ∷ (codes "handover", Question (OfPack Handover))
+    ∷ (codes "revert", Question (OfPack Revert))
+    ∷ (codes "theft", Question (OfPack Theft))
+    ∷ (codes "audit", Question (OfPack Audit))
+    ∷ (codes "report", Report)
+    ∷ []
 
--- the kind of question at a path
+-- the kind of a name
+unfoldable pub kind_named : List ℕ → Option AskedKind
+kind_named name = named kind_names name
+
+-- the kind of question at a path: /v1/ and its name
 abbrev pub asked_at : List ℕ → Option AskedKind
-asked_at path = find (λ k. bytes_eq path (path_of k)) (Report ∷ map Question kinds)
+asked_at path = if bytes_eq (take 4 path) (codes "/v1/") then kind_named (drop 4 path) else None
 
 -- the word of the line
 abbrev pub word_of : AskedKind → List ℕ
@@ -52,6 +62,17 @@ names_of (Question Upload) = codes "code" ∷ codes "serial" ∷ codes "batch" �
 names_of (Question (OfPack _)) = codes "code" ∷ codes "serial" ∷ []
 names_of (Question (OfBatch _)) = codes "code" ∷ codes "batch" ∷ []
 names_of Report = codes "code" ∷ []
+
+-- whether a kind asks about a pack
+abbrev pub is_of_pack : AskedKind → Bool
+is_of_pack (Question (OfPack _)) = true
+is_of_pack _ = false
+
+-- whether the answer to a kind is a list
+abbrev pub has_list : AskedKind → Bool
+has_list (Question (OfPack Audit)) = true
+has_list Report = true
+has_list _ = false
 
 -- whether no two of these are equal
 abbrev pub are_distinct : List (List ℕ) → Bool
@@ -122,11 +143,32 @@ abbrev pub texts_of : List (List ℕ) → Json → Option (List (List ℕ))
 texts_of [] j = Some []
 texts_of (name ∷ names) j = option_and_then (λ t. option_map (λ ts. t ∷ ts) (texts_of names j)) (text_of name j)
 
--- the fields of the line that an object means, if its members are those of the question and no others
-abbrev pub fields_of : AskedKind → Json → Option (List (List ℕ))
-fields_of kind j =
-    if count_of j == 1 + length (names_of kind)
-    then option_and_then (λ user. option_map (λ texts. user ∷ word_of kind ∷ texts) (texts_of (names_of kind) j)) (user_of j)
+-- the string that is the member of a name
+abbrev pub string_of : List ℕ → Json → Option (List ℕ)
+string_of name j = option_and_then as_str (get name j)
+
+-- whether a scan stands in place of a code and a serial, as it may in a question about a pack
+abbrev pub has_scan : AskedKind → Json → Bool
+has_scan kind j = is_of_pack kind && is_some (get (codes "scan") j)
+
+-- the code and the serial of a pack; a scan that cannot be read has -, which is no product code, in their places
+abbrev pub pack_texts : Option Elements → List (List ℕ)
+pack_texts None = codes "-" ∷ codes "-" ∷ []
+pack_texts (Some pack) = pack.code.bytes ∷ pack.serial.bytes ∷ []
+
+-- the texts of the line after its word, and the number of members that say them
+abbrev pub subject_of : AskedKind → Json → Option (List (List ℕ))
+subject_of kind j =
+    if has_scan kind j then option_map (λ scan. pack_texts (pack_in scan)) (string_of (codes "scan") j) else texts_of (names_of kind) j
+
+abbrev pub subject_count : AskedKind → Json → ℕ
+subject_count kind j = if has_scan kind j then 1 else length (names_of kind)
+
+-- the fields of the line that an object means, if its members are those of the question, and this number of others
+abbrev pub fields_of : ℕ → AskedKind → Json → Option (List (List ℕ))
+fields_of others kind j =
+    if count_of j == others + subject_count kind j
+    then option_and_then (λ user. option_map (λ texts. user ∷ word_of kind ∷ texts) (subject_of kind j)) (user_of j)
     else None
 
 -- whether a key is a tag; there may be none
@@ -144,10 +186,10 @@ abbrev pub line_of : Option (List ℕ) → Option (List (List ℕ)) → Result (
 line_of key None = Err fault.Fields
 line_of key (Some fields) = Ok (key_text key ++ spaced fields)
 
--- the line of a question with this key and this object as its body, or its fault
+-- the line of a question with this key and this object as its body, or its fault; the one other member is the user
 abbrev pub line_of_object : AskedKind → Option (List ℕ) → Option Json → Result (List ℕ) QuestionFault
 line_of_object kind key None = Err fault.Json
-line_of_object kind key (Some j) = line_of key (fields_of kind j)
+line_of_object kind key (Some j) = line_of key (fields_of 1 kind j)
 
 -- the line, with its LF, of a question with this key and this body, or its first fault
 unfoldable pub question_line : AskedKind → Option (List ℕ) → List ℕ → Result (List ℕ) QuestionFault

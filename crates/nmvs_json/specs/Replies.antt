@@ -1,5 +1,5 @@
 -- The JSON of a reply (RFC 8259), or the problem if there is none (RFC 9457). Names and statuses are our own choice.
-use Rattle.std.specs.Prelude.{ℕ, Bool, false, List, [], ◌∷◌, ◌++◌, ◌==◌, ◌||◌, codes, drop, find, Option, Some, None, option_map, unwrap_or, if◌then◌else◌}
+use Rattle.std.specs.Prelude.{ℕ, zero, suc, Bool, false, List, [], ◌∷◌, ◌++◌, ◌==◌, ◌||◌, codes, drop, find, Option, Some, None, option_map, unwrap_or, if◌then◌else◌}
 use Rattle.std.specs.List.{after_first, before_first, flat_map}
 use Rattle.std.specs.Str.{bytes_eq}
 use Rattle.nmvs_stream.specs.InputLines.{input_lines}
@@ -168,6 +168,15 @@ unfoldable pub body_text : List ℕ → List ℕ
 body_text text =
     let lines = input_lines text in
     body_where (places_of (first_word (first_line lines))) (first_line lines) (drop 1 lines)
+
+-- the bodies of answers of one line each to this number of questions: a question without a line has the body of no answer
+unfoldable pub bodies : ℕ → List (List ℕ) → List (List ℕ)
+bodies zero lines = []
+bodies (suc n) lines = body_where (places_of (first_word (first_line lines))) (first_line lines) [] ∷ bodies n (drop 1 lines)
+
+-- the body for a text that a session of lines wrote to the lines of a bulk of this number of questions
+unfoldable pub bulk_text : ℕ → List ℕ → List ℕ
+bulk_text count text = codes "{\"replies\":[" ++ (separated [] (bodies count (input_lines text)) ++ codes "]}\n")
 
 -- the problem of the text, if it is no reply
 unfoldable pub problem_of : List ℕ → Option Problem

@@ -1,7 +1,8 @@
-//! The kinds of questions, and their paths.
+//! The kinds of questions, their names and their paths.
 ghost use Rattle.std.specs.Prelude.{◌≡◌, map};
 ghost use Rattle.nmvs_json.specs.Questions as specs;
 
+use crate::table::named;
 use nmvs_rules::Reason;
 use nmvs_words::{BatchQuestion, PackQuestion, QuestionKind};
 
@@ -12,30 +13,98 @@ pub enum AskedKind {
     Report,
 }
 
+/// The names of the kinds.
+const NAMES: &[(&str, AskedKind)] = &[
+    ("upload", AskedKind::Question(QuestionKind::Upload)),
+    (
+        "recall",
+        AskedKind::Question(QuestionKind::OfBatch(BatchQuestion::Recall)),
+    ),
+    (
+        "withdraw",
+        AskedKind::Question(QuestionKind::OfBatch(BatchQuestion::Withdraw)),
+    ),
+    (
+        "verify",
+        AskedKind::Question(QuestionKind::OfPack(PackQuestion::Verify)),
+    ),
+    (
+        "status",
+        AskedKind::Question(QuestionKind::OfPack(PackQuestion::Status)),
+    ),
+    (
+        "supply",
+        AskedKind::Question(QuestionKind::OfPack(PackQuestion::Decommission(Reason::Supply))),
+    ),
+    (
+        "hold",
+        AskedKind::Question(QuestionKind::OfPack(PackQuestion::Decommission(Reason::Hold))),
+    ),
+    (
+        "export",
+        AskedKind::Question(QuestionKind::OfPack(PackQuestion::Decommission(Reason::Export))),
+    ),
+    (
+        "sample",
+        AskedKind::Question(QuestionKind::OfPack(PackQuestion::Decommission(Reason::Sample))),
+    ),
+    (
+        "destroy",
+        AskedKind::Question(QuestionKind::OfPack(PackQuestion::Decommission(Reason::Destroy))),
+    ),
+    (
+        "handover",
+        AskedKind::Question(QuestionKind::OfPack(PackQuestion::Handover)),
+    ),
+    (
+        "revert",
+        AskedKind::Question(QuestionKind::OfPack(PackQuestion::Revert)),
+    ),
+    (
+        "theft",
+        AskedKind::Question(QuestionKind::OfPack(PackQuestion::Theft)),
+    ),
+    (
+        "audit",
+        AskedKind::Question(QuestionKind::OfPack(PackQuestion::Audit)),
+    ),
+    ("report", AskedKind::Report),
+];
+
 impl AskedKind {
     /// The kind at this path, if there is one.
     pub fn at(path: &str) -> Option<AskedKind>
         ensures { result ≡ specs.asked_at path.now }
     {
-        let of_pack = match path {
-            "/v1/upload" => return Some(AskedKind::Question(QuestionKind::Upload)),
-            "/v1/recall" => return Some(of_batch(BatchQuestion::Recall)),
-            "/v1/withdraw" => return Some(of_batch(BatchQuestion::Withdraw)),
-            "/v1/report" => return Some(AskedKind::Report),
-            "/v1/verify" => PackQuestion::Verify,
-            "/v1/status" => PackQuestion::Status,
-            "/v1/supply" => PackQuestion::Decommission(Reason::Supply),
-            "/v1/hold" => PackQuestion::Decommission(Reason::Hold),
-            "/v1/export" => PackQuestion::Decommission(Reason::Export),
-            "/v1/sample" => PackQuestion::Decommission(Reason::Sample),
-            "/v1/destroy" => PackQuestion::Decommission(Reason::Destroy),
-            "/v1/handover" => PackQuestion::Handover,
-            "/v1/revert" => PackQuestion::Revert,
-            "/v1/theft" => PackQuestion::Theft,
-            "/v1/audit" => PackQuestion::Audit,
-            _ => return None,
-        };
-        Some(AskedKind::Question(QuestionKind::OfPack(of_pack)))
+        match path.as_bytes() {
+            [b'/', b'v', b'1', b'/', name @ ..] => AskedKind::named(name),
+            _ => None,
+        }
+    }
+
+    /// The kind of this name, if there is one.
+    #[tactic(auto, unfolding(crate::specs::Questions::kind_named))]
+    pub(crate) fn named(name: &[u8]) -> Option<AskedKind>
+        ensures { result ≡ specs.kind_named name.now }
+    {
+        named(NAMES, name)
+    }
+
+    /// Whether the answer is a list.
+    pub(crate) fn has_list(self) -> bool
+        ensures { result ≡ specs.has_list self }
+    {
+        matches!(
+            self,
+            AskedKind::Report | AskedKind::Question(QuestionKind::OfPack(PackQuestion::Audit))
+        )
+    }
+
+    /// Whether a question asks about a pack.
+    pub(crate) fn is_of_pack(self) -> bool
+        ensures { result ≡ specs.is_of_pack self }
+    {
+        matches!(self, AskedKind::Question(QuestionKind::OfPack(_)))
     }
 
     /// The word of the line.
@@ -59,10 +128,4 @@ impl AskedKind {
             AskedKind::Report => &["code"],
         }
     }
-}
-
-fn of_batch(question: BatchQuestion) -> AskedKind
-    ensures { result ≡ AskedKind.Question (QuestionKind.OfBatch question) }
-{
-    AskedKind::Question(QuestionKind::OfBatch(question))
 }

@@ -1,14 +1,17 @@
-//! Questions and replies as JSON: the one line that a question means, and the object of a reply.
+//! Questions and replies as JSON: the line that a question means, and the object of a reply; a bulk is a list of them.
 #![tactic(auto)]
 
 mod asked_kind;
+mod bulk;
 mod laws;
 mod question;
 mod question_fault;
 mod reply;
+mod table;
 
 pub use asked_kind::AskedKind;
+pub use bulk::{BulkLines, bulk_lines};
 pub use laws::no_word_is_left_out;
 pub use question::question_line;
 pub use question_fault::QuestionFault;
-pub use reply::{Problem, body_of, problem_of};
+pub use reply::{Problem, bulk_body, response_of};

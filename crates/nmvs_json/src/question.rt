@@ -1,17 +1,19 @@
 //! The line that a question of JSON means.
-ghost use Rattle.std.specs.Prelude.{◌≡◌, ◌≢◌, ◌++◌, true, false, Ok, Err, Some, None, IfOk, IfErr, OnOk, IfSome, IfNone, map, option_map, string_bytes};
+ghost use Rattle.std.specs.Prelude.{◌≡◌, ◌≢◌, ◌≤◌, ◌++◌, ◌∷◌, [], codes, true, false, Ok, Err, Some, None, IfOk, IfErr, OnOk, IfSome, IfNone, map, option_map, string_bytes};
 ghost use Rattle.std.specs.Char.{is_ascii_graphic};
 ghost use Rattle.std.specs.List.{list_all};
 ghost use Rattle.std.specs.Option.{option_copied};
 ghost use Rattle.json.specs.Value.{value_view};
 ghost use Rattle.nmvs_identifier.specs.Tag.{is_tag};
 ghost use Rattle.nmvs_words.specs.Words.{followed, spaced};
+ghost use Rattle.nmvs_json.specs.Scans.{pack_in};
 ghost use Rattle.nmvs_json.specs.Questions as specs;
 
 use crate::{AskedKind, QuestionFault};
 use json::{Error, Scratch, Value};
+use nmvs_elements::read_scan;
 use nmvs_identifier::Tag;
-use std::alloc::Global;
+use std::alloc::{AllocError, Global};
 
 /// The line, with its LF, of a question: its kind, its key if there is one, and its body of JSON.
 ///
@@ -28,24 +30,28 @@ pub fn question_line(
     ensures line { IfOk result (λ line. specs.question_line kind (option_copied key.entry) body.now ≡ Ok (string_bytes line)) }
     ensures fault { IfErr result (λ fault. fault ≢ QuestionFault.Memory → specs.question_line kind (option_copied key.entry) body.now ≡ Err fault) }
 {
-    let mut line = key_text(alloc, key)?;
+    let mut line = String::new(alloc);
+    push_key(&mut line, key)?;
     let mut scratch = Scratch::new(alloc);
     let object = object_in(alloc, body, &mut scratch)?;
-    push_fields(&mut line, kind, &object)?;
+    push_fields(&mut line, kind, 1, &object)?;
     Ok(line)
 }
 
-/// The text before a line with this key: its tag and a space, or nothing without a key.
-fn key_text(alloc: Global, key: Option<&[u8]>) -> Result<String, QuestionFault>
-    ensures text { IfOk result (λ text. string_bytes text ≡ specs.key_text (option_copied key.entry)) }
-    ensures key { IfOk result (λ text. specs.is_key (option_copied key.entry) ≡ true) }
+/// Appends the tag that a key is, as it stands before a line, or nothing without a key.
+pub(crate) fn push_key(line: &mut String, key: Option<&[u8]>) -> Result<(), QuestionFault>
+    ensures text { OnOk result (string_bytes line.new ≡ string_bytes line.old ++ specs.key_text (option_copied key.entry)) }
+    ensures key { OnOk result (specs.is_key (option_copied key.entry) ≡ true) }
     ensures fault { IfErr result (λ fault. fault ≢ QuestionFault.Memory → (fault ≡ QuestionFault.Key) × (specs.is_key (option_copied key.entry) ≡ false)) }
 {
     let Some(key) = key else {
-        return Ok(String::new(alloc));
+        return Ok(());
     };
     let tag = tag_of(key).ok_or(QuestionFault::Key)?;
-    Ok(format!(in alloc; "#{} ", tag.text())?)
+    line.push_str("#")?;
+    line.push_str(tag.text())?;
+    line.push_str(" ")?;
+    Ok(())
 }
 
 /// The tag that a key is.
@@ -60,7 +66,7 @@ fn tag_of(key: &[u8]) -> Option<Tag>
 }
 
 /// The object that a body is.
-fn object_in<'t>(
+pub(crate) fn object_in<'t>(
     alloc: Global,
     body: &'t [u8],
     scratch: &'t mut Scratch,
@@ -95,20 +101,89 @@ fn value_in<'t>(
     }
 }
 
-/// Appends the fields of the line that an object means, and LF.
-fn push_fields(line: &mut String, kind: AskedKind, object: &Value<'_>) -> Result<(), QuestionFault>
-    ensures fields { OnOk result (option_map (λ fields. string_bytes line.old ++ spaced fields) (specs.fields_of kind (value_view object.now)) ≡ Some (string_bytes line.new)) }
-    ensures fault { IfErr result (λ fault. fault ≢ QuestionFault.Memory → (fault ≡ QuestionFault.Fields) × (specs.fields_of kind (value_view object.now) ≡ None)) }
+/// Appends the fields of the line that an object means, and LF. The object has this number of members beyond those that name a
+/// pack, a batch or a product.
+pub(crate) fn push_fields(
+    line: &mut String,
+    kind: AskedKind,
+    others: usize,
+    object: &Value<'_>,
+) -> Result<(), QuestionFault>
+    requires { others ≤ 3 }
+    ensures fields { OnOk result (option_map (λ fields. string_bytes line.old ++ spaced fields) (specs.fields_of others kind (value_view object.now)) ≡ Some (string_bytes line.new)) }
+    ensures fault { IfErr result (λ fault. fault ≢ QuestionFault.Memory → (fault ≡ QuestionFault.Fields) × (specs.fields_of others kind (value_view object.now) ≡ None)) }
 {
-    let names = kind.names();
-    if count_of(object) != 1 + names.len() {
+    if count_of(object) != others + subject_count(kind, object) {
         return Err(QuestionFault::Fields);
     }
     let user = user_of(object).ok_or(QuestionFault::Fields)?;
     line.push_str(user)?;
     line.push_str(" ")?;
     line.push_str(kind.word())?;
-    push_texts(line, names, object)
+    push_subject(line, kind, object)
+}
+
+/// The number of members that name the pack, the batch or the product.
+fn subject_count(kind: AskedKind, object: &Value<'_>) -> usize
+    ensures count { result ≡ specs.subject_count kind (value_view object.now) }
+    ensures small { result ≤ 4 }
+{
+    if has_scan(kind, object) {
+        1
+    } else {
+        kind.names().len()
+    }
+}
+
+/// Whether a scan stands in place of a code and a serial, as it may in a question about a pack.
+fn has_scan(kind: AskedKind, object: &Value<'_>) -> bool
+    ensures { result ≡ specs.has_scan kind (value_view object.now) }
+{
+    kind.is_of_pack() && object.get("scan").is_some()
+}
+
+/// Appends the texts of the pack, the batch or the product that an object names, with a space before each, and LF.
+fn push_subject(line: &mut String, kind: AskedKind, object: &Value<'_>) -> Result<(), QuestionFault>
+    ensures texts { OnOk result (option_map (λ texts. string_bytes line.old ++ followed texts) (specs.subject_of kind (value_view object.now)) ≡ Some (string_bytes line.new)) }
+    ensures fault { IfErr result (λ fault. fault ≢ QuestionFault.Memory → (fault ≡ QuestionFault.Fields) × (specs.subject_of kind (value_view object.now) ≡ None)) }
+{
+    if has_scan(kind, object) {
+        push_scan(line, object)
+    } else {
+        push_texts(line, kind.names(), object)
+    }
+}
+
+/// Appends the code and the serial that the scan of an object carries, with a space before each, and LF.
+fn push_scan(line: &mut String, object: &Value<'_>) -> Result<(), QuestionFault>
+    ensures texts { OnOk result (option_map (λ scan. string_bytes line.old ++ followed (specs.pack_texts (pack_in scan))) (specs.string_of (codes "scan") (value_view object.now)) ≡ Some (string_bytes line.new)) }
+    ensures fault { IfErr result (λ fault. fault ≢ QuestionFault.Memory → (fault ≡ QuestionFault.Fields) × (specs.string_of (codes "scan") (value_view object.now) ≡ None)) }
+{
+    let scan = string_of(object, "scan").ok_or(QuestionFault::Fields)?;
+    push_pack(line, scan.as_bytes())?;
+    Ok(())
+}
+
+/// Appends the code and the serial that a scan carries, with a space before each, and LF; `-` is in their places if it cannot be
+/// read.
+fn push_pack(line: &mut String, scan: &[u8]) -> Result<(), AllocError>
+    ensures { OnOk result (string_bytes line.new ≡ string_bytes line.old ++ followed (specs.pack_texts (pack_in scan.now))) }
+{
+    match read_scan(scan, None) {
+        Ok(pack) => push_both(line, pack.code.text(), pack.serial.text()),
+        Err(_) => push_both(line, "-", "-"),
+    }
+}
+
+/// Appends two texts, with a space before each, and LF.
+fn push_both(line: &mut String, first: &str, second: &str) -> Result<(), AllocError>
+    ensures { OnOk result (string_bytes line.new ≡ string_bytes line.old ++ followed (first.now ∷ second.now ∷ [])) }
+{
+    line.push_str(" ")?;
+    line.push_str(first)?;
+    line.push_str(" ")?;
+    line.push_str(second)?;
+    line.push_str("\n")
 }
 
 /// Appends the texts of the members of these names, with a space before each, and LF.
@@ -128,7 +203,7 @@ fn push_texts(line: &mut String, names: &[&str], object: &Value<'_>) -> Result<(
 }
 
 /// The number of members of an object.
-fn count_of(object: &Value<'_>) -> usize
+pub(crate) fn count_of(object: &Value<'_>) -> usize
     ensures { result ≡ specs.count_of (value_view object.now) }
 {
     match object {
@@ -137,11 +212,18 @@ fn count_of(object: &Value<'_>) -> usize
     }
 }
 
+/// The string that is the member of this name.
+fn string_of<'v>(object: &'v Value<'_>, name: &str) -> Option<&'v str>
+    ensures { option_copied result ≡ specs.string_of name.now (value_view object.now) }
+{
+    object.get(name)?.as_str()
+}
+
 /// The text of the member of this name.
-fn text_of<'v>(object: &'v Value<'_>, name: &str) -> Option<&'v str>
+pub(crate) fn text_of<'v>(object: &'v Value<'_>, name: &str) -> Option<&'v str>
     ensures { option_copied result ≡ specs.text_of name.now (value_view object.now) }
 {
-    let text = object.get(name)?.as_str()?;
+    let text = string_of(object, name)?;
     if is_field(text.as_bytes()) {
         Some(text)
     } else {

@@ -1,10 +1,10 @@
 //! The JSON of replies.
-ghost use Rattle.std.specs.Prelude.{◌≡◌, ◌++◌, [], codes, drop, find, map, option_map, IfOk, OnOk};
-ghost use Rattle.std.specs.Str.{bytes_eq};
+ghost use Rattle.std.specs.Prelude.{◌≡◌, ◌++◌, [], codes, drop, map, option_map, IfOk, OnOk};
 ghost use Rattle.nmvs_stream.specs.InputLines.{input_lines};
 ghost use Rattle.nmvs_json.specs.Places.{place_of};
 ghost use Rattle.nmvs_json.specs.Replies as specs;
 
+use crate::table::named;
 use memchr::memchr;
 use nmvs_stream::cut_line;
 use std::alloc::{AllocError, Allocator};
@@ -35,7 +35,8 @@ pub(crate) enum Place {
     Label,
 }
 
-/// The bytes that a body has room for beyond those of the text (own). A body that needs more grows, as that of a report does.
+/// The bytes that the body of an answer has room for beyond those of its text (own). A body that needs more grows, as that of a
+/// report does.
 const ROOM: usize = 128;
 
 /// The first words of lines that are read in a way of their own.
@@ -123,41 +124,88 @@ const PROBLEMS: &[(&str, Problem)] = &[
     ("MEMORY", Problem::Unavailable),
 ];
 
-/// The problem of a session's answer to one question, or none if it is a reply.
-#[tactic(auto, unfolding(crate::specs::Replies::problem_of))]
-pub fn problem_of(text: &[u8]) -> Option<Problem>
-    ensures { result ≡ specs.problem_of text.now }
+/// The problem of a session's answer to one question, if it is no reply, and the body of the response.
+///
+/// # Errors
+///
+/// There is no memory for the body.
+#[tactic(auto, unfolding(crate::specs::Replies::body_text, crate::specs::Replies::problem_of))]
+pub fn response_of<A: Allocator>(
+    alloc: A,
+    text: &[u8],
+) -> Result<(Option<Problem>, Vec<u8, A>), AllocError>
+    ensures problem { IfOk result (λ response. response.0 ≡ specs.problem_of text.now) }
+    ensures body { IfOk result (λ response. response.1.items ≡ specs.body_text text.now) }
 {
-    let (line, _) = first_line(text);
-    let (word, _) = cut_word(line);
-    match places_of(word) {
-        Some(_) => None,
-        None => Some(problem_named(fault_of(line))),
-    }
+    let mut body = Vec::with_capacity(alloc, text.len() + ROOM)?;
+    let (line, later) = first_line(text);
+    let problem = push_answer(&mut body, line, later)?;
+    Ok((problem, body))
 }
 
-/// The body of the response: a session's answer to one question as JSON.
+/// The body of the response to a bulk of this number of questions: the bodies of their answers, each a line of a session's text.
 ///
 /// # Errors
 ///
 /// There is no memory for it.
-pub fn body_of<A: Allocator>(alloc: A, text: &[u8]) -> Result<Vec<u8, A>, AllocError>
-    ensures { IfOk result (λ body. body.items ≡ specs.body_text text.now) }
+#[tactic(auto, unfolding(crate::specs::Replies::bulk_text))]
+pub fn bulk_body<A: Allocator>(
+    alloc: A,
+    count: usize,
+    text: &[u8],
+) -> Result<Vec<u8, A>, AllocError>
+    ensures { IfOk result (λ body. body.items ≡ specs.bulk_text count text.now) }
 {
-    let mut body = Vec::with_capacity(alloc, text.len() + ROOM)?;
-    push_body(&mut body, text)?;
+    let room = count.saturating_mul(ROOM).saturating_add(text.len());
+    let mut body = Vec::with_capacity(alloc, room)?;
+    body.extend_from_slice(b"{\"replies\":[")?;
+    push_answers(&mut body, count, text)?;
+    body.extend_from_slice(b"]}\n")?;
     Ok(body)
 }
 
-#[tactic(auto, unfolding(crate::specs::Replies::body_text))]
-fn push_body<A: Allocator>(body: &mut Vec<u8, A>, text: &[u8]) -> Result<(), AllocError>
-    ensures { OnOk result (body.new.items ≡ body.old.items ++ specs.body_text text.now) }
+/// Puts the bodies of answers to this number of questions at the end of a body, with a comma between each two.
+fn push_answers<A: Allocator>(
+    body: &mut Vec<u8, A>,
+    count: usize,
+    text: &[u8],
+) -> Result<(), AllocError>
+    ensures { OnOk result (body.new.items ≡ body.old.items ++ specs.separated [] (specs.bodies count (input_lines text.now))) }
 {
-    let (line, later) = first_line(text);
+    let mut comma: &[u8] = b"";
+    let mut rest = text;
+    let mut left = count;
+    while left > 0 {
+        let (line, later) = first_line(rest);
+        body.extend_from_slice(comma)?;
+        push_answer(body, line, b"")?;
+        comma = b",";
+        rest = later;
+        left -= 1;
+    }
+    Ok(())
+}
+
+/// Puts the body of an answer to one question at the end of a body, by its first line without the tag and the bytes of its later
+/// lines. Returns its problem, if it is no reply.
+fn push_answer<A: Allocator>(
+    body: &mut Vec<u8, A>,
+    line: &[u8],
+    later: &[u8],
+) -> Result<Option<Problem>, AllocError>
+    ensures problem { IfOk result (λ problem. problem ≡ specs.problem_where (specs.places_of (specs.first_word line.now)) line.now) }
+    ensures body { OnOk result (body.new.items ≡ body.old.items ++ specs.body_where (specs.places_of (specs.first_word line.now)) line.now (input_lines later.now)) }
+{
     let (word, _) = cut_word(line);
     match places_of(word) {
-        Some(places) => push_reply(body, places, line, later),
-        None => push_problem(body, fault_of(line)),
+        Some(places) => {
+            push_reply(body, places, line, later)?;
+            Ok(None)
+        }
+        None => {
+            let problem = push_problem(body, fault_of(line))?;
+            Ok(Some(problem))
+        }
     }
 }
 
@@ -191,18 +239,6 @@ fn cut_word(line: &[u8]) -> (&[u8], &[u8])
         Some(space) => (&line[..space], &line[space + 1..]),
         None => (line, b""),
     }
-}
-
-/// The value of this word in a table.
-fn named<T: Copy>(table: &[(&str, T)], word: &[u8]) -> Option<T>
-    ensures { result ≡ option_map (λ row. row.1) (find (λ row. bytes_eq word.now row.0.now) table.now) }
-{
-    for (name, value) in table {
-        if word == name.as_bytes() {
-            return Some(*value);
-        }
-    }
-    None
 }
 
 /// The places of the words that follow this one in the first line of a reply.
@@ -415,14 +451,16 @@ fn push_escaped<A: Allocator>(body: &mut Vec<u8, A>, byte: u8) -> Result<(), All
     Ok(body.push(byte)?)
 }
 
-/// Puts the problem of a fault at the end of a body.
-fn push_problem<A: Allocator>(body: &mut Vec<u8, A>, fault: &[u8]) -> Result<(), AllocError>
-    ensures { OnOk result (body.new.items ≡ body.old.items ++ specs.problem_object fault.now) }
+/// Puts the problem of a fault at the end of a body, and returns it.
+fn push_problem<A: Allocator>(body: &mut Vec<u8, A>, fault: &[u8]) -> Result<Problem, AllocError>
+    ensures problem { IfOk result (λ problem. problem ≡ specs.problem_named fault.now) }
+    ensures body { OnOk result (body.new.items ≡ body.old.items ++ specs.problem_object fault.now) }
 {
     let problem = problem_named(fault);
     body.extend_from_slice(problem_front(problem))?;
     push_string(body, fault)?;
-    body.extend_from_slice(problem_end(problem))
+    body.extend_from_slice(problem_end(problem))?;
+    Ok(problem)
 }
 
 /// A problem up to its fault (RFC 9457).

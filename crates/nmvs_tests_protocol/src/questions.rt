@@ -1,5 +1,5 @@
 //! Questions of JSON, and the lines that they mean.
-use nmvs_json::{AskedKind, QuestionFault, question_line};
+use nmvs_json::{AskedKind, QuestionFault, bulk_lines, question_line};
 use std::alloc::Global;
 use std::process::Abort;
 use std::rt::HostRuntime;
@@ -92,8 +92,9 @@ fn other_bodies_have_a_fault(rt: HostRuntime) {
                 == Err(QuestionFault::Key)
         );
     }
-    assert!(rt; AskedKind::at("/v1/lines") == None);
-    assert!(rt; AskedKind::at("/v1/VERIFY") == None);
+    for path in ["/v1/lines", "/v1/VERIFY", "/v1/", "/v1", "/v2/verify", "verify"] {
+        assert!(rt; AskedKind::at(path) == None);
+    }
 }
 
 fn line_at(
@@ -105,4 +106,163 @@ fn line_at(
 ) -> Result<String, QuestionFault> {
     let kind = AskedKind::at(path).expect(rt, "the path of a question");
     question_line(alloc, kind, key, body)
+}
+
+#[test]
+fn a_scan_is_a_code_and_a_serial(rt: HostRuntime) {
+    let line = "ph1 SUPPLY 09506000134352 SN1\n";
+    let none = "ph1 SUPPLY - -\n";
+    for &(scan, line) in &[
+        ("]d201095060001343521728020010B1\\u001d21SN1", line),
+        ("]C1010950600013435221SN1\\u001d10B1\\u001d17280200", line),
+        ("]Q310B1\\u001D21SN1\\u001d17280200\\u001d0109506000134352", line),
+        ("]e0\\u001d0109506000134352\\u001d21SN1\\u001d1728020010B1", line),
+        ("010950600013435210B1\\u001d1728020021SN1\\u001d", line),
+        ("]d2010950600013435217280200\\u0031\\u0030B1\\u001d21SN1", line),
+        ("", none),
+        ("]d1010950600013435217280200", none),
+        ("]E00109506000134352", none),
+        ("]d201095060001343521728020010B121SN1", none),
+        ("]d201095060001343531728020010B1\\u001d21SN1", none),
+        ("]d2010950600013435217281300\\u001d10B1\\u001d21SN1", none),
+        ("]d2010950600013435210B1\\u001d21SN1", none),
+        ("]d201095060001343521728020010B1\\u001d21SN1\\u001d21SN2", none),
+        ("]d201095060001343521728020010B1\\u001d21SN1\\u001d712123", none),
+        ("]d201095060001343521728020010B1\\n21SN1", none),
+    ] {
+        let body = format!(in rt.alloc(); "{{\"scan\":\"{scan}\",\"user\":\"ph1\"}}").expect(&rt, "memory");
+        let read = line_at(&rt, rt.alloc(), "/v1/supply", None, body.as_bytes()).expect(
+            &rt,
+            "a question",
+        );
+        assert!(rt; read.as_str() == line);
+    }
+    let scan = "\"scan\":\"]d201095060001343521728020010B1\\u001d21SN1\"";
+    for &(path, more) in &[
+        ("/v1/verify", ",\"code\":\"09506000134352\""),
+        ("/v1/verify", ",\"serial\":\"SN1\""),
+        ("/v1/recall", ",\"batch\":\"B1\""),
+        ("/v1/report", ""),
+        ("/v1/upload", ",\"batch\":\"B1\",\"expiry\":\"280200\""),
+    ] {
+        let body = format!(in rt.alloc(); "{{\"user\":\"ph1\",{scan}{more}}}").expect(&rt, "memory");
+        assert!(rt;
+            line_at(&rt, rt.alloc(), path, None, body.as_bytes()) == Err(QuestionFault::Fields)
+        );
+    }
+    assert!(rt;
+        line_at(&rt, rt.alloc(), "/v1/verify", None, b"{\"user\":\"ph1\",\"scan\":1}")
+            == Err(QuestionFault::Fields)
+    );
+}
+
+/// Whether the body of a bulk of these items means this number of lines, which are these.
+fn is_bulk(rt: &impl Abort, alloc: Global, items: &str, count: usize, lines: &str) -> bool {
+    let body = format!(in alloc; "{{\"questions\":[{items}]}}").expect(rt, "memory");
+    let bulk = bulk_lines(alloc, body.as_bytes()).expect(rt, "a bulk");
+    bulk.count == count && bulk.lines.as_str() == lines
+}
+
+#[test]
+fn a_bulk_is_the_lines_of_its_questions(rt: HostRuntime) {
+    for &(items, count, lines) in &[
+        (
+            "{\"ask\":\"verify\",\"user\":\"ph1\",\"code\":\"09506000134352\",\"serial\":\"SN1\"}",
+            1,
+            "ph1 VERIFY 09506000134352 SN1\n",
+        ),
+        (
+            "{\"key\":\"a17\",\"serial\":\"A\",\"code\":\"1\",\"user\":\"wh1\",\"ask\":\"export\"},\n{\"ask\":\"recall\",\"user\":\"mah1\",\"code\":\"2\",\"batch\":\"B\"}",
+            2,
+            "#a17 wh1 EXPORT 1 A\nmah1 RECALL 2 B\n",
+        ),
+        (
+            "{\"ask\":\"upload\",\"user\":\"mah1\",\"code\":\"1\",\"serial\":\"A\",\"batch\":\"B\",\"expiry\":\"2\",\"key\":\"k\"},{\"ask\":\"supply\",\"user\":\"ph1\",\"scan\":\"]d201095060001343521728020010B1\\u001d21SN1\",\"key\":\"k\"},{\"ask\":\"theft\",\"user\":\"mah1\",\"scan\":\"\"}",
+            3,
+            "#k mah1 UPLOAD 1 A B 2\n#k ph1 SUPPLY 09506000134352 SN1\nmah1 THEFT - -\n",
+        ),
+    ] {
+        assert!(rt; is_bulk(&rt, rt.alloc(), items, count, lines));
+    }
+}
+
+/// The fault of a body that is no bulk.
+fn bulk_fault(alloc: Global, body: &[u8]) -> Option<QuestionFault> {
+    bulk_lines(alloc, body).err()
+}
+
+#[test]
+fn a_bulk_is_refused_whole(rt: HostRuntime) {
+    let good = "{\"ask\":\"verify\",\"user\":\"ph1\",\"code\":\"1\",\"serial\":\"2\"}";
+    for &(item, fault) in &[
+        ("{}", QuestionFault::Fields),
+        ("7", QuestionFault::Fields),
+        (
+            "{\"ask\":\"audit\",\"user\":\"ph1\",\"code\":\"1\",\"serial\":\"2\"}",
+            QuestionFault::Fields,
+        ),
+        (
+            "{\"ask\":\"report\",\"user\":\"ph1\",\"code\":\"1\"}",
+            QuestionFault::Fields,
+        ),
+        (
+            "{\"ask\":\"VERIFY\",\"user\":\"ph1\",\"code\":\"1\",\"serial\":\"2\"}",
+            QuestionFault::Fields,
+        ),
+        (
+            "{\"ask\":\"verify\",\"user\":\"ph1\",\"code\":\"1\",\"serial\":\"2\",\"batch\":\"B\"}",
+            QuestionFault::Fields,
+        ),
+        (
+            "{\"ask\":\"verify\",\"user\":\"ph1\",\"code\":\"1\",\"serial\":\"2 3\"}",
+            QuestionFault::Fields,
+        ),
+        (
+            "{\"ask\":\"verify\",\"user\":\"ph1\",\"code\":\"1\",\"serial\":\"2\",\"key\":\"-\"}",
+            QuestionFault::Key,
+        ),
+        (
+            "{\"ask\":\"verify\",\"user\":\"ph1\",\"code\":\"1\",\"serial\":\"2\",\"key\":7}",
+            QuestionFault::Key,
+        ),
+        (
+            "{\"ask\":\"verify\",\"user\":\"ph1\",\"code\":\"1\",\"serial\":\"2\",\"ask\":\"verify\"}",
+            QuestionFault::Json,
+        ),
+    ] {
+        let body = format!(in rt.alloc(); "{{\"questions\":[{good},{item}]}}").expect(&rt, "memory");
+        assert!(rt; bulk_fault(rt.alloc(), body.as_bytes()) == Some(fault));
+    }
+    for &(body, fault) in &[
+        ("", QuestionFault::Json),
+        ("[]", QuestionFault::Json),
+        ("{}", QuestionFault::Fields),
+        ("{\"questions\":[]}", QuestionFault::Fields),
+        ("{\"questions\":{}}", QuestionFault::Fields),
+        ("{\"questions\":[],\"user\":\"ph1\"}", QuestionFault::Fields),
+    ] {
+        assert!(rt; bulk_fault(rt.alloc(), body.as_bytes()) == Some(fault));
+    }
+}
+
+/// The number of lines that a bulk of this number of questions means.
+fn count_of(rt: &impl Abort, alloc: Global, questions: usize) -> Option<usize> {
+    let mut body = String::new(alloc);
+    body.push_str("{\"questions\":[").expect(rt, "memory");
+    for place in 0..questions {
+        let comma = if place == 0 { "" } else { "," };
+        body.push_str(comma).expect(rt, "memory");
+        body.push_str("{\"ask\":\"status\",\"user\":\"u\",\"code\":\"1\",\"serial\":\"2\"}").expect(rt, "memory");
+    }
+    body.push_str("]}").expect(rt, "memory");
+    match bulk_lines(alloc, body.as_bytes()) {
+        Ok(bulk) => Some(bulk.count),
+        Err(_) => None,
+    }
+}
+
+#[test]
+fn a_bulk_has_500_questions_at_most(rt: HostRuntime) {
+    assert!(rt; count_of(&rt, rt.alloc(), 500) == Some(500));
+    assert!(rt; count_of(&rt, rt.alloc(), 501) == None);
 }

@@ -1,6 +1,6 @@
 //! The JSON of replies. The expected texts are written by hand, from the tables of docs/PROTOCOL.md.
 use linked_list_allocator::LocalHeap;
-use nmvs_json::{Problem, body_of, problem_of};
+use nmvs_json::{Problem, bulk_body, response_of};
 use std::alloc::Global;
 use std::process::Abort;
 use std::rt::HostRuntime;
@@ -13,8 +13,8 @@ fn is_body(
     problem: Option<Problem>,
     body: &str,
 ) -> bool {
-    let made = body_of(alloc, text.as_bytes()).expect(rt, "memory");
-    problem_of(text.as_bytes()) == problem && made.as_slice() == body.as_bytes()
+    let made = response_of(alloc, text.as_bytes()).expect(rt, "memory");
+    made.0 == problem && made.1.as_slice() == body.as_bytes()
 }
 
 #[test]
@@ -214,8 +214,8 @@ const REPORT_BODY: &str =
 /// Whether a body is composed on a heap of this number of bytes.
 fn is_composed_on(rt: &impl Abort, alloc: Global, bytes: usize, text: &str, body: &str) -> bool {
     let heap = LocalHeap::new(alloc, bytes).expect(rt, "memory");
-    match body_of(&heap, text.as_bytes()) {
-        Ok(made) => {
+    match response_of(&heap, text.as_bytes()) {
+        Ok((_, made)) => {
             assert!(rt; made.as_slice() == body.as_bytes());
             true
         }
@@ -235,4 +235,42 @@ fn each_growth_of_a_body_is_refused_in_turn(rt: HostRuntime) {
         }
         assert!(rt; refused > 10 && refused < 198);
     }
+}
+
+#[test]
+fn a_bulk_has_a_body_for_each_question(rt: HostRuntime) {
+    let text = "#a17 UPLOADED\nFAULT CODE\nALERT HELD FLAGGED 17\n";
+    let body = "{\"replies\":[{\"reply\":\"UPLOADED\"}\n,{\"type\":\"about:blank\",\"title\":\"Unprocessable Content\",\"status\":422,\"fault\":\"CODE\",\"recorded\":\"no\"}\n,{\"reply\":\"ALERT\",\"cause\":\"HELD\",\"flag\":\"FLAGGED\",\"number\":17}\n]}\n";
+    let made = bulk_body(rt.alloc(), 3, text.as_bytes()).expect(&rt, "memory");
+    assert!(rt; made.as_slice() == body.as_bytes());
+    let ended = "{\"replies\":[{\"reply\":\"STOLEN\"}\n,{\"type\":\"about:blank\",\"title\":\"Service Unavailable\",\"status\":503,\"fault\":\"ENDED\",\"recorded\":\"unknown\"}\n]}\n";
+    let made = bulk_body(rt.alloc(), 2, b"STOLEN\n").expect(&rt, "memory");
+    assert!(rt; made.as_slice() == ended.as_bytes());
+}
+
+/// Whether the body of a bulk of two questions is composed on a heap of this number of bytes.
+fn is_bulk_composed_on(rt: &impl Abort, alloc: Global, bytes: usize) -> bool {
+    let heap = LocalHeap::new(alloc, bytes).expect(rt, "memory");
+    match bulk_body(&heap, 2, b"STOLEN\nUPLOADED\n") {
+        Ok(made) => {
+            assert!(rt;
+                made.as_slice()
+                    == b"{\"replies\":[{\"reply\":\"STOLEN\"}\n,{\"reply\":\"UPLOADED\"}\n]}\n"
+            );
+            true
+        }
+        Err(_) => false,
+    }
+}
+
+#[test]
+fn each_growth_of_the_body_of_a_bulk_is_refused_in_turn(rt: HostRuntime) {
+    let mut refused = 0usize;
+    for sixteens in 2..100usize {
+        if is_bulk_composed_on(&rt, rt.alloc(), sixteens * 16) {
+            break;
+        }
+        refused = refused.saturating_add(1);
+    }
+    assert!(rt; refused > 2 && refused < 98);
 }

@@ -1,0 +1,121 @@
+-- A bulk of questions is their lines, and its response the bodies of their answers.
+use Rattle.std.proofs.Common.{◌≡◌, ◌+◌, ℕ, zero, suc, Bool, true, false, List, [], ◌∷◌, ◌++◌, length, drop, map, Option, Some, None, Result, Ok, Err, codes, cond, refl, sym, ap, ◌∙◌, subst, arith, append_assoc}
+use Rattle.std.specs.Prelude.{IsSomeAnd, option_and_then}
+use Rattle.std.specs.List.{AllByRecursion, flat_map}
+use Rattle.json.specs.Json.{Json}
+use Rattle.nmvs_words.specs.Words.{spaced}
+use Rattle.nmvs_stream.specs.InputLines.{HasNoLf, input_lines, lines_after}
+use Rattle.nmvs_stream.proofs.LinesOfPieces.{line_cut}
+use Rattle.nmvs_messages.specs.declared.answer.Answer.{Answer}
+use Rattle.nmvs_protocol.specs.Session.{session_text}
+use Rattle.nmvs_protocol.specs.Texts.{text}
+use Rattle.nmvs_json.specs.declared.asked_kind.AskedKind.{AskedKind}
+use Rattle.nmvs_json.specs.declared.question_fault.QuestionFault.{QuestionFault}
+use Rattle.nmvs_json.specs.declared.question_fault.QuestionFault.TheVariants as fault
+use Rattle.nmvs_json.specs.Bulks.{bulk_lines, counted, item_fields, item_key, item_kind, item_line, item_line_with, item_lines, items_in, line_and, lines_of_items, lines_of_object, others_of}
+use Rattle.nmvs_json.specs.Questions.{fields_of, is_key, key_text, line_of, object_in}
+use Rattle.nmvs_json.specs.Replies.{bodies, body_text, body_where, bulk_text, first_line, first_word, places_of, separated}
+use Rattle.nmvs_http.specs.BulkLaws.{AreLinesOf, IsAnsweredByBodies, IsAskedByLines, IsLineOf, IsLineText, unanswered}
+use Rattle.nmvs_http.proofs.OneLineLemmas.{AreFields, IsLine, are_fields, is_line}
+
+-- a line and LF before more bytes
+one_more : (bytes line rest : List ℕ) → bytes ≡ line ++ 10 ∷ [] → (x : IsLineText bytes) → x.line ≡ line → input_lines (bytes ++ rest) ≡ line ∷ input_lines rest
+one_more bytes line rest whole x same =
+    line_cut [] line rest (ap (λ (t : List ℕ). t ++ rest) whole ∙ append_assoc line (10 ∷ []) rest) (subst (λ (l : List ℕ). HasNoLf l) same x.no_lf)
+
+-- the line of an item
+record IsItem (j : Json) (bytes : List ℕ) : Type 0 where
+  key : Option (List ℕ)
+  fields : List (List ℕ)
+  key_is : item_key j ≡ Some key
+  fields_are : item_fields (others_of key) j ≡ Some fields
+  its_line : IsLine bytes key fields
+
+item_is : (j : Json) (bytes : List ℕ) → item_line j ≡ Ok bytes → IsItem j bytes
+unfolding item_line
+item_is j bytes e = by (item_key j) refl e
+  where
+    asked : (others : ℕ) (o : Option AskedKind) (fields : List (List ℕ)) → option_and_then (λ kind. fields_of others kind j) o ≡ Some fields → AreFields fields
+    asked others None fields e = absurd (cc e)
+    asked others (Some kind) fields e = are_fields others kind j fields e
+
+    on : (key : Option (List ℕ)) → item_key j ≡ Some key → is_key key ≡ true → (o : Option (List (List ℕ))) → item_fields (others_of key) j ≡ o → line_of key o ≡ Ok bytes → IsItem j bytes
+    on key k t None p e = absurd (cc e)
+    on key k t (Some fields) p e =
+        let same : key_text key ++ spaced fields ≡ bytes = cc e in
+        record { key = key; fields = fields; key_is = k; fields_are = p; its_line = is_line key fields bytes t (asked (others_of key) (item_kind j) fields p) same }
+
+    keyed : (key : Option (List ℕ)) → item_key j ≡ Some key → (b : Bool) → is_key key ≡ b → cond b (line_of key (item_fields (others_of key) j)) (Err fault.Key) ≡ Ok bytes → IsItem j bytes
+    keyed key k false t e = absurd (cc e)
+    keyed key k true t e = on key k t (item_fields (others_of key) j) refl e
+
+    by : (o : Option (Option (List ℕ))) → item_key j ≡ o → item_line_with j o ≡ Ok bytes → IsItem j bytes
+    by None k e = absurd (cc e)
+    by (Some key) k e = keyed key k (is_key key) refl e
+
+-- the lines of items, one after the other
+abbrev HaveLines : List Json → Type 0
+HaveLines js = (bytes : List ℕ) → item_lines js ≡ Ok bytes → AreLinesOf js (input_lines bytes)
+
+lines_are : (js : List Json) (bytes : List ℕ) → item_lines js ≡ Ok bytes → AreLinesOf js (input_lines bytes)
+unfolding lines_after
+lines_are [] bytes e = let none : [] ≡ bytes = cc e in subst (λ (t : List ℕ). AreLinesOf [] (input_lines t)) none tt
+lines_are (j ∷ js) bytes e = by (lines_are js) (item_line j) refl (item_lines js) refl e
+  where
+    by : HaveLines js → (r : Result (List ℕ) QuestionFault) → item_line j ≡ r → (s : Result (List ℕ) QuestionFault) → item_lines js ≡ s → line_and r s ≡ Ok bytes → AreLinesOf (j ∷ js) (input_lines bytes)
+    by have (Err f) p s q e = absurd (cc e)
+    by have (Ok x) p (Err f) q e = absurd (cc e)
+    by have (Ok x) p (Ok later) q e =
+        let same : x ++ later ≡ bytes = cc e in
+        let item = item_is j x p in
+        let l = item.its_line in
+        let cut : input_lines (x ++ later) ≡ l.line ∷ input_lines later = one_more x l.line later l.whole (record { line = l.line; no_lf = l.no_lf; whole = l.whole }) refl in
+        subst (λ (t : List ℕ). AreLinesOf (j ∷ js) (input_lines t)) same
+        (subst (λ (ls : List (List ℕ)). AreLinesOf (j ∷ js) ls) (sym cut)
+        (record { key = item.key; fields = item.fields; key_is = item.key_is; fields_are = item.fields_are; tagged = l.tagged; behind = l.behind }, have later q))
+
+pub asked_by_lines : IsAskedByLines
+unfolding bulk_lines
+asked_by_lines body bulk e = by (object_in body) e
+  where
+    told : (js : List Json) (r : Result (List ℕ) QuestionFault) → item_lines js ≡ r → counted (length js) r ≡ Ok bulk → (length js ≡ bulk.0) × AreLinesOf js (input_lines bulk.1)
+    told js (Err f) p e = absurd (cc e)
+    told js (Ok lines) p e =
+        let same : (length js, lines) ≡ bulk = cc e in
+        (ap (λ (b : ℕ × List ℕ). b.0) same, subst (λ (b : ℕ × List ℕ). AreLinesOf js (input_lines b.1)) same (lines_are js lines p))
+
+    on : (o : Option (List Json)) → lines_of_items o ≡ Ok bulk → IsSomeAnd o (λ items. (length items ≡ bulk.0) × AreLinesOf items (input_lines bulk.1))
+    on None e = absurd (cc e)
+    on (Some js) e = told js (item_lines js) refl e
+
+    by : (o : Option Json) → lines_of_object o ≡ Ok bulk → IsSomeAnd (option_and_then items_in o) (λ items. (length items ≡ bulk.0) × AreLinesOf items (input_lines bulk.1))
+    by None e = absurd (cc e)
+    by (Some j) e = on (items_in j) e
+
+-- the bodies of no answers
+none_answered : (n : ℕ) → bodies n (input_lines []) ≡ unanswered n
+unfolding bodies body_text lines_after
+none_answered zero = refl
+none_answered (suc n) = ap (λ (later : List (List ℕ)). body_text [] ∷ later) (none_answered n)
+
+-- the body of an answer of one line, before more bodies
+one_answered : (n : ℕ) (bytes rest : List ℕ) → (x : IsLineText bytes) → bodies (suc n) (input_lines (bytes ++ rest)) ≡ body_text bytes ∷ bodies n (input_lines rest)
+unfolding bodies body_text lines_after
+one_answered n bytes rest x =
+    let cut = one_more bytes x.line rest x.whole x refl in
+    let own : input_lines bytes ≡ x.line ∷ [] = line_cut [] x.line [] x.whole x.no_lf in
+    ap (λ (ls : List (List ℕ)). bodies (suc n) ls) cut
+    ∙ ap (λ (b : List ℕ). b ∷ bodies n (input_lines rest)) (sym (ap (λ (ls : List (List ℕ)). body_where (places_of (first_word (first_line ls))) (first_line ls) (drop 1 ls)) own))
+
+answered : (said : List Answer) (missing : ℕ) → AllByRecursion (λ answer. IsLineText (text answer)) said
+    → bodies (length said + missing) (input_lines (session_text said)) ≡ map (λ answer. body_text (text answer)) said ++ unanswered missing
+answered [] missing lines = let none : 0 + missing ≡ missing = omega arith in ap (λ (n : ℕ). bodies n (input_lines [])) none ∙ none_answered missing
+answered (a ∷ said) missing lines =
+    let more : length (a ∷ said) + missing ≡ suc (length said + missing) = omega arith in
+    ap (λ (n : ℕ). bodies n (input_lines (session_text (a ∷ said)))) more
+    ∙ one_answered (length said + missing) (text a) (session_text said) lines.0 ∙ ap (λ (later : List (List ℕ)). body_text (text a) ∷ later) (answered said missing lines.1)
+
+pub answered_by_bodies : IsAnsweredByBodies
+unfolding bulk_text
+answered_by_bodies said missing lines =
+    ap (λ (bs : List (List ℕ)). codes "{\"replies\":[" ++ (separated [] bs ++ codes "]}\n")) (answered said missing lines)

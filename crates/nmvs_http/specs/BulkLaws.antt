@@ -1,0 +1,53 @@
+-- A bulk of questions is their lines, and the response has the bodies of the answers to them (own).
+use Rattle.std.specs.Prelude.{◌≡◌, ◌+◌, ℕ, zero, suc, List, [], ◌∷◌, ◌++◌, length, map, codes, Option, Some, Ok, IsSomeAnd, option_and_then}
+use Rattle.std.specs.List.{AllByRecursion}
+use Rattle.json.specs.Json.{Json}
+use Rattle.nmvs_stream.specs.InputLines.{HasNoLf, input_lines}
+use Rattle.nmvs_messages.specs.declared.answer.Answer.{Answer}
+use Rattle.nmvs_protocol.specs.Session.{session_text}
+use Rattle.nmvs_protocol.specs.Tags.{tag_of}
+use Rattle.nmvs_protocol.specs.Texts.{text}
+use Rattle.nmvs_json.specs.Bulks.{bulk_lines, item_fields, item_key, items_in, others_of}
+use Rattle.nmvs_json.specs.Questions.{object_in}
+use Rattle.nmvs_json.specs.Replies.{body_text, bulk_text, separated}
+use Rattle.nmvs_http.specs.OneLine.{fields_behind, key_tag}
+
+-- the line of an item has its key as the tag, and its fields after that
+pub record IsLineOf (item : Json) (line : List ℕ) : Type 0 where
+  pub key : Option (List ℕ)
+  pub fields : List (List ℕ)
+  pub key_is : item_key item ≡ Some key
+  pub fields_are : item_fields (others_of key) item ≡ Some fields
+  pub tagged : tag_of line ≡ key_tag key
+  pub behind : fields_behind (key_tag key) line ≡ fields
+
+-- these lines are those of these items, one each, in order
+abbrev pub AreLinesOf : List Json → List (List ℕ) → Type 0
+AreLinesOf [] [] = Unit {0}
+AreLinesOf (item ∷ items) (line ∷ lines) = IsLineOf item line × AreLinesOf items lines
+AreLinesOf _ _ = ⊥
+
+-- a bulk asks the lines of its items, as many as they are
+abbrev pub IsAskedByLines : Type 0
+IsAskedByLines =
+    (body : List ℕ) (bulk : ℕ × List ℕ) → bulk_lines body ≡ Ok bulk
+    → IsSomeAnd (option_and_then items_in (object_in body)) (λ items. (length items ≡ bulk.0) × AreLinesOf items (input_lines bulk.1))
+
+-- the text of an answer is one line, as of each that is no list
+pub record IsLineText (t : List ℕ) : Type 0 where
+  pub line : List ℕ
+  pub no_lf : HasNoLf line
+  pub whole : t ≡ line ++ 10 ∷ []
+
+-- the body of no answer, this number of times
+abbrev pub unanswered : ℕ → List (List ℕ)
+unanswered zero = []
+unanswered (suc n) = body_text [] ∷ unanswered n
+
+-- the response to a bulk has the body of each answer, in order, as the response to one question has it, and that of no answer for
+-- each question that has none
+abbrev pub IsAnsweredByBodies : Type 0
+IsAnsweredByBodies =
+    (said : List Answer) (missing : ℕ) → AllByRecursion (λ answer. IsLineText (text answer)) said
+    → bulk_text (length said + missing) (session_text said)
+    ≡ codes "{\"replies\":[" ++ (separated [] (map (λ answer. body_text (text answer)) said ++ unanswered missing) ++ codes "]}\n")

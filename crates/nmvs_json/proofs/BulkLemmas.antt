@@ -1,0 +1,65 @@
+-- The lines of items, and the bodies of answers.
+use Rattle.std.proofs.Common.{◌≡◌, ◌+◌, ℕ, zero, suc, Bool, true, cond, List, [], ◌∷◌, ◌++◌, drop, map, Option, Some, None, Result, Ok, Err, Vec, refl, sym, ap, ◌∙◌, append_assoc, arith}
+use Rattle.std.specs.Prelude.{OnOk, option_map}
+use Rattle.std.proofs.lemmas.List.{append-nil}
+use Rattle.std.proofs.lemmas.Option.{same_Some}
+use Rattle.json.proofs.Trees.{view-Array}
+use Rattle.json.specs.Json.{Json}
+use Rattle.json.specs.Value.{items_of, value_view}
+use Rattle.json.specs.declared.value.Value.{Value, Array}
+use Rattle.nmvs_words.specs.Words.{spaced}
+use Rattle.nmvs_json.specs.declared.question_fault.QuestionFault.{QuestionFault}
+use Rattle.nmvs_json.specs.declared.question_fault.QuestionFault.TheVariants as fault
+use Rattle.nmvs_json.specs.Bulks.{appended, as_values, item_fields, item_key, item_line, item_line_with, line_and, others_of, values_of}
+use Rattle.nmvs_json.specs.Questions.{is_key, key_text, line_of}
+use Rattle.nmvs_json.specs.Replies.{bodies, body_where, first_line, first_word, places_of}
+
+-- one line more
+pub line_more : (lines new : List ℕ) (r rest : Result (List ℕ) QuestionFault) → appended lines r ≡ Ok new → line_and (Ok new) rest ≡ line_and (Ok lines) (line_and r rest)
+line_more lines new (Err f) rest e = absurd (cc e)
+line_more lines new (Ok line) (Err f) e = refl
+line_more lines new (Ok line) (Ok later) e =
+    let same : lines ++ line ≡ new = cc e in ap Ok (ap (λ (t : List ℕ). t ++ later) (sym same) ∙ append_assoc lines line later)
+
+-- the fault of a line
+pub line_faulty : (lines : List ℕ) (r rest : Result (List ℕ) QuestionFault) (f : QuestionFault) → r ≡ Err f → line_and (Ok lines) (line_and r rest) ≡ Err f
+line_faulty lines r rest f e = ap (λ (s : Result (List ℕ) QuestionFault). line_and (Ok lines) (line_and s rest)) e
+
+-- all lines
+pub lines_all : (lines : List ℕ) → line_and (Ok lines) (Ok []) ≡ Ok lines
+lines_all lines = ap Ok (append-nil lines)
+
+-- the fields of a line after its key
+pub fields_put : (key : Option (List ℕ)) (old mid new : List ℕ) (o : Option (List (List ℕ))) → mid ≡ old ++ key_text key → option_map (λ fs. mid ++ spaced fs) o ≡ Some new → appended old (line_of key o) ≡ Ok new
+fields_put key old mid new None front e = absurd (cc e)
+fields_put key old mid new (Some fs) front e =
+    ap Ok (sym (append_assoc old (key_text key) (spaced fs)) ∙ ap (λ (t : List ℕ). t ++ spaced fs) (sym front) ∙ same_Some (mid ++ spaced fs) new e)
+
+-- the line of an item, by its key and its fields
+pub item_put : {T E : Type 0} (r : Result T E) (j : Json) (key : Option (List ℕ)) (others : ℕ) (old mid new : List ℕ) → item_key j ≡ Some key → is_key key ≡ true → others ≡ others_of key → mid ≡ old ++ key_text key
+    → OnOk r (option_map (λ fs. mid ++ spaced fs) (item_fields others j) ≡ Some new) → OnOk r (appended old (item_line j) ≡ Ok new)
+unfolding item_line
+item_put (Err f) j key others old mid new k t o front e = tt
+item_put (Ok v) j key others old mid new k t o front e =
+    ap (appended old)
+    (ap (item_line_with j) k ∙ ap (λ (b : Bool). cond b (line_of key (item_fields (others_of key) j)) (Err fault.Key)) t ∙ ap (λ (n : ℕ). line_of key (item_fields n j)) (sym o))
+    ∙ fields_put key old mid new (item_fields others j) front e
+
+-- the values in an array
+values_back : (js : List Json) → values_of (items_of js) ≡ js
+values_back [] = refl
+values_back (j ∷ js) = ap (λ (later : List Json). j ∷ later) (values_back js)
+
+pub array_values : {A : Type 0} (v : Vec (Value A) A) → as_values (value_view (Array v)) ≡ Some (map value_view v.items)
+array_values v = ap as_values (view-Array v) ∙ ap Some (values_back (map value_view v.items))
+
+-- one body more, or none
+pub body_more : (n m : ℕ) (lines after : List (List ℕ)) → m + 1 ≡ n → after ≡ drop 1 lines → bodies n lines ≡ body_where (places_of (first_word (first_line lines))) (first_line lines) [] ∷ bodies m after
+unfolding bodies
+body_more zero m lines after some is = absurd (omega (arith, some))
+body_more (suc k) m lines after some is =
+    let same : k ≡ m = omega (arith, some) in λ i. body_where (places_of (first_word (first_line lines))) (first_line lines) [] ∷ bodies (same i) (sym is i)
+
+pub no_bodies : (n : ℕ) (lines : List (List ℕ)) → n ≡ 0 → bodies n lines ≡ []
+unfolding bodies
+no_bodies n lines none = ap (λ (m : ℕ). bodies m lines) none
