@@ -92,7 +92,14 @@ fn other_bodies_have_a_fault(rt: HostRuntime) {
                 == Err(QuestionFault::Key)
         );
     }
-    for path in ["/v1/lines", "/v1/VERIFY", "/v1/", "/v1", "/v2/verify", "verify"] {
+    for path in [
+        "/v1/lines",
+        "/v1/VERIFY",
+        "/v1/",
+        "/v1",
+        "/v2/verify",
+        "verify",
+    ] {
         assert!(rt; AskedKind::at(path) == None);
     }
 }
@@ -115,10 +122,19 @@ fn a_scan_is_a_code_and_a_serial(rt: HostRuntime) {
     for &(scan, line) in &[
         ("]d201095060001343521728020010B1\\u001d21SN1", line),
         ("]C1010950600013435221SN1\\u001d10B1\\u001d17280200", line),
-        ("]Q310B1\\u001D21SN1\\u001d17280200\\u001d0109506000134352", line),
-        ("]e0\\u001d0109506000134352\\u001d21SN1\\u001d1728020010B1", line),
+        (
+            "]Q310B1\\u001D21SN1\\u001d17280200\\u001d0109506000134352",
+            line,
+        ),
+        (
+            "]e0\\u001d0109506000134352\\u001d21SN1\\u001d1728020010B1",
+            line,
+        ),
         ("010950600013435210B1\\u001d1728020021SN1\\u001d", line),
-        ("]d2010950600013435217280200\\u0031\\u0030B1\\u001d21SN1", line),
+        (
+            "]d2010950600013435217280200\\u0031\\u0030B1\\u001d21SN1",
+            line,
+        ),
         ("", none),
         ("]d1010950600013435217280200", none),
         ("]E00109506000134352", none),
@@ -126,11 +142,19 @@ fn a_scan_is_a_code_and_a_serial(rt: HostRuntime) {
         ("]d201095060001343531728020010B1\\u001d21SN1", none),
         ("]d2010950600013435217281300\\u001d10B1\\u001d21SN1", none),
         ("]d2010950600013435210B1\\u001d21SN1", none),
-        ("]d201095060001343521728020010B1\\u001d21SN1\\u001d21SN2", none),
-        ("]d201095060001343521728020010B1\\u001d21SN1\\u001d712123", none),
+        (
+            "]d201095060001343521728020010B1\\u001d21SN1\\u001d21SN2",
+            none,
+        ),
+        (
+            "]d201095060001343521728020010B1\\u001d21SN1\\u001d712123",
+            none,
+        ),
         ("]d201095060001343521728020010B1\\n21SN1", none),
     ] {
-        let body = format!(in rt.alloc(); "{{\"scan\":\"{scan}\",\"user\":\"ph1\"}}").expect(&rt, "memory");
+        let body = format!(in rt.alloc(); "{{\"scan\":\"{scan}\",\"user\":\"ph1\"}}").expect(
+            &rt, "memory",
+        );
         let read = line_at(&rt, rt.alloc(), "/v1/supply", None, body.as_bytes()).expect(
             &rt,
             "a question",
@@ -145,14 +169,21 @@ fn a_scan_is_a_code_and_a_serial(rt: HostRuntime) {
         ("/v1/report", ""),
         ("/v1/upload", ",\"batch\":\"B1\",\"expiry\":\"280200\""),
     ] {
-        let body = format!(in rt.alloc(); "{{\"user\":\"ph1\",{scan}{more}}}").expect(&rt, "memory");
+        let body = format!(in rt.alloc(); "{{\"user\":\"ph1\",{scan}{more}}}").expect(
+            &rt, "memory",
+        );
         assert!(rt;
             line_at(&rt, rt.alloc(), path, None, body.as_bytes()) == Err(QuestionFault::Fields)
         );
     }
     assert!(rt;
-        line_at(&rt, rt.alloc(), "/v1/verify", None, b"{\"user\":\"ph1\",\"scan\":1}")
-            == Err(QuestionFault::Fields)
+        line_at(
+            &rt,
+            rt.alloc(),
+            "/v1/verify",
+            None,
+            b"{\"user\":\"ph1\",\"scan\":1}"
+        ) == Err(QuestionFault::Fields)
     );
 }
 
@@ -230,7 +261,9 @@ fn a_bulk_is_refused_whole(rt: HostRuntime) {
             QuestionFault::Json,
         ),
     ] {
-        let body = format!(in rt.alloc(); "{{\"questions\":[{good},{item}]}}").expect(&rt, "memory");
+        let body = format!(in rt.alloc(); "{{\"questions\":[{good},{item}]}}").expect(
+            &rt, "memory",
+        );
         assert!(rt; bulk_fault(rt.alloc(), body.as_bytes()) == Some(fault));
     }
     for &(body, fault) in &[
@@ -252,7 +285,8 @@ fn count_of(rt: &impl Abort, alloc: Global, questions: usize) -> Option<usize> {
     for place in 0..questions {
         let comma = if place == 0 { "" } else { "," };
         body.push_str(comma).expect(rt, "memory");
-        body.push_str("{\"ask\":\"status\",\"user\":\"u\",\"code\":\"1\",\"serial\":\"2\"}").expect(rt, "memory");
+        body.push_str("{\"ask\":\"status\",\"user\":\"u\",\"code\":\"1\",\"serial\":\"2\"}")
+            .expect(rt, "memory");
     }
     body.push_str("]}").expect(rt, "memory");
     match bulk_lines(alloc, body.as_bytes()) {

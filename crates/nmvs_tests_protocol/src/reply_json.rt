@@ -240,10 +240,12 @@ fn each_growth_of_a_body_is_refused_in_turn(rt: HostRuntime) {
 #[test]
 fn a_bulk_has_a_body_for_each_question(rt: HostRuntime) {
     let text = "#a17 UPLOADED\nFAULT CODE\nALERT HELD FLAGGED 17\n";
-    let body = "{\"replies\":[{\"reply\":\"UPLOADED\"}\n,{\"type\":\"about:blank\",\"title\":\"Unprocessable Content\",\"status\":422,\"fault\":\"CODE\",\"recorded\":\"no\"}\n,{\"reply\":\"ALERT\",\"cause\":\"HELD\",\"flag\":\"FLAGGED\",\"number\":17}\n]}\n";
+    let body =
+        "{\"replies\":[{\"reply\":\"UPLOADED\"}\n,{\"type\":\"about:blank\",\"title\":\"Unprocessable Content\",\"status\":422,\"fault\":\"CODE\",\"recorded\":\"no\"}\n,{\"reply\":\"ALERT\",\"cause\":\"HELD\",\"flag\":\"FLAGGED\",\"number\":17}\n]}\n";
     let made = bulk_body(rt.alloc(), 3, text.as_bytes()).expect(&rt, "memory");
     assert!(rt; made.as_slice() == body.as_bytes());
-    let ended = "{\"replies\":[{\"reply\":\"STOLEN\"}\n,{\"type\":\"about:blank\",\"title\":\"Service Unavailable\",\"status\":503,\"fault\":\"ENDED\",\"recorded\":\"unknown\"}\n]}\n";
+    let ended =
+        "{\"replies\":[{\"reply\":\"STOLEN\"}\n,{\"type\":\"about:blank\",\"title\":\"Service Unavailable\",\"status\":503,\"fault\":\"ENDED\",\"recorded\":\"unknown\"}\n]}\n";
     let made = bulk_body(rt.alloc(), 2, b"STOLEN\n").expect(&rt, "memory");
     assert!(rt; made.as_slice() == ended.as_bytes());
 }
@@ -255,7 +257,7 @@ fn is_bulk_composed_on(rt: &impl Abort, alloc: Global, bytes: usize) -> bool {
         Ok(made) => {
             assert!(rt;
                 made.as_slice()
-                    == b"{\"replies\":[{\"reply\":\"STOLEN\"}\n,{\"reply\":\"UPLOADED\"}\n]}\n"
+                    == b"{\"replies\":[{\"reply\":\"STOLEN\"}\n,{\"reply\":\"UPLOADED\"}\n]}\n".as_slice()
             );
             true
         }
