@@ -3,7 +3,7 @@
 ./nmvs-serve --help). docs/TERMINALS.md lists the packs.
 
     tools/conformance.py [--port N]           serves terminals that are under test, until the end of standard input
-    tools/conformance.py --http [--port N]    serves terminals that ask over HTTP, one question a request
+    tools/conformance.py --http [--port N]    serves terminals that ask over HTTP
     tools/conformance.py LINES..              puts the lines of these files, as a terminal wrote them, one after another
 
 Each prints the lines or requests with their replies, and at the end what was not met. It ends with status 1 where one is none of
@@ -51,10 +51,18 @@ def kind(reply):
     return " ".join(words[:2]) if words[0] in ("ALERT", "REFUSED", "FAULT") else words[0]
 
 
-def worded(text):
+def worded(said):
     """The words of a reply over HTTP, as the line has them: its members, in their order."""
-    said = json.loads(text)
     return f"FAULT {said['fault']}" if "fault" in said else " ".join(map(str, said.values()))
+
+
+def each_of(body, text):
+    """The question in the body of a request and its reply, or each of a bulk and its own."""
+    said = json.loads(text)
+    if "replies" in said:
+        asked = (json.dumps(item) for item in json.loads(body)["questions"])
+        return zip(asked, (json.dumps(one, separators=(",", ":")) for one in said["replies"]), map(worded, said["replies"]))
+    return [(body.decode("latin-1"), text[:-1], worded(said))]
 
 
 class Verdict:
@@ -136,8 +144,8 @@ class Relayed(http.server.BaseHTTPRequestHandler):
         response = server.getresponse()
         text = response.read()
         if response.headers["content-type"].endswith("json"):
-            said = text.decode()
-            self.server.verdict.note(f"{self.command} {self.path} {body.decode('latin-1')}", [said[:-1]], worded(said))
+            for asked, said, words in each_of(body, text.decode()):
+                self.server.verdict.note(f"{self.command} {self.path} {asked}", [said], words)
         self.send_response_only(response.status)
         for name, value in response.getheaders():
             self.send_header(name, value)
