@@ -1,6 +1,6 @@
 -- A clerk that was answered, or that looked at a shard, is a clerk, and has seen more of that shard alone.
 use Rattle.std.proofs.Common.{◌≡◌, ◌≢◌, ◌<◌, ◌==◌, ℕ, zero, suc, Bool, List, [], ◌∷◌, ◌++◌, map, set, cond, sym, refl, ap, ◌∙◌, subst, arith, inl, inr, eq-eqb, ne_eqb, length-set, append-nil, append_assoc}
-use Rattle.std.specs.Prelude.{Some, slice_get, filter}
+use Rattle.std.specs.Prelude.{Option, Some, slice_get, filter}
 use Rattle.std.proofs.lemmas.Option.{slice_get_within, same_Some}
 use Rattle.std.proofs.lemmas.List.{map-append}
 use Rattle.std.proofs.lemmas.List.Elements.{filter-append}
@@ -9,6 +9,7 @@ use mathlib.Core.List.{IsPrefix}
 use Rattle.nmvs_history.specs.Views.{HistoryId, TokenView}
 use Rattle.nmvs_history.proofs.Beginnings.{prefix_get, prefix_length, prefix_trans}
 use Rattle.nmvs_rules.specs.declared.entry.Entry.{Entry}
+use Rattle.nmvs_rules.specs.declared.printed.Printed.{Printed}
 use Rattle.nmvs_rules.specs.declared.put.Put.{Put}
 use Rattle.nmvs_rules.specs.Rules.{answered}
 use Rattle.nmvs_directory.specs.declared.change.Change.{Change}
@@ -92,17 +93,17 @@ module _ (tables : ℕ → HistoryId) (count : ℕ) (tokens : List TokenView) (r
         | inr e ↦ record { token = it.token; is = set_other tokens index o.shard now e.1 ∙ it.is; stands = it.stands }
       ]
 
-  begins_now : {A : Type 0} (put : Put) (o : Outcome A) → Becomes count index put was now o → IsPrefix was.seen now.seen
-  begins_now put o b = prefix_trans was.seen b.trail now.seen b.shown.begins b.later.begins
+  begins_now : {A : Type 0} (put : Put) (printed : Option Printed) (o : Outcome A) → Becomes count index put printed was now o → IsPrefix was.seen now.seen
+  begins_now put printed o b = prefix_trans was.seen b.trail now.seen b.shown.begins b.later.begins
 
-  shown_now : {A : Type 0} (put : Put) (o : Outcome A) → Becomes count index put was now o → IsShown count index was.seen now.seen
-  shown_now put o b = record { begins = begins_now put o b; lawful = b.later.lawful; in_range = b.later.in_range; placed = b.later.placed }
+  shown_now : {A : Type 0} (put : Put) (printed : Option Printed) (o : Outcome A) → Becomes count index put printed was now o → IsShown count index was.seen now.seen
+  shown_now put printed o b = record { begins = begins_now put printed o b; lawful = b.later.lawful; in_range = b.later.in_range; placed = b.later.placed }
 
   -- a question that was not put gives the token no place
-  no_place : {A : Type 0} (put : Put) (o : Outcome A) → Becomes count index put was now o → new_places o ≡ [] → now ≡ record was { seen = now.seen }
-  no_place put o b none = b.token ∙ ap (λ l. record was { seen = now.seen; places = l }) (ap (λ l. was.places ++ l) none ∙ append-nil was.places)
+  no_place : {A : Type 0} (put : Put) (printed : Option Printed) (o : Outcome A) → Becomes count index put printed was now o → new_places o ≡ [] → now ≡ record was { seen = now.seen }
+  no_place put printed o b none = b.token ∙ ap (λ l. record was { seen = now.seen; places = l }) (ap (λ l. was.places ++ l) none ∙ append-nil was.places)
 
-  module _ {A : Type 0} (a : Answered A) (put : Put) (b : Becomes count index put was now (outcome.New a)) where
+  module _ {A : Type 0} (a : Answered A) (put : Put) (printed : Option Printed) (b : Becomes count index put printed was now (outcome.New a)) where
     abbrev New : List Receipt
     New = receipts ++ new_receipts index put (outcome.New a)
 
@@ -148,7 +149,7 @@ module _ (tables : ℕ → HistoryId) (count : ℕ) (tokens : List TokenView) (r
         record {
           token = now;
           is = after_set;
-          stands = last_there b.trail now.seen put a b.asks;
+          stands = last_there b.trail now.seen put printed a b.asks;
         }
 
     below : (n : ℕ) (o : Receipt) → slice_get receipts n ≡ Some o → o.shard ≡ index → o.place < a.place
@@ -156,7 +157,7 @@ module _ (tables : ℕ → HistoryId) (count : ℕ) (tokens : List TokenView) (r
         let it = is.stand n o at in
         let token : it.token ≡ was = cc (it.is, has, same) in
         let within = slice_get_within was.seen o.place o.entry (subst (λ (k : TokenView). slice_get k.seen o.place ≡ Some o.entry) token it.stands) in
-        omega (arith, within, prefix_length was.seen b.trail b.shown.begins, b.asks.1.place)
+        omega (arith, within, prefix_length was.seen b.trail b.shown.begins, b.asks.2.place)
 
     rises_now : Rises New
     rises_now k m p q less at_k at_m same =
@@ -177,7 +178,7 @@ module _ (tables : ℕ → HistoryId) (count : ℕ) (tokens : List TokenView) (r
     with_receipt = record {
       shards = length-set tokens index now ∙ is.shards;
       each = each_now;
-      stand = λ n o at. elim (push_cases receipts n Its o at) [ inl new ↦ subst (λ (z : Receipt). Stands (set tokens index now) z) (sym new.1) stands_now | inr old ↦ stays (begins_now put (outcome.New a) b) o (is.stand n o old) ];
+      stand = λ n o at. elim (push_cases receipts n Its o at) [ inl new ↦ subst (λ (z : Receipt). Stands (set tokens index now) z) (sym new.1) stands_now | inr old ↦ stays (begins_now put printed (outcome.New a) b) o (is.stand n o old) ];
       rising = rises_now;
     }
 
@@ -211,21 +212,22 @@ module _ (tables : ℕ → HistoryId) (count : ℕ) (tokens : List TokenView) (r
         (λ i. (sym (sight_of tokens index was has) i, sym (sight_of (set tokens index now) index now after_set) i)) look
 
   -- whatever the outcome of a question is, the clerk is a clerk
-  pub asked : {A : Type 0} (put : Put) (o : Outcome A) → Becomes count index put was now o → IsClerk tables count (set tokens index now) (receipts ++ new_receipts index put o)
-  asked put (outcome.New a) b = with_receipt a put b
-  asked put (outcome.Again a) b = subst (λ l. IsClerk tables count (set tokens index now) l) (sym (append-nil receipts)) (looked (shown_now put (outcome.Again a) b) (no_place put (outcome.Again a) b refl))
-  asked put outcome.Other b = subst (λ l. IsClerk tables count (set tokens index now) l) (sym (append-nil receipts)) (looked (shown_now put outcome.Other b) (no_place put outcome.Other b refl))
+  pub asked : {A : Type 0} (put : Put) (printed : Option Printed) (o : Outcome A) → Becomes count index put printed was now o → IsClerk tables count (set tokens index now) (receipts ++ new_receipts index put o)
+  asked put printed (outcome.New a) b = with_receipt a put printed b
+  asked put printed (outcome.Again a) b = subst (λ l. IsClerk tables count (set tokens index now) l) (sym (append-nil receipts)) (looked (shown_now put printed (outcome.Again a) b) (no_place put printed (outcome.Again a) b refl))
+  asked put printed outcome.Other b = subst (λ l. IsClerk tables count (set tokens index now) l) (sym (append-nil receipts)) (looked (shown_now put printed outcome.Other b) (no_place put printed outcome.Other b refl))
+  asked put printed outcome.Differs b = subst (λ l. IsClerk tables count (set tokens index now) l) (sym (append-nil receipts)) (looked (shown_now put printed outcome.Differs b) (no_place put printed outcome.Differs b refl))
 
   -- the answer that it receives
-  pub answers : {A : Type 0} (seen : List Change) (keeps : Bool) (put : Put) (o : Outcome A) → Becomes count index put was now o
-      → Answers count index put (clerk seen tokens receipts keeps) (clerk seen (set tokens index now) (receipts_then keeps receipts index put o) keeps) o
-  answers seen keeps put o b =
+  pub answers : {A : Type 0} (seen : List Change) (keeps : Bool) (put : Put) (printed : Option Printed) (o : Outcome A) → Becomes count index put printed was now o
+      → Answers count index put printed (clerk seen tokens receipts keeps) (clerk seen (set tokens index now) (receipts_then keeps receipts index put o) keeps) o
+  answers seen keeps put printed o b =
       let before = sym (sight_of tokens index was has) in
       let after = sym (sight_of (set tokens index now) index now after_set) in
       record {
         trail = b.trail;
         shown = subst (λ t. IsShown count index t b.trail) before b.shown;
-        asks = subst (λ t. Asks b.trail put t o) after b.asks;
+        asks = subst (λ t. Asks b.trail put printed t o) after b.asks;
         later = subst (λ t. IsShown count index b.trail t) after b.later;
         owned = own_of (set tokens index now) index now after_set ∙ ap (λ (k : TokenView). k.places) b.token ∙ ap (λ l. l ++ new_places o) (sym (own_of tokens index was has));
         others = λ i apart. (sight_else tokens index i now apart, own_else tokens index i now apart);

@@ -1,10 +1,11 @@
 -- The invariant of a clerk's receipts and sights, and of a new clerk.
 use Rattle.std.proofs.Common.{◌≡◌, ◌<◌, ◌∙◌, ℕ, zero, suc, Bool, true, false, List, [], ◌∷◌, ◌++◌, set, refl, sym, ap, subst, arith, get_or, append-nil}
-use Rattle.std.specs.Prelude.{IsTrue, Some, slice_get}
+use Rattle.std.specs.Prelude.{IsTrue, Option, Some, slice_get}
 use Rattle.std.proofs.lemmas.List.Elements.{All-nil}
 use Rattle.std.proofs.lemmas.Option.{slice_get-get_or}
 use Rattle.nmvs_history.specs.Views.{HistoryId, TokenView}
 use Rattle.nmvs_rules.specs.declared.entry.Entry.{Entry}
+use Rattle.nmvs_rules.specs.declared.printed.Printed.{Printed}
 use Rattle.nmvs_rules.specs.declared.put.Put.{Put}
 use Rattle.nmvs_rules.specs.Entries.{is_entry, AreEntries}
 use Rattle.nmvs_rules.specs.Questions.{code_of}
@@ -61,11 +62,11 @@ let_go tables count tokens receipts is = record {
 
 -- a clerk that was answered, whether it keeps its receipt or not
 pub asked_then : {A : Type 0} (tables : ℕ → HistoryId) (count : ℕ) (tokens : List TokenView) (receipts : List Receipt) → IsClerk tables count tokens receipts
-    → (index : ℕ) (was now : TokenView) → slice_get tokens index ≡ Some was → (keeps : Bool) (put : Put) (o : Outcome A) → Becomes count index put was now o
+    → (index : ℕ) (was now : TokenView) → slice_get tokens index ≡ Some was → (keeps : Bool) (put : Put) (printed : Option Printed) (o : Outcome A) → Becomes count index put printed was now o
     → IsClerk tables count (set tokens index now) (receipts_then keeps receipts index put o)
-asked_then tables count tokens receipts is index was now has true put o b = asked tables count tokens receipts is index was now has put o b
-asked_then tables count tokens receipts is index was now has false put o b =
-    let_go tables count (set tokens index now) (receipts ++ new_receipts index put o) (asked tables count tokens receipts is index was now has put o b)
+asked_then tables count tokens receipts is index was now has true put printed o b = asked tables count tokens receipts is index was now has put printed o b
+asked_then tables count tokens receipts is index was now has false put printed o b =
+    let_go tables count (set tokens index now) (receipts ++ new_receipts index put o) (asked tables count tokens receipts is index was now has put printed o b)
 
 -- a clerk with new tokens and no receipt
 pub new_clerk : (tables : ℕ → HistoryId) (count : ℕ) (opening : ℕ → List Entry) (tokens : List TokenView) → AreNew tables count opening count tokens → IsClerk tables count tokens []

@@ -1,8 +1,9 @@
 -- The answer that a clerk receives.
-use Rattle.std.specs.Prelude.{ℕ, ◌≡◌, ◌≢◌, Bool, true, false, List, [], ◌∷◌, ◌++◌}
+use Rattle.std.specs.Prelude.{ℕ, ◌≡◌, ◌≢◌, Bool, true, false, List, [], ◌∷◌, ◌++◌, Option}
 use mathlib.Core.List.{IsPrefix}
 use Rattle.nmvs_history.specs.Views.{TokenView}
 use Rattle.nmvs_rules.specs.declared.entry.Entry.{Entry}
+use Rattle.nmvs_rules.specs.declared.printed.Printed.{Printed}
 use Rattle.nmvs_rules.specs.declared.put.Put.{Put}
 use Rattle.nmvs_rules.specs.Entries.{AreEntries}
 use Rattle.nmvs_rules.specs.Rules.{IsLawful, answered}
@@ -40,10 +41,10 @@ receipts_then false receipts index put o = []
 -- the change of a token by a question that is asked by it in the shard of this number: the question is answered on a trail of
 -- the shard that begins with all that the token had seen; now the token has seen the trail after the answer, and owns the place
 -- of the entry if the question was put
-pub record Becomes {A : Type 0} (count index : ℕ) (put : Put) (was now : TokenView) (o : Outcome A) : Type 0 where
+pub record Becomes {A : Type 0} (count index : ℕ) (put : Put) (printed : Option Printed) (was now : TokenView) (o : Outcome A) : Type 0 where
   pub trail : List Entry
   pub shown : IsShown count index was.seen trail
-  pub asks : Asks trail put now.seen o
+  pub asks : Asks trail put printed now.seen o
   pub later : IsShown count index trail now.seen
   pub token : now ≡ record was { seen = now.seen; places = was.places ++ new_places o }
 
@@ -51,10 +52,10 @@ pub record Becomes {A : Type 0} (count index : ℕ) (put : Put) (was now : Token
 -- that the clerk had seen of it; now the clerk has seen the trail after the answer, and no more of another shard; if the
 -- question was put, its entry's place is the clerk's own, and its receipt is in hand if the clerk keeps receipts; nothing else
 -- changes
-pub record Answers {A : Type 0} (count index : ℕ) (put : Put) (old new : ClerkView) (o : Outcome A) : Type 0 where
+pub record Answers {A : Type 0} (count index : ℕ) (put : Put) (printed : Option Printed) (old new : ClerkView) (o : Outcome A) : Type 0 where
   pub trail : List Entry
   pub shown : IsShown count index (row old.sights index) trail
-  pub asks : Asks trail put (row new.sights index) o
+  pub asks : Asks trail put printed (row new.sights index) o
   pub later : IsShown count index trail (row new.sights index)
   pub owned : row new.places index ≡ row old.places index ++ new_places o
   pub others : (i : ℕ) → i ≢ index → (row new.sights i ≡ row old.sights i) × (row new.places i ≡ row old.places i)

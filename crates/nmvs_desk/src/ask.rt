@@ -18,7 +18,7 @@ use crate::{Holder, Reader, Repository};
 use nmvs_directory::{Look, Naming, Notice, Window};
 use nmvs_history::{Histories, Token};
 use nmvs_identifier::Name;
-use nmvs_rules::{Entry, Put};
+use nmvs_rules::{Entry, Printed, Put};
 use nmvs_shard::{Outcome, Shard};
 use std::alloc::{AllocError, Allocator, Global};
 use std::marker::{Model, PhantomData};
@@ -142,8 +142,8 @@ impl<'a, J: Naming, H: Histories, B: Allocator> Clerk<'a, J, H, B> {
     }
 
     /// Asks a question in the shard of its product code, which is held meanwhile. The question is put if it was not asked
-    /// before by its tag. The receipt of a question that was put is kept, if the clerk keeps receipts. The call waits for the
-    /// shard.
+    /// before by its tag, and its pack was not uploaded with other values than those printed on it, if these are given. The
+    /// receipt of a question that was put is kept, if the clerk keeps receipts. The call waits for the shard.
     ///
     /// The answer is given on a trail that begins with all that the clerk has seen of the shard. Then the clerk has seen the
     /// entry that answers, too. The place of an entry that was put is the clerk's own: no other answer has it. Of the clerks
@@ -159,16 +159,17 @@ impl<'a, J: Naming, H: Histories, B: Allocator> Clerk<'a, J, H, B> {
         rt: &R,
         repository: &Repository<'a, H, B>,
         put: &Put,
+        printed: &Option<Printed>,
     ) -> Result<Outcome<&'a B>, AllocError>
         ensures answers { let count = repository.now.shards in
-            IfOk result (Answers count (shard_of count (code_of put.now.question)) put.now self.old self.new) }
-        ensures untagged { put.now.tag ≡ None → IfOk result WasPut }
+            IfOk result (Answers count (shard_of count (code_of put.now.question)) put.now printed.now self.old self.new) }
+        ensures untagged { put.now.tag ≡ None → printed.now ≡ None → IfOk result WasPut }
         ensures unchanged { OnErr result (self.new ≡ self.old) }
     {
         make_room(&mut self.receipts, self.keeps)?;
         let shard = repository.shard_of(&put.question.code());
         let slot = repository.slot(shard);
-        let outcome = slot.ask(rt, &mut self.tokens[shard], put)?;
+        let outcome = slot.ask(rt, &mut self.tokens[shard], put, printed)?;
         keep(&mut self.receipts, self.keeps, shard, put, &outcome);
         Ok(outcome)
     }
@@ -259,6 +260,6 @@ fn keep<A: Allocator, B: Allocator>(
                 reply: answered.reply,
             },
         }),
-        Outcome::Again(_) | Outcome::Other => {}
+        Outcome::Again(_) | Outcome::Other | Outcome::Differs => {}
     }
 }

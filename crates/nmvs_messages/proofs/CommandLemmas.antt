@@ -87,13 +87,13 @@ first_fault-line (Remove user) e =
 pub each_is_read : EachCommandIsRead
 each_is_read c is_c = (refl, first_fault-line c is_c, is_c)
 
-few_fields : (c : Command) → length (command_fields c) < 7
+few_fields : (c : Command) → length (command_fields c) < 8
 few_fields (Enrol user actor) = lit≤ tt
 few_fields (Suspend user) = lit≤ tt
 few_fields (Remove user) = lit≤ tt
 
 -- a line is read as a command, or with a fault, if its fields are
-pub reads_fields : (x : List ℕ) (fs : List (List ℕ)) (r : Result Command CommandFault) → fs ≡ take 7 (fields_in x)
+pub reads_fields : (x : List ℕ) (fs : List (List ℕ)) (r : Result Command CommandFault) → fs ≡ take 8 (fields_in x)
     → IfOk r (λ c. command_fields c ≡ fs) → IfOk r (λ c. IsTrue (is_command c)) → result_err r ≡ first_command_fault x → ReadsCommand x r
 reads_fields x fs (Ok c) kept same valid none = (line_of_kept x (command_fields c) (sym (same ∙ kept)) (few_fields c), sym none, valid)
 reads_fields x fs (Err f) kept same valid told = sym told
@@ -107,7 +107,7 @@ enrol_fault-count (a ∷ b ∷ c ∷ []) other = refl
 enrol_fault-count (a ∷ b ∷ c ∷ d ∷ []) other = absurd (other refl)
 enrol_fault-count (a ∷ b ∷ c ∷ d ∷ e ∷ texts) other = refl
 
-enrol_fault-take : (texts : List (List ℕ)) → enrol_fault (take 6 texts) ≡ enrol_fault texts
+enrol_fault-take : (texts : List (List ℕ)) → enrol_fault (take 7 texts) ≡ enrol_fault texts
 enrol_fault-take [] = refl
 enrol_fault-take (a ∷ []) = refl
 enrol_fault-take (a ∷ b ∷ []) = refl
@@ -115,13 +115,13 @@ enrol_fault-take (a ∷ b ∷ c ∷ []) = refl
 enrol_fault-take (a ∷ b ∷ c ∷ d ∷ []) = refl
 enrol_fault-take (a ∷ b ∷ c ∷ d ∷ e ∷ texts) = refl
 
-user_fault-take : (texts : List (List ℕ)) → user_fault (take 6 texts) ≡ user_fault texts
+user_fault-take : (texts : List (List ℕ)) → user_fault (take 7 texts) ≡ user_fault texts
 user_fault-take [] = refl
 user_fault-take (a ∷ []) = refl
 user_fault-take (a ∷ b ∷ texts) = refl
 
 -- the kept fields of a line have the fault of all its fields
-pub fields_fault-take : (fs : List (List ℕ)) → fields_fault (take 7 fs) ≡ fields_fault fs
+pub fields_fault-take : (fs : List (List ℕ)) → fields_fault (take 8 fs) ≡ fields_fault fs
 fields_fault-take [] = refl
 fields_fault-take (word ∷ texts) = λ i.
     cond (bytes_eq word (codes "ENROL")) (enrol_fault-take texts i)

@@ -47,28 +47,28 @@ filled_push fs f filled e =
     ∙ (λ i. filled i || (e i || false))
 
 -- one more element, if there is room
-pub take_push : {A : Type 0} (xs : List A) (x : A) → length (take 7 xs) < 7 → take 7 (xs ++ x ∷ []) ≡ take 7 xs ++ x ∷ []
+pub take_push : {A : Type 0} (xs : List A) (x : A) → length (take 8 xs) < 8 → take 8 (xs ++ x ∷ []) ≡ take 8 xs ++ x ∷ []
 take_push xs x room =
-    let kept = length-take 7 xs in
+    let kept = length-take 8 xs in
     let more = length_push xs x in
-    take_all 7 (xs ++ x ∷ []) (omega arith) ∙ ap (λ ys. ys ++ x ∷ []) (sym (take_all 7 xs (omega arith)))
+    take_all 8 (xs ++ x ∷ []) (omega arith) ∙ ap (λ ys. ys ++ x ∷ []) (sym (take_all 8 xs (omega arith)))
 
 -- one more element is not kept if there is no room
-pub take_push_full : {A : Type 0} (xs : List A) (x : A) → 7 ≤ length (take 7 xs) → take 7 (xs ++ x ∷ []) ≡ take 7 xs
-take_push_full xs x full = let kept = length-take 7 xs in take-append-le 7 xs (x ∷ []) (omega arith)
+pub take_push_full : {A : Type 0} (xs : List A) (x : A) → 8 ≤ length (take 8 xs) → take 8 (xs ++ x ∷ []) ≡ take 8 xs
+take_push_full xs x full = let kept = length-take 8 xs in take-append-le 8 xs (x ∷ []) (omega arith)
 
--- a list that has seven kept elements is full
-pub full : {A : Type 0} (kept all : List A) → kept ≡ take 7 all → (length kept == 7) ≡ true → 7 ≤ length (take 7 all)
-full kept all same is_full = let n = eqb-true (length kept) 7 is_full in let m = ap length same in omega arith
+-- a list that has eight kept elements is full
+pub full : {A : Type 0} (kept all : List A) → kept ≡ take 8 all → (length kept == 8) ≡ true → 8 ≤ length (take 8 all)
+full kept all same is_full = let n = eqb-true (length kept) 8 is_full in let m = ap length same in omega arith
 
--- a line with less than seven kept fields has exactly these, and is made of them
-pub line_of_kept : (x : List ℕ) (fs : List (List ℕ)) → take 7 (fields_in x) ≡ fs → length fs < 7 → x ≡ line_of_fields fs
+-- a line with less than eight kept fields has exactly these, and is made of them
+pub line_of_kept : (x : List ℕ) (fs : List (List ℕ)) → take 8 (fields_in x) ≡ fs → length fs < 8 → x ≡ line_of_fields fs
 line_of_kept x fs kept few =
-    let counted = length-take 7 (fields_in x) in
+    let counted = length-take 8 (fields_in x) in
     let same = ap length kept in
-    sym (join_with_byte-slice_split 32 x) ∙ ap line_of_fields (sym (take_all 7 (fields_in x) (omega arith)) ∙ kept)
+    sym (join_with_byte-slice_split 32 x) ∙ ap line_of_fields (sym (take_all 8 (fields_in x) (omega arith)) ∙ kept)
 
--- the texts of slices of one, two and four elements
+-- the texts of slices of one, two, four and five elements
 pub one : (ts : List (Bor (List ℕ))) (a : Bor (List ℕ)) → 1 ≤ length ts → length ts < 2 → map (λ t. t.now) ts ≡ (get_or ts 0 a).now ∷ []
 one [] a least most = absurd (omega arith)
 one (s ∷ []) a least most = refl
@@ -85,3 +85,8 @@ pub four : (ts : List (Bor (List ℕ))) (a b c d : Bor (List ℕ)) → 4 ≤ len
 four [] a b c d least most = absurd (omega arith)
 four (s ∷ []) a b c d least most = absurd (omega arith)
 four (s ∷ t ∷ ts) a b c d least most = ap (λ us. s.now ∷ t.now ∷ us) (two ts c d (omega arith) (omega arith))
+
+pub five : (ts : List (Bor (List ℕ))) (a b c d e : Bor (List ℕ)) → 5 ≤ length ts → length ts < 6
+    → map (λ t. t.now) ts ≡ (get_or ts 0 a).now ∷ (get_or ts 1 b).now ∷ (get_or ts 2 c).now ∷ (get_or ts 3 d).now ∷ (get_or ts 4 e).now ∷ []
+five [] a b c d e least most = absurd (omega arith)
+five (s ∷ ts) a b c d e least most = ap (λ us. s.now ∷ us) (four ts b c d e (omega arith) (omega arith))

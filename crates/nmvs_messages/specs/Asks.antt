@@ -7,6 +7,7 @@ use Rattle.nmvs_messages.specs.declared.ask.Asked.TheVariants as asked
 -- the user that asks this
 abbrev pub asked_by : Asked → Name
 asked_by (asked.Question user question) = user
+asked_by (asked.Conditional user kind pack printed) = user
 asked_by (asked.Report user code) = user
 
 -- the user that asks

@@ -23,6 +23,7 @@ turn_word turns.Memory = codes "MEMORY"
 turn_word turns.Rate = codes "RATE"
 turn_word turns.Journal = codes "JOURNAL"
 turn_word turns.Tag = codes "TAG"
+turn_word turns.Differs = codes "DIFFERS"
 
 -- the word of the fault of a line
 abbrev pub fault_word : LineFault → List ℕ

@@ -54,6 +54,8 @@ pub enum Turn {
     Rate,
     /// The user has asked something else about the pack with the tag.
     Tag,
+    /// The pack was uploaded with another batch or another expiry date than those printed on it.
+    Differs,
     /// The journal failed, and the entries under the answer are not kept. The operation may stand in the record or not.
     Journal,
 }

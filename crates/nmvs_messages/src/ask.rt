@@ -2,8 +2,9 @@
 ghost use Rattle.std.specs.Prelude.{◌≡◌};
 ghost use Rattle.nmvs_messages.specs.Asks.{user_of};
 
-use nmvs_identifier::{Name, ProductCode, Tag};
-use nmvs_rules::Question;
+use nmvs_identifier::{Name, Pack, ProductCode, Tag};
+use nmvs_rules::{Printed, Question};
+use nmvs_words::PackQuestion;
 use thiserror::Error;
 
 /// The meaning of a line.
@@ -33,6 +34,9 @@ pub struct Ask {
 pub enum Asked {
     /// The question of a user, by name.
     Question(Name, Question),
+    /// The question of a user about a pack, by name. It is put only if the pack was not uploaded with other values than those
+    /// printed on it.
+    Conditional(Name, PackQuestion, Pack, Printed),
     /// The report of a product code, for a user.
     Report(Name, ProductCode),
 }
@@ -43,7 +47,8 @@ impl Ask {
         ensures { result.now ≡ user_of self.now }
     {
         match &self.asked {
-            Asked::Question(user, _) | Asked::Report(user, _) => user,
+            Asked::Question(user, _) | Asked::Conditional(user, _, _, _) | Asked::Report(user, _) =>
+                user,
         }
     }
 }

@@ -6,10 +6,10 @@ ghost use Rattle.nmvs_messages.specs.Fields.{is_printable, is_empty, fields_in, 
 use crate::LONGEST_LINE;
 use arrayvec::ArrayVec;
 
-/// The most fields of a line that are kept. No line has more than six, so a seventh shows that there are too many.
-pub const KEPT_FIELDS: usize = 7;
+/// The most fields of a line that are kept. No line has more than seven, so an eighth shows that there are too many.
+pub const KEPT_FIELDS: usize = 8;
 
-/// The fields of a line, or the first seven if there are more.
+/// The fields of a line, or the first eight if there are more.
 pub type Fields<'a> = ArrayVec<&'a str, KEPT_FIELDS>;
 
 /// The fields of a line.

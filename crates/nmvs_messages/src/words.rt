@@ -18,6 +18,7 @@ pub fn word_of_turn(turn: Turn) -> &'static str
         Turn::Rate => "RATE",
         Turn::Journal => "JOURNAL",
         Turn::Tag => "TAG",
+        Turn::Differs => "DIFFERS",
     }
 }
 

@@ -18,7 +18,7 @@ use Rattle.nmvs_operator.specs.declared.order.Order.{Order}
 use Rattle.nmvs_operator.specs.declared.order.Order.TheVariants as orders
 use Rattle.nmvs_operator.specs.Orders.{ReadsOrder, order_fields, is_order, order_fault, listing_fault, change_fault, export_fault, alone_fault, first_order_fault}
 
-few_fields : (o : Order) → length (order_fields o) < 7
+few_fields : (o : Order) → length (order_fields o) < 8
 few_fields (orders.Change (Enrol user actor)) = lit≤ tt
 few_fields (orders.Change (Suspend user)) = lit≤ tt
 few_fields (orders.Change (Remove user)) = lit≤ tt
@@ -30,26 +30,26 @@ few_fields orders.Stop = lit≤ tt
 few_fields orders.Help = lit≤ tt
 
 -- a line whose fields are read as an order, or have this fault, is read so
-pub reads_fields : (x : List ℕ) (fs : List (List ℕ)) (r : Result Order CommandFault) → fs ≡ take 7 (fields_in x)
+pub reads_fields : (x : List ℕ) (fs : List (List ℕ)) (r : Result Order CommandFault) → fs ≡ take 8 (fields_in x)
     → IfOk r (λ o. order_fields o ≡ fs) → IfOk r (λ o. IsTrue (is_order o)) → result_err r ≡ first_order_fault x → ReadsOrder x r
 reads_fields x fs (Ok o) kept same valid none = (line_of_kept x (order_fields o) (sym (same ∙ kept)) (few_fields o), sym none, valid)
 reads_fields x fs (Err f) kept same valid told = sym told
 
-export_fault-take : (texts : List (List ℕ)) → export_fault (take 6 texts) ≡ export_fault texts
+export_fault-take : (texts : List (List ℕ)) → export_fault (take 7 texts) ≡ export_fault texts
 export_fault-take [] = refl
 export_fault-take (a ∷ []) = refl
 export_fault-take (a ∷ b ∷ texts) = refl
 
-alone_fault-take : (texts : List (List ℕ)) → alone_fault (take 6 texts) ≡ alone_fault texts
+alone_fault-take : (texts : List (List ℕ)) → alone_fault (take 7 texts) ≡ alone_fault texts
 alone_fault-take [] = refl
 alone_fault-take (a ∷ texts) = refl
 
-change_fault-take : (fs : List (List ℕ)) → change_fault (take 7 fs) ≡ change_fault fs
+change_fault-take : (fs : List (List ℕ)) → change_fault (take 8 fs) ≡ change_fault fs
 unfolding change_fault
 change_fault-take [] = refl
 change_fault-take (word ∷ texts) = λ i. cond (bytes_eq word (codes "RELOAD")) (alone_fault-take texts i) (fields_fault-take (word ∷ texts) i)
 
-listing_fault-take : (fs : List (List ℕ)) → listing_fault (take 7 fs) ≡ listing_fault fs
+listing_fault-take : (fs : List (List ℕ)) → listing_fault (take 8 fs) ≡ listing_fault fs
 unfolding listing_fault
 listing_fault-take [] = refl
 listing_fault-take (word ∷ texts) = λ i.
@@ -58,8 +58,8 @@ listing_fault-take (word ∷ texts) = λ i.
     (cond (bytes_eq word (codes "CONNECTIONS")) (alone_fault-take texts i)
     (cond (bytes_eq word (codes "ALERTS")) (alone_fault-take texts i) (change_fault-take (word ∷ texts) i))))
 
--- the first seven fields of a line decide their fault
-pub order_fault-take : (fs : List (List ℕ)) → order_fault (take 7 fs) ≡ order_fault fs
+-- the first eight fields of a line decide their fault
+pub order_fault-take : (fs : List (List ℕ)) → order_fault (take 8 fs) ≡ order_fault fs
 order_fault-take [] = refl
 order_fault-take (word ∷ texts) = λ i.
     cond (bytes_eq word (codes "EXPORT")) (export_fault-take texts i)

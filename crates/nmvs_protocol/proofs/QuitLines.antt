@@ -3,6 +3,7 @@ use Rattle.std.proofs.Common.{◌≡◌, ◌≢◌, ◌↔◌, IsTrue, Bool, tru
 use Rattle.std.proofs.Math.Bool.{or-true}
 use Rattle.std.specs.List.{list_any}
 use Rattle.std.proofs.lemmas.List.Folds.{list_any-append}
+use Rattle.nmvs_words.specs.declared.question_kind.QuestionKind.TheVariants.{OfPack}
 use Rattle.nmvs_words.specs.Kinds.{kind_of, kind_word, texts_of}
 use Rattle.nmvs_messages.specs.declared.ask.Asked.{Asked}
 use Rattle.nmvs_messages.specs.declared.ask.Asked.TheVariants as asked
@@ -10,7 +11,7 @@ use Rattle.nmvs_messages.specs.declared.ask.Line.{Line}
 use Rattle.nmvs_messages.specs.declared.ask.Line.TheVariants as lines
 use Rattle.nmvs_messages.specs.declared.ask.Unread.{Unread}
 use Rattle.nmvs_messages.specs.Fields.{is_space, line_of_fields}
-use Rattle.nmvs_protocol.specs.Lines.{asked_fields, line_text, report_word, first_fault, ReadsLine}
+use Rattle.nmvs_protocol.specs.Lines.{asked_fields, if_word, line_text, report_word, first_fault, ReadsLine}
 use Rattle.nmvs_protocol.specs.Tags.{tag_text}
 use Rattle.nmvs_protocol.proofs.SpellingLemmas.{first_fault-text}
 
@@ -36,6 +37,8 @@ not_quit x (Ok (lines.Ask a)) h other e = asks a.asked (sym h.0 ∙ e)
   where
     asks : (b : Asked) → tag_text a.tag ++ line_of_fields (asked_fields b) ≡ line_text lines.Quit → ⊥
     asks (asked.Question user question) = several_are_no_quit (tag_text a.tag) user.bytes (kind_word (kind_of question)) (texts_of question)
+    asks (asked.Conditional user kind p printed) =
+        several_are_no_quit (tag_text a.tag) user.bytes (kind_word (OfPack kind)) (p.code.bytes ∷ p.serial.bytes ∷ if_word ∷ printed.batch.bytes ∷ printed.expiry.bytes ∷ [])
     asks (asked.Report user code) = several_are_no_quit (tag_text a.tag) user.bytes report_word (code.bytes ∷ [])
 not_quit x (Err unread) h other e = let f = ap first_fault e in let n = quit_is_no_fault in let no = h.0 in cc (no, f, n)
 

@@ -10,7 +10,11 @@ use Rattle.std.proofs.lemmas.List.{take_all, length-take, length-append, drop_at
 use Rattle.std.proofs.lemmas.Bool.Decides.{nat_tests}
 use Rattle.nmvs_identifier.specs.Name.{Name, is_name}
 use Rattle.nmvs_identifier.specs.ProductCode.{ProductCode, is_product_code}
+use Rattle.nmvs_identifier.specs.declared.pack.Pack.{Pack}
+use Rattle.nmvs_rules.specs.declared.printed.Printed.{Printed}
 use Rattle.nmvs_rules.specs.declared.question.Question.{Question}
+use Rattle.nmvs_rules.specs.declared.question.Question.TheVariants as question
+use Rattle.nmvs_words.specs.declared.pack_question.PackQuestion.{PackQuestion}
 use Rattle.nmvs_words.specs.declared.question_kind.QuestionKind.{QuestionKind}
 use Rattle.nmvs_words.specs.declared.question_kind.QuestionKind.TheVariants.{Upload, OfPack, OfBatch}
 use Rattle.nmvs_words.specs.Kinds.{kind_of, kind_word, kind_named, texts_of}
@@ -25,7 +29,7 @@ use Rattle.nmvs_messages.specs.Fields.{fields_in, line_of_fields, line_fault}
 use Rattle.nmvs_protocol.specs.Tags.{tag_text, tag_of, behind_tag}
 use Rattle.nmvs_identifier.specs.Tag.{Tag}
 use Rattle.nmvs_rules.specs.Entries.{is_tag_or_none}
-use Rattle.nmvs_protocol.specs.Lines.{asked_fields, line_tag, fields, line_text, report_word, Grammar, grammars, report_grammars, all_read, first_misread, texts_fault, question_fault, ask_fault, asked_fault, fields_fault, byte_fault, asked_line_fault, fault_behind, first_fault, is_asked, is_line, ReadsLine, ReadsUntagged, OneReading, EachIsRead, OneSpelling, ShortLines}
+use Rattle.nmvs_protocol.specs.Lines.{asked_fields, line_tag, fields, line_text, report_word, Grammar, grammars, if_word, pack_grammars, report_grammars, all_read, first_misread, texts_fault, pack_fault, question_fault, ask_fault, asked_fault, fields_fault, byte_fault, asked_line_fault, fault_behind, first_fault, is_asked, is_line, ReadsLine, ReadsUntagged, OneReading, EachIsRead, OneSpelling, ShortLines}
 use Rattle.nmvs_identifier.proofs.PlainTexts.{IsPlain, plain_name, plain_code, plain_serial, plain_batch, plain_expiry}
 use Rattle.nmvs_words.proofs.PlainWords.{word_plain}
 use Rattle.nmvs_protocol.proofs.QuestionLemmas.{written, same_question}
@@ -75,6 +79,12 @@ plain_ask : (a : Asked) → is_asked a ≡ true → IsPlainLine (asked_fields a)
 plain_ask (asked.Question user q) e =
     let kind = kind_of q in
     plain_asked user.bytes (kind_word kind) (grammars kind) (texts_of q) (word_plain kind) (grammars_plain kind) (few_grammars kind) e
+plain_ask (asked.Conditional user kind p printed) e =
+    let texts = p.code.bytes ∷ p.serial.bytes ∷ printed.batch.bytes ∷ printed.expiry.bytes ∷ [] in
+    let parts = and_parts (is_name user.bytes) (all_read (grammars Upload) texts) e in
+    let plain = all_read-plain (grammars Upload) texts (grammars_plain Upload) parts.1 in
+    plain_line (asked_fields (asked.Conditional user kind p printed)) (lit≤ tt) (lit≤ tt)
+    (plain_name user.bytes parts.0, (word_plain (OfPack kind), (plain.0, (plain.1.0, ((lit≤ tt, lit≤ tt, refl), plain.1.1)))))
 plain_ask (asked.Report user c) e =
     plain_asked user.bytes report_word report_grammars (c.bytes ∷ []) (lit≤ tt, lit≤ tt, refl) (plain_code, tt) (lit≤ tt) e
 
@@ -92,12 +102,13 @@ few_asked user gs ts few e =
     let count = all_read-length gs ts (and_parts (is_name user) (all_read gs ts) e).1 in
     omega (arith, count, few)
 
-few_asked_fields : (a : Asked) → is_asked a ≡ true → length (asked_fields a) < 7
+few_asked_fields : (a : Asked) → is_asked a ≡ true → length (asked_fields a) < 8
 few_asked_fields (asked.Question user q) e =
     let few = few_asked user.bytes (grammars (kind_of q)) (texts_of q) (few_grammars (kind_of q)) e in omega (arith, few)
+few_asked_fields (asked.Conditional user kind p printed) e = lit≤ tt
 few_asked_fields (asked.Report user c) e = lit≤ tt
 
-few_fields : (l : Line) → is_line l ≡ true → length (fields l) < 7
+few_fields : (l : Line) → is_line l ≡ true → length (fields l) < 8
 few_fields (lines.Ask a) e = few_asked_fields a.asked (and_parts (is_tag_or_none a.tag) (is_asked a.asked) e).1
 few_fields lines.Ping e = lit≤ tt
 few_fields lines.Version e = lit≤ tt
@@ -111,8 +122,31 @@ not_report kind e = let own = kind_named-of_word kind in let same = ap kind_name
 question_or_report : (user user' : Name) (q : Question) (c : ProductCode) → asked_fields (asked.Question user q) ≡ asked_fields (asked.Report user' c) → ⊥
 question_or_report user user' q c e = not_report (kind_of q) (ap (λ fs. get_or fs 1 []) e)
 
+-- a question names at most four texts, and so has no values printed on its pack
+few_texts : (q : Question) → length (texts_of q) ≤ 4
+few_texts (question.Upload p b x) = lit≤ tt
+few_texts (question.Verify p) = lit≤ tt
+few_texts (question.Status p) = lit≤ tt
+few_texts (question.Decommission p r) = lit≤ tt
+few_texts (question.Handover p) = lit≤ tt
+few_texts (question.Revert p) = lit≤ tt
+few_texts (question.Recall c b) = lit≤ tt
+few_texts (question.Withdraw c b) = lit≤ tt
+few_texts (question.Theft p) = lit≤ tt
+few_texts (question.Audit p) = lit≤ tt
+
+question_or_conditional : (user user' : Name) (q : Question) (kind : PackQuestion) (p : Pack) (printed : Printed)
+    → asked_fields (asked.Question user q) ≡ asked_fields (asked.Conditional user' kind p printed) → ⊥
+question_or_conditional user user' q kind p printed e =
+    let count : length (texts_of q) ≡ 5 = ap (λ fs. length (drop 2 fs)) e in absurd (omega (arith, count, few_texts q))
+
+conditional_or_report : (user user' : Name) (kind : PackQuestion) (p : Pack) (printed : Printed) (c : ProductCode)
+    → asked_fields (asked.Conditional user kind p printed) ≡ asked_fields (asked.Report user' c) → ⊥
+conditional_or_report user user' kind p printed c e = let count : 7 ≡ 3 = ap (λ fs. length fs) e in absurd (omega (arith, count))
+
 ask_or_word : (a : Asked) (word : List ℕ) → asked_fields a ≡ word ∷ [] → ⊥
 ask_or_word (asked.Question user q) word e = let empty = ap (λ fs. drop 1 fs) e in cc
+ask_or_word (asked.Conditional user kind p printed) word e = let empty = ap (λ fs. drop 1 fs) e in cc
 ask_or_word (asked.Report user c) word e = let empty = ap (λ fs. drop 1 fs) e in cc
 
 -- the first byte of fields
@@ -125,10 +159,23 @@ same_ask (asked.Question user q) (asked.Question user' q') e =
     let name : user ≡ user' = ap (λ fs. written (get_or fs 0 [])) e in
     let same = same_question q q' (kind_word-one (kind_of q) (kind_of q') (ap (λ fs. get_or fs 1 []) e)) (ap (λ fs. drop 2 fs) e) in
     λ i. asked.Question (name i) (same i)
+same_ask (asked.Conditional user kind p printed) (asked.Conditional user' kind' p' printed') e =
+    let name : user ≡ user' = ap (λ fs. written (get_or fs 0 [])) e in
+    let word = kind_word-one (OfPack kind) (OfPack kind') (ap (λ fs. get_or fs 1 []) e) in
+    let same : kind ≡ kind' = cc word in
+    let code : p.code ≡ p'.code = ap (λ fs. written (get_or fs 2 [])) e in
+    let serial : p.serial ≡ p'.serial = ap (λ fs. written (get_or fs 3 [])) e in
+    let batch : printed.batch ≡ printed'.batch = ap (λ fs. written (get_or fs 5 [])) e in
+    let expiry : printed.expiry ≡ printed'.expiry = ap (λ fs. written (get_or fs 6 [])) e in
+    λ i. asked.Conditional (name i) (same i) (record { code = code i; serial = serial i }) (record { batch = batch i; expiry = expiry i })
 same_ask (asked.Report user c) (asked.Report user' c') e =
     let name : user ≡ user' = ap (λ fs. written (get_or fs 0 [])) e in
     let code : c ≡ c' = ap (λ fs. written (get_or fs 2 [])) e in
     λ i. asked.Report (name i) (code i)
+same_ask (asked.Question user q) (asked.Conditional user' kind p printed) e = absurd (question_or_conditional user user' q kind p printed e)
+same_ask (asked.Conditional user kind p printed) (asked.Question user' q) e = absurd (question_or_conditional user' user q kind p printed (sym e))
+same_ask (asked.Conditional user kind p printed) (asked.Report user' c) e = absurd (conditional_or_report user user' kind p printed c e)
+same_ask (asked.Report user c) (asked.Conditional user' kind p printed) e = absurd (conditional_or_report user' user kind p printed c (sym e))
 same_ask (asked.Question user q) (asked.Report user' c) e = absurd (question_or_report user user' q c e)
 same_ask (asked.Report user c) (asked.Question user' q) e = absurd (question_or_report user' user q c (sym e))
 
@@ -167,6 +214,10 @@ named_untagged (c ∷ cs) rest e = no_tag c (cs ++ rest) (alphanumeric_name c cs
 asked_untagged : (a : Asked) → is_asked a ≡ true → tag_of (line_of_fields (asked_fields a)) ≡ None
 asked_untagged (asked.Question user q) e =
     named_untagged user.bytes (32 ∷ line_of_fields (kind_word (kind_of q) ∷ texts_of q)) (and_parts (is_name user.bytes) _ e).0
+asked_untagged (asked.Conditional user kind p printed) e =
+    named_untagged user.bytes
+    (32 ∷ line_of_fields (kind_word (OfPack kind) ∷ p.code.bytes ∷ p.serial.bytes ∷ if_word ∷ printed.batch.bytes ∷ printed.expiry.bytes ∷ []))
+    (and_parts (is_name user.bytes) _ e).0
 asked_untagged (asked.Report user c) e = named_untagged user.bytes (32 ∷ line_of_fields (report_word ∷ c.bytes ∷ [])) (and_parts (is_name user.bytes) _ e).0
 
 ask_tag : (g : Option Tag) (a : Asked) → is_tag_or_none g ≡ true → is_asked a ≡ true → tag_of (tag_text g ++ line_of_fields (asked_fields a)) ≡ g
@@ -273,18 +324,37 @@ pub ask_fault-question : (user word : List ℕ) (ts : List (List ℕ)) → word 
 ask_fault-question user word ts other =
     let no = no_report word other in λ i. cond (no i) (texts_fault report_grammars user ts) (question_fault user (kind_named word) ts)
 
+-- but for five texts, a question about a pack has the fault of two
+pack_fault-other : (user : List ℕ) (ts : List (List ℕ)) → length ts ≢ 5 → pack_fault user ts ≡ texts_fault pack_grammars user ts
+pack_fault-other user ts other = rw (ne_eqb (length ts) 5 other) refl
+
+-- as many texts as a question names have the fault of its kind
+question_fault-whole : (user : List ℕ) (kind : QuestionKind) (ts : List (List ℕ)) → length ts ≡ length (grammars kind)
+    → question_fault user (Some kind) ts ≡ texts_fault (grammars kind) user ts
+question_fault-whole user Upload ts count = refl
+question_fault-whole user (OfPack kind) ts count = pack_fault-other user ts (omega (arith, count))
+question_fault-whole user (OfBatch kind) ts count = refl
+
 -- the fields of an ask have no fault
 ask_fault-none : (a : Asked) → is_asked a ≡ true → asked_fault (asked_fields a) ≡ None
 ask_fault-none (asked.Question user q) e =
     let kind = kind_of q in
     ask_fault-question user.bytes (kind_word kind) (texts_of q) (not_report kind)
     ∙ ap (λ k. question_fault user.bytes k (texts_of q)) (kind_named-of_word kind)
+    ∙ question_fault-whole user.bytes kind (texts_of q) (all_read-length (grammars kind) (texts_of q) (and_parts (is_name user.bytes) _ e).1)
     ∙ texts_fault-none (grammars kind) user.bytes (texts_of q) e
+ask_fault-none (asked.Conditional user kind p printed) e =
+    let word = kind_word (OfPack kind) in
+    let texts = p.code.bytes ∷ p.serial.bytes ∷ if_word ∷ printed.batch.bytes ∷ printed.expiry.bytes ∷ [] in
+    ask_fault-question user.bytes word texts (not_report (OfPack kind))
+    ∙ ap (λ k. question_fault user.bytes k texts) (kind_named-of_word (OfPack kind))
+    ∙ texts_fault-none (grammars Upload) user.bytes (p.code.bytes ∷ p.serial.bytes ∷ printed.batch.bytes ∷ printed.expiry.bytes ∷ []) e
 ask_fault-none (asked.Report user c) e = texts_fault-none report_grammars user.bytes (c.bytes ∷ []) e
 
 -- nor have they as the fields of a line
 same_fault : (a : Asked) → fields_fault (asked_fields a) ≡ asked_fault (asked_fields a)
 same_fault (asked.Question user q) = refl
+same_fault (asked.Conditional user kind p printed) = refl
 same_fault (asked.Report user c) = refl
 
 -- an ask has no fault after its tag
@@ -317,7 +387,7 @@ pub each_is_read : EachIsRead
 each_is_read l e = (refl, first_fault-text l e, e)
 
 -- a text without a tag is read as a line, or with a fault, if its fields are
-pub reads_fields : (x : List ℕ) (fs : List (List ℕ)) (r : Result Line LineFault) → fs ≡ take 7 (fields_in x) → IfOk r (λ l. line_tag l ≡ None)
+pub reads_fields : (x : List ℕ) (fs : List (List ℕ)) (r : Result Line LineFault) → fs ≡ take 8 (fields_in x) → IfOk r (λ l. line_tag l ≡ None)
     → IfOk r (λ l. fields l ≡ fs) → IfOk r (λ l. IsTrue (is_line l)) → result_err r ≡ fault_behind None x → ReadsUntagged x r
 reads_fields x fs (Ok l) kept untagged same valid none = (
   line_of_kept x (fields l) (sym (same ∙ kept)) (few_fields l valid) ∙ ap (λ (g : Option Tag). tag_text g ++ line_of_fields (fields l)) (sym untagged),
@@ -327,7 +397,7 @@ reads_fields x fs (Ok l) kept untagged same valid none = (
 reads_fields x fs (Err f) kept untagged same valid told = sym told
 
 -- the text after a tag is the text of the ask that its fields are read as
-pub reads_asked : (x : List ℕ) (fs : List (List ℕ)) (r : Result Asked LineFault) → fs ≡ take 7 (fields_in x) → IfOk r (λ a. asked_fields a ≡ fs)
+pub reads_asked : (x : List ℕ) (fs : List (List ℕ)) (r : Result Asked LineFault) → fs ≡ take 8 (fields_in x) → IfOk r (λ a. asked_fields a ≡ fs)
     → IfOk r (λ a. IsTrue (is_asked a)) → IfOk r (λ a. x ≡ line_of_fields (asked_fields a))
 reads_asked x fs (Ok a) kept same valid = line_of_kept x (asked_fields a) (sym (same ∙ kept)) (few_asked_fields a valid)
 reads_asked x fs (Err f) kept same valid = tt
@@ -347,26 +417,36 @@ reads_tagged x g y a tag behind text valid fault =
 wrong_count : (gs : List Grammar) (user : List ℕ) (ts : List (List ℕ)) → length ts ≢ length gs → texts_fault gs user ts ≡ Some fault.Fields
 wrong_count gs user ts ne = rw (ne_eqb (length ts) (length gs) ne) refl
 
-texts_fault-take : (gs : List Grammar) (user : List ℕ) (ts : List (List ℕ)) → length gs ≤ 4 → texts_fault gs user (take 5 ts) ≡ texts_fault gs user ts
-texts_fault-take gs user ts few = elim (cases_lt 5 (length ts)) [
-  | inr short ↦ ap (texts_fault gs user) (take_all 5 ts short)
+texts_fault-take : (gs : List Grammar) (user : List ℕ) (ts : List (List ℕ)) → length gs ≤ 4 → texts_fault gs user (take 6 ts) ≡ texts_fault gs user ts
+texts_fault-take gs user ts few = elim (cases_lt 6 (length ts)) [
+  | inr short ↦ ap (texts_fault gs user) (take_all 6 ts short)
   | inl long ↦
-      let kept = length-take 5 ts in
-      wrong_count gs user (take 5 ts) (omega arith) ∙ sym (wrong_count gs user ts (omega arith))
+      let kept = length-take 6 ts in
+      wrong_count gs user (take 6 ts) (omega arith) ∙ sym (wrong_count gs user ts (omega arith))
 ]
 
-question_fault-take : (user : List ℕ) (kind : Option QuestionKind) (ts : List (List ℕ)) → question_fault user kind (take 5 ts) ≡ question_fault user kind ts
+pack_fault-take : (user : List ℕ) (ts : List (List ℕ)) → pack_fault user (take 6 ts) ≡ pack_fault user ts
+pack_fault-take user ts = elim (cases_lt 6 (length ts)) [
+  | inr short ↦ ap (pack_fault user) (take_all 6 ts short)
+  | inl long ↦
+      let kept = length-take 6 ts in
+      pack_fault-other user (take 6 ts) (omega arith) ∙ texts_fault-take pack_grammars user ts (lit≤ tt) ∙ sym (pack_fault-other user ts (omega arith))
+]
+
+question_fault-take : (user : List ℕ) (kind : Option QuestionKind) (ts : List (List ℕ)) → question_fault user kind (take 6 ts) ≡ question_fault user kind ts
 question_fault-take user None ts = refl
-question_fault-take user (Some kind) ts = texts_fault-take (grammars kind) user ts (few_grammars kind)
+question_fault-take user (Some Upload) ts = texts_fault-take (grammars Upload) user ts (lit≤ tt)
+question_fault-take user (Some (OfPack kind)) ts = pack_fault-take user ts
+question_fault-take user (Some (OfBatch kind)) ts = texts_fault-take (grammars (OfBatch kind)) user ts (lit≤ tt)
 
 -- the kept fields of a line have the fault of all its fields
-pub asked_fault-take : (fs : List (List ℕ)) → asked_fault (take 7 fs) ≡ asked_fault fs
+pub asked_fault-take : (fs : List (List ℕ)) → asked_fault (take 8 fs) ≡ asked_fault fs
 asked_fault-take [] = refl
 asked_fault-take (word ∷ []) = refl
 asked_fault-take (user ∷ word ∷ ts) =
     λ i. cond (bytes_eq word report_word) (texts_fault-take report_grammars user ts (lit≤ tt) i) (question_fault-take user (kind_named word) ts i)
 
-pub fields_fault-take : (fs : List (List ℕ)) → fields_fault (take 7 fs) ≡ fields_fault fs
+pub fields_fault-take : (fs : List (List ℕ)) → fields_fault (take 8 fs) ≡ fields_fault fs
 fields_fault-take [] = refl
 fields_fault-take (word ∷ []) = refl
 fields_fault-take (user ∷ word ∷ ts) = asked_fault-take (user ∷ word ∷ ts)

@@ -26,9 +26,15 @@ use Rattle.nmvs_protocol.specs.Tags.{tag_text, tag_of, behind_tag}
 abbrev pub report_word : List ℕ
 report_word = codes "REPORT"
 
+-- the word between a pack and the values that are printed on it
+abbrev pub if_word : List ℕ
+if_word = codes "IF"
+
 -- the fields of an ask: the user, the word, and the texts that it names
 abbrev pub asked_fields : Asked → List (List ℕ)
 asked_fields (asked.Question user q) = user.bytes ∷ kind_word (kind_of q) ∷ texts_of q
+asked_fields (asked.Conditional user kind p printed) =
+    user.bytes ∷ kind_word (OfPack kind) ∷ p.code.bytes ∷ p.serial.bytes ∷ if_word ∷ printed.batch.bytes ∷ printed.expiry.bytes ∷ []
 asked_fields (asked.Report user c) = user.bytes ∷ report_word ∷ c.bytes ∷ []
 
 -- the tag of a line, if it has one
@@ -82,10 +88,23 @@ texts_fault gs user texts =
     else if not (is_name user) then Some fault.User
     else first_misread gs texts
 
+-- the first fault of a user and of five texts after the word of a question about a pack, of which the third has to be IF
+abbrev pub printed_fault : List ℕ → List (List ℕ) → Option LineFault
+printed_fault user (code ∷ serial ∷ word ∷ batch ∷ expiry ∷ []) =
+    if bytes_eq word if_word then texts_fault (grammars Upload) user (code ∷ serial ∷ batch ∷ expiry ∷ []) else Some fault.Fields
+printed_fault user _ = Some fault.Fields
+
+-- the first fault of a user and of the texts after the word of a question about a pack: two name the pack, five also the values
+-- printed on it
+abbrev pub pack_fault : List ℕ → List (List ℕ) → Option LineFault
+pack_fault user texts = if length texts == 5 then printed_fault user texts else texts_fault pack_grammars user texts
+
 -- the first fault of a user's question with a word of this kind
 abbrev pub question_fault : List ℕ → Option QuestionKind → List (List ℕ) → Option LineFault
 question_fault user None texts = Some fault.Word
-question_fault user (Some kind) texts = texts_fault (grammars kind) user texts
+question_fault user (Some Upload) texts = texts_fault (grammars Upload) user texts
+question_fault user (Some (OfPack kind)) texts = pack_fault user texts
+question_fault user (Some (OfBatch kind)) texts = texts_fault (grammars (OfBatch kind)) user texts
 
 -- the first fault of a user's ask with this word: a report, or else a question
 abbrev pub ask_fault : List ℕ → List ℕ → List (List ℕ) → Option LineFault
@@ -135,6 +154,8 @@ all_read _ _ = false
 -- whether the texts of an ask are in their grammars
 abbrev pub is_asked : Asked → Bool
 is_asked (asked.Question user q) = is_name user.bytes && all_read (grammars (kind_of q)) (texts_of q)
+is_asked (asked.Conditional user kind p printed) =
+    is_name user.bytes && all_read (grammars Upload) (p.code.bytes ∷ p.serial.bytes ∷ printed.batch.bytes ∷ printed.expiry.bytes ∷ [])
 is_asked (asked.Report user c) = is_name user.bytes && all_read report_grammars (c.bytes ∷ [])
 
 -- whether the texts of a line are in their grammars

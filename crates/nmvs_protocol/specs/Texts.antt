@@ -25,6 +25,7 @@ help_lines =
     ∷ codes "ph1 STATUS 09506000134352 SN1             without an alert"
     ∷ codes "ph1 SUPPLY 09506000134352 SN1             to the public"
     ∷ codes "ph1 HOLD 09506000134352 SN1               for a later supply"
+    ∷ codes "ph1 HOLD 09506000134352 SN1 IF B1 280200  if so uploaded"
     ∷ codes "ph1 HANDOVER 09506000134352 SN1           held, to the public"
     ∷ codes "wh1 EXPORT 09506000134352 SN1             out of the Union"
     ∷ codes "ph1 SAMPLE 09506000134352 SN1             for an authority"

@@ -8,6 +8,7 @@ const HELP: &str = "HELP mah1 UPLOAD 09506000134352 SN1 B1 280200  a new pack\n\
     HELP ph1 STATUS 09506000134352 SN1             without an alert\n\
     HELP ph1 SUPPLY 09506000134352 SN1             to the public\n\
     HELP ph1 HOLD 09506000134352 SN1               for a later supply\n\
+    HELP ph1 HOLD 09506000134352 SN1 IF B1 280200  if so uploaded\n\
     HELP ph1 HANDOVER 09506000134352 SN1           held, to the public\n\
     HELP wh1 EXPORT 09506000134352 SN1             out of the Union\n\
     HELP ph1 SAMPLE 09506000134352 SN1             for an authority\n\

@@ -8,12 +8,12 @@ ghost use Rattle.nmvs_identifier.specs.Batch.{is_batch};
 ghost use Rattle.nmvs_identifier.specs.Expiry.{is_expiry};
 ghost use Rattle.nmvs_words.specs.Kinds.{kind_named, kind_word};
 ghost use Rattle.nmvs_messages.specs.Fields.{line_of_fields};
-ghost use Rattle.nmvs_protocol.specs.Lines.{ReadsLine, ReadsUntagged, fields as line_fields, line_tag, byte_fault as fault_of_byte, asked_fields, report_word, line_text as text_of_line, is_line, is_asked, asked_line_fault, fields_fault, asked_fault, ask_fault, question_fault, texts_fault, grammars, report_grammars};
+ghost use Rattle.nmvs_protocol.specs.Lines.{ReadsLine, ReadsUntagged, fields as line_fields, line_tag, byte_fault as fault_of_byte, asked_fields, report_word, line_text as text_of_line, is_line, is_asked, asked_line_fault, fields_fault, asked_fault, ask_fault, question_fault, pack_fault, texts_fault, grammars, report_grammars};
 
 use crate::tags::{cut_tag, tag_text};
 use nmvs_identifier::{Batch, Expiry, Name, Pack, ProductCode, Serial};
 use nmvs_messages::{Ask, Asked, LONGEST_LINE, Line, LineFault, Unread, fields_of};
-use nmvs_rules::Question;
+use nmvs_rules::{Printed, Question};
 use nmvs_words::{BatchQuestion, PackQuestion, QuestionKind};
 use std::alloc::{AllocError, Allocator};
 
@@ -136,6 +136,9 @@ fn read_question(user: &str, word: &str, texts: &[&str]) -> Result<Asked, LineFa
             read_upload(user, code, serial, batch, expiry)
         }
         (QuestionKind::OfPack(asked), [code, serial]) => read_of_pack(asked, user, code, serial),
+        (QuestionKind::OfPack(asked), [code, serial, word, batch, expiry]) => {
+            read_conditional(asked, user, code, serial, word, batch, expiry)
+        }
         (QuestionKind::OfBatch(asked), [code, batch]) => read_of_batch(asked, user, code, batch),
         _ => Err(LineFault::Fields),
     }
@@ -202,6 +205,34 @@ fn read_of_pack(
     let code = read_code(code)?;
     let serial = read_serial(serial)?;
     Ok(Asked::Question(user, asked.naming(Pack { code, serial })))
+}
+
+/// The question about a pack that is put if the batch and the expiry after `IF` are those of its upload.
+fn read_conditional(
+    asked: PackQuestion,
+    user: &str,
+    code: &str,
+    serial: &str,
+    word: &str,
+    batch: &str,
+    expiry: &str,
+) -> Result<Asked, LineFault>
+    ensures fields { IfOk result (λ ask. asked_fields ask
+        ≡ user.now ∷ kind_word (QuestionKind.OfPack asked) ∷ code.now ∷ serial.now ∷ word.now ∷ batch.now ∷ expiry.now ∷ []) }
+    ensures valid { IfOk result (λ ask. IsTrue (is_asked ask)) }
+    ensures fault { result_err result ≡ pack_fault user.now
+        (code.now ∷ serial.now ∷ word.now ∷ batch.now ∷ expiry.now ∷ []) }
+{
+    if word != "IF" {
+        return Err(LineFault::Fields);
+    }
+    let user = read_user(user)?;
+    let code = read_code(code)?;
+    let serial = read_serial(serial)?;
+    let batch = read_batch(batch)?;
+    let expiry = read_expiry(expiry)?;
+    let pack = Pack { code, serial };
+    Ok(Asked::Conditional(user, asked, pack, Printed { batch, expiry }))
 }
 
 fn read_of_batch(
@@ -287,6 +318,9 @@ fn asked_text<A: Allocator>(alloc: A, asked: &Asked) -> Result<String<A>, AllocE
 {
     match asked {
         Asked::Question(user, question) => question_text(alloc, user, question),
+        Asked::Conditional(user, kind, pack, printed) => {
+            conditional_text(alloc, user, *kind, pack, printed)
+        }
         Asked::Report(user, code) => format!(in alloc; "{} REPORT {}", user.text(), code.text()),
     }
 }
@@ -328,4 +362,26 @@ fn question_text<A: Allocator>(
         | Question::Theft(pack)
         | Question::Audit(pack) => format!(in alloc; "{user} {word} {code} {}", pack.serial.text()),
     }
+}
+
+fn conditional_text<A: Allocator>(
+    alloc: A,
+    user: &Name,
+    kind: PackQuestion,
+    pack: &Pack,
+    printed: &Printed,
+) -> Result<String<A>, AllocError>
+    ensures line { IfOk result (λ text. string_bytes text
+        ≡ line_of_fields (asked_fields (Asked.Conditional user.now kind pack.now printed.now))) }
+    ensures grammar { IsTrue (is_asked (Asked.Conditional user.now kind pack.now printed.now)) }
+{
+    let word = QuestionKind::OfPack(kind).word();
+    format!(in alloc;
+        "{} {word} {} {} IF {} {}",
+        user.text(),
+        pack.code.text(),
+        pack.serial.text(),
+        printed.batch.text(),
+        printed.expiry.text()
+    )
 }

@@ -12,6 +12,7 @@ use Rattle.nmvs_directory.specs.declared.change.Change.{Change}
 use Rattle.nmvs_directory.specs.declared.look.Look.{Look}
 use Rattle.nmvs_rules.specs.declared.actor.Actor.{Actor}
 use Rattle.nmvs_rules.specs.declared.entry.Entry.{Entry}
+use Rattle.nmvs_rules.specs.declared.printed.Printed.{Printed}
 use Rattle.nmvs_rules.specs.declared.put.Put.{Put}
 use Rattle.nmvs_rules.specs.Rules.{answered}
 use Rattle.nmvs_shard.proofs.Again.{stands_for}
@@ -64,6 +65,7 @@ refused notice old from ask turns.Memory new is = looked _ _ _ _ _ is.2.looks
 refused notice old from ask turns.Role new is = looked _ _ _ _ _ is.1.looks
 refused notice old from ask turns.Journal new is = absurd is
 refused notice old from ask turns.Tag new is = absurd is
+refused notice old from ask turns.Differs new is = absurd is
 
 -- the earlier sight of each shard begins the new one
 abbrev Grows : DeskView → DeskView → Type 0
@@ -81,15 +83,17 @@ one_grows old new shard here others i =
       | inr e ↦ subst (λ t. IsPrefix (row old.clerk.sights i) t) (sym (others i e.1)) (prefix_self (row old.clerk.sights i))
     ]
 
-replies_grow : (old : DeskView) (shard : ℕ) (put : Put) (said : Content) (basis : Option Basis) (new : DeskView) → Replies old shard put said basis new → Grows old new
-replies_grow old shard put said basis new is =
+replies_grow : (old : DeskView) (shard : ℕ) (put : Put) (printed : Option Printed) (said : Content) (basis : Option Basis) (new : DeskView) → Replies old shard put printed said basis new → Grows old new
+replies_grow old shard put printed said basis new is =
     let a = is.answers in
     one_grows old new shard (prefix_trans (row old.clerk.sights shard) a.trail (row new.clerk.sights shard) a.shown.begins a.later.begins) (λ i apart. (a.others i apart).0)
 
 admitted_grows : (old : DeskView) (tag : Option Tag) (what : Asked) (moment : ℕ) (actor : Actor) (said : Content) (basis : Option Basis) (new : DeskView)
     → AnswersAdmitted old tag what moment actor said basis new → Grows old new
-admitted_grows old tag (asked.Question user q) moment actor said basis new (inl is) = replies_grow old _ _ said basis new is
+admitted_grows old tag (asked.Question user q) moment actor said basis new (inl is) = replies_grow old _ _ _ said basis new is
 admitted_grows old tag (asked.Question user q) moment actor said basis new (inr is) = same_grows old new (ap (λ (d : DeskView). d.clerk.sights) is.1)
+admitted_grows old tag (asked.Conditional user kind p printed) moment actor said basis new (inl is) = replies_grow old _ _ _ said basis new is
+admitted_grows old tag (asked.Conditional user kind p printed) moment actor said basis new (inr is) = same_grows old new (ap (λ (d : DeskView). d.clerk.sights) is.1)
 admitted_grows old tag (asked.Report user c) moment actor said basis new is = one_grows old new _ is.0.shown.begins is.0.others
 
 -- whatever the ask is, the earlier sights begin the new ones
@@ -116,20 +120,23 @@ all_within new shard None r = tt
 all_within new shard (Some b) r = subst (λ i. b.place < length (row new.clerk.sights i)) (sym r.0) (omega (arith, r.1))
 
 -- the entry that answers a question was seen
-said_within : (new : DeskView) (shard : ℕ) (trail : List Entry) (put : Put) (o : Outcome (Bor Global)) (said : Content) (basis : Option Basis)
-    → Asks trail put (row new.clerk.sights shard) o → Says shard o said basis → Within new basis
-said_within new shard trail put (outcomes.New a) said basis asks says =
-    let long = ap length asks.1.trail ∙ length-append trail (answered put a.reply ∷ []) in
-    subst (Within new) (sym says.1) (omega (arith, long, asks.1.place))
-said_within new shard trail put (outcomes.Again a) said basis asks says =
+said_within : (new : DeskView) (shard : ℕ) (trail : List Entry) (put : Put) (printed : Option Printed) (o : Outcome (Bor Global)) (said : Content) (basis : Option Basis)
+    → Asks trail put printed (row new.clerk.sights shard) o → Says shard o said basis → Within new basis
+said_within new shard trail put printed (outcomes.New a) said basis asks says =
+    let long = ap length asks.2.trail ∙ length-append trail (answered put a.reply ∷ []) in
+    subst (Within new) (sym says.1) (omega (arith, long, asks.2.place))
+said_within new shard trail put printed (outcomes.Again a) said basis asks says =
     let there = (stands_for trail put a.place a.reply asks.1.repeat).within in
     subst (Within new) (sym says.1) (subst (λ t. a.place < length t) (sym asks.0) there)
-said_within new shard trail put outcomes.Other said basis asks says = none_within new basis says.1
+said_within new shard trail put printed outcomes.Other said basis asks says = none_within new basis says.1
+said_within new shard trail put printed outcomes.Differs said basis asks says = none_within new basis says.1
 
 admitted_within : (old : DeskView) (tag : Option Tag) (what : Asked) (moment : ℕ) (actor : Actor) (said : Content) (basis : Option Basis) (new : DeskView)
     → AnswersAdmitted old tag what moment actor said basis new → Within new basis
-admitted_within old tag (asked.Question user q) moment actor said basis new (inl is) = said_within new _ is.answers.trail _ is.outcome said basis is.answers.asks is.says
+admitted_within old tag (asked.Question user q) moment actor said basis new (inl is) = said_within new _ is.answers.trail _ None is.outcome said basis is.answers.asks is.says
 admitted_within old tag (asked.Question user q) moment actor said basis new (inr is) = none_within new basis is.0.1
+admitted_within old tag (asked.Conditional user kind p printed) moment actor said basis new (inl is) = said_within new _ is.answers.trail _ (Some printed) is.outcome said basis is.answers.asks is.says
+admitted_within old tag (asked.Conditional user kind p printed) moment actor said basis new (inr is) = none_within new basis is.0.1
 admitted_within old tag (asked.Report user c) moment actor said basis new (sees, inl is) = all_within new _ basis is.rests
 admitted_within old tag (asked.Report user c) moment actor said basis new (sees, inr is) = none_within new basis is.1
 

@@ -13,9 +13,11 @@ use Rattle.nmvs_directory.specs.declared.look.Look.{Look}
 use Rattle.nmvs_directory.specs.declared.look.Look.TheVariants as looks
 use Rattle.nmvs_rules.specs.declared.actor.Actor.{Actor}
 use Rattle.nmvs_rules.specs.declared.entry.Entry.{Entry}
+use Rattle.nmvs_rules.specs.declared.printed.Printed.{Printed}
 use Rattle.nmvs_rules.specs.declared.put.Put.{Put}
 use Rattle.nmvs_rules.specs.declared.role.Role.{Role}
 use Rattle.nmvs_rules.specs.Questions.{code_of, may_report}
+use Rattle.nmvs_words.specs.Kinds.{naming_pack}
 use Rattle.nmvs_shard.specs.declared.shard.Outcome.{Outcome}
 use Rattle.nmvs_shard.specs.declared.shard.Outcome.TheVariants as outcomes
 use Rattle.nmvs_desk.specs.Answers.{Answers, IsShown}
@@ -80,6 +82,7 @@ pub record Knows (notice : List Change) (old : DeskView) (from : Peer) (ask : As
 -- whether a user with this role may ask this: each may put a question, since a refusal is a reply
 abbrev pub may_ask_this : Asked → Role → Bool
 may_ask_this (asked.Question user q) r = true
+may_ask_this (asked.Conditional user kind p printed) r = true
 may_ask_this (asked.Report user c) r = may_report r
 
 -- a line is admitted, at the moment that the clock gave, in the capacity that the directory gives its user
@@ -101,18 +104,21 @@ Refuses notice old from ask turns.Memory new = (old.rated ≡ true) × (actor : 
 Refuses notice old from ask turns.Role new = (actor : Actor) × Knows notice old from ask true actor new × (may_ask_this ask.asked actor.role ≡ false)
 Refuses notice old from ask turns.Journal new = ⊥
 Refuses notice old from ask turns.Tag new = ⊥
+Refuses notice old from ask turns.Differs new = ⊥
 
 -- the answer to an outcome in the shard of this number, and its basis: the reply of the entry that answers the question, with
--- the entries that it shows, on the entries up to that one; or a turn, since the tag is another question's
+-- the entries that it shows, on the entries up to that one; or a turn, since the tag is another question's, or the pack was
+-- uploaded with other values than those printed on it
 abbrev pub Says : ℕ → Outcome (Bor Global) → Content → Option Basis → Type 0
 Says shard (outcomes.New a) said basis = (said ≡ contents.Replied a.reply a.shown.items) × (basis ≡ Some (record { shard = shard; place = a.place }))
 Says shard (outcomes.Again a) said basis = (said ≡ contents.Replied a.reply a.shown.items) × (basis ≡ Some (record { shard = shard; place = a.place }))
 Says shard outcomes.Other said basis = (said ≡ contents.Turned turns.Tag) × (basis ≡ None)
+Says shard outcomes.Differs said basis = (said ≡ contents.Turned turns.Differs) × (basis ≡ None)
 
 -- the clerk asks the question in the shard of this number, once, and the desk gives the outcome; nothing else changes
-pub record Replies (old : DeskView) (shard : ℕ) (put : Put) (said : Content) (basis : Option Basis) (new : DeskView) : Type 0 where
+pub record Replies (old : DeskView) (shard : ℕ) (put : Put) (printed : Option Printed) (said : Content) (basis : Option Basis) (new : DeskView) : Type 0 where
   pub outcome : Outcome (Bor Global)
-  pub answers : Answers old.shards shard put old.clerk new.clerk outcome
+  pub answers : Answers old.shards shard put printed old.clerk new.clerk outcome
   pub says : Says shard outcome said basis
   pub same : new ≡ record old { clerk = new.clerk }
 
@@ -139,9 +145,9 @@ pub record Reports (new : DeskView) (shard : ℕ) (code : ProductCode) (said : C
   pub rests : RestsOnAll shard (row new.clerk.sights shard) basis
 
 -- the answers that the desk may give to an admitted question
-abbrev pub AnswersQuestion : DeskView → Put → Content → Option Basis → DeskView → Type 0
-AnswersQuestion old put said basis new =
-    Replies old (shard_of old.shards (code_of put.question)) put said basis new ⊎ (WantsMemory said basis × (new ≡ old))
+abbrev pub AnswersQuestion : DeskView → Put → Option Printed → Content → Option Basis → DeskView → Type 0
+AnswersQuestion old put printed said basis new =
+    Replies old (shard_of old.shards (code_of put.question)) put printed said basis new ⊎ (WantsMemory said basis × (new ≡ old))
 
 -- the answers that it may give to a user who may have a report
 abbrev pub AnswersReport : DeskView → ProductCode → Content → Option Basis → DeskView → Type 0
@@ -152,7 +158,9 @@ AnswersReport old code said basis new =
 -- the answers that it may give to an admitted line
 abbrev pub AnswersAdmitted : DeskView → Option Tag → Asked → ℕ → Actor → Content → Option Basis → DeskView → Type 0
 AnswersAdmitted old tag (asked.Question user q) moment actor said basis new =
-    AnswersQuestion old (record { moment = moment; user = user; actor = actor; question = q; tag = tag }) said basis new
+    AnswersQuestion old (record { moment = moment; user = user; actor = actor; question = q; tag = tag }) None said basis new
+AnswersAdmitted old tag (asked.Conditional user kind p printed) moment actor said basis new =
+    AnswersQuestion old (record { moment = moment; user = user; actor = actor; question = naming_pack kind p; tag = tag }) (Some printed) said basis new
 AnswersAdmitted old tag (asked.Report user c) moment actor said basis new = AnswersReport old c said basis new
 
 -- the answers that it may give to a line, and their bases, after it learned a notice: the line is turned away, or admitted and

@@ -10,7 +10,7 @@ use log::Log;
 use nmvs_desk::{Clerk, Reader, Repository};
 use nmvs_directory::{Look, Naming, Notice};
 use nmvs_history::Histories;
-use nmvs_identifier::{Moment, Name, ProductCode};
+use nmvs_identifier::{Moment, Name, ProductCode, Tag};
 use nmvs_journal::{CommitLog, Confirmed, LogName, Reach, Store};
 use nmvs_messages::{
     Ask, Asked, Basis, Content, Desk, Entries, Peer, Released, Text, Turn, Withheld,
@@ -19,7 +19,7 @@ use nmvs_messages::{
 use nmvs_metrics::WorkerMetrics;
 use nmvs_rate::SharedLimiter;
 use nmvs_record::report;
-use nmvs_rules::{Actor, Put, Reply, Role, may_report};
+use nmvs_rules::{Actor, Printed, Put, Question, Reply, Role, may_report};
 use nmvs_shard::{Answered, Outcome, Shard};
 use std::alloc::{AllocError, Global};
 use std::marker::Model;
@@ -154,24 +154,25 @@ impl<'r, 'a, R: Wait + rt::Clock + Log, J: Naming, H: Histories, K: Clock> Clerk
         ensures { AnswersAdmitted self.old ask.now.tag ask.now.asked moment actor result.0 result.1 self.new }
     {
         match &ask.asked {
-            Asked::Question(user, question) => self.ask(&Put {
-                moment,
-                user: *user,
-                actor,
-                question: *question,
-                tag: ask.tag,
-            }),
+            Asked::Question(user, question) => {
+                let put = put_at(moment, user, actor, *question, ask.tag);
+                self.ask(&put, &None)
+            }
+            Asked::Conditional(user, kind, pack, printed) => {
+                let put = put_at(moment, user, actor, kind.naming(*pack), ask.tag);
+                self.ask(&put, &Some(*printed))
+            }
             Asked::Report(_, code) => self.report(code),
         }
     }
 
     /// Asks a question by the clerk, and counts it if it was put.
-    fn ask(&mut self, put: &Put) -> (Content<'a>, Option<Basis>)
-        ensures { AnswersQuestion self.old put.now result.0 result.1 self.new }
+    fn ask(&mut self, put: &Put, printed: &Option<Printed>) -> (Content<'a>, Option<Basis>)
+        ensures { AnswersQuestion self.old put.now printed.now result.0 result.1 self.new }
     {
         let (rt, repository) = (self.rt, self.repository);
         let shard = repository.shard_of(&put.question.code());
-        match self.clerk.ask(rt, repository, put) {
+        match self.clerk.ask(rt, repository, put, printed) {
             Ok(outcome) => {
                 note_put(rt, &self.metrics, self.alerts, shard, put, &outcome);
                 answer_by(shard, outcome)
@@ -262,8 +263,21 @@ fn may_ask_this(asked: &Asked, role: Role) -> bool
     ensures { result ≡ may_ask_this asked.now role }
 {
     match asked {
-        Asked::Question(..) => true,
+        Asked::Question(..) | Asked::Conditional(..) => true,
         Asked::Report(..) => may_report(role),
+    }
+}
+
+/// A question of a user in this capacity, as it is put at the moment with the tag of its line.
+fn put_at(moment: Moment, user: &Name, actor: Actor, question: Question, tag: Option<Tag>) -> Put
+    ensures { result ≡ record { moment = moment; user = user.now; actor = actor; question = question; tag = tag } }
+{
+    Put {
+        moment,
+        user: *user,
+        actor,
+        question,
+        tag,
     }
 }
 
@@ -282,6 +296,7 @@ fn answer_by<'a>(shard: usize, outcome: Outcome<&'a Global>) -> (Content<'a>, Op
             (content, Some(Basis { shard, place }))
         }
         Outcome::Other => (Content::Turned(Turn::Tag), None),
+        Outcome::Differs => (Content::Turned(Turn::Differs), None),
     }
 }
 

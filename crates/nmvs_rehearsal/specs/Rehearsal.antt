@@ -1,17 +1,20 @@
 -- The rehearsal: one session over an empty trail, with users of its own and moments that are handed in. (own)
-use Rattle.std.specs.Prelude.{◌≡◌, ℕ, Bool, true, false, List, [], ◌∷◌, ◌++◌, ◌⊎◌, Option, None, IsSome}
+use Rattle.std.specs.Prelude.{◌≡◌, ℕ, Bool, true, false, List, [], ◌∷◌, ◌++◌, ◌⊎◌, Option, Some, None, IsSome}
 use Rattle.nmvs_identifier.specs.Name.{Name}
 use Rattle.nmvs_identifier.specs.ProductCode.{ProductCode}
 use Rattle.nmvs_identifier.specs.Tag.{Tag}
 use Rattle.nmvs_rules.specs.declared.actor.Actor.{Actor}
 use Rattle.nmvs_rules.specs.declared.entry.Entry.{Entry}
+use Rattle.nmvs_rules.specs.declared.printed.Printed.{Printed}
 use Rattle.nmvs_rules.specs.declared.put.Put.{Put}
 use Rattle.nmvs_rules.specs.declared.question.Question.{Question}
 use Rattle.nmvs_rules.specs.declared.reply.Reply.{Reply}
 use Rattle.nmvs_rules.specs.declared.repeat.Repeat.TheVariants as repeat
+use Rattle.nmvs_rules.specs.Printed.{differs_on}
 use Rattle.nmvs_rules.specs.Questions.{may_report}
 use Rattle.nmvs_rules.specs.Repeats.{repeat_of}
 use Rattle.nmvs_rules.specs.Rules.{reply_of, shown_of, answered}
+use Rattle.nmvs_words.specs.Kinds.{naming_pack}
 use Rattle.nmvs_record.specs.Report.{report_text}
 use Rattle.nmvs_messages.specs.declared.ask.Ask.{Ask}
 use Rattle.nmvs_messages.specs.declared.ask.Asked.{Asked}
@@ -49,9 +52,11 @@ pub record TakesMoment (old : Rehearsal) (moment : ℕ) (new : Rehearsal) : Type
 abbrev pub put_at : ℕ → Name → Actor → Option Tag → Question → Put
 put_at moment user actor tag question = record { moment = moment; user = user; actor = actor; question = question; tag = tag }
 
--- a question is new on the trail, and is answered by the rules, with the entries that they show; the trail grows by that entry
-pub record Steps (old : List Entry) (put : Put) (said : Reply) (shown new : List Entry) : Type 0 where
+-- a question is new on the trail, and its pack was not uploaded with other values than those printed on it; it is answered by
+-- the rules, with the entries that they show, and the trail grows by that entry
+pub record Steps (old : List Entry) (put : Put) (printed : Option Printed) (said : Reply) (shown new : List Entry) : Type 0 where
   pub first : repeat_of old put ≡ repeat.New
+  pub matches : differs_on old put.question printed ≡ false
   pub lawful : said ≡ reply_of old put
   pub shows : shown ≡ shown_of old put
   pub grows : new ≡ old ++ answered put said ∷ []
@@ -64,10 +69,10 @@ pub record Repeats (old : List Entry) (put : Put) (said : Reply) (shown new : Li
   pub same : new ≡ old
 
 -- the question has this answer, in the capacity that the roster gives its user
-pub record Replies (moment : ℕ) (old new : Rehearsal) (user : Name) (tag : Option Tag) (question : Question) (said : Reply) (shown : List Entry) : Type 0 where
+pub record Replies (moment : ℕ) (old new : Rehearsal) (user : Name) (tag : Option Tag) (question : Question) (printed : Option Printed) (said : Reply) (shown : List Entry) : Type 0 where
   pub actor : Actor
   pub rostered : IsRostered user actor
-  pub answers : Steps old.trail (put_at moment user actor tag question) said shown new.trail ⊎ Repeats old.trail (put_at moment user actor tag question) said shown new.trail
+  pub answers : Steps old.trail (put_at moment user actor tag question) printed said shown new.trail ⊎ Repeats old.trail (put_at moment user actor tag question) said shown new.trail
   pub moments : new.moments ≡ old.moments
 
 -- the user asked something else about the pack with this tag
@@ -75,6 +80,13 @@ pub record AsksOther (moment : ℕ) (old : Rehearsal) (user : Name) (tag : Optio
   pub actor : Actor
   pub rostered : IsRostered user actor
   pub other : repeat_of old.trail (put_at moment user actor tag question) ≡ repeat.Other
+
+-- the question is new, but its pack was uploaded with other values than those printed on it
+pub record Differs (moment : ℕ) (old : Rehearsal) (user : Name) (tag : Option Tag) (question : Question) (printed : Option Printed) : Type 0 where
+  pub actor : Actor
+  pub rostered : IsRostered user actor
+  pub first : repeat_of old.trail (put_at moment user actor tag question) ≡ repeat.New
+  pub differs : differs_on old.trail question printed ≡ true
 
 -- there is no new entry
 pub record Stays (old new : Rehearsal) : Type 0 where
@@ -86,13 +98,15 @@ abbrev pub GetsReports : Name → Bool → Type 0
 GetsReports user answer = (actor : Actor) × IsRostered user actor × (may_report actor.role ≡ answer)
 
 -- the answers that the desk of the rehearsal may give to a question at this moment: the rules' reply, or that of the entry that
--- it repeats; or a turn without an entry: nobody has the user's name, there was no memory, or its tag is that of something else
-abbrev pub JudgesQuestion : ℕ → Rehearsal → Name → Option Tag → Question → Content → Rehearsal → Type 0
-JudgesQuestion moment old user g q (contents.Replied r shown) new = Replies moment old new user g q r shown
-JudgesQuestion moment old user g q (contents.Turned turns.Nobody) new = (post_of user.bytes ≡ None) × Stays old new
-JudgesQuestion moment old user g q (contents.Turned turns.Memory) new = IsSome (post_of user.bytes) × Stays old new
-JudgesQuestion moment old user g q (contents.Turned turns.Tag) new = AsksOther moment old user g q × Stays old new
-JudgesQuestion _ _ _ _ _ _ _ = ⊥
+-- it repeats; or a turn without an entry: nobody has the user's name, there was no memory, its tag is that of something else, or
+-- the values printed on its pack differ
+abbrev pub JudgesQuestion : ℕ → Rehearsal → Name → Option Tag → Question → Option Printed → Content → Rehearsal → Type 0
+JudgesQuestion moment old user g q printed (contents.Replied r shown) new = Replies moment old new user g q printed r shown
+JudgesQuestion moment old user g q printed (contents.Turned turns.Nobody) new = (post_of user.bytes ≡ None) × Stays old new
+JudgesQuestion moment old user g q printed (contents.Turned turns.Memory) new = IsSome (post_of user.bytes) × Stays old new
+JudgesQuestion moment old user g q printed (contents.Turned turns.Tag) new = AsksOther moment old user g q × Stays old new
+JudgesQuestion moment old user g q printed (contents.Turned turns.Differs) new = Differs moment old user g q printed × Stays old new
+JudgesQuestion _ _ _ _ _ _ _ _ = ⊥
 
 -- the answers that it may give to a user who asks for a report: that of the trail; or a turn: nobody has the user's name, the
 -- role gets no report, or there was no memory
@@ -106,7 +120,10 @@ JudgesReport _ _ _ _ = ⊥
 -- the answers that it may give to the next line, which takes its moment first; a report leaves no entry
 abbrev pub Judges : Rehearsal → Option Tag → Asked → Content → Rehearsal → Type 0
 Judges old tag (asked.Question user q) said new =
-    (moment : ℕ) × (begun : Rehearsal) × TakesMoment old moment begun × JudgesQuestion moment begun user tag q said new
+    (moment : ℕ) × (begun : Rehearsal) × TakesMoment old moment begun × JudgesQuestion moment begun user tag q None said new
+Judges old tag (asked.Conditional user kind p printed) said new =
+    (moment : ℕ) × (begun : Rehearsal) × TakesMoment old moment begun
+    × JudgesQuestion moment begun user tag (naming_pack kind p) (Some printed) said new
 Judges old tag (asked.Report user c) said new = (moment : ℕ) × TakesMoment old moment new × JudgesReport new.trail user c said
 
 -- its answers rest on nothing

@@ -14,7 +14,7 @@ use nmvs_messages::{
 };
 use nmvs_protocol::serve;
 use nmvs_record::report;
-use nmvs_rules::{Put, Question, may_report};
+use nmvs_rules::{Printed, Put, Question, may_report};
 use nmvs_shard::{Answered, HashKey, Outcome, Shard};
 use nmvs_stream::{Sink, Source};
 use std::alloc::{AllocError, Global};
@@ -112,8 +112,9 @@ impl<'a> RehearsalDesk<'a> {
         user: &Name,
         tag: Option<Tag>,
         question: &Question,
+        printed: &Option<Printed>,
     ) -> Content<'a>
-        ensures { JudgesQuestion moment self.old user.now tag question.now result self.new }
+        ensures { JudgesQuestion moment self.old user.now tag question.now printed.now result self.new }
     {
         let Some(actor) = actor_of(user) else {
             return Content::Turned(Turn::Nobody);
@@ -125,10 +126,11 @@ impl<'a> RehearsalDesk<'a> {
             question: *question,
             tag,
         };
-        match self.shard.ask(&put) {
+        match self.shard.ask(&put, printed) {
             Ok(Outcome::New(answered)) => told(answered),
             Ok(Outcome::Again(answered)) => told(answered),
             Ok(Outcome::Other) => Content::Turned(Turn::Tag),
+            Ok(Outcome::Differs) => Content::Turned(Turn::Differs),
             Err(AllocError) => Content::Turned(Turn::Memory),
         }
     }
@@ -171,7 +173,13 @@ impl<'a> Desk<'a> for RehearsalDesk<'a> {
     fn take(&mut self, _from: &Peer, ask: &Ask) -> Withheld<'a> {
         let moment = self.next_moment();
         Withheld::new(match &ask.asked {
-            Asked::Question(user, question) => self.judge(moment, user, ask.tag, question),
+            Asked::Question(user, question) => {
+                self.judge(moment, user, ask.tag, question, &None)
+            }
+            Asked::Conditional(user, kind, pack, printed) => {
+                let question = kind.naming(*pack);
+                self.judge(moment, user, ask.tag, &question, &Some(*printed))
+            }
             Asked::Report(user, code) => self.report(user, code),
         })
     }

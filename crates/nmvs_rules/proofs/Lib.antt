@@ -11,6 +11,7 @@ pub mod LockLemmas
 pub mod BirthLemmas
 pub mod MarkLemmas
 pub mod CourseLemmas
+pub mod PrintedLemmas
 pub mod ReversionLemmas
 pub mod VerificationLemmas
 pub mod RecallLemmas

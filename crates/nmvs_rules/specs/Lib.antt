@@ -5,6 +5,7 @@ pub mod Entries
 pub mod Trail
 pub mod Rules
 pub mod Facts
+pub mod Printed
 pub mod Repeats
 pub mod Operations
 pub mod Laws

@@ -1,6 +1,8 @@
 //! The facts that a reply rests on.
+ghost use Rattle.std.specs.Prelude.{◌≡◌};
+ghost use Rattle.nmvs_rules.specs.Printed.{differs};
 
-use crate::{BatchLock, OwnStatus};
+use crate::{BatchLock, OwnStatus, Printed};
 use nmvs_identifier::{Batch, Expiry, Moment, Name};
 
 /// The last accepted entry about a pack.
@@ -54,4 +56,20 @@ pub struct Facts {
     pub holder: Option<Name>,
     /// The number of alerts on the product code so far.
     pub alerts: u64,
+}
+
+impl Facts {
+    /// Whether the pack is known with another batch or another expiry date than those printed on it, as they are written (own).
+    /// An unknown pack has none. Nothing differs if no printed values are given.
+    pub fn differ_from(&self, printed: &Option<Printed>) -> bool
+        ensures { result ≡ differs printed.now self.now.pack }
+    {
+        let Some(printed) = printed else {
+            return false;
+        };
+        let Some(known) = &self.pack else {
+            return false;
+        };
+        known.batch != printed.batch || known.expiry != printed.expiry
+    }
 }

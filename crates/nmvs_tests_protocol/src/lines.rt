@@ -3,7 +3,8 @@ use linked_list_allocator::LocalHeap;
 use nmvs_identifier::{Batch, Expiry, Name, Pack, ProductCode, Serial, Tag};
 use nmvs_messages::{Ask, Asked, Line, LineFault, Unread};
 use nmvs_protocol::{line_text, read_line};
-use nmvs_rules::Question;
+use nmvs_rules::{Printed, Question, Reason};
+use nmvs_words::PackQuestion;
 use std::alloc::Global;
 use std::process::Abort;
 use std::rt::HostRuntime;
@@ -21,6 +22,12 @@ fn lines_are_read_and_written(rt: HostRuntime) {
         expiry: Expiry::read("280200").expect(&rt, "an expiry date"),
     };
     let asked = Asked::Question(holder, upload);
+    let printed = Printed {
+        batch: Batch::read("B1").expect(&rt, "a batch number"),
+        expiry: Expiry::read("280200").expect(&rt, "an expiry date"),
+    };
+    let kind = PackQuestion::Decommission(Reason::Supply);
+    let conditional = Asked::Conditional(user, kind, pack(&rt, "SN1"), printed);
     for &(text, line) in &[
         ("#a17 ph1 VERIFY 09506000134352 SN1", verify),
         ("QUIT", Line::Quit),
@@ -30,6 +37,13 @@ fn lines_are_read_and_written(rt: HostRuntime) {
         (
             "mah1 UPLOAD 09506000134352 ABC/DEF%GHI/JKL%MN12 B1 280200",
             Line::Ask(Ask { tag: None, asked }),
+        ),
+        (
+            "ph1 SUPPLY 09506000134352 SN1 IF B1 280200",
+            Line::Ask(Ask {
+                tag: None,
+                asked: conditional,
+            }),
         ),
     ] {
         assert!(rt; read_line(text.as_bytes()) == Ok(line), "{text}");
@@ -57,8 +71,7 @@ fn is_written_again(alloc: Global, line: &str) -> bool {
 }
 
 /// Whether a line's text is written on a heap of this number of bytes.
-fn is_written_on(rt: &impl Abort, alloc: Global, bytes: usize) -> bool {
-    let line = "#a17 mah1 WITHDRAW 09506000134352 ABC/DEF%GHI/JKL%MN12";
+fn is_written_on(rt: &impl Abort, alloc: Global, bytes: usize, line: &str) -> bool {
     let read = read_line(line.as_bytes()).expect(rt, "a line");
     let heap = LocalHeap::new(alloc, bytes).expect(rt, "memory");
     match line_text(&heap, &read) {
@@ -70,17 +83,26 @@ fn is_written_on(rt: &impl Abort, alloc: Global, bytes: usize) -> bool {
     }
 }
 
-#[test]
-fn each_growth_of_a_text_is_refused_in_turn(rt: HostRuntime) {
+/// The number of growths that are refused before a line's text is written.
+fn growths_refused(rt: &impl Abort, alloc: Global, line: &str) -> usize {
     let mut refused = 0usize;
     for sixteens in 2..200usize {
-        if is_written_on(&rt, rt.alloc(), sixteens * 16) {
-            assert!(rt; refused > 3);
-            return;
+        if is_written_on(rt, alloc, sixteens * 16, line) {
+            return refused;
         }
         refused = refused.saturating_add(1);
     }
     panic!(rt; "no heap is large enough");
+}
+
+#[test]
+fn each_growth_of_a_text_is_refused_in_turn(rt: HostRuntime) {
+    for &line in &[
+        "#a17 mah1 WITHDRAW 09506000134352 ABC/DEF%GHI/JKL%MN12",
+        "#a17 ph1 SUPPLY 09506000134352 SN1 IF B1 280200",
+    ] {
+        assert!(rt; growths_refused(&rt, rt.alloc(), line) > 3, "{line}");
+    }
 }
 
 #[test]
@@ -100,6 +122,8 @@ fn each_kind_of_line_has_its_text(rt: HostRuntime) {
         "au1 WITHDRAW 09506000134352 ABC/DEF%GHI/JKL%MN12",
         "mah1 THEFT 09506000134352 SN1",
         "au1 AUDIT 09506000134352 SN1",
+        "ph1 SUPPLY 09506000134352 SN1 IF B1 280200",
+        "#1 wh1 DESTROY 09506000134352 ABC/DEF%GHI/JKL%MN12 IF IF 280200",
         "au1 REPORT 09506000134352",
         "#1 au1 REPORT 09506000134352",
         "#a.b_c-d.e_f-g.h_i-j mah1 UPLOAD 09506000134352 ABC/DEF%GHI/JKL%MN12 B1 280200",

@@ -81,6 +81,11 @@ fn repeats_get_their_replies(rt: HostRuntime) {
 }
 
 #[test]
+fn conditions_get_their_replies(rt: HostRuntime) {
+    get_their_replies(&rt, rt.alloc(), examples::CONDITIONS);
+}
+
+#[test]
 fn spellings_get_their_replies(rt: HostRuntime) {
     get_their_replies(&rt, rt.alloc(), examples::SPELLINGS);
 }

@@ -96,6 +96,7 @@ fn each_turn_has_its_text(rt: HostRuntime) {
         (Turn::Rate, "FAULT RATE\n"),
         (Turn::Journal, "FAULT JOURNAL\n"),
         (Turn::Tag, "FAULT TAG\n"),
+        (Turn::Differs, "FAULT DIFFERS\n"),
     ] {
         assert!(rt; is_told(rt.alloc(), Content::Turned(turn), text), "{text}");
     }

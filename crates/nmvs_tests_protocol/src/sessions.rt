@@ -395,7 +395,7 @@ fn help_lists_lines_that_are_read(rt: HostRuntime) {
         );
         examples = examples.saturating_add(1);
     }
-    assert!(rt; examples == 19 && help.ends_with("\nHELP END\n"));
+    assert!(rt; examples == 20 && help.ends_with("\nHELP END\n"));
 }
 
 /// The lines after a report wait until its answer is released.

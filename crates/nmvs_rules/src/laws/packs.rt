@@ -1,11 +1,15 @@
 //! Laws on the course of a pack.
-ghost use Rattle.std.specs.Prelude.{◌≡◌, IsTrue, IsFalse, List, [], ◌∷◌, ◌++◌, length, Some, None, is_some, IsSomeAnd, count_by, if◌then◌else◌};
+ghost use Rattle.std.specs.Prelude.{◌≡◌, ◌↔◌, IsTrue, IsFalse, List, [], ◌∷◌, ◌++◌, length, Option, Some, None, is_some, IsSomeAnd, count_by, if◌then◌else◌};
 ghost use Rattle.std.specs.List.{list_any};
 ghost use Rattle.nmvs_identifier.specs.Batch.{Batch};
 ghost use Rattle.nmvs_identifier.specs.Expiry.{Expiry};
 ghost use Rattle.nmvs_identifier.specs.declared.pack.Pack.{Pack};
 ghost use Rattle.nmvs_rules.specs.declared.entry.Entry.{Entry};
 ghost use Rattle.nmvs_rules.specs.declared.facts.Known.{Known};
+ghost use Rattle.nmvs_rules.specs.declared.printed.Printed.{Printed};
+ghost use Rattle.nmvs_rules.specs.declared.question.Question.{Question};
+ghost use Rattle.nmvs_rules.specs.Printed.{differs_on};
+ghost use Rattle.nmvs_rules.specs.Questions.{pack_of};
 ghost use Rattle.nmvs_rules.specs.Trail.{known};
 ghost use Rattle.nmvs_rules.specs.Rules.{IsLawful};
 ghost use Rattle.nmvs_rules.specs.Operations.{uploads, decommissions, supplies, reverts, binds, goes_on, operates};
@@ -32,6 +36,16 @@ pub fn course()
     ensures moved { (before after : List Entry) (e : Entry) (p : Pack) (k : Known) →
         IsLawful (before ++ e ∷ after) → known before p ≡ Some k → IsTrue (operates p e) →
         IsSomeAnd (known (before ++ e ∷ []) p) (IsMovedOn k (length before) e) }
+{}
+
+/// The batch and the expiry date printed on a pack differ from those of its upload exactly if one of them is written otherwise.
+/// Then they differ for ever, since no entry changes the values of an upload (after Article 4). On every trail.
+pub fn differs_for_ever()
+    ensures exact { (t : List Entry) (q : Question) (p : Pack) (b : Batch) (x : Expiry) (printed : Printed) →
+        pack_of q ≡ Some p → IsUploadedWith t p b x →
+        IsFalse (differs_on t q (Some printed)) ↔ ((printed.batch ≡ b) × (printed.expiry ≡ x)) }
+    ensures later { (t later : List Entry) (q : Question) (printed : Option Printed) →
+        IsTrue (differs_on t q printed) → IsTrue (differs_on (t ++ later) q printed) }
 {}
 
 /// Between two decommissionings of a pack in a lawful trail stands a reversion (Articles 12 and 13).

@@ -32,4 +32,4 @@ returns-clause-fields c =
     let is = c.split-field-items.ensures in
     let gives = splits c.split-field-items.result c.into_iter-field-iterator.result c.args.text.now c.into_iter-field-iterator.ensures.into_iter_gives is.text is.has_more is.pattern in
     let all = YieldsList-end gives c.loop-field.yielded _ c.loop-field.yielded_by _ _ c.in-None.is c.next.ensures.steps in
-    ap (map (λ f. f.now)) c.loop-field.invariant.0 ∙ sym (take-map (λ f. f.now) 7 c.loop-field.yielded) ∙ ap (take 7) all.0
+    ap (map (λ f. f.now)) c.loop-field.invariant.0 ∙ sym (take-map (λ f. f.now) 8 c.loop-field.yielded) ∙ ap (take 8) all.0

@@ -5,4 +5,4 @@ use Rattle.nmvs_messages.proofs.fields.split.Given as goal
 
 abbrev pub invariant-loop-field : goal.invariant-loop-field
 invariant-loop-field l =
-    (l.fields.items ≡ take 7 l.yielded) × (list_any is_empty (map (λ f. f.now) l.yielded) ≡ false)
+    (l.fields.items ≡ take 8 l.yielded) × (list_any is_empty (map (λ f. f.now) l.yielded) ≡ false)

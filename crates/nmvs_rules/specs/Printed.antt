@@ -1,0 +1,21 @@
+-- The batch and the expiry date that are printed on a pack (Article 4 (b)). Their comparison with those of its upload is own,
+-- since Article 11 compares the product code and the serial number alone.
+use Rattle.std.specs.Prelude.{Bool, false, not, ◌||◌, List, Option, Some, None}
+use Rattle.nmvs_identifier.specs.Texts.{same_text}
+use Rattle.nmvs_rules.specs.declared.entry.Entry.{Entry}
+use Rattle.nmvs_rules.specs.declared.facts.Known.{Known}
+use Rattle.nmvs_rules.specs.declared.printed.Printed.{Printed}
+use Rattle.nmvs_rules.specs.declared.question.Question.{Question}
+use Rattle.nmvs_rules.specs.Facts.{pack_fact}
+use Rattle.nmvs_rules.specs.Questions.{pack_of}
+
+-- whether the pack is known with another batch or another expiry date than those printed on it, as they are written; an unknown
+-- pack has none, and nothing differs if no printed values are given
+abbrev pub differs : Option Printed → Option Known → Bool
+differs None k = false
+differs (Some printed) None = false
+differs (Some printed) (Some k) = not (same_text k.batch printed.batch) || not (same_text k.expiry printed.expiry)
+
+-- whether the pack that a question names was uploaded with another batch or another expiry date than those printed on it
+abbrev pub differs_on : List Entry → Question → Option Printed → Bool
+differs_on t q printed = differs printed (pack_fact t (pack_of q))

@@ -1,0 +1,10 @@
+//! The values that are printed on a pack.
+
+use nmvs_identifier::{Batch, Expiry};
+
+/// The batch number and the expiry date that are printed on a pack (Article 4 (b)).
+#[derive(Clone, Copy, Debug, PartialEq, Eq)]
+pub struct Printed {
+    pub batch: Batch,
+    pub expiry: Expiry,
+}
