@@ -23,11 +23,10 @@ impl Read for Handle {
     }
 }
 
-/// A file, and the digest that it has to have.
+/// A file.
 #[derive(Drop)]
 struct Input {
     path: String,
-    stored: Option<[u8; 32]>,
     source: Digested<Device<Handle>>,
 }
 
@@ -131,7 +130,7 @@ fn push_opened(
 
 fn append_headings(alloc: Global, inputs: &[Input], text: &mut String) -> Result<(), AllocError> {
     for input in inputs.iter().rev() {
-        let line = heading_line(alloc, &input.path, &input.stored)?;
+        let line = heading_line(alloc, &input.path, &input.source.expected())?;
         text.push_str(&line)?;
     }
     Ok(())
@@ -153,8 +152,7 @@ fn open_input(rt: &HostRuntime, alloc: Global, path: &str) -> Result<Input, Inpu
     if path == "-" {
         return Ok(Input {
             path: named,
-            stored: None,
-            source: Digested::new(Device::new(Handle::Standard(standard_input(rt)))),
+            source: Digested::new(Device::new(Handle::Standard(standard_input(rt))), None),
         });
     }
     let stored = match stored_digest(rt, alloc, path) {
@@ -165,8 +163,7 @@ fn open_input(rt: &HostRuntime, alloc: Global, path: &str) -> Result<Input, Inpu
     match fs::open(rt, path) {
         Ok(file) => Ok(Input {
             path: named,
-            stored,
-            source: Digested::new(Device::new(Handle::File(file))),
+            source: Digested::new(Device::new(Handle::File(file)), stored),
         }),
         Err(_) => Err(InputFault::Closed(named)),
     }
@@ -205,17 +202,10 @@ impl Read for Inputs {
 impl Inputs {
     /// Compares the digest of the file whose end was read with the stored one, and goes on to the next file.
     fn end(&mut self) -> io::Result<()> {
-        let Some(
-            Input {
-                path,
-                stored,
-                source,
-            },
-        ) = self.inputs.pop()
-        else {
+        let Some(Input { path, source }) = self.inputs.pop() else {
             return Ok(());
         };
-        if source.agrees(stored) {
+        if source.agrees() {
             return Ok(());
         }
         self.differing = Some(path);
