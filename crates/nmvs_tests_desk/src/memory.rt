@@ -156,7 +156,7 @@ fn are_answered_at_last<'a, J: Naming, H: Histories, R: Wait + Abort>(
     repository: &Repository<'a, H, LocalHeap>,
     clerk: &mut Clerk<'a, J, H, LocalHeap>,
 ) {
-    for (least, line) in [
+    for &(least, line) in &[
         // the receipts, the trail, its links, and three tables
         (6, Line::new(rt, "mah1", upload(rt, P), Reply::Uploaded)),
         (0, Line::new(rt, "ph1", verify(rt, P), authentic(rt))),

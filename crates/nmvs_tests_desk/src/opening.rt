@@ -8,7 +8,7 @@ use std::rt::HostRuntime;
 #[test]
 fn a_repository_has_one_to_eight_shards(rt: HostRuntime) {
     let alloc = rt.alloc();
-    for (shards, fault) in [
+    for &(shards, fault) in &[
         (0, Some(OpenFault::Count)),
         (1, None),
         (8, None),
@@ -26,7 +26,7 @@ fn is_shown(rt: &impl Abort, alloc: Global, fault: &impl Display, text: &str) ->
 
 #[test]
 fn faults_have_their_texts(rt: HostRuntime) {
-    for (fault, text) in [
+    for &(fault, text) in &[
         (OpenFault::Memory, "there is no memory for the histories"),
         (OpenFault::Count, "a repository has 1 to 8 shards"),
     ] {

@@ -113,7 +113,7 @@ fn clerks_in_threads_are_answered_as_one_alone(rt: HostRuntime) {
     let alone = settled_alone(&rt, &alloc, &[p[0], p[1], q[0], q[1]]);
     have_lengths(&rt, &alone, &[2_000]);
     let told = thousand_replies(&rt, alloc);
-    for (shard, digits) in [(0, P), (1, Q)] {
+    for &(shard, digits) in &[(0, P), (1, Q)] {
         assert!(&rt; replies(&rt, alloc, &apart, shard, digits) == told);
         assert!(&rt; replies(&rt, alloc, &alone, 0, digits) == told);
     }
