@@ -132,6 +132,7 @@ within_back grammar (Some s) t e = by (grammar s) refl e
     by true p e = subst (λ (u : List ℕ). grammar u ≡ true) (same_Some s t e) p
 
 in_graphic : (j : Json) (ts : List (List ℕ)) → printed_in j ≡ Some ts → AllByRecursion IsGraphic ts
+unfolding printed_in
 in_graphic j ts e = by (count_of j == 2) (within is_batch (string_of (codes "batch") j)) refl (within is_expiry (string_of (codes "expiry") j)) refl e
   where
     by : (t : Bool) (o : Option (List ℕ)) → within is_batch (string_of (codes "batch") j) ≡ o → (r : Option (List ℕ)) → within is_expiry (string_of (codes "expiry") j) ≡ r
@@ -144,6 +145,7 @@ in_graphic j ts e = by (count_of j == 2) (within is_batch (string_of (codes "bat
         (plain-graphic batch (plain_batch batch (within_back is_batch (string_of (codes "batch") j) batch p)).2, (plain-graphic expiry (plain_expiry expiry (within_back is_expiry (string_of (codes "expiry") j) expiry q)).2, tt))
 
 printed_graphic : (kind : AskedKind) (j : Json) (ts : List (List ℕ)) → printed_texts kind j ≡ Some ts → AllByRecursion IsGraphic ts
+unfolding printed_texts
 printed_graphic kind j ts e = by (has_scan kind j) (string_of (codes "scan") j) (get (codes "scanned") j) e
   where
     by : (b : Bool) (o : Option (List ℕ)) (r : Option Json) → cond b (option_map (λ scan. scan_printed (pack_in scan)) o) (option_and_then printed_in r) ≡ Some ts → AllByRecursion IsGraphic ts
@@ -153,6 +155,7 @@ printed_graphic kind j ts e = by (has_scan kind j) (string_of (codes "scan") j) 
     by false o (Some v) e = in_graphic v ts e
 
 condition_graphic : (kind : AskedKind) (j : Json) (ts : List (List ℕ)) → condition_texts kind j ≡ Some ts → AllByRecursion IsGraphic ts
+unfolding condition_texts
 condition_graphic kind j ts e = by (is_matching (string_of (codes "if_scanned") j)) (printed_texts kind j) refl e
   where
     by : (b : Bool) (o : Option (List (List ℕ))) → printed_texts kind j ≡ o → cond b (option_map (λ printed. codes "IF" ∷ printed) o) None ≡ Some ts → AllByRecursion IsGraphic ts
@@ -161,6 +164,7 @@ condition_graphic kind j ts e = by (is_matching (string_of (codes "if_scanned") 
     by true (Some printed) p e = subst (λ (us : List (List ℕ)). AllByRecursion IsGraphic us) (same_Some (codes "IF" ∷ printed) ts e) (refl, printed_graphic kind j printed p)
 
 subject_graphic : (kind : AskedKind) (j : Json) (ts : List (List ℕ)) → subject_of kind j ≡ Some ts → AllByRecursion IsGraphic ts
+unfolding subject_of
 subject_graphic kind j ts e = by (has_condition kind j) (name_texts kind j) refl (condition_texts kind j) refl e
   where
     by : (b : Bool) (o : Option (List (List ℕ))) → name_texts kind j ≡ o → (r : Option (List (List ℕ))) → condition_texts kind j ≡ r
@@ -195,6 +199,7 @@ pub record AreFields (fields : List (List ℕ)) : Type 0 where
   pub graphic : AllByRecursion IsGraphic (user ∷ word ∷ texts)
 
 pub are_fields : (others : ℕ) (kind : AskedKind) (j : Json) (fields : List (List ℕ)) → fields_of others kind j ≡ Some fields → AreFields fields
+unfolding fields_of
 are_fields others kind j fields e = by (count_of j == others + subject_count kind j) (user_of j) refl (subject_of kind j) refl e
   where
     by : (b : Bool) (o : Option (List ℕ)) → user_of j ≡ o → (r : Option (List (List ℕ))) → subject_of kind j ≡ r

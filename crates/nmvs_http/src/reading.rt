@@ -3,7 +3,9 @@ ghost use Rattle.std.specs.Prelude.{◌≡◌, ◌≢◌, [], Some, IfOk, codes,
 ghost use Rattle.http.specs.Request.{body_of};
 ghost use Rattle.nmvs_http.specs.Requests as specs;
 
-use crate::asked::{Asks, JSON_TYPE, LINES_TYPE, asks_by_health, fault_of_post, field, is_repeated};
+use crate::asked::{
+    Asks, JSON_TYPE, LINES_TYPE, asks_by_health, fault_of_post, field, is_repeated,
+};
 use crate::fault::Fault;
 use crate::request_lines::whole_lines;
 use bytes::Bytes;

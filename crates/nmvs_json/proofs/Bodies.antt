@@ -101,3 +101,28 @@ condition_put (Ok v) line mid new (Some ns) (Some cs) e f =
     ap Some
     (ap (λ (x : List ℕ). line ++ x) (preceded_both ns cs) ∙ sym (append_assoc line (preceded ns) (preceded cs)) ∙ ap (λ (x : List ℕ). x ++ preceded cs) (same_Some (line ++ preceded ns) mid e))
     ∙ f
+
+-- a condition
+pub if_put : {T E : Type 0} (r : Result T E) (matching : Bool) (line mid new : List ℕ) (o : Option (List (List ℕ))) → matching ≡ true → mid ≡ line ++ codes " IF" → OnOk r (option_map (λ ts. mid ++ preceded ts) o ≡ Some new)
+    → OnOk r (option_map (λ ts. line ++ preceded ts) (cond matching (option_map (λ ts. codes "IF" ∷ ts) o) None) ≡ Some new)
+if_put r false line mid new o is front e = absurd (cc is)
+if_put (Err f) true line mid new o is front e = tt
+if_put (Ok v) true line mid new None is front e = absurd (cc e)
+if_put (Ok v) true line mid new (Some ts) is front e =
+    ap Some (sym (append_assoc line (codes " IF") (preceded ts)) ∙ ap (λ (x : List ℕ). x ++ preceded ts) (sym front)) ∙ e
+
+-- a condition after the texts before it
+pub with_condition : {T E : Type 0} (r : Result T E) (has : Bool) (line mid new : List ℕ) (names condition : Option (List (List ℕ))) → has ≡ true → option_map (λ ts. line ++ preceded ts) names ≡ Some mid
+    → OnOk r (option_map (λ cs. mid ++ preceded cs) condition ≡ Some new) → OnOk r (option_map (λ ts. line ++ preceded ts) (cond has (option_and_then (λ ns. option_map (λ cs. ns ++ cs) condition) names) names) ≡ Some new)
+with_condition r false line mid new names condition is e f = absurd (cc is)
+with_condition r true line mid new names condition is e f = condition_put r line mid new names condition e f
+
+-- the fields of a line whose members were counted
+pub line_counted : (counted : Bool) (line user word front mid new : List ℕ) (users : Option (List ℕ)) (o : Option (List (List ℕ))) → counted ≡ true → users ≡ Some user → front ≡ ((line ++ user) ++ codes " ") ++ word
+    → option_map (λ ts. front ++ preceded ts) o ≡ Some mid → new ≡ mid ++ codes "\n" → option_map (λ fs. line ++ spaced fs) (cond counted (option_and_then (λ u. option_map (λ ts. u ∷ word ∷ ts) o) users) None) ≡ Some new
+line_counted false line user word front mid new users o is u begun e end = absurd (cc is)
+line_counted true line user word front mid new None o is u begun e end = absurd (cc u)
+line_counted true line user word front mid new (Some v) None is u begun e end = absurd (cc e)
+line_counted true line user word front mid new (Some v) (Some ts) is u begun e end =
+    ap (λ (w : List ℕ). Some (line ++ spaced (w ∷ word ∷ ts))) (same_Some v user u)
+    ∙ line_ended line user word mid (Some ts) (ap (λ (x : List ℕ). Some (x ++ preceded ts)) (sym begun) ∙ e) ∙ ap Some (sym end)

@@ -181,14 +181,14 @@ within grammar None = None
 within grammar (Some t) = if grammar t then Some t else None
 
 -- the batch number and the expiry date in an object, which has no other members
-abbrev pub printed_in : Json → Option (List (List ℕ))
+unfoldable pub printed_in : Json → Option (List (List ℕ))
 printed_in j =
     if count_of j == 2
     then option_and_then (λ batch. option_map (λ expiry. batch ∷ expiry ∷ []) (within is_expiry (string_of (codes "expiry") j))) (within is_batch (string_of (codes "batch") j))
     else None
 
 -- the printed batch number and expiry date of a pack: those of its scan, or else those of the member scanned
-abbrev pub printed_texts : AskedKind → Json → Option (List (List ℕ))
+unfoldable pub printed_texts : AskedKind → Json → Option (List (List ℕ))
 printed_texts kind j =
     if has_scan kind j then option_map (λ scan. scan_printed (pack_in scan)) (string_of (codes "scan") j) else option_and_then printed_in (get (codes "scanned") j)
 
@@ -198,12 +198,12 @@ is_matching None = false
 is_matching (Some t) = bytes_eq t (codes "matches")
 
 -- the condition at the end of a line
-abbrev pub condition_texts : AskedKind → Json → Option (List (List ℕ))
+unfoldable pub condition_texts : AskedKind → Json → Option (List (List ℕ))
 condition_texts kind j =
     if is_matching (string_of (codes "if_scanned") j) then option_map (λ printed. codes "IF" ∷ printed) (printed_texts kind j) else None
 
 -- the texts after the word of a line, and the number of members that say them
-abbrev pub subject_of : AskedKind → Json → Option (List (List ℕ))
+unfoldable pub subject_of : AskedKind → Json → Option (List (List ℕ))
 subject_of kind j =
     if has_condition kind j then option_and_then (λ names. option_map (λ condition. names ++ condition) (condition_texts kind j)) (name_texts kind j)
     else name_texts kind j
@@ -211,7 +211,7 @@ subject_of kind j =
 abbrev pub condition_count : AskedKind → Json → ℕ
 condition_count kind j = if has_condition kind j then (if has_scan kind j then 1 else 2) else 0
 
-abbrev pub subject_count : AskedKind → Json → ℕ
+unfoldable pub subject_count : AskedKind → Json → ℕ
 subject_count kind j = name_count kind j + condition_count kind j
 
 -- texts with a space before each
@@ -220,7 +220,7 @@ preceded [] = []
 preceded (t ∷ ts) = codes " " ++ (t ++ preceded ts)
 
 -- the fields of the line that an object means, if its members are those of the question, and this number of others
-abbrev pub fields_of : ℕ → AskedKind → Json → Option (List (List ℕ))
+unfoldable pub fields_of : ℕ → AskedKind → Json → Option (List (List ℕ))
 fields_of others kind j =
     if count_of j == others + subject_count kind j
     then option_and_then (λ user. option_map (λ texts. user ∷ word_of kind ∷ texts) (subject_of kind j)) (user_of j)

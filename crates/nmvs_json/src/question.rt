@@ -17,6 +17,9 @@ use nmvs_elements::read_scan;
 use nmvs_identifier::{Batch, Expiry, Tag};
 use std::alloc::{AllocError, Global};
 
+/// The text of the line in place of each value of a scan that cannot be read (own). It is no product code.
+const UNREAD: &str = "-";
+
 /// The line, with its LF, of a question: its kind, its key if there is one, and its body of JSON.
 ///
 /// # Errors
@@ -105,6 +108,7 @@ fn value_in<'t>(
 
 /// Appends the fields of the line that an object means, and LF. The object has this number of members beyond those that name a
 /// pack, a batch or a product.
+#[tactic(auto, unfolding(crate::specs::Questions::fields_of))]
 pub(crate) fn push_fields(
     line: &mut String,
     kind: AskedKind,
@@ -128,6 +132,7 @@ pub(crate) fn push_fields(
 }
 
 /// The number of members that say the texts after the word of a line.
+#[tactic(auto, unfolding(crate::specs::Questions::subject_count))]
 fn subject_count(kind: AskedKind, object: &Value<'_>) -> usize
     ensures count { result ≡ specs.subject_count kind (value_view object.now) }
     ensures small { result ≤ 6 }
@@ -176,11 +181,8 @@ fn has_scan(kind: AskedKind, object: &Value<'_>) -> bool
 }
 
 /// Appends the texts after the word of a line, with a space before each.
-fn push_subject(
-    line: &mut String,
-    kind: AskedKind,
-    object: &Value<'_>,
-) -> Result<(), QuestionFault>
+#[tactic(auto, unfolding(crate::specs::Questions::subject_of))]
+fn push_subject(line: &mut String, kind: AskedKind, object: &Value<'_>) -> Result<(), QuestionFault>
     ensures texts { OnOk result (option_map (λ texts. string_bytes line.old ++ specs.preceded texts) (specs.subject_of kind (value_view object.now)) ≡ Some (string_bytes line.new)) }
     ensures fault { IfErr result (λ fault. fault ≢ QuestionFault.Memory → (fault ≡ QuestionFault.Fields) × (specs.subject_of kind (value_view object.now) ≡ None)) }
 {
@@ -220,11 +222,12 @@ fn push_pack(line: &mut String, scan: &[u8]) -> Result<(), AllocError>
 {
     match read_scan(scan, None) {
         Ok(pack) => push_both(line, pack.code.text(), pack.serial.text()),
-        Err(_) => push_both(line, "-", "-"),
+        Err(_) => push_both(line, UNREAD, UNREAD),
     }
 }
 
 /// Appends `IF`, and the batch number and the expiry date that are printed on a pack, with a space before each.
+#[tactic(auto, unfolding(crate::specs::Questions::condition_texts))]
 fn push_condition(
     line: &mut String,
     kind: AskedKind,
@@ -245,17 +248,14 @@ fn is_matching(object: &Value<'_>) -> bool
     ensures { result ≡ specs.is_matching (specs.string_of (codes "if_scanned") (value_view object.now)) }
 {
     match string_of(object, "if_scanned") {
-        Some(text) => text.as_bytes() == b"matches",
+        Some(text) => text == "matches",
         None => false,
     }
 }
 
 /// Appends the batch number and the expiry date that are printed on a pack, with a space before each.
-fn push_printed(
-    line: &mut String,
-    kind: AskedKind,
-    object: &Value<'_>,
-) -> Result<(), QuestionFault>
+#[tactic(auto, unfolding(crate::specs::Questions::printed_texts))]
+fn push_printed(line: &mut String, kind: AskedKind, object: &Value<'_>) -> Result<(), QuestionFault>
     ensures texts { OnOk result (option_map (λ texts. string_bytes line.old ++ specs.preceded texts) (specs.printed_texts kind (value_view object.now)) ≡ Some (string_bytes line.new)) }
     ensures fault { IfErr result (λ fault. fault ≢ QuestionFault.Memory → (fault ≡ QuestionFault.Fields) × (specs.printed_texts kind (value_view object.now) ≡ None)) }
 {
@@ -276,12 +276,13 @@ fn push_scan_printed(line: &mut String, scan: &[u8]) -> Result<(), AllocError>
     ensures { OnOk result (string_bytes line.new ≡ string_bytes line.old ++ specs.preceded (specs.scan_printed (pack_in scan.now))) }
 {
     match read_scan(scan, None) {
-        Ok(pack) => push_both(line, pack.batch.text(), pack.expiry.text()),
-        Err(_) => push_both(line, "-", "-"),
+        Ok(pack) => push_both(line, pack.batch.text(), pack.expiry.text().as_str()),
+        Err(_) => push_both(line, UNREAD, UNREAD),
     }
 }
 
 /// Appends the batch number and the expiry date in an object, with a space before each.
+#[tactic(auto, unfolding(crate::specs::Questions::printed_in))]
 fn push_scanned(line: &mut String, scanned: &Value<'_>) -> Result<(), QuestionFault>
     ensures texts { OnOk result (option_map (λ texts. string_bytes line.old ++ specs.preceded texts) (specs.printed_in (value_view scanned.now)) ≡ Some (string_bytes line.new)) }
     ensures fault { IfErr result (λ fault. fault ≢ QuestionFault.Memory → (fault ≡ QuestionFault.Fields) × (specs.printed_in (value_view scanned.now) ≡ None)) }

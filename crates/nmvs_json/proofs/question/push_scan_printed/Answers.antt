@@ -7,8 +7,8 @@ use Rattle.nmvs_json.proofs.question.push_scan_printed.Goals as goal
 
 pub returns-in-Ok : goal.returns-in-Ok
 returns-in-Ok c =
-    let texts : c.text.result.now ∷ c.text-in-Ok.result.now ∷ [] ≡ scan_printed (pack_in c.args.scan.now) =
-    (λ i. c.text.ensures.text i ∷ c.text-in-Ok.ensures.text i ∷ []) ∙ ap scan_printed (scanned c.args.scan.now (Ok c.in-Ok.pack) c.in-Ok.ensures) in
+    let texts : c.text.result.now ∷ c.as_str.result.now ∷ [] ≡ scan_printed (pack_in c.args.scan.now) =
+    (λ i. c.text.ensures.text i ∷ (c.as_str.ensures.value ∙ c.text-in-Ok.ensures.text) i ∷ []) ∙ ap scan_printed (scanned c.args.scan.now (Ok c.in-Ok.pack) c.in-Ok.ensures) in
     subst (λ (ts : List (List ℕ)). OnOk c.push_both.result (string_bytes c.push_both.new.line ≡ string_bytes c.args.line.now ++ preceded ts)) texts c.push_both.ensures
 
 pub returns-in-Err : goal.returns-in-Err
