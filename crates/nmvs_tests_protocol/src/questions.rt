@@ -303,7 +303,8 @@ fn a_bulk_has_500_questions_at_most(rt: HostRuntime) {
 
 #[test]
 fn a_condition_ends_the_line(rt: HostRuntime) {
-    let scan = "\"user\":\"ph1\",\"scan\":\"]d201095060001343521728020010B1\\u001d21SN1\",\"if_scanned\":\"matches\"";
+    let scan =
+        "\"user\":\"ph1\",\"scan\":\"]d201095060001343521728020010B1\\u001d21SN1\",\"if_scanned\":\"matches\"";
     let pack = "\"user\":\"ph1\",\"code\":\"1\",\"serial\":\"2\",\"if_scanned\":\"matches\"";
     for &(front, more, line) in &[
         (scan, "", "ph1 SUPPLY 09506000134352 SN1 IF B1 280200\n"),
@@ -326,11 +327,20 @@ fn a_condition_ends_the_line(rt: HostRuntime) {
         assert!(rt; read.as_str() == line);
     }
     for &(front, more) in &[
-        (scan, ",\"scanned\":{\"batch\":\"B1\",\"expiry\":\"280200\"}"),
+        (
+            scan,
+            ",\"scanned\":{\"batch\":\"B1\",\"expiry\":\"280200\"}",
+        ),
         (pack, ""),
         (pack, ",\"scanned\":{\"batch\":\"B1\"}"),
-        (pack, ",\"scanned\":{\"batch\":\"B#1\",\"expiry\":\"280200\"}"),
-        (pack, ",\"scanned\":{\"batch\":\"B1\",\"expiry\":\"281300\"}"),
+        (
+            pack,
+            ",\"scanned\":{\"batch\":\"B#1\",\"expiry\":\"280200\"}",
+        ),
+        (
+            pack,
+            ",\"scanned\":{\"batch\":\"B1\",\"expiry\":\"281300\"}",
+        ),
         (
             "\"user\":\"ph1\",\"code\":\"1\",\"serial\":\"2\"",
             ",\"scanned\":{\"batch\":\"B1\",\"expiry\":\"280200\"}",
