@@ -10,7 +10,9 @@ use Rattle.std.proofs.lemmas.List.Splits.{slice_split_at, slice_split_none}
 use Rattle.std.proofs.lemmas.Option.{same_Some}
 use Rattle.json.specs.Find.{as_str, get}
 use Rattle.json.specs.Json.{Json}
-use Rattle.nmvs_identifier.proofs.PlainTexts.{is_plain, all_weaker, plain_name}
+use Rattle.nmvs_identifier.specs.Batch.{is_batch}
+use Rattle.nmvs_identifier.specs.Expiry.{is_expiry}
+use Rattle.nmvs_identifier.proofs.PlainTexts.{is_plain, all_weaker, plain_batch, plain_expiry, plain_name}
 use Rattle.nmvs_words.specs.Kinds.{kind_word}
 use Rattle.nmvs_words.specs.Words.{followed, spaced}
 use Rattle.nmvs_words.proofs.PlainWords.{word_plain}
@@ -23,9 +25,9 @@ use Rattle.nmvs_json.specs.declared.asked_kind.AskedKind.{AskedKind}
 use Rattle.nmvs_json.specs.declared.asked_kind.AskedKind.TheVariants.{Question, Report}
 use Rattle.nmvs_json.specs.declared.question_fault.QuestionFault.{QuestionFault}
 use Rattle.nmvs_json.specs.declared.question_fault.QuestionFault.TheVariants as fault
-use Rattle.nmvs_json.specs.Questions.{as_field, as_user, count_of, fields_of, has_scan, is_field, is_key, key_text, line_of, line_of_object, names_of, object_in, pack_texts, question_line, string_of, subject_count, subject_of, text_of, texts_of, user_of, word_of}
+use Rattle.nmvs_json.specs.Questions.{as_field, as_user, condition_texts, count_of, fields_of, has_condition, has_scan, is_field, is_key, is_matching, key_text, line_of, line_of_object, name_texts, names_of, object_in, pack_texts, printed_in, printed_texts, question_line, scan_printed, string_of, subject_count, subject_of, text_of, texts_of, user_of, within, word_of}
 use Rattle.nmvs_json.specs.Scans.{pack_in}
-use Rattle.nmvs_json.proofs.ScanLemmas.{texts_plain}
+use Rattle.nmvs_json.proofs.ScanLemmas.{printed_plain, texts_plain}
 use Rattle.nmvs_http.specs.OneLine.{IsAskedByOneLine, IsOneLine, fields_behind, key_tag}
 
 -- all characters are visible
@@ -108,13 +110,70 @@ all_graphic : (ts : List (List ℕ)) → AllByRecursion (λ (t : List ℕ). list
 all_graphic [] plain = tt
 all_graphic (t ∷ ts) plain = (plain-graphic t plain.0, all_graphic ts plain.1)
 
-subject_graphic : (kind : AskedKind) (j : Json) (ts : List (List ℕ)) → subject_of kind j ≡ Some ts → AllByRecursion IsGraphic ts
-subject_graphic kind j ts e = by (has_scan kind j) (string_of (codes "scan") j) e
+all_both : (ts us : List (List ℕ)) → AllByRecursion IsGraphic ts → AllByRecursion IsGraphic us → AllByRecursion IsGraphic (ts ++ us)
+all_both [] us a b = b
+all_both (t ∷ ts) us a b = (a.0, all_both ts us a.1 b)
+
+names_graphic : (kind : AskedKind) (j : Json) (ts : List (List ℕ)) → name_texts kind j ≡ Some ts → AllByRecursion IsGraphic ts
+names_graphic kind j ts e = by (has_scan kind j) (string_of (codes "scan") j) e
   where
     by : (b : Bool) (o : Option (List ℕ)) → cond b (option_map (λ scan. pack_texts (pack_in scan)) o) (texts_of (names_of kind) j) ≡ Some ts → AllByRecursion IsGraphic ts
     by true None e = absurd (cc e)
     by true (Some scan) e = subst (λ (us : List (List ℕ)). AllByRecursion IsGraphic us) (same_Some (pack_texts (pack_in scan)) ts e) (all_graphic (pack_texts (pack_in scan)) (texts_plain scan))
     by false o e = texts_graphic (names_of kind) j ts e
+
+-- and so are the values that are printed on a pack
+within_back : (grammar : List ℕ → Bool) (o : Option (List ℕ)) (t : List ℕ) → within grammar o ≡ Some t → grammar t ≡ true
+within_back grammar None t e = absurd (cc e)
+within_back grammar (Some s) t e = by (grammar s) refl e
+  where
+    by : (b : Bool) → grammar s ≡ b → cond b (Some s) None ≡ Some t → grammar t ≡ true
+    by false p e = absurd (cc e)
+    by true p e = subst (λ (u : List ℕ). grammar u ≡ true) (same_Some s t e) p
+
+in_graphic : (j : Json) (ts : List (List ℕ)) → printed_in j ≡ Some ts → AllByRecursion IsGraphic ts
+unfolding printed_in
+in_graphic j ts e = by (count_of j == 2) (within is_batch (string_of (codes "batch") j)) refl (within is_expiry (string_of (codes "expiry") j)) refl e
+  where
+    by : (t : Bool) (o : Option (List ℕ)) → within is_batch (string_of (codes "batch") j) ≡ o → (r : Option (List ℕ)) → within is_expiry (string_of (codes "expiry") j) ≡ r
+        → cond t (option_and_then (λ batch. option_map (λ expiry. batch ∷ expiry ∷ []) r) o) None ≡ Some ts → AllByRecursion IsGraphic ts
+    by false o p r q e = absurd (cc e)
+    by true None p r q e = absurd (cc e)
+    by true (Some batch) p None q e = absurd (cc e)
+    by true (Some batch) p (Some expiry) q e =
+        subst (λ (us : List (List ℕ)). AllByRecursion IsGraphic us) (same_Some (batch ∷ expiry ∷ []) ts e)
+        (plain-graphic batch (plain_batch batch (within_back is_batch (string_of (codes "batch") j) batch p)).2, (plain-graphic expiry (plain_expiry expiry (within_back is_expiry (string_of (codes "expiry") j) expiry q)).2, tt))
+
+printed_graphic : (kind : AskedKind) (j : Json) (ts : List (List ℕ)) → printed_texts kind j ≡ Some ts → AllByRecursion IsGraphic ts
+unfolding printed_texts
+printed_graphic kind j ts e = by (has_scan kind j) (string_of (codes "scan") j) (get (codes "scanned") j) e
+  where
+    by : (b : Bool) (o : Option (List ℕ)) (r : Option Json) → cond b (option_map (λ scan. scan_printed (pack_in scan)) o) (option_and_then printed_in r) ≡ Some ts → AllByRecursion IsGraphic ts
+    by true None r e = absurd (cc e)
+    by true (Some scan) r e = subst (λ (us : List (List ℕ)). AllByRecursion IsGraphic us) (same_Some (scan_printed (pack_in scan)) ts e) (all_graphic (scan_printed (pack_in scan)) (printed_plain scan))
+    by false o None e = absurd (cc e)
+    by false o (Some v) e = in_graphic v ts e
+
+condition_graphic : (kind : AskedKind) (j : Json) (ts : List (List ℕ)) → condition_texts kind j ≡ Some ts → AllByRecursion IsGraphic ts
+unfolding condition_texts
+condition_graphic kind j ts e = by (is_matching (string_of (codes "if_scanned") j)) (printed_texts kind j) refl e
+  where
+    by : (b : Bool) (o : Option (List (List ℕ))) → printed_texts kind j ≡ o → cond b (option_map (λ printed. codes "IF" ∷ printed) o) None ≡ Some ts → AllByRecursion IsGraphic ts
+    by false o p e = absurd (cc e)
+    by true None p e = absurd (cc e)
+    by true (Some printed) p e = subst (λ (us : List (List ℕ)). AllByRecursion IsGraphic us) (same_Some (codes "IF" ∷ printed) ts e) (refl, printed_graphic kind j printed p)
+
+subject_graphic : (kind : AskedKind) (j : Json) (ts : List (List ℕ)) → subject_of kind j ≡ Some ts → AllByRecursion IsGraphic ts
+unfolding subject_of
+subject_graphic kind j ts e = by (has_condition kind j) (name_texts kind j) refl (condition_texts kind j) refl e
+  where
+    by : (b : Bool) (o : Option (List (List ℕ))) → name_texts kind j ≡ o → (r : Option (List (List ℕ))) → condition_texts kind j ≡ r
+        → cond b (option_and_then (λ names. option_map (λ condition. names ++ condition) r) o) o ≡ Some ts → AllByRecursion IsGraphic ts
+    by false o p r q e = names_graphic kind j ts (p ∙ e)
+    by true None p r q e = absurd (cc e)
+    by true (Some names) p None q e = absurd (cc e)
+    by true (Some names) p (Some condition) q e =
+        subst (λ (us : List (List ℕ)). AllByRecursion IsGraphic us) (same_Some (names ++ condition) ts e) (all_both names condition (names_graphic kind j names p) (condition_graphic kind j condition q))
 
 -- the user does not begin with #
 user_back : (o : Option (List ℕ)) (u : List ℕ) → as_user o ≡ Some u → (o ≡ Some u) × (get_or u 0 0 ≢ 35)
@@ -140,6 +199,7 @@ pub record AreFields (fields : List (List ℕ)) : Type 0 where
   pub graphic : AllByRecursion IsGraphic (user ∷ word ∷ texts)
 
 pub are_fields : (others : ℕ) (kind : AskedKind) (j : Json) (fields : List (List ℕ)) → fields_of others kind j ≡ Some fields → AreFields fields
+unfolding fields_of
 are_fields others kind j fields e = by (count_of j == others + subject_count kind j) (user_of j) refl (subject_of kind j) refl e
   where
     by : (b : Bool) (o : Option (List ℕ)) → user_of j ≡ o → (r : Option (List (List ℕ))) → subject_of kind j ≡ r

@@ -4,7 +4,7 @@ use Rattle.std.specs.Option.{is_some}
 use Rattle.std.specs.Str.{bytes_eq}
 use Rattle.http.specs.declared.request.Request.{Request}
 use Rattle.http.specs.Request.{body_of, head_of}
-use Rattle.http_header.specs.HeaderMap.{get}
+use Rattle.http_header.specs.HeaderMap.{get, get_all}
 use Rattle.http_header.specs.Token.{lowercase}
 use Rattle.http_uri.specs.Uri.{uri_path}
 use Rattle.nmvs_json.specs.declared.asked_kind.AskedKind.{AskedKind}
@@ -22,6 +22,15 @@ use Rattle.nmvs_http.specs.RequestLines.{whole_lines}
 -- the first value of a field
 abbrev pub field_value : Request (List ℕ) → List ℕ → Option (List ℕ)
 field_value request name = option_map (λ v. v.bytes) (get (head_of request).headers name)
+
+-- whether a field stands there more than once
+abbrev pub has_second : {T : Type 0} → List T → Bool
+has_second [] = false
+has_second (v ∷ []) = false
+has_second (v ∷ w ∷ vs) = true
+
+abbrev pub is_repeated : Request (List ℕ) → List ℕ → Bool
+is_repeated request name = has_second (get_all (head_of request).headers name)
 
 -- whether a browser sent the request for a page of another site (W3C Fetch Metadata, section 2.3)
 abbrev pub is_foreign_site : List ℕ → Bool
@@ -95,9 +104,11 @@ abbrev pub reading_of_question : Option Fault → Result (List ℕ) QuestionFaul
 reading_of_question None line = reading_of_line line
 reading_of_question (Some fault) line = refused_for fault
 
--- the line that a request means at the path of this question, or the fault
+-- the line that a request means at the path of this question, or the fault; it has one key at most
 abbrev pub line_of : AskedKind → Request (List ℕ) → Result (List ℕ) QuestionFault
-line_of kind request = question_line kind (field_value request (codes "idempotency-key")) (body_of request)
+line_of kind request =
+    if is_repeated request (codes "idempotency-key") then Err questions.Key
+    else question_line kind (field_value request (codes "idempotency-key")) (body_of request)
 
 -- a request at the path of this question, or at an unknown path
 abbrev pub reading_at : Option AskedKind → Request (List ℕ) → Reading

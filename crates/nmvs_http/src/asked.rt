@@ -82,6 +82,15 @@ pub(crate) fn field<'r>(request: &'r Request<Bytes>, name: &str) -> Option<&'r [
     }
 }
 
+/// Whether a field stands in a request more than once.
+pub(crate) fn is_repeated(request: &Request<Bytes>, name: &str) -> bool
+    ensures { result ≡ specs.is_repeated request.now (lowercase name.now) }
+{
+    let values = request.headers().get_all(name);
+    let mut values = values.iter();
+    values.next().is_some() && values.next().is_some()
+}
+
 /// Whether a browser sent the request for a page of another site.
 fn is_foreign(request: &Request<Bytes>) -> bool
     ensures { result ≡ specs.is_foreign (specs.field_value request.now (codes "sec-fetch-site")) }

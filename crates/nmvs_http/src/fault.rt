@@ -5,7 +5,7 @@
 pub enum Fault {
     /// Its bytes are no request.
     Request,
-    /// Its key is no tag, or that of one of its questions is none. A bulk has a key, though each of its questions has its own.
+    /// Its key is no tag, or that of one of its questions is none. It has a second key, or is a bulk, whose questions have their own.
     Key,
     /// Its body is no JSON object, or an object in it has a member twice.
     Json,

@@ -3,7 +3,9 @@ ghost use Rattle.std.specs.Prelude.{◌≡◌, ◌≢◌, [], Some, IfOk, codes,
 ghost use Rattle.http.specs.Request.{body_of};
 ghost use Rattle.nmvs_http.specs.Requests as specs;
 
-use crate::asked::{Asks, JSON_TYPE, LINES_TYPE, asks_by_health, fault_of_post, field};
+use crate::asked::{
+    Asks, JSON_TYPE, LINES_TYPE, asks_by_health, fault_of_post, field, is_repeated,
+};
 use crate::fault::Fault;
 use crate::request_lines::whole_lines;
 use bytes::Bytes;
@@ -93,6 +95,9 @@ fn read_body(
 ) -> Result<Reading, AllocError>
     ensures { IfOk result (λ reading. reading ≡ specs.reading_of_line (specs.line_of kind request.now)) }
 {
+    if is_repeated(request, "idempotency-key") {
+        return refused_for(QuestionFault::Key);
+    }
     let key = field(request, "idempotency-key");
     match question_line(alloc, kind, key, request.body().as_slice()) {
         Ok(line) => Ok(Reading {

@@ -1,6 +1,7 @@
 -- The object of a body, the tag of a key, and a line with one text more.
-use Rattle.std.proofs.Common.{◌≡◌, ◌<◌, ◌++◌, ◌∷◌, [], ℕ, Bool, true, false, List, length, codes, Option, Some, None, Bor, Vec, cond, refl, sym, ap, ◌∙◌, append_assoc, arith}
-use Rattle.std.specs.Prelude.{option_and_then, option_map}
+use Rattle.std.proofs.Common.{◌≡◌, ◌<◌, ◌++◌, ◌∷◌, [], ℕ, Bool, true, false, List, length, codes, Option, Some, None, Result, Ok, Err, Bor, Vec, cond, refl, sym, ap, ◌∙◌, append_assoc, arith}
+use Rattle.std.specs.Prelude.{OnOk, option_and_then, option_map}
+use Rattle.std.proofs.lemmas.Option.{same_Some}
 use Rattle.std.specs.List.{list_all, AllByRecursion}
 use Rattle.std.specs.Str.{IsUtf8, is_utf8}
 use Rattle.std.proofs.lemmas.Bool.{and_parts}
@@ -15,8 +16,8 @@ use Rattle.json.specs.Value.{value_view, members_view}
 use Rattle.json.specs.declared.value.Value.{Value, Object}
 use Rattle.nmvs_identifier.specs.Tag.{is_tag}
 use Rattle.nmvs_identifier.proofs.PlainTexts.{is_plain, plain_name}
-use Rattle.nmvs_words.specs.Words.{followed}
-use Rattle.nmvs_json.specs.Questions.{as_object, count_of, object_in, value_in}
+use Rattle.nmvs_words.specs.Words.{followed, spaced}
+use Rattle.nmvs_json.specs.Questions.{as_object, count_of, object_in, preceded, value_in}
 
 plain-small : (b : ℕ) → is_plain b ≡ true → b < 128
 plain-small b e = grind (arith, nat_tests)
@@ -61,6 +62,67 @@ object_same v = ap as_object (view-Object v) ∙ ap Some (sym (view-Object v))
 
 -- a line with one text more
 pub line_more : (line text : List ℕ) (o : Option (List (List ℕ)))
-    → option_map (λ ts. ((line ++ codes " ") ++ text) ++ followed ts) o ≡ option_map (λ ts. line ++ followed ts) (option_map (λ ts. text ∷ ts) o)
+    → option_map (λ ts. ((line ++ codes " ") ++ text) ++ preceded ts) o ≡ option_map (λ ts. line ++ preceded ts) (option_map (λ ts. text ∷ ts) o)
 line_more line text None = refl
-line_more line text (Some ts) = ap Some (append_assoc (line ++ codes " ") text (followed ts) ∙ append_assoc line (codes " ") (text ++ followed ts))
+line_more line text (Some ts) = ap Some (append_assoc (line ++ codes " ") text (preceded ts) ∙ append_assoc line (codes " ") (text ++ preceded ts))
+
+-- texts, and LF after them
+preceded_lf : (ts : List (List ℕ)) → preceded ts ++ codes "\n" ≡ followed ts
+preceded_lf [] = refl
+preceded_lf (t ∷ ts) = append_assoc (codes " ") (t ++ preceded ts) (codes "\n") ∙ ap (λ (x : List ℕ). codes " " ++ x) (append_assoc t (preceded ts) (codes "\n") ∙ ap (λ (x : List ℕ). t ++ x) (preceded_lf ts))
+
+preceded_both : (ts us : List (List ℕ)) → preceded (ts ++ us) ≡ preceded ts ++ preceded us
+preceded_both [] us = refl
+preceded_both (t ∷ ts) us =
+    ap (λ (x : List ℕ). codes " " ++ (t ++ x)) (preceded_both ts us) ∙ ap (λ (x : List ℕ). codes " " ++ x) (sym (append_assoc t (preceded ts) (preceded us))) ∙ sym (append_assoc (codes " ") (t ++ preceded ts) (preceded us))
+
+-- the fields of a line, by the texts after its word
+pub line_ended : (line user word mid : List ℕ) (o : Option (List (List ℕ))) → option_map (λ ts. (((line ++ user) ++ codes " ") ++ word) ++ preceded ts) o ≡ Some mid
+    → option_map (λ ts. line ++ spaced (user ∷ word ∷ ts)) o ≡ Some (mid ++ codes "\n")
+line_ended line user word mid None e = absurd (cc e)
+line_ended line user word mid (Some ts) e =
+    let front = ((line ++ user) ++ codes " ") ++ word in
+    let same : front ++ preceded ts ≡ mid = same_Some (front ++ preceded ts) mid e in
+    ap Some
+    (sym (append_assoc line user (codes " " ++ (word ++ followed ts)))
+    ∙ sym (append_assoc (line ++ user) (codes " ") (word ++ followed ts))
+    ∙ sym (append_assoc ((line ++ user) ++ codes " ") word (followed ts))
+    ∙ ap (λ (x : List ℕ). front ++ x) (sym (preceded_lf ts))
+    ∙ sym (append_assoc front (preceded ts) (codes "\n"))
+    ∙ ap (λ (x : List ℕ). x ++ codes "\n") same)
+
+-- texts, and a condition after them
+pub condition_put : {T E : Type 0} (r : Result T E) (line mid new : List ℕ) (names condition : Option (List (List ℕ))) → option_map (λ ts. line ++ preceded ts) names ≡ Some mid → OnOk r (option_map (λ cs. mid ++ preceded cs) condition ≡ Some new)
+    → OnOk r (option_map (λ ts. line ++ preceded ts) (option_and_then (λ ns. option_map (λ cs. ns ++ cs) condition) names) ≡ Some new)
+condition_put (Err f) line mid new names condition e f' = tt
+condition_put (Ok v) line mid new None condition e f = absurd (cc e)
+condition_put (Ok v) line mid new (Some ns) None e f = absurd (cc f)
+condition_put (Ok v) line mid new (Some ns) (Some cs) e f =
+    ap Some
+    (ap (λ (x : List ℕ). line ++ x) (preceded_both ns cs) ∙ sym (append_assoc line (preceded ns) (preceded cs)) ∙ ap (λ (x : List ℕ). x ++ preceded cs) (same_Some (line ++ preceded ns) mid e))
+    ∙ f
+
+-- a condition
+pub if_put : {T E : Type 0} (r : Result T E) (matching : Bool) (line mid new : List ℕ) (o : Option (List (List ℕ))) → matching ≡ true → mid ≡ line ++ codes " IF" → OnOk r (option_map (λ ts. mid ++ preceded ts) o ≡ Some new)
+    → OnOk r (option_map (λ ts. line ++ preceded ts) (cond matching (option_map (λ ts. codes "IF" ∷ ts) o) None) ≡ Some new)
+if_put r false line mid new o is front e = absurd (cc is)
+if_put (Err f) true line mid new o is front e = tt
+if_put (Ok v) true line mid new None is front e = absurd (cc e)
+if_put (Ok v) true line mid new (Some ts) is front e =
+    ap Some (sym (append_assoc line (codes " IF") (preceded ts)) ∙ ap (λ (x : List ℕ). x ++ preceded ts) (sym front)) ∙ e
+
+-- a condition after the texts before it
+pub with_condition : {T E : Type 0} (r : Result T E) (has : Bool) (line mid new : List ℕ) (names condition : Option (List (List ℕ))) → has ≡ true → option_map (λ ts. line ++ preceded ts) names ≡ Some mid
+    → OnOk r (option_map (λ cs. mid ++ preceded cs) condition ≡ Some new) → OnOk r (option_map (λ ts. line ++ preceded ts) (cond has (option_and_then (λ ns. option_map (λ cs. ns ++ cs) condition) names) names) ≡ Some new)
+with_condition r false line mid new names condition is e f = absurd (cc is)
+with_condition r true line mid new names condition is e f = condition_put r line mid new names condition e f
+
+-- the fields of a line whose members were counted
+pub line_counted : (counted : Bool) (line user word front mid new : List ℕ) (users : Option (List ℕ)) (o : Option (List (List ℕ))) → counted ≡ true → users ≡ Some user → front ≡ ((line ++ user) ++ codes " ") ++ word
+    → option_map (λ ts. front ++ preceded ts) o ≡ Some mid → new ≡ mid ++ codes "\n" → option_map (λ fs. line ++ spaced fs) (cond counted (option_and_then (λ u. option_map (λ ts. u ∷ word ∷ ts) o) users) None) ≡ Some new
+line_counted false line user word front mid new users o is u begun e end = absurd (cc is)
+line_counted true line user word front mid new None o is u begun e end = absurd (cc u)
+line_counted true line user word front mid new (Some v) None is u begun e end = absurd (cc e)
+line_counted true line user word front mid new (Some v) (Some ts) is u begun e end =
+    ap (λ (w : List ℕ). Some (line ++ spaced (w ∷ word ∷ ts))) (same_Some v user u)
+    ∙ line_ended line user word mid (Some ts) (ap (λ (x : List ℕ). Some (x ++ preceded ts)) (sym begun) ∙ e) ∙ ap Some (sym end)

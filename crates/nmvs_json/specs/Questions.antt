@@ -9,6 +9,8 @@ use Rattle.json.specs.Json as json
 use Rattle.json.specs.Json.{Json, Items, Members, document}
 use Rattle.json.specs.Strict.{keys}
 use Rattle.nmvs_elements.specs.declared.elements.Elements.{Elements}
+use Rattle.nmvs_identifier.specs.Batch.{is_batch}
+use Rattle.nmvs_identifier.specs.Expiry.{is_expiry}
 use Rattle.nmvs_identifier.specs.Tag.{is_tag}
 use Rattle.nmvs_rules.specs.declared.reason.Reason.TheVariants as reason
 use Rattle.nmvs_words.specs.declared.pack_question.PackQuestion.TheVariants.{Verify, Status, Decommission, Handover, Revert, Theft, Audit}
@@ -156,16 +158,69 @@ abbrev pub pack_texts : Option Elements → List (List ℕ)
 pack_texts None = codes "-" ∷ codes "-" ∷ []
 pack_texts (Some pack) = pack.code.bytes ∷ pack.serial.bytes ∷ []
 
--- the texts of the line after its word, and the number of members that say them
-abbrev pub subject_of : AskedKind → Json → Option (List (List ℕ))
-subject_of kind j =
+-- the texts that name the pack, the batch or the product, and the number of members that say them
+abbrev pub name_texts : AskedKind → Json → Option (List (List ℕ))
+name_texts kind j =
     if has_scan kind j then option_map (λ scan. pack_texts (pack_in scan)) (string_of (codes "scan") j) else texts_of (names_of kind) j
 
-abbrev pub subject_count : AskedKind → Json → ℕ
-subject_count kind j = if has_scan kind j then 1 else length (names_of kind)
+abbrev pub name_count : AskedKind → Json → ℕ
+name_count kind j = if has_scan kind j then 1 else length (names_of kind)
+
+-- whether a question about a pack is put only if the values printed on the pack are those of its upload
+abbrev pub has_condition : AskedKind → Json → Bool
+has_condition kind j = is_of_pack kind && is_some (get (codes "if_scanned") j)
+
+-- the printed batch number and expiry date of a scan that cannot be read are - as well
+abbrev pub scan_printed : Option Elements → List (List ℕ)
+scan_printed None = codes "-" ∷ codes "-" ∷ []
+scan_printed (Some pack) = pack.batch.bytes ∷ pack.expiry.bytes ∷ []
+
+-- a text in a grammar
+abbrev pub within : (List ℕ → Bool) → Option (List ℕ) → Option (List ℕ)
+within grammar None = None
+within grammar (Some t) = if grammar t then Some t else None
+
+-- the batch number and the expiry date in an object, which has no other members
+unfoldable pub printed_in : Json → Option (List (List ℕ))
+printed_in j =
+    if count_of j == 2
+    then option_and_then (λ batch. option_map (λ expiry. batch ∷ expiry ∷ []) (within is_expiry (string_of (codes "expiry") j))) (within is_batch (string_of (codes "batch") j))
+    else None
+
+-- the printed batch number and expiry date of a pack: those of its scan, or else those of the member scanned
+unfoldable pub printed_texts : AskedKind → Json → Option (List (List ℕ))
+printed_texts kind j =
+    if has_scan kind j then option_map (λ scan. scan_printed (pack_in scan)) (string_of (codes "scan") j) else option_and_then printed_in (get (codes "scanned") j)
+
+-- whether the condition is that they match; there is no other
+abbrev pub is_matching : Option (List ℕ) → Bool
+is_matching None = false
+is_matching (Some t) = bytes_eq t (codes "matches")
+
+-- the condition at the end of a line
+unfoldable pub condition_texts : AskedKind → Json → Option (List (List ℕ))
+condition_texts kind j =
+    if is_matching (string_of (codes "if_scanned") j) then option_map (λ printed. codes "IF" ∷ printed) (printed_texts kind j) else None
+
+-- the texts after the word of a line, and the number of members that say them
+unfoldable pub subject_of : AskedKind → Json → Option (List (List ℕ))
+subject_of kind j =
+    if has_condition kind j then option_and_then (λ names. option_map (λ condition. names ++ condition) (condition_texts kind j)) (name_texts kind j)
+    else name_texts kind j
+
+abbrev pub condition_count : AskedKind → Json → ℕ
+condition_count kind j = if has_condition kind j then (if has_scan kind j then 1 else 2) else 0
+
+unfoldable pub subject_count : AskedKind → Json → ℕ
+subject_count kind j = name_count kind j + condition_count kind j
+
+-- texts with a space before each
+abbrev pub preceded : List (List ℕ) → List ℕ
+preceded [] = []
+preceded (t ∷ ts) = codes " " ++ (t ++ preceded ts)
 
 -- the fields of the line that an object means, if its members are those of the question, and this number of others
-abbrev pub fields_of : ℕ → AskedKind → Json → Option (List (List ℕ))
+unfoldable pub fields_of : ℕ → AskedKind → Json → Option (List (List ℕ))
 fields_of others kind j =
     if count_of j == others + subject_count kind j
     then option_and_then (λ user. option_map (λ texts. user ∷ word_of kind ∷ texts) (subject_of kind j)) (user_of j)

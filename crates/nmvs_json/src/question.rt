@@ -4,16 +4,21 @@ ghost use Rattle.std.specs.Char.{is_ascii_graphic};
 ghost use Rattle.std.specs.List.{list_all};
 ghost use Rattle.std.specs.Option.{option_copied};
 ghost use Rattle.json.specs.Value.{value_view};
+ghost use Rattle.nmvs_identifier.specs.Batch.{is_batch};
+ghost use Rattle.nmvs_identifier.specs.Expiry.{is_expiry};
 ghost use Rattle.nmvs_identifier.specs.Tag.{is_tag};
-ghost use Rattle.nmvs_words.specs.Words.{followed, spaced};
+ghost use Rattle.nmvs_words.specs.Words.{spaced};
 ghost use Rattle.nmvs_json.specs.Scans.{pack_in};
 ghost use Rattle.nmvs_json.specs.Questions as specs;
 
 use crate::{AskedKind, QuestionFault};
 use json::{Error, Scratch, Value};
 use nmvs_elements::read_scan;
-use nmvs_identifier::Tag;
+use nmvs_identifier::{Batch, Expiry, Tag};
 use std::alloc::{AllocError, Global};
+
+/// The text of the line in place of each value of a scan that cannot be read (own). It is no product code.
+const UNREAD: &str = "-";
 
 /// The line, with its LF, of a question: its kind, its key if there is one, and its body of JSON.
 ///
@@ -103,6 +108,7 @@ fn value_in<'t>(
 
 /// Appends the fields of the line that an object means, and LF. The object has this number of members beyond those that name a
 /// pack, a batch or a product.
+#[tactic(auto, unfolding(crate::specs::Questions::fields_of))]
 pub(crate) fn push_fields(
     line: &mut String,
     kind: AskedKind,
@@ -120,12 +126,23 @@ pub(crate) fn push_fields(
     line.push_str(user)?;
     line.push_str(" ")?;
     line.push_str(kind.word())?;
-    push_subject(line, kind, object)
+    push_subject(line, kind, object)?;
+    line.push_str("\n")?;
+    Ok(())
+}
+
+/// The number of members that say the texts after the word of a line.
+#[tactic(auto, unfolding(crate::specs::Questions::subject_count))]
+fn subject_count(kind: AskedKind, object: &Value<'_>) -> usize
+    ensures count { result ≡ specs.subject_count kind (value_view object.now) }
+    ensures small { result ≤ 6 }
+{
+    name_count(kind, object) + condition_count(kind, object)
 }
 
 /// The number of members that name the pack, the batch or the product.
-fn subject_count(kind: AskedKind, object: &Value<'_>) -> usize
-    ensures count { result ≡ specs.subject_count kind (value_view object.now) }
+fn name_count(kind: AskedKind, object: &Value<'_>) -> usize
+    ensures count { result ≡ specs.name_count kind (value_view object.now) }
     ensures small { result ≤ 4 }
 {
     if has_scan(kind, object) {
@@ -135,6 +152,27 @@ fn subject_count(kind: AskedKind, object: &Value<'_>) -> usize
     }
 }
 
+/// The number of members that say the condition of a question.
+fn condition_count(kind: AskedKind, object: &Value<'_>) -> usize
+    ensures count { result ≡ specs.condition_count kind (value_view object.now) }
+    ensures small { result ≤ 2 }
+{
+    if !has_condition(kind, object) {
+        0
+    } else if has_scan(kind, object) {
+        1
+    } else {
+        2
+    }
+}
+
+/// Whether a question about a pack is put only if the values printed on the pack are those of its upload.
+fn has_condition(kind: AskedKind, object: &Value<'_>) -> bool
+    ensures { result ≡ specs.has_condition kind (value_view object.now) }
+{
+    kind.is_of_pack() && object.get("if_scanned").is_some()
+}
+
 /// Whether a scan stands in place of a code and a serial, as it may in a question about a pack.
 fn has_scan(kind: AskedKind, object: &Value<'_>) -> bool
     ensures { result ≡ specs.has_scan kind (value_view object.now) }
@@ -142,10 +180,24 @@ fn has_scan(kind: AskedKind, object: &Value<'_>) -> bool
     kind.is_of_pack() && object.get("scan").is_some()
 }
 
-/// Appends the texts of the pack, the batch or the product that an object names, with a space before each, and LF.
+/// Appends the texts after the word of a line, with a space before each.
+#[tactic(auto, unfolding(crate::specs::Questions::subject_of))]
 fn push_subject(line: &mut String, kind: AskedKind, object: &Value<'_>) -> Result<(), QuestionFault>
-    ensures texts { OnOk result (option_map (λ texts. string_bytes line.old ++ followed texts) (specs.subject_of kind (value_view object.now)) ≡ Some (string_bytes line.new)) }
+    ensures texts { OnOk result (option_map (λ texts. string_bytes line.old ++ specs.preceded texts) (specs.subject_of kind (value_view object.now)) ≡ Some (string_bytes line.new)) }
     ensures fault { IfErr result (λ fault. fault ≢ QuestionFault.Memory → (fault ≡ QuestionFault.Fields) × (specs.subject_of kind (value_view object.now) ≡ None)) }
+{
+    push_names(line, kind, object)?;
+    if has_condition(kind, object) {
+        push_condition(line, kind, object)
+    } else {
+        Ok(())
+    }
+}
+
+/// Appends the texts of the pack, the batch or the product that an object names, with a space before each.
+fn push_names(line: &mut String, kind: AskedKind, object: &Value<'_>) -> Result<(), QuestionFault>
+    ensures texts { OnOk result (option_map (λ texts. string_bytes line.old ++ specs.preceded texts) (specs.name_texts kind (value_view object.now)) ≡ Some (string_bytes line.new)) }
+    ensures fault { IfErr result (λ fault. fault ≢ QuestionFault.Memory → (fault ≡ QuestionFault.Fields) × (specs.name_texts kind (value_view object.now) ≡ None)) }
 {
     if has_scan(kind, object) {
         push_scan(line, object)
@@ -154,9 +206,9 @@ fn push_subject(line: &mut String, kind: AskedKind, object: &Value<'_>) -> Resul
     }
 }
 
-/// Appends the code and the serial that the scan of an object carries, with a space before each, and LF.
+/// Appends the code and the serial that the scan of an object carries, with a space before each.
 fn push_scan(line: &mut String, object: &Value<'_>) -> Result<(), QuestionFault>
-    ensures texts { OnOk result (option_map (λ scan. string_bytes line.old ++ followed (specs.pack_texts (pack_in scan))) (specs.string_of (codes "scan") (value_view object.now)) ≡ Some (string_bytes line.new)) }
+    ensures texts { OnOk result (option_map (λ scan. string_bytes line.old ++ specs.preceded (specs.pack_texts (pack_in scan))) (specs.string_of (codes "scan") (value_view object.now)) ≡ Some (string_bytes line.new)) }
     ensures fault { IfErr result (λ fault. fault ≢ QuestionFault.Memory → (fault ≡ QuestionFault.Fields) × (specs.string_of (codes "scan") (value_view object.now) ≡ None)) }
 {
     let scan = string_of(object, "scan").ok_or(QuestionFault::Fields)?;
@@ -164,31 +216,121 @@ fn push_scan(line: &mut String, object: &Value<'_>) -> Result<(), QuestionFault>
     Ok(())
 }
 
-/// Appends the code and the serial that a scan carries, with a space before each, and LF; `-` is in their places if it cannot be
-/// read.
+/// Appends the code and the serial that a scan carries, with a space before each; `-` is in their places if it cannot be read.
 fn push_pack(line: &mut String, scan: &[u8]) -> Result<(), AllocError>
-    ensures { OnOk result (string_bytes line.new ≡ string_bytes line.old ++ followed (specs.pack_texts (pack_in scan.now))) }
+    ensures { OnOk result (string_bytes line.new ≡ string_bytes line.old ++ specs.preceded (specs.pack_texts (pack_in scan.now))) }
 {
     match read_scan(scan, None) {
         Ok(pack) => push_both(line, pack.code.text(), pack.serial.text()),
-        Err(_) => push_both(line, "-", "-"),
+        Err(_) => push_both(line, UNREAD, UNREAD),
     }
 }
 
-/// Appends two texts, with a space before each, and LF.
+/// Appends `IF`, and the batch number and the expiry date that are printed on a pack, with a space before each.
+#[tactic(auto, unfolding(crate::specs::Questions::condition_texts))]
+fn push_condition(
+    line: &mut String,
+    kind: AskedKind,
+    object: &Value<'_>,
+) -> Result<(), QuestionFault>
+    ensures texts { OnOk result (option_map (λ texts. string_bytes line.old ++ specs.preceded texts) (specs.condition_texts kind (value_view object.now)) ≡ Some (string_bytes line.new)) }
+    ensures fault { IfErr result (λ fault. fault ≢ QuestionFault.Memory → (fault ≡ QuestionFault.Fields) × (specs.condition_texts kind (value_view object.now) ≡ None)) }
+{
+    if !is_matching(object) {
+        return Err(QuestionFault::Fields);
+    }
+    line.push_str(" IF")?;
+    push_printed(line, kind, object)
+}
+
+/// Whether the condition of a question is that the printed values match.
+fn is_matching(object: &Value<'_>) -> bool
+    ensures { result ≡ specs.is_matching (specs.string_of (codes "if_scanned") (value_view object.now)) }
+{
+    match string_of(object, "if_scanned") {
+        Some(text) => text == "matches",
+        None => false,
+    }
+}
+
+/// Appends the batch number and the expiry date that are printed on a pack, with a space before each.
+#[tactic(auto, unfolding(crate::specs::Questions::printed_texts))]
+fn push_printed(line: &mut String, kind: AskedKind, object: &Value<'_>) -> Result<(), QuestionFault>
+    ensures texts { OnOk result (option_map (λ texts. string_bytes line.old ++ specs.preceded texts) (specs.printed_texts kind (value_view object.now)) ≡ Some (string_bytes line.new)) }
+    ensures fault { IfErr result (λ fault. fault ≢ QuestionFault.Memory → (fault ≡ QuestionFault.Fields) × (specs.printed_texts kind (value_view object.now) ≡ None)) }
+{
+    if has_scan(kind, object) {
+        let scan = string_of(object, "scan").ok_or(QuestionFault::Fields)?;
+        push_scan_printed(line, scan.as_bytes())?;
+        return Ok(());
+    }
+    match object.get("scanned") {
+        Some(scanned) => push_scanned(line, scanned),
+        None => Err(QuestionFault::Fields),
+    }
+}
+
+/// Appends the batch number and the expiry date that a scan carries, with a space before each; `-` is in their places if it
+/// cannot be read.
+fn push_scan_printed(line: &mut String, scan: &[u8]) -> Result<(), AllocError>
+    ensures { OnOk result (string_bytes line.new ≡ string_bytes line.old ++ specs.preceded (specs.scan_printed (pack_in scan.now))) }
+{
+    match read_scan(scan, None) {
+        Ok(pack) => push_both(line, pack.batch.text(), pack.expiry.text().as_str()),
+        Err(_) => push_both(line, UNREAD, UNREAD),
+    }
+}
+
+/// Appends the batch number and the expiry date in an object, with a space before each.
+#[tactic(auto, unfolding(crate::specs::Questions::printed_in))]
+fn push_scanned(line: &mut String, scanned: &Value<'_>) -> Result<(), QuestionFault>
+    ensures texts { OnOk result (option_map (λ texts. string_bytes line.old ++ specs.preceded texts) (specs.printed_in (value_view scanned.now)) ≡ Some (string_bytes line.new)) }
+    ensures fault { IfErr result (λ fault. fault ≢ QuestionFault.Memory → (fault ≡ QuestionFault.Fields) × (specs.printed_in (value_view scanned.now) ≡ None)) }
+{
+    if count_of(scanned) != 2 {
+        return Err(QuestionFault::Fields);
+    }
+    let batch = batch_of(scanned).ok_or(QuestionFault::Fields)?;
+    let expiry = expiry_of(scanned).ok_or(QuestionFault::Fields)?;
+    push_both(line, batch, expiry)?;
+    Ok(())
+}
+
+/// The batch number in an object.
+fn batch_of<'v>(object: &'v Value<'_>) -> Option<&'v str>
+    ensures { option_copied result ≡ specs.within is_batch (specs.string_of (codes "batch") (value_view object.now)) }
+{
+    let text = string_of(object, "batch")?;
+    match Batch::read(text) {
+        Ok(_) => Some(text),
+        Err(_) => None,
+    }
+}
+
+/// The expiry date in an object.
+fn expiry_of<'v>(object: &'v Value<'_>) -> Option<&'v str>
+    ensures { option_copied result ≡ specs.within is_expiry (specs.string_of (codes "expiry") (value_view object.now)) }
+{
+    let text = string_of(object, "expiry")?;
+    match Expiry::read(text) {
+        Ok(_) => Some(text),
+        Err(_) => None,
+    }
+}
+
+/// Appends two texts, with a space before each.
 fn push_both(line: &mut String, first: &str, second: &str) -> Result<(), AllocError>
-    ensures { OnOk result (string_bytes line.new ≡ string_bytes line.old ++ followed (first.now ∷ second.now ∷ [])) }
+    ensures { OnOk result (string_bytes line.new ≡ string_bytes line.old ++ specs.preceded (first.now ∷ second.now ∷ [])) }
 {
     line.push_str(" ")?;
     line.push_str(first)?;
     line.push_str(" ")?;
-    line.push_str(second)?;
-    line.push_str("\n")
+    line.push_str(second)
 }
 
-/// Appends the texts of the members of these names, with a space before each, and LF.
+/// Appends the texts of the members of these names, with a space before each.
 fn push_texts(line: &mut String, names: &[&str], object: &Value<'_>) -> Result<(), QuestionFault>
-    ensures texts { OnOk result (option_map (λ texts. string_bytes line.old ++ followed texts) (specs.texts_of (map (λ n. n.now) names.now) (value_view object.now)) ≡ Some (string_bytes line.new)) }
+    ensures texts { OnOk result (option_map (λ texts. string_bytes line.old ++ specs.preceded texts) (specs.texts_of (map (λ n. n.now) names.now) (value_view object.now)) ≡ Some (string_bytes line.new)) }
     ensures fault { IfErr result (λ fault. fault ≢ QuestionFault.Memory → (fault ≡ QuestionFault.Fields) × (specs.texts_of (map (λ n. n.now) names.now) (value_view object.now) ≡ None)) }
 {
     let mut rest = names;
@@ -198,7 +340,6 @@ fn push_texts(line: &mut String, names: &[&str], object: &Value<'_>) -> Result<(
         line.push_str(text)?;
         rest = later;
     }
-    line.push_str("\n")?;
     Ok(())
 }
 

@@ -16,6 +16,8 @@ pub enum Problem {
     Unprocessable,
     /// The user may not ask this.
     Forbidden,
+    /// The values printed on the pack are not those of its upload.
+    PreconditionFailed,
     /// The user asks more than the rate allows.
     TooManyRequests,
     /// The server cannot answer now. Nothing is recorded.
@@ -118,6 +120,7 @@ const PROBLEMS: &[(&str, Problem)] = &[
     ("NOBODY", Problem::Forbidden),
     ("SUSPENDED", Problem::Forbidden),
     ("ROLE", Problem::Forbidden),
+    ("DIFFERS", Problem::PreconditionFailed),
     ("RATE", Problem::TooManyRequests),
     ("CLOCK", Problem::Unavailable),
     ("CLOSED", Problem::Unavailable),
@@ -474,6 +477,9 @@ fn problem_front(problem: Problem) -> &'static [u8]
         }
         Problem::Forbidden => {
             b"{\"type\":\"about:blank\",\"title\":\"Forbidden\",\"status\":403,\"fault\":"
+        }
+        Problem::PreconditionFailed => {
+            b"{\"type\":\"about:blank\",\"title\":\"Precondition Failed\",\"status\":412,\"fault\":"
         }
         Problem::TooManyRequests => {
             b"{\"type\":\"about:blank\",\"title\":\"Too Many Requests\",\"status\":429,\"fault\":"

@@ -300,3 +300,60 @@ fn a_bulk_has_500_questions_at_most(rt: HostRuntime) {
     assert!(rt; count_of(&rt, rt.alloc(), 500) == Some(500));
     assert!(rt; count_of(&rt, rt.alloc(), 501) == None);
 }
+
+#[test]
+fn a_condition_ends_the_line(rt: HostRuntime) {
+    let scan =
+        "\"user\":\"ph1\",\"scan\":\"]d201095060001343521728020010B1\\u001d21SN1\",\"if_scanned\":\"matches\"";
+    let pack = "\"user\":\"ph1\",\"code\":\"1\",\"serial\":\"2\",\"if_scanned\":\"matches\"";
+    for &(front, more, line) in &[
+        (scan, "", "ph1 SUPPLY 09506000134352 SN1 IF B1 280200\n"),
+        (
+            pack,
+            ",\"scanned\":{\"batch\":\"B/2\",\"expiry\":\"251231\"}",
+            "ph1 SUPPLY 1 2 IF B/2 251231\n",
+        ),
+        (
+            "\"user\":\"ph1\",\"if_scanned\":\"matches\",\"scan\":\"\"",
+            "",
+            "ph1 SUPPLY - - IF - -\n",
+        ),
+    ] {
+        let body = format!(in rt.alloc(); "{{{front}{more}}}").expect(&rt, "memory");
+        let read = line_at(&rt, rt.alloc(), "/v1/supply", None, body.as_bytes()).expect(
+            &rt,
+            "a question",
+        );
+        assert!(rt; read.as_str() == line);
+    }
+    for &(front, more) in &[
+        (
+            scan,
+            ",\"scanned\":{\"batch\":\"B1\",\"expiry\":\"280200\"}",
+        ),
+        (pack, ""),
+        (pack, ",\"scanned\":{\"batch\":\"B1\"}"),
+        (
+            pack,
+            ",\"scanned\":{\"batch\":\"B#1\",\"expiry\":\"280200\"}",
+        ),
+        (
+            pack,
+            ",\"scanned\":{\"batch\":\"B1\",\"expiry\":\"281300\"}",
+        ),
+        (
+            "\"user\":\"ph1\",\"code\":\"1\",\"serial\":\"2\"",
+            ",\"scanned\":{\"batch\":\"B1\",\"expiry\":\"280200\"}",
+        ),
+        (
+            "\"user\":\"ph1\",\"code\":\"1\",\"serial\":\"2\",\"if_scanned\":\"differs\"",
+            ",\"scanned\":{\"batch\":\"B1\",\"expiry\":\"280200\"}",
+        ),
+    ] {
+        let body = format!(in rt.alloc(); "{{{front}{more}}}").expect(&rt, "memory");
+        assert!(rt;
+            line_at(&rt, rt.alloc(), "/v1/supply", None, body.as_bytes())
+                == Err(QuestionFault::Fields)
+        );
+    }
+}

@@ -141,7 +141,18 @@ fn faults_that_the_question_has_are_422_or_403(rt: HostRuntime) {
 }
 
 #[test]
-fn faults_that_pass_are_429_or_503(rt: HostRuntime) {
+fn faults_that_pass_are_412_429_or_503(rt: HostRuntime) {
+    assert!(rt;
+        is_problem(
+            &rt,
+            rt.alloc(),
+            "DIFFERS",
+            Problem::PreconditionFailed,
+            "Precondition Failed",
+            412,
+            "no"
+        )
+    );
     assert!(rt;
         is_problem(
             &rt,

@@ -1,7 +1,6 @@
 use Rattle.std.proofs.Common.{◌≡◌, ◌∙◌, ◌++◌, ◌∷◌, [], ℕ, List, Ok, Err, ap, codes, string_bytes, subst}
 use Rattle.std.specs.Prelude.{OnOk}
-use Rattle.nmvs_words.specs.Words.{followed}
-use Rattle.nmvs_json.specs.Questions.{pack_texts}
+use Rattle.nmvs_json.specs.Questions.{pack_texts, preceded}
 use Rattle.nmvs_json.specs.Scans.{pack_in}
 use Rattle.nmvs_json.proofs.ScanLemmas.{scanned}
 use Rattle.nmvs_json.proofs.question.push_pack.Goals as goal
@@ -10,9 +9,9 @@ pub returns-in-Ok : goal.returns-in-Ok
 returns-in-Ok c =
     let texts : c.text.result.now ∷ c.text-in-Ok.result.now ∷ [] ≡ pack_texts (pack_in c.args.scan.now) =
     (λ i. c.text.ensures.text i ∷ c.text-in-Ok.ensures.text i ∷ []) ∙ ap pack_texts (scanned c.args.scan.now (Ok c.in-Ok.pack) c.in-Ok.ensures) in
-    subst (λ (ts : List (List ℕ)). OnOk c.push_both.result (string_bytes c.push_both.new.line ≡ string_bytes c.args.line.now ++ followed ts)) texts c.push_both.ensures
+    subst (λ (ts : List (List ℕ)). OnOk c.push_both.result (string_bytes c.push_both.new.line ≡ string_bytes c.args.line.now ++ preceded ts)) texts c.push_both.ensures
 
 pub returns-in-Err : goal.returns-in-Err
 returns-in-Err c =
     let texts : codes "-" ∷ codes "-" ∷ [] ≡ pack_texts (pack_in c.args.scan.now) = ap pack_texts (scanned c.args.scan.now (Err c.in-Err.field-0) c.in-Err.ensures) in
-    subst (λ (ts : List (List ℕ)). OnOk c.push_both-in-Err.result (string_bytes c.push_both-in-Err.new.line ≡ string_bytes c.args.line.now ++ followed ts)) texts c.push_both-in-Err.ensures
+    subst (λ (ts : List (List ℕ)). OnOk c.push_both-in-Err.result (string_bytes c.push_both-in-Err.new.line ≡ string_bytes c.args.line.now ++ preceded ts)) texts c.push_both-in-Err.ensures
