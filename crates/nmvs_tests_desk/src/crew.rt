@@ -120,7 +120,9 @@ fn run<'a, J: Naming, H: Histories, R: Wait + Abort>(
     let (rt, repository, moment) = (place.rt, place.repository, place.moment);
     for _ in 0..errand.times {
         let put = put_of(rt, clerk, moment, &errand.user, &errand.question);
-        clerk.ask(rt, repository, &put).expect(rt, "an answer");
+        clerk
+            .ask(rt, repository, &put, &None)
+            .expect(rt, "an answer");
     }
 }
 

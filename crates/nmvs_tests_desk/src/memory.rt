@@ -72,13 +72,13 @@ fn is_answered<'a, J: Naming, H: Histories, R: Wait + Abort>(
     let receipts = clerk.receipts().len();
     let before = first_trail(rt, alloc, repository, clerk);
     let put = put_of(rt, clerk, new_year(rt), &line.user, &line.question);
-    match clerk.ask(rt, repository, &put) {
+    match clerk.ask(rt, repository, &put, &None) {
         Ok(Outcome::New(answered)) => {
             assert_eq!(rt; answered.reply, line.reply);
             assert_eq!(rt; answered.place, receipts);
             true
         }
-        Ok(Outcome::Again(_) | Outcome::Other) => panic!(rt; "not put"),
+        Ok(Outcome::Again(_) | Outcome::Other | Outcome::Differs) => panic!(rt; "not put"),
         Err(_) => {
             assert!(rt; first_trail(rt, alloc, repository, clerk) == before);
             false
@@ -120,13 +120,13 @@ fn is_refused<'a, J: Naming, H: Histories, R: Wait + Abort>(
         tag: Some(tag),
         ..put_of(rt, clerk, new_year(rt), &user, &question)
     };
-    match clerk.ask(rt, repository, &put) {
+    match clerk.ask(rt, repository, &put, &None) {
         Ok(Outcome::New(answered) | Outcome::Again(answered)) => {
             assert_eq!(rt; answered.place, 3);
             assert_eq!(rt; answered.reply, Reply::Refused(Refusal::Duplicate));
             true
         }
-        Ok(Outcome::Other) => panic!(rt; "another question"),
+        Ok(Outcome::Other | Outcome::Differs) => panic!(rt; "no entry"),
         Err(_) => false,
     }
 }

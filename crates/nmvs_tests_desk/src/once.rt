@@ -35,13 +35,13 @@ impl SameTag {
             ..put_of(rt, clerk, place.moment, &self.user, question)
         };
         match clerk
-            .ask(rt, place.repository, &put)
+            .ask(rt, place.repository, &put, &None)
             .expect(rt, "an answer")
         {
             Outcome::New(answered) | Outcome::Again(answered) => {
                 Some((answered.place, answered.reply))
             }
-            Outcome::Other => None,
+            Outcome::Other | Outcome::Differs => None,
         }
     }
 }

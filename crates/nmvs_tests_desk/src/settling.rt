@@ -55,7 +55,9 @@ impl LetGo {
     ) {
         let (rt, repository) = (place.rt, place.repository);
         let put = put_of(rt, clerk, place.moment, &self.user, &self.question);
-        clerk.ask(rt, repository, &put).expect(rt, "an answer");
+        clerk
+            .ask(rt, repository, &put, &None)
+            .expect(rt, "an answer");
         assert_eq!(rt; clerk.receipts().len(), 1);
         let receipt = clerk.receipts().last().expect(rt, "a receipt");
         assert_eq!(rt; receipt.entry.reply, self.reply);
@@ -121,7 +123,9 @@ impl Crew for KeepNone {
         let (rt, repository) = (place.rt, place.repository);
         clerk.keep_no_receipts();
         let put = put_of(rt, clerk, place.moment, &self.user, &self.question);
-        clerk.ask(rt, repository, &put).expect(rt, "an answer");
+        clerk
+            .ask(rt, repository, &put, &None)
+            .expect(rt, "an answer");
         assert_eq!(rt; clerk.receipts().len(), 0);
     }
 }

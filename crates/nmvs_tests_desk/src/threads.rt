@@ -171,7 +171,9 @@ impl Crew for Meeting {
         } else {
             is_raised(&self.held);
             let put = put_of(rt, clerk, moment, &self.user, &self.second);
-            clerk.ask(rt, repository, &put).expect(rt, "an answer");
+            clerk
+                .ask(rt, repository, &put, &None)
+                .expect(rt, "an answer");
             self.answered.store(true, Ordering::SeqCst);
         }
     }

@@ -283,6 +283,7 @@ fn each_fault_is_counted_by_its_word(rt: HostRuntime) {
         "nmvs_faults_total{fault=\"BUSY\"} 1",
         "nmvs_faults_total{fault=\"JOURNAL\"} 0",
         "nmvs_faults_total{fault=\"TAG\"} 0",
+        "nmvs_faults_total{fault=\"DIFFERS\"} 0",
     ] {
         assert!(rt; has_line(rt.alloc(), &metrics, line), "{line}");
     }

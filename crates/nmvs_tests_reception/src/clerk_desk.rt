@@ -215,6 +215,12 @@ fn suspend<'r, J: Naming, R: Wait + Log + Abort>(
     assert_eq!(rt; deliver(&mut console.sink, b"."), Ok(()));
 }
 
+/// A line without the values printed on its pack, which are no part of its question.
+fn question_of(line: &str) -> &str {
+    line.split_once(" IF ")
+        .map_or(line, |(question, _)| question)
+}
+
 /// Whether the line at this place is a question that was put, and was not answered again by its tag. No tagged line of the
 /// examples is put twice with one answer.
 fn is_put(lines: &[(&str, &str)], place: usize) -> bool {
@@ -223,9 +229,8 @@ fn is_put(lines: &[(&str, &str)], place: usize) -> bool {
     };
     let (earlier, _) = lines.split_at(place);
     let is_repeated = line.starts_with('#')
-        && earlier
-            .iter()
-            .any(|(other, said)| other == line && said == answer);
+        && earlier.iter().any(|(other, said)| question_of(other) == question_of(line)
+            && said == answer);
     !(is_repeated
         || answer.contains("FAULT")
         || answer.starts_with("PRODUCT")
@@ -331,6 +336,7 @@ fn questions_leave_a_receipt_each(rt: HostRuntime) {
     get_their_answers(&rt, rt.alloc(), examples::VERIFICATIONS);
     get_their_answers(&rt, rt.alloc(), examples::REVERSIONS);
     get_their_answers(&rt, rt.alloc(), examples::RECALLS);
+    get_their_answers(&rt, rt.alloc(), examples::CONDITIONS);
 }
 
 #[test]
