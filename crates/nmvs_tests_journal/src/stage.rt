@@ -66,7 +66,9 @@ pub fn ask<'a, J: Naming, H: Histories, R: Wait + Abort>(
         tag: None,
     };
     for _ in 0..times {
-        clerk.ask(rt, repository, &put, &None).expect(rt, "an answer");
+        clerk
+            .ask(rt, repository, &put, &None)
+            .expect(rt, "an answer");
     }
 }
 
