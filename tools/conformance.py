@@ -29,7 +29,7 @@ REPLIES = (
     "UPLOADED", "AUTHENTIC", "STATUS", "NOPACK", "DECOMMISSIONED", "HANDED_OVER", "REVERTED", "LOCKED", "STOLEN", "SHOWN", "PRODUCT",
     *(f"ALERT {cause}" for cause in "UNKNOWN RECALLED WITHDRAWN HELD SUPPLIED EXPORTED SAMPLED DESTROYED STOLEN".split()),
     *(f"REFUSED {number}" for number in range(1, 16)),
-    *(f"FAULT {word}" for word in TYPED),
+    *(f"FAULT {word}" for word in (*TYPED, "DIFFERS")),
 )
 
 

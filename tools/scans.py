@@ -15,11 +15,12 @@ Pack = collections.namedtuple("Pack", "code serial batch expiry national")
 
 
 def line_of(user, word, scan, national=None):
-    """The line by which the user asks this about the pack whose code was scanned; an UPLOAD has batch and expiry too.
+    """The line by which the user asks this about the pack whose code was scanned. An UPLOAD names batch and expiry; any other
+    question is put only if the pack was uploaded with them.
     ValueError: the scan was refused, and the question must not be asked. Its text is for the person who scanned."""
     pack = read_scan(scan, national)
-    fields = (pack.code, pack.serial, pack.batch, pack.expiry) if word == "UPLOAD" else (pack.code, pack.serial)
-    return " ".join((user, word, *fields))
+    condition = () if word == "UPLOAD" else ("IF",)
+    return " ".join((user, word, pack.code, pack.serial, *condition, pack.batch, pack.expiry))
 
 
 def read_scan(scan, national=None):

@@ -83,7 +83,9 @@ pub fn ask<'a, J: Naming, H: Histories, R: Wait + Abort>(
 ) {
     let put = status(rt, digits);
     for _ in 0..times {
-        clerk.ask(rt, repository, &put, &None).expect(rt, "an answer");
+        clerk
+            .ask(rt, repository, &put, &None)
+            .expect(rt, "an answer");
     }
 }
 
