@@ -153,8 +153,8 @@ impl Visit for AskByLog<'_> {
     ) -> usize {
         let clerk = opened.clerks.pop().expect(rt, "a clerk");
         let alloc = *clerk.allocator();
-        let metrics = Metrics::new(*alloc, 1, 1, true).expect(rt, "memory");
-        let alerts = Alerts::new(*alloc, true);
+        let metrics = Metrics::new(alloc, 1, 1, true).expect(rt, "memory");
+        let alerts = Alerts::new(alloc, true);
         let file = FakeFile {
             calls: self.calls,
             fails_at: self.fails_at,
