@@ -113,10 +113,10 @@ fn in_directory<T: Trial, J: Naming + Send + Sync, R: Threads + Wait + Clock + A
     output
 }
 
-fn in_shards<T: Trial, J: Naming + Send + Sync, R: Threads + Wait + Clock + Abort + Sync>(
+fn in_shards<'a, T: Trial, J: Naming + Send + Sync, R: Threads + Wait + Clock + Abort + Sync>(
     rt: &R,
     trial: &T,
-    windows: &mut Vec<Window<J, &Global>, &Global>,
+    windows: &mut Vec<Window<J, &'a Global>, &'a Global>,
 ) -> T::Output
     requires { vec_len windows.old ≤ MOST_CLERKS }
 {
