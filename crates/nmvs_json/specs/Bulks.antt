@@ -1,5 +1,5 @@
 -- The lines that a bulk of questions means (own).
-use Rattle.std.specs.Prelude.{ℕ, ◌&&◌, not, List, [], ◌∷◌, ◌++◌, length, map, nat_le, nat_lt, codes, Option, Some, None, option_and_then, option_map, ◌==◌, Result, Ok, Err, if◌then◌else◌}
+use Rattle.std.specs.Prelude.{ℕ, ◌&&◌, List, [], ◌∷◌, ◌++◌, length, map, nat_le, nat_lt, codes, Option, Some, None, option_and_then, option_map, ◌==◌, Result, Ok, Err, if◌then◌else◌}
 use Rattle.json.specs.Find.{as_str, get}
 use Rattle.json.specs.Json as json
 use Rattle.json.specs.Json.{Json, Items}

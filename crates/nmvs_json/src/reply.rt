@@ -168,7 +168,10 @@ pub fn bulk_body<A: Allocator>(
 ) -> Result<Vec<u8, A>, AllocError>
     ensures { IfOk result (λ body. body.items ≡ specs.bulk_text scanned.now text.now) }
 {
-    let room = scanned.len().saturating_mul(ROOM).saturating_add(text.len());
+    let room = scanned
+        .len()
+        .saturating_mul(ROOM)
+        .saturating_add(text.len());
     let mut body = Vec::with_capacity(alloc, room)?;
     body.extend_from_slice(b"{\"replies\":[")?;
     push_answers(&mut body, scanned, text)?;

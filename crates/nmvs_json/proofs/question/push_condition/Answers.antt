@@ -1,4 +1,4 @@
-use Rattle.std.proofs.Common.{rules, ◌≡◌, true, codes, string_bytes, sym}
+use Rattle.std.proofs.Common.{rules, ◌≡◌, true, codes, string_bytes}
 use Rattle.json.specs.Value.{value_view}
 use Rattle.nmvs_json.specs.Questions.{condition_texts, has_condition, is_matching, printed_texts, string_of}
 use Rattle.nmvs_json.proofs.Bodies.{if_put}

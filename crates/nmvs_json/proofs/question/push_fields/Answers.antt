@@ -1,4 +1,4 @@
-use Rattle.std.proofs.Common.{rules, ◌≡◌, ◌+◌, ◌==◌, ◌∙◌, ◌++◌, ℕ, List, Some, true, codes, string_bytes, ap, arith, eq-eqb}
+use Rattle.std.proofs.Common.{rules, ◌≡◌, ◌+◌, ◌==◌, ◌∙◌, ◌++◌, ℕ, List, Some, codes, string_bytes, ap, arith, eq-eqb}
 use Rattle.json.specs.Value.{value_view}
 use Rattle.nmvs_json.specs.Questions.{count_of, fields_of, subject_count, subject_of, user_of, word_of}
 use Rattle.nmvs_json.proofs.Bodies.{line_counted}

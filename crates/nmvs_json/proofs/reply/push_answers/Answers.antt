@@ -1,4 +1,4 @@
-use Rattle.std.proofs.Common.{rules, ◌≡◌, ◌∙◌, ◌++◌, ◌∷◌, [], List, ℕ, ap, sym}
+use Rattle.std.proofs.Common.{rules, ◌≡◌, ◌∙◌, ◌++◌, ◌∷◌, [], List, ℕ, ap}
 use Rattle.std.proofs.lemmas.List.{nil_from_length}
 use Rattle.nmvs_stream.specs.InputLines.{input_lines}
 use Rattle.nmvs_json.specs.Replies.{body_where, first_line, first_word, places_of}

@@ -1,4 +1,4 @@
-use Rattle.std.proofs.Common.{◌≡◌, ◌∙◌, ◌++◌, List, ℕ, ap}
+use Rattle.std.proofs.Common.{◌∙◌, ◌++◌, List, ℕ, ap}
 use Rattle.nmvs_json.specs.Replies.{comparison, comparison_member, first_word}
 use Rattle.nmvs_json.proofs.ReplyLemmas.{five_put}
 use Rattle.nmvs_json.proofs.reply.push_comparison.Goals as goal
