@@ -1,7 +1,7 @@
 -- A bulk of questions is their lines, and its response the bodies of their answers.
 use Rattle.std.proofs.Common.{◌≡◌, ℕ, Bool, true, false, List, [], ◌∷◌, ◌++◌, drop, map, Option, Some, None, Result, Ok, Err, codes, cond, refl, sym, ap, ◌∙◌, subst, append_assoc}
 use Rattle.std.specs.Prelude.{IsSomeAnd, option_and_then}
-use Rattle.std.specs.List.{AllByRecursion, flat_map}
+use Rattle.std.specs.List.{AllByRecursion}
 use Rattle.json.specs.Json.{Json}
 use Rattle.nmvs_rules.specs.declared.printed.Printed.{Printed}
 use Rattle.nmvs_words.specs.Words.{spaced}
@@ -16,7 +16,7 @@ use Rattle.nmvs_json.specs.declared.question_fault.QuestionFault.TheVariants as 
 use Rattle.nmvs_json.specs.Bulks.{bulk_lines, item_fields, item_key, item_kind, item_line, item_line_with, item_lines, item_scanned, items_in, line_and, lines_of_items, lines_of_object, others_of}
 use Rattle.nmvs_json.specs.Questions.{fields_of, is_key, key_text, line_of, object_in, with_scanned}
 use Rattle.nmvs_json.specs.Replies.{bodies, body_text, body_where, bulk_text, first_line, first_word, places_of, separated}
-use Rattle.nmvs_http.specs.BulkLaws.{AreLinesOf, IsAnsweredByBodies, IsAskedByLines, IsLineOf, IsLineText}
+use Rattle.nmvs_http.specs.BulkLaws.{AreLinesOf, IsAnsweredByBodies, IsAskedByLines, IsLineText}
 use Rattle.nmvs_http.proofs.OneLineLemmas.{AreFields, IsLine, are_fields, is_line}
 
 -- a line and LF before more bytes
