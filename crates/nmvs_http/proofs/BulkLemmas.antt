@@ -1,8 +1,9 @@
 -- A bulk of questions is their lines, and its response the bodies of their answers.
-use Rattle.std.proofs.Common.{◌≡◌, ◌+◌, ℕ, zero, suc, Bool, true, false, List, [], ◌∷◌, ◌++◌, length, drop, map, Option, Some, None, Result, Ok, Err, codes, cond, refl, sym, ap, ◌∙◌, subst, arith, append_assoc}
+use Rattle.std.proofs.Common.{◌≡◌, ℕ, Bool, true, false, List, [], ◌∷◌, ◌++◌, drop, map, Option, Some, None, Result, Ok, Err, codes, cond, refl, sym, ap, ◌∙◌, subst, append_assoc}
 use Rattle.std.specs.Prelude.{IsSomeAnd, option_and_then}
-use Rattle.std.specs.List.{AllByRecursion, flat_map}
+use Rattle.std.specs.List.{AllByRecursion}
 use Rattle.json.specs.Json.{Json}
+use Rattle.nmvs_rules.specs.declared.printed.Printed.{Printed}
 use Rattle.nmvs_words.specs.Words.{spaced}
 use Rattle.nmvs_stream.specs.InputLines.{HasNoLf, input_lines, lines_after}
 use Rattle.nmvs_stream.proofs.LinesOfPieces.{line_cut}
@@ -12,10 +13,10 @@ use Rattle.nmvs_protocol.specs.Texts.{text}
 use Rattle.nmvs_json.specs.declared.asked_kind.AskedKind.{AskedKind}
 use Rattle.nmvs_json.specs.declared.question_fault.QuestionFault.{QuestionFault}
 use Rattle.nmvs_json.specs.declared.question_fault.QuestionFault.TheVariants as fault
-use Rattle.nmvs_json.specs.Bulks.{bulk_lines, counted, item_fields, item_key, item_kind, item_line, item_line_with, item_lines, items_in, line_and, lines_of_items, lines_of_object, others_of}
-use Rattle.nmvs_json.specs.Questions.{fields_of, is_key, key_text, line_of, object_in}
+use Rattle.nmvs_json.specs.Bulks.{bulk_lines, item_fields, item_key, item_kind, item_line, item_line_with, item_lines, item_scanned, items_in, line_and, lines_of_items, lines_of_object, others_of}
+use Rattle.nmvs_json.specs.Questions.{fields_of, is_key, key_text, line_of, object_in, with_scanned}
 use Rattle.nmvs_json.specs.Replies.{bodies, body_text, body_where, bulk_text, first_line, first_word, places_of, separated}
-use Rattle.nmvs_http.specs.BulkLaws.{AreLinesOf, IsAnsweredByBodies, IsAskedByLines, IsLineOf, IsLineText, unanswered}
+use Rattle.nmvs_http.specs.BulkLaws.{AreLinesOf, IsAnsweredByBodies, IsAskedByLines, IsLineText}
 use Rattle.nmvs_http.proofs.OneLineLemmas.{AreFields, IsLine, are_fields, is_line}
 
 -- a line and LF before more bytes
@@ -78,42 +79,46 @@ pub asked_by_lines : IsAskedByLines
 unfolding bulk_lines
 asked_by_lines body bulk e = by (object_in body) e
   where
-    told : (js : List Json) (r : Result (List ℕ) QuestionFault) → item_lines js ≡ r → counted (length js) r ≡ Ok bulk → (length js ≡ bulk.0) × AreLinesOf js (input_lines bulk.1)
+    told : (js : List Json) (r : Result (List ℕ) QuestionFault) → item_lines js ≡ r → with_scanned (map item_scanned js) r ≡ Ok bulk → (bulk.0 ≡ map item_scanned js) × AreLinesOf js (input_lines bulk.1)
     told js (Err f) p e = absurd (cc e)
     told js (Ok lines) p e =
-        let same : (length js, lines) ≡ bulk = cc e in
-        (ap (λ (b : ℕ × List ℕ). b.0) same, subst (λ (b : ℕ × List ℕ). AreLinesOf js (input_lines b.1)) same (lines_are js lines p))
+        let same : (map item_scanned js, lines) ≡ bulk = cc e in
+        (sym (ap (λ (b : List (Option Printed) × List ℕ). b.0) same), subst (λ (b : List (Option Printed) × List ℕ). AreLinesOf js (input_lines b.1)) same (lines_are js lines p))
 
-    on : (o : Option (List Json)) → lines_of_items o ≡ Ok bulk → IsSomeAnd o (λ items. (length items ≡ bulk.0) × AreLinesOf items (input_lines bulk.1))
+    on : (o : Option (List Json)) → lines_of_items o ≡ Ok bulk → IsSomeAnd o (λ items. (bulk.0 ≡ map item_scanned items) × AreLinesOf items (input_lines bulk.1))
     on None e = absurd (cc e)
     on (Some js) e = told js (item_lines js) refl e
 
-    by : (o : Option Json) → lines_of_object o ≡ Ok bulk → IsSomeAnd (option_and_then items_in o) (λ items. (length items ≡ bulk.0) × AreLinesOf items (input_lines bulk.1))
+    by : (o : Option Json) → lines_of_object o ≡ Ok bulk → IsSomeAnd (option_and_then items_in o) (λ items. (bulk.0 ≡ map item_scanned items) × AreLinesOf items (input_lines bulk.1))
     by None e = absurd (cc e)
     by (Some j) e = on (items_in j) e
 
 -- the bodies of no answers
-none_answered : (n : ℕ) → bodies n (input_lines []) ≡ unanswered n
+none_answered : (missing : List (Option Printed)) → bodies missing (input_lines []) ≡ map (λ scanned. body_text scanned []) missing
 unfolding bodies body_text lines_after
-none_answered zero = refl
-none_answered (suc n) = ap (λ (later : List (List ℕ)). body_text [] ∷ later) (none_answered n)
+none_answered [] = refl
+none_answered (scanned ∷ missing) = ap (λ (later : List (List ℕ)). body_text scanned [] ∷ later) (none_answered missing)
 
 -- the body of an answer of one line, before more bodies
-one_answered : (n : ℕ) (bytes rest : List ℕ) → (x : IsLineText bytes) → bodies (suc n) (input_lines (bytes ++ rest)) ≡ body_text bytes ∷ bodies n (input_lines rest)
+one_answered : (scanned : Option Printed) (others : List (Option Printed)) (bytes rest : List ℕ) → (x : IsLineText bytes) → bodies (scanned ∷ others) (input_lines (bytes ++ rest)) ≡ body_text scanned bytes ∷ bodies others (input_lines rest)
 unfolding bodies body_text lines_after
-one_answered n bytes rest x =
+one_answered scanned others bytes rest x =
     let cut = one_more bytes x.line rest x.whole x refl in
     let own : input_lines bytes ≡ x.line ∷ [] = line_cut [] x.line [] x.whole x.no_lf in
-    ap (λ (ls : List (List ℕ)). bodies (suc n) ls) cut
-    ∙ ap (λ (b : List ℕ). b ∷ bodies n (input_lines rest)) (sym (ap (λ (ls : List (List ℕ)). body_where (places_of (first_word (first_line ls))) (first_line ls) (drop 1 ls)) own))
+    ap (λ (ls : List (List ℕ)). bodies (scanned ∷ others) ls) cut
+    ∙ ap (λ (b : List ℕ). b ∷ bodies others (input_lines rest)) (sym (ap (λ (ls : List (List ℕ)). body_where (places_of (first_word (first_line ls))) scanned (first_line ls) (drop 1 ls)) own))
 
-answered : (said : List Answer) (missing : ℕ) → AllByRecursion (λ answer. IsLineText (text answer)) said
-    → bodies (length said + missing) (input_lines (session_text said)) ≡ map (λ answer. body_text (text answer)) said ++ unanswered missing
-answered [] missing lines = let none : 0 + missing ≡ missing = omega arith in ap (λ (n : ℕ). bodies n (input_lines [])) none ∙ none_answered missing
+-- an answer, after the scanned values of its question
+abbrev Scanned : Type 0
+Scanned = Option Printed × Answer
+
+answered : (said : List Scanned) (missing : List (Option Printed)) → AllByRecursion (λ (a : Scanned). IsLineText (text a.1)) said
+    → bodies (map (λ (a : Scanned). a.0) said ++ missing) (input_lines (session_text (map (λ (a : Scanned). a.1) said)))
+    ≡ map (λ (a : Scanned). body_text a.0 (text a.1)) said ++ map (λ scanned. body_text scanned []) missing
+answered [] missing lines = none_answered missing
 answered (a ∷ said) missing lines =
-    let more : length (a ∷ said) + missing ≡ suc (length said + missing) = omega arith in
-    ap (λ (n : ℕ). bodies n (input_lines (session_text (a ∷ said)))) more
-    ∙ one_answered (length said + missing) (text a) (session_text said) lines.0 ∙ ap (λ (later : List (List ℕ)). body_text (text a) ∷ later) (answered said missing lines.1)
+    one_answered a.0 (map (λ (b : Scanned). b.0) said ++ missing) (text a.1) (session_text (map (λ (b : Scanned). b.1) said)) lines.0
+    ∙ ap (λ (later : List (List ℕ)). body_text a.0 (text a.1) ∷ later) (answered said missing lines.1)
 
 pub answered_by_bodies : IsAnsweredByBodies
 unfolding bulk_text

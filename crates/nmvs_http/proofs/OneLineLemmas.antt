@@ -13,6 +13,7 @@ use Rattle.json.specs.Json.{Json}
 use Rattle.nmvs_identifier.specs.Batch.{is_batch}
 use Rattle.nmvs_identifier.specs.Expiry.{is_expiry}
 use Rattle.nmvs_identifier.proofs.PlainTexts.{is_plain, all_weaker, plain_batch, plain_expiry, plain_name}
+use Rattle.nmvs_rules.specs.declared.printed.Printed.{Printed}
 use Rattle.nmvs_words.specs.Kinds.{kind_word}
 use Rattle.nmvs_words.specs.Words.{followed, spaced}
 use Rattle.nmvs_words.proofs.PlainWords.{word_plain}
@@ -25,7 +26,7 @@ use Rattle.nmvs_json.specs.declared.asked_kind.AskedKind.{AskedKind}
 use Rattle.nmvs_json.specs.declared.asked_kind.AskedKind.TheVariants.{Question, Report}
 use Rattle.nmvs_json.specs.declared.question_fault.QuestionFault.{QuestionFault}
 use Rattle.nmvs_json.specs.declared.question_fault.QuestionFault.TheVariants as fault
-use Rattle.nmvs_json.specs.Questions.{as_field, as_user, condition_texts, count_of, fields_of, has_condition, has_scan, is_field, is_key, is_matching, key_text, line_of, line_of_object, name_texts, names_of, object_in, pack_texts, printed_in, printed_texts, question_line, scan_printed, string_of, subject_count, subject_of, text_of, texts_of, user_of, within, word_of}
+use Rattle.nmvs_json.specs.Questions.{as_field, as_user, condition_texts, count_of, fields_of, has_condition, has_scan, has_scanned, is_field, is_key, is_matching, key_text, line_of, line_of_object, name_texts, names_of, object_in, pack_texts, printed_in, printed_of, printed_texts, question_line, scan_printed, scan_values, scanned_in, scanned_of, string_of, subject_count, subject_of, text_of, texts_of, user_of, with_scanned, within, word_of}
 use Rattle.nmvs_json.specs.Scans.{pack_in}
 use Rattle.nmvs_json.proofs.ScanLemmas.{printed_plain, texts_plain}
 use Rattle.nmvs_http.specs.OneLine.{IsAskedByOneLine, IsOneLine, fields_behind, key_tag}
@@ -131,49 +132,66 @@ within_back grammar (Some s) t e = by (grammar s) refl e
     by false p e = absurd (cc e)
     by true p e = subst (λ (u : List ℕ). grammar u ≡ true) (same_Some s t e) p
 
-in_graphic : (j : Json) (ts : List (List ℕ)) → printed_in j ≡ Some ts → AllByRecursion IsGraphic ts
+in_graphic : (j : Json) (printed : Printed) → printed_in j ≡ Some printed → AllByRecursion IsGraphic (printed_texts (Some printed))
 unfolding printed_in
-in_graphic j ts e = by (count_of j == 2) (within is_batch (string_of (codes "batch") j)) refl (within is_expiry (string_of (codes "expiry") j)) refl e
+in_graphic j printed e = by (count_of j == 2) (within is_batch (string_of (codes "batch") j)) refl (within is_expiry (string_of (codes "expiry") j)) refl e
   where
     by : (t : Bool) (o : Option (List ℕ)) → within is_batch (string_of (codes "batch") j) ≡ o → (r : Option (List ℕ)) → within is_expiry (string_of (codes "expiry") j) ≡ r
-        → cond t (option_and_then (λ batch. option_map (λ expiry. batch ∷ expiry ∷ []) r) o) None ≡ Some ts → AllByRecursion IsGraphic ts
+        → cond t (option_and_then (λ batch. option_map (λ expiry. printed_of batch expiry) r) o) None ≡ Some printed → AllByRecursion IsGraphic (printed_texts (Some printed))
     by false o p r q e = absurd (cc e)
     by true None p r q e = absurd (cc e)
     by true (Some batch) p None q e = absurd (cc e)
     by true (Some batch) p (Some expiry) q e =
-        subst (λ (us : List (List ℕ)). AllByRecursion IsGraphic us) (same_Some (batch ∷ expiry ∷ []) ts e)
+        subst (λ (v : Printed). AllByRecursion IsGraphic (printed_texts (Some v))) (same_Some (printed_of batch expiry) printed e)
         (plain-graphic batch (plain_batch batch (within_back is_batch (string_of (codes "batch") j) batch p)).2, (plain-graphic expiry (plain_expiry expiry (within_back is_expiry (string_of (codes "expiry") j) expiry q)).2, tt))
 
-printed_graphic : (kind : AskedKind) (j : Json) (ts : List (List ℕ)) → printed_texts kind j ≡ Some ts → AllByRecursion IsGraphic ts
-unfolding printed_texts
-printed_graphic kind j ts e = by (has_scan kind j) (string_of (codes "scan") j) (get (codes "scanned") j) e
+printed_graphic : (kind : AskedKind) (j : Json) (scanned : Option Printed) → scanned_of kind j ≡ Some scanned → AllByRecursion IsGraphic (printed_texts scanned)
+unfolding scanned_of
+printed_graphic kind j scanned e = by (has_scanned kind j) (get (codes "scanned") j) e
   where
-    by : (b : Bool) (o : Option (List ℕ)) (r : Option Json) → cond b (option_map (λ scan. scan_printed (pack_in scan)) o) (option_and_then printed_in r) ≡ Some ts → AllByRecursion IsGraphic ts
-    by true None r e = absurd (cc e)
-    by true (Some scan) r e = subst (λ (us : List (List ℕ)). AllByRecursion IsGraphic us) (same_Some (scan_printed (pack_in scan)) ts e) (all_graphic (scan_printed (pack_in scan)) (printed_plain scan))
-    by false o None e = absurd (cc e)
-    by false o (Some v) e = in_graphic v ts e
+    its : (v : Json) (o : Option Printed) → printed_in v ≡ o → option_map Some o ≡ Some scanned → AllByRecursion IsGraphic (printed_texts scanned)
+    its v None p e = absurd (cc e)
+    its v (Some printed) p e = subst (λ (s : Option Printed). AllByRecursion IsGraphic (printed_texts s)) (same_Some (Some printed) scanned e) (in_graphic v printed p)
 
-condition_graphic : (kind : AskedKind) (j : Json) (ts : List (List ℕ)) → condition_texts kind j ≡ Some ts → AllByRecursion IsGraphic ts
+    none : None ≡ scanned → AllByRecursion IsGraphic (printed_texts scanned)
+    none same = subst (λ (s : Option Printed). AllByRecursion IsGraphic (printed_texts s)) same (refl, (refl, tt))
+
+    on : (b : Bool) (o : Option (List ℕ)) → Some (cond b (option_and_then (λ scan. scan_printed (pack_in scan)) o) None) ≡ Some scanned → AllByRecursion IsGraphic (printed_texts scanned)
+    on false o e = none (same_Some None scanned e)
+    on true None e = none (same_Some None scanned e)
+    on true (Some scan) e =
+        subst (λ (s : Option Printed). AllByRecursion IsGraphic (printed_texts s)) (same_Some (scan_printed (pack_in scan)) scanned e) (all_graphic (printed_texts (scan_printed (pack_in scan))) (printed_plain scan))
+
+    by : (b : Bool) (r : Option Json) → cond b (option_map Some (option_and_then printed_in r)) (Some (scan_values kind j)) ≡ Some scanned → AllByRecursion IsGraphic (printed_texts scanned)
+    by true None e = absurd (cc e)
+    by true (Some v) e = its v (printed_in v) refl e
+    by false r e = on (has_scan kind j) (string_of (codes "scan") j) e
+
+condition_graphic : (kind : AskedKind) (j : Json) (scanned : Option Printed) (ts : List (List ℕ)) → AllByRecursion IsGraphic (printed_texts scanned) → condition_texts kind j scanned ≡ Some ts → AllByRecursion IsGraphic ts
 unfolding condition_texts
-condition_graphic kind j ts e = by (is_matching (string_of (codes "if_scanned") j)) (printed_texts kind j) refl e
+condition_graphic kind j scanned ts printed e = by (has_condition kind j) (is_matching (string_of (codes "if_scanned") j)) e
   where
-    by : (b : Bool) (o : Option (List (List ℕ))) → printed_texts kind j ≡ o → cond b (option_map (λ printed. codes "IF" ∷ printed) o) None ≡ Some ts → AllByRecursion IsGraphic ts
-    by false o p e = absurd (cc e)
-    by true None p e = absurd (cc e)
-    by true (Some printed) p e = subst (λ (us : List (List ℕ)). AllByRecursion IsGraphic us) (same_Some (codes "IF" ∷ printed) ts e) (refl, printed_graphic kind j printed p)
+    by : (has matching : Bool) → cond has (cond matching (Some (codes "IF" ∷ printed_texts scanned)) None) (Some []) ≡ Some ts → AllByRecursion IsGraphic ts
+    by false matching e = subst (λ (us : List (List ℕ)). AllByRecursion IsGraphic us) (same_Some [] ts e) tt
+    by true false e = absurd (cc e)
+    by true true e = subst (λ (us : List (List ℕ)). AllByRecursion IsGraphic us) (same_Some (codes "IF" ∷ printed_texts scanned) ts e) (refl, printed)
 
 subject_graphic : (kind : AskedKind) (j : Json) (ts : List (List ℕ)) → subject_of kind j ≡ Some ts → AllByRecursion IsGraphic ts
 unfolding subject_of
-subject_graphic kind j ts e = by (has_condition kind j) (name_texts kind j) refl (condition_texts kind j) refl e
+subject_graphic kind j ts e = by (name_texts kind j) refl (scanned_of kind j) refl e
   where
-    by : (b : Bool) (o : Option (List (List ℕ))) → name_texts kind j ≡ o → (r : Option (List (List ℕ))) → condition_texts kind j ≡ r
-        → cond b (option_and_then (λ names. option_map (λ condition. names ++ condition) r) o) o ≡ Some ts → AllByRecursion IsGraphic ts
-    by false o p r q e = names_graphic kind j ts (p ∙ e)
-    by true None p r q e = absurd (cc e)
-    by true (Some names) p None q e = absurd (cc e)
-    by true (Some names) p (Some condition) q e =
-        subst (λ (us : List (List ℕ)). AllByRecursion IsGraphic us) (same_Some (names ++ condition) ts e) (all_both names condition (names_graphic kind j names p) (condition_graphic kind j condition q))
+    on : (names : List (List ℕ)) → name_texts kind j ≡ Some names → (scanned : Option Printed) → scanned_of kind j ≡ Some scanned → (r : Option (List (List ℕ))) → condition_texts kind j scanned ≡ r
+        → option_map (λ condition. names ++ condition) r ≡ Some ts → AllByRecursion IsGraphic ts
+    on names p scanned q None s e = absurd (cc e)
+    on names p scanned q (Some condition) s e =
+        subst (λ (us : List (List ℕ)). AllByRecursion IsGraphic us) (same_Some (names ++ condition) ts e)
+        (all_both names condition (names_graphic kind j names p) (condition_graphic kind j scanned condition (printed_graphic kind j scanned q) s))
+
+    by : (o : Option (List (List ℕ))) → name_texts kind j ≡ o → (r : Option (Option Printed)) → scanned_of kind j ≡ r
+        → option_and_then (λ names. option_and_then (λ scanned. option_map (λ condition. names ++ condition) (condition_texts kind j scanned)) r) o ≡ Some ts → AllByRecursion IsGraphic ts
+    by None p r q e = absurd (cc e)
+    by (Some names) p None q e = absurd (cc e)
+    by (Some names) p (Some scanned) q e = on names p scanned q (condition_texts kind j scanned) refl e
 
 -- the user does not begin with #
 user_back : (o : Option (List ℕ)) (u : List ℕ) → as_user o ≡ Some u → (o ≡ Some u) × (get_or u 0 0 ≢ 35)
@@ -252,20 +270,20 @@ is_line key fields bytes e a is =
 is_one_line : (key : Option (List ℕ)) (fields : List (List ℕ)) (bytes : List ℕ) → IsLine bytes key fields → IsOneLine bytes (key_tag key) fields
 is_one_line key fields bytes l = record { line = l.line; one = ap input_lines l.whole ∙ one_line l.line l.no_lf; tagged = l.tagged; behind = l.behind }
 
-abbrev line_or_none : Result (List ℕ) QuestionFault → List ℕ
-line_or_none (Ok line) = line
+abbrev line_or_none : Result (Option Printed × List ℕ) QuestionFault → List ℕ
+line_or_none (Ok question) = question.1
 line_or_none (Err f) = []
 
 pub asked_by_one_line : IsAskedByOneLine
 unfolding question_line
-asked_by_one_line kind key body bytes e = by (is_key key) refl (object_in body) e
+asked_by_one_line kind key body question e = by (is_key key) refl (object_in body) e
   where
-    on : (j : Json) (r : Option (List (List ℕ))) → fields_of 1 kind j ≡ r → is_key key ≡ true → line_of key r ≡ Ok bytes → IsSomeAnd r (λ fields. IsOneLine bytes (key_tag key) fields)
+    on : (j : Json) (r : Option (List (List ℕ))) → fields_of 1 kind j ≡ r → is_key key ≡ true → with_scanned (scanned_in kind j) (line_of key r) ≡ Ok question → IsSomeAnd r (λ fields. IsOneLine question.1 (key_tag key) fields)
     on j None p k e = absurd (cc e)
-    on j (Some fields) p k e = is_one_line key fields bytes (is_line key fields bytes k (are_fields 1 kind j fields p) (ap line_or_none e))
+    on j (Some fields) p k e = is_one_line key fields question.1 (is_line key fields question.1 k (are_fields 1 kind j fields p) (ap line_or_none e))
 
-    by : (b : Bool) → is_key key ≡ b → (o : Option Json) → cond b (line_of_object kind key o) (Err fault.Key) ≡ Ok bytes
-        → IsSomeAnd o (λ object. IsSomeAnd (fields_of 1 kind object) (λ fields. IsOneLine bytes (key_tag key) fields))
+    by : (b : Bool) → is_key key ≡ b → (o : Option Json) → cond b (line_of_object kind key o) (Err fault.Key) ≡ Ok question
+        → IsSomeAnd o (λ object. IsSomeAnd (fields_of 1 kind object) (λ fields. IsOneLine question.1 (key_tag key) fields))
     by false k o e = absurd (cc e)
     by true k None e = absurd (cc e)
     by true k (Some j) e = on j (fields_of 1 kind j) refl k e

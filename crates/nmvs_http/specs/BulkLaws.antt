@@ -1,13 +1,14 @@
 -- A bulk of questions is their lines, and the response has the bodies of the answers to them (own).
-use Rattle.std.specs.Prelude.{◌≡◌, ◌+◌, ℕ, zero, suc, List, [], ◌∷◌, ◌++◌, length, map, codes, Option, Some, Ok, IsSomeAnd, option_and_then}
+use Rattle.std.specs.Prelude.{◌≡◌, ℕ, List, [], ◌∷◌, ◌++◌, map, codes, Option, Some, Ok, IsSomeAnd, option_and_then}
 use Rattle.std.specs.List.{AllByRecursion}
 use Rattle.json.specs.Json.{Json}
 use Rattle.nmvs_stream.specs.InputLines.{HasNoLf, input_lines}
+use Rattle.nmvs_rules.specs.declared.printed.Printed.{Printed}
 use Rattle.nmvs_messages.specs.declared.answer.Answer.{Answer}
 use Rattle.nmvs_protocol.specs.Session.{session_text}
 use Rattle.nmvs_protocol.specs.Tags.{tag_of}
 use Rattle.nmvs_protocol.specs.Texts.{text}
-use Rattle.nmvs_json.specs.Bulks.{bulk_lines, item_fields, item_key, items_in, others_of}
+use Rattle.nmvs_json.specs.Bulks.{bulk_lines, item_fields, item_key, item_scanned, items_in, others_of}
 use Rattle.nmvs_json.specs.Questions.{object_in}
 use Rattle.nmvs_json.specs.Replies.{body_text, bulk_text, separated}
 use Rattle.nmvs_http.specs.OneLine.{fields_behind, key_tag}
@@ -27,11 +28,11 @@ AreLinesOf [] [] = Unit {0}
 AreLinesOf (item ∷ items) (line ∷ lines) = IsLineOf item line × AreLinesOf items lines
 AreLinesOf _ _ = ⊥
 
--- a bulk asks the lines of its items, as many as they are
+-- a bulk asks the lines of its items, each with its scanned values
 abbrev pub IsAskedByLines : Type 0
 IsAskedByLines =
-    (body : List ℕ) (bulk : ℕ × List ℕ) → bulk_lines body ≡ Ok bulk
-    → IsSomeAnd (option_and_then items_in (object_in body)) (λ items. (length items ≡ bulk.0) × AreLinesOf items (input_lines bulk.1))
+    (body : List ℕ) (bulk : List (Option Printed) × List ℕ) → bulk_lines body ≡ Ok bulk
+    → IsSomeAnd (option_and_then items_in (object_in body)) (λ items. (bulk.0 ≡ map item_scanned items) × AreLinesOf items (input_lines bulk.1))
 
 -- the text of an answer is one line, as of each that is no list
 pub record IsLineText (t : List ℕ) : Type 0 where
@@ -39,15 +40,10 @@ pub record IsLineText (t : List ℕ) : Type 0 where
   pub no_lf : HasNoLf line
   pub whole : t ≡ line ++ 10 ∷ []
 
--- the body of no answer, this number of times
-abbrev pub unanswered : ℕ → List (List ℕ)
-unanswered zero = []
-unanswered (suc n) = body_text [] ∷ unanswered n
-
--- the response to a bulk has the body of each answer, in order, as the response to one question has it, and that of no answer for
--- each question that has none
+-- the response to a bulk has the body of each answer, in order, as the response to one question with these scanned values has it,
+-- and that of no answer for each question that has none
 abbrev pub IsAnsweredByBodies : Type 0
 IsAnsweredByBodies =
-    (said : List Answer) (missing : ℕ) → AllByRecursion (λ answer. IsLineText (text answer)) said
-    → bulk_text (length said + missing) (session_text said)
-    ≡ codes "{\"replies\":[" ++ (separated [] (map (λ answer. body_text (text answer)) said ++ unanswered missing) ++ codes "]}\n")
+    (said : List (Option Printed × Answer)) (missing : List (Option Printed)) → AllByRecursion (λ (a : Option Printed × Answer). IsLineText (text a.1)) said
+    → bulk_text (map (λ (a : Option Printed × Answer). a.0) said ++ missing) (session_text (map (λ (a : Option Printed × Answer). a.1) said))
+    ≡ codes "{\"replies\":[" ++ (separated [] (map (λ (a : Option Printed × Answer). body_text a.0 (text a.1)) said ++ map (λ scanned. body_text scanned []) missing) ++ codes "]}\n")

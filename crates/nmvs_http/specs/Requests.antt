@@ -7,6 +7,7 @@ use Rattle.http.specs.Request.{body_of, head_of}
 use Rattle.http_header.specs.HeaderMap.{get, get_all}
 use Rattle.http_header.specs.Token.{lowercase}
 use Rattle.http_uri.specs.Uri.{uri_path}
+use Rattle.nmvs_rules.specs.declared.printed.Printed.{Printed}
 use Rattle.nmvs_json.specs.declared.asked_kind.AskedKind.{AskedKind}
 use Rattle.nmvs_json.specs.declared.question_fault.QuestionFault.{QuestionFault}
 use Rattle.nmvs_json.specs.declared.question_fault.QuestionFault.TheVariants as questions
@@ -94,18 +95,18 @@ fault_of_question questions.Json = faults.Json
 fault_of_question questions.Fields = faults.Fields
 fault_of_question questions.Memory = faults.Busy
 
--- a request whose key and body mean this line, or have this fault
-abbrev pub reading_of_line : Result (List ℕ) QuestionFault → Reading
-reading_of_line (Ok line) = record { asks = Question; lines = line }
+-- a request whose key and body mean this line with these scanned values, or have this fault
+abbrev pub reading_of_line : Result (Option Printed × List ℕ) QuestionFault → Reading
+reading_of_line (Ok question) = record { asks = Question question.0; lines = question.1 }
 reading_of_line (Err fault) = refused_for (fault_of_question fault)
 
 -- a request with this fault, or whose key and body mean this line or have this fault
-abbrev pub reading_of_question : Option Fault → Result (List ℕ) QuestionFault → Reading
+abbrev pub reading_of_question : Option Fault → Result (Option Printed × List ℕ) QuestionFault → Reading
 reading_of_question None line = reading_of_line line
 reading_of_question (Some fault) line = refused_for fault
 
--- the line that a request means at the path of this question, or the fault; it has one key at most
-abbrev pub line_of : AskedKind → Request (List ℕ) → Result (List ℕ) QuestionFault
+-- the scanned values and the line that a request means at the path of this question, or the fault; it has one key at most
+abbrev pub line_of : AskedKind → Request (List ℕ) → Result (Option Printed × List ℕ) QuestionFault
 line_of kind request =
     if is_repeated request (codes "idempotency-key") then Err questions.Key
     else question_line kind (field_value request (codes "idempotency-key")) (body_of request)
@@ -115,21 +116,21 @@ abbrev pub reading_at : Option AskedKind → Request (List ℕ) → Reading
 reading_at None request = refused_for faults.Path
 reading_at (Some kind) request = reading_of_question (fault_of_post (codes "application/json") request) (line_of kind request)
 
--- a bulk whose body means these lines of this number of questions, or has this fault
-abbrev pub reading_of_items : Result (ℕ × List ℕ) QuestionFault → Reading
+-- a bulk whose body means these lines with these scanned values, or has this fault
+abbrev pub reading_of_items : Result (List (Option Printed) × List ℕ) QuestionFault → Reading
 reading_of_items (Ok bulk) = record { asks = Questions bulk.0; lines = bulk.1 }
 reading_of_items (Err fault) = refused_for (fault_of_question fault)
 
 -- the lines of a bulk, which has no key of its own, or the fault
-abbrev pub keyless : Option (List ℕ) → List ℕ → Result (ℕ × List ℕ) QuestionFault
+abbrev pub keyless : Option (List ℕ) → List ℕ → Result (List (Option Printed) × List ℕ) QuestionFault
 keyless None body = bulk_lines body
 keyless (Some key) body = Err questions.Key
 
-abbrev pub bulk_of : Request (List ℕ) → Result (ℕ × List ℕ) QuestionFault
+abbrev pub bulk_of : Request (List ℕ) → Result (List (Option Printed) × List ℕ) QuestionFault
 bulk_of request = keyless (field_value request (codes "idempotency-key")) (body_of request)
 
 -- a request with this fault, or whose body means these lines or has this fault
-abbrev pub reading_of_bulk : Option Fault → Result (ℕ × List ℕ) QuestionFault → Reading
+abbrev pub reading_of_bulk : Option Fault → Result (List (Option Printed) × List ℕ) QuestionFault → Reading
 reading_of_bulk None bulk = reading_of_items bulk
 reading_of_bulk (Some fault) bulk = refused_for fault
 

@@ -66,24 +66,24 @@ type_where (Some problem) = codes "application/problem+json"
 -- the status of the response: 200 to lines and to a bulk, exactly if they are not refused
 abbrev pub status_of : Asks → List ℕ → List ℕ
 status_of Lines replies = codes "200 OK"
-status_of Question replies = status_where (problem_of replies)
-status_of (Questions count) replies = codes "200 OK"
+status_of (Question scanned) replies = status_where (problem_of replies)
+status_of (Questions scanned) replies = codes "200 OK"
 status_of Health replies = codes "200 OK"
 status_of (Refused fault) replies = status fault
 
 -- the type of its body
 abbrev pub type_of : Asks → List ℕ → List ℕ
 type_of Lines replies = codes "application/vnd.nmvs.lines"
-type_of Question replies = type_where (problem_of replies)
-type_of (Questions count) replies = codes "application/json"
+type_of (Question scanned) replies = type_where (problem_of replies)
+type_of (Questions scanned) replies = codes "application/json"
 type_of Health replies = codes "text/plain; charset=utf-8"
 type_of (Refused fault) replies = codes "application/problem+json"
 
 -- its body: the replies to lines, word for word; the reply to one question, or those to a bulk, as JSON
 abbrev pub body_text : Asks → List ℕ → List ℕ
 body_text Lines replies = replies
-body_text Question replies = json.body_text replies
-body_text (Questions count) replies = json.bulk_text count replies
+body_text (Question scanned) replies = json.body_text scanned replies
+body_text (Questions scanned) replies = json.bulk_text scanned replies
 body_text Health replies = codes "ok\n"
 body_text (Refused fault) replies = problem fault
 

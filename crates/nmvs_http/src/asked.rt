@@ -7,16 +7,18 @@ ghost use Rattle.nmvs_http.specs.Requests as specs;
 use crate::fault::Fault;
 use bytes::Bytes;
 use http::Request;
+use nmvs_json::BulkScanned;
+use nmvs_rules::Printed;
 
 /// The kind of a request.
-#[derive(Clone, Copy, Debug, PartialEq, Eq)]
+#[derive(Drop)]
 pub enum Asks {
     /// Asks for the replies to the lines of its body.
     Lines,
-    /// Asks for the reply to the question in its body of JSON.
-    Question,
-    /// Asks for the replies to this number of questions in its body of JSON.
-    Questions(usize),
+    /// Asks for the reply to the question in its body of JSON, which has these scanned values if it has some.
+    Question(Option<Printed>),
+    /// Asks for the replies to the questions in its body of JSON, each of which has these scanned values if it has some.
+    Questions(BulkScanned),
     /// Asks whether the server lives.
     Health,
     /// Is refused for this fault.

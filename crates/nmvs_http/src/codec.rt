@@ -16,6 +16,7 @@ use crate::write_buffer::WriteBuffer;
 use boxcar::tag::Tag;
 use bytes::Bytes;
 use nmvs_json::{bulk_body, response_of};
+use nmvs_rules::Printed;
 use nmvs_stream::Failed;
 use std::alloc::Global;
 use std::hash::RandomState;
@@ -373,28 +374,31 @@ fn tell_response(
     ensures { Tells told.old.bytes.items told.new.bytes.items (response_text hand.now.asks hand.now.head_alone stays replies.now) (if stays then CodecStage.Open else CodecStage.Closing) result }
 {
     let alone = hand.head_alone;
-    match hand.asks {
+    match &hand.asks {
         Asks::Lines => tell_body(told, front_of_lines(), alone, stays, replies),
-        Asks::Question => tell_reply(alloc, told, alone, stays, replies),
-        Asks::Questions(count) => tell_bulk(alloc, told, count, alone, stays, replies),
+        Asks::Question(scanned) => tell_reply(alloc, told, scanned, alone, stays, replies),
+        Asks::Questions(scanned) => {
+            tell_bulk(alloc, told, scanned.entries(), alone, stays, replies)
+        }
         Asks::Health => tell_body(told, front_of_health(), alone, stays, b"ok\n"),
         Asks::Refused(fault) => {
-            tell_body(told, front_of_fault(fault), alone, stays, problem(fault))
+            tell_body(told, front_of_fault(*fault), alone, stays, problem(*fault))
         }
     }
 }
 
-/// Responds to a question with the answer to it. Returns the next stage of the codec.
+/// Responds to a question with these scanned values with the answer to it. Returns the next stage of the codec.
 fn tell_reply(
     alloc: Global,
     told: &mut WriteBuffer,
+    scanned: &Option<Printed>,
     head_alone: bool,
     stays: bool,
     replies: &[u8],
 ) -> CodecStage
-    ensures { Tells told.old.bytes.items told.new.bytes.items (response_text Asks.Question head_alone stays replies.now) (if stays then CodecStage.Open else CodecStage.Closing) result }
+    ensures { Tells told.old.bytes.items told.new.bytes.items (response_text (Asks.Question scanned.now) head_alone stays replies.now) (if stays then CodecStage.Open else CodecStage.Closing) result }
 {
-    match response_of(alloc, replies) {
+    match response_of(alloc, scanned, replies) {
         Ok((problem, body)) => {
             tell_body(
                 told,
@@ -408,18 +412,18 @@ fn tell_reply(
     }
 }
 
-/// Responds to a bulk of this number of questions with the answers to them. Returns the next stage of the codec.
+/// Responds to a bulk of questions, each with its scanned values, with the answers to them. Returns the next stage of the codec.
 fn tell_bulk(
     alloc: Global,
     told: &mut WriteBuffer,
-    count: usize,
+    scanned: &[Option<Printed>],
     head_alone: bool,
     stays: bool,
     replies: &[u8],
 ) -> CodecStage
-    ensures { Tells told.old.bytes.items told.new.bytes.items (response_text (Asks.Questions count) head_alone stays replies.now) (if stays then CodecStage.Open else CodecStage.Closing) result }
+    ensures { Tells told.old.bytes.items told.new.bytes.items (response_text (Asks.Questions scanned.now) head_alone stays replies.now) (if stays then CodecStage.Open else CodecStage.Closing) result }
 {
-    match bulk_body(alloc, count, replies) {
+    match bulk_body(alloc, scanned, replies) {
         Ok(body) => tell_body(
             told,
             front_of_question(None),

@@ -10,7 +10,7 @@ use crate::fault::Fault;
 use crate::request_lines::whole_lines;
 use bytes::Bytes;
 use http::Request;
-use nmvs_json::{AskedKind, QuestionFault, bulk_lines, question_line};
+use nmvs_json::{AskedKind, BulkLines, QuestionFault, QuestionLine, bulk_lines, question_line};
 use std::alloc::{AllocError, Global};
 
 /// The kind of a request, and the bytes of lines that it carries.
@@ -100,8 +100,8 @@ fn read_body(
     }
     let key = field(request, "idempotency-key");
     match question_line(alloc, kind, key, request.body().as_slice()) {
-        Ok(line) => Ok(Reading {
-            asks: Asks::Question,
+        Ok(QuestionLine { scanned, line }) => Ok(Reading {
+            asks: Asks::Question(scanned),
             lines: bytes_of(line)?,
         }),
         Err(fault) => refused_for(fault),
@@ -126,10 +126,13 @@ fn read_items(alloc: Global, request: &Request<Bytes>) -> Result<Reading, AllocE
         return refused_for(QuestionFault::Key);
     }
     match bulk_lines(alloc, request.body().as_slice()) {
-        Ok(bulk) => Ok(Reading {
-            asks: Asks::Questions(bulk.count),
-            lines: bytes_of(bulk.lines)?,
-        }),
+        Ok(BulkLines { scanned, lines }) => {
+            let lines = bytes_of(lines)?;
+            Ok(Reading {
+                asks: Asks::Questions(scanned),
+                lines,
+            })
+        }
         Err(fault) => refused_for(fault),
     }
 }

@@ -1,6 +1,6 @@
 -- The object of a body, the tag of a key, and a line with one text more.
-use Rattle.std.proofs.Common.{◌≡◌, ◌<◌, ◌++◌, ◌∷◌, [], ℕ, Bool, true, false, List, length, codes, Option, Some, None, Result, Ok, Err, Bor, Vec, cond, refl, sym, ap, ◌∙◌, append_assoc, arith}
-use Rattle.std.specs.Prelude.{OnOk, option_and_then, option_map}
+use Rattle.std.proofs.Common.{◌≡◌, ◌<◌, ◌++◌, ◌∷◌, [], ℕ, Bool, true, false, List, length, codes, Option, Some, None, Bor, Vec, cond, refl, sym, ap, ◌∙◌, append_assoc, arith}
+use Rattle.std.specs.Prelude.{option_and_then, option_map}
 use Rattle.std.proofs.lemmas.Option.{same_Some}
 use Rattle.std.specs.List.{list_all, AllByRecursion}
 use Rattle.std.specs.Str.{IsUtf8, is_utf8}
@@ -16,6 +16,7 @@ use Rattle.json.specs.Value.{value_view, members_view}
 use Rattle.json.specs.declared.value.Value.{Value, Object}
 use Rattle.nmvs_identifier.specs.Tag.{is_tag}
 use Rattle.nmvs_identifier.proofs.PlainTexts.{is_plain, plain_name}
+use Rattle.nmvs_rules.specs.declared.printed.Printed.{Printed}
 use Rattle.nmvs_words.specs.Words.{followed, spaced}
 use Rattle.nmvs_json.specs.Questions.{as_object, count_of, object_in, preceded, value_in}
 
@@ -92,30 +93,30 @@ line_ended line user word mid (Some ts) e =
     ∙ ap (λ (x : List ℕ). x ++ codes "\n") same)
 
 -- texts, and a condition after them
-pub condition_put : {T E : Type 0} (r : Result T E) (line mid new : List ℕ) (names condition : Option (List (List ℕ))) → option_map (λ ts. line ++ preceded ts) names ≡ Some mid → OnOk r (option_map (λ cs. mid ++ preceded cs) condition ≡ Some new)
-    → OnOk r (option_map (λ ts. line ++ preceded ts) (option_and_then (λ ns. option_map (λ cs. ns ++ cs) condition) names) ≡ Some new)
-condition_put (Err f) line mid new names condition e f' = tt
-condition_put (Ok v) line mid new None condition e f = absurd (cc e)
-condition_put (Ok v) line mid new (Some ns) None e f = absurd (cc f)
-condition_put (Ok v) line mid new (Some ns) (Some cs) e f =
+condition_put : (line mid new : List ℕ) (names condition : Option (List (List ℕ))) → option_map (λ ts. line ++ preceded ts) names ≡ Some mid → option_map (λ cs. mid ++ preceded cs) condition ≡ Some new
+    → option_map (λ ts. line ++ preceded ts) (option_and_then (λ ns. option_map (λ cs. ns ++ cs) condition) names) ≡ Some new
+condition_put line mid new None condition e f = absurd (cc e)
+condition_put line mid new (Some ns) None e f = absurd (cc f)
+condition_put line mid new (Some ns) (Some cs) e f =
     ap Some
     (ap (λ (x : List ℕ). line ++ x) (preceded_both ns cs) ∙ sym (append_assoc line (preceded ns) (preceded cs)) ∙ ap (λ (x : List ℕ). x ++ preceded cs) (same_Some (line ++ preceded ns) mid e))
     ∙ f
 
 -- a condition
-pub if_put : {T E : Type 0} (r : Result T E) (matching : Bool) (line mid new : List ℕ) (o : Option (List (List ℕ))) → matching ≡ true → mid ≡ line ++ codes " IF" → OnOk r (option_map (λ ts. mid ++ preceded ts) o ≡ Some new)
-    → OnOk r (option_map (λ ts. line ++ preceded ts) (cond matching (option_map (λ ts. codes "IF" ∷ ts) o) None) ≡ Some new)
-if_put r false line mid new o is front e = absurd (cc is)
-if_put (Err f) true line mid new o is front e = tt
-if_put (Ok v) true line mid new None is front e = absurd (cc e)
-if_put (Ok v) true line mid new (Some ts) is front e =
-    ap Some (sym (append_assoc line (codes " IF") (preceded ts)) ∙ ap (λ (x : List ℕ). x ++ preceded ts) (sym front)) ∙ e
+pub if_put : (has matching : Bool) (line mid new : List ℕ) (ts : List (List ℕ)) → has ≡ true → matching ≡ true → mid ≡ line ++ codes " IF" → new ≡ mid ++ preceded ts
+    → option_map (λ us. line ++ preceded us) (cond has (cond matching (Some (codes "IF" ∷ ts)) None) (Some [])) ≡ Some new
+if_put false matching line mid new ts there is front end = absurd (cc there)
+if_put true false line mid new ts there is front end = absurd (cc is)
+if_put true true line mid new ts there is front end =
+    ap Some (sym (append_assoc line (codes " IF") (preceded ts)) ∙ ap (λ (x : List ℕ). x ++ preceded ts) (sym front) ∙ sym end)
 
--- a condition after the texts before it
-pub with_condition : {T E : Type 0} (r : Result T E) (has : Bool) (line mid new : List ℕ) (names condition : Option (List (List ℕ))) → has ≡ true → option_map (λ ts. line ++ preceded ts) names ≡ Some mid
-    → OnOk r (option_map (λ cs. mid ++ preceded cs) condition ≡ Some new) → OnOk r (option_map (λ ts. line ++ preceded ts) (cond has (option_and_then (λ ns. option_map (λ cs. ns ++ cs) condition) names) names) ≡ Some new)
-with_condition r false line mid new names condition is e f = absurd (cc is)
-with_condition r true line mid new names condition is e f = condition_put r line mid new names condition e f
+-- the texts after the word of a line, by its scanned values
+pub subject_put : (line mid new : List ℕ) (names : Option (List (List ℕ))) (values : Option (Option Printed)) (scanned : Option Printed) (condition : Option Printed → Option (List (List ℕ)))
+    → option_map (λ ts. line ++ preceded ts) names ≡ Some mid → values ≡ Some scanned → option_map (λ cs. mid ++ preceded cs) (condition scanned) ≡ Some new
+    → option_map (λ ts. line ++ preceded ts) (option_and_then (λ ns. option_and_then (λ s. option_map (λ cs. ns ++ cs) (condition s)) values) names) ≡ Some new
+subject_put line mid new names values scanned condition e v f =
+    ap (λ (o : Option (Option Printed)). option_map (λ ts. line ++ preceded ts) (option_and_then (λ ns. option_and_then (λ s. option_map (λ cs. ns ++ cs) (condition s)) o) names)) v
+    ∙ condition_put line mid new names (condition scanned) e f
 
 -- the fields of a line whose members were counted
 pub line_counted : (counted : Bool) (line user word front mid new : List ℕ) (users : Option (List ℕ)) (o : Option (List (List ℕ))) → counted ≡ true → users ≡ Some user → front ≡ ((line ++ user) ++ codes " ") ++ word

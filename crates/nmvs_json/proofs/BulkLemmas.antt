@@ -1,5 +1,5 @@
 -- The lines of items, and the bodies of answers.
-use Rattle.std.proofs.Common.{◌≡◌, ◌+◌, ℕ, zero, suc, Bool, true, cond, List, [], ◌∷◌, ◌++◌, drop, map, Option, Some, None, Result, Ok, Err, Vec, refl, sym, ap, ◌∙◌, append_assoc, arith}
+use Rattle.std.proofs.Common.{◌≡◌, ℕ, Bool, true, cond, List, [], ◌∷◌, ◌++◌, drop, map, Option, Some, None, Result, Ok, Err, Vec, refl, sym, ap, ◌∙◌, append_assoc}
 use Rattle.std.specs.Prelude.{OnOk, option_map}
 use Rattle.std.proofs.lemmas.List.{append-nil}
 use Rattle.std.proofs.lemmas.Option.{same_Some}
@@ -7,6 +7,7 @@ use Rattle.json.proofs.Trees.{view-Array}
 use Rattle.json.specs.Json.{Json}
 use Rattle.json.specs.Value.{items_of, value_view}
 use Rattle.json.specs.declared.value.Value.{Value, Array}
+use Rattle.nmvs_rules.specs.declared.printed.Printed.{Printed}
 use Rattle.nmvs_words.specs.Words.{spaced}
 use Rattle.nmvs_json.specs.declared.question_fault.QuestionFault.{QuestionFault}
 use Rattle.nmvs_json.specs.declared.question_fault.QuestionFault.TheVariants as fault
@@ -54,12 +55,13 @@ pub array_values : {A : Type 0} (v : Vec (Value A) A) → as_values (value_view 
 array_values v = ap as_values (view-Array v) ∙ ap Some (values_back (map value_view v.items))
 
 -- one body more, or none
-pub body_more : (n m : ℕ) (lines after : List (List ℕ)) → m + 1 ≡ n → after ≡ drop 1 lines → bodies n lines ≡ body_where (places_of (first_word (first_line lines))) (first_line lines) [] ∷ bodies m after
+pub body_more : (all others : List (Option Printed)) (scanned : Option Printed) (lines after : List (List ℕ)) → all ≡ scanned ∷ others → after ≡ drop 1 lines
+    → bodies all lines ≡ body_where (places_of (first_word (first_line lines))) scanned (first_line lines) [] ∷ bodies others after
 unfolding bodies
-body_more zero m lines after some is = absurd (omega (arith, some))
-body_more (suc k) m lines after some is =
-    let same : k ≡ m = omega (arith, some) in λ i. body_where (places_of (first_word (first_line lines))) (first_line lines) [] ∷ bodies (same i) (sym is i)
+body_more all others scanned lines after some is =
+    ap (λ (ss : List (Option Printed)). bodies ss lines) some
+    ∙ ap (λ (ls : List (List ℕ)). body_where (places_of (first_word (first_line lines))) scanned (first_line lines) [] ∷ bodies others ls) (sym is)
 
-pub no_bodies : (n : ℕ) (lines : List (List ℕ)) → n ≡ 0 → bodies n lines ≡ []
+pub no_bodies : (all : List (Option Printed)) (lines : List (List ℕ)) → all ≡ [] → bodies all lines ≡ []
 unfolding bodies
-no_bodies n lines none = ap (λ (m : ℕ). bodies m lines) none
+no_bodies all lines none = ap (λ (ss : List (Option Printed)). bodies ss lines) none

@@ -84,6 +84,13 @@ find_view view p q same (r ∷ rs) =
     ]
 
 -- three texts, one after the other
+pub five_put : {T E : Type 0} (r : Result T E) (old a b c d new x y z v w : List ℕ) → a ≡ old ++ x → b ≡ a ++ y → c ≡ b ++ z → d ≡ c ++ v → new ≡ cond (is_ok r) (d ++ w) d
+    → OnOk r (new ≡ old ++ (x ++ (y ++ (z ++ (v ++ w)))))
+five_put (Err e) old a b c d new x y z v w p q s t last = tt
+five_put (Ok u) old a b c d new x y z v w p q s t last =
+    last ∙ ap (λ (l : List ℕ). l ++ w) (t ∙ ap (λ (l : List ℕ). l ++ v) (s ∙ ap (λ (l : List ℕ). l ++ z) (q ∙ ap (λ (l : List ℕ). l ++ y) p)))
+    ∙ append_assoc (((old ++ x) ++ y) ++ z) v w ∙ append_assoc ((old ++ x) ++ y) z (v ++ w) ∙ append_assoc (old ++ x) y (z ++ (v ++ w)) ∙ append_assoc old x (y ++ (z ++ (v ++ w)))
+
 pub three_put : {T E : Type 0} (r : Result T E) (old mid later new a b d : List ℕ) → mid ≡ old ++ a → later ≡ mid ++ b → new ≡ cond (is_ok r) (later ++ d) later → OnOk r (new ≡ old ++ (a ++ (b ++ d)))
 three_put (Ok t) old mid later new a b d first next last =
     last ∙ ap (λ (t : List ℕ). t ++ d) (next ∙ ap (λ (t : List ℕ). t ++ b) first) ∙ append_assoc (old ++ a) b d ∙ append_assoc old a (b ++ d)

@@ -22,7 +22,7 @@ use Rattle.nmvs_elements.proofs.Packs.{opened_read, scan_read}
 use Rattle.nmvs_elements.proofs.Printed.{reads_opened}
 use Rattle.nmvs_elements.proofs.Runs.{no_value, value_before}
 use Rattle.nmvs_elements.proofs.ValueFacts.{reads_pack}
-use Rattle.nmvs_json.specs.Questions.{pack_texts, scan_printed}
+use Rattle.nmvs_json.specs.Questions.{pack_texts, printed_texts, scan_printed}
 use Rattle.nmvs_json.specs.Scans.{are_distinct, element_at, element_with, elements_in, elements_step, has_value, identifier_at, pack_behind, pack_in, pack_of, value_end}
 
 -- the bytes before the first separator
@@ -321,10 +321,10 @@ texts_plain scan = by (pack_in scan) refl
         let read = scan_read None scan pack (scan_sound scan pack e) in
         ((plain_code pack.code.bytes read.2.values.is_code).2, ((plain_serial pack.serial.bytes read.2.values.is_serial).2, tt))
 
-pub printed_plain : (scan : List ℕ) → AllByRecursion (λ (t : List ℕ). list_all is_plain t ≡ true) (scan_printed (pack_in scan))
+pub printed_plain : (scan : List ℕ) → AllByRecursion (λ (t : List ℕ). list_all is_plain t ≡ true) (printed_texts (scan_printed (pack_in scan)))
 printed_plain scan = by (pack_in scan) refl
   where
-    by : (o : Option Elements) → pack_in scan ≡ o → AllByRecursion (λ (t : List ℕ). list_all is_plain t ≡ true) (scan_printed o)
+    by : (o : Option Elements) → pack_in scan ≡ o → AllByRecursion (λ (t : List ℕ). list_all is_plain t ≡ true) (printed_texts (scan_printed o))
     by None e = (refl, (refl, tt))
     by (Some pack) e =
         let read = scan_read None scan pack (scan_sound scan pack e) in

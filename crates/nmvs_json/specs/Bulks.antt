@@ -1,12 +1,13 @@
 -- The lines that a bulk of questions means (own).
-use Rattle.std.specs.Prelude.{ℕ, ◌&&◌, not, List, [], ◌∷◌, ◌++◌, length, nat_le, nat_lt, codes, Option, Some, None, option_and_then, option_map, ◌==◌, Result, Ok, Err, if◌then◌else◌}
+use Rattle.std.specs.Prelude.{ℕ, ◌&&◌, List, [], ◌∷◌, ◌++◌, length, map, nat_le, nat_lt, codes, Option, Some, None, option_and_then, option_map, ◌==◌, Result, Ok, Err, if◌then◌else◌}
 use Rattle.json.specs.Find.{as_str, get}
 use Rattle.json.specs.Json as json
 use Rattle.json.specs.Json.{Json, Items}
+use Rattle.nmvs_rules.specs.declared.printed.Printed.{Printed}
 use Rattle.nmvs_json.specs.declared.asked_kind.AskedKind.{AskedKind}
 use Rattle.nmvs_json.specs.declared.question_fault.QuestionFault.{QuestionFault}
 use Rattle.nmvs_json.specs.declared.question_fault.QuestionFault.TheVariants as fault
-use Rattle.nmvs_json.specs.Questions.{count_of, fields_of, has_list, is_key, kind_named, line_of, object_in, text_of}
+use Rattle.nmvs_json.specs.Questions.{count_of, fields_of, has_list, is_key, kind_named, line_of, object_in, scanned_in, text_of, with_scanned}
 
 -- the kind that an item asks: one whose answer is no list
 abbrev pub without_list : AskedKind → Option AskedKind
@@ -78,20 +79,19 @@ within_most js = if nat_lt 0 (length js) && nat_le (length js) most_questions th
 abbrev pub items_in : Json → Option (List Json)
 items_in j = if count_of j == 1 then option_and_then within_most (option_and_then as_values (get (codes "questions") j)) else None
 
--- the number of these items and their lines
-abbrev pub counted : ℕ → Result (List ℕ) QuestionFault → Result (ℕ × List ℕ) QuestionFault
-counted count (Err f) = Err f
-counted count (Ok lines) = Ok (count, lines)
+-- the scanned values of an item that has no fault, if it has some
+unfoldable pub item_scanned : Json → Option Printed
+item_scanned j = option_and_then (λ kind. scanned_in kind j) (item_kind j)
 
-abbrev pub lines_of_items : Option (List Json) → Result (ℕ × List ℕ) QuestionFault
+abbrev pub lines_of_items : Option (List Json) → Result (List (Option Printed) × List ℕ) QuestionFault
 lines_of_items None = Err fault.Fields
-lines_of_items (Some js) = counted (length js) (item_lines js)
+lines_of_items (Some js) = with_scanned (map item_scanned js) (item_lines js)
 
-abbrev pub lines_of_object : Option Json → Result (ℕ × List ℕ) QuestionFault
+abbrev pub lines_of_object : Option Json → Result (List (Option Printed) × List ℕ) QuestionFault
 lines_of_object None = Err fault.Json
 lines_of_object (Some j) = lines_of_items (items_in j)
 
--- the number of questions in the body of a bulk, and their lines in order, each with its LF; or the first fault, for which none of
--- them is asked
-unfoldable pub bulk_lines : List ℕ → Result (ℕ × List ℕ) QuestionFault
+-- the scanned values of each question in the body of a bulk, and their lines in order, each with its LF; or the first fault, for
+-- which none of them is asked
+unfoldable pub bulk_lines : List ℕ → Result (List (Option Printed) × List ℕ) QuestionFault
 bulk_lines body = lines_of_object (object_in body)

@@ -1,8 +1,8 @@
 -- The line that a question of JSON means (own).
-use Rattle.std.specs.Prelude.{ℕ, ◌+◌, Bool, true, false, not, ◌&&◌, ◌==◌, if◌then◌else◌, List, [], ◌∷◌, ◌++◌, length, take, drop, codes, Option, Some, None, option_map, option_and_then, Result, Ok, Err}
+use Rattle.std.specs.Prelude.{ℕ, ◌+◌, Bool, true, false, not, ◌&&◌, ◌||◌, ◌==◌, if◌then◌else◌, List, [], ◌∷◌, ◌++◌, length, take, drop, codes, Option, Some, None, option_map, option_and_then, Result, Ok, Err}
 use Rattle.std.specs.Char.{is_ascii_graphic}
 use Rattle.std.specs.List.{list_all}
-use Rattle.std.specs.Option.{is_some}
+use Rattle.std.specs.Option.{is_some, unwrap_or}
 use Rattle.std.specs.Str.{bytes_eq, is_utf8}
 use Rattle.json.specs.Find.{as_str, get}
 use Rattle.json.specs.Json as json
@@ -12,6 +12,7 @@ use Rattle.nmvs_elements.specs.declared.elements.Elements.{Elements}
 use Rattle.nmvs_identifier.specs.Batch.{is_batch}
 use Rattle.nmvs_identifier.specs.Expiry.{is_expiry}
 use Rattle.nmvs_identifier.specs.Tag.{is_tag}
+use Rattle.nmvs_rules.specs.declared.printed.Printed.{Printed}
 use Rattle.nmvs_rules.specs.declared.reason.Reason.TheVariants as reason
 use Rattle.nmvs_words.specs.declared.pack_question.PackQuestion.TheVariants.{Verify, Status, Decommission, Handover, Revert, Theft, Audit}
 use Rattle.nmvs_words.specs.declared.batch_question.BatchQuestion.TheVariants.{Recall, Withdraw}
@@ -166,53 +167,69 @@ name_texts kind j =
 abbrev pub name_count : AskedKind → Json → ℕ
 name_count kind j = if has_scan kind j then 1 else length (names_of kind)
 
--- whether a question about a pack is put only if the values printed on the pack are those of its upload
-abbrev pub has_condition : AskedKind → Json → Bool
-has_condition kind j = is_of_pack kind && is_some (get (codes "if_scanned") j)
+-- whether the values printed on a pack stand in the member scanned, as they may in a question about a pack without a scan
+abbrev pub has_scanned : AskedKind → Json → Bool
+has_scanned kind j = is_of_pack kind && not (has_scan kind j) && is_some (get (codes "scanned") j)
 
--- the printed batch number and expiry date of a scan that cannot be read are - as well
-abbrev pub scan_printed : Option Elements → List (List ℕ)
-scan_printed None = codes "-" ∷ codes "-" ∷ []
-scan_printed (Some pack) = pack.batch.bytes ∷ pack.expiry.bytes ∷ []
+-- whether a question is put only if the values printed on the pack are those of its upload
+abbrev pub has_condition : AskedKind → Json → Bool
+has_condition kind j = (has_scan kind j || has_scanned kind j) && is_some (get (codes "if_scanned") j)
 
 -- a text in a grammar
 abbrev pub within : (List ℕ → Bool) → Option (List ℕ) → Option (List ℕ)
 within grammar None = None
 within grammar (Some t) = if grammar t then Some t else None
 
--- the batch number and the expiry date in an object, which has no other members
-unfoldable pub printed_in : Json → Option (List (List ℕ))
+-- the printed values of these texts
+abbrev pub printed_of : List ℕ → List ℕ → Printed
+printed_of batch expiry = record { batch = record { bytes = batch }; expiry = record { bytes = expiry } }
+
+-- the printed values in an object, which has no other members
+unfoldable pub printed_in : Json → Option Printed
 printed_in j =
     if count_of j == 2
-    then option_and_then (λ batch. option_map (λ expiry. batch ∷ expiry ∷ []) (within is_expiry (string_of (codes "expiry") j))) (within is_batch (string_of (codes "batch") j))
+    then option_and_then (λ batch. option_map (λ expiry. printed_of batch expiry) (within is_expiry (string_of (codes "expiry") j))) (within is_batch (string_of (codes "batch") j))
     else None
 
--- the printed batch number and expiry date of a pack: those of its scan, or else those of the member scanned
-unfoldable pub printed_texts : AskedKind → Json → Option (List (List ℕ))
-printed_texts kind j =
-    if has_scan kind j then option_map (λ scan. scan_printed (pack_in scan)) (string_of (codes "scan") j) else option_and_then printed_in (get (codes "scanned") j)
+-- those of a scan, if it can be read
+abbrev pub scan_printed : Option Elements → Option Printed
+scan_printed None = None
+scan_printed (Some pack) = Some (printed_of pack.batch.bytes pack.expiry.bytes)
+
+abbrev pub scan_values : AskedKind → Json → Option Printed
+scan_values kind j = if has_scan kind j then option_and_then (λ scan. scan_printed (pack_in scan)) (string_of (codes "scan") j) else None
+
+-- the scanned values of a question, if it has some: those of the member scanned, which has to say them, or those of its scan
+unfoldable pub scanned_of : AskedKind → Json → Option (Option Printed)
+scanned_of kind j =
+    if has_scanned kind j then option_map Some (option_and_then printed_in (get (codes "scanned") j)) else Some (scan_values kind j)
+
+-- the texts of scanned values; a scan that cannot be read has - in their places as well
+abbrev pub printed_texts : Option Printed → List (List ℕ)
+printed_texts None = codes "-" ∷ codes "-" ∷ []
+printed_texts (Some printed) = printed.batch.bytes ∷ printed.expiry.bytes ∷ []
 
 -- whether the condition is that they match; there is no other
 abbrev pub is_matching : Option (List ℕ) → Bool
 is_matching None = false
 is_matching (Some t) = bytes_eq t (codes "matches")
 
--- the condition at the end of a line
-unfoldable pub condition_texts : AskedKind → Json → Option (List (List ℕ))
-condition_texts kind j =
-    if is_matching (string_of (codes "if_scanned") j) then option_map (λ printed. codes "IF" ∷ printed) (printed_texts kind j) else None
+-- the texts of the condition of a question with these scanned values: none if it has no condition
+unfoldable pub condition_texts : AskedKind → Json → Option Printed → Option (List (List ℕ))
+condition_texts kind j scanned =
+    if has_condition kind j then (if is_matching (string_of (codes "if_scanned") j) then Some (codes "IF" ∷ printed_texts scanned) else None)
+    else Some []
 
 -- the texts after the word of a line, and the number of members that say them
 unfoldable pub subject_of : AskedKind → Json → Option (List (List ℕ))
 subject_of kind j =
-    if has_condition kind j then option_and_then (λ names. option_map (λ condition. names ++ condition) (condition_texts kind j)) (name_texts kind j)
-    else name_texts kind j
+    option_and_then (λ names. option_and_then (λ scanned. option_map (λ condition. names ++ condition) (condition_texts kind j scanned)) (scanned_of kind j)) (name_texts kind j)
 
-abbrev pub condition_count : AskedKind → Json → ℕ
-condition_count kind j = if has_condition kind j then (if has_scan kind j then 1 else 2) else 0
+abbrev pub counted : Bool → ℕ
+counted there = if there then 1 else 0
 
 unfoldable pub subject_count : AskedKind → Json → ℕ
-subject_count kind j = name_count kind j + condition_count kind j
+subject_count kind j = name_count kind j + counted (has_scanned kind j) + counted (has_condition kind j)
 
 -- texts with a space before each
 abbrev pub preceded : List (List ℕ) → List ℕ
@@ -241,11 +258,21 @@ abbrev pub line_of : Option (List ℕ) → Option (List (List ℕ)) → Result (
 line_of key None = Err fault.Fields
 line_of key (Some fields) = Ok (key_text key ++ spaced fields)
 
--- the line of a question with this key and this object as its body, or its fault; the one other member is the user
-abbrev pub line_of_object : AskedKind → Option (List ℕ) → Option Json → Result (List ℕ) QuestionFault
-line_of_object kind key None = Err fault.Json
-line_of_object kind key (Some j) = line_of key (fields_of 1 kind j)
+-- lines and the scanned values of their questions, or the fault
+abbrev pub with_scanned : {S : Type 0} → S → Result (List ℕ) QuestionFault → Result (S × List ℕ) QuestionFault
+with_scanned scanned (Err f) = Err f
+with_scanned scanned (Ok lines) = Ok (scanned, lines)
 
--- the line, with its LF, of a question with this key and this body, or its first fault
-unfoldable pub question_line : AskedKind → Option (List ℕ) → List ℕ → Result (List ℕ) QuestionFault
+-- the scanned values of a question that has no fault
+abbrev pub scanned_in : AskedKind → Json → Option Printed
+scanned_in kind j = unwrap_or (scanned_of kind j) None
+
+-- the scanned values and the line of a question with this key and this object as its body, or its fault; the one other member is the
+-- user
+abbrev pub line_of_object : AskedKind → Option (List ℕ) → Option Json → Result (Option Printed × List ℕ) QuestionFault
+line_of_object kind key None = Err fault.Json
+line_of_object kind key (Some j) = with_scanned (scanned_in kind j) (line_of key (fields_of 1 kind j))
+
+-- the scanned values and the line, with its LF, of a question with this key and this body, or its first fault
+unfoldable pub question_line : AskedKind → Option (List ℕ) → List ℕ → Result (Option Printed × List ℕ) QuestionFault
 question_line kind key body = if is_key key then line_of_object kind key (object_in body) else Err fault.Key

@@ -1,9 +1,10 @@
 -- The JSON of a reply (RFC 8259), or the problem if there is none (RFC 9457). Names and statuses are our own choice.
-use Rattle.std.specs.Prelude.{ℕ, zero, suc, Bool, false, List, [], ◌∷◌, ◌++◌, ◌==◌, ◌||◌, codes, drop, find, Option, Some, None, option_map, unwrap_or, if◌then◌else◌}
+use Rattle.std.specs.Prelude.{ℕ, Bool, false, List, [], ◌∷◌, ◌++◌, ◌==◌, ◌||◌, codes, drop, find, Option, Some, None, option_map, unwrap_or, if◌then◌else◌}
 use Rattle.std.specs.List.{after_first, before_first, flat_map}
 use Rattle.std.specs.Str.{bytes_eq}
 use Rattle.nmvs_stream.specs.InputLines.{input_lines}
 use Rattle.nmvs_messages.specs.Fields.{is_space}
+use Rattle.nmvs_rules.specs.declared.printed.Printed.{Printed}
 use Rattle.nmvs_json.specs.declared.reply.Problem.{Problem}
 use Rattle.nmvs_json.specs.declared.reply.Problem.TheVariants.{Unprocessable, Forbidden, PreconditionFailed, TooManyRequests, Unavailable, Unknown}
 
@@ -108,10 +109,36 @@ later_members word lines =
     else (if bytes_eq word (codes "PRODUCT") then codes ",\"batches\":[" ++ (separated [] (batch_objects lines) ++ codes "]")
     else [])
 
--- the object of a reply, by its first line without the tag, the places of the words in it, and its later lines
-abbrev pub reply_object : List Place → List ℕ → List (List ℕ) → List ℕ
-reply_object places line lines =
-    codes "{\"reply\":" ++ (quoted (first_word line) ++ (members places (later_words line) ++ (later_members (first_word line) lines ++ codes "}\n")))
+-- the words of a reply from its batch number and expiry date on, by its first word and its later words, if it says them
+unfoldable pub pack_words : List ℕ → List ℕ → Option (List ℕ)
+pack_words word words =
+    if bytes_eq word (codes "AUTHENTIC") then Some words
+    else (if bytes_eq word (codes "STATUS") then Some (later_words (later_words (later_words words)))
+    else None)
+
+-- whether a scanned value is that of the reply, byte for byte
+abbrev pub comparison : List ℕ → List ℕ → List ℕ
+comparison scanned said = if bytes_eq scanned said then codes "MATCHES" else codes "DIFFERS"
+
+-- the member that compares scanned values with words that begin with a batch number and an expiry date
+unfoldable pub comparison_member : Printed → List ℕ → List ℕ
+comparison_member scanned words =
+    codes ",\"scanned\":{\"batch\":\""
+    ++ (comparison scanned.batch.bytes (first_word words) ++ (codes "\",\"expiry\":\"" ++ (comparison scanned.expiry.bytes (first_word (later_words words)) ++ codes "\"}")))
+
+-- the member of the scanned values of a question, if there are some and the reply says a batch number and an expiry date
+abbrev pub scanned_member : Option Printed → Option (List ℕ) → List ℕ
+scanned_member None said = []
+scanned_member (Some scanned) None = []
+scanned_member (Some scanned) (Some words) = comparison_member scanned words
+
+-- the object of a reply, by its first line without the tag, the places of the words in it, the scanned values of its question, and its
+-- later lines
+abbrev pub reply_object : List Place → Option Printed → List ℕ → List (List ℕ) → List ℕ
+reply_object places scanned line lines =
+    codes "{\"reply\":"
+    ++ (quoted (first_word line)
+    ++ (members places (later_words line) ++ (scanned_member scanned (pack_words (first_word line) (later_words line)) ++ (later_members (first_word line) lines ++ codes "}\n"))))
 
 -- the faults of lines, and the problem of each
 abbrev pub problems : List (List ℕ × Problem)
@@ -150,10 +177,10 @@ problem_object fault = problem_front (problem_named fault) ++ (quoted fault ++ p
 abbrev pub fault_of : List ℕ → List ℕ
 fault_of line = if bytes_eq (first_word line) (codes "FAULT") then later_words line else codes "ENDED"
 
--- the body for a first line without its tag, and the later lines
-abbrev pub body_where : Option (List Place) → List ℕ → List (List ℕ) → List ℕ
-body_where (Some places) line lines = reply_object places line lines
-body_where None line lines = problem_object (fault_of line)
+-- the body for a question with these scanned values, a first line without its tag, and the later lines
+abbrev pub body_where : Option (List Place) → Option Printed → List ℕ → List (List ℕ) → List ℕ
+body_where (Some places) scanned line lines = reply_object places scanned line lines
+body_where None scanned line lines = problem_object (fault_of line)
 
 -- the problem for a first line without its tag
 abbrev pub problem_where : Option (List Place) → List ℕ → Option Problem
@@ -165,20 +192,22 @@ abbrev pub first_line : List (List ℕ) → List ℕ
 first_line [] = []
 first_line (line ∷ lines) = untagged line
 
--- the body for a text that a session of lines wrote to one line
-unfoldable pub body_text : List ℕ → List ℕ
-body_text text =
+-- the body for the scanned values of a question, and the text that a session of lines wrote to its line
+unfoldable pub body_text : Option Printed → List ℕ → List ℕ
+body_text scanned text =
     let lines = input_lines text in
-    body_where (places_of (first_word (first_line lines))) (first_line lines) (drop 1 lines)
+    body_where (places_of (first_word (first_line lines))) scanned (first_line lines) (drop 1 lines)
 
--- the bodies of answers of one line each to this number of questions: a question without a line has the body of no answer
-unfoldable pub bodies : ℕ → List (List ℕ) → List (List ℕ)
-bodies zero lines = []
-bodies (suc n) lines = body_where (places_of (first_word (first_line lines))) (first_line lines) [] ∷ bodies n (drop 1 lines)
+-- the bodies of answers of one line each, by the scanned values of each question: a question without a line has the body of no
+-- answer
+unfoldable pub bodies : List (Option Printed) → List (List ℕ) → List (List ℕ)
+bodies [] lines = []
+bodies (scanned ∷ others) lines =
+    body_where (places_of (first_word (first_line lines))) scanned (first_line lines) [] ∷ bodies others (drop 1 lines)
 
--- the body for a text that a session of lines wrote to the lines of a bulk of this number of questions
-unfoldable pub bulk_text : ℕ → List ℕ → List ℕ
-bulk_text count text = codes "{\"replies\":[" ++ (separated [] (bodies count (input_lines text)) ++ codes "]}\n")
+-- the body for the scanned values of each question of a bulk, and the text that a session of lines wrote to its lines
+unfoldable pub bulk_text : List (Option Printed) → List ℕ → List ℕ
+bulk_text scanned text = codes "{\"replies\":[" ++ (separated [] (bodies scanned (input_lines text)) ++ codes "]}\n")
 
 -- the problem of the text, if it is no reply
 unfoldable pub problem_of : List ℕ → Option Problem

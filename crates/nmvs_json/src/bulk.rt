@@ -1,5 +1,5 @@
 //! The lines that a bulk of questions means.
-ghost use Rattle.std.specs.Prelude.{◌≡◌, ◌≢◌, ◌≤◌, ◌++◌, Ok, Err, Some, None, IfOk, IfErr, OnOk, map, option_map, string_bytes};
+ghost use Rattle.std.specs.Prelude.{◌≡◌, ◌≢◌, ◌≤◌, ◌++◌, ◌∷◌, [], Ok, Err, Some, None, IfOk, IfErr, OnOk, map, option_map, string_bytes};
 ghost use Rattle.nmvs_words.specs.Words.{spaced};
 ghost use Rattle.std.specs.Option.{option_copied};
 ghost use Rattle.json.specs.Value.{value_view};
@@ -8,15 +8,56 @@ ghost use Rattle.nmvs_json.specs.Bulks as specs;
 use crate::question::{count_of, object_in, push_fields, push_key, text_of};
 use crate::{AskedKind, QuestionFault};
 use json::{Scratch, Value};
-use std::alloc::Global;
+use nmvs_rules::Printed;
+use std::alloc::{AllocError, Global};
+use std::marker::Model;
 
 /// The most questions of a bulk (own).
 const MOST_QUESTIONS: usize = 500;
 
-/// The lines of a bulk of questions, each with its LF.
+/// The scanned values of each question of a bulk, in order; there are none of a question without them.
+#[derive(Drop)]
+pub struct BulkScanned {
+    entries: Vec<Option<Printed>>,
+}
+
+impl Model for BulkScanned {
+    ghost use Rattle.std.specs.Prelude.{List, Option};
+    ghost use Rattle.nmvs_rules.specs.declared.printed.Printed.{Printed};
+
+    ghost Value = { List (Option Printed) };
+
+    ghost view = { λ s. s.entries.items };
+}
+
+impl BulkScanned {
+    /// An empty list with room for this number of questions.
+    fn with_capacity(alloc: Global, count: usize) -> Result<BulkScanned, AllocError>
+        ensures { IfOk result (λ scanned. scanned ≡ []) }
+    {
+        let entries = Vec::with_capacity(alloc, count)?;
+        Ok(BulkScanned { entries })
+    }
+
+    /// Appends the scanned values of a question.
+    fn push(&mut self, scanned: Option<Printed>) -> Result<(), AllocError>
+        ensures { OnOk result (self.new ≡ self.old ++ scanned ∷ []) }
+    {
+        Ok(self.entries.push(scanned)?)
+    }
+
+    /// The scanned values of each question, in order.
+    pub fn entries(&self) -> &[Option<Printed>]
+        ensures { result.now ≡ self.now }
+    {
+        self.entries.as_slice()
+    }
+}
+
+/// The lines of a bulk of questions, each with its LF, and the scanned values of each question.
 #[derive(Drop)]
 pub struct BulkLines {
-    pub count: usize,
+    pub scanned: BulkScanned,
     pub lines: String,
 }
 
@@ -27,17 +68,13 @@ pub struct BulkLines {
 /// The first fault that holds. `Key` and `Fields` may be those of one question. `Memory`: there is no memory.
 #[tactic(auto, unfolding(crate::specs::Bulks::bulk_lines))]
 pub fn bulk_lines(alloc: Global, body: &[u8]) -> Result<BulkLines, QuestionFault>
-    ensures lines { IfOk result (λ bulk. specs.bulk_lines body.now ≡ Ok (bulk.count, string_bytes bulk.lines)) }
+    ensures lines { IfOk result (λ bulk. specs.bulk_lines body.now ≡ Ok (bulk.scanned, string_bytes bulk.lines)) }
     ensures fault { IfErr result (λ fault. fault ≢ QuestionFault.Memory → specs.bulk_lines body.now ≡ Err fault) }
 {
     let mut scratch = Scratch::new(alloc);
     let object = object_in(alloc, body, &mut scratch)?;
     let items = items_in(&object).ok_or(QuestionFault::Fields)?;
-    let lines = lines_of(alloc, items)?;
-    Ok(BulkLines {
-        count: items.len(),
-        lines,
-    })
+    lines_of(alloc, items)
 }
 
 /// The items of a bulk.
@@ -64,24 +101,28 @@ fn values_of<'v, 't>(value: &'v Value<'t>) -> Option<&'v [Value<'t>]>
     }
 }
 
-/// The lines of items.
-fn lines_of(alloc: Global, items: &[Value<'_>]) -> Result<String, QuestionFault>
-    ensures lines { IfOk result (λ lines. specs.item_lines (map (λ v. value_view v) items.now) ≡ Ok (string_bytes lines)) }
+/// The lines of items, and the scanned values of each.
+fn lines_of(alloc: Global, items: &[Value<'_>]) -> Result<BulkLines, QuestionFault>
+    ensures lines { IfOk result (λ bulk. specs.item_lines (map (λ v. value_view v) items.now) ≡ Ok (string_bytes bulk.lines)) }
+    ensures scanned { IfOk result (λ bulk. bulk.scanned ≡ map specs.item_scanned (map (λ v. value_view v) items.now)) }
     ensures fault { IfErr result (λ fault. fault ≢ QuestionFault.Memory → specs.item_lines (map (λ v. value_view v) items.now) ≡ Err fault) }
 {
     let mut lines = String::new(alloc);
+    let mut scanned = BulkScanned::with_capacity(alloc, items.len())?;
     let mut rest = items;
     while let [item, later @ ..] = rest {
-        push_item(&mut lines, item)?;
+        let its = push_item(&mut lines, item)?;
+        scanned.push(its)?;
         rest = later;
     }
-    Ok(lines)
+    Ok(BulkLines { scanned, lines })
 }
 
-/// Appends the line of an item.
+/// Appends the line of an item. Returns its scanned values.
 #[tactic(auto, unfolding(crate::specs::Bulks::item_line))]
-fn push_item(lines: &mut String, item: &Value<'_>) -> Result<(), QuestionFault>
+fn push_item(lines: &mut String, item: &Value<'_>) -> Result<Option<Printed>, QuestionFault>
     ensures line { OnOk result (specs.appended (string_bytes lines.old) (specs.item_line (value_view item.now)) ≡ Ok (string_bytes lines.new)) }
+    ensures scanned { IfOk result (λ scanned. scanned ≡ specs.item_scanned (value_view item.now)) }
     ensures fault { IfErr result (λ fault. fault ≢ QuestionFault.Memory → specs.item_line (value_view item.now) ≡ Err fault) }
 {
     let key = key_of(item)?;
@@ -115,10 +156,16 @@ fn others_of(key: Option<&[u8]>) -> usize
 }
 
 /// Appends the fields of the line of an item, which has this number of members beyond those that name a pack, a batch or a
-/// product.
-fn push_question(lines: &mut String, others: usize, item: &Value<'_>) -> Result<(), QuestionFault>
+/// product, or say the scanned values and the condition. Returns the scanned values.
+#[tactic(auto, unfolding(crate::specs::Bulks::item_scanned))]
+fn push_question(
+    lines: &mut String,
+    others: usize,
+    item: &Value<'_>,
+) -> Result<Option<Printed>, QuestionFault>
     requires { others ≤ 3 }
     ensures fields { OnOk result (option_map (λ fields. string_bytes lines.old ++ spaced fields) (specs.item_fields others (value_view item.now)) ≡ Some (string_bytes lines.new)) }
+    ensures scanned { IfOk result (λ scanned. scanned ≡ specs.item_scanned (value_view item.now)) }
     ensures fault { IfErr result (λ fault. fault ≢ QuestionFault.Memory → (fault ≡ QuestionFault.Fields) × (specs.item_fields others (value_view item.now) ≡ None)) }
 {
     let kind = item_kind(item).ok_or(QuestionFault::Fields)?;

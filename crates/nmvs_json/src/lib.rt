@@ -10,8 +10,8 @@ mod reply;
 mod table;
 
 pub use asked_kind::AskedKind;
-pub use bulk::{BulkLines, bulk_lines};
+pub use bulk::{BulkLines, BulkScanned, bulk_lines};
 pub use laws::no_word_is_left_out;
-pub use question::question_line;
+pub use question::{QuestionLine, question_line};
 pub use question_fault::QuestionFault;
 pub use reply::{Problem, bulk_body, response_of};

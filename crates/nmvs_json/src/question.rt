@@ -1,26 +1,35 @@
 //! The line that a question of JSON means.
-ghost use Rattle.std.specs.Prelude.{◌≡◌, ◌≢◌, ◌≤◌, ◌++◌, ◌∷◌, [], codes, true, false, Ok, Err, Some, None, IfOk, IfErr, OnOk, IfSome, IfNone, map, option_map, string_bytes};
+ghost use Rattle.std.specs.Prelude.{◌≡◌, ◌≢◌, ◌≤◌, ◌++◌, ◌∷◌, [], codes, true, false, Ok, Err, Some, None, IfOk, IfErr, OnOk, IfSome, IfNone, map, option_and_then, option_map, string_bytes};
 ghost use Rattle.std.specs.Char.{is_ascii_graphic};
 ghost use Rattle.std.specs.List.{list_all};
 ghost use Rattle.std.specs.Option.{option_copied};
+ghost use Rattle.json.specs.Find.{get};
 ghost use Rattle.json.specs.Value.{value_view};
 ghost use Rattle.nmvs_identifier.specs.Batch.{is_batch};
 ghost use Rattle.nmvs_identifier.specs.Expiry.{is_expiry};
 ghost use Rattle.nmvs_identifier.specs.Tag.{is_tag};
 ghost use Rattle.nmvs_words.specs.Words.{spaced};
-ghost use Rattle.nmvs_json.specs.Scans.{pack_in};
+ghost use Rattle.nmvs_json.specs.Scans as scans;
 ghost use Rattle.nmvs_json.specs.Questions as specs;
 
 use crate::{AskedKind, QuestionFault};
 use json::{Error, Scratch, Value};
-use nmvs_elements::read_scan;
+use nmvs_elements::{Elements, read_scan};
 use nmvs_identifier::{Batch, Expiry, Tag};
+use nmvs_rules::Printed;
 use std::alloc::{AllocError, Global};
 
 /// The text of the line in place of each value of a scan that cannot be read (own). It is no product code.
 const UNREAD: &str = "-";
 
-/// The line, with its LF, of a question: its kind, its key if there is one, and its body of JSON.
+/// The line of a question, with its LF, and the scanned values of the question if it has some.
+#[derive(Drop)]
+pub struct QuestionLine {
+    pub scanned: Option<Printed>,
+    pub line: String,
+}
+
+/// The line of a question and its scanned values, by its kind, its key if there is one, and its body of JSON.
 ///
 /// # Errors
 ///
@@ -31,16 +40,16 @@ pub fn question_line(
     kind: AskedKind,
     key: Option<&[u8]>,
     body: &[u8],
-) -> Result<String, QuestionFault>
-    ensures line { IfOk result (λ line. specs.question_line kind (option_copied key.entry) body.now ≡ Ok (string_bytes line)) }
+) -> Result<QuestionLine, QuestionFault>
+    ensures line { IfOk result (λ question. specs.question_line kind (option_copied key.entry) body.now ≡ Ok (question.scanned, string_bytes question.line)) }
     ensures fault { IfErr result (λ fault. fault ≢ QuestionFault.Memory → specs.question_line kind (option_copied key.entry) body.now ≡ Err fault) }
 {
     let mut line = String::new(alloc);
     push_key(&mut line, key)?;
     let mut scratch = Scratch::new(alloc);
     let object = object_in(alloc, body, &mut scratch)?;
-    push_fields(&mut line, kind, 1, &object)?;
-    Ok(line)
+    let scanned = push_fields(&mut line, kind, 1, &object)?;
+    Ok(QuestionLine { scanned, line })
 }
 
 /// Appends the tag that a key is, as it stands before a line, or nothing without a key.
@@ -107,16 +116,17 @@ fn value_in<'t>(
 }
 
 /// Appends the fields of the line that an object means, and LF. The object has this number of members beyond those that name a
-/// pack, a batch or a product.
+/// pack, a batch or a product, or say the scanned values and the condition. Returns the scanned values.
 #[tactic(auto, unfolding(crate::specs::Questions::fields_of))]
 pub(crate) fn push_fields(
     line: &mut String,
     kind: AskedKind,
     others: usize,
     object: &Value<'_>,
-) -> Result<(), QuestionFault>
+) -> Result<Option<Printed>, QuestionFault>
     requires { others ≤ 3 }
     ensures fields { OnOk result (option_map (λ fields. string_bytes line.old ++ spaced fields) (specs.fields_of others kind (value_view object.now)) ≡ Some (string_bytes line.new)) }
+    ensures scanned { IfOk result (λ scanned. specs.scanned_of kind (value_view object.now) ≡ Some scanned) }
     ensures fault { IfErr result (λ fault. fault ≢ QuestionFault.Memory → (fault ≡ QuestionFault.Fields) × (specs.fields_of others kind (value_view object.now) ≡ None)) }
 {
     if count_of(object) != others + subject_count(kind, object) {
@@ -126,9 +136,9 @@ pub(crate) fn push_fields(
     line.push_str(user)?;
     line.push_str(" ")?;
     line.push_str(kind.word())?;
-    push_subject(line, kind, object)?;
+    let scanned = push_subject(line, kind, object)?;
     line.push_str("\n")?;
-    Ok(())
+    Ok(scanned)
 }
 
 /// The number of members that say the texts after the word of a line.
@@ -137,7 +147,8 @@ fn subject_count(kind: AskedKind, object: &Value<'_>) -> usize
     ensures count { result ≡ specs.subject_count kind (value_view object.now) }
     ensures small { result ≤ 6 }
 {
-    name_count(kind, object) + condition_count(kind, object)
+    let scanned = usize::from(has_scanned(kind, object));
+    name_count(kind, object) + scanned + usize::from(has_condition(kind, object))
 }
 
 /// The number of members that name the pack, the batch or the product.
@@ -152,25 +163,18 @@ fn name_count(kind: AskedKind, object: &Value<'_>) -> usize
     }
 }
 
-/// The number of members that say the condition of a question.
-fn condition_count(kind: AskedKind, object: &Value<'_>) -> usize
-    ensures count { result ≡ specs.condition_count kind (value_view object.now) }
-    ensures small { result ≤ 2 }
-{
-    if !has_condition(kind, object) {
-        0
-    } else if has_scan(kind, object) {
-        1
-    } else {
-        2
-    }
-}
-
-/// Whether a question about a pack is put only if the values printed on the pack are those of its upload.
+/// Whether a question is put only if the values printed on the pack are those of its upload.
 fn has_condition(kind: AskedKind, object: &Value<'_>) -> bool
     ensures { result ≡ specs.has_condition kind (value_view object.now) }
 {
-    kind.is_of_pack() && object.get("if_scanned").is_some()
+    (has_scan(kind, object) || has_scanned(kind, object)) && object.get("if_scanned").is_some()
+}
+
+/// Whether the values printed on a pack stand in the member `scanned`, as they may in a question about a pack without a scan.
+fn has_scanned(kind: AskedKind, object: &Value<'_>) -> bool
+    ensures { result ≡ specs.has_scanned kind (value_view object.now) }
+{
+    kind.is_of_pack() && !has_scan(kind, object) && object.get("scanned").is_some()
 }
 
 /// Whether a scan stands in place of a code and a serial, as it may in a question about a pack.
@@ -180,67 +184,172 @@ fn has_scan(kind: AskedKind, object: &Value<'_>) -> bool
     kind.is_of_pack() && object.get("scan").is_some()
 }
 
-/// Appends the texts after the word of a line, with a space before each.
+/// Appends the texts after the word of a line, with a space before each. Returns the scanned values.
 #[tactic(auto, unfolding(crate::specs::Questions::subject_of))]
-fn push_subject(line: &mut String, kind: AskedKind, object: &Value<'_>) -> Result<(), QuestionFault>
+fn push_subject(
+    line: &mut String,
+    kind: AskedKind,
+    object: &Value<'_>,
+) -> Result<Option<Printed>, QuestionFault>
     ensures texts { OnOk result (option_map (λ texts. string_bytes line.old ++ specs.preceded texts) (specs.subject_of kind (value_view object.now)) ≡ Some (string_bytes line.new)) }
+    ensures scanned { IfOk result (λ scanned. specs.scanned_of kind (value_view object.now) ≡ Some scanned) }
     ensures fault { IfErr result (λ fault. fault ≢ QuestionFault.Memory → (fault ≡ QuestionFault.Fields) × (specs.subject_of kind (value_view object.now) ≡ None)) }
 {
-    push_names(line, kind, object)?;
-    if has_condition(kind, object) {
-        push_condition(line, kind, object)
-    } else {
-        Ok(())
-    }
+    let read = push_names(line, kind, object)?;
+    let scanned = scanned_of(kind, object, read)?;
+    push_condition(line, kind, object, &scanned)?;
+    Ok(scanned)
 }
 
-/// Appends the texts of the pack, the batch or the product that an object names, with a space before each.
-fn push_names(line: &mut String, kind: AskedKind, object: &Value<'_>) -> Result<(), QuestionFault>
+/// Appends the texts of the pack, the batch or the product that an object names, with a space before each. Returns the printed
+/// values of a scan that can be read.
+fn push_names(
+    line: &mut String,
+    kind: AskedKind,
+    object: &Value<'_>,
+) -> Result<Option<Printed>, QuestionFault>
     ensures texts { OnOk result (option_map (λ texts. string_bytes line.old ++ specs.preceded texts) (specs.name_texts kind (value_view object.now)) ≡ Some (string_bytes line.new)) }
+    ensures values { IfOk result (λ values. values ≡ specs.scan_values kind (value_view object.now)) }
     ensures fault { IfErr result (λ fault. fault ≢ QuestionFault.Memory → (fault ≡ QuestionFault.Fields) × (specs.name_texts kind (value_view object.now) ≡ None)) }
 {
     if has_scan(kind, object) {
-        push_scan(line, object)
-    } else {
-        push_texts(line, kind.names(), object)
+        return push_scan(line, object);
     }
+    push_texts(line, kind.names(), object)?;
+    Ok(None)
 }
 
-/// Appends the code and the serial that the scan of an object carries, with a space before each.
-fn push_scan(line: &mut String, object: &Value<'_>) -> Result<(), QuestionFault>
-    ensures texts { OnOk result (option_map (λ scan. string_bytes line.old ++ specs.preceded (specs.pack_texts (pack_in scan))) (specs.string_of (codes "scan") (value_view object.now)) ≡ Some (string_bytes line.new)) }
+/// Appends the code and the serial that the scan of an object carries, with a space before each. Returns its printed values if it
+/// can be read.
+fn push_scan(line: &mut String, object: &Value<'_>) -> Result<Option<Printed>, QuestionFault>
+    ensures texts { OnOk result (option_map (λ scan. string_bytes line.old ++ specs.preceded (specs.pack_texts (scans.pack_in scan))) (specs.string_of (codes "scan") (value_view object.now)) ≡ Some (string_bytes line.new)) }
+    ensures values { IfOk result (λ values. values ≡ option_and_then (λ scan. specs.scan_printed (scans.pack_in scan)) (specs.string_of (codes "scan") (value_view object.now))) }
     ensures fault { IfErr result (λ fault. fault ≢ QuestionFault.Memory → (fault ≡ QuestionFault.Fields) × (specs.string_of (codes "scan") (value_view object.now) ≡ None)) }
 {
     let scan = string_of(object, "scan").ok_or(QuestionFault::Fields)?;
-    push_pack(line, scan.as_bytes())?;
-    Ok(())
+    let pack = pack_in(scan.as_bytes());
+    push_pack(line, &pack)?;
+    Ok(printed_on(&pack))
 }
 
-/// Appends the code and the serial that a scan carries, with a space before each; `-` is in their places if it cannot be read.
-fn push_pack(line: &mut String, scan: &[u8]) -> Result<(), AllocError>
-    ensures { OnOk result (string_bytes line.new ≡ string_bytes line.old ++ specs.preceded (specs.pack_texts (pack_in scan.now))) }
+/// The pack that a scan carries, if it can be read.
+fn pack_in(scan: &[u8]) -> Option<Elements>
+    ensures { result ≡ scans.pack_in scan.now }
 {
     match read_scan(scan, None) {
-        Ok(pack) => push_both(line, pack.code.text(), pack.serial.text()),
-        Err(_) => push_both(line, UNREAD, UNREAD),
+        Ok(pack) => Some(pack),
+        Err(_) => None,
     }
 }
 
-/// Appends `IF`, and the batch number and the expiry date that are printed on a pack, with a space before each.
+/// Appends the code and the serial of a scanned pack, with a space before each; `-` is in their places without a pack.
+fn push_pack(line: &mut String, pack: &Option<Elements>) -> Result<(), AllocError>
+    ensures { OnOk result (string_bytes line.new ≡ string_bytes line.old ++ specs.preceded (specs.pack_texts pack.now)) }
+{
+    match pack {
+        Some(pack) => push_both(line, pack.code.text(), pack.serial.text()),
+        None => push_both(line, UNREAD, UNREAD),
+    }
+}
+
+/// The values that are printed on a scanned pack.
+fn printed_on(pack: &Option<Elements>) -> Option<Printed>
+    ensures { result ≡ specs.scan_printed pack.now }
+{
+    match pack {
+        Some(pack) => Some(Printed {
+            batch: pack.batch,
+            expiry: pack.expiry,
+        }),
+        None => None,
+    }
+}
+
+/// The scanned values of a question whose scan has these.
+#[tactic(auto, unfolding(crate::specs::Questions::scanned_of))]
+fn scanned_of(
+    kind: AskedKind,
+    object: &Value<'_>,
+    read: Option<Printed>,
+) -> Result<Option<Printed>, QuestionFault>
+    requires { read ≡ specs.scan_values kind (value_view object.now) }
+    ensures scanned { IfOk result (λ scanned. specs.scanned_of kind (value_view object.now) ≡ Some scanned) }
+    ensures fault { IfErr result (λ fault. (fault ≡ QuestionFault.Fields) × (specs.scanned_of kind (value_view object.now) ≡ None)) }
+{
+    if !has_scanned(kind, object) {
+        return Ok(read);
+    }
+    match printed_of(object) {
+        Some(printed) => Ok(Some(printed)),
+        None => Err(QuestionFault::Fields),
+    }
+}
+
+/// The printed values in the member `scanned`, if it says them.
+fn printed_of(object: &Value<'_>) -> Option<Printed>
+    ensures { result ≡ option_and_then specs.printed_in (get (codes "scanned") (value_view object.now)) }
+{
+    match object.get("scanned") {
+        Some(scanned) => printed_in(scanned),
+        None => None,
+    }
+}
+
+/// The printed values in an object.
+#[tactic(auto, unfolding(crate::specs::Questions::printed_in))]
+fn printed_in(scanned: &Value<'_>) -> Option<Printed>
+    ensures { result ≡ specs.printed_in (value_view scanned.now) }
+{
+    if count_of(scanned) != 2 {
+        return None;
+    }
+    let batch = batch_of(scanned)?;
+    let expiry = expiry_of(scanned)?;
+    Some(Printed { batch, expiry })
+}
+
+/// The batch number in an object.
+fn batch_of(object: &Value<'_>) -> Option<Batch>
+    ensures { option_map (λ batch. batch.bytes) result ≡ specs.within is_batch (specs.string_of (codes "batch") (value_view object.now)) }
+{
+    let text = string_of(object, "batch")?;
+    match Batch::read(text) {
+        Ok(batch) => Some(batch),
+        Err(_) => None,
+    }
+}
+
+/// The expiry date in an object.
+fn expiry_of(object: &Value<'_>) -> Option<Expiry>
+    ensures { option_map (λ expiry. expiry.bytes) result ≡ specs.within is_expiry (specs.string_of (codes "expiry") (value_view object.now)) }
+{
+    let text = string_of(object, "expiry")?;
+    match Expiry::read(text) {
+        Ok(expiry) => Some(expiry),
+        Err(_) => None,
+    }
+}
+
+/// Appends the condition of a question with these scanned values, with a space before each text, or nothing without a condition.
 #[tactic(auto, unfolding(crate::specs::Questions::condition_texts))]
 fn push_condition(
     line: &mut String,
     kind: AskedKind,
     object: &Value<'_>,
+    scanned: &Option<Printed>,
 ) -> Result<(), QuestionFault>
-    ensures texts { OnOk result (option_map (λ texts. string_bytes line.old ++ specs.preceded texts) (specs.condition_texts kind (value_view object.now)) ≡ Some (string_bytes line.new)) }
-    ensures fault { IfErr result (λ fault. fault ≢ QuestionFault.Memory → (fault ≡ QuestionFault.Fields) × (specs.condition_texts kind (value_view object.now) ≡ None)) }
+    ensures texts { OnOk result (option_map (λ texts. string_bytes line.old ++ specs.preceded texts) (specs.condition_texts kind (value_view object.now) scanned.now) ≡ Some (string_bytes line.new)) }
+    ensures fault { IfErr result (λ fault. fault ≢ QuestionFault.Memory → (fault ≡ QuestionFault.Fields) × (specs.condition_texts kind (value_view object.now) scanned.now ≡ None)) }
 {
+    if !has_condition(kind, object) {
+        return Ok(());
+    }
     if !is_matching(object) {
         return Err(QuestionFault::Fields);
     }
     line.push_str(" IF")?;
-    push_printed(line, kind, object)
+    push_printed(line, scanned)?;
+    Ok(())
 }
 
 /// Whether the condition of a question is that the printed values match.
@@ -253,68 +362,13 @@ fn is_matching(object: &Value<'_>) -> bool
     }
 }
 
-/// Appends the batch number and the expiry date that are printed on a pack, with a space before each.
-#[tactic(auto, unfolding(crate::specs::Questions::printed_texts))]
-fn push_printed(line: &mut String, kind: AskedKind, object: &Value<'_>) -> Result<(), QuestionFault>
-    ensures texts { OnOk result (option_map (λ texts. string_bytes line.old ++ specs.preceded texts) (specs.printed_texts kind (value_view object.now)) ≡ Some (string_bytes line.new)) }
-    ensures fault { IfErr result (λ fault. fault ≢ QuestionFault.Memory → (fault ≡ QuestionFault.Fields) × (specs.printed_texts kind (value_view object.now) ≡ None)) }
+/// Appends the texts of scanned values, with a space before each; `-` is in their places if there are none.
+fn push_printed(line: &mut String, scanned: &Option<Printed>) -> Result<(), AllocError>
+    ensures { OnOk result (string_bytes line.new ≡ string_bytes line.old ++ specs.preceded (specs.printed_texts scanned.now)) }
 {
-    if has_scan(kind, object) {
-        let scan = string_of(object, "scan").ok_or(QuestionFault::Fields)?;
-        push_scan_printed(line, scan.as_bytes())?;
-        return Ok(());
-    }
-    match object.get("scanned") {
-        Some(scanned) => push_scanned(line, scanned),
-        None => Err(QuestionFault::Fields),
-    }
-}
-
-/// Appends the batch number and the expiry date that a scan carries, with a space before each; `-` is in their places if it
-/// cannot be read.
-fn push_scan_printed(line: &mut String, scan: &[u8]) -> Result<(), AllocError>
-    ensures { OnOk result (string_bytes line.new ≡ string_bytes line.old ++ specs.preceded (specs.scan_printed (pack_in scan.now))) }
-{
-    match read_scan(scan, None) {
-        Ok(pack) => push_both(line, pack.batch.text(), pack.expiry.text().as_str()),
-        Err(_) => push_both(line, UNREAD, UNREAD),
-    }
-}
-
-/// Appends the batch number and the expiry date in an object, with a space before each.
-#[tactic(auto, unfolding(crate::specs::Questions::printed_in))]
-fn push_scanned(line: &mut String, scanned: &Value<'_>) -> Result<(), QuestionFault>
-    ensures texts { OnOk result (option_map (λ texts. string_bytes line.old ++ specs.preceded texts) (specs.printed_in (value_view scanned.now)) ≡ Some (string_bytes line.new)) }
-    ensures fault { IfErr result (λ fault. fault ≢ QuestionFault.Memory → (fault ≡ QuestionFault.Fields) × (specs.printed_in (value_view scanned.now) ≡ None)) }
-{
-    if count_of(scanned) != 2 {
-        return Err(QuestionFault::Fields);
-    }
-    let batch = batch_of(scanned).ok_or(QuestionFault::Fields)?;
-    let expiry = expiry_of(scanned).ok_or(QuestionFault::Fields)?;
-    push_both(line, batch, expiry)?;
-    Ok(())
-}
-
-/// The batch number in an object.
-fn batch_of<'v>(object: &'v Value<'_>) -> Option<&'v str>
-    ensures { option_copied result ≡ specs.within is_batch (specs.string_of (codes "batch") (value_view object.now)) }
-{
-    let text = string_of(object, "batch")?;
-    match Batch::read(text) {
-        Ok(_) => Some(text),
-        Err(_) => None,
-    }
-}
-
-/// The expiry date in an object.
-fn expiry_of<'v>(object: &'v Value<'_>) -> Option<&'v str>
-    ensures { option_copied result ≡ specs.within is_expiry (specs.string_of (codes "expiry") (value_view object.now)) }
-{
-    let text = string_of(object, "expiry")?;
-    match Expiry::read(text) {
-        Ok(_) => Some(text),
-        Err(_) => None,
+    match scanned {
+        Some(printed) => push_both(line, printed.batch.text(), printed.expiry.text().as_str()),
+        None => push_both(line, UNREAD, UNREAD),
     }
 }
 

@@ -1,11 +1,13 @@
 //! The JSON of replies.
 ghost use Rattle.std.specs.Prelude.{◌≡◌, ◌++◌, [], codes, drop, map, option_map, IfOk, OnOk};
+ghost use Rattle.std.specs.Option.{option_copied};
 ghost use Rattle.nmvs_stream.specs.InputLines.{input_lines};
 ghost use Rattle.nmvs_json.specs.Places.{place_of};
 ghost use Rattle.nmvs_json.specs.Replies as specs;
 
 use crate::table::named;
 use memchr::memchr;
+use nmvs_rules::Printed;
 use nmvs_stream::cut_line;
 use std::alloc::{AllocError, Allocator};
 
@@ -43,6 +45,10 @@ const ROOM: usize = 128;
 
 /// The first words of lines that are read in a way of their own.
 const FAULT: &[u8] = b"FAULT";
+
+const AUTHENTIC: &[u8] = b"AUTHENTIC";
+
+const STATUS: &[u8] = b"STATUS";
 
 const SHOWN: &[u8] = b"SHOWN";
 
@@ -127,7 +133,8 @@ const PROBLEMS: &[(&str, Problem)] = &[
     ("MEMORY", Problem::Unavailable),
 ];
 
-/// The problem of a session's answer to one question, if it is no reply, and the body of the response.
+/// The problem of a session's answer to one question, if it is no reply, and the body of the response. The body compares the
+/// question's scanned values with those of a reply that says a batch number and an expiry date.
 ///
 /// # Errors
 ///
@@ -135,18 +142,20 @@ const PROBLEMS: &[(&str, Problem)] = &[
 #[tactic(auto, unfolding(crate::specs::Replies::body_text, crate::specs::Replies::problem_of))]
 pub fn response_of<A: Allocator>(
     alloc: A,
+    scanned: &Option<Printed>,
     text: &[u8],
 ) -> Result<(Option<Problem>, Vec<u8, A>), AllocError>
     ensures problem { IfOk result (λ response. response.0 ≡ specs.problem_of text.now) }
-    ensures body { IfOk result (λ response. response.1.items ≡ specs.body_text text.now) }
+    ensures body { IfOk result (λ response. response.1.items ≡ specs.body_text scanned.now text.now) }
 {
     let mut body = Vec::with_capacity(alloc, text.len() + ROOM)?;
     let (line, later) = first_line(text);
-    let problem = push_answer(&mut body, line, later)?;
+    let problem = push_answer(&mut body, scanned, line, later)?;
     Ok((problem, body))
 }
 
-/// The body of the response to a bulk of this number of questions: the bodies of their answers, each a line of a session's text.
+/// The body of the response to a bulk, by the scanned values of each question: the bodies of their answers, each a line of a
+/// session's text.
 ///
 /// # Errors
 ///
@@ -154,55 +163,59 @@ pub fn response_of<A: Allocator>(
 #[tactic(auto, unfolding(crate::specs::Replies::bulk_text))]
 pub fn bulk_body<A: Allocator>(
     alloc: A,
-    count: usize,
+    scanned: &[Option<Printed>],
     text: &[u8],
 ) -> Result<Vec<u8, A>, AllocError>
-    ensures { IfOk result (λ body. body.items ≡ specs.bulk_text count text.now) }
+    ensures { IfOk result (λ body. body.items ≡ specs.bulk_text scanned.now text.now) }
 {
-    let room = count.saturating_mul(ROOM).saturating_add(text.len());
+    let room = scanned
+        .len()
+        .saturating_mul(ROOM)
+        .saturating_add(text.len());
     let mut body = Vec::with_capacity(alloc, room)?;
     body.extend_from_slice(b"{\"replies\":[")?;
-    push_answers(&mut body, count, text)?;
+    push_answers(&mut body, scanned, text)?;
     body.extend_from_slice(b"]}\n")?;
     Ok(body)
 }
 
-/// Puts the bodies of answers to this number of questions at the end of a body, with a comma between each two.
+/// Puts the bodies of answers at the end of a body, by the scanned values of each question, with a comma between each two.
 fn push_answers<A: Allocator>(
     body: &mut Vec<u8, A>,
-    count: usize,
+    scanned: &[Option<Printed>],
     text: &[u8],
 ) -> Result<(), AllocError>
-    ensures { OnOk result (body.new.items ≡ body.old.items ++ specs.separated [] (specs.bodies count (input_lines text.now))) }
+    ensures { OnOk result (body.new.items ≡ body.old.items ++ specs.separated [] (specs.bodies scanned.now (input_lines text.now))) }
 {
     let mut comma: &[u8] = b"";
     let mut rest = text;
-    let mut left = count;
-    while left > 0 {
+    let mut left = scanned;
+    while let Some((its, others)) = left.split_first() {
         let (line, later) = first_line(rest);
         body.extend_from_slice(comma)?;
-        push_answer(body, line, b"")?;
+        push_answer(body, its, line, b"")?;
         comma = b",";
         rest = later;
-        left -= 1;
+        left = others;
     }
     Ok(())
 }
 
-/// Puts the body of an answer to one question at the end of a body, by its first line without the tag and the bytes of its later
-/// lines. Returns its problem, if it is no reply.
+/// Puts the body of an answer to one question at the end of a body, by the question's scanned values, the first line without the
+/// tag and the bytes of the later lines. Returns its problem, if it is no reply.
 fn push_answer<A: Allocator>(
     body: &mut Vec<u8, A>,
+    scanned: &Option<Printed>,
     line: &[u8],
     later: &[u8],
 ) -> Result<Option<Problem>, AllocError>
     ensures problem { IfOk result (λ problem. problem ≡ specs.problem_where (specs.places_of (specs.first_word line.now)) line.now) }
-    ensures body { OnOk result (body.new.items ≡ body.old.items ++ specs.body_where (specs.places_of (specs.first_word line.now)) line.now (input_lines later.now)) }
+    ensures body { OnOk result (body.new.items ≡ body.old.items ++ specs.body_where (specs.places_of (specs.first_word line.now)) scanned.now line.now (input_lines later.now)) }
 {
     let (word, _) = cut_word(line);
     match places_of(word) {
         Some(places) => {
-            push_reply(body, places, line, later)?;
+            push_reply(body, places, scanned, line, later)?;
             Ok(None)
         }
         None => {
@@ -272,17 +285,76 @@ fn fault_of(line: &[u8]) -> &[u8]
 fn push_reply<A: Allocator>(
     body: &mut Vec<u8, A>,
     places: &[Place],
+    scanned: &Option<Printed>,
     line: &[u8],
     later: &[u8],
 ) -> Result<(), AllocError>
-    ensures { OnOk result (body.new.items ≡ body.old.items ++ specs.reply_object (map place_of places.now) line.now (input_lines later.now)) }
+    ensures { OnOk result (body.new.items ≡ body.old.items ++ specs.reply_object (map place_of places.now) scanned.now line.now (input_lines later.now)) }
 {
     let (word, words) = cut_word(line);
     body.extend_from_slice(b"{\"reply\":")?;
     push_string(body, word)?;
     push_members(body, places, words)?;
+    push_scanned(body, scanned, pack_words(word, words))?;
     push_later(body, word, later)?;
     body.extend_from_slice(b"}\n")
+}
+
+/// The words of a reply from its batch number and expiry date on, by its first word and its later words, if it says them.
+#[tactic(auto, unfolding(crate::specs::Replies::pack_words))]
+fn pack_words<'w>(word: &[u8], words: &'w [u8]) -> Option<&'w [u8]>
+    ensures { option_copied result ≡ specs.pack_words word.now words.now }
+{
+    if word == AUTHENTIC {
+        Some(words)
+    } else if word == STATUS {
+        Some(cut_word(cut_word(cut_word(words).1).1).1)
+    } else {
+        None
+    }
+}
+
+/// Puts the comparison of scanned values with these words of a reply at the end of a body, if there are both.
+fn push_scanned<A: Allocator>(
+    body: &mut Vec<u8, A>,
+    scanned: &Option<Printed>,
+    words: Option<&[u8]>,
+) -> Result<(), AllocError>
+    ensures { OnOk result (body.new.items ≡ body.old.items ++ specs.scanned_member scanned.now (option_copied words.entry)) }
+{
+    match (scanned, words) {
+        (Some(printed), Some(words)) => push_comparison(body, printed, words),
+        _ => Ok(()),
+    }
+}
+
+/// Puts the comparison of scanned values with words that begin with a batch number and an expiry date at the end of a body.
+#[tactic(auto, unfolding(crate::specs::Replies::comparison_member))]
+fn push_comparison<A: Allocator>(
+    body: &mut Vec<u8, A>,
+    scanned: &Printed,
+    words: &[u8],
+) -> Result<(), AllocError>
+    ensures { OnOk result (body.new.items ≡ body.old.items ++ specs.comparison_member scanned.now words.now) }
+{
+    let (batch, later) = cut_word(words);
+    let (expiry, _) = cut_word(later);
+    body.extend_from_slice(b",\"scanned\":{\"batch\":\"")?;
+    body.extend_from_slice(comparison(scanned.batch.text(), batch))?;
+    body.extend_from_slice(b"\",\"expiry\":\"")?;
+    body.extend_from_slice(comparison(scanned.expiry.text().as_str(), expiry))?;
+    body.extend_from_slice(b"\"}")
+}
+
+/// Whether a scanned value is that of the reply, as a word.
+fn comparison(scanned: &str, said: &[u8]) -> &'static [u8]
+    ensures { result.now ≡ specs.comparison scanned.now said.now }
+{
+    if scanned.as_bytes() == said {
+        b"MATCHES"
+    } else {
+        b"DIFFERS"
+    }
 }
 
 /// Puts the entries or batches in the later lines of a reply at the end of a body.

@@ -1,5 +1,6 @@
 //! Questions of JSON, and the lines that they mean.
 use nmvs_json::{AskedKind, QuestionFault, bulk_lines, question_line};
+use nmvs_rules::Printed;
 use std::alloc::Global;
 use std::process::Abort;
 use std::rt::HostRuntime;
@@ -112,7 +113,8 @@ fn line_at(
     body: &[u8],
 ) -> Result<String, QuestionFault> {
     let kind = AskedKind::at(path).expect(rt, "the path of a question");
-    question_line(alloc, kind, key, body)
+    let question = question_line(alloc, kind, key, body)?;
+    Ok(question.line)
 }
 
 #[test]
@@ -191,7 +193,7 @@ fn a_scan_is_a_code_and_a_serial(rt: HostRuntime) {
 fn is_bulk(rt: &impl Abort, alloc: Global, items: &str, count: usize, lines: &str) -> bool {
     let body = format!(in alloc; "{{\"questions\":[{items}]}}").expect(rt, "memory");
     let bulk = bulk_lines(alloc, body.as_bytes()).expect(rt, "a bulk");
-    bulk.count == count && bulk.lines.as_str() == lines
+    bulk.scanned.entries().len() == count && bulk.lines.as_str() == lines
 }
 
 #[test]
@@ -290,7 +292,7 @@ fn count_of(rt: &impl Abort, alloc: Global, questions: usize) -> Option<usize> {
     }
     body.push_str("]}").expect(rt, "memory");
     match bulk_lines(alloc, body.as_bytes()) {
-        Ok(bulk) => Some(bulk.count),
+        Ok(bulk) => Some(bulk.scanned.entries().len()),
         Err(_) => None,
     }
 }
@@ -343,7 +345,7 @@ fn a_condition_ends_the_line(rt: HostRuntime) {
         ),
         (
             "\"user\":\"ph1\",\"code\":\"1\",\"serial\":\"2\"",
-            ",\"scanned\":{\"batch\":\"B1\",\"expiry\":\"280200\"}",
+            ",\"scanned\":{\"batch\":\"B1\"}",
         ),
         (
             "\"user\":\"ph1\",\"code\":\"1\",\"serial\":\"2\",\"if_scanned\":\"differs\"",
@@ -355,5 +357,49 @@ fn a_condition_ends_the_line(rt: HostRuntime) {
             line_at(&rt, rt.alloc(), "/v1/supply", None, body.as_bytes())
                 == Err(QuestionFault::Fields)
         );
+    }
+}
+
+/// Whether these are the scanned values, or there are none and both texts are empty.
+fn is_printed(scanned: &Option<Printed>, batch: &str, expiry: &str) -> bool {
+    match scanned {
+        Some(printed) => {
+            printed.batch.text() == batch && printed.expiry.text().as_str() == expiry
+        }
+        None => batch.is_empty() && expiry.is_empty(),
+    }
+}
+
+#[test]
+fn scanned_values_are_those_of_the_scan_or_the_member(rt: HostRuntime) {
+    let scanned = "\"scanned\":{\"expiry\":\"251231\",\"batch\":\"B/2\"}";
+    for &(members, batch, expiry) in &[
+        ("\"code\":\"1\",\"serial\":\"2\"", "", ""),
+        (
+            "\"scan\":\"]d201095060001343521728020010B1\\u001d21SN1\"",
+            "B1",
+            "280200",
+        ),
+        ("\"scan\":\"\"", "", ""),
+    ] {
+        let body = format!(in rt.alloc(); "{{\"user\":\"ph1\",{members}}}").expect(&rt, "memory");
+        let kind = AskedKind::at("/v1/verify").expect(&rt, "the path of a question");
+        let read = question_line(rt.alloc(), kind, None, body.as_bytes()).expect(&rt, "a question");
+        assert!(rt; is_printed(&read.scanned, batch, expiry));
+    }
+    let body = format!(in rt.alloc();
+        "{{\"questions\":[{{\"ask\":\"verify\",\"user\":\"ph1\",\"code\":\"1\",\"serial\":\"2\"}},{{\"ask\":\"status\",\"user\":\"ph1\",\"code\":\"1\",\"serial\":\"2\",{scanned}}}]}}"
+    ).expect(&rt, "memory");
+    let bulk = bulk_lines(rt.alloc(), body.as_bytes()).expect(&rt, "a bulk");
+    assert!(rt; bulk.lines.as_str() == "ph1 VERIFY 1 2\nph1 STATUS 1 2\n");
+    let entries = bulk.scanned.entries();
+    assert!(rt; entries.len() == 2);
+    for (place, its) in entries.iter().enumerate() {
+        let (batch, expiry) = if place == 0 {
+            ("", "")
+        } else {
+            ("B/2", "251231")
+        };
+        assert!(rt; is_printed(its, batch, expiry));
     }
 }

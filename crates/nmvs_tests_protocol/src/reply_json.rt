@@ -1,6 +1,8 @@
 //! The JSON of replies. The expected texts are written by hand, from the tables of docs/PROTOCOL.md.
 use linked_list_allocator::LocalHeap;
+use nmvs_identifier::{Batch, Expiry};
 use nmvs_json::{Problem, bulk_body, response_of};
+use nmvs_rules::Printed;
 use std::alloc::Global;
 use std::process::Abort;
 use std::rt::HostRuntime;
@@ -13,7 +15,7 @@ fn is_body(
     problem: Option<Problem>,
     body: &str,
 ) -> bool {
-    let made = response_of(alloc, text.as_bytes()).expect(rt, "memory");
+    let made = response_of(alloc, &None, text.as_bytes()).expect(rt, "memory");
     made.0 == problem && made.1.as_slice() == body.as_bytes()
 }
 
@@ -225,7 +227,7 @@ const REPORT_BODY: &str =
 /// Whether a body is composed on a heap of this number of bytes.
 fn is_composed_on(rt: &impl Abort, alloc: Global, bytes: usize, text: &str, body: &str) -> bool {
     let heap = LocalHeap::new(alloc, bytes).expect(rt, "memory");
-    match response_of(&heap, text.as_bytes()) {
+    match response_of(&heap, &None, text.as_bytes()) {
         Ok((_, made)) => {
             assert!(rt; made.as_slice() == body.as_bytes());
             true
@@ -253,18 +255,18 @@ fn a_bulk_has_a_body_for_each_question(rt: HostRuntime) {
     let text = "#a17 UPLOADED\nFAULT CODE\nALERT HELD FLAGGED 17\n";
     let body =
         "{\"replies\":[{\"reply\":\"UPLOADED\"}\n,{\"type\":\"about:blank\",\"title\":\"Unprocessable Content\",\"status\":422,\"fault\":\"CODE\",\"recorded\":\"no\"}\n,{\"reply\":\"ALERT\",\"cause\":\"HELD\",\"flag\":\"FLAGGED\",\"number\":17}\n]}\n";
-    let made = bulk_body(rt.alloc(), 3, text.as_bytes()).expect(&rt, "memory");
+    let made = bulk_body(rt.alloc(), &[None, None, None], text.as_bytes()).expect(&rt, "memory");
     assert!(rt; made.as_slice() == body.as_bytes());
     let ended =
         "{\"replies\":[{\"reply\":\"STOLEN\"}\n,{\"type\":\"about:blank\",\"title\":\"Service Unavailable\",\"status\":503,\"fault\":\"ENDED\",\"recorded\":\"unknown\"}\n]}\n";
-    let made = bulk_body(rt.alloc(), 2, b"STOLEN\n").expect(&rt, "memory");
+    let made = bulk_body(rt.alloc(), &[None, None], b"STOLEN\n").expect(&rt, "memory");
     assert!(rt; made.as_slice() == ended.as_bytes());
 }
 
 /// Whether the body of a bulk of two questions is composed on a heap of this number of bytes.
 fn is_bulk_composed_on(rt: &impl Abort, alloc: Global, bytes: usize) -> bool {
     let heap = LocalHeap::new(alloc, bytes).expect(rt, "memory");
-    match bulk_body(&heap, 2, b"STOLEN\nUPLOADED\n") {
+    match bulk_body(&heap, &[None, None], b"STOLEN\nUPLOADED\n") {
         Ok(made) => {
             assert!(rt;
                 made.as_slice()
@@ -286,4 +288,54 @@ fn each_growth_of_the_body_of_a_bulk_is_refused_in_turn(rt: HostRuntime) {
         refused = refused.saturating_add(1);
     }
     assert!(rt; refused > 2 && refused < 98);
+}
+
+/// The values that are printed on a pack.
+fn printed(rt: &impl Abort, batch: &str, expiry: &str) -> Option<Printed> {
+    Some(Printed {
+        batch: Batch::read(batch).expect(rt, "a batch number"),
+        expiry: Expiry::read(expiry).expect(rt, "an expiry date"),
+    })
+}
+
+#[test]
+fn scanned_values_are_compared_with_the_reply(rt: HostRuntime) {
+    for &(batch, expiry, text, end) in &[
+        (
+            "B1",
+            "280200",
+            "#a AUTHENTIC B1 280200 VALID\n",
+            "\"validity\":\"VALID\",\"scanned\":{\"batch\":\"MATCHES\",\"expiry\":\"MATCHES\"}}\n",
+        ),
+        (
+            "B11",
+            "280200",
+            "AUTHENTIC B1 280200 VALID\n",
+            "\"validity\":\"VALID\",\"scanned\":{\"batch\":\"DIFFERS\",\"expiry\":\"MATCHES\"}}\n",
+        ),
+        (
+            "B1",
+            "280229",
+            "STATUS HELD FREE SUPPLY B1 280200\n",
+            "\"expiry\":\"280200\",\"scanned\":{\"batch\":\"MATCHES\",\"expiry\":\"DIFFERS\"}}\n",
+        ),
+        (
+            "280200",
+            "251231",
+            "STATUS HELD FREE SUPPLY B1 280200\n",
+            "\"expiry\":\"280200\",\"scanned\":{\"batch\":\"DIFFERS\",\"expiry\":\"DIFFERS\"}}\n",
+        ),
+        ("B1", "280200", "NOPACK\n", "{\"reply\":\"NOPACK\"}\n"),
+        ("B1", "280200", "LOCKED 3\n", "\"packs\":3}\n"),
+    ] {
+        let scanned = printed(&rt, batch, expiry);
+        let made = response_of(rt.alloc(), &scanned, text.as_bytes()).expect(&rt, "memory");
+        assert!(rt; made.1.as_slice().ends_with(end.as_bytes()), "{text}");
+    }
+    let scanned = [None, printed(&rt, "B1", "280200")];
+    let text = b"AUTHENTIC B1 280200 VALID\nAUTHENTIC B2 280200 VALID\n";
+    let body =
+        "{\"replies\":[{\"reply\":\"AUTHENTIC\",\"batch\":\"B1\",\"expiry\":\"280200\",\"validity\":\"VALID\"}\n,{\"reply\":\"AUTHENTIC\",\"batch\":\"B2\",\"expiry\":\"280200\",\"validity\":\"VALID\",\"scanned\":{\"batch\":\"DIFFERS\",\"expiry\":\"MATCHES\"}}\n]}\n";
+    let made = bulk_body(rt.alloc(), &scanned, text).expect(&rt, "memory");
+    assert!(rt; made.as_slice() == body.as_bytes());
 }

@@ -1,5 +1,4 @@
-use Rattle.std.proofs.Common.{◌≡◌, ◌∙◌, Option, Some, List, map, sym, ap}
-use Rattle.json.specs.Json.{Json}
+use Rattle.std.proofs.Common.{◌∙◌, Some, map, sym, ap}
 use Rattle.json.specs.Value.{value_view}
 use Rattle.nmvs_json.specs.Bulks.{as_values}
 use Rattle.nmvs_json.proofs.BulkLemmas.{array_values}
