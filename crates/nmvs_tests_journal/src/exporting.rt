@@ -6,16 +6,15 @@ use nmvs_desk::{Clerk, Repository};
 use nmvs_digest::digest_line;
 use nmvs_directory::Naming;
 use nmvs_history::Histories;
-use nmvs_journal::UnnamedLog;
 use nmvs_record::ExportFault;
-use nmvs_recovery::{Exported, entries_of, export_summed};
+use nmvs_recovery::{entries_of, export_summed};
 use nmvs_stream::Device;
 use nmvs_trials::{Calls, FakeFile};
 use std::alloc::Global;
 use std::io;
 use std::io::Write;
 use std::process::Abort;
-use std::rt::{Clock, HostRuntime};
+use std::rt::HostRuntime;
 use std::sync::{Mutex, Wait};
 use std::test::*;
 use std::thread::Threads;
@@ -67,33 +66,16 @@ impl<'s, 'a, 'f, R: Wait + Abort, J: Naming, H: Histories> Write for Asking<'s, 
     }
 }
 
-/// Two shards were exported, with this digest.
-fn is_as_it_was(rt: &impl Abort, alloc: Global, exported: &Exported) {
-    let line = digest_line(alloc, &exported.digest, "trail.txt").expect(rt, "memory");
-    assert_eq!(rt; line.as_str(), SUM);
-    assert_eq!(rt; exported.sights.len(), 2);
-}
-
 /// Both shards grow at each of three writes: two slices of shard 0, and one of shard 1.
 struct Growing;
 
 impl Trial for Growing {
-    type Output = ();
-
     fn run<
         'a,
         J: Naming + Send + Sync,
         H: Histories + Send + Sync,
-        R: Threads + Wait + Clock + Abort + Sync,
-    >(
-        &self,
-        rt: &R,
-        repository: &Repository<'a, H>,
-        clerk: &mut Clerk<'a, J, H>,
-        _other: &mut Clerk<'a, J, H>,
-        _history: UnnamedLog,
-    ) {
-        let alloc = *clerk.allocator();
+        R: Threads + Wait + Abort + Sync,
+    >(&self, rt: &R, alloc: Global, repository: &Repository<'a, H>, clerk: &mut Clerk<'a, J, H>) {
         ask(rt, repository, clerk, FIRST, 1_500);
         ask(rt, repository, clerk, SECOND, 3);
         let calls = Mutex::new(Calls::none(alloc));
@@ -107,10 +89,13 @@ impl Trial for Growing {
             },
         };
         let exported = export_summed(rt, alloc, repository, Device::new(file));
-        is_as_it_was(rt, alloc, &exported.expect(rt, "an export"));
+        let exported = exported.expect(rt, "an export");
         assert_eq!(rt; lines_in(rt, &calls.into_inner().bytes), (1_500, 5));
-        let grown = [entries_of(rt, repository, 0), entries_of(rt, repository, 1)];
-        assert_eq!(rt; grown, [1_503, 6]);
+        let line = digest_line(alloc, &exported.digest, "trail.txt").expect(rt, "memory");
+        assert_eq!(rt; line.as_str(), SUM);
+        assert_eq!(rt; exported.sights.len(), 2);
+        assert_eq!(rt; entries_of(rt, repository, 0), 1_503);
+        assert_eq!(rt; entries_of(rt, repository, 1), 6);
     }
 }
 
@@ -123,22 +108,12 @@ fn a_shard_that_grows_between_slices_is_exported_as_it_was(rt: HostRuntime) {
 struct Failing;
 
 impl Trial for Failing {
-    type Output = ();
-
     fn run<
         'a,
         J: Naming + Send + Sync,
         H: Histories + Send + Sync,
-        R: Threads + Wait + Clock + Abort + Sync,
-    >(
-        &self,
-        rt: &R,
-        repository: &Repository<'a, H>,
-        clerk: &mut Clerk<'a, J, H>,
-        _other: &mut Clerk<'a, J, H>,
-        _history: UnnamedLog,
-    ) {
-        let alloc = *clerk.allocator();
+        R: Threads + Wait + Abort + Sync,
+    >(&self, rt: &R, alloc: Global, repository: &Repository<'a, H>, clerk: &mut Clerk<'a, J, H>) {
         ask(rt, repository, clerk, FIRST, 2_000);
         let calls = Mutex::new(Calls::none(alloc));
         let file = FakeFile {

@@ -78,7 +78,7 @@ fn threads_recover_the_shards_of_one(rt: HostRuntime) {
         10_000,
     );
     let one = one.ok().expect(&rt, "a log").shards.into_shards();
-    for &most in &[1_000, 30_000, 1_000_000] {
+    for most in [1_000, 30_000, 1_000_000] {
         let many = recovered(&rt, alloc, 2_000, &text, most).expect(&rt, "a log");
         for (one, many) in one.iter().zip(many.shards.into_shards().iter()) {
             assert!(rt; one.trail() == many.trail());
@@ -89,7 +89,7 @@ fn threads_recover_the_shards_of_one(rt: HostRuntime) {
 #[test]
 fn a_torn_line_is_left(rt: HostRuntime) {
     let text = text_of(&rt, rt.alloc(), &[LINE, OTHER, LINE]);
-    for &(cut, left) in &[
+    for (cut, left) in [
         (0, (0, 0)),
         (1, (0, 1)),
         (
@@ -111,7 +111,7 @@ fn what_may_be_damaged_is_left_to_one_thread(rt: HostRuntime) {
         "[2,1767225600,\"ph1\",\"PHARMACY\",\"PH-1\",\"P1\",[\"SUPPLY\",\"09506000134352\",\"S1\"],[\"DECOMMISSIONED\"]]\n";
     let older =
         "[1767225600,\"ph1\",\"PHARMACY\",\"PH-1\",\"P1\",[\"STATUS\",\"09506000134352\",\"S1\"],[\"NOPACK\"]]\n";
-    for &line in &[unlawful, older, "\n", "x\n"] {
+    for line in [unlawful, older, "\n", "x\n"] {
         let text = text_of(&rt, rt.alloc(), &[LINE, line, OTHER]);
         assert_eq!(rt; counts(&rt, rt.alloc(), 0, &text), None);
     }

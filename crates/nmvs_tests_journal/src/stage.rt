@@ -1,5 +1,5 @@
-//! A repository of two empty shards with two clerks, for each trial.
-ghost use Rattle.std.specs.Prelude.{◌≡◌, ◌<◌, ◌≤◌, ℕ, [], ◌∷◌, length, vec_len};
+//! A repository of two shards with one clerk, for each trial.
+ghost use Rattle.std.specs.Prelude.{◌≡◌, ◌<◌, ◌≤◌, ℕ, length, vec_len};
 ghost use Rattle.nmvs_directory.specs.Directory.{directory_book};
 ghost use Rattle.nmvs_desk.specs.Opening.{table_of};
 ghost use Rattle.nmvs_desk.specs.Placing.{IsPartOf};
@@ -9,13 +9,11 @@ use nmvs_desk::{Clerk, Keepers, MOST_CLERKS, Repository};
 use nmvs_directory::{Directory, Naming, Window};
 use nmvs_history::Histories;
 use nmvs_identifier::{Moment, Name, Pack, ProductCode, Serial};
-use nmvs_journal::UnnamedLog;
 use nmvs_rules::{Actor, Put, Question, Role};
 use nmvs_shard::{HashKey, Shard, Shards};
 use std::alloc::Global;
 use std::marker::Brand;
 use std::process::Abort;
-use std::rt::Clock;
 use std::sync::Wait;
 use std::thread::Threads;
 
@@ -25,25 +23,15 @@ pub const FIRST: &str = "09506000134352";
 /// A product code that stands in shard 1 of two.
 pub const SECOND: &str = "09506000117843";
 
-/// What is done with the repository, and with the history of its log, which is empty.
+/// What is done with the repository.
 pub trait Trial {
-    type Output;
-
     fn run<
         'a,
         J: Naming + Send + Sync,
         H: Histories + Send + Sync,
-        R: Threads + Wait + Clock + Abort + Sync,
-    >(
-        &self,
-        rt: &R,
-        repository: &Repository<'a, H>,
-        one: &mut Clerk<'a, J, H>,
-        two: &mut Clerk<'a, J, H>,
-        history: UnnamedLog,
-    ) -> Self::Output
-        requires shards { (repository.now.shards ≡ 2) × (H.shards ≡ 2) }
-        requires empty { history.seen.log ≡ [] ∷ [] };
+        R: Threads + Wait + Abort + Sync,
+    >(&self, rt: &R, alloc: Global, repository: &Repository<'a, H>, clerk: &mut Clerk<'a, J, H>)
+        requires { repository.now.shards ≡ 2 };
 }
 
 fn name(rt: &impl Abort, text: &str) -> Name {
@@ -59,9 +47,15 @@ fn pharmacy(rt: &impl Abort) -> Actor {
     }
 }
 
-/// The question of ph1 for the status of the pack S1 of a product code, at the new year of 2026.
-pub fn status(rt: &impl Abort, digits: &str) -> Put {
-    Put {
+/// Asks for the status of the pack S1 of a product code, at the new year of 2026.
+pub fn ask<'a, J: Naming, H: Histories, R: Wait + Abort>(
+    rt: &R,
+    repository: &Repository<'a, H>,
+    clerk: &mut Clerk<'a, J, H>,
+    digits: &str,
+    times: usize,
+) {
+    let put = Put {
         moment: Moment::new(1_767_225_600).expect(rt, "a moment"),
         user: name(rt, "ph1"),
         actor: pharmacy(rt),
@@ -70,18 +64,7 @@ pub fn status(rt: &impl Abort, digits: &str) -> Put {
             serial: Serial::read("S1").expect(rt, "a serial"),
         }),
         tag: None,
-    }
-}
-
-/// Asks for the status of the pack S1 of a product code.
-pub fn ask<'a, J: Naming, H: Histories, R: Wait + Abort>(
-    rt: &R,
-    repository: &Repository<'a, H>,
-    clerk: &mut Clerk<'a, J, H>,
-    digits: &str,
-    times: usize,
-) {
-    let put = status(rt, digits);
+    };
     for _ in 0..times {
         clerk
             .ask(rt, repository, &put, &None)
@@ -90,42 +73,24 @@ pub fn ask<'a, J: Naming, H: Histories, R: Wait + Abort>(
 }
 
 /// Runs a trial in a repository of two empty shards.
-pub fn play<T: Trial, R: Threads + Wait + Clock + Abort + Sync>(
-    rt: &R,
-    alloc: Global,
-    trial: &T,
-) -> T::Output {
-    in_directory::<T, Brand, R>(rt, &alloc, trial, Directory::new())
+pub fn play<T: Trial, R: Threads + Wait + Abort + Sync>(rt: &R, alloc: Global, trial: &T) {
+    in_directory::<T, Brand, R>(rt, &alloc, trial, Directory::new());
 }
 
-fn in_directory<T: Trial, J: Naming + Send + Sync, R: Threads + Wait + Clock + Abort + Sync>(
+fn in_directory<T: Trial, J: Naming + Send + Sync, R: Threads + Wait + Abort + Sync>(
     rt: &R,
     alloc: &Global,
     trial: &T,
     directory: Directory,
-) -> T::Output
+)
     requires { directory_book directory ≡ J.book }
 {
-    let made = directory.open::<J, _, _>(rt, alloc, 2);
+    let made = directory.open::<J, _, _>(rt, alloc, 1);
     let (registrar, mut windows) = made.expect(rt, "a directory");
-    let output = in_shards(rt, trial, &mut windows);
-    registrar.close();
-    output
-}
-
-fn in_shards<'a, T: Trial, J: Naming + Send + Sync, R: Threads + Wait + Clock + Abort + Sync>(
-    rt: &R,
-    trial: &T,
-    windows: &mut Vec<Window<J, &'a Global>, &'a Global>,
-) -> T::Output
-    requires { vec_len windows.old ≤ MOST_CLERKS }
-{
-    let alloc = *windows.allocator();
     let shards = Shards::new(alloc, 2, HashKey::of(1)).expect(rt, "memory");
-    let history = UnnamedLog::new(&shards);
     let keepers = Keepers::new(alloc, 2).expect(rt, "keepers");
-    let shards = shards.into_shards();
-    in_repository::<T, J, Brand, R>(rt, trial, windows, shards, keepers, history)
+    in_repository::<T, J, Brand, R>(rt, trial, &mut windows, shards.into_shards(), keepers);
+    registrar.close();
 }
 
 fn in_repository<
@@ -133,28 +98,25 @@ fn in_repository<
     T: Trial,
     J: Naming + Send + Sync,
     H: Histories + Send + Sync,
-    R: Threads + Wait + Clock + Abort + Sync,
+    R: Threads + Wait + Abort + Sync,
 >(
     rt: &R,
     trial: &T,
     windows: &mut Vec<Window<J, &'a Global>, &'a Global>,
     shards: Vec<Shard<&'a Global>, &'a Global>,
     keepers: Keepers<'a>,
-    history: UnnamedLog,
-) -> T::Output
+)
     requires tables { (i : ℕ) → table_of keepers i ≡ H.tables i }
     requires named { (H.shards ≡ length keepers) × (H.clerks ≡ vec_len windows.old)
         × ((i : ℕ) → H.opening i ≡ row shards.items i) }
     requires many { vec_len shards ≡ length keepers }
     requires placed { (i : ℕ) → IsPartOf (length keepers) i (row shards.items i) }
     requires few { vec_len windows.old ≤ MOST_CLERKS }
-    requires empty { history.seen.log ≡ [] ∷ [] }
     requires shards { length keepers ≡ 2 }
 {
     let alloc = *windows.allocator();
     let opened = Repository::<H, _>::open(alloc, keepers, shards, windows);
     let (repository, mut clerks) = opened.expect(rt, "memory");
-    let mut one = clerks.pop().expect(rt, "a clerk");
-    let mut two = clerks.pop().expect(rt, "a clerk");
-    trial.run(rt, &repository, &mut one, &mut two, history)
+    let mut clerk = clerks.pop().expect(rt, "a clerk");
+    trial.run(rt, *alloc, &repository, &mut clerk);
 }

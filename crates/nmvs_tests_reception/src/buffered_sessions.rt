@@ -2,7 +2,6 @@
 use nmvs_connections::BufferedSession;
 use nmvs_messages::{Ask, Content, Desk, End, Peer, Released, Turn, Withheld, WithheldAnswers};
 use std::alloc::Global;
-use std::process::Abort;
 use std::test::*;
 
 /// Knows nobody.
@@ -43,53 +42,35 @@ fn send(session: &mut BufferedSession, count: usize) {
     }
 }
 
-/// These bytes are unsent.
-fn has_unsent(rt: &impl Abort, session: &BufferedSession, wanted: &[u8]) {
-    assert_eq!(rt; session.unsent(), wanted);
-}
-
-/// Sends so many bytes, behind which these are unsent.
-fn send_on(
-    rt: &impl Abort,
-    alloc: Global,
-    session: &mut BufferedSession,
-    count: usize,
-    wanted: &[u8],
-) {
-    send(session, count);
-    session.exchange(&mut Vec::new(alloc));
-    has_unsent(rt, session, wanted);
-}
-
-/// Two sessions take bytes in turn, and are told what is answered to both.
-fn take_and_tell(
-    rt: &impl Abort,
-    alloc: Global,
-    one: &mut BufferedSession,
-    other: &mut BufferedSession,
-) {
+#[test]
+fn sessions_that_share_a_desk_are_answered_each(rt: HostRuntime) -> Result<(), Fail> {
+    let alloc = rt.alloc();
+    let (mut one, mut other) = (
+        BufferedSession::new(alloc, 9),
+        BufferedSession::new(alloc, 1),
+    );
     let mut withheld = WithheldAnswers::new();
     let mut taken = [0; 3];
-    taken[0] = take(one, b"ph1 STATUS 0950", &mut withheld);
-    taken[1] = take(other, b"\n\n", &mut withheld);
-    taken[2] = take(one, b"6000134352 SN1\nph1\nQUIT\nph1\n", &mut withheld);
+    taken[0] = take(&mut one, b"ph1 STATUS 0950", &mut withheld);
+    taken[1] = take(&mut other, b"\n\n", &mut withheld);
+    taken[2] = take(&mut one, b"6000134352 SN1\nph1\nQUIT\nph1\n", &mut withheld);
     assert_eq!(rt; taken, [15, 1, 24]);
-    has_unsent(rt, one, b"");
+    assert_eq!(rt; one.unsent(), b"".as_slice());
     let released = Stranger.release(&mut withheld);
     other.tell(alloc, &released);
     one.tell(alloc, &released);
-}
-
-#[test]
-fn sessions_that_share_a_desk_are_answered_each(rt: HostRuntime) {
-    let alloc = rt.alloc();
-    let mut one = BufferedSession::new(alloc, 9);
-    let mut other = BufferedSession::new(alloc, 1);
-    take_and_tell(&rt, alloc, &mut one, &mut other);
-    has_unsent(&rt, &one, b"FAULT NOBODY\nFAULT FIELDS\nBYE\n");
-    send_on(&rt, alloc, &mut one, 6, b"NOBODY\nFAULT FIELDS\nBYE\n");
-    send_on(&rt, alloc, &mut one, 24, b"");
+    assert_eq!(rt;
+        one.unsent(),
+        b"FAULT NOBODY\nFAULT FIELDS\nBYE\n".as_slice()
+    );
+    send(&mut one, 6);
+    one.exchange(&mut Vec::new(alloc));
+    assert_eq!(rt; one.unsent(), b"NOBODY\nFAULT FIELDS\nBYE\n".as_slice());
+    send(&mut one, 24);
+    one.exchange(&mut Vec::new(alloc));
+    assert_eq!(rt; one.unsent(), b"".as_slice());
     assert_eq!(rt; one.end(), Some(End::Quit));
-    has_unsent(&rt, &other, b"FAULT FIELDS\n");
+    assert_eq!(rt; other.unsent(), b"FAULT FIELDS\n".as_slice());
     assert_eq!(rt; other.end(), Some(End::Limit));
+    Ok(())
 }

@@ -7,7 +7,6 @@ use log::Log;
 use nmvs_directory::{Look, Naming, Notice, Registrar};
 use nmvs_history::Histories;
 use nmvs_identifier::Name;
-use nmvs_journal::UnnamedLog;
 use nmvs_messages::{Desk, NameOf, Peer, SESSION_LIMITS};
 use nmvs_metrics::Metrics;
 use nmvs_operator::{Deed, Figure, Latest, Service, ServiceFault, Topic, UserCounts, obey_all};
@@ -24,7 +23,6 @@ use std::process::Abort;
 use std::rt::Clock as SystemClock;
 use std::sync::{Mutex, Wait};
 use std::test::*;
-use std::thread::Threads;
 
 /// The users of the rehearsal, as commands.
 const USERS: &str =
@@ -111,13 +109,12 @@ impl<'s> Clock for Seconds<'s> {
 
 /// The answer of the desk to one line of this peer.
 fn asked<'a, D: Desk<'a>>(
-    rt: &impl Abort,
     alloc: Global,
     desk: &mut D,
     from: &Peer,
     line: &str,
-) -> Vec<u8> {
-    let input = format!(in alloc; "{line}\n").expect(rt, "memory");
+) -> Result<Vec<u8>, Fail> {
+    let input = format!(in alloc; "{line}\n")?;
     let mut output = Vec::new(alloc);
     let _end = serve(
         alloc,
@@ -127,21 +124,7 @@ fn asked<'a, D: Desk<'a>>(
         desk,
         SESSION_LIMITS,
     );
-    output
-}
-
-/// The desk writes this answer to one line of this peer. `shows` says of what.
-fn is_answered<'a, D: Desk<'a>>(
-    rt: &impl Abort,
-    alloc: Global,
-    desk: &mut D,
-    from: &Peer,
-    (line, answer): (&str, &str),
-    shows: &str,
-) {
-    let said = asked(rt, alloc, desk, from, line);
-    let wanted = format!(in alloc; "{answer}\n").expect(rt, "memory");
-    assert_eq!(rt; said.as_slice(), wanted.as_bytes(), "{shows}");
+    Ok(output)
 }
 
 /// A server that carries out each order.
@@ -238,116 +221,83 @@ fn is_put(lines: &[(&str, &str)], place: usize) -> bool {
         || *answer == "DONE")
 }
 
-/// How many of these lines are questions that were put.
-fn count_put(lines: &[(&str, &str)]) -> usize {
-    (0..lines.len())
-        .filter(|place| is_put(lines, *place))
-        .count()
-}
-
 /// Asks the lines of this example, one after the other.
-fn ask_lines<'a, 'r, D: Desk<'a>, J: Naming, R: Wait + Log + Abort>(
-    rt: &'r R,
-    alloc: Global,
-    desk: &mut D,
-    registrar: &mut Registrar<J, &'r R, &Global>,
-    latest: &Mutex<Notice<J>>,
-    example: &Example,
-) {
-    for (line, answer) in example.lines {
-        if *line == "SUSPEND ph1" {
-            suspend(rt, alloc, registrar, latest);
-        } else {
-            is_answered(
-                rt,
-                alloc,
-                desk,
-                &Peer::Anyone,
-                (line, answer),
-                example.shows,
-            );
-        }
-    }
-}
-
-/// Asks the lines of this example at a desk.
 #[derive(Clone, Copy)]
 struct AskLines<'e> {
     example: &'e Example,
 }
 
 impl<'e> Visit for AskLines<'e> {
-    type Output = ();
+    type Output = Result<(), Fail>;
 
-    fn visit<
-        'r,
-        'a,
-        J: Naming,
-        H: Histories + Send + Sync,
-        R: Threads + Wait + SystemClock + Log + Abort + Sync,
-    >(
+    fn visit<'r, 'a, J: Naming, H: Histories, R: Wait + SystemClock + Log + Abort + Sync>(
         self,
         rt: &'r R,
         mut opened: Opened<'a, J, H>,
         registrar: &mut Registrar<J, &'r R, &'a Global>,
         latest: &Mutex<Notice<J>>,
-        _history: UnnamedLog,
-    ) {
+    ) -> Result<(), Fail> {
         let example = self.example;
-        let clerk = opened.clerks.pop().expect(rt, "a clerk");
+        let clerk = opened.clerks.pop().ok_or("a clerk")?;
         let alloc = *clerk.allocator();
-        let metrics = Metrics::new(alloc, 1, 1, false).expect(rt, "memory");
-        let alerts = Alerts::new(alloc, false);
+        let clock = Seconds::new(example.moments);
+        let (metrics, alerts) = (Metrics::new(alloc, 1, 1, false)?, Alerts::new(alloc, false));
+        let (limiter, counts) = (None::<SharedLimiter<Global>>, metrics.worker(0));
+        let (repository, limiter) = (&opened.repository, limiter.as_ref());
         let mut desk = ClerkDesk::new(
-            rt,
-            clerk,
-            &opened.repository,
-            latest,
-            None::<&SharedLimiter<Global>>,
-            Seconds::new(example.moments),
-            metrics.worker(0),
-            &alerts,
+            rt, clerk, repository, latest, limiter, clock, counts, &alerts,
         );
-        ask_lines(rt, alloc, &mut desk, registrar, latest, example);
+        for (line, answer) in example.lines {
+            let wanted = format!(in alloc; "{answer}\n")?;
+            if *line == "SUSPEND ph1" {
+                suspend(rt, alloc, registrar, latest);
+                continue;
+            }
+            let said = asked(alloc, &mut desk, &Peer::Anyone, line)?;
+            assert_eq!(rt; said.as_slice(), wanted.as_bytes(), "{}", example.shows);
+        }
+        let places = 0..example.lines.len();
+        let put = places.filter(|place| is_put(example.lines, *place)).count();
         let clerk = desk.into_clerk();
-        let put = count_put(example.lines);
         assert_eq!(rt; clerk.receipts().len(), put, "{}", example.shows);
+        Ok(())
     }
 }
 
 /// Runs each example at a desk of its own, over one shard.
-fn get_their_answers<R: Threads + Wait + SystemClock + Log + Abort + Sync>(
+fn get_their_answers<R: Wait + SystemClock + Log + Abort + Sync>(
     rt: &R,
     alloc: Global,
     examples: &[Example],
-) {
+) -> Result<(), Fail> {
     for example in examples {
-        at_repository(rt, &alloc, USERS, AskLines { example });
+        at_repository(rt, &alloc, USERS, AskLines { example })?;
     }
+    Ok(())
 }
 
 #[test]
-fn lines_that_are_turned_away_leave_no_receipt(rt: HostRuntime) {
-    get_their_answers(&rt, rt.alloc(), TURNED_AWAY);
+fn lines_that_are_turned_away_leave_no_receipt(rt: HostRuntime) -> Result<(), Fail> {
+    get_their_answers(&rt, rt.alloc(), TURNED_AWAY)
 }
 
 #[test]
-fn questions_leave_a_receipt_each(rt: HostRuntime) {
-    get_their_answers(&rt, rt.alloc(), examples::VERIFICATIONS);
-    get_their_answers(&rt, rt.alloc(), examples::REVERSIONS);
-    get_their_answers(&rt, rt.alloc(), examples::RECALLS);
-    get_their_answers(&rt, rt.alloc(), examples::CONDITIONS);
+fn questions_leave_a_receipt_each(rt: HostRuntime) -> Result<(), Fail> {
+    get_their_answers(&rt, rt.alloc(), examples::VERIFICATIONS)?;
+    get_their_answers(&rt, rt.alloc(), examples::REVERSIONS)?;
+    get_their_answers(&rt, rt.alloc(), examples::RECALLS)?;
+    get_their_answers(&rt, rt.alloc(), examples::CONDITIONS)
 }
 
 #[test]
-fn audits_show_entries_and_reports_leave_no_receipt(rt: HostRuntime) {
-    get_their_answers(&rt, rt.alloc(), examples::AUDITS);
-    get_their_answers(&rt, rt.alloc(), examples::REPORTS);
+fn audits_show_entries_and_reports_leave_no_receipt(rt: HostRuntime) -> Result<(), Fail> {
+    get_their_answers(&rt, rt.alloc(), examples::AUDITS)?;
+    get_their_answers(&rt, rt.alloc(), examples::REPORTS)
 }
 
 #[test]
-fn lines_that_are_asked_again_leave_no_receipt(rt: HostRuntime) {
-    get_their_answers(&rt, rt.alloc(), examples::REPEATS);
+fn lines_that_are_asked_again_leave_no_receipt(rt: HostRuntime) -> Result<(), Fail> {
+    get_their_answers(&rt, rt.alloc(), examples::REPEATS)
 }
 
 /// Lines with the names in the certificates of their peers, and their replies.
@@ -396,69 +346,52 @@ const OF_PEERS: &[(NameOf, &str, &str, &str)] = &[
     ),
 ];
 
-/// Asks the lines of peers.
-fn ask_of_peers<'a, D: Desk<'a>>(rt: &impl Abort, alloc: Global, desk: &mut D) {
-    for (of, name, line, answer) in OF_PEERS {
-        let peer = of.peer(Name::read(name).expect(rt, "a name"));
-        is_answered(rt, alloc, desk, &peer, (line, answer), line);
-    }
-}
-
-/// Asks one line 20 times, above a rate of one line a second.
-fn ask_over_the_rate<'a, D: Desk<'a>>(rt: &impl Abort, alloc: Global, desk: &mut D) {
-    let mut over = 0u32;
-    for _ in 0..20u32 {
-        let said = asked(rt, alloc, desk, &Peer::Anyone, "au1 REPORT 09506000134352");
-        if said.as_slice() == b"FAULT RATE\n".as_slice() {
-            over = over.saturating_add(1);
-        }
-    }
-    assert!(rt; 0 < over && over < 20);
-}
-
 /// Asks the lines of peers, and then one line 20 times, above a rate of one line a second.
 #[derive(Drop)]
 struct AskOfPeers;
 
 impl Visit for AskOfPeers {
-    type Output = ();
+    type Output = Result<(), Fail>;
 
-    fn visit<
-        'r,
-        'a,
-        J: Naming,
-        H: Histories + Send + Sync,
-        R: Threads + Wait + SystemClock + Log + Abort + Sync,
-    >(
+    fn visit<'r, 'a, J: Naming, H: Histories, R: Wait + SystemClock + Log + Abort + Sync>(
         self,
         rt: &'r R,
         mut opened: Opened<'a, J, H>,
         _registrar: &mut Registrar<J, &'r R, &'a Global>,
         latest: &Mutex<Notice<J>>,
-        _history: UnnamedLog,
-    ) {
-        let clerk = opened.clerks.pop().expect(rt, "a clerk");
+    ) -> Result<(), Fail> {
+        let clerk = opened.clerks.pop().ok_or("a clerk")?;
         let alloc = *clerk.allocator();
-        let limiter = SharedLimiter::new(rt, alloc, Rate::new(1, 1).expect(rt, "a rate"));
-        let metrics = Metrics::new(alloc, 1, 1, false).expect(rt, "memory");
-        let alerts = Alerts::new(alloc, false);
-        let mut desk = ClerkDesk::new(
-            rt,
-            clerk,
-            &opened.repository,
-            latest,
-            Some(&limiter),
+        let limiter = SharedLimiter::new(rt, alloc, Rate::new(1, 1).ok_or("a rate")?);
+        let (metrics, alerts) = (Metrics::new(alloc, 1, 1, false)?, Alerts::new(alloc, false));
+        let (clock, limiter, counts) = (
             Seconds::new(&[NEW_YEAR]),
+            Some(&limiter),
             metrics.worker(0),
-            &alerts,
         );
-        ask_of_peers(rt, alloc, &mut desk);
-        ask_over_the_rate(rt, alloc, &mut desk);
+        let repository = &opened.repository;
+        let mut desk = ClerkDesk::new(
+            rt, clerk, repository, latest, limiter, clock, counts, &alerts,
+        );
+        for (of, name, line, answer) in OF_PEERS {
+            let wanted = format!(in alloc; "{answer}\n")?;
+            let said = asked(alloc, &mut desk, &of.peer(Name::read(name)?), line)?;
+            assert_eq!(rt; said.as_slice(), wanted.as_bytes(), "{line}");
+        }
+        let mut over = 0u32;
+        for _ in 0..20u32 {
+            let said = asked(alloc, &mut desk, &Peer::Anyone, "au1 REPORT 09506000134352")?;
+            if said.as_slice() == b"FAULT RATE\n".as_slice() {
+                over = over.saturating_add(1);
+            }
+        }
+        assert!(rt; 0 < over && over < 20);
         assert_eq!(rt; desk.into_clerk().receipts().len(), 2);
+        Ok(())
     }
 }
 
 #[test]
-fn a_peer_speaks_for_its_own_users_within_their_rate(rt: HostRuntime) {
-    at_repository(&rt, &rt.alloc(), USERS, AskOfPeers);
+fn a_peer_speaks_for_its_own_users_within_their_rate(rt: HostRuntime) -> Result<(), Fail> {
+    at_repository(&rt, &rt.alloc(), USERS, AskOfPeers)
 }

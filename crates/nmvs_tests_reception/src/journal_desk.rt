@@ -1,18 +1,23 @@
 //! A desk whose answers wait for the log of a repository with one shard.
-ghost use Rattle.std.specs.Prelude.{◌≡◌, [], ◌∷◌};
+ghost use Rattle.std.specs.Prelude.{◌≡◌, ◌≤◌, ℕ, [], ◌∷◌, length, vec_len};
+ghost use Rattle.nmvs_directory.specs.Directory.{directory_book};
+ghost use Rattle.nmvs_desk.specs.Opening.{table_of};
+ghost use Rattle.nmvs_desk.specs.Placing.{IsPartOf};
+ghost use Rattle.nmvs_desk.specs.Settlement.{row};
 
 use crate::journal_file::{LINE, USERS, assert_told};
-use crate::repository::{Visit, at_repository};
 use log::Log;
-use nmvs_desk::{Clerk, Repository};
-use nmvs_directory::{Naming, Notice, Registrar};
+use nmvs_desk::{Clerk, Keepers, MOST_CLERKS, Repository};
+use nmvs_directory::{Directory, Naming, Notice};
 use nmvs_history::Histories;
 use nmvs_identifier::Moment;
 use nmvs_journal::{CommitLog, Filed, LogName, UnnamedLog};
 use nmvs_messages::{Desk, Peer, SESSION_LIMITS};
 use nmvs_metrics::Metrics;
+use nmvs_operator::load_users;
 use nmvs_protocol::serve;
-use nmvs_reception::{Alerts, ClerkDesk, JournalDesk, Opened, ProgramClock};
+use nmvs_reception::{Alerts, ClerkDesk, JournalDesk, Opened, Opening, ProgramClock};
+use nmvs_shard::{HashKey, Shards};
 use nmvs_stream::Device;
 use nmvs_trials::examples::NEW_YEAR;
 use nmvs_trials::{Calls, FakeFile};
@@ -126,50 +131,71 @@ fn ask_by_log<
     ask_while_written(rt, alloc, &log, &mut desk, calls)
 }
 
-/// Asks three times at a repository, by a log over a file whose call of this number fails.
-#[derive(Drop)]
-struct AskByLog<'f> {
-    calls: &'f Mutex<Calls>,
-    fails_at: usize,
+/// Asks at the clerk of a repository with one empty shard.
+fn in_repository<
+    'a,
+    J: Naming,
+    H: Histories + Send + Sync,
+    R: Threads + Wait + Clock + Log + Abort + Sync,
+>(
+    rt: &R,
+    opening: Opening<'a, J>,
+    latest: &Mutex<Notice<J>>,
+    history: UnnamedLog,
+    file: FakeFile<'_>,
+) -> usize
+    requires tables { (i : ℕ) → table_of opening.keepers i ≡ H.tables i }
+    requires named { (H.shards ≡ length opening.keepers) × (H.clerks ≡ vec_len opening.windows) × ((i : ℕ) → H.opening i ≡ row opening.shards.items i) }
+    requires many { vec_len opening.shards ≡ length opening.keepers }
+    requires placed { (i : ℕ) → IsPartOf (length opening.keepers) i (row opening.shards.items i) }
+    requires few { vec_len opening.windows ≤ MOST_CLERKS }
+    requires empty { history.seen.log ≡ [] ∷ [] }
+{
+    let alloc = *opening.windows.allocator();
+    let opened = opening.open::<H>(alloc).expect(rt, "memory");
+    let Opened {
+        repository,
+        mut clerks,
+    } = opened;
+    let clerk = clerks.pop().expect(rt, "a clerk");
+    let metrics = Metrics::new(*alloc, 1, 1, true).expect(rt, "memory");
+    let alerts = Alerts::new(*alloc, true);
+    ask_by_log::<J, H, Brand, R>(
+        rt,
+        latest,
+        &repository,
+        clerk,
+        &metrics,
+        &alerts,
+        history,
+        file,
+    )
 }
 
-impl Visit for AskByLog<'_> {
-    /// How many replies were told.
-    type Output = usize;
-
-    fn visit<
-        'r,
-        'a,
-        J: Naming,
-        H: Histories + Send + Sync,
-        R: Threads + Wait + Clock + Log + Abort + Sync,
-    >(
-        self,
-        rt: &'r R,
-        mut opened: Opened<'a, J, H>,
-        _registrar: &mut Registrar<J, &'r R, &'a Global>,
-        latest: &Mutex<Notice<J>>,
-        history: UnnamedLog,
-    ) -> usize {
-        let clerk = opened.clerks.pop().expect(rt, "a clerk");
-        let alloc = *clerk.allocator();
-        let metrics = Metrics::new(alloc, 1, 1, true).expect(rt, "memory");
-        let alerts = Alerts::new(alloc, true);
-        let file = FakeFile {
-            calls: self.calls,
-            fails_at: self.fails_at,
-        };
-        ask_by_log::<J, H, Brand, R>(
-            rt,
-            latest,
-            &opened.repository,
-            clerk,
-            &metrics,
-            &alerts,
-            history,
-            file,
-        )
-    }
+/// Asks at a repository whose directory has one user.
+fn in_directory<J: Naming, R: Threads + Wait + Clock + Log + Abort + Sync>(
+    rt: &R,
+    alloc: &Global,
+    directory: Directory,
+    file: FakeFile<'_>,
+) -> usize
+    requires { directory_book directory ≡ J.book }
+{
+    let opened = directory.open::<J, _, _>(rt, alloc, 1);
+    let (mut registrar, windows) = opened.expect(rt, "a directory");
+    let mut source = Device::new(USERS.as_bytes());
+    let notice = load_users(*alloc, &mut source, &mut registrar, 2).expect(rt, "users");
+    let shards = Shards::new(alloc, 1, HashKey::of(1)).expect(rt, "memory");
+    let history = UnnamedLog::new(&shards);
+    let opening = Opening {
+        windows,
+        shards: shards.into_shards(),
+        keepers: Keepers::new(alloc, 1).expect(rt, "memory"),
+    };
+    let latest = Mutex::new(notice);
+    let told = in_repository::<J, Brand, R>(rt, opening, &latest, history, file);
+    registrar.close();
+    told
 }
 
 /// The number of replies over a file whose call of this number fails, and the calls of the file.
@@ -179,11 +205,11 @@ fn told_until<R: Threads + Wait + Clock + Log + Abort + Sync>(
     fails_at: usize,
 ) -> (usize, Calls) {
     let calls = Mutex::new(Calls::none(alloc));
-    let visit = AskByLog {
+    let file = FakeFile {
         calls: &calls,
         fails_at,
     };
-    let told = at_repository(rt, &alloc, USERS, visit);
+    let told = in_directory::<Brand, R>(rt, &alloc, Directory::new(), file);
     (told, calls.into_inner())
 }
 

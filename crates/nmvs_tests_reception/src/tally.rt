@@ -2,7 +2,6 @@
 use linked_list_allocator::LocalHeap;
 use nmvs_identifier::Name;
 use nmvs_reception::{Raised, Tally, keep_most};
-use std::alloc::Global;
 use std::process::Abort;
 use std::test::*;
 
@@ -15,7 +14,7 @@ fn name(rt: &impl Abort, text: &str) -> Name {
 fn who_has_raised_most_is_first(rt: HostRuntime) {
     let alloc = rt.alloc();
     let mut tally = Tally::new(alloc);
-    for &(user, premises) in &[
+    for (user, premises) in [
         ("ph1", "P1"),
         ("ph2", "P2"),
         ("wh1", "W1"),
@@ -31,7 +30,7 @@ fn who_has_raised_most_is_first(rt: HostRuntime) {
     assert_eq!(rt; list.len(), 3);
     keep_most(&mut list, 2).expect(&rt, "memory");
     assert_eq!(rt; list.len(), 2);
-    for &(place, user, premises, count) in &[(0usize, "ph2", "P4", 3), (1, "wh1", "W1", 2)] {
+    for (place, user, premises, count) in [(0usize, "ph2", "P4", 3), (1, "wh1", "W1", 2)] {
         let raised = Raised {
             premises: name(&rt, premises),
             count,
@@ -43,25 +42,20 @@ fn who_has_raised_most_is_first(rt: HostRuntime) {
     }
 }
 
-/// Whether a row is made on a heap of so many bytes. A list then has it, and else none.
-fn is_noted_on(rt: &impl Abort, alloc: Global, bytes: usize) -> bool {
-    let heap = LocalHeap::new(alloc, bytes).expect(rt, "memory");
-    let mut tally = Tally::new(&heap);
-    let is_noted = tally.note(&name(rt, "ph1"), &name(rt, "P1")).is_ok();
-    let list = tally.list(alloc).expect(rt, "memory");
-    assert_eq!(rt; list.len(), is_noted as usize);
-    is_noted
-}
-
 /// Heaps grow by 16 bytes until one is large enough. A user whose row was refused gets one later.
 #[test]
-fn each_growth_of_a_tally_is_refused_in_turn(rt: HostRuntime) {
+fn each_growth_of_a_tally_is_refused_in_turn(rt: HostRuntime) -> Result<(), Fail> {
+    let (user, premises) = (name(&rt, "ph1"), name(&rt, "P1"));
     let mut refused = false;
     for sixteens in 2..1_000usize {
-        if is_noted_on(&rt, rt.alloc(), sixteens * 16) {
-            assert!(rt; refused);
-            return;
+        let heap = LocalHeap::new(rt.alloc(), sixteens * 16)?;
+        let mut tally = Tally::new(&heap);
+        if tally.note(&user, &premises).is_ok() {
+            let list = tally.list(rt.alloc())?;
+            assert!(rt; refused && list.len() == 1);
+            return Ok(());
         }
+        assert_eq!(rt; tally.list(rt.alloc())?.len(), 0);
         refused = true;
     }
     panic!(rt; "never enough memory");

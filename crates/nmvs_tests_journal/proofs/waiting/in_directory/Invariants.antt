@@ -1,7 +1,7 @@
 use Rattle.std.proofs.Common.{length, vec_len}
 use Rattle.nmvs_desk.specs.Opening.{table_of}
 use Rattle.nmvs_desk.specs.Settlement.{row}
-use Rattle.nmvs_tests_journal.proofs.stage.in_shards.Given as goal
+use Rattle.nmvs_tests_journal.proofs.waiting.in_directory.Given as goal
 
 -- the histories that were just made
 abbrev pub ghosts-in_repository : goal.ghosts-in_repository
