@@ -39,12 +39,12 @@ pub(crate) struct Group {
 /// Counts the entries that a filter takes by their parts, and writes a row a group. The rows are in order of first appearance
 /// in the list of these entries, oldest first. So the groups of a day, a week or a month come in order of time.
 ///
-/// It takes memory for a reference to each entry, and for the groups and their rows. A trail that is not in order of time
-/// takes the memory for the references twice.
+/// It takes memory for a copy of each entry, and for the groups and their rows. A trail that is not in order of time takes
+/// the memory for the copies twice.
 ///
 /// # Errors
 ///
-/// There is no memory for the references, a group or a row, or a write failed.
+/// There is no memory for the copies, a group or a row, or a write failed.
 pub fn write_groups<A: Allocator, W: Sink>(
     alloc: Global,
     shard: &Shard<A>,
@@ -82,9 +82,9 @@ fn count_all(
     alloc: Global,
     key: HashKey,
     by: &[By],
-    entries: &[&Entry],
+    entries: &[Entry],
 ) -> Result<Vec<Group>, AllocError>
-    ensures { IfOk result (λ groups. (ds : List spec.Group) × (map (λ d. d.first) ds ≡ map (λ e. e.now) entries.now)
+    ensures { IfOk result (λ groups. (ds : List spec.Group) × (map (λ d. d.first) ds ≡ entries.now)
         × All spec.IsSingle ds × (groups.items ≡ spec.groups_of by.now ds)) }
 {
     let mut keys = IndexSet::with_hasher(alloc, key);

@@ -347,7 +347,7 @@ impl<'a, 'c> Reader<Shard<&'a Global>> for ReportOf<'c> {
 
     fn read(self, shard: &Shard<&'a Global>) -> Result<(String, usize), AllocError> {
         let text = report(self.alloc, shard, self.code)?;
-        Ok((text, shard.trail().len()))
+        Ok((text, shard.len()))
     }
 }
 
