@@ -5,10 +5,9 @@ use Rattle.std.proofs.lemmas.Bool.{eqb-true}
 use Rattle.std.proofs.lemmas.Bool.Decides.{nat_tests}
 use Rattle.std.proofs.lemmas.List.Elements.{filter-append, All-head, All-tail}
 use Rattle.nmvs_rules.specs.declared.entry.Entry.{Entry}
-use Rattle.nmvs_rules.specs.declared.repeat.Repeat.TheVariants as repeat
 use Rattle.nmvs_rules.specs.Laws.{owned, placed_at, IsMerging}
 use Rattle.nmvs_rules.specs.Questions.{code_of}
-use Rattle.nmvs_rules.specs.Repeats.{repeat_of, AreNewAfter, AreNew}
+use Rattle.nmvs_rules.specs.Repeats.{AreNewAfter, AreNew}
 use Rattle.nmvs_shard.proofs.Newness.{new-part}
 use Rattle.nmvs_desk.specs.Placing.{place_of, shard_of, IsPlaced}
 
