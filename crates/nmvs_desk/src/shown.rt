@@ -1,10 +1,11 @@
 //! The entries that an answer shows.
-ghost use Rattle.std.specs.Prelude.{◌≡◌, ◌==◌, ◌<◌, length, None, Some};
+ghost use Rattle.std.specs.Prelude.{◌≡◌, ◌<◌, None, Some};
 ghost use Rattle.std.specs.Option.{ForSome};
 ghost use Rattle.nmvs_tables.specs.Cursors.{remaining, IsCursorOf};
 ghost use Rattle.nmvs_desk.specs.Answers.{cursor_of};
 
 use nmvs_history::{Histories, Sight};
+use nmvs_messages::EntryList;
 use nmvs_shard::{Cursor, Outcome};
 use std::marker::{Model, PhantomData};
 
@@ -47,11 +48,12 @@ impl<H: Histories> Shown<H> {
             of: PhantomData,
         }
     }
+}
 
-    /// Whether none is left to be fetched.
-    pub fn is_empty(&self) -> bool
-        ensures { result ≡ (length self.now == 0) }
-    {
+impl<H: Histories> EntryList for Shown<H> {
+    ghost left = { λ s. s };
+
+    fn is_empty(&self) -> bool {
         self.cursor.left == 0
     }
 }

@@ -10,6 +10,7 @@ mod command;
 mod commands;
 mod desk;
 mod end;
+mod entry_list;
 mod fields;
 mod laws;
 mod limits;
@@ -18,12 +19,13 @@ mod pending_line;
 mod withheld;
 mod words;
 
-pub use answer::{Answer, Content, Entries, Text, Turn};
+pub use answer::{Answer, Content, Shown, Text, Turn};
 pub use ask::{Ask, Asked, Line, LineFault, Unread};
 pub use command::{Command, CommandFault};
 pub use commands::{command_of, read_command};
 pub use desk::Desk;
 pub use end::End;
+pub use entry_list::EntryList;
 pub use fields::{Fields, KEPT_FIELDS, fields_of};
 pub use laws::commands_are_read;
 pub use limits::{

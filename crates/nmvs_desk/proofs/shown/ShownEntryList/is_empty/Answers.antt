@@ -1,6 +1,6 @@
 use Rattle.std.proofs.Common.{◌∙◌, [], length, nat_eq, sym, ap}
 use Rattle.nmvs_tables.proofs.CursorLemmas.{length-remaining}
-use Rattle.nmvs_desk.proofs.shown.Shown.is_empty.Goals as goal
+use Rattle.nmvs_desk.proofs.shown.ShownEntryList.is_empty.Goals as goal
 
 pub returns : goal.returns
 returns g c =
