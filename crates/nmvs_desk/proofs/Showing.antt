@@ -10,7 +10,8 @@ use Rattle.nmvs_tables.proofs.CursorLemmas.{remaining-grown, IsCursorOf-grown}
 use Rattle.nmvs_shard.specs.Asking.{Asks, shown_in}
 use Rattle.nmvs_shard.specs.declared.shard.Outcome.{Outcome}
 use Rattle.nmvs_shard.specs.declared.shard.Outcome.TheVariants as outcome
-use Rattle.nmvs_desk.specs.Answers.{cursor_of, entries_of, shown_by}
+use Rattle.nmvs_messages.specs.Withheld.{entries_left}
+use Rattle.nmvs_desk.specs.Answers.{cursor_of, shown_by}
 
 -- a cursor over the earlier trail is one over the later trail, with the same entries left
 pub cursor_kept : (t u : List Entry) (c : Cursor) → IsPrefix t u → IsCursorOf t c → IsCursorOf u c
@@ -26,11 +27,11 @@ cursor_stands old new put (outcome.Again a) asks begins = λ c here. absurd cc
 cursor_stands old new put outcome.Other asks begins = λ c here. absurd cc
 
 -- and the entries that the rules show
-pub shows_rules : (old new : List Entry) (put : Put) (o : Outcome) (r : Option (List Entry)) → Asks old put new o → IsPrefix old new → (cursor_of o ≡ None → r ≡ None) → ForSome (cursor_of o) (λ c. r ≡ Some (remaining new c)) → entries_of r ≡ shown_by old put o
+pub shows_rules : (old new : List Entry) (put : Put) (o : Outcome) (r : Option (List Entry)) → Asks old put new o → IsPrefix old new → (cursor_of o ≡ None → r ≡ None) → ForSome (cursor_of o) (λ c. r ≡ Some (remaining new c)) → entries_left (λ (s : List Entry). s) r ≡ shown_by old put o
 shows_rules old new put (outcome.New a) r asks begins none some = by a.shown refl
   where
-    by : (o : Option Cursor) → a.shown ≡ o → entries_of r ≡ shown_by old put (outcome.New a)
-    by None is = ap entries_of (none is) ∙ ap (shown_in old) (sym is) ∙ asks.1.shows
-    by (Some c) is = ap entries_of (some c is) ∙ remaining_kept old new c begins (asks.1.cursor c is) ∙ ap (shown_in old) (sym is) ∙ asks.1.shows
-shows_rules old new put (outcome.Again a) r asks begins none some = ap entries_of (none refl)
-shows_rules old new put outcome.Other r asks begins none some = ap entries_of (none refl)
+    by : (o : Option Cursor) → a.shown ≡ o → entries_left (λ (s : List Entry). s) r ≡ shown_by old put (outcome.New a)
+    by None is = ap (entries_left (λ (s : List Entry). s)) (none is) ∙ ap (shown_in old) (sym is) ∙ asks.1.shows
+    by (Some c) is = ap (entries_left (λ (s : List Entry). s)) (some c is) ∙ remaining_kept old new c begins (asks.1.cursor c is) ∙ ap (shown_in old) (sym is) ∙ asks.1.shows
+shows_rules old new put (outcome.Again a) r asks begins none some = ap (entries_left (λ (s : List Entry). s)) (none refl)
+shows_rules old new put outcome.Other r asks begins none some = ap (entries_left (λ (s : List Entry). s)) (none refl)

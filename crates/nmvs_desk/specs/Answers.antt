@@ -43,11 +43,6 @@ abbrev pub cursor_of : Outcome → Option Cursor
 cursor_of (outcome.New a) = a.shown
 cursor_of _ = None
 
--- the entries that a list shows; none without a list
-abbrev pub entries_of : Option (List Entry) → List Entry
-entries_of None = []
-entries_of (Some shown) = shown
-
 -- the entries that an outcome shows if the question was put on this trail: those that the rules show, and no other
 abbrev pub shown_by : List Entry → Put → Outcome → List Entry
 shown_by trail put (outcome.New a) = shown_of trail put

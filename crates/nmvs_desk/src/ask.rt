@@ -7,7 +7,8 @@ ghost use Rattle.nmvs_rules.specs.Questions.{code_of};
 ghost use Rattle.nmvs_rules.specs.Rules.{IsLawful};
 ghost use Rattle.nmvs_shard.specs.Asking.{WasPut};
 ghost use Rattle.nmvs_desk.specs.declared.ask.Receipt.{Receipt};
-ghost use Rattle.nmvs_desk.specs.Answers.{Answers, IsShown, entries_of, receipts_then};
+ghost use Rattle.nmvs_desk.specs.Answers.{Answers, IsShown, receipts_then};
+ghost use Rattle.nmvs_messages.specs.Withheld.{entries_left};
 ghost use Rattle.nmvs_desk.specs.Clerks.{IsClerk};
 ghost use Rattle.nmvs_desk.specs.Opening.{AreNew};
 ghost use Rattle.nmvs_desk.specs.Placing.{shard_of, IsPartOf};
@@ -162,7 +163,7 @@ impl<'a, J: Naming, H: Histories, B: Allocator> Clerk<'a, J, H, B> {
         put: &Put,
     ) -> Result<(Outcome, Option<Shown<H>>), AllocError>
         ensures answers { let count = repository.now.shards in
-            IfOk result (λ r. Answers count (shard_of count (code_of put.now.question)) put.now self.old self.new r.0 (entries_of r.1)) }
+            IfOk result (λ r. Answers count (shard_of count (code_of put.now.question)) put.now self.old self.new r.0 (entries_left (λ s. s) r.1)) }
         ensures untagged { put.now.tag ≡ None → IfOk result (λ r. WasPut r.0) }
         ensures unchanged { OnErr result (self.new ≡ self.old) }
     {

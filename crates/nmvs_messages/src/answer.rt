@@ -1,6 +1,6 @@
 //! The answers to lines.
-ghost use Rattle.std.specs.Prelude.{◌≡◌, [], string_bytes};
-ghost use Rattle.nmvs_line.specs.Export.{export_text};
+ghost use Rattle.std.specs.Prelude.{◌≡◌, string_bytes};
+ghost use Rattle.nmvs_messages.specs.Withheld.{text_left};
 
 use crate::{EntryList, LineFault};
 use boxcar::tag::{self, Names};
@@ -19,7 +19,7 @@ pub struct Answer {
 #[derive(Drop)]
 pub enum Content {
     /// The repository's reply to a question, and the text of the entries that it shows. Only an audit shows entries.
-    Replied(Reply, Shown),
+    Replied(Reply, ShownText),
     /// The report of a product code, lines that each end with LF.
     Reported(Text),
     /// The desk turned the line away.
@@ -62,11 +62,11 @@ pub enum Turn {
 /// The text of the entries that an audit shows, oldest first, each as its line (Article 35). It has no bytes, and contracts alone
 /// see it. The entries are fetched from the list that the desk gives with the answer.
 #[derive(Drop)]
-pub struct Shown {
+pub struct ShownText {
     text: tag::Tag,
 }
 
-impl Model for Shown {
+impl Model for ShownText {
     ghost use Rattle.std.specs.Prelude.{ℕ, List};
 
     ghost Value = { List ℕ };
@@ -82,23 +82,16 @@ impl<L: EntryList> Names<L> for TextOf {
     ghost numbers = { λ l. export_text (L.left l) };
 }
 
-impl Shown {
-    /// The text of no entries.
-    pub fn none() -> Shown
-        ensures { result ≡ [] }
+impl ShownText {
+    /// The text of the entries that a list has left; none without a list.
+    pub fn of<L: EntryList>(list: &Option<L>) -> ShownText
+        ensures { result ≡ text_left L.left list.now }
     {
-        Shown {
-            text: tag::Tag::empty(),
-        }
-    }
-
-    /// The text of the entries that a list has left.
-    pub fn of<L: EntryList>(list: &L) -> Shown
-        ensures { result ≡ export_text (L.left list.now) }
-    {
-        Shown {
-            text: tag::Tag::of::<L, TextOf>(list),
-        }
+        let text = match list {
+            Some(list) => tag::Tag::of::<L, TextOf>(list),
+            None => tag::Tag::empty(),
+        };
+        ShownText { text }
     }
 }
 

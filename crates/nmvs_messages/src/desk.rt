@@ -7,7 +7,6 @@ ghost use Rattle.nmvs_messages.specs.Withheld.{AreReleased, shown_text, text_lef
 
 use crate::{Ask, EntryList, Peer, Released, Withheld, WithheldAnswers};
 use nmvs_rules::Entry;
-use std::alloc::Global;
 
 /// Answers the asks of a session. A desk that waits carries the runtime.
 pub trait Desk {
@@ -36,9 +35,10 @@ pub trait Desk {
         ensures released { AreReleased (releases self.old self.new) withheld.old result };
 
     /// Fetches the next entries of a list, oldest first: as many as the buffer has room for, which does not grow.
-    fn fetch(&self, list: &mut Self::List, entries: &mut Vec<Entry, Global>)
+    fn fetch(&self, list: &mut Self::List, entries: &mut Vec<Entry>)
         ensures fetched { let room = vec_capacity entries.old - vec_len entries.old in
             entries.new.items ≡ entries.old.items ++ take room (Self.List.left list.old) }
         ensures rest { let room = vec_capacity entries.old - vec_len entries.old in
-            Self.List.left list.new ≡ drop room (Self.List.left list.old) };
+            Self.List.left list.new ≡ drop room (Self.List.left list.old) }
+        ensures capacity { vec_capacity entries.new ≡ vec_capacity entries.old };
 }

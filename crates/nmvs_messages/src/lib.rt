@@ -12,6 +12,7 @@ mod desk;
 mod end;
 mod entry_list;
 mod fields;
+mod gathered;
 mod laws;
 mod limits;
 mod peer;
@@ -19,7 +20,7 @@ mod pending_line;
 mod withheld;
 mod words;
 
-pub use answer::{Answer, Content, Shown, Text, Turn};
+pub use answer::{Answer, Content, ShownText, Text, Turn};
 pub use ask::{Ask, Asked, Line, LineFault, Unread};
 pub use command::{Command, CommandFault};
 pub use commands::{command_of, read_command};
@@ -27,6 +28,7 @@ pub use desk::Desk;
 pub use end::End;
 pub use entry_list::EntryList;
 pub use fields::{Fields, KEPT_FIELDS, fields_of};
+pub use gathered::GatheredEntries;
 pub use laws::commands_are_read;
 pub use limits::{
     LONGEST_LINE, Limits, MOST_LINES, MOST_READS, NO_LIMITS, READ_SIZE, SESSION_LIMITS,
