@@ -1,6 +1,9 @@
 //! Buffered sessions that share a desk.
 use nmvs_connections::BufferedSession;
-use nmvs_messages::{Ask, Content, Desk, End, Peer, Released, Turn, Withheld, WithheldAnswers};
+use nmvs_messages::{
+    Ask, Content, Desk, End, GatheredEntries, Peer, Released, Turn, Withheld, WithheldAnswers,
+};
+use nmvs_rules::Entry;
 use std::alloc::Global;
 use std::process::Abort;
 use std::test::*;
@@ -9,8 +12,10 @@ use std::test::*;
 #[derive(Clone, Copy)]
 struct Stranger;
 
-impl<'a> Desk<'a> for Stranger {
+impl Desk for Stranger {
     ghost use Rattle.nmvs_messages.specs.Withheld.{AtOnce, Stays};
+
+    type List = GatheredEntries;
 
     ghost takes = { λ _ _ _ _ _. Unit {0} };
 
@@ -18,18 +23,26 @@ impl<'a> Desk<'a> for Stranger {
 
     ghost moves = { Stays };
 
-    fn take(&mut self, _from: &Peer, _ask: &Ask) -> Withheld<'a> {
-        Withheld::new(Content::Turned(Turn::Nobody))
+    fn take(&mut self, _from: &Peer, _ask: &Ask) -> (Withheld, Option<GatheredEntries>) {
+        (Withheld::new(Content::Turned(Turn::Nobody)), None)
     }
 
-    fn release<'h>(&mut self, withheld: &'h mut WithheldAnswers<'a>) -> Released<'h, 'a> {
+    fn fetch(&self, list: &mut GatheredEntries, entries: &mut Vec<Entry>) {
+        list.fetch(entries);
+    }
+
+    fn release<'h>(&mut self, withheld: &'h mut WithheldAnswers) -> Released<'h> {
         withheld.release()
     }
 }
 
 /// Feeds a session these bytes, unless it ended or waits. Returns the number that it took.
-fn take(session: &mut BufferedSession, more: &[u8], withheld: &mut WithheldAnswers<'_>) -> usize {
-    if session.end().is_none() && session.waiting() == 0 {
+fn take(
+    session: &mut BufferedSession<GatheredEntries>,
+    more: &[u8],
+    withheld: &mut WithheldAnswers,
+) -> usize {
+    if session.end().is_none() && session.waiting() == 0 && !session.is_listing() {
         session.take(more, withheld, &Peer::Anyone, &mut Stranger)
     } else {
         0
@@ -37,14 +50,14 @@ fn take(session: &mut BufferedSession, more: &[u8], withheld: &mut WithheldAnswe
 }
 
 /// Sends this number of bytes, if as many are unsent.
-fn send(session: &mut BufferedSession, count: usize) {
+fn send(session: &mut BufferedSession<GatheredEntries>, count: usize) {
     if count <= session.unsent().len() {
         session.advance(count);
     }
 }
 
 /// These bytes are unsent.
-fn has_unsent(rt: &impl Abort, session: &BufferedSession, wanted: &[u8]) {
+fn has_unsent(rt: &impl Abort, session: &BufferedSession<GatheredEntries>, wanted: &[u8]) {
     assert_eq!(rt; session.unsent(), wanted);
 }
 
@@ -52,7 +65,7 @@ fn has_unsent(rt: &impl Abort, session: &BufferedSession, wanted: &[u8]) {
 fn send_on(
     rt: &impl Abort,
     alloc: Global,
-    session: &mut BufferedSession,
+    session: &mut BufferedSession<GatheredEntries>,
     count: usize,
     wanted: &[u8],
 ) {
@@ -65,8 +78,8 @@ fn send_on(
 fn take_and_tell(
     rt: &impl Abort,
     alloc: Global,
-    one: &mut BufferedSession,
-    other: &mut BufferedSession,
+    one: &mut BufferedSession<GatheredEntries>,
+    other: &mut BufferedSession<GatheredEntries>,
 ) {
     let mut withheld = WithheldAnswers::new();
     let mut taken = [0; 3];
@@ -76,8 +89,8 @@ fn take_and_tell(
     assert_eq!(rt; taken, [15, 1, 24]);
     has_unsent(rt, one, b"");
     let released = Stranger.release(&mut withheld);
-    other.tell(alloc, &released);
-    one.tell(alloc, &released);
+    other.tell(&released);
+    one.tell(&released);
 }
 
 #[test]

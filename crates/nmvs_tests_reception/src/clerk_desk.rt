@@ -110,7 +110,7 @@ impl<'s> Clock for Seconds<'s> {
 }
 
 /// The answer of the desk to one line of this peer.
-fn asked<'a, D: Desk<'a>>(
+fn asked<D: Desk>(
     rt: &impl Abort,
     alloc: Global,
     desk: &mut D,
@@ -131,7 +131,7 @@ fn asked<'a, D: Desk<'a>>(
 }
 
 /// The desk writes this answer to one line of this peer. `shows` says of what.
-fn is_answered<'a, D: Desk<'a>>(
+fn is_answered<D: Desk>(
     rt: &impl Abort,
     alloc: Global,
     desk: &mut D,
@@ -246,7 +246,7 @@ fn count_put(lines: &[(&str, &str)]) -> usize {
 }
 
 /// Asks the lines of this example, one after the other.
-fn ask_lines<'a, 'r, D: Desk<'a>, J: Naming, R: Wait + Log + Abort>(
+fn ask_lines<'r, D: Desk, J: Naming, R: Wait + Log + Abort>(
     rt: &'r R,
     alloc: Global,
     desk: &mut D,
@@ -397,7 +397,7 @@ const OF_PEERS: &[(NameOf, &str, &str, &str)] = &[
 ];
 
 /// Asks the lines of peers.
-fn ask_of_peers<'a, D: Desk<'a>>(rt: &impl Abort, alloc: Global, desk: &mut D) {
+fn ask_of_peers<D: Desk>(rt: &impl Abort, alloc: Global, desk: &mut D) {
     for (of, name, line, answer) in OF_PEERS {
         let peer = of.peer(Name::read(name).expect(rt, "a name"));
         is_answered(rt, alloc, desk, &peer, (line, answer), line);
@@ -405,7 +405,7 @@ fn ask_of_peers<'a, D: Desk<'a>>(rt: &impl Abort, alloc: Global, desk: &mut D) {
 }
 
 /// Asks one line 20 times, above a rate of one line a second.
-fn ask_over_the_rate<'a, D: Desk<'a>>(rt: &impl Abort, alloc: Global, desk: &mut D) {
+fn ask_over_the_rate<D: Desk>(rt: &impl Abort, alloc: Global, desk: &mut D) {
     let mut over = 0u32;
     for _ in 0..20u32 {
         let said = asked(rt, alloc, desk, &Peer::Anyone, "au1 REPORT 09506000134352");
