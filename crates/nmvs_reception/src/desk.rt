@@ -304,7 +304,7 @@ fn answer_by<H: Histories>(
     outcome: Outcome,
     list: Option<Shown<H>>,
 ) -> (Content, Option<Basis>, Option<Shown<H>>)
-    ensures says { Says shard outcome (entries_left (λ s. s) list.entry) result.0 result.1 }
+    ensures says { Says shard outcome (entries_left (λ s. s) list) result.0 result.1 }
     ensures shows { content_shown result.0 ≡ text_left (λ s. s) result.2 }
 {
     match outcome {
