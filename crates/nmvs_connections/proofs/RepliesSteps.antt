@@ -142,16 +142,18 @@ words_told first count released awaited old new worded ended w =
     let whole = session_text_last awaited w.part in
     let shown = cond (ends_with_reply w.part) awaited [] in
     elim w.all [
-      | inl all ↦
-          ([],
-          whole ∙ ap (λ (t : List ℕ). t ++ shown) (w.text_is ∙ ap (λ (t : List ℕ). w.text ++ t) all.1 ∙ append-nil w.text)
-          ∙ ap (λ (o : Option Bool). words_of o awaited w.text) (sym all.0) ∙ sym (append-nil (words_of worded awaited w.text)),
-          inl (ap (λ (o : Option Bool). ended_by o ended) all.0, refl))
-      | inr lost ↦
-          (w.untold ++ shown,
-          whole ∙ ap (λ (t : List ℕ). t ++ shown) w.text_is ∙ append_assoc w.text w.untold shown
-          ∙ ap (λ (t : List ℕ). t ++ (w.untold ++ shown)) (sym (append-nil w.text) ∙ ap (λ (o : Option Bool). words_of o awaited w.text) (sym lost)),
-          inr (subst (λ (o : Option Bool). LacksMemory (ended_by o ended)) (sym lost) tt))
+      | inl all ↦ (
+        [],
+        whole ∙ ap (λ (t : List ℕ). t ++ shown) (w.text_is ∙ ap (λ (t : List ℕ). w.text ++ t) all.1 ∙ append-nil w.text)
+            ∙ ap (λ (o : Option Bool). words_of o awaited w.text) (sym all.0) ∙ sym (append-nil (words_of worded awaited w.text)),
+        inl (ap (λ (o : Option Bool). ended_by o ended) all.0, refl),
+      )
+      | inr lost ↦ (
+        w.untold ++ shown,
+        whole ∙ ap (λ (t : List ℕ). t ++ shown) w.text_is ∙ append_assoc w.text w.untold shown
+            ∙ ap (λ (t : List ℕ). t ++ (w.untold ++ shown)) (sym (append-nil w.text) ∙ ap (λ (o : Option Bool). words_of o awaited w.text) (sym lost)),
+        inr (subst (λ (o : Option Bool). LacksMemory (ended_by o ended)) (sym lost) tt),
+      )
     ]
 
 -- the replies of a session that waits, with the text of its part of the released answers

@@ -193,9 +193,7 @@ impl<L: EntryList> Connection<L> {
         }
         let was_pending = self.session.has_pending_line();
         let (buffer, reports) = (&mut scratch.buffer, !scratch.reported);
-        let next = self
-            .session
-            .take(rt, pool, buffer, reports, withheld, desk);
+        let next = self.session.take(rt, pool, buffer, reports, withheld, desk);
         scratch.reported = scratch.reported || withheld.ends_long();
         let goes_on = was_pending && !self.session.is_waiting();
         let begins = !was_pending && self.session.has_pending_line();

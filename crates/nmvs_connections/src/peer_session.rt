@@ -308,7 +308,14 @@ impl<L: EntryList> PeerSession<L> {
         };
         self.served = served;
         self.filled = count == READ_SIZE || self.stream.is_http();
-        let taken = take_lines(&mut self.session, &self.peer, chunk, reports, withheld, desk);
+        let taken = take_lines(
+            &mut self.session,
+            &self.peer,
+            chunk,
+            reports,
+            withheld,
+            desk,
+        );
         let next = next_of(taken == count, reports, withheld);
         if is_lost(&mut self.unread, &chunk[taken..]) {
             self.stage = Stage::Ending;
@@ -352,7 +359,14 @@ impl<L: EntryList> PeerSession<L> {
         self.filled = true;
         let count = self.unread.len();
         let unread = self.unread.as_slice();
-        let taken = take_lines(&mut self.session, &self.peer, unread, reports, withheld, desk);
+        let taken = take_lines(
+            &mut self.session,
+            &self.peer,
+            unread,
+            reports,
+            withheld,
+            desk,
+        );
         self.unread.rotate_left(taken);
         self.unread.truncate(count - taken);
         next_of(taken == count, reports, withheld)

@@ -199,11 +199,7 @@ fn taken_until<L: EntryList>(
 
 /// Takes a line, given with at least its kept bytes. With its answer comes the list of the entries that it shows. The third
 /// value is whether it is QUIT.
-fn take_line<D: Desk>(
-    line: &[u8],
-    from: &Peer,
-    desk: &mut D,
-) -> (Withheld, Option<D::List>, bool)
+fn take_line<D: Desk>(line: &[u8], from: &Peer, desk: &mut D) -> (Withheld, Option<D::List>, bool)
     ensures takes { (x : List ℕ) → kept_part line.now ≡ kept_part x → TakesLine (TakesFrom D.takes from.now) desk.old x result.0 desk.new }
     ensures shows { shown_text result.0 ≡ text_left D.List.left result.1 }
     ensures quit { (x : List ℕ) → kept_part line.now ≡ kept_part x → (IsTrue result.2 ↔ (x ≡ line_text Line.Quit)) }

@@ -10,8 +10,8 @@ ghost use Rattle.nmvs_rehearsal.specs.Rehearsal.{Rehearsal, Takes};
 use crate::roster::actor_of;
 use nmvs_identifier::{Moment, Name, ProductCode, Tag};
 use nmvs_messages::{
-    Ask, Asked, Content, Desk, End, GatheredEntries, Peer, Released, SESSION_LIMITS, ShownText, Text,
-    Turn, Withheld, WithheldAnswers,
+    Ask, Asked, Content, Desk, End, GatheredEntries, Peer, Released, SESSION_LIMITS, ShownText,
+    Text, Turn, Withheld, WithheldAnswers,
 };
 use nmvs_protocol::serve;
 use nmvs_record::report;
@@ -170,7 +170,10 @@ impl<'a> RehearsalDesk<'a> {
 }
 
 /// The reply to a question, with the list of the entries that it shows.
-fn replied<'a>(reply: Reply, list: Option<GatheredEntries<&'a Global>>) -> (Content, Option<GatheredEntries<&'a Global>>)
+fn replied<'a>(
+    reply: Reply,
+    list: Option<GatheredEntries<&'a Global>>,
+) -> (Content, Option<GatheredEntries<&'a Global>>)
     ensures content { result.0 ≡ Replied reply (text_left (λ s. s) list.entry) }
     ensures list { result.1 ≡ list.entry }
 {

@@ -49,9 +49,10 @@ returns-clause-tells g c =
     let t = words_told is.first is.waiting c.args.released.now shown old new worded is.end w in
     let part : TellsPart is.first is.waiting c.args.released.now shown (words_of worded shown w.text) is.end (ended_by worded is.end) =
     record { untold = t.0; part = w.part; its_own = w.its_own; none = w.none; text_is = t.1; stays = t.2 } in
-    rw (← c.self.view_is)
-    (words_of worded shown w.text,
-    (λ i. unsent i ++ kept i) ∙ append_assoc (drop is.gone old) w.text last
-    ∙ ap (λ (x : List ℕ). x ++ (w.text ++ last)) (sym (ap (λ (x : List ℕ). drop is.gone old ++ x) (told_first is.waiting shown some) ∙ append-nil (drop is.gone old))),
-    subst (λ (e : Option End). TellsPart is.first is.waiting c.args.released.now (while_waiting is.waiting shown) (words_of worded shown w.text) is.end e) (sym c.kept_end-self-inside.ensures)
-    (subst (λ (x : List ℕ). TellsPart is.first is.waiting c.args.released.now x (words_of worded shown w.text) is.end (ended_by worded is.end)) (sym (waits_first is.waiting shown some)) part))
+    rw (← c.self.view_is) (
+      words_of worded shown w.text,
+      (λ i. unsent i ++ kept i) ∙ append_assoc (drop is.gone old) w.text last
+          ∙ ap (λ (x : List ℕ). x ++ (w.text ++ last)) (sym (ap (λ (x : List ℕ). drop is.gone old ++ x) (told_first is.waiting shown some) ∙ append-nil (drop is.gone old))),
+      subst (λ (e : Option End). TellsPart is.first is.waiting c.args.released.now (while_waiting is.waiting shown) (words_of worded shown w.text) is.end e) (sym c.kept_end-self-inside.ensures)
+          (subst (λ (x : List ℕ). TellsPart is.first is.waiting c.args.released.now x (words_of worded shown w.text) is.end (ended_by worded is.end)) (sym (waits_first is.waiting shown some)) part),
+    )

@@ -15,11 +15,13 @@ pub returns-in-Ok-Again-clause-judges : goal.returns-in-Ok-Again-clause-judges
 returns-in-Ok-Again-clause-judges c =
     let put = put_at c.args.moment c.args.user.now c.in-Some.actor c.args.tag c.args.question.now in
     let asks = subst (λ o. Asks c.self.inside.shard put c.ask.new.self o) c.in-Ok-Again.field-0-is c.in-Ok-Again.ensures.asks in
-    rw (← c.self.view_is, c.replied-in-Ok-Again.ensures.content)
-    ([], refl,
-    record {
-      actor = c.in-Some.actor;
-      rostered = c.in-Some.ensures.known;
-      answers = inr (repeats c.self.inside.shard c.ask.new.self put c.in-Ok-Again.answered asks);
-      moments = refl;
-    })
+    rw (← c.self.view_is, c.replied-in-Ok-Again.ensures.content) (
+      [],
+      refl,
+      record {
+        actor = c.in-Some.actor;
+        rostered = c.in-Some.ensures.known;
+        answers = inr (repeats c.self.inside.shard c.ask.new.self put c.in-Ok-Again.answered asks);
+        moments = refl;
+      },
+    )
