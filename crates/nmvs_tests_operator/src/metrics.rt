@@ -1,6 +1,7 @@
 use http_server::{Config, Connection, serve};
 use nmvs_messages::{
-    Ask, Asked, Content, Desk, GatheredEntries, Line, Peer, Released, Turn, Withheld, WithheldAnswers,
+    Ask, Asked, Content, Desk, GatheredEntries, Line, Peer, Released, Turn, Withheld,
+    WithheldAnswers,
 };
 use nmvs_metrics::{
     Answered, Bucket, ClockReading, Counted, Fault, Histogram, LogSnapshot, Metrics,

@@ -1,8 +1,8 @@
 //! The lines that a peer may send.
 use nmvs_identifier::Name;
 use nmvs_messages::{
-    Ask, Content, Desk, End, GatheredEntries, NameOf, Peer, Released, SESSION_LIMITS, Turn, Withheld,
-    WithheldAnswers,
+    Ask, Content, Desk, End, GatheredEntries, NameOf, Peer, Released, SESSION_LIMITS, Turn,
+    Withheld, WithheldAnswers,
 };
 use nmvs_protocol::serve;
 use nmvs_rules::Entry;

@@ -1,8 +1,8 @@
 //! Sessions over bytes that come and go in pieces.
 use nmvs_identifier::{Batch, Expiry};
 use nmvs_messages::{
-    Ask, Asked, Basis, Content, Desk, End, GatheredEntries, Limits, Peer, Released, ShownText, Text,
-    Turn, Withheld, WithheldAnswers,
+    Ask, Asked, Basis, Content, Desk, End, GatheredEntries, Limits, Peer, Released, ShownText,
+    Text, Turn, Withheld, WithheldAnswers,
 };
 use nmvs_protocol::{PIECE, Session, read_line, serve};
 use nmvs_rules::{Entry, Question, Reply};

@@ -188,7 +188,11 @@ fn lines_after_more(
         let mut piece = Vec::with_capacity(desk.alloc, PIECE).expect(rt, "memory");
         session.more(&mut piece, desk).expect(rt, "memory");
     }
-    session.unsent().iter().filter(|byte| **byte == b'\n').count()
+    session
+        .unsent()
+        .iter()
+        .filter(|byte| **byte == b'\n')
+        .count()
 }
 
 /// The entries of an audit follow its reply in pieces of 32, and no line is taken before the last.
