@@ -34,10 +34,9 @@ impl SameTag {
             tag: Some(self.tag),
             ..put_of(rt, clerk, place.moment, &self.user, question)
         };
-        match clerk
-            .ask(rt, place.repository, &put, &None)
-            .expect(rt, "an answer")
-        {
+        let asked = clerk.ask(rt, place.repository, &put, &None);
+        let (outcome, _list) = asked.expect(rt, "an answer");
+        match outcome {
             Outcome::New(answered) | Outcome::Again(answered) => {
                 Some((answered.place, answered.reply))
             }

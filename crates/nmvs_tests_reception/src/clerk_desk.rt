@@ -108,12 +108,7 @@ impl<'s> Clock for Seconds<'s> {
 }
 
 /// The answer of the desk to one line of this peer.
-fn asked<'a, D: Desk<'a>>(
-    alloc: Global,
-    desk: &mut D,
-    from: &Peer,
-    line: &str,
-) -> Result<Vec<u8>, Fail> {
+fn asked<D: Desk>(alloc: Global, desk: &mut D, from: &Peer, line: &str) -> Result<Vec<u8>, Fail> {
     let input = format!(in alloc; "{line}\n")?;
     let mut output = Vec::new(alloc);
     let _end = serve(
