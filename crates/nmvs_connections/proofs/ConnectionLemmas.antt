@@ -10,29 +10,32 @@ use Rattle.nmvs_stream.specs.InputLines.{input_lines, lines_after, unfinished_li
 use Rattle.nmvs_stream.proofs.LinesOfPieces.{lines_after-append}
 use Rattle.nmvs_connections.specs.declared.next.Next.{Next}
 use Rattle.nmvs_connections.specs.Peers.{PeerState, IsConnection, StaysPeer}
-use Rattle.nmvs_connections.specs.Replies.{SessionState, TellsPart}
+use Rattle.nmvs_connections.specs.Replies.{SessionState, TellsPart, replied}
 use Rattle.nmvs_connections.specs.Turns.{ConnectionSteps, Kept, LinesStep, LinesTaken, TakesBy, TellsOwn}
 
 pub kept_same : (a b : SessionState) → b ≡ a → Kept a b
 kept_same a b same = record {
   fed = ap (λ (t : SessionState). t.fed) same;
-  text = ap (λ (t : SessionState). t.sent ++ t.unsent) same;
+  text = ap replied same;
   ended = ap (λ (t : SessionState). t.ended) same;
   first = ap (λ (t : SessionState). t.first) same;
   waiting = ap (λ (t : SessionState). t.waiting) same;
+  awaited = ap (λ (t : SessionState). t.awaited) same;
 }
 
 pub kept_twice : (a b c : SessionState) → Kept a b → Kept b c → Kept a c
-kept_twice a b c k l = record { fed = l.fed ∙ k.fed; text = l.text ∙ k.text; ended = l.ended ∙ k.ended; first = l.first ∙ k.first; waiting = l.waiting ∙ k.waiting }
+kept_twice a b c k l = record { fed = l.fed ∙ k.fed; text = l.text ∙ k.text; ended = l.ended ∙ k.ended; first = l.first ∙ k.first; waiting = l.waiting ∙ k.waiting; awaited = l.awaited ∙ k.awaited }
 
 -- some of the unsent bytes were sent
-pub kept_sent : (a b : SessionState) (count : ℕ) → b.fed ≡ a.fed → b.sent ≡ a.sent ++ take count a.unsent → b.unsent ≡ drop count a.unsent → b.ended ≡ a.ended → b.first ≡ a.first → b.waiting ≡ a.waiting → Kept a b
-kept_sent a b count fed sent unsent ended first waiting = record {
+pub kept_sent : (a b : SessionState) (count : ℕ) → b.fed ≡ a.fed → b.sent ≡ a.sent ++ take count a.unsent → b.unsent ≡ drop count a.unsent → b.listed ≡ a.listed → b.ended ≡ a.ended → b.first ≡ a.first → b.waiting ≡ a.waiting → b.awaited ≡ a.awaited → Kept a b
+kept_sent a b count fed sent unsent listed ended first waiting awaited = record {
   fed = fed;
-  text = (λ i. sent i ++ unsent i) ∙ append_assoc a.sent (take count a.unsent) (drop count a.unsent) ∙ ap (λ (t : List ℕ). a.sent ++ t) (take-append-drop count a.unsent);
+  text = (λ i. (sent i ++ unsent i) ++ listed i)
+      ∙ ap (λ (t : List ℕ). t ++ a.listed) (append_assoc a.sent (take count a.unsent) (drop count a.unsent) ∙ ap (λ (t : List ℕ). a.sent ++ t) (take-append-drop count a.unsent));
   ended = ended;
   first = first;
   waiting = waiting;
+  awaited = awaited;
 }
 
 -- no lines are taken, whoever the peer is
@@ -71,6 +74,7 @@ taken_later lines held first a b c k l = record {
   told = sym k.waiting ∙ l.told;
   starts = l.starts;
   waits = l.waits;
+  shows = l.shows;
   sound = l.sound;
 }
 
@@ -99,11 +103,12 @@ lines_more fed bytes = lines_after-append [] fed bytes
 
 -- a session turned its part of the released answers into replies
 pub tells_of : (released : List Answer) (a b : SessionState) → (b.fed ≡ a.fed) × (b.sent ≡ a.sent) → b.waiting ≡ 0
-    → (text : List ℕ) × (b.unsent ≡ a.unsent ++ text) × TellsPart a.first a.waiting released text a.ended b.ended → TellsOwn released a b
+    → (text : List ℕ) × (b.unsent ++ b.listed ≡ (a.unsent ++ a.listed) ++ text) × TellsPart a.first a.waiting released a.awaited text a.ended b.ended → TellsOwn released a b
 tells_of released a b same told t = record {
   fed = same.0;
   text = t.0;
-  replies = (λ i. same.1 i ++ t.1 i) ∙ sym (append_assoc a.sent a.unsent t.0);
+  replies = append_assoc b.sent b.unsent b.listed ∙ (λ i. same.1 i ++ t.1 i) ∙ sym (append_assoc a.sent (a.unsent ++ a.listed) t.0)
+      ∙ ap (λ (x : List ℕ). x ++ t.0) (sym (append_assoc a.sent a.unsent a.listed));
   tells = t.2;
   told = told;
 }
@@ -114,6 +119,6 @@ tells_sent a b c released t k = record {
   fed = k.fed ∙ t.fed;
   text = t.text;
   replies = k.text ∙ t.replies;
-  tells = subst (λ (e : Option End). TellsPart a.first a.waiting released t.text a.ended e) (sym k.ended) t.tells;
+  tells = subst (λ (e : Option End). TellsPart a.first a.waiting released a.awaited t.text a.ended e) (sym k.ended) t.tells;
   told = k.waiting ∙ t.told;
 }

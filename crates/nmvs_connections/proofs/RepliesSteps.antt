@@ -1,10 +1,8 @@
 -- How the replies of a connection grow by a turn.
-use Rattle.std.proofs.Common.{◌≡◌, ◌==◌, ◌≤◌, ◌<◌, ◌+◌, ◌⊎◌, inl, inr, ℕ, List, [], ◌∷◌, ◌++◌, Option, Some, None, IfNone, length, take, drop, refl, sym, ap, subst, ◌∙◌, arith}
+use Rattle.std.proofs.Common.{◌≡◌, ◌==◌, ◌≤◌, ◌<◌, ◌+◌, ◌⊎◌, inl, inr, ℕ, Bool, cond, List, [], ◌∷◌, ◌++◌, Option, Some, None, Result, Ok, Err, IfNone, length, map, take, drop, refl, sym, ap, subst, ◌∙◌, arith}
 use Rattle.std.proofs.lemmas.Grind.{flat_map-append}
-use Rattle.std.proofs.lemmas.Bool.{ne_eqb}
+use Rattle.std.proofs.lemmas.Bool.{cond-false, ne_eqb}
 use Rattle.std.proofs.lemmas.List.{append-nil, append_assoc, length-append, length-take, drop-append-le, drop-drop, take-append-drop}
-use Rattle.std.specs.Option.{option_or}
-use Rattle.nmvs_stream.specs.Sink.{Taken}
 use Rattle.nmvs_messages.specs.declared.ask.Ask.{Ask}
 use Rattle.nmvs_messages.specs.declared.answer.Answer.{Answer}
 use Rattle.nmvs_messages.specs.declared.end.End.{End}
@@ -13,11 +11,20 @@ use Rattle.nmvs_messages.specs.declared.end.End.TheVariants as ends
 use Rattle.nmvs_protocol.specs.declared.session.Session.{Session}
 use Rattle.nmvs_stream.specs.InputLines.{input_lines, lines_after, rest_after, unfinished_line}
 use Rattle.nmvs_messages.specs.PendingLines.{kept_part}
-use Rattle.nmvs_protocol.specs.Progress.{Halts, TellsFirst}
+use Rattle.std.specs.Prelude.{OnOk, OnErr, IfOk}
+use Rattle.std.specs.Result.{result_ok}
+use Rattle.nmvs_stream.specs.Sink.{Taken}
+use Rattle.nmvs_stream.specs.Delivery.{Writes, DeliversPart}
+use Rattle.nmvs_stream.specs.declared.failed.Failed.{Failed}
+use Rattle.nmvs_line.specs.Export.{ended_line, export_text}
+use Rattle.nmvs_rules.specs.declared.entry.Entry.{Entry}
+use Rattle.nmvs_messages.specs.Withheld.{answer_of}
+use Rattle.nmvs_protocol.specs.Progress.{Halts, LastShows}
 use Rattle.nmvs_protocol.specs.Session.{TakesLines, session_text}
-use Rattle.nmvs_protocol.specs.Texts.{text as text_of}
+use Rattle.nmvs_protocol.specs.Texts.{bare, ends_with_reply, last_showing, text as text_of}
+use Rattle.nmvs_protocol.proofs.SessionTelling.{session_text_last}
 use Rattle.nmvs_stream.proofs.LinesOfPieces.{lines_after-append}
-use Rattle.nmvs_connections.specs.Replies.{Replies, Leaves, LacksMemory, StaysOrLacks, WordsPart, GoesOn}
+use Rattle.nmvs_connections.specs.Replies.{Replies, Leaves, LacksMemory, StaysOrLacks, WordsPart, GoesOn, ended_by, is_replied, once_told, while_waiting}
 
 -- the lines that were taken have one answer each
 pub taken_length : {D : Type 0} (takes : D → Ask → Withheld → D → Type 0) (old : D) (xs : List (List ℕ)) (held : List Withheld) (new : D)
@@ -67,25 +74,6 @@ replies_taken fed bytes told ended limit count waiting rest r h e =
       leaves = leaves_taken ended limit count waiting more more _ rest h e;
     }
 
--- the text of a part of the answers, and the text that is left out
-abbrev pub ToldOf : List ℕ → List ℕ → List Answer → Option End → Type 0
-ToldOf old new part told = (text : List ℕ) × (untold : List ℕ) × (new ≡ old ++ text) × (session_text part ≡ text ++ untold) × ((told ≡ None) × (untold ≡ []) ⊎ LacksMemory told)
-
-pub told_first : (told : Option End) (sink sink' : Taken) (part : List Answer) → TellsFirst told sink sink' part → ToldOf sink.bytes sink'.bytes part told
-told_first (None) sink sink' part t = (session_text part, [], t.bytes, sym (append-nil (session_text part)), inl (refl, refl))
-told_first (Some ends.WriteFault) sink sink' part t = (t.written, t.unwritten, t.bytes, t.cut, inr tt)
-told_first (Some ends.Memory) sink sink' part t = (
-  session_text t.before,
-  session_text (t.last ∷ t.later),
-  t.told.bytes,
-  ap (λ (l : List Answer). session_text l) t.these ∙ flat_map-append text_of t.before (t.last ∷ t.later),
-  inr tt,
-)
-told_first (Some ends.Quit) sink sink' part t = absurd t
-told_first (Some ends.Limit) sink sink' part t = absurd t
-told_first (Some ends.Ended) sink sink' part t = absurd t
-told_first (Some ends.ReadFault) sink sink' part t = absurd t
-
 positive : (n : ℕ) → 0 < n → n ≡ 0 → ⊥
 positive n some none = omega (arith, some, none)
 
@@ -95,13 +83,13 @@ waits : (ended : Option End) (waiting : ℕ) (left : List (List ℕ)) (untold : 
 waits (None) waiting left untold some l = (l.0, l.1, (refl, refl))
 waits (Some ends.Quit) waiting left untold some l = (l.0, l.1, (refl, refl))
 waits (Some ends.Limit) waiting left untold some l = (l.0, l.1, (refl, refl))
-waits (Some ends.Memory) waiting left untold some l = absurd (positive waiting some l)
+waits (Some ends.Memory) waiting left untold some l = absurd l
 waits (Some ends.WriteFault) waiting left untold some l = absurd (positive waiting some l)
 waits (Some ends.Ended) waiting left untold some l = absurd l
 waits (Some ends.ReadFault) waiting left untold some l = absurd l
 
 lacking : (told : Option End) (left : List (List ℕ)) (untold : List ℕ) → LacksMemory told → Leaves told 0 left untold
-lacking (Some ends.Memory) left untold l = refl
+lacking (Some ends.Memory) left untold l = absurd l
 lacking (Some ends.WriteFault) left untold l = refl
 lacking (None) left untold l = absurd l
 lacking (Some ends.Quit) left untold l = absurd l
@@ -137,24 +125,60 @@ replies_told fed told text untold part waiting ended ended' some many r cut stay
 replies_lost : (fed told : List ℕ) (waiting : ℕ) (ended : Option End) → Replies fed told waiting ended → Replies fed told 0 (Some ends.WriteFault)
 replies_lost fed told waiting ended r = record { answered = r.answered; left = r.left; these = r.these; said = r.said; one = r.one; untold = r.untold; text_is = r.text_is; leaves = refl }
 
--- a session stands as before if no text is left out
-pub stays_told : (ended told : Option End) (untold : List ℕ) → ((told ≡ None) × (untold ≡ [])) ⊎ LacksMemory told → StaysOrLacks ended (option_or told ended) untold
-stays_told ended (None) untold (inl all) = inl (refl, all.1)
-stays_told ended (None) untold (inr lacks) = absurd lacks
-stays_told ended (Some end) untold (inl all) = absurd (cc (all.0))
-stays_told ended (Some end) untold (inr lacks) = inr lacks
+-- there are as many answers, whatever they show
+length_last : (shown : List ℕ) (said : List Answer) → length (last_showing shown said) ≡ length said
+length_last shown [] = refl
+length_last shown (a ∷ []) = refl
+length_last shown (a ∷ b ∷ more) = let n = length_last shown (b ∷ more) in omega arith
+
+-- the text that a session gets for its part of the answers
+abbrev pub words_of : Option Bool → List ℕ → List ℕ → List ℕ
+words_of worded awaited text = text ++ cond (is_replied worded) awaited []
+
+-- the text of the answers, the last of which shows the awaited entries if it is a reply
+pub words_told : (first count : ℕ) (released : List Answer) (awaited old new : List ℕ) (worded : Option Bool) (ended : Option End) → (w : WordsPart first count released old new worded)
+    → (untold : List ℕ) × (session_text (last_showing awaited w.part) ≡ words_of worded awaited w.text ++ untold) × StaysOrLacks ended (ended_by worded ended) untold
+words_told first count released awaited old new worded ended w =
+    let whole = session_text_last awaited w.part in
+    let shown = cond (ends_with_reply w.part) awaited [] in
+    elim w.all [
+      | inl all ↦ (
+        [],
+        whole ∙ ap (λ (t : List ℕ). t ++ shown) (w.text_is ∙ ap (λ (t : List ℕ). w.text ++ t) all.1 ∙ append-nil w.text)
+            ∙ ap (λ (o : Option Bool). words_of o awaited w.text) (sym all.0) ∙ sym (append-nil (words_of worded awaited w.text)),
+        inl (ap (λ (o : Option Bool). ended_by o ended) all.0, refl),
+      )
+      | inr lost ↦ (
+        w.untold ++ shown,
+        whole ∙ ap (λ (t : List ℕ). t ++ shown) w.text_is ∙ append_assoc w.text w.untold shown
+            ∙ ap (λ (t : List ℕ). t ++ (w.untold ++ shown)) (sym (append-nil w.text) ∙ ap (λ (o : Option Bool). words_of o awaited w.text) (sym lost)),
+        inr (subst (λ (o : Option Bool). LacksMemory (ended_by o ended)) (sym lost) tt),
+      )
+    ]
 
 -- the replies of a session that waits, with the text of its part of the released answers
-pub replies_worded : (fed text : List ℕ) (first count : ℕ) (released : List Answer) (old new : List ℕ) (told ended : Option End) → 0 < count → Replies fed text count ended
-    → (w : WordsPart first count released old new told) → Replies fed (text ++ w.text) 0 (option_or told ended)
-replies_worded fed text first count released old new told ended some r w =
+pub replies_worded : (fed text awaited : List ℕ) (first count : ℕ) (released : List Answer) (old new : List ℕ) (worded : Option Bool) (ended : Option End) → 0 < count → Replies fed text count ended
+    → (w : WordsPart first count released old new worded) → Replies fed (text ++ words_of worded awaited w.text) 0 (ended_by worded ended)
+replies_worded fed text awaited first count released old new worded ended some r w =
+    let t = words_told first count released awaited old new worded ended w in
     elim w.there [
-      | inl all ↦ replies_told fed text w.text w.untold w.part count ended (option_or told ended) some all r w.text_is (stays_told ended told w.untold w.all)
+      | inl all ↦ replies_told fed text (words_of worded awaited w.text) t.0 (last_showing awaited w.part) count ended (ended_by worded ended) some (length_last awaited w.part ∙ all) r t.1 t.2
       | inr lost ↦
-          let same : text ≡ text ++ w.text = sym (ap (λ (t : List ℕ). text ++ t) lost.1 ∙ append-nil text) in
-          let lacks : Some ends.WriteFault ≡ option_or told ended = sym (ap (λ (t : Option End). option_or t ended) lost.0) in
-          subst (λ (t : List ℕ). Replies fed t 0 (option_or told ended)) same (subst (λ (e : Option End). Replies fed text 0 e) lacks (replies_lost fed text count ended r))
+          let none : words_of worded awaited w.text ≡ [] = (λ i. words_of (lost.0 i) awaited (lost.1 i)) in
+          let same : text ≡ text ++ words_of worded awaited w.text = sym (ap (λ (t : List ℕ). text ++ t) none ∙ append-nil text) in
+          let lacks : Some ends.WriteFault ≡ ended_by worded ended = sym (ap (λ (o : Option Bool). ended_by o ended) lost.0) in
+          subst (λ (t : List ℕ). Replies fed t 0 (ended_by worded ended)) same (subst (λ (e : Option End). Replies fed text 0 e) lacks (replies_lost fed text count ended r))
     ]
+
+-- the answers were worded, or memory ran out
+abbrev pub WordsAll : List ℕ → List ℕ → List Answer → Option Bool → Type 0
+WordsAll old new part worded =
+    (text : List ℕ) × (untold : List ℕ) × (new ≡ old ++ text) × (session_text (map bare part) ≡ text ++ untold) × ((worded ≡ Some (ends_with_reply part)) × (untold ≡ []) ⊎ (worded ≡ None))
+
+pub worded_of : (sink sink' : Taken) (part : List Answer) (r : Result Bool Failed) → OnOk r (Writes sink sink' (session_text (map bare part))) → IfOk r (λ replied. replied ≡ ends_with_reply part)
+    → OnErr r (DeliversPart sink sink' (session_text (map bare part))) → WordsAll sink.bytes sink'.bytes part (result_ok r)
+worded_of sink sink' part (Ok replied) ok is err = (session_text (map bare part), [], ok.bytes, sym (append-nil _), inl (ap Some is, refl))
+worded_of sink sink' part (Err e) ok is err = (err.written, err.unwritten, err.bytes, err.cut, inr refl)
 
 -- the unsent bytes stay before the new text
 pub unsent_more : (gone : ℕ) (old new text : List ℕ) → gone ≤ length old → new ≡ old ++ text → drop gone new ≡ drop gone old ++ text
@@ -166,19 +190,19 @@ halts_sound (None) limit count taken begun rest h l = l
 halts_sound (Some ends.Quit) limit count taken begun rest h l = l
 halts_sound (Some ends.Limit) limit count taken begun rest h l = l
 halts_sound (Some ends.WriteFault) limit count taken begun rest h l = h
-halts_sound (Some ends.Memory) limit count taken begun rest h l = h
+halts_sound (Some ends.Memory) limit count taken begun rest h l = l
 halts_sound (Some ends.Ended) limit count taken begun rest h l = h
 halts_sound (Some ends.ReadFault) limit count taken begun rest h l = h
 
 -- a session that was fed nothing
 pub nothing_fed : (session : Session) → session.line ≡ [] → session.answered ≤ session.limit → (x y z : List ℕ) → x ≡ [] → y ≡ [] → z ≡ []
-    → GoesOn None session x × Replies x (y ++ z) 0 None
+    → GoesOn None session x × Replies x ((y ++ z) ++ []) 0 None
 unfolding lines_after rest_after
 nothing_fed session line within x y z nx ny nz =
     let P : List ℕ → List ℕ → Type 0 = λ fed text. GoesOn None session fed × Replies fed text 0 None in
     let base : P [] [] = ((line, within), record { answered = []; left = []; these = refl; said = []; one = refl; untold = []; text_is = refl; leaves = (refl, refl) }) in
     let fed : P x [] = subst (λ (t : List ℕ). P t []) (sym nx) base in
-    let none : [] ≡ y ++ z = sym ((λ i. ny i ++ nz i)) in
+    let none : [] ≡ (y ++ z) ++ [] = sym ((λ i. (ny i ++ nz i) ++ [])) in
     subst (λ (t : List ℕ). P x t) none fed
 
 -- a session goes on that has not ended
@@ -187,9 +211,42 @@ pub goes_on : (ended : Option End) (session : Session) (fed : List ℕ) (limit :
 goes_on (None) session fed limit line same within = (line, omega (arith, same, within))
 goes_on (Some end) session fed limit line same within = tt
 
-pub goes_on_told : (ended told : Option End) (session : Session) (fed : List ℕ) → GoesOn ended session fed → GoesOn (option_or told ended) session fed
-goes_on_told ended (None) session fed g = g
-goes_on_told ended (Some end) session fed g = tt
+pub goes_on_told : (ended : Option End) (worded : Option Bool) (session : Session) (fed : List ℕ) → GoesOn ended session fed → GoesOn (ended_by worded ended) session fed
+goes_on_told ended None session fed g = tt
+goes_on_told ended (Some replied) session fed g = g
+
+-- the text of a list counts as a reply once no answer is waited for
+pub told_first : (waiting : ℕ) (text : List ℕ) → 0 < waiting → once_told waiting text ≡ []
+told_first waiting text some = cond-false (waiting == 0) text [] (ne_eqb waiting 0 (positive waiting some))
+
+pub waits_first : (waiting : ℕ) (text : List ℕ) → 0 < waiting → while_waiting waiting text ≡ text
+waits_first waiting text some = cond-false (waiting == 0) [] text (ne_eqb waiting 0 (positive waiting some))
+
+-- one piece more of the listed entries is worded
+pub piece_more : (sent replies new : List ℕ) (gone waiting room : ℕ) (l : List Entry) → gone ≤ length replies → waiting ≡ 0 → new ≡ replies ++ export_text (take room l)
+    → (sent ++ drop gone new) ++ once_told waiting (export_text (drop room l)) ≡ (sent ++ drop gone replies) ++ once_told waiting (export_text l)
+piece_more sent replies new gone waiting room l within told is =
+    let p = export_text (take room l) in
+    let q = export_text (drop room l) in
+    let front = sent ++ drop gone replies in
+    let cut : p ++ q ≡ export_text l = sym (flat_map-append ended_line (take room l) (drop room l)) ∙ ap (λ (e : List Entry). export_text e) (take-append-drop room l) in
+    subst (λ (n : ℕ). (sent ++ drop gone new) ++ once_told n q ≡ front ++ once_told n (export_text l)) (sym told)
+    (ap (λ (t : List ℕ). (sent ++ t) ++ q) (unsent_more gone replies new p within is)
+    ∙ ap (λ (t : List ℕ). t ++ q) (sym (append_assoc sent (drop gone replies) p)) ∙ append_assoc front p q ∙ ap (λ (t : List ℕ). front ++ t) cut)
+
+-- once no answer is waited for, no entries are awaited
+pub none_while : (waiting : ℕ) (a b : List ℕ) → waiting ≡ 0 → while_waiting waiting a ≡ while_waiting waiting b
+none_while waiting a b told = subst (λ (n : ℕ). while_waiting n a ≡ while_waiting n b) (sym told) refl
+
+-- no text is listed if there are no answers that show it
+pub none_listed : (held : List Withheld) (waiting : ℕ) (text : List ℕ) → length held ≡ waiting → (held ≡ [] → text ≡ []) → once_told waiting text ≡ []
+none_listed [] waiting text one none = subst (λ (n : ℕ). once_told n text ≡ []) one (none refl)
+none_listed (w ∷ held) waiting text one none = told_first waiting text (omega (arith, one))
+
+-- the awaited text is that of the list
+pub awaited_shows : (held : List Withheld) (waiting : ℕ) (text : List ℕ) → length held ≡ waiting → LastShows text (map answer_of held) → LastShows (while_waiting waiting text) (map answer_of held)
+awaited_shows [] waiting text one shows = refl
+awaited_shows (w ∷ held) waiting text one shows = subst (λ (t : List ℕ). LastShows t (map answer_of (w ∷ held))) (sym (waits_first waiting text (omega (arith, one)))) shows
 
 -- the sent and the unsent bytes together are the same, however many were sent
 pub sent_more : (sent replies : List ℕ) (gone count : ℕ) → (sent ++ take count (drop gone replies)) ++ drop (gone + count) replies ≡ sent ++ drop gone replies

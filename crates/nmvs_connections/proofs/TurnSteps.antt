@@ -1,9 +1,9 @@
 -- How a worker's turn goes on, from one connection's turn to the next and from release to release.
-use Rattle.std.proofs.Common.{◌≡◌, ◌≢◌, ◌≤◌, ◌<◌, ◌==◌, ◌+◌, ◌⊎◌, inl, inr, ℕ, List, [], ◌∷◌, ◌++◌, Option, Some, None, IsSome, cond, length, take, drop, All, refl, sym, ap, subst, ◌∙◌, arith, rules}
+use Rattle.std.proofs.Common.{◌≡◌, ◌≢◌, ◌≤◌, ◌<◌, ◌==◌, ◌+◌, ◌⊎◌, inl, inr, ℕ, zero, suc, List, [], ◌∷◌, ◌++◌, Option, Some, None, IsSome, cond, length, map, take, drop, All, refl, sym, ap, subst, ◌∙◌, arith, rules}
 use Rattle.std.specs.List.{Contains}
 use Rattle.std.proofs.lemmas.Bool.Decides.{eqb_tells, leb_tells}
 use Rattle.std.proofs.lemmas.Grind.{flat_map-append}
-use Rattle.std.proofs.lemmas.List.{append-nil, append_assoc, length-append, drop-drop}
+use Rattle.std.proofs.lemmas.List.{append-nil, append_assoc, length-append, length-drop, drop-append-le, drop-drop, drop_at, take-append-le, take_at}
 use Rattle.std.proofs.lemmas.List.Elements.{All-append, All-cons, All-nil, All-tail, Contains-push_cases}
 use Rattle.slab.specs.Slab.{Slab, Updates, get, with_value}
 use Rattle.slab.proofs.SlabLemmas.{Updates-with_value}
@@ -12,16 +12,17 @@ use Rattle.nmvs_messages.specs.declared.answer.Answer.{Answer}
 use Rattle.nmvs_messages.specs.declared.end.End.{End}
 use Rattle.nmvs_messages.specs.declared.peer.Peer.{Peer}
 use Rattle.nmvs_messages.specs.declared.withheld.Withheld.{Withheld}
-use Rattle.nmvs_messages.specs.Withheld.{AreReleased}
+use Rattle.nmvs_messages.specs.Withheld.{answer_of, AreReleased}
 use Rattle.nmvs_protocol.specs.Session.{ReleasesAll, session_text}
-use Rattle.nmvs_protocol.proofs.SessionTelling.{all_length}
-use Rattle.nmvs_protocol.specs.Texts.{text as text_of}
+use Rattle.nmvs_protocol.specs.Progress.{LastShows}
+use Rattle.nmvs_protocol.proofs.SessionTelling.{all_length, all_released, released_shows}
+use Rattle.nmvs_protocol.specs.Texts.{last_showing, text as text_of}
 use Rattle.nmvs_stream.specs.InputLines.{input_lines}
 use Rattle.nmvs_connections.specs.declared.next.Next.{Next}
 use Rattle.nmvs_connections.specs.declared.connection.Connection.{Connection}
 use Rattle.nmvs_connections.specs.Peers.{PeerState, IsConnection, StaysPeer}
 use Rattle.nmvs_connections.specs.declared.peer_session.Stage.TheVariants as stages
-use Rattle.nmvs_connections.specs.Replies.{SessionState, LacksMemory, StaysOrLacks}
+use Rattle.nmvs_connections.specs.Replies.{SessionState, LacksMemory, StaysOrLacks, replied}
 use Rattle.nmvs_connections.specs.Turns.{Taking, Round, held_of, TakesBy, TakesAll, IsOwn, GoesRound, GoesRounds, lines_to, answers_to, lines_in, answers_in, Answered, EachGoes, WorkerTurn, Kept, WaitsForRelease, LinesTaken, ConnectionSteps, TellsOwn, TellsPeer, TellsWhereAsked, TellsAll, StepsOrStays, TurnOfOne}
 
 -- the withheld answers of more takings
@@ -82,22 +83,34 @@ pub record Stands (key : ℕ) (rounds : List Round) (takings : List Taking) (awa
   pub lines : input_lines new.fed ≡ (input_lines old.fed ++ lines_in key rounds) ++ lines_to key takings
   pub text : List ℕ
   pub untold : List ℕ
-  pub replies : new.sent ++ new.unsent ≡ (old.sent ++ old.unsent) ++ text
+  pub replies : replied new ≡ replied old ++ text
   pub text_is : session_text (answers_in key rounds) ≡ text ++ untold
   pub all : (untold ≡ []) ⊎ (LacksMemory new.ended × (new.waiting ≡ 0))
   pub waits : (said : List Answer) → length (held_of takings) ≤ length said → answers_to key takings said ≡ take new.waiting (drop new.first said)
   pub within : (new.waiting ≡ 0) ⊎ ((new.first + new.waiting ≤ length (held_of takings)) × Contains awaiting key)
+  pub shows : LastShows new.awaited (map answer_of (take new.waiting (drop new.first (held_of takings))))
+
+-- of no answers none shows entries
+none_awaited : (shown : List ℕ) (waiting first : ℕ) (held : List Withheld) → waiting ≡ 0 → LastShows shown (map answer_of (take waiting (drop first held)))
+none_awaited shown waiting first held told = subst (λ (n : ℕ). LastShows shown (map answer_of (take n (drop first held)))) (sym told) refl
+
+-- a part of the withheld answers stays the same if more are withheld
+part_still : (first waiting : ℕ) (held more : List Withheld) → first + waiting ≤ length held → take waiting (drop first (held ++ more)) ≡ take waiting (drop first held)
+part_still first waiting held more within =
+    let left = length-drop first held in
+    ap (λ (l : List Withheld). take waiting l) (drop-append-le first held more (omega (arith, within))) ∙ take-append-le waiting (drop first held) more (omega (arith, within, left))
 
 stands_first : (key : ℕ) (awaiting : List ℕ) (a : SessionState) → a.waiting ≡ 0 → Stands key [] [] awaiting a a
 stands_first key awaiting a told = record {
   lines = sym (append-nil _ ∙ append-nil (input_lines a.fed));
   text = [];
   untold = [];
-  replies = sym (append-nil (a.sent ++ a.unsent));
+  replies = sym (append-nil (replied a));
   text_is = refl;
   all = inl refl;
   waits = λ said within. sym (ap (λ (n : ℕ). take n (drop a.first said)) told);
   within = inl told;
+  shows = none_awaited a.awaited a.waiting a.first [] told;
 }
 
 stands_last : (key : ℕ) (rounds : List Round) (a b : SessionState) → Stands key rounds [] [] a b → Answered key rounds a b
@@ -129,6 +142,12 @@ stands_later key rounds takings t awaiting awaiting' a b no_lines no_answers sti
           ∙ append-nil (answers_to key takings said)
           ∙ s.waits said (omega (arith, enough, more));
       within = elim s.within [ inl told ↦ inl told | inr waits ↦ inr (omega (arith, waits.0, more), still waits.1) ];
+      shows = elim s.within [
+        | inl told ↦ none_awaited b.awaited b.waiting b.first (held_of (takings ++ t ∷ [])) told
+        | inr waits ↦
+            let same = ap (λ (l : List Withheld). take b.waiting (drop b.first l)) (held_of-append takings (t ∷ [])) ∙ part_still b.first b.waiting (held_of takings) (held_of (t ∷ [])) waits.0 in
+            subst (λ (l : List Withheld). LastShows b.awaited (map answer_of l)) (sym same) s.shows
+      ];
     }
 
 -- replies may have been sent
@@ -145,6 +164,9 @@ stands_kept key rounds takings awaiting a b c k s = record {
     | inl told ↦ inl (k.waiting ∙ told)
     | inr waits ↦ inr (let f = k.first in let w = k.waiting in let within = waits.0 in omega (arith, f, w, within), waits.1)
   ];
+  shows = subst (λ (n : ℕ). LastShows c.awaited (map answer_of (take n (drop c.first (held_of takings))))) (sym k.waiting)
+      (subst (λ (n : ℕ). LastShows c.awaited (map answer_of (take b.waiting (drop n (held_of takings))))) (sym k.first)
+      (subst (λ (x : List ℕ). LastShows x (map answer_of (take b.waiting (drop b.first (held_of takings))))) (sym k.awaited) s.shows));
 }
 
 own_lines : (key : ℕ) (t : Taking) → t.key ≡ key → lines_to key (t ∷ []) ≡ t.lines
@@ -192,6 +214,12 @@ stands_taken key rounds takings t awaiting awaiting' a b c own asks l s =
           ∙ own_answers key t (drop (length (held_of takings)) said) own
           ∙ (λ i. take (sym l.waits i) (drop (sym l.starts i) said));
       within = inr (omega (arith, f, w, more, last), asks);
+      shows =
+          let own_part : take c.waiting (drop c.first (held_of (takings ++ t ∷ []))) ≡ t.held =
+          (λ i. take (l.waits i) (drop (l.starts i) (held_of-append takings (t ∷ []) i)))
+          ∙ ap (λ (x : List Withheld). take (length t.held) x) (drop_at (held_of takings) (held_of (t ∷ [])) (length (held_of takings)) refl)
+          ∙ take_at t.held [] (length t.held) refl in
+          subst (λ (x : List Withheld). LastShows c.awaited (map answer_of x)) (sym own_part) l.shows;
     }
 
 -- the texts of answers, one after the other
@@ -200,7 +228,7 @@ both_told first second x u y v e f = flat_map-append text_of first second ∙ (�
 
 -- a round has ended, and the answers to the connection's lines in it are replies, but for some text that is left out
 stands_released : (key : ℕ) (rounds : List Round) (r : Round) (awaiting : List ℕ) (a b c : SessionState) (text untold : List ℕ)
-    → c.fed ≡ b.fed → c.sent ++ c.unsent ≡ (b.sent ++ b.unsent) ++ text → session_text (answers_to key r.takings r.said) ≡ text ++ untold → c.waiting ≡ 0
+    → c.fed ≡ b.fed → replied c ≡ replied b ++ text → session_text (answers_to key r.takings r.said) ≡ text ++ untold → c.waiting ≡ 0
     → (s : Stands key rounds r.takings awaiting a b)
     → ((s.untold ≡ []) × ((untold ≡ []) ⊎ LacksMemory c.ended)) ⊎ (LacksMemory c.ended × (text ≡ []) × (untold ≡ []))
     → Stands key (rounds ++ r ∷ []) [] [] a c
@@ -211,7 +239,7 @@ stands_released key rounds r awaiting a b c text untold fed replies part told s 
     let whole = ap (λ (l : List Answer). session_text l) answers_more ∙ both_told (answers_in key rounds) own s.text s.untold text untold s.text_is part in
     let lines = ap (λ (f : List ℕ). input_lines f) fed ∙ s.lines ∙ append_assoc (input_lines a.fed) (lines_in key rounds) (lines_to key r.takings)
     ∙ ap (λ (l : List (List ℕ)). input_lines a.fed ++ l) (sym lines_more) ∙ sym (append-nil (input_lines a.fed ++ lines_in key (rounds ++ r ∷ []))) in
-    let sent = replies ∙ ap (λ (x : List ℕ). x ++ text) s.replies ∙ append_assoc (a.sent ++ a.unsent) s.text text in
+    let sent = replies ∙ ap (λ (x : List ℕ). x ++ text) s.replies ∙ append_assoc (replied a) s.text text in
     let none = λ (said : List Answer) (enough : 0 ≤ length said). sym (ap (λ (n : ℕ). take n (drop c.first said)) told) in
     elim how [
       | inl goes ↦ record {
@@ -223,6 +251,7 @@ stands_released key rounds r awaiting a b c text untold fed replies part told s 
         all = elim goes.1 [ inl all ↦ inl all | inr lacks ↦ inr (lacks, told) ];
         waits = none;
         within = inl told;
+        shows = none_awaited c.awaited c.waiting c.first [] told;
       }
       | inr lacks ↦ record {
         lines = lines;
@@ -234,6 +263,7 @@ stands_released key rounds r awaiting a b c text untold fed replies part told s 
         all = inr (lacks.0, told);
         waits = none;
         within = inl told;
+        shows = none_awaited c.awaited c.waiting c.first [] told;
       }
     ]
 
@@ -254,29 +284,55 @@ part_is key rounds takings awaiting said part a b one its_own none s =
       ]
     ]
 
+-- a part of the withheld answers is released as that part of the released ones
+drop_released : (releases : Withheld → Answer → Type 0) (n : ℕ) (held : List Withheld) (said : List Answer) → AreReleased releases held said → AreReleased releases (drop n held) (drop n said)
+drop_released releases zero held said r = r
+drop_released releases (suc n) [] [] r = tt
+drop_released releases (suc n) (w ∷ held) (a ∷ said) r = drop_released releases n held said r.2
+drop_released releases (suc n) [] (a ∷ said) r = absurd r
+drop_released releases (suc n) (w ∷ held) [] r = absurd r
+
+take_released : (releases : Withheld → Answer → Type 0) (n : ℕ) (held : List Withheld) (said : List Answer) → AreReleased releases held said → AreReleased releases (take n held) (take n said)
+take_released releases zero held said r = tt
+take_released releases (suc n) [] [] r = tt
+take_released releases (suc n) (w ∷ held) (a ∷ said) r = (r.0, r.1, take_released releases n held said r.2)
+take_released releases (suc n) [] (a ∷ said) r = absurd r
+take_released releases (suc n) (w ∷ held) [] r = absurd r
+
+-- the last answer of that part shows the awaited entries if it is a reply, and no other shows any
+part_shows : (releases : Withheld → Answer → Type 0) (key : ℕ) (rounds : List Round) (takings : List Taking) (awaiting : List ℕ) (said part : List Answer) (a b : SessionState) → AreReleased releases (held_of takings) said
+    → (b.first + b.waiting ≤ length said → part ≡ take b.waiting (drop b.first said)) → (length said < b.first + b.waiting → part ≡ [])
+    → Stands key rounds takings awaiting a b → last_showing b.awaited part ≡ part
+part_shows releases key rounds takings awaiting said part a b released its_own none s = elim (le_or_lt (b.first + b.waiting) (length said)) [
+  | inl fits ↦
+      let own = take_released releases b.waiting _ _ (drop_released releases b.first (held_of takings) said released) in
+      subst (λ (l : List Answer). LastShows b.awaited l) (sym (its_own fits)) (released_shows releases b.awaited _ _ own s.shows)
+  | inr past ↦ subst (λ (l : List Answer). LastShows b.awaited l) (sym (none past)) refl
+]
+
 -- a connection that waits for nothing has no part
 no_part : (said part : List Answer) (text untold : List ℕ) (b : SessionState) → b.waiting ≡ 0
     → (b.first + b.waiting ≤ length said → part ≡ take b.waiting (drop b.first said)) → (length said < b.first + b.waiting → part ≡ [])
-    → session_text part ≡ text ++ untold → (text ≡ []) × (untold ≡ [])
+    → session_text (last_showing b.awaited part) ≡ text ++ untold → (text ≡ []) × (untold ≡ [])
 no_part said part text untold b told its_own none text_is =
     let empty : part ≡ [] = elim (le_or_lt (b.first + b.waiting) (length said)) [
       | inl fits ↦ its_own fits ∙ ap (λ (n : ℕ). take n (drop b.first said)) told
       | inr past ↦ none past
     ] in
-    let both : text ++ untold ≡ [] = sym text_is ∙ ap (λ (l : List Answer). session_text l) empty in
+    let both : text ++ untold ≡ [] = sym text_is ∙ ap (λ (l : List Answer). session_text (last_showing b.awaited l)) empty in
     (nil_left text untold both, nil_right text untold both)
 
 lacks_still : (ended ended' : Option End) (untold : List ℕ) → StaysOrLacks ended ended' untold → LacksMemory ended → LacksMemory ended'
 lacks_still ended ended' untold s l = elim s [ inl stays ↦ subst (λ (e : Option End). LacksMemory e) (sym stays.0) l | inr lacks ↦ lacks ]
 
 -- each connection that waited turned its part of the released answers into replies
-stands_told : (key : ℕ) (rounds : List Round) (r : Round) (awaiting : List ℕ) (a b c : SessionState) → length r.said ≡ length (held_of r.takings)
+stands_told : (releases : Withheld → Answer → Type 0) (key : ℕ) (rounds : List Round) (r : Round) (awaiting : List ℕ) (a b c : SessionState) → length r.said ≡ length (held_of r.takings) → AreReleased releases (held_of r.takings) r.said
     → TellsOwn r.said b c ⊎ ((c ≡ b) × (Contains awaiting key → ⊥)) → Stands key rounds r.takings awaiting a b → Stands key (rounds ++ r ∷ []) [] [] a c
-stands_told key rounds r awaiting a b c one t s = elim t [
+stands_told releases key rounds r awaiting a b c one released t s = elim t [
   | inl told ↦
       let p = told.tells in
       let is = part_is key rounds r.takings awaiting r.said p.part a b one p.its_own p.none s in
-      stands_released key rounds r awaiting a b c told.text p.untold told.fed told.replies (ap (λ (l : List Answer). session_text l) is ∙ p.text_is) told.told s
+      stands_released key rounds r awaiting a b c told.text p.untold told.fed told.replies (ap (λ (l : List Answer). session_text l) (is ∙ sym (part_shows releases key rounds r.takings awaiting r.said p.part a b released p.its_own p.none s)) ∙ p.text_is) told.told s
       (elim s.all [
         | inl none ↦ inl (none, elim p.stays [ inl stays ↦ inl stays.1 | inr lacks ↦ inr lacks ])
         | inr lacks ↦
@@ -288,7 +344,7 @@ stands_told key rounds r awaiting a b c one t s = elim t [
       let enough : length (held_of r.takings) ≤ length r.said = omega (arith, one) in
       let empty : answers_to key r.takings r.said ≡ [] = s.waits r.said enough ∙ ap (λ (n : ℕ). take n (drop b.first r.said)) told in
       let same = silent.0 in
-      stands_released key rounds r awaiting a b c [] [] (ap (λ (d : SessionState). d.fed) same) (ap (λ (d : SessionState). d.sent ++ d.unsent) same ∙ sym (append-nil (b.sent ++ b.unsent)))
+      stands_released key rounds r awaiting a b c [] [] (ap (λ (d : SessionState). d.fed) same) (ap replied same ∙ sym (append-nil (replied b)))
       (ap (λ (l : List Answer). session_text l) empty) (ap (λ (d : SessionState). d.waiting) same ∙ told) s
       (elim s.all [
         | inl none ↦ inl (none, inl refl)
@@ -297,7 +353,7 @@ stands_told key rounds r awaiting a b c one t s = elim t [
 ]
 
 -- two steps of each connection, one after the other
-pub each_then : (R S T : ℕ → PeerState → PeerState → Type 0) (s t u : Slab Connection) → EachGoes R s t → EachGoes S t u
+pub each_then : {L : Type 0} (R S T : ℕ → PeerState → PeerState → Type 0) (s t u : Slab (Connection L)) → EachGoes R s t → EachGoes S t u
     → ((key : ℕ) (a b c : PeerState) → R key a b → S key b c → T key a c) → EachGoes T s u
 each_then R S T s t u r q both = λ key connection there.
     let second = q key connection there in
@@ -305,11 +361,11 @@ each_then R S T s t u r q both = λ key connection there.
     (first.0, first.1, both key first.0.session second.0.session connection.session first.2 second.2)
 
 -- no step
-pub each_stays : (R : ℕ → PeerState → PeerState → Type 0) (s : Slab Connection) → ((key : ℕ) (a : PeerState) → R key a a) → EachGoes R s s
+pub each_stays : {L : Type 0} (R : ℕ → PeerState → PeerState → Type 0) (s : Slab (Connection L)) → ((key : ℕ) (a : PeerState) → R key a a) → EachGoes R s s
 each_stays R s same = λ key connection there. (connection, there, same key connection.session)
 
 -- the lines that were taken stay those of their own connection's peer, if each peer stays
-own_still : (s t : Slab Connection) (taking : Taking) → EachGoes (λ key a b. StaysPeer a b) s t → IsOwn s taking → IsOwn t taking
+own_still : {L : Type 0} (s t : Slab (Connection L)) (taking : Taking) → EachGoes (λ key a b. StaysPeer a b) s t → IsOwn s taking → IsOwn t taking
 own_still s t taking each own = (
   own.0,
   λ found there.
@@ -317,19 +373,19 @@ own_still s t taking each own = (
       λ peer known. before.2 peer (own.1 before.0 before.1 peer known),
 )
 
-all_own : (s t : Slab Connection) (takings : List Taking) → EachGoes (λ key a b. StaysPeer a b) s t → All (IsOwn s) takings → All (IsOwn t) takings
+all_own : {L : Type 0} (s t : Slab (Connection L)) (takings : List Taking) → EachGoes (λ key a b. StaysPeer a b) s t → All (IsOwn s) takings → All (IsOwn t) takings
 all_own s t [] each own = All-nil (IsOwn t)
 all_own s t (taking ∷ more) each own =
     All-cons (IsOwn t) taking more (own_still s t taking each (own 0 taking (omega arith))) (all_own s t more each (All-tail (IsOwn s) taking more own))
 
-all_own_in : (s t : Slab Connection) (rounds : List Round) → EachGoes (λ key a b. StaysPeer a b) s t → All (λ (r : Round). All (IsOwn s) r.takings) rounds → All (λ (r : Round). All (IsOwn t) r.takings) rounds
+all_own_in : {L : Type 0} (s t : Slab (Connection L)) (rounds : List Round) → EachGoes (λ key a b. StaysPeer a b) s t → All (λ (r : Round). All (IsOwn s) r.takings) rounds → All (λ (r : Round). All (IsOwn t) r.takings) rounds
 all_own_in s t [] each own = All-nil (λ (r : Round). All (IsOwn t) r.takings)
 all_own_in s t (round ∷ more) each own =
     All-cons (λ (r : Round). All (IsOwn t) r.takings) round more (all_own s t round.takings each (own 0 round (omega arith)))
     (all_own_in s t more each (All-tail (λ (r : Round). All (IsOwn s) r.takings) round more own))
 
 -- each connection's step, weakened
-each_more : (R S : ℕ → PeerState → PeerState → Type 0) (s t : Slab Connection) → EachGoes R s t → ((key : ℕ) (a b : PeerState) → R key a b → S key a b) → EachGoes S s t
+each_more : {L : Type 0} (R S : ℕ → PeerState → PeerState → Type 0) (s t : Slab (Connection L)) → EachGoes R s t → ((key : ℕ) (a b : PeerState) → R key a b → S key a b) → EachGoes S s t
 each_more R S s t each more = λ key found there. let before = each key found there in (before.0, before.1, more key before.0.session found.session before.2)
 
 -- a connection that turned its part into replies, or did nothing, has its peer still
@@ -341,7 +397,7 @@ tells_state : (said : List Answer) (awaiting : List ℕ) (key : ℕ) (a b : Peer
 tells_state said awaiting key a b t = elim t [ inl told ↦ inl told.0 | inr silent ↦ inr (ap (λ (c : PeerState). c.session) silent.0, silent.1) ]
 
 -- a turn that is not over: after some rounds, with answers since then that are withheld
-pub record OpenTurn {D : Type 0} (takes : D → Peer → Ask → Withheld → D → Type 0) (releases : D → D → Withheld → Answer → Type 0) (moves : D → D → Type 0) (old new : D) (withheld : List Withheld) (awaiting : List ℕ) (connections connections' : Slab Connection) : Type 0 where
+pub record OpenTurn {D L : Type 0} (takes : D → Peer → Ask → Withheld → D → Type 0) (releases : D → D → Withheld → Answer → Type 0) (moves : D → D → Type 0) (old new : D) (withheld : List Withheld) (awaiting : List ℕ) (connections connections' : Slab (Connection L)) : Type 0 where
   pub rounds : List Round
   pub takings : List Taking
   pub mid : D
@@ -352,7 +408,7 @@ pub record OpenTurn {D : Type 0} (takes : D → Peer → Ask → Withheld → D 
   pub own_taken : All (IsOwn connections') takings
   pub each : EachGoes (λ key a b. a.session.waiting ≡ 0 → Stands key rounds takings awaiting a.session b.session) connections connections'
 
-pub open_first : {D : Type 0} (takes : D → Peer → Ask → Withheld → D → Type 0) (releases : D → D → Withheld → Answer → Type 0) (moves : D → D → Type 0) (desk : D) (withheld : List Withheld) (awaiting : List ℕ) (connections : Slab Connection)
+pub open_first : {D L : Type 0} (takes : D → Peer → Ask → Withheld → D → Type 0) (releases : D → D → Withheld → Answer → Type 0) (moves : D → D → Type 0) (desk : D) (withheld : List Withheld) (awaiting : List ℕ) (connections : Slab (Connection L))
     → withheld ≡ [] → OpenTurn takes releases moves desk desk withheld awaiting connections connections
 open_first takes releases moves desk withheld awaiting connections none = record {
   rounds = [];
@@ -387,8 +443,8 @@ stands_behind key rounds takings t awaiting awaiting' first a b c begins still g
 ]
 
 -- the turn of one connection
-pub open_taken : {D : Type 0} (takes : D → Peer → Ask → Withheld → D → Type 0) (releases : D → D → Withheld → Answer → Type 0) (moves : D → D → Type 0) (key : ℕ) (old new next : D)
-    (withheld withheld' : List Withheld) (awaiting awaiting' : List ℕ) (s t u : Slab Connection)
+pub open_taken : {D L : Type 0} (takes : D → Peer → Ask → Withheld → D → Type 0) (releases : D → D → Withheld → Answer → Type 0) (moves : D → D → Type 0) (key : ℕ) (old new next : D)
+    (withheld withheld' : List Withheld) (awaiting awaiting' : List ℕ) (s t u : Slab (Connection L))
     → OpenTurn takes releases moves old new withheld awaiting s t → TurnOfOne takes key new next withheld withheld' awaiting awaiting' t u
     → OpenTurn takes releases moves old next withheld' awaiting' s u
 open_taken takes releases moves key old new next withheld withheld' awaiting awaiting' s t u o n =
@@ -413,19 +469,20 @@ open_taken takes releases moves key old new next withheld withheld' awaiting awa
     }
 
 -- the lines that were taken in one round more
-own_round : (rounds : List Round) (r : Round) (u : Slab Connection) → All (λ (r : Round). All (IsOwn u) r.takings) rounds → All (IsOwn u) r.takings → All (λ (r : Round). All (IsOwn u) r.takings) (rounds ++ r ∷ [])
+own_round : {L : Type 0} (rounds : List Round) (r : Round) (u : Slab (Connection L)) → All (λ (r : Round). All (IsOwn u) r.takings) rounds → All (IsOwn u) r.takings → All (λ (r : Round). All (IsOwn u) r.takings) (rounds ++ r ∷ [])
 own_round rounds r u before own =
     let Own = λ (r : Round). All (IsOwn u) r.takings in All-append Own rounds (r ∷ []) before (All-cons Own r [] own (All-nil Own))
 
 -- a release
-pub open_told : {D : Type 0} (takes : D → Peer → Ask → Withheld → D → Type 0) (releases : D → D → Withheld → Answer → Type 0) (moves : D → D → Type 0) (old new next : D)
-    (withheld withheld' : List Withheld) (awaiting awaiting' : List ℕ) (s t u : Slab Connection)
+pub open_told : {D L : Type 0} (takes : D → Peer → Ask → Withheld → D → Type 0) (releases : D → D → Withheld → Answer → Type 0) (moves : D → D → Type 0) (old new next : D)
+    (withheld withheld' : List Withheld) (awaiting awaiting' : List ℕ) (s t u : Slab (Connection L))
     → OpenTurn takes releases moves old new withheld awaiting s t → TellsAll releases moves new next withheld awaiting t u → withheld' ≡ [] → awaiting' ≡ []
     → OpenTurn takes releases moves old next withheld' awaiting' s u
 open_told takes releases moves old new next withheld withheld' awaiting awaiting' s t u o n none silent =
     let r : Round = record { takings = o.takings; said = n.said } in
     let released = subst (λ (l : List Withheld). ReleasesAll releases moves new l n.said next) o.holds n.released in
     let one = all_length releases moves new next (held_of o.takings) n.said released in
+    let each_released = all_released releases moves new next (held_of o.takings) n.said released in
     let stays : EachGoes (λ key a b. StaysPeer a b) t u = each_more _ _ t u n.each (λ other a b goes. tells_stays n.said awaiting other a b goes) in record {
       rounds = o.rounds ++ r ∷ [];
       takings = [];
@@ -436,24 +493,25 @@ open_told takes releases moves old new next withheld withheld' awaiting awaiting
       own = own_round o.rounds r u (all_own_in t u o.rounds stays o.own) (all_own t u o.takings stays o.own_taken);
       own_taken = All-nil (IsOwn u);
       each = subst (λ (l : List ℕ). EachGoes (λ key a b. a.session.waiting ≡ 0 → Stands key (o.rounds ++ r ∷ []) [] l a.session b.session) s u) (sym silent)
-          (each_then _ _ _ s t u o.each n.each (λ other a b c stood goes told. stands_told other o.rounds r awaiting a.session b.session c.session one (tells_state n.said awaiting other b c goes) (stood told)));
+          (each_then _ _ _ s t u o.each n.each (λ other a b c stood goes told. stands_told (releases new next) other o.rounds r awaiting a.session b.session c.session one each_released (tells_state n.said awaiting other b c goes) (stood told)));
     }
 
 -- a turn is over after its last release
-pub open_last : {D : Type 0} (takes : D → Peer → Ask → Withheld → D → Type 0) (releases : D → D → Withheld → Answer → Type 0) (moves : D → D → Type 0) (old new next : D)
-    (withheld : List Withheld) (awaiting : List ℕ) (s t u : Slab Connection)
+pub open_last : {D L : Type 0} (takes : D → Peer → Ask → Withheld → D → Type 0) (releases : D → D → Withheld → Answer → Type 0) (moves : D → D → Type 0) (old new next : D)
+    (withheld : List Withheld) (awaiting : List ℕ) (s t u : Slab (Connection L))
     → OpenTurn takes releases moves old new withheld awaiting s t → TellsAll releases moves new next withheld awaiting t u
     → WorkerTurn takes releases moves old next s u
 open_last takes releases moves old new next withheld awaiting s t u o n =
     let r : Round = record { takings = o.takings; said = n.said } in
     let released = subst (λ (l : List Withheld). ReleasesAll releases moves new l n.said next) o.holds n.released in
     let one = all_length releases moves new next (held_of o.takings) n.said released in
+    let each_released = all_released releases moves new next (held_of o.takings) n.said released in
     let stays : EachGoes (λ key a b. StaysPeer a b) t u = each_more _ _ t u n.each (λ other a b goes. tells_stays n.said awaiting other a b goes) in record {
       rounds = o.rounds ++ r ∷ [];
       own = own_round o.rounds r u (all_own_in t u o.rounds stays o.own) (all_own t u o.takings stays o.own_taken);
       desk = rounds_more takes releases moves old o.mid next o.rounds r o.gone (record { asked = new; taken = o.taken; released = released });
       each = each_then _ _ _ s t u o.each n.each (λ other a b c stood goes told. stands_last other (o.rounds ++ r ∷ []) a.session c.session
-          (stands_told other o.rounds r awaiting a.session b.session c.session one (tells_state n.said awaiting other b c goes) (stood told)));
+          (stands_told (releases new next) other o.rounds r awaiting a.session b.session c.session one each_released (tells_state n.said awaiting other b c goes) (stood told)));
     }
 
 -- a connection that is given the released answers twice does nothing the second time
@@ -464,7 +522,7 @@ told_again said a b c t u =
     let n = no_part said q.part u.text q.untold b t.told q.its_own q.none q.text_is in record {
       fed = u.fed ∙ t.fed;
       text = t.text;
-      replies = u.replies ∙ ap (λ (x : List ℕ). (b.sent ++ b.unsent) ++ x) n.0 ∙ append-nil (b.sent ++ b.unsent) ∙ t.replies;
+      replies = u.replies ∙ ap (λ (x : List ℕ). replied b ++ x) n.0 ∙ append-nil (replied b) ∙ t.replies;
       tells = record {
         untold = p.untold;
         part = p.part;
@@ -487,7 +545,7 @@ ToldSoFar said awaiting left key old new = TellsPeer said old new ⊎ ((new ≡ 
 abbrev pub TellsOne : List Answer → ℕ → ℕ → PeerState → PeerState → Type 0
 TellsOne said key other old new = (other ≡ key → TellsPeer said old new) × (other ≢ key → new ≡ old)
 
-pub told_none : (said : List Answer) (awaiting : List ℕ) (s : Slab Connection) → EachGoes (ToldSoFar said awaiting awaiting) s s
+pub told_none : {L : Type 0} (said : List Answer) (awaiting : List ℕ) (s : Slab (Connection L)) → EachGoes (ToldSoFar said awaiting awaiting) s s
 told_none said awaiting s = each_stays _ s (λ key a. inr (refl, λ h. h))
 
 told_one : (said : List Answer) (awaiting left left' : List ℕ) (key other : ℕ) (a b c : PeerState) → left ≡ left' ++ key ∷ [] → ToldSoFar said awaiting left other a b
@@ -510,11 +568,11 @@ told_one said awaiting left left' key other a b c popped told step = elim (eqb_t
   ]
 ]
 
-pub told_more : (said : List Answer) (awaiting left left' : List ℕ) (key : ℕ) (s t u : Slab Connection) → left ≡ left' ++ key ∷ [] → EachGoes (ToldSoFar said awaiting left) s t
+pub told_more : {L : Type 0} (said : List Answer) (awaiting left left' : List ℕ) (key : ℕ) (s t u : Slab (Connection L)) → left ≡ left' ++ key ∷ [] → EachGoes (ToldSoFar said awaiting left) s t
     → EachGoes (TellsOne said key) t u → EachGoes (ToldSoFar said awaiting left') s u
 told_more said awaiting left left' key s t u popped told step = each_then _ _ _ s t u told step (λ other a b c before goes. told_one said awaiting left left' key other a b c popped before goes)
 
-pub told_all : (said : List Answer) (awaiting left : List ℕ) (s t : Slab Connection) → left ≡ [] → EachGoes (ToldSoFar said awaiting left) s t → EachGoes (TellsWhereAsked said awaiting) s t
+pub told_all : {L : Type 0} (said : List Answer) (awaiting left : List ℕ) (s t : Slab (Connection L)) → left ≡ [] → EachGoes (ToldSoFar said awaiting left) s t → EachGoes (TellsWhereAsked said awaiting) s t
 told_all said awaiting left s t none told = λ key connection there.
     let one = told key connection there in (
       one.0,
@@ -526,25 +584,25 @@ told_all said awaiting left s t none told = λ key connection there.
     )
 
 -- a write of one connection
-pub each_written : (R : ℕ → PeerState → PeerState → Type 0) (s t : Slab Connection) (key : ℕ) (connection connection' : Connection) → get s key ≡ Some connection → Updates s t key (Some connection')
+pub each_written : {L : Type 0} (R : ℕ → PeerState → PeerState → Type 0) (s t : Slab (Connection L)) (key : ℕ) (connection connection' : Connection L) → get s key ≡ Some connection → Updates s t key (Some connection')
     → R key connection.session connection'.session → ((other : ℕ) (a : PeerState) → other ≢ key → R other a a) → EachGoes R s t
-each_written R s t key connection connection' was writes own others = λ other found there. elim (eqb_tells other key) [
+each_written {L} R s t key connection connection' was writes own others = λ other found there. elim (eqb_tells other key) [
   | inl same ↦
       let is : Some connection' ≡ Some found = sym writes.changed ∙ ap (λ (k : ℕ). get t k) (sym same.1) ∙ there in
       let as_found : connection' ≡ found = cc in
-      (connection, ap (λ (k : ℕ). get s k) same.1 ∙ was, subst (λ (k : ℕ). R k connection.session found.session) (sym same.1) (subst (λ (x : Connection). R key connection.session x.session) as_found own))
+      (connection, ap (λ (k : ℕ). get s k) same.1 ∙ was, subst (λ (k : ℕ). R k connection.session found.session) (sym same.1) (subst (λ (x : Connection L). R key connection.session x.session) as_found own))
   | inr apart ↦ (found, sym (writes.others other apart.1) ∙ there, others other found.session apart.1)
 ]
 
-pub each_set : (R : ℕ → PeerState → PeerState → Type 0) (s : Slab Connection) (key : ℕ) (connection connection' : Connection) → Some connection ≡ get s key
+pub each_set : {L : Type 0} (R : ℕ → PeerState → PeerState → Type 0) (s : Slab (Connection L)) (key : ℕ) (connection connection' : Connection L) → Some connection ≡ get s key
     → R key connection.session connection'.session → ((other : ℕ) (a : PeerState) → other ≢ key → R other a a) → EachGoes R s (with_value s key connection')
-each_set R s key connection connection' was own others =
+each_set {L} R s key connection connection' was own others =
     let some : IsSome (Some connection) = search rules in
-    let present : IsSome (get s key) = subst (λ (o : Option Connection). IsSome o) was some in
+    let present : IsSome (get s key) = subst (λ (o : Option (Connection L)). IsSome o) was some in
     each_written R s (with_value s key connection') key connection connection' (sym was) (Updates-with_value s key connection' present) own others
 
 -- a connection is closed
-pub each_removed : (s t : Slab Connection) (key : ℕ) → Updates s t key None → EachGoes (λ other a b. b ≡ a) s t
+pub each_removed : {L : Type 0} (s t : Slab (Connection L)) (key : ℕ) → Updates s t key None → EachGoes (λ other a b. b ≡ a) s t
 each_removed s t key removes = λ other found there. elim (eqb_tells other key) [
   | inl same ↦
       let none : None ≡ Some found = sym removes.changed ∙ ap (λ (k : ℕ). get t k) (sym same.1) ∙ there in
@@ -553,16 +611,16 @@ each_removed s t key removes = λ other found there. elim (eqb_tells other key) 
 ]
 
 -- a step that changes no connection, after another
-pub each_still : (R : ℕ → PeerState → PeerState → Type 0) (s t u : Slab Connection) → EachGoes R s t → EachGoes (λ other a b. b ≡ a) t u → EachGoes R s u
+pub each_still : {L : Type 0} (R : ℕ → PeerState → PeerState → Type 0) (s t u : Slab (Connection L)) → EachGoes R s t → EachGoes (λ other a b. b ≡ a) t u → EachGoes R s u
 each_still R s t u first still = each_then _ _ _ s t u first still (λ other a b c goes same. subst (λ (d : PeerState). R other a d) (sym same) goes)
 
 -- the turn of one connection, which is then noted as waiting or not
-pub turn_of_one : {D : Type 0} (takes : D → Peer → Ask → Withheld → D → Type 0) (key : ℕ) (old new : D) (withheld withheld' : List Withheld) (awaiting awaiting' : List ℕ) (next : Next)
-    (connections connections' : Slab Connection) (connection connection' : Connection) → Some connection ≡ get connections key
+pub turn_of_one : {D L : Type 0} (takes : D → Peer → Ask → Withheld → D → Type 0) (key : ℕ) (old new : D) (withheld withheld' : List Withheld) (awaiting awaiting' : List ℕ) (next : Next)
+    (connections connections' : Slab (Connection L)) (connection connection' : Connection L) → Some connection ≡ get connections key
     → ConnectionSteps takes old new withheld withheld' next connection.session connection'.session
     → EachGoes (λ other a b. b ≡ a) (with_value connections key connection') connections' → ((other : ℕ) → Contains awaiting other → Contains awaiting' other)
-    → (WaitsForRelease next → (found : Connection) → get connections' key ≡ Some found → Contains awaiting' key) → TurnOfOne takes key old new withheld withheld' awaiting awaiting' connections connections'
-turn_of_one takes key old new withheld withheld' awaiting awaiting' next connections connections' connection connection' was steps dispatched still asks =
+    → (WaitsForRelease next → (found : Connection L) → get connections' key ≡ Some found → Contains awaiting' key) → TurnOfOne takes key old new withheld withheld' awaiting awaiting' connections connections'
+turn_of_one {L = L} takes key old new withheld withheld' awaiting awaiting' next connections connections' connection connection' was steps dispatched still asks =
     let step = steps.step in
     let Own : PeerState → PeerState → Type 0 = λ a b. ((Kept a.session b.session × (step.lines ≡ []) × (step.held ≡ [])) ⊎ (WaitsForRelease next × LinesTaken step.lines step.held (length withheld) a.session b.session)) in
     let goes : Own connection.session connection'.session = elim steps.waits [
@@ -574,7 +632,7 @@ turn_of_one takes key old new withheld withheld' awaiting awaiting' next connect
       own = λ found there.
           let both : Some connection ≡ Some found = was ∙ there in
           let same : connection ≡ found = cc in
-          ap (λ (c : Connection). c.session) (sym same);
+          ap (λ (c : Connection L). c.session) (sym same);
       lines = step.lines;
       held = step.held;
       behind = step.behind;
@@ -604,14 +662,14 @@ nobody = record {
   peer = None;
   stage = stages.Serving;
   stream = record { received = []; sent = [] };
-  session = record { fed = []; sent = []; unsent = []; ended = None; first = 0; waiting = 0 };
+  session = record { fed = []; sent = []; unsent = []; listed = []; ended = None; first = 0; waiting = 0; awaited = [] };
 }
 
 nobody_is : IsConnection nobody
 nobody_is = ([], record { header = []; rest = []; received_is = refl; named = (refl, refl); left = λ _. refl; notice = []; sent_is = refl; ended = refl })
 
 -- nobody has a turn
-pub turn_of_none : {D : Type 0} (takes : D → Peer → Ask → Withheld → D → Type 0) (key : ℕ) (desk : D) (withheld : List Withheld) (awaiting : List ℕ) (connections : Slab Connection)
+pub turn_of_none : {D L : Type 0} (takes : D → Peer → Ask → Withheld → D → Type 0) (key : ℕ) (desk : D) (withheld : List Withheld) (awaiting : List ℕ) (connections : Slab (Connection L))
     → None ≡ get connections key → TurnOfOne takes key desk desk withheld withheld awaiting awaiting connections connections
 turn_of_none takes key desk withheld awaiting connections none = record {
   connection = nobody;

@@ -1,5 +1,5 @@
 -- A worker's turn: its connections, and the desk that they share, before and after it (own).
-use Rattle.std.specs.Prelude.{◌≡◌, ◌≢◌, ◌⊎◌, ◌==◌, if◌then◌else◌, ℕ, List, [], ◌∷◌, ◌++◌, length, take, drop, All, Option, Some, None}
+use Rattle.std.specs.Prelude.{◌≡◌, ◌≢◌, ◌⊎◌, ◌==◌, if◌then◌else◌, ℕ, List, [], ◌∷◌, ◌++◌, length, map, take, drop, All, Option, Some, None}
 use Rattle.std.specs.List.{Contains}
 use Rattle.slab.specs.Slab.{Slab, get}
 use Rattle.nmvs_messages.specs.declared.ask.Ask.{Ask}
@@ -7,13 +7,15 @@ use Rattle.nmvs_messages.specs.declared.answer.Answer.{Answer}
 use Rattle.nmvs_messages.specs.declared.peer.Peer.{Peer}
 use Rattle.nmvs_messages.specs.declared.withheld.Withheld.{Withheld}
 use Rattle.nmvs_messages.specs.Peers.{TakesFrom}
+use Rattle.nmvs_messages.specs.Withheld.{answer_of}
+use Rattle.nmvs_protocol.specs.Progress.{LastShows}
 use Rattle.nmvs_protocol.specs.Session.{TakesLines, ReleasesAll, session_text}
 use Rattle.nmvs_stream.specs.InputLines.{input_lines}
 use Rattle.nmvs_connections.specs.declared.connection.Connection.{Connection}
 use Rattle.nmvs_connections.specs.declared.next.Next.{Next}
 use Rattle.nmvs_connections.specs.declared.next.Next.TheVariants as nexts
 use Rattle.nmvs_connections.specs.Peers.{PeerState, IsConnection, StaysPeer}
-use Rattle.nmvs_connections.specs.Replies.{SessionState, TellsPart, LacksMemory}
+use Rattle.nmvs_connections.specs.Replies.{SessionState, TellsPart, LacksMemory, replied}
 
 -- lines of the connection under this key that were taken together; the connection as it was when its turn came; the
 -- withheld answers to the lines
@@ -80,44 +82,46 @@ pub record Answered (key : ℕ) (rounds : List Round) (old new : SessionState) :
   pub lines : input_lines new.fed ≡ input_lines old.fed ++ lines_in key rounds
   pub text : List ℕ
   pub untold : List ℕ
-  pub replies : new.sent ++ new.unsent ≡ (old.sent ++ old.unsent) ++ text
+  pub replies : replied new ≡ replied old ++ text
   pub text_is : session_text (answers_in key rounds) ≡ text ++ untold
   pub all : (untold ≡ []) ⊎ LacksMemory new.ended
   pub told : new.waiting ≡ 0
 
 -- each connection that is there was there before, and has taken this step
-abbrev pub EachGoes : (ℕ → PeerState → PeerState → Type 0) → Slab Connection → Slab Connection → Type 0
-EachGoes goes old new = (key : ℕ) (connection' : Connection) → get new key ≡ Some connection' → (connection : Connection) × (get old key ≡ Some connection) × goes key connection.session connection'.session
+abbrev pub EachGoes : {L : Type 0} → (ℕ → PeerState → PeerState → Type 0) → Slab (Connection L) → Slab (Connection L) → Type 0
+EachGoes {L} goes old new = (key : ℕ) (connection' : Connection L) → get new key ≡ Some connection' → (connection : Connection L) × (get old key ≡ Some connection) × goes key connection.session connection'.session
 
 -- the lines are of a connection whose header names its peer; and if the connection is still there, it has that peer still
-abbrev pub IsOwn : Slab Connection → Taking → Type 0
-IsOwn connections t =
-    IsConnection t.connection × ((connection : Connection) → get connections t.key ≡ Some connection → StaysPeer t.connection connection.session)
+abbrev pub IsOwn : {L : Type 0} → Slab (Connection L) → Taking → Type 0
+IsOwn {L} connections t =
+    IsConnection t.connection × ((connection : Connection L) → get connections t.key ≡ Some connection → StaysPeer t.connection connection.session)
 
 -- a turn of a worker: rounds take the desk from old to new, each line as one of its own connection's peer; and each connection
 -- that waited for no answer is answered in them, whatever others are served between its lines
-pub record WorkerTurn {D : Type 0} (takes : D → Peer → Ask → Withheld → D → Type 0) (releases : D → D → Withheld → Answer → Type 0) (moves : D → D → Type 0) (old new : D) (connections connections' : Slab Connection) : Type 0 where
+pub record WorkerTurn {D L : Type 0} (takes : D → Peer → Ask → Withheld → D → Type 0) (releases : D → D → Withheld → Answer → Type 0) (moves : D → D → Type 0) (old new : D) (connections connections' : Slab (Connection L)) : Type 0 where
   pub rounds : List Round
   pub desk : GoesRounds takes releases moves old rounds new
   pub own : All (λ (r : Round). All (IsOwn connections') r.takings) rounds
   pub each : EachGoes (λ key state state'. state.session.waiting ≡ 0 → Answered key rounds state.session state'.session) connections connections'
 
--- replies may have been sent, and nothing else
+-- entries may have been fetched, and replies sent, and nothing else
 pub record Kept (old new : SessionState) : Type 0 where
   pub fed : new.fed ≡ old.fed
-  pub text : new.sent ++ new.unsent ≡ old.sent ++ old.unsent
+  pub text : replied new ≡ replied old
   pub ended : new.ended ≡ old.ended
   pub first : new.first ≡ old.first
   pub waiting : new.waiting ≡ old.waiting
+  pub awaited : new.awaited ≡ old.awaited
 
--- lines were taken, whose answers stand from this place on among those that are withheld
+-- lines were taken, whose answers stand from this place on among those that are withheld; the last shows the awaited entries
 pub record LinesTaken (lines : List (List ℕ)) (held : List Withheld) (first : ℕ) (old new : SessionState) : Type 0 where
   pub lines_are : input_lines new.fed ≡ input_lines old.fed ++ lines
-  pub text : new.sent ++ new.unsent ≡ old.sent ++ old.unsent
+  pub text : replied new ≡ replied old
   pub open_still : old.ended ≡ None
   pub told : old.waiting ≡ 0
   pub starts : new.first ≡ first
   pub waits : new.waiting ≡ length held
+  pub shows : LastShows new.awaited (map answer_of held)
   pub sound : LacksMemory new.ended → ⊥
 
 -- the connection waits for a release
@@ -146,8 +150,8 @@ pub record ConnectionSteps {D : Type 0} (takes : D → Peer → Ask → Withheld
 pub record TellsOwn (released : List Answer) (old new : SessionState) : Type 0 where
   pub fed : new.fed ≡ old.fed
   pub text : List ℕ
-  pub replies : new.sent ++ new.unsent ≡ (old.sent ++ old.unsent) ++ text
-  pub tells : TellsPart old.first old.waiting released text old.ended new.ended
+  pub replies : replied new ≡ replied old ++ text
+  pub tells : TellsPart old.first old.waiting released old.awaited text old.ended new.ended
   pub told : new.waiting ≡ 0
 
 -- and its peer stays
@@ -160,7 +164,7 @@ TellsWhereAsked released awaiting key old new =
     TellsPeer released old new ⊎ ((new ≡ old) × (Contains awaiting key → ⊥))
 
 -- the withheld answers are released at once, and each connection that asked turns its part of them into replies
-pub record TellsAll {D : Type 0} (releases : D → D → Withheld → Answer → Type 0) (moves : D → D → Type 0) (old new : D) (withheld : List Withheld) (awaiting : List ℕ) (connections connections' : Slab Connection) : Type 0 where
+pub record TellsAll {D L : Type 0} (releases : D → D → Withheld → Answer → Type 0) (moves : D → D → Type 0) (old new : D) (withheld : List Withheld) (awaiting : List ℕ) (connections connections' : Slab (Connection L)) : Type 0 where
   pub said : List Answer
   pub released : ReleasesAll releases moves old withheld said new
   pub each : EachGoes (TellsWhereAsked said awaiting) connections connections'
@@ -171,10 +175,10 @@ StepsOrStays awaiting key lines held first old new = (Kept old new × (lines ≡
 
 -- the turn of the connection under this key: the desk takes its lines, as those of its peer, and appends their answers to the
 -- withheld ones; if there are any, the connection waits for their release; no other connection has changed
-pub record TurnOfOne {D : Type 0} (takes : D → Peer → Ask → Withheld → D → Type 0) (key : ℕ) (old new : D) (withheld withheld' : List Withheld) (awaiting awaiting' : List ℕ) (connections connections' : Slab Connection) : Type 0 where
+pub record TurnOfOne {D L : Type 0} (takes : D → Peer → Ask → Withheld → D → Type 0) (key : ℕ) (old new : D) (withheld withheld' : List Withheld) (awaiting awaiting' : List ℕ) (connections connections' : Slab (Connection L)) : Type 0 where
   pub connection : PeerState
   pub is : IsConnection connection
-  pub own : (found : Connection) → get connections key ≡ Some found → found.session ≡ connection
+  pub own : (found : Connection L) → get connections key ≡ Some found → found.session ≡ connection
   pub lines : List (List ℕ)
   pub held : List Withheld
   pub behind : withheld' ≡ withheld ++ held

@@ -1,24 +1,32 @@
 //! A session whose bytes the caller moves.
-ghost use Rattle.std.specs.Prelude.{◌≡◌, ◌==◌, ◌≤◌, ◌++◌, List, [], ℕ, None, not, length, take, drop};
+ghost use Rattle.std.specs.Prelude.{◌≡◌, ◌==◌, ◌≤◌, ◌+◌, ◌*◌, ◌++◌, if◌then◌else◌, List, [], ℕ, None, OnErr, false, true, not, length, map, take, drop, vec_len, vec_capacity};
 ghost use Rattle.nmvs_messages.specs.Peers.{TakesFrom};
 ghost use Rattle.nmvs_stream.specs.InputLines.{unfinished_line};
-ghost use Rattle.nmvs_connections.specs.Replies.{Asked, LacksMemory, Replies, TellsPart, WordsPart};
+ghost use Rattle.nmvs_line.specs.Export.{ended_line, export_text};
+ghost use Rattle.nmvs_messages.specs.Withheld.{answer_of, text_left};
+ghost use Rattle.nmvs_protocol.specs.Progress.{LastShows};
+ghost use Rattle.nmvs_connections.specs.Replies.{Asked, LacksMemory, Replies, TellsPart, WordsPart, ended_by, is_replied, replied};
+ghost use Rattle.nmvs_connections.specs.Turns.{Kept};
 
 use boxcar::tag::Tag;
 use nmvs_http::{WriteBuffer, extended};
-use nmvs_messages::{Desk, End, Peer, Released, WithheldAnswers};
-use nmvs_protocol::{Session, write_texts};
-use std::alloc::Global;
+use nmvs_line::{LONGEST_LINE, entry_line};
+use nmvs_messages::{Desk, End, EntryList, Peer, Released, WithheldAnswers};
+use nmvs_protocol::{PIECE, Session, Taking, write_texts};
+use nmvs_rules::Entry;
+use std::alloc::{AllocError, Global};
 use std::marker::Model;
 use std::mem;
 
 /// The session of one connection: the bytes that it was fed, and the replies to them, the last of which may be unsent.
 /// The caller moves the bytes. Many sessions share a desk, and one list of answers that are withheld.
 ///
-/// Contracts see the bytes that it was fed, its sent and unsent replies, how it ended, and which of the withheld answers
-/// it waits for.
+/// The last of its answers may show a list of entries. They are fetched and worded a piece at a time, after the answer is told.
+///
+/// Contracts see the bytes that it was fed, its sent and unsent replies, the text of the entries that follow them, how it ended,
+/// and which of the withheld answers it waits for.
 #[derive(Drop)]
-pub struct BufferedSession {
+pub struct BufferedSession<L: EntryList> {
     session: Session,
     replies: WriteBuffer,
     /// How many bytes of the replies were sent.
@@ -27,28 +35,40 @@ pub struct BufferedSession {
     first: usize,
     /// How many answers it waits for.
     waiting: usize,
+    /// The entries that the last of these answers shows, or that follow the replies once it is told.
+    list: Option<L>,
     end: Option<End>,
     fed: Tag,
     sent: Tag,
 }
 
-impl Model for BufferedSession {
+impl<L: EntryList> Model for BufferedSession<L> {
     ghost use Rattle.std.specs.Prelude.{◌≤◌, ◌++◌, length, drop};
-    ghost use Rattle.nmvs_connections.specs.Replies.{SessionState, Replies, GoesOn};
+    ghost use Rattle.nmvs_messages.specs.Withheld.{text_left};
+    ghost use Rattle.nmvs_connections.specs.Replies.{SessionState, Replies, GoesOn, once_told, while_waiting};
 
     ghost Value = { SessionState };
 
-    ghost view = { λ d. record { fed = d.fed.numbers; sent = d.sent.numbers; unsent = drop d.gone d.replies.bytes.items; ended = d.end; first = d.first; waiting = d.waiting } };
+    ghost view = { λ d. record {
+      fed = d.fed.numbers;
+      sent = d.sent.numbers;
+      unsent = drop d.gone d.replies.bytes.items;
+      listed = once_told d.waiting (text_left L.left d.list);
+      ended = d.end;
+      first = d.first;
+      waiting = d.waiting;
+      awaited = while_waiting d.waiting (text_left L.left d.list);
+    } };
 
     ghost invariant = { λ d. (d.gone ≤ length d.replies.bytes.items)
         × GoesOn d.end d.session d.fed.numbers
-        × Replies d.fed.numbers (d.sent.numbers ++ drop d.gone d.replies.bytes.items) d.waiting d.end };
+        × Replies d.fed.numbers ((d.sent.numbers ++ drop d.gone d.replies.bytes.items) ++ once_told d.waiting (text_left L.left d.list)) d.waiting d.end };
 }
 
-impl BufferedSession {
+impl<L: EntryList> BufferedSession<L> {
     /// A session that was fed nothing, and that answers at most this number of lines.
-    pub fn new(alloc: Global, limit: u64) -> BufferedSession
-        ensures { result ≡ record { fed = []; sent = []; unsent = []; ended = None; first = 0; waiting = 0 } }
+    pub fn new(alloc: Global, limit: u64) -> BufferedSession<L>
+        ensures { result ≡ record { fed = []; sent = []; unsent = []; listed = []; ended = None; first = 0; waiting = 0; awaited = [] } }
     {
         BufferedSession {
             session: Session::new(limit),
@@ -56,6 +76,7 @@ impl BufferedSession {
             gone: 0,
             first: 0,
             waiting: 0,
+            list: None,
             end: None,
             fed: Tag::empty(),
             sent: Tag::empty(),
@@ -69,11 +90,11 @@ impl BufferedSession {
         self.end
     }
 
-    /// The replies that are unsent. With those that were sent they are the texts of the answers to the lines that it was
-    /// fed, one answer a line, in order. The lines whose answers it waits for have no reply yet.
+    /// The replies that are unsent. With those that were sent, and the entries that follow them, they are the texts of the
+    /// answers to the lines that it was fed, one answer a line, in order. The lines whose answers it waits for have no reply yet.
     pub fn unsent(&self) -> &[u8]
         ensures bytes { result.now ≡ self.now.unsent }
-        ensures replies { Replies self.now.fed (self.now.sent ++ self.now.unsent) self.now.waiting self.now.ended }
+        ensures replies { Replies self.now.fed (replied self.now) self.now.waiting self.now.ended }
     {
         &self.replies.bytes.as_slice()[self.gone..]
     }
@@ -92,6 +113,14 @@ impl BufferedSession {
         self.waiting
     }
 
+    /// Whether entries follow the replies, and are still to be fetched.
+    pub fn is_listing(&self) -> bool
+        ensures told { result ≡ true → self.now.waiting ≡ 0 }
+        ensures none { result ≡ false → self.now.listed ≡ [] }
+    {
+        self.waiting == 0 && self.list.is_some()
+    }
+
     /// The memory of its replies, in bytes. Room that is not used counts.
     pub fn memory(&self) -> usize
         ensures { length self.now.unsent ≤ result }
@@ -101,44 +130,79 @@ impl BufferedSession {
 
     /// Takes the lines that these bytes complete, as [`Session::take`] does, and returns the number of bytes that it took. The
     /// answers to the lines are put after those that are withheld, and the session waits for their release.
-    pub fn take<'a, D: Desk<'a>>(
+    pub fn take<D: Desk<List = L>>(
         &mut self,
         more: &[u8],
-        withheld: &mut WithheldAnswers<'a>,
+        withheld: &mut WithheldAnswers,
         from: &Peer,
         desk: &mut D,
     ) -> usize
         requires goes_on { self.old.ended ≡ None }
         requires told { self.old.waiting ≡ 0 }
+        requires listed { self.old.listed ≡ [] }
         ensures within { result ≤ length more.now }
         ensures fed { self.new.fed ≡ self.old.fed ++ take result more.now }
-        ensures replies { (self.new.sent ≡ self.old.sent) × (self.new.unsent ≡ self.old.unsent) }
+        ensures replies { (self.new.sent ≡ self.old.sent) × (self.new.unsent ≡ self.old.unsent) × (self.new.listed ≡ []) }
         ensures first { self.new.first ≡ length withheld.old }
         ensures sound { LacksMemory self.new.ended → ⊥ }
-        ensures asks { Asked (TakesFrom D.takes from.now) self.old.fed (take result more.now) desk.old desk.new withheld.old withheld.new self.new.waiting }
+        ensures asks { Asked (TakesFrom D.takes from.now) self.old.fed (take result more.now) desk.old desk.new withheld.old withheld.new self.new.waiting self.new.awaited }
     {
         self.first = withheld.len();
         let taking = self.session.take(more, withheld, from, desk);
+        let Taking { bytes, end, list } = taking;
         self.waiting = withheld.len() - self.first;
-        self.end = taking.end;
-        self.fed = extended(&self.fed, &more[..taking.bytes]);
-        taking.bytes
+        self.list = list;
+        self.end = end;
+        self.fed = extended(&self.fed, &more[..bytes]);
+        bytes
     }
 
-    /// Turns the answers that it waits for, among these that were released, into replies. If there is no memory for the
-    /// replies, or the answers are not there, the session ends as by a failed write.
-    pub fn tell(&mut self, alloc: Global, released: &Released<'_, '_>)
+    /// Turns the answers that it waits for, among these that were released, into replies. The entries that the last one shows
+    /// follow them. If there is no memory for the replies, or the answers are not there, the session ends as by a failed write.
+    pub fn tell(&mut self, released: &Released<'_>)
         ensures fed { (self.new.fed ≡ self.old.fed) × (self.new.sent ≡ self.old.sent) }
         ensures waits { self.new.waiting ≡ 0 }
-        ensures tells { (text : List ℕ) × (self.new.unsent ≡ self.old.unsent ++ text)
-            × TellsPart self.old.first self.old.waiting released.now text self.old.ended self.new.ended }
+        ensures tells { (text : List ℕ) × (self.new.unsent ++ self.new.listed ≡ (self.old.unsent ++ self.old.listed) ++ text)
+            × TellsPart self.old.first self.old.waiting released.now self.old.awaited text self.old.ended self.new.ended }
     {
         if self.waiting == 0 {
             return;
         }
-        let told = word_part(alloc, released, self.first, self.waiting, &mut self.replies);
+        let worded = word_part(released, self.first, self.waiting, &mut self.replies);
         self.waiting = 0;
-        self.end = told.or(self.end);
+        self.list = kept_list(self.list.take(), worded);
+        self.end = kept_end(self.end, worded);
+    }
+
+    /// Fetches one piece of the entries that follow the replies, and adds their lines.
+    ///
+    /// # Errors
+    ///
+    /// There is no memory for the lines. Nothing changes.
+    pub fn more<D: Desk<List = L>>(
+        &mut self,
+        piece: &mut Vec<Entry>,
+        desk: &D,
+    ) -> Result<(), AllocError>
+        requires told { self.old.waiting ≡ 0 }
+        requires room { vec_capacity piece.old ≡ PIECE }
+        ensures room { vec_capacity piece.new ≡ PIECE }
+        ensures kept { Kept self.old self.new }
+        ensures sent { self.new.sent ≡ self.old.sent }
+        ensures err { OnErr result (self.new ≡ self.old) }
+    {
+        let Some(list) = &mut self.list else {
+            return Ok(());
+        };
+        let bytes = &mut self.replies.bytes;
+        bytes.reserve(PIECE * (LONGEST_LINE + 1))?;
+        piece.clear();
+        desk.fetch(list, piece);
+        push_lines(bytes, piece.as_slice());
+        if list.is_empty() {
+            self.list = None;
+        }
+        Ok(())
     }
 
     /// Notes that this number of bytes of the unsent replies was sent, from the front.
@@ -146,9 +210,10 @@ impl BufferedSession {
         requires { count ≤ length self.old.unsent }
         ensures sent { self.new.sent ≡ self.old.sent ++ take count self.old.unsent }
         ensures unsent { self.new.unsent ≡ drop count self.old.unsent }
+        ensures listed { self.new.listed ≡ self.old.listed }
         ensures fed { self.new.fed ≡ self.old.fed }
         ensures ended { self.new.ended ≡ self.old.ended }
-        ensures waits { (self.new.first ≡ self.old.first) × (self.new.waiting ≡ self.old.waiting) }
+        ensures waits { (self.new.first ≡ self.old.first) × (self.new.waiting ≡ self.old.waiting) × (self.new.awaited ≡ self.old.awaited) }
     {
         let sent = extended(&self.sent, &self.unsent()[..count]);
         self.sent = sent;
@@ -169,18 +234,60 @@ impl BufferedSession {
     }
 }
 
-/// Writes this number of released answers as text, from this place on. If they are not there, that is as a failed write.
+/// Writes this number of released answers as text, from this place on, without the entries that they show. The result is whether
+/// the last is a reply, or none if they are not there or memory ran out.
 fn word_part(
-    alloc: Global,
-    released: &Released<'_, '_>,
+    released: &Released<'_>,
     first: usize,
     count: usize,
     replies: &mut WriteBuffer,
-) -> Option<End>
+) -> Option<bool>
     ensures { WordsPart first count released.now replies.old.bytes.items replies.new.bytes.items result }
 {
-    match released.part(first, count) {
-        Some(part) => write_texts(alloc, part, replies),
+    let part = released.part(first, count)?;
+    write_texts(part, replies).ok()
+}
+
+/// The list of the last answer, if that is a reply after its release.
+fn kept_list<L: EntryList>(list: Option<L>, worded: Option<bool>) -> Option<L>
+    ensures { text_left L.left result ≡ (if is_replied worded then text_left L.left list else []) }
+{
+    match worded {
+        Some(true) => list,
+        Some(false) | None => None,
+    }
+}
+
+/// The end of a session after its answers were worded, or not for want of memory.
+fn kept_end(end: Option<End>, worded: Option<bool>) -> Option<End>
+    ensures { result ≡ ended_by worded end }
+{
+    match worded {
+        Some(_) => end,
         None => Some(End::WriteFault),
     }
+}
+
+/// Adds the lines of entries, each with LF. There is room for them.
+fn push_lines(bytes: &mut Vec<u8>, entries: &[Entry])
+    requires { vec_len bytes.old + length entries.now * (LONGEST_LINE + 1) ≤ vec_capacity bytes.old }
+    ensures { bytes.new.items ≡ bytes.old.items ++ export_text entries.now }
+{
+    let mut rest = entries;
+    while let Some((entry, later)) = rest.split_first() {
+        push_line(bytes, entry);
+        rest = later;
+    }
+}
+
+/// Adds the line of an entry, with LF. There is room for it.
+fn push_line(bytes: &mut Vec<u8>, entry: &Entry)
+    requires { vec_len bytes.old + (LONGEST_LINE + 1) ≤ vec_capacity bytes.old }
+    ensures items { bytes.new.items ≡ bytes.old.items ++ ended_line entry.now }
+    ensures len { vec_len bytes.new ≤ vec_len bytes.old + (LONGEST_LINE + 1) }
+    ensures capacity { vec_capacity bytes.old ≤ vec_capacity bytes.new }
+{
+    let line = entry_line(entry);
+    let _line = bytes.extend_from_slice(line.as_str().as_bytes());
+    let _line_feed = bytes.push(b'\n');
 }

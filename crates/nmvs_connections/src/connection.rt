@@ -10,7 +10,7 @@ use crate::scratch::Scratch;
 use crate::socket::Moved;
 use crate::worker_pool::{Accepted, WorkerPool};
 use mio::Registry;
-use nmvs_messages::{Desk, End, NameOf, Released, WithheldAnswers};
+use nmvs_messages::{Desk, End, EntryList, NameOf, Released, WithheldAnswers};
 use std::alloc::{AllocError, Global};
 use std::io;
 use std::sync::Wait;
@@ -31,10 +31,10 @@ const LINE_TIMEOUT: u64 = 30;
 
 /// One connection of a worker: the session of its peer, and what the system reports of it.
 #[derive(Drop)]
-pub(crate) struct Connection {
+pub(crate) struct Connection<L: EntryList> {
     /// The number of the connection, in the order in which they were accepted.
     pub(crate) number: usize,
-    session: PeerSession,
+    session: PeerSession<L>,
     /// Whether the peer asked nothing for too long.
     was_idle: bool,
     /// When bytes were moved last. Bytes that only go on with a header or a line do not count.
@@ -48,7 +48,7 @@ pub(crate) struct Connection {
     pub(crate) memory: usize,
 }
 
-impl Connection {
+impl<L: EntryList> Connection<L> {
     /// A connection, which begins with a gateway's header if `proxy` says whose name that has.
     ///
     /// # Errors
@@ -59,7 +59,7 @@ impl Connection {
         accepted: Accepted,
         proxy: Option<NameOf>,
         now: Instant,
-    ) -> Result<Connection, AllocError>
+    ) -> Result<Connection<L>, AllocError>
         ensures { IfOk result (λ connection. connection.session.proxy ≡ proxy) }
     {
         let number = accepted.number;
@@ -125,13 +125,13 @@ impl Connection {
         self.stopped = true;
     }
 
-    /// Sends the unsent bytes. Then it takes the lines of one read, or a step towards the end.
-    pub(crate) fn take_turn<'a, R: Wait, D: Desk<'a>>(
+    /// Sends the unsent bytes. Then it sends a piece of a list, takes the lines of one read, or a step towards the end.
+    pub(crate) fn take_turn<R: Wait, D: Desk<List = L>>(
         &mut self,
         rt: &R,
         pool: &WorkerPool<'_>,
         scratch: &mut Scratch,
-        withheld: &mut WithheldAnswers<'a>,
+        withheld: &mut WithheldAnswers,
         desk: &mut D,
     ) -> Next
         ensures { ConnectionSteps D.takes desk.old desk.new withheld.old withheld.new result self.old.session self.new.session }
@@ -143,18 +143,37 @@ impl Connection {
         if !self.session.is_sent() {
             return Next::Again;
         }
+        if self.session.is_listing() {
+            return self.send_piece(scratch, desk);
+        }
         self.session.exchange(&mut Vec::new(scratch.alloc));
         self.step(rt, pool, scratch, withheld, desk)
     }
 
+    /// Words a piece of the list, and sends it. Without memory for it the connection is closed.
+    fn send_piece<D: Desk<List = L>>(&mut self, scratch: &mut Scratch, desk: &D) -> Next
+        requires told { self.old.session.session.waiting ≡ 0 }
+        ensures kept { Kept self.old.session.session self.new.session.session }
+        ensures peer { self.new.session.peer ≡ self.old.session.peer }
+    {
+        if self.session.more(scratch, desk).is_err() {
+            return Next::Close;
+        }
+        let next = self.send(scratch.now);
+        if self.session.is_sent() {
+            self.session.exchange(&mut scratch.room);
+        }
+        next
+    }
+
     /// Takes the lines of one read, or a step towards the end.
     #[tactic(auto, using(crate::proofs::ConnectionLemmas::steps_idle, crate::proofs::ConnectionLemmas::steps_awaiting))]
-    fn step<'a, R: Wait, D: Desk<'a>>(
+    fn step<R: Wait, D: Desk<List = L>>(
         &mut self,
         rt: &R,
         pool: &WorkerPool<'_>,
         scratch: &mut Scratch,
-        withheld: &mut WithheldAnswers<'a>,
+        withheld: &mut WithheldAnswers,
         desk: &mut D,
     ) -> Next
         requires { IsConnection self.old.session }
@@ -173,9 +192,9 @@ impl Connection {
             return Next::Again;
         }
         let was_pending = self.session.has_pending_line();
-        let (buffer, lists) = (&mut scratch.buffer, !scratch.listed);
-        let next = self.session.take(rt, pool, buffer, lists, withheld, desk);
-        scratch.listed = scratch.listed || withheld.ends_long();
+        let (buffer, reports) = (&mut scratch.buffer, !scratch.reported);
+        let next = self.session.take(rt, pool, buffer, reports, withheld, desk);
+        scratch.reported = scratch.reported || withheld.ends_long();
         let goes_on = was_pending && !self.session.is_waiting();
         let begins = !was_pending && self.session.has_pending_line();
         self.note_moved(
@@ -247,7 +266,7 @@ impl Connection {
     }
 
     /// Turns its part of the released answers into replies, and sends them. More may be there to be read at once.
-    pub(crate) fn tell(&mut self, scratch: &mut Scratch, released: &Released<'_, '_>) -> Next
+    pub(crate) fn tell(&mut self, scratch: &mut Scratch, released: &Released<'_>) -> Next
         ensures tells { TellsOwn released.now self.old.session.session self.new.session.session }
         ensures peer { self.new.session.peer ≡ self.old.session.peer }
     {
@@ -260,8 +279,8 @@ impl Connection {
             return Next::Again;
         }
         self.session.exchange(&mut scratch.room);
-        let serves = self.session.stage() == Stage::Serving;
-        if self.session.may_have_more() || self.peer_closed || !serves {
+        let goes_on = self.session.stage() != Stage::Serving || self.session.is_listing();
+        if self.session.may_have_more() || self.peer_closed || goes_on {
             Next::Again
         } else {
             Next::WaitIo

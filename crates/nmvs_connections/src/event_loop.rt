@@ -13,7 +13,7 @@ use crate::worker_pool::{Accepted, Poller, WAKE, WorkerPool};
 use log::{Log, debug, warn};
 use mio::event::Event;
 use mio::{Events, Registry};
-use nmvs_messages::{Desk, Released, WithheldAnswers};
+use nmvs_messages::{Desk, EntryList, Released, WithheldAnswers};
 use nmvs_metrics::Fault;
 use slab::Slab;
 use std::alloc::{AllocError, Global};
@@ -29,8 +29,8 @@ const TICK: u64 = 1;
 ///
 /// # Errors
 ///
-/// The system refused to wait, or the clock can't be read.
-pub fn serve<'a, R: Wait + Clock + Log, D: Desk<'a>>(
+/// The system refused to wait, the clock can't be read, or there is no memory for a piece of a list.
+pub fn serve<R: Wait + Clock + Log, D: Desk>(
     rt: &R,
     alloc: Global,
     pool: &WorkerPool<'_>,
@@ -39,17 +39,17 @@ pub fn serve<'a, R: Wait + Clock + Log, D: Desk<'a>>(
     desk: &mut D,
 ) -> io::Result<()> {
     let mut poller = poller;
-    let mut scratch = Scratch::new(alloc, Instant::now(rt)?);
-    let mut event_loop = EventLoop::new(alloc, worker, scratch.now);
+    let mut scratch = Scratch::new(alloc, Instant::now(rt)?)?;
+    let mut event_loop = EventLoop::<D::List>::new(alloc, worker, scratch.now);
     event_loop.serve_all(rt, pool, &mut poller, &mut scratch, desk)
 }
 
 /// The connections of a worker, and whose turns come.
 #[derive(Drop)]
-struct EventLoop {
+struct EventLoop<L: EntryList> {
     /// The number of the worker.
     worker: usize,
-    connections: Slab<Connection>,
+    connections: Slab<Connection<L>>,
     turns: Vec<usize>,
     later: Vec<usize>,
     /// The keys of the connections whose answers wait for the release.
@@ -64,8 +64,8 @@ struct EventLoop {
     evicted: usize,
 }
 
-impl EventLoop {
-    fn new(alloc: Global, worker: usize, now: Instant) -> EventLoop {
+impl<L: EntryList> EventLoop<L> {
+    fn new(alloc: Global, worker: usize, now: Instant) -> EventLoop<L> {
         EventLoop {
             worker,
             connections: Slab::new(alloc),
@@ -80,7 +80,7 @@ impl EventLoop {
     }
 
     /// Serves the connections until the pool is closed and each session has ended.
-    fn serve_all<'a, R: Wait + Clock + Log, D: Desk<'a>>(
+    fn serve_all<R: Wait + Clock + Log, D: Desk<List = L>>(
         &mut self,
         rt: &R,
         pool: &WorkerPool<'_>,
@@ -214,21 +214,21 @@ impl EventLoop {
         }
     }
 
-    /// Gives each queued connection its turn, and at most one of them a list. Their answers are released together, unless the
+    /// Gives each queued connection its turn, and at most one of them a report. Their answers are released together, unless the
     /// list of them is full or an answer may be long.
-    fn take_turns<'a, R: Wait + Log, D: Desk<'a>>(
+    fn take_turns<R: Wait + Log, D: Desk<List = L>>(
         &mut self,
         rt: &R,
         pool: &WorkerPool<'_>,
         scratch: &mut Scratch,
-        withheld: &mut WithheldAnswers<'a>,
+        withheld: &mut WithheldAnswers,
         desk: &mut D,
     )
         requires { withheld.old ≡ [] }
         ensures none_withheld { withheld.new ≡ [] }
         ensures turn { WorkerTurn D.takes D.releases D.moves desk.old desk.new self.old.connections self.new.connections }
     {
-        scratch.listed = false;
+        scratch.reported = false;
         let mut first = 0;
         for index in 0..self.turns.len() {
             let Some(key) = self.turns.get(index).copied() else {
@@ -238,26 +238,26 @@ impl EventLoop {
                 continue;
             }
             self.tell_all(rt, pool, scratch, withheld, desk);
-            if scratch.listed && first == 0 {
+            if scratch.reported && first == 0 {
                 first = self.later.len();
             }
         }
         self.tell_all(rt, pool, scratch, withheld, desk);
         self.turns.clear();
-        // The connections that wait for a list come first.
+        // The connections that wait for a report come first.
         let first = first.min(self.later.len());
         self.later.rotate_left(first);
         mem::swap(&mut self.turns, &mut self.later);
     }
 
     /// Gives a connection its turn. The result is whether the withheld answers are released before the next turn.
-    fn take_turn<'a, R: Wait + Log, D: Desk<'a>>(
+    fn take_turn<R: Wait + Log, D: Desk<List = L>>(
         &mut self,
         rt: &R,
         pool: &WorkerPool<'_>,
         key: usize,
         scratch: &mut Scratch,
-        withheld: &mut WithheldAnswers<'a>,
+        withheld: &mut WithheldAnswers,
         desk: &mut D,
     ) -> bool
         ensures { TurnOfOne D.takes key desk.old desk.new withheld.old withheld.new self.old.awaiting.items self.new.awaiting.items self.old.connections self.new.connections }
@@ -273,7 +273,7 @@ impl EventLoop {
 
     /// Takes the next step of a connection after its turn.
     fn dispatch<R: Wait + Log>(&mut self, rt: &R, pool: &WorkerPool<'_>, key: usize, next: Next)
-        ensures asks { WaitsForRelease next → (connection : TheConnection) → get self.new.connections key ≡ Some connection → Contains self.new.awaiting.items key }
+        ensures asks { WaitsForRelease next → (connection : TheConnection L) → get self.new.connections key ≡ Some connection → Contains self.new.awaiting.items key }
         ensures still { (other : ℕ) → Contains self.old.awaiting.items other → Contains self.new.awaiting.items other }
         ensures connections { EachGoes (λ key state state'. state' ≡ state) self.old.connections self.new.connections }
     {
@@ -285,12 +285,12 @@ impl EventLoop {
 
     /// The desk releases the withheld answers, once for all connections that wait for them, and each connection sends its own.
     /// If nothing is withheld, the desk is not asked.
-    fn tell_all<'a, R: Wait + Log, D: Desk<'a>>(
+    fn tell_all<R: Wait + Log, D: Desk<List = L>>(
         &mut self,
         rt: &R,
         pool: &WorkerPool<'_>,
         scratch: &mut Scratch,
-        withheld: &mut WithheldAnswers<'a>,
+        withheld: &mut WithheldAnswers,
         desk: &mut D,
     )
         ensures none_withheld { withheld.new ≡ [] }
@@ -313,7 +313,7 @@ impl EventLoop {
         rt: &R,
         pool: &WorkerPool<'_>,
         scratch: &mut Scratch,
-        released: &Released<'_, '_>,
+        released: &Released<'_>,
     )
         ensures none_asks { self.new.awaiting.items ≡ [] }
         ensures tells { EachGoes (TellsWhereAsked released.now self.old.awaiting.items) self.old.connections self.new.connections }
@@ -330,7 +330,7 @@ impl EventLoop {
         pool: &WorkerPool<'_>,
         key: usize,
         scratch: &mut Scratch,
-        released: &Released<'_, '_>,
+        released: &Released<'_>,
     )
         ensures awaiting { self.new.awaiting ≡ self.old.awaiting }
         ensures tells { EachGoes (λ other state state'. (other ≡ key → TellsPeer released.now state state') × (other ≢ key → state' ≡ state)) self.old.connections self.new.connections }
@@ -385,7 +385,7 @@ impl EventLoop {
 
     /// Notes that a connection waits for the release. If there is no room for the note, it is closed.
     fn note_awaiting<R: Wait + Log>(&mut self, rt: &R, pool: &WorkerPool<'_>, key: usize)
-        ensures asks { (connection : TheConnection) → get self.new.connections key ≡ Some connection → self.new.awaiting.items ≡ self.old.awaiting.items ++ key ∷ [] }
+        ensures asks { (connection : TheConnection L) → get self.new.connections key ≡ Some connection → self.new.awaiting.items ≡ self.old.awaiting.items ++ key ∷ [] }
         ensures still { (other : ℕ) → Contains self.old.awaiting.items other → Contains self.new.awaiting.items other }
         ensures connections { EachGoes (λ key state state'. state' ≡ state) self.old.connections self.new.connections }
     {

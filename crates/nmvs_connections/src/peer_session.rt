@@ -18,7 +18,9 @@ use crate::socket::{Moved, Socket};
 use crate::worker_pool::{Accepted, WorkerPool};
 use memchr::{memchr, memmem, memrchr};
 use mio::{Registry, Token};
-use nmvs_messages::{Desk, End, NO_LIMITS, NameOf, Peer, READ_SIZE, Released, WithheldAnswers};
+use nmvs_messages::{
+    Desk, End, EntryList, NO_LIMITS, NameOf, Peer, READ_SIZE, Released, WithheldAnswers,
+};
 use std::alloc::{AllocError, Global};
 use std::hash::RandomState;
 use std::io;
@@ -43,9 +45,9 @@ pub(crate) enum Stage {
 /// The session of the peer of a connection: its lines are read from the stream, and its replies are written there. Behind a
 /// gateway the stream begins with a header, which names the peer. No line is taken before the peer is known.
 #[derive(Drop)]
-pub(crate) struct PeerSession {
+pub(crate) struct PeerSession<L: EntryList> {
     stream: LineStream,
-    session: BufferedSession,
+    session: BufferedSession<L>,
     /// Whether the header names a user or an authorisation, if the stream begins with a header.
     proxy: Option<NameOf>,
     /// The keys for the fields of requests, if the lines are carried over HTTP.
@@ -61,7 +63,7 @@ pub(crate) struct PeerSession {
     served: bool,
 }
 
-impl Model for PeerSession {
+impl<L: EntryList> Model for PeerSession<L> {
     ghost use Rattle.nmvs_connections.specs.LineStreams.{Behind, before_of, carried};
     ghost use Rattle.nmvs_connections.specs.Peers.{PeerState, Holds};
 
@@ -73,7 +75,7 @@ impl Model for PeerSession {
         × Behind (before_of p.stream.http) p.peer (carried p.stream).received p.session.fed p.unread.items p.stage };
 }
 
-impl PeerSession {
+impl<L: EntryList> PeerSession<L> {
     /// The session over an accepted connection: of anyone, or of the peer that a header names.
     ///
     /// # Errors
@@ -83,7 +85,7 @@ impl PeerSession {
         alloc: Global,
         accepted: Accepted,
         proxy: Option<NameOf>,
-    ) -> Result<PeerSession, AllocError>
+    ) -> Result<PeerSession<L>, AllocError>
         ensures { IfOk result (λ session. session.proxy ≡ proxy) }
     {
         let Accepted { socket, http, .. } = accepted;
@@ -166,7 +168,14 @@ impl PeerSession {
         self.session.memory().saturating_add(read)
     }
 
-    /// Whether all replies were sent.
+    /// Whether entries follow the replies, and are still to be fetched.
+    pub(crate) fn is_listing(&self) -> bool
+        ensures { result ≡ true → self.now.session.waiting ≡ 0 }
+    {
+        self.session.is_listing()
+    }
+
+    /// Whether all replies that were worded are sent.
     pub(crate) fn is_sent(&self) -> bool
         ensures { IsConnection self.now }
     {
@@ -270,22 +279,22 @@ impl PeerSession {
         }
     }
 
-    /// Takes the lines of the unread bytes, or of one read if there are none. Without `lists` it stops before a line that may
-    /// ask for a list.
-    pub(crate) fn take<'a, R: Wait, D: Desk<'a>>(
+    /// Takes the lines of the unread bytes, or of one read if there are none. Without `reports` it stops before a line that may
+    /// ask for a report.
+    pub(crate) fn take<R: Wait, D: Desk<List = L>>(
         &mut self,
         rt: &R,
         pool: &WorkerPool<'_>,
         buffer: &mut [u8],
-        lists: bool,
-        withheld: &mut WithheldAnswers<'a>,
+        reports: bool,
+        withheld: &mut WithheldAnswers,
         desk: &mut D,
     ) -> Next
         requires { self.old.stage ≡ stages.Serving }
         ensures { ConnectionSteps D.takes desk.old desk.new withheld.old withheld.new result self.old self.new }
     {
         if !self.unread.as_slice().is_empty() {
-            return self.take_unread(lists, withheld, desk);
+            return self.take_unread(reports, withheld, desk);
         }
         let count = match self.stream.read(buffer) {
             Moved::Bytes(count) => count,
@@ -299,8 +308,15 @@ impl PeerSession {
         };
         self.served = served;
         self.filled = count == READ_SIZE || self.stream.is_http();
-        let taken = take_lines(&mut self.session, &self.peer, chunk, lists, withheld, desk);
-        let next = next_of(taken == count, lists, withheld);
+        let taken = take_lines(
+            &mut self.session,
+            &self.peer,
+            chunk,
+            reports,
+            withheld,
+            desk,
+        );
+        let next = next_of(taken == count, reports, withheld);
         if is_lost(&mut self.unread, &chunk[taken..]) {
             self.stage = Stage::Ending;
             return next;
@@ -328,40 +344,67 @@ impl PeerSession {
     }
 
     /// Takes the lines of the unread bytes.
-    fn take_unread<'a, D: Desk<'a>>(
+    fn take_unread<D: Desk<List = L>>(
         &mut self,
-        lists: bool,
-        withheld: &mut WithheldAnswers<'a>,
+        reports: bool,
+        withheld: &mut WithheldAnswers,
         desk: &mut D,
     ) -> Next
         requires { self.old.stage ≡ stages.Serving }
         ensures { ConnectionSteps D.takes desk.old desk.new withheld.old withheld.new result self.old self.new }
     {
-        if !lists && before_list(self.unread.as_slice()) == 0 {
+        if !reports && before_report(self.unread.as_slice()) == 0 {
             return Next::Again;
         }
         self.filled = true;
         let count = self.unread.len();
         let unread = self.unread.as_slice();
-        let taken = take_lines(&mut self.session, &self.peer, unread, lists, withheld, desk);
+        let taken = take_lines(
+            &mut self.session,
+            &self.peer,
+            unread,
+            reports,
+            withheld,
+            desk,
+        );
         self.unread.rotate_left(taken);
         self.unread.truncate(count - taken);
-        next_of(taken == count, lists, withheld)
+        next_of(taken == count, reports, withheld)
     }
 
     /// Turns its part of the released answers into replies. If the session has ended, no more lines are answered.
-    pub(crate) fn tell(&mut self, scratch: &mut Scratch, released: &Released<'_, '_>)
+    pub(crate) fn tell(&mut self, scratch: &mut Scratch, released: &Released<'_>)
         ensures tells { TellsOwn released.now self.old.session self.new.session }
         ensures peer { self.new.peer ≡ self.old.peer }
     {
         // If memory for the room is refused, the replies ask for their own.
         let _refused = scratch.make_room();
         self.session.exchange(&mut scratch.room);
-        self.session.tell(scratch.alloc, released);
+        self.session.tell(released);
         if self.session.end().is_none() {
             return;
         }
         self.stop_serving();
+    }
+
+    /// Fetches one piece of the entries that follow the replies, and words it.
+    ///
+    /// # Errors
+    ///
+    /// There is no memory for it.
+    pub(crate) fn more<D: Desk<List = L>>(
+        &mut self,
+        scratch: &mut Scratch,
+        desk: &D,
+    ) -> Result<(), AllocError>
+        requires told { self.old.session.waiting ≡ 0 }
+        ensures kept { Kept self.old.session self.new.session }
+        ensures peer { self.new.peer ≡ self.old.peer }
+    {
+        // If memory for the room is refused, the lines ask for their own.
+        let _refused = scratch.make_room();
+        self.session.exchange(&mut scratch.room);
+        self.session.more(&mut scratch.piece, desk)
     }
 
     /// Exchanges the room of the replies for this one, if none are unsent.
@@ -466,10 +509,10 @@ fn lines_of(
 }
 
 /// Whether all lines that the session was fed are answered, and the replies were taken.
-fn is_answered(session: &BufferedSession) -> bool
+fn is_answered<L: EntryList>(session: &BufferedSession<L>) -> bool
     ensures { result ≡ true → Replies session.now.fed session.now.sent 0 session.now.ended }
 {
-    session.unsent().is_empty() && session.waiting() == 0
+    session.unsent().is_empty() && session.waiting() == 0 && !session.is_listing()
 }
 
 /// Whether the session has ended in the request in hand, if that may be responded to. It may if all read bytes were taken, or
@@ -513,12 +556,12 @@ fn is_lost(unread: &mut Vec<u8>, rest: &[u8]) -> bool
 
 /// Takes the lines of these bytes for the peer, if it is known and the session goes on. The result is the number of bytes that
 /// were taken.
-fn take_lines<'a, D: Desk<'a>>(
-    session: &mut BufferedSession,
+fn take_lines<D: Desk>(
+    session: &mut BufferedSession<D::List>,
     peer: &Option<Peer>,
     bytes: &[u8],
-    lists: bool,
-    withheld: &mut WithheldAnswers<'a>,
+    reports: bool,
+    withheld: &mut WithheldAnswers,
     desk: &mut D,
 ) -> usize
     ensures within { result ≤ length bytes.now }
@@ -536,29 +579,30 @@ fn take_lines<'a, D: Desk<'a>>(
     if session.waiting() != 0 {
         return 0;
     }
-    session.take(part_for_now(bytes, lists), withheld, peer, desk)
+    if session.is_listing() {
+        return 0;
+    }
+    session.take(part_for_now(bytes, reports), withheld, peer, desk)
 }
 
-/// All of these bytes, or without `lists` those before the first line that may ask for a list.
-fn part_for_now(bytes: &[u8], lists: bool) -> &[u8]
+/// All of these bytes, or without `reports` those before the first line that may ask for a report.
+fn part_for_now(bytes: &[u8], reports: bool) -> &[u8]
     ensures { (count : ℕ) × (count ≤ length bytes.now) × (result.now ≡ take count bytes.now) }
 {
-    let count = if lists {
+    let count = if reports {
         bytes.len()
     } else {
-        before_list(bytes)
+        before_report(bytes)
     };
     &bytes[..count]
 }
 
-/// The number of bytes before the first line that may ask for a list.
-fn before_list(bytes: &[u8]) -> usize
+/// The number of bytes before the first line that may ask for a report.
+fn before_report(bytes: &[u8]) -> usize
     ensures { result ≤ length bytes.now }
 {
     let most = bytes.len();
-    let audit = memmem::find(bytes, b" AUDIT ").unwrap_or(most);
-    let report = memmem::find(bytes, b" REPORT ").unwrap_or(most);
-    let word = audit.min(report).min(most);
+    let word = memmem::find(bytes, b" REPORT ").unwrap_or(most).min(most);
     if word == most {
         return most;
     }
@@ -569,10 +613,10 @@ fn before_list(bytes: &[u8]) -> usize
 }
 
 /// Waits for the release of the answers: at once if the last one may be long, or if bytes were left without room.
-fn next_of(all: bool, lists: bool, withheld: &WithheldAnswers<'_>) -> Next
+fn next_of(all: bool, reports: bool, withheld: &WithheldAnswers) -> Next
     ensures { WaitsForRelease result }
 {
-    let has_room = all || (!lists && !withheld.is_full());
+    let has_room = all || (!reports && !withheld.is_full());
     if has_room && !withheld.ends_long() {
         Next::WaitRelease
     } else {

@@ -1,5 +1,9 @@
 //! The buffers that the connections of a worker share.
+ghost use Rattle.std.specs.Prelude.{◌≡◌, IfOk, vec_capacity};
+
 use nmvs_messages::READ_SIZE;
+use nmvs_protocol::PIECE;
+use nmvs_rules::Entry;
 use std::alloc::{AllocError, Global};
 use std::time::Instant;
 
@@ -14,19 +18,27 @@ pub(crate) struct Scratch {
     pub(crate) now: Instant,
     pub(crate) buffer: [u8; READ_SIZE],
     pub(crate) room: Vec<u8>,
-    /// Whether a connection got a list or a report in this turn. None gets a second one, so that others do not wait for it.
-    pub(crate) listed: bool,
+    /// The entries of one piece of a list.
+    pub(crate) piece: Vec<Entry>,
+    ghost piece_room: { vec_capacity piece ≡ 32 },
+    /// Whether a connection got a report in this turn. None gets a second one, so that others do not wait for it.
+    pub(crate) reported: bool,
 }
 
 impl Scratch {
-    pub(crate) fn new(alloc: Global, now: Instant) -> Scratch {
-        Scratch {
+    /// # Errors
+    ///
+    /// There is no memory for a piece.
+    pub(crate) fn new(alloc: Global, now: Instant) -> Result<Scratch, AllocError> {
+        let piece = Vec::with_capacity(alloc, PIECE)?;
+        Ok(Scratch {
             alloc,
             now,
             buffer: [0; READ_SIZE],
             room: Vec::new(alloc),
-            listed: false,
-        }
+            piece,
+            reported: false,
+        })
     }
 
     /// Makes room for the next replies, no more than they take as a rule.

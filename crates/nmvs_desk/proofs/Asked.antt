@@ -18,7 +18,7 @@ use Rattle.nmvs_shard.specs.declared.shard.Outcome.{Outcome}
 use Rattle.nmvs_shard.specs.declared.shard.Outcome.TheVariants as outcome
 use Rattle.nmvs_shard.specs.Asking.{Asks}
 use Rattle.nmvs_desk.specs.declared.ask.Receipt.{Receipt}
-use Rattle.nmvs_desk.specs.Answers.{Answers, Becomes, IsShown, new_places, new_receipts, receipts_then}
+use Rattle.nmvs_desk.specs.Answers.{shown_by, Answers, Becomes, IsShown, new_places, new_receipts, receipts_then}
 use Rattle.nmvs_desk.specs.Clerks.{IsTokenOf, Stands, IsClerk}
 use Rattle.nmvs_desk.specs.Settlement.{row, places_in, AreOwn, Rises}
 use Rattle.nmvs_desk.specs.Views.{ClerkView, sights_of, places_of}
@@ -93,17 +93,17 @@ module _ (tables : ℕ → HistoryId) (count : ℕ) (tokens : List TokenView) (r
         | inr e ↦ record { token = it.token; is = set_other tokens index o.shard now e.1 ∙ it.is; stands = it.stands }
       ]
 
-  begins_now : {A : Type 0} (put : Put) (printed : Option Printed) (o : Outcome A) → Becomes count index put printed was now o → IsPrefix was.seen now.seen
+  begins_now : (put : Put) (printed : Option Printed) (o : Outcome) → Becomes count index put printed was now o → IsPrefix was.seen now.seen
   begins_now put printed o b = prefix_trans was.seen b.trail now.seen b.shown.begins b.later.begins
 
-  shown_now : {A : Type 0} (put : Put) (printed : Option Printed) (o : Outcome A) → Becomes count index put printed was now o → IsShown count index was.seen now.seen
+  shown_now : (put : Put) (printed : Option Printed) (o : Outcome) → Becomes count index put printed was now o → IsShown count index was.seen now.seen
   shown_now put printed o b = record { begins = begins_now put printed o b; lawful = b.later.lawful; in_range = b.later.in_range; placed = b.later.placed }
 
   -- a question that was not put gives the token no place
-  no_place : {A : Type 0} (put : Put) (printed : Option Printed) (o : Outcome A) → Becomes count index put printed was now o → new_places o ≡ [] → now ≡ record was { seen = now.seen }
+  no_place : (put : Put) (printed : Option Printed) (o : Outcome) → Becomes count index put printed was now o → new_places o ≡ [] → now ≡ record was { seen = now.seen }
   no_place put printed o b none = b.token ∙ ap (λ l. record was { seen = now.seen; places = l }) (ap (λ l. was.places ++ l) none ∙ append-nil was.places)
 
-  module _ {A : Type 0} (a : Answered A) (put : Put) (printed : Option Printed) (b : Becomes count index put printed was now (outcome.New a)) where
+  module _ (a : Answered) (put : Put) (printed : Option Printed) (b : Becomes count index put printed was now (outcome.New a)) where
     abbrev New : List Receipt
     New = receipts ++ new_receipts index put (outcome.New a)
 
@@ -212,16 +212,16 @@ module _ (tables : ℕ → HistoryId) (count : ℕ) (tokens : List TokenView) (r
         (λ i. (sym (sight_of tokens index was has) i, sym (sight_of (set tokens index now) index now after_set) i)) look
 
   -- whatever the outcome of a question is, the clerk is a clerk
-  pub asked : {A : Type 0} (put : Put) (printed : Option Printed) (o : Outcome A) → Becomes count index put printed was now o → IsClerk tables count (set tokens index now) (receipts ++ new_receipts index put o)
+  pub asked : (put : Put) (printed : Option Printed) (o : Outcome) → Becomes count index put printed was now o → IsClerk tables count (set tokens index now) (receipts ++ new_receipts index put o)
   asked put printed (outcome.New a) b = with_receipt a put printed b
   asked put printed (outcome.Again a) b = subst (λ l. IsClerk tables count (set tokens index now) l) (sym (append-nil receipts)) (looked (shown_now put printed (outcome.Again a) b) (no_place put printed (outcome.Again a) b refl))
   asked put printed outcome.Other b = subst (λ l. IsClerk tables count (set tokens index now) l) (sym (append-nil receipts)) (looked (shown_now put printed outcome.Other b) (no_place put printed outcome.Other b refl))
   asked put printed outcome.Differs b = subst (λ l. IsClerk tables count (set tokens index now) l) (sym (append-nil receipts)) (looked (shown_now put printed outcome.Differs b) (no_place put printed outcome.Differs b refl))
 
   -- the answer that it receives
-  pub answers : {A : Type 0} (seen : List Change) (keeps : Bool) (put : Put) (printed : Option Printed) (o : Outcome A) → Becomes count index put printed was now o
-      → Answers count index put printed (clerk seen tokens receipts keeps) (clerk seen (set tokens index now) (receipts_then keeps receipts index put o) keeps) o
-  answers seen keeps put printed o b =
+  pub answers : (seen : List Change) (keeps : Bool) (put : Put) (printed : Option Printed) (o : Outcome) (entries : List Entry) (b : Becomes count index put printed was now o) → entries ≡ shown_by b.trail put o
+      → Answers count index put printed (clerk seen tokens receipts keeps) (clerk seen (set tokens index now) (receipts_then keeps receipts index put o) keeps) o entries
+  answers seen keeps put printed o entries b shows =
       let before = sym (sight_of tokens index was has) in
       let after = sym (sight_of (set tokens index now) index now after_set) in
       record {
@@ -231,6 +231,7 @@ module _ (tables : ℕ → HistoryId) (count : ℕ) (tokens : List TokenView) (r
         later = subst (λ t. IsShown count index b.trail t) after b.later;
         owned = own_of (set tokens index now) index now after_set ∙ ap (λ (k : TokenView). k.places) b.token ∙ ap (λ l. l ++ new_places o) (sym (own_of tokens index was has));
         others = λ i apart. (sight_else tokens index i now apart, own_else tokens index i now apart);
+        shows = shows;
         receipts = refl;
         keeps = refl;
         seen = refl;

@@ -61,8 +61,8 @@ let_go tables count tokens receipts is = record {
 }
 
 -- a clerk that was answered, whether it keeps its receipt or not
-pub asked_then : {A : Type 0} (tables : ℕ → HistoryId) (count : ℕ) (tokens : List TokenView) (receipts : List Receipt) → IsClerk tables count tokens receipts
-    → (index : ℕ) (was now : TokenView) → slice_get tokens index ≡ Some was → (keeps : Bool) (put : Put) (printed : Option Printed) (o : Outcome A) → Becomes count index put printed was now o
+pub asked_then : (tables : ℕ → HistoryId) (count : ℕ) (tokens : List TokenView) (receipts : List Receipt) → IsClerk tables count tokens receipts
+    → (index : ℕ) (was now : TokenView) → slice_get tokens index ≡ Some was → (keeps : Bool) (put : Put) (printed : Option Printed) (o : Outcome) → Becomes count index put printed was now o
     → IsClerk tables count (set tokens index now) (receipts_then keeps receipts index put o)
 asked_then tables count tokens receipts is index was now has true put printed o b = asked tables count tokens receipts is index was now has put printed o b
 asked_then tables count tokens receipts is index was now has false put printed o b =

@@ -1,5 +1,6 @@
 pub mod Lists
 pub mod Serving
+pub mod Showing
 pub mod Asked
 pub mod Opened
 pub mod Clerks

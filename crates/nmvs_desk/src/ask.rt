@@ -8,13 +8,15 @@ ghost use Rattle.nmvs_rules.specs.Rules.{IsLawful};
 ghost use Rattle.nmvs_shard.specs.Asking.{WasPut};
 ghost use Rattle.nmvs_desk.specs.declared.ask.Receipt.{Receipt};
 ghost use Rattle.nmvs_desk.specs.Answers.{Answers, IsShown, receipts_then};
+ghost use Rattle.nmvs_messages.specs.Withheld.{entries_left};
 ghost use Rattle.nmvs_desk.specs.Clerks.{IsClerk};
 ghost use Rattle.nmvs_desk.specs.Opening.{AreNew};
 ghost use Rattle.nmvs_desk.specs.Placing.{shard_of, IsPartOf};
 ghost use Rattle.nmvs_desk.specs.Settlement.{row, at, AreOwn, Rises};
 ghost use Rattle.nmvs_desk.specs.Views.{places_of, sights_of};
 
-use crate::{Holder, Reader, Repository};
+use crate::shown::shown_by;
+use crate::{Holder, Reader, Repository, Shown};
 use nmvs_directory::{Look, Naming, Notice, Window};
 use nmvs_history::{Histories, Token};
 use nmvs_identifier::Name;
@@ -143,7 +145,8 @@ impl<'a, J: Naming, H: Histories, B: Allocator> Clerk<'a, J, H, B> {
 
     /// Asks a question in the shard of its product code, which is held meanwhile. The question is put if it was not asked
     /// before by its tag, and its pack was not uploaded with other values than those printed on it, if these are given. The
-    /// receipt of a question that was put is kept, if the clerk keeps receipts. The call waits for the shard.
+    /// receipt of a question that was put is kept, if the clerk keeps receipts. An audit's answer comes with a list of the
+    /// entries that it shows. The call waits for the shard.
     ///
     /// The answer is given on a trail that begins with all that the clerk has seen of the shard. Then the clerk has seen the
     /// entry that answers, too. The place of an entry that was put is the clerk's own: no other answer has it. Of the clerks
@@ -160,18 +163,19 @@ impl<'a, J: Naming, H: Histories, B: Allocator> Clerk<'a, J, H, B> {
         repository: &Repository<'a, H, B>,
         put: &Put,
         printed: &Option<Printed>,
-    ) -> Result<Outcome<&'a B>, AllocError>
+    ) -> Result<(Outcome, Option<Shown<H>>), AllocError>
         ensures answers { let count = repository.now.shards in
-            IfOk result (Answers count (shard_of count (code_of put.now.question)) put.now printed.now self.old self.new) }
-        ensures untagged { put.now.tag ≡ None → printed.now ≡ None → IfOk result WasPut }
+            IfOk result (λ r. Answers count (shard_of count (code_of put.now.question)) put.now printed.now self.old self.new r.0 (entries_left (λ s. s) r.1)) }
+        ensures untagged { put.now.tag ≡ None → printed.now ≡ None → IfOk result (λ r. WasPut r.0) }
         ensures unchanged { OnErr result (self.new ≡ self.old) }
     {
         make_room(&mut self.receipts, self.keeps)?;
         let shard = repository.shard_of(&put.question.code());
         let slot = repository.slot(shard);
-        let outcome = slot.ask(rt, &mut self.tokens[shard], put, printed)?;
+        let (outcome, sight) = slot.ask(rt, &mut self.tokens[shard], put, printed)?;
         keep(&mut self.receipts, self.keeps, shard, put, &outcome);
-        Ok(outcome)
+        let shown = shown_by(shard, &outcome, sight);
+        Ok((outcome, shown))
     }
 
     /// The reader's output on the shard of this number, whose trail begins with all that the clerk has seen of it. Then the
@@ -237,12 +241,12 @@ fn make_room<A: Allocator>(receipts: &mut Vec<Receipt, A>, keeps: bool) -> Resul
 }
 
 /// Keeps the receipt of a question that was put in the shard, if receipts are kept. There is room for it then.
-fn keep<A: Allocator, B: Allocator>(
+fn keep<A: Allocator>(
     receipts: &mut Vec<Receipt, A>,
     keeps: bool,
     shard: usize,
     put: &Put,
-    outcome: &Outcome<B>,
+    outcome: &Outcome,
 )
     requires { keeps ≡ true → vec_len receipts.old < vec_capacity receipts.old }
     ensures { receipts.new.items ≡ receipts_then keeps receipts.old.items shard put.now outcome.now }

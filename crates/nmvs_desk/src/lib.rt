@@ -23,6 +23,7 @@ mod opening;
 mod repository;
 mod settled;
 mod settling;
+mod shown;
 
 pub use ask::{Clerk, Receipt};
 pub use faults::OpenFault;
@@ -32,3 +33,4 @@ pub use opening::Keepers;
 pub use repository::{MOST_CLERKS, MOST_SHARDS, Repository};
 pub use settled::{Owner, Owners, Receipts, Settled, Unsettled};
 pub use settling::settle;
+pub use shown::Shown;

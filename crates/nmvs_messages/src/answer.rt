@@ -1,24 +1,25 @@
 //! The answers to lines.
 ghost use Rattle.std.specs.Prelude.{◌≡◌, string_bytes};
+ghost use Rattle.nmvs_messages.specs.Withheld.{text_left};
 
-use crate::LineFault;
+use crate::{EntryList, LineFault};
+use boxcar::tag::{self, Names};
 use nmvs_identifier::Tag;
-use nmvs_rules::{Entry, Reply};
-use std::alloc::Global;
+use nmvs_rules::Reply;
 use std::marker::Model;
 
 /// The answer to a line, and the tag of the line, if it has one.
 #[derive(Drop)]
-pub struct Answer<'a> {
+pub struct Answer {
     pub tag: Option<Tag>,
-    pub content: Content<'a>,
+    pub content: Content,
 }
 
 /// The content of the answer to a line.
 #[derive(Drop)]
-pub enum Content<'a> {
-    /// The repository's reply to a question, and the entries that it shows. Only an audit shows entries.
-    Replied(Reply, Entries<'a>),
+pub enum Content {
+    /// The repository's reply to a question, and the text of the entries that it shows. Only an audit shows entries.
+    Replied(Reply, ShownText),
     /// The report of a product code, lines that each end with LF.
     Reported(Text),
     /// The desk turned the line away.
@@ -60,34 +61,39 @@ pub enum Turn {
     Journal,
 }
 
-/// The entries that an audit shows, oldest first (Article 35).
+/// The text of the entries that an audit shows, oldest first, each as its line (Article 35). It has no bytes, and contracts alone
+/// see it. The entries are fetched from the list that the desk gives with the answer.
 #[derive(Drop)]
-pub struct Entries<'a> {
-    list: Vec<Entry, &'a Global>,
+pub struct ShownText {
+    text: tag::Tag,
 }
 
-impl<'a> Model for Entries<'a> {
-    ghost use Rattle.std.specs.Prelude.{List};
-    ghost use Rattle.nmvs_rules.specs.declared.entry.Entry.{Entry};
+impl Model for ShownText {
+    ghost use Rattle.std.specs.Prelude.{ℕ, List};
 
-    ghost Value = { List Entry };
+    ghost Value = { List ℕ };
 
-    ghost view = { λ e. e.list.items };
+    ghost view = { λ s. s.text.numbers };
 }
 
-impl<'a> Entries<'a> {
-    /// The entries of a list, which is not copied.
-    pub fn new(list: Vec<Entry, &'a Global>) -> Entries<'a>
-        ensures { result ≡ list.entry.items }
-    {
-        Entries { list }
-    }
+struct TextOf;
 
-    /// The entries, oldest first.
-    pub fn entries(&self) -> &[Entry]
-        ensures { result.now ≡ self.now }
+impl<L: EntryList> Names<L> for TextOf {
+    ghost use Rattle.nmvs_line.specs.Export.{export_text};
+
+    ghost numbers = { λ l. export_text (L.left l) };
+}
+
+impl ShownText {
+    /// The text of the entries that a list has left; none without a list.
+    pub fn of<L: EntryList>(list: &Option<L>) -> ShownText
+        ensures { result ≡ text_left L.left list.now }
     {
-        self.list.as_slice()
+        let text = match list {
+            Some(list) => tag::Tag::of::<L, TextOf>(list),
+            None => tag::Tag::empty(),
+        };
+        ShownText { text }
     }
 }
 

@@ -11,6 +11,6 @@ pub enum End {
     WriteFault,
     /// Another line or another read was needed, and the limits allow no more.
     Limit,
-    /// There was no memory for the text of an answer.
+    /// There was no memory for the session, and nothing was read.
     Memory,
 }

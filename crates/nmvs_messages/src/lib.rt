@@ -10,7 +10,9 @@ mod command;
 mod commands;
 mod desk;
 mod end;
+mod entry_list;
 mod fields;
+mod gathered;
 mod laws;
 mod limits;
 mod peer;
@@ -18,13 +20,15 @@ mod pending_line;
 mod withheld;
 mod words;
 
-pub use answer::{Answer, Content, Entries, Text, Turn};
+pub use answer::{Answer, Content, ShownText, Text, Turn};
 pub use ask::{Ask, Asked, Line, LineFault, Unread};
 pub use command::{Command, CommandFault};
 pub use commands::{command_of, read_command};
 pub use desk::Desk;
 pub use end::End;
+pub use entry_list::EntryList;
 pub use fields::{Fields, KEPT_FIELDS, fields_of};
+pub use gathered::GatheredEntries;
 pub use laws::commands_are_read;
 pub use limits::{
     LONGEST_LINE, Limits, MOST_LINES, MOST_READS, NO_LIMITS, READ_SIZE, SESSION_LIMITS,

@@ -20,29 +20,29 @@ pub struct Basis {
 /// An answer that has no text before the desk has released it, and the entries on which it rests. Answers that wait for a
 /// journal are released after these entries are kept.
 #[derive(Drop)]
-pub struct Withheld<'a> {
-    answer: Answer<'a>,
+pub struct Withheld {
+    answer: Answer,
     basis: Option<Basis>,
 }
 
 /// The value of an unused place of a list.
-impl<'a> Default for Withheld<'a> {
-    fn default() -> Withheld<'a> {
+impl Default for Withheld {
+    fn default() -> Withheld {
         Withheld::new(Content::Bye)
     }
 }
 
-impl<'a> Withheld<'a> {
+impl Withheld {
     /// Withholds an answer that rests on no entry, to a line without a tag.
-    pub fn new(content: Content<'a>) -> Withheld<'a>
-        ensures { result ≡ plain content.entry }
+    pub fn new(content: Content) -> Withheld
+        ensures { result ≡ plain content }
     {
         Withheld::resting_on(None, content)
     }
 
     /// Withholds an answer to a line without a tag that rests on these entries, if on any.
-    pub fn resting_on(basis: Option<Basis>, content: Content<'a>) -> Withheld<'a>
-        ensures { result ≡ withheld_on basis content.entry }
+    pub fn resting_on(basis: Option<Basis>, content: Content) -> Withheld
+        ensures { result ≡ withheld_on basis content }
     {
         let answer = Answer { tag: None, content };
         Withheld { answer, basis }
@@ -55,19 +55,15 @@ impl<'a> Withheld<'a> {
         self.answer.tag = tag;
     }
 
-    /// Whether its text may be long: that of an audit which shows entries, of a report, or of the help.
+    /// Whether its text may be long, without the entries that it shows: that of a report, or of the help.
     pub fn is_long(&self) -> bool
         ensures { result ≡ is_long self.now.answer }
     {
-        match &self.answer.content {
-            Content::Replied(_, shown) => !shown.entries().is_empty(),
-            Content::Reported(_) | Content::Help => true,
-            _ => false,
-        }
+        matches!(self.answer.content, Content::Reported(_) | Content::Help)
     }
 
     /// The answer, once it is released.
-    pub(crate) fn answer(&self) -> &Answer<'a>
+    pub(crate) fn answer(&self) -> &Answer
         ensures { result.now ≡ self.now.answer }
     {
         &self.answer
@@ -93,7 +89,7 @@ fn is_basis_kept(basis: Option<Basis>, kept: &[usize]) -> bool
     }
 }
 
-fn is_of_repository(answer: &Answer<'_>) -> bool
+fn is_of_repository(answer: &Answer) -> bool
     ensures { result ≡ of_repository answer.now }
 {
     matches!(answer.content, Content::Replied(..) | Content::Reported(_))
@@ -101,11 +97,11 @@ fn is_of_repository(answer: &Answer<'_>) -> bool
 
 /// Answers that are withheld, in the order of their lines. A desk releases them together.
 #[derive(Drop)]
-pub struct WithheldAnswers<'a> {
-    list: ArrayVec<Withheld<'a>, MOST_WITHHELD>,
+pub struct WithheldAnswers {
+    list: ArrayVec<Withheld, MOST_WITHHELD>,
 }
 
-impl<'a> Model for WithheldAnswers<'a> {
+impl Model for WithheldAnswers {
     ghost use Rattle.std.specs.Prelude.{List};
     ghost use Rattle.nmvs_messages.specs.declared.withheld.Withheld.{Withheld as TheWithheld};
 
@@ -114,9 +110,9 @@ impl<'a> Model for WithheldAnswers<'a> {
     ghost view = { λ h. h.list.items };
 }
 
-impl<'a> WithheldAnswers<'a> {
+impl WithheldAnswers {
     /// No answer.
-    pub fn new() -> WithheldAnswers<'a>
+    pub fn new() -> WithheldAnswers
         ensures { result ≡ [] }
     {
         WithheldAnswers {
@@ -125,9 +121,9 @@ impl<'a> WithheldAnswers<'a> {
     }
 
     /// Adds one.
-    pub fn push(&mut self, withheld: Withheld<'a>)
+    pub fn push(&mut self, withheld: Withheld)
         requires { length self.old < MOST_WITHHELD }
-        ensures { self.new ≡ self.old ++ withheld.entry ∷ [] }
+        ensures { self.new ≡ self.old ++ withheld ∷ [] }
     {
         self.list.push(withheld);
     }
@@ -172,7 +168,7 @@ impl<'a> WithheldAnswers<'a> {
     }
 
     /// Releases all answers as they are.
-    pub fn release(&self) -> Released<'_, 'a>
+    pub fn release(&self) -> Released<'_>
         ensures { AreReleased (λ withheld said. said ≡ withheld.answer) self.now result }
     {
         Released {
@@ -182,7 +178,7 @@ impl<'a> WithheldAnswers<'a> {
 
     /// Releases the answers, if this number of entries of each shard are kept. The line of a reply or a report that rests on
     /// more is turned away.
-    pub fn release_kept(&mut self, kept: &[usize]) -> Released<'_, 'a>
+    pub fn release_kept(&mut self, kept: &[usize]) -> Released<'_>
         ensures { AreReleased (λ withheld said. said ≡ told_where kept.now withheld) self.old result }
     {
         turn_all_unkept(self.list.as_mut_slice(), kept);
@@ -192,7 +188,7 @@ impl<'a> WithheldAnswers<'a> {
     }
 }
 
-fn turn_all_unkept(list: &mut [Withheld<'_>], kept: &[usize])
+fn turn_all_unkept(list: &mut [Withheld], kept: &[usize])
     ensures { map answer_of list.new ≡ map (told_where kept.now) list.old }
 {
     for withheld in list.iter_mut() {
@@ -202,11 +198,11 @@ fn turn_all_unkept(list: &mut [Withheld<'_>], kept: &[usize])
 
 /// Answers that their desk has released, in the order of their lines.
 #[derive(Drop)]
-pub struct Released<'h, 'a> {
-    list: &'h [Withheld<'a>],
+pub struct Released<'h> {
+    list: &'h [Withheld],
 }
 
-impl<'h, 'a> Model for Released<'h, 'a> {
+impl<'h> Model for Released<'h> {
     ghost use Rattle.std.specs.Prelude.{List, map};
     ghost use Rattle.nmvs_messages.specs.declared.answer.Answer.{Answer as TheAnswer};
     ghost use Rattle.nmvs_messages.specs.Withheld.{answer_of};
@@ -216,9 +212,9 @@ impl<'h, 'a> Model for Released<'h, 'a> {
     ghost view = { λ r. map answer_of r.list.now };
 }
 
-impl<'h, 'a> Released<'h, 'a> {
+impl<'h> Released<'h> {
     /// This number of answers from this place on, if there are enough.
-    pub fn part(&self, first: usize, count: usize) -> Option<Released<'h, 'a>>
+    pub fn part(&self, first: usize, count: usize) -> Option<Released<'h>>
         ensures there { IsSome result ↔ (first + count ≤ length self.now) }
         ensures part { IfSome result (λ part. part ≡ take count (drop first self.now)) }
     {
@@ -234,7 +230,7 @@ impl<'h, 'a> Released<'h, 'a> {
     }
 
     /// The answer at this place, if there is one.
-    pub fn answer(&self, place: usize) -> Option<&Answer<'a>>
+    pub fn answer(&self, place: usize) -> Option<&Answer>
         ensures { option_copied result ≡ slice_get self.now place }
     {
         match self.list.get(place) {
@@ -244,7 +240,7 @@ impl<'h, 'a> Released<'h, 'a> {
     }
 
     /// The first answer and the rest, if there is one.
-    pub fn split_first(&self) -> Option<(&'h Answer<'a>, Released<'h, 'a>)>
+    pub fn split_first(&self) -> Option<(&'h Answer, Released<'h>)>
         ensures first { IfSome result (λ cut. self.now ≡ cut.0.now ∷ cut.1) }
         ensures none { IfNone result (self.now ≡ []) }
     {

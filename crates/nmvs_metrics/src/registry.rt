@@ -339,7 +339,7 @@ impl<'p> WorkerMetrics<'p> {
     }
 
     /// Counts the faults among answers that are sent.
-    pub fn note_answers(&self, released: &Released<'_, '_>) {
+    pub fn note_answers(&self, released: &Released<'_>) {
         for place in 0..released.len() {
             let Some(answer) = released.answer(place) else {
                 return;

@@ -22,11 +22,11 @@ use Rattle.nmvs_protocol.specs.Texts.{text}
 use Rattle.nmvs_stream.specs.InputLines.{HasNoLf, input_lines, unfinished_line, lines_after, rest_after}
 use Rattle.nmvs_stream.proofs.LinesOfPieces.{lines_after-append, rest_after-append, no_line, line_cut, left_cut}
 use Rattle.nmvs_messages.proofs.KeptLines.{kept_more}
-use Rattle.nmvs_messages.specs.Withheld.{answer_of}
+use Rattle.nmvs_messages.specs.Withheld.{answer_of, shown_text}
 use Rattle.nmvs_protocol.specs.Session.{TakesLine, TakesLines, ReleasesAll, Round, GoesRounds, lines_of, answers_of, AnswersLines, NoQuit, NoQuitBeforeLast, EndsWithQuit, DeliversAll, BreaksOff, Closes, Session, session_text, is_input_end, is_read_fault}
 use Rattle.nmvs_messages.specs.PendingLines.{kept_part}
-use Rattle.nmvs_protocol.specs.Progress.{AreShortButLast, TellsWithheld, Halts, Took, Gathers, Delivered, Tells, Stands, Fed, Served, has_write_fault}
-use Rattle.nmvs_protocol.proofs.SessionTelling.{no_quit_more, IsShort, short_but_last, all_short, told_of, all_length, tells_more, tells_sound, broken, flushes, unflushed, flush_fails}
+use Rattle.nmvs_protocol.specs.Progress.{LastShows, TellsWithheld, Halts, Took, Gathers, Delivered, Tells, Stands, Fed, Served, has_write_fault}
+use Rattle.nmvs_protocol.proofs.SessionTelling.{no_quit_more, ShowsNone, last_shows, none_shows, told_of, all_length, tells_more, tells_sound, broken, flushes, unflushed, flush_fails}
 
 -- bytes that are cut once more
 pub whole_cut : (n : ℕ) (bytes rest : List ℕ) {all : List ℕ} → bytes ++ rest ≡ all → (bytes ++ take n rest) ++ drop n rest ≡ all
@@ -77,7 +77,7 @@ module _ {D : Type 0} (takes : D → Ask → Withheld → D → Type 0) where
     pub limit : session'.limit ≡ session.limit
     pub within : session'.answered ≤ session.limit
     pub no_quit : NoQuit (lines_after begun bytes)
-    pub short : All IsShort held
+    pub none : All ShowsNone held
 
   pub takes_none : (session : TheSession) (first : D) (withheld : List Withheld) (begun : List ℕ) → session.line ≡ kept_part begun → session.answered ≤ session.limit
       → TakesOn session first withheld begun [] session first withheld
@@ -91,7 +91,7 @@ module _ {D : Type 0} (takes : D → Ask → Withheld → D → Type 0) where
     limit = refl;
     within = within;
     no_quit = All-nil _;
-    short = All-nil _;
+    none = All-nil _;
   }
 
   -- the bytes up to an LF end one line
@@ -103,13 +103,17 @@ module _ {D : Type 0} (takes : D → Ask → Withheld → D → Type 0) where
     rest_after-append begun bytes (tail ++ 10 ∷ []) ∙ left_cut (rest_after begun bytes) tail [] refl none,
   )
 
+  -- an answer is held
+  none_held : (held : List Withheld) (w : Withheld) {P : Type 0} → held ++ w ∷ [] ≡ [] → P
+  none_held held w none = absurd (let n = ap (λ (l : List Withheld). length l) none in let m = length_push held w in omega (arith, n, m))
+
   -- one more line is taken
-  pub took_line : {session session' session'' : TheSession} {first now new : D} {withheld withheld' withheld'' : List Withheld} {begun bytes : List ℕ} {end : Option End} (tail left : List ℕ) (w : Withheld)
+  pub took_line : {session session' session'' : TheSession} {first now new : D} {withheld withheld' withheld'' : List Withheld} {begun bytes : List ℕ} {end : Option End} {shown : List ℕ} (tail left : List ℕ) (w : Withheld)
       → (k : TakesOn session first withheld begun bytes session' now withheld') → session'.answered < session'.limit → HasNoLf tail → TakesLine takes now (rest_after begun bytes ++ tail) w new
       → session''.answered ≡ session'.answered + 1 → session''.limit ≡ session'.limit → session''.line ≡ [] → withheld'' ≡ withheld' ++ w ∷ []
-      → Halts end session.limit session''.answered (lines_after begun bytes ++ (rest_after begun bytes ++ tail) ∷ []) [] left
-      → Took takes session first withheld begun (bytes ++ (tail ++ 10 ∷ [])) left session'' new withheld'' end
-  took_line {session} {session'} {session''} {first} {now} {new} {withheld} {withheld'} {withheld''} {begun} {bytes} {end} tail left w k lt none one next same line more halts =
+      → Halts end session.limit session''.answered (lines_after begun bytes ++ (rest_after begun bytes ++ tail) ∷ []) [] left → shown_text w ≡ shown
+      → Took takes session first withheld begun (bytes ++ (tail ++ 10 ∷ [])) left session'' new withheld'' end shown
+  took_line {session} {session'} {session''} {first} {now} {new} {withheld} {withheld'} {withheld''} {begun} {bytes} {end} {shown} tail left w k lt none one next same line more halts shows =
       let n = length_push k.held w in
       let cut = one_line begun bytes tail none in
       let counted = k.counted in
@@ -121,20 +125,21 @@ module _ {D : Type 0} (takes : D → Ask → Withheld → D → Type 0) where
         counted = omega arith;
         limit = same ∙ k.limit;
         within = omega arith;
-        short = short_but_last k.held w k.short;
+        shows = last_shows k.held w shown k.none shows;
+        none = none_held k.held w;
         halts = subst (λ (r : List ℕ). Halts end session.limit session''.answered (lines_after begun (bytes ++ (tail ++ 10 ∷ []))) r left) (sym cut.1)
             (subst (λ (xs : List (List ℕ)). Halts end session.limit session''.answered xs [] left) (sym cut.0) halts);
       }
 
-  -- its answer is short
+  -- its answer shows no entry
   pub takes_line : {session session' session'' : TheSession} {first now new : D} {withheld withheld' withheld'' : List Withheld} {begun bytes : List ℕ} (tail : List ℕ) (w : Withheld)
       → (k : TakesOn session first withheld begun bytes session' now withheld') → session'.answered < session'.limit → HasNoLf tail → TakesLine takes now (rest_after begun bytes ++ tail) w new
       → session''.answered ≡ session'.answered + 1 → session''.limit ≡ session'.limit → session''.line ≡ [] → withheld'' ≡ withheld' ++ w ∷ []
-      → rest_after begun bytes ++ tail ≢ line_text lines.Quit → IsShort w
+      → rest_after begun bytes ++ tail ≢ line_text lines.Quit → ShowsNone w
       → TakesOn session first withheld begun (bytes ++ (tail ++ 10 ∷ [])) session'' new withheld''
   unfolding took_line
-  takes_line {begun = begun} {bytes = bytes} tail w k lt none one next same line more other short =
-      let t = took_line {end = None} tail [] w k lt none one next same line more (no_quit_more (lines_after begun bytes) (rest_after begun bytes ++ tail) k.no_quit other) in record {
+  takes_line {begun = begun} {bytes = bytes} tail w k lt none one next same line more other shows =
+      let t = took_line {end = None} tail [] w k lt none one next same line more (no_quit_more (lines_after begun bytes) (rest_after begun bytes ++ tail) k.no_quit other) shows in record {
         held = t.held;
         behind = t.behind;
         answers = t.answers;
@@ -143,13 +148,13 @@ module _ {D : Type 0} (takes : D → Ask → Withheld → D → Type 0) where
         limit = t.limit;
         within = t.within;
         no_quit = t.halts;
-        short = All-append IsShort k.held (w ∷ []) k.short (All-cons IsShort w [] short (All-nil IsShort));
+        none = All-append ShowsNone k.held (w ∷ []) k.none (All-cons ShowsNone w [] shows (All-nil ShowsNone));
       }
 
   -- no line more is taken
   pub took_all : {session session' : TheSession} {first now : D} {withheld withheld' : List Withheld} {begun bytes : List ℕ} (left : List ℕ) (end : Option End)
       → (k : TakesOn session first withheld begun bytes session' now withheld') → Halts end session.limit session'.answered (lines_after begun bytes) (rest_after begun bytes) left
-      → Took takes session first withheld begun bytes left session' now withheld' end
+      → Took takes session first withheld begun bytes left session' now withheld' end []
   took_all left end k halts = record {
     held = k.held;
     behind = k.behind;
@@ -158,38 +163,40 @@ module _ {D : Type 0} (takes : D → Ask → Withheld → D → Type 0) where
     counted = k.counted;
     limit = k.limit;
     within = k.within;
-    short = all_short k.held k.short;
+    shows = none_shows k.held k.none;
+    none = λ held. refl;
     halts = halts;
   }
 
   -- the progress as the number of bytes that were taken
-  pub took_until : {session session' : TheSession} {first now : D} {withheld withheld' : List Withheld} {begun bytes left all : List ℕ} {end : Option End} (result : Taking)
-      → bytes ++ left ≡ all → result ≡ record { bytes = length all - length left; end = end } → Took takes session first withheld begun bytes left session' now withheld' end
-      → Took takes session first withheld begun (take result.bytes all) (drop result.bytes all) session' now withheld' result.end
-  took_until {session} {session'} {first} {now} {withheld} {withheld'} {begun} {bytes} {left} {all} {end} result whole is t =
+  pub took_until : {session session' : TheSession} {first now : D} {withheld withheld' : List Withheld} {begun bytes left all shown : List ℕ} {end : Option End} (count : ℕ) (ended : Option End)
+      → bytes ++ left ≡ all → count ≡ length all - length left → ended ≡ end → Took takes session first withheld begun bytes left session' now withheld' end shown
+      → Took takes session first withheld begun (take count all) (drop count all) session' now withheld' ended shown
+  took_until {session} {session'} {first} {now} {withheld} {withheld'} {begun} {bytes} {left} {all} {shown} {end} count ended whole counts ends t =
       let part = taken_part {bytes = bytes} {left = left} whole in
-      subst (λ (r : Taking). Took takes session first withheld begun (take r.bytes all) (drop r.bytes all) session' now withheld' r.end) (sym is)
-      (subst (λ (l : List ℕ). Took takes session first withheld begun (take (length all - length left) all) l session' now withheld' end) (sym part.1)
-      (subst (λ (b : List ℕ). Took takes session first withheld begun b left session' now withheld' end) (sym part.0) t))
+      subst (λ (n : ℕ). Took takes session first withheld begun (take n all) (drop n all) session' now withheld' ended shown) (sym counts)
+      (subst (λ (e : Option End). Took takes session first withheld begun (take (length all - length left) all) (drop (length all - length left) all) session' now withheld' e shown) (sym ends)
+      (subst (λ (l : List ℕ). Took takes session first withheld begun (take (length all - length left) all) l session' now withheld' end shown) (sym part.1)
+      (subst (λ (b : List ℕ). Took takes session first withheld begun b left session' now withheld' end shown) (sym part.0) t)))
 
   -- no answer was withheld before
-  pub took_first : {session session' : TheSession} {first now : D} {withheld withheld' : List Withheld} {begun bytes left : List ℕ} {end : Option End}
-      → withheld ≡ [] → Took takes session first withheld begun bytes left session' now withheld' end → Took takes session first [] begun bytes left session' now withheld' end
-  took_first {session} {session'} {first} {now} {withheld} {withheld'} {begun} {bytes} {left} {end} none t =
-      subst (λ (ws : List Withheld). Took takes session first ws begun bytes left session' now withheld' end) none t
+  pub took_first : {session session' : TheSession} {first now : D} {withheld withheld' : List Withheld} {begun bytes left shown : List ℕ} {end : Option End}
+      → withheld ≡ [] → Took takes session first withheld begun bytes left session' now withheld' end shown → Took takes session first [] begun bytes left session' now withheld' end shown
+  took_first {session} {session'} {first} {now} {withheld} {withheld'} {begun} {bytes} {left} {shown} {end} none t =
+      subst (λ (ws : List Withheld). Took takes session first ws begun bytes left session' now withheld' end shown) none t
 
   -- all bytes are taken
-  pub took_whole : {session session' : TheSession} {first now : D} {withheld withheld' : List Withheld} {begun bytes : List ℕ} {end : Option End} (all : List ℕ)
-      → bytes ≡ all → Took takes session first withheld begun bytes [] session' now withheld' end
-      → Took takes session first withheld begun (take (length all) all) (drop (length all) all) session' now withheld' end
-  took_whole {session} {session'} {first} {now} {withheld} {withheld'} {begun} {bytes} {end} all whole t =
-      subst (λ (l : List ℕ). Took takes session first withheld begun (take (length all) all) l session' now withheld' end) (sym (drop-length all))
-      (subst (λ (b : List ℕ). Took takes session first withheld begun b [] session' now withheld' end) (whole ∙ sym (take_all (length all) all (omega arith))) t)
+  pub took_whole : {session session' : TheSession} {first now : D} {withheld withheld' : List Withheld} {begun bytes shown : List ℕ} {end : Option End} (all : List ℕ)
+      → bytes ≡ all → Took takes session first withheld begun bytes [] session' now withheld' end shown
+      → Took takes session first withheld begun (take (length all) all) (drop (length all) all) session' now withheld' end shown
+  took_whole {session} {session'} {first} {now} {withheld} {withheld'} {begun} {bytes} {shown} {end} all whole t =
+      subst (λ (l : List ℕ). Took takes session first withheld begun (take (length all) all) l session' now withheld' end shown) (sym (drop-length all))
+      (subst (λ (b : List ℕ). Took takes session first withheld begun b [] session' now withheld' end shown) (whole ∙ sym (take_all (length all) all (omega arith))) t)
 
   -- the bytes that are left end no line
   pub took_rest : {session session' session'' : TheSession} {first now : D} {withheld withheld' : List Withheld} {begun bytes : List ℕ} (rest : List ℕ)
       → (k : TakesOn session first withheld begun bytes session' now withheld') → HasNoLf rest → session''.line ≡ kept_part (session'.line ++ rest)
-      → session''.answered ≡ session'.answered → session''.limit ≡ session'.limit → Took takes session first withheld begun (bytes ++ rest) [] session'' now withheld' None
+      → session''.answered ≡ session'.answered → session''.limit ≡ session'.limit → Took takes session first withheld begun (bytes ++ rest) [] session'' now withheld' None []
   took_rest {session} {session'} {session''} {first} {now} {withheld} {withheld'} {begun} {bytes} rest k none line same limit =
       let ends = no_line (rest_after begun bytes) rest none in
       let these : lines_after begun (bytes ++ rest) ≡ lines_after begun bytes = lines_after-append begun bytes rest ∙ ap (λ (t : List (List ℕ)). lines_after begun bytes ++ t) ends.0 ∙ append-nil (lines_after begun bytes) in
@@ -201,7 +208,8 @@ module _ {D : Type 0} (takes : D → Ask → Withheld → D → Type 0) where
         counted = same ∙ k.counted;
         limit = limit ∙ k.limit;
         within = omega (arith, k.within, same);
-        short = all_short k.held k.short;
+        shows = none_shows k.held k.none;
+        none = λ held. refl;
         halts = subst NoQuit (sym these) k.no_quit;
       }
 
@@ -275,11 +283,11 @@ module _ {D : Type 0} (takes : D → Ask → Withheld → D → Type 0) where
     }
 
     -- more lines, whose answers were withheld, and are written in this way
-    tells : {session : TheSession} {first : D} {start : Taken} {now new : D} {sink sink' : Taken} {count count' : ℕ} {lines : List (List ℕ)} (at : D) (xs : List (List ℕ)) (withheld : List Withheld) (end : Option End)
+    tells : {session : TheSession} {first : D} {start : Taken} {now new : D} {sink sink' : Taken} {count count' : ℕ} {lines : List (List ℕ)} (at : D) (xs : List (List ℕ)) (withheld : List Withheld) (shown : List ℕ) (end : Option End)
         → AllTold session first start now sink count lines None → TakesLines takes now xs withheld at → count' ≡ count + length withheld → count' ≤ session.limit
-        → AreShortButLast (map answer_of withheld) → TellsWithheld releases moves withheld at new end sink sink' → AllTold session first start new sink' count' (lines ++ xs) end
-    tells {session} {first} {start} {now} {new} {sink} {sink'} {lines = lines} at xs withheld end k taken more within short told =
-        let t = told_of releases moves withheld at new end sink sink' told in
+        → LastShows shown (map answer_of withheld) → TellsWithheld releases moves shown withheld at new end sink sink' → AllTold session first start new sink' count' (lines ++ xs) end
+    tells {session} {first} {start} {now} {new} {sink} {sink'} {lines = lines} at xs withheld shown end k taken more within shows told =
+        let t = told_of releases moves shown withheld at new end sink sink' told in
         let n = all_length releases moves at new withheld t.0 t.1 in
         let m = length-append k.said t.0 in
         let counted = k.counted in record {
@@ -287,7 +295,7 @@ module _ {D : Type 0} (takes : D → Ask → Withheld → D → Type 0) where
           answers = answers_both first lines xs k.said t.0 now new k.answers (one_round now xs withheld at t.0 new taken t.1);
           counted = omega arith;
           within = within;
-          told = tells_more end start sink sink' k.said t.0 k.told (t.2 short);
+          told = tells_more end start sink sink' k.said t.0 k.told (t.2 shows);
         }
 
     -- the answers to all lines are written in this way, and the lines after them are left
@@ -308,7 +316,7 @@ module _ {D : Type 0} (takes : D → Ask → Withheld → D → Type 0) where
       sound = sound;
     }
 
-    -- the session ends since writing broke off, or there was no memory
+    -- the session ends since writing broke off
     pub fed_broken : {session session' : TheSession} {first : D} {start : Taken} {now : D} {sink : Taken} {lines : List (List ℕ)} (left all : List (List ℕ)) (end : End)
         → AllTold session first start now sink session'.answered lines (Some end) → lines ++ left ≡ all → session'.limit ≡ session.limit → NoQuitBeforeLast lines
         → Fed takes releases moves session first start all session' now sink (Some end)
@@ -352,13 +360,13 @@ module _ {D : Type 0} (takes : D → Ask → Withheld → D → Type 0) where
     ahead_none session first start begun within line = record { told = all_told_none session first start within; no_quit = All-nil _; line = line; limit = refl }
 
     -- the lines that the next bytes complete are taken, and their answers written in this way
-    pub told_on : {session session' session'' : TheSession} {first : D} {start : Taken} {now at new : D} {sink sink' : Taken} {begun bytes : List ℕ} {withheld : List Withheld} {halt : Option End} (more left : List ℕ) (end : Option End)
-        → (a : Ahead session first start now sink session' begun bytes) → Took takes session' now [] (rest_after begun bytes) more left session'' at withheld halt
-        → TellsWithheld releases moves withheld at new end sink sink' → AllTold session first start new sink' session''.answered (lines_after begun (bytes ++ more)) end
-    told_on {session} {session'} {session''} {first} {start} {now} {at} {new} {sink} {sink'} {begun} {bytes} more left end a t told =
+    pub told_on : {session session' session'' : TheSession} {first : D} {start : Taken} {now at new : D} {sink sink' : Taken} {begun bytes : List ℕ} {withheld : List Withheld} {halt : Option End} {shown : List ℕ} (more left : List ℕ) (end : Option End)
+        → (a : Ahead session first start now sink session' begun bytes) → Took takes session' now [] (rest_after begun bytes) more left session'' at withheld halt shown
+        → TellsWithheld releases moves shown withheld at new end sink sink' → AllTold session first start new sink' session''.answered (lines_after begun (bytes ++ more)) end
+    told_on {session} {session'} {session''} {first} {start} {now} {at} {new} {sink} {sink'} {begun} {bytes} {shown = shown} more left end a t told =
         subst (λ (ys : List (List ℕ)). AllTold session first start new sink' session''.answered ys end) (sym (lines_after-append begun bytes more))
-        (tells at (lines_after (rest_after begun bytes) more) t.held end a.told t.answers t.counted (omega (arith, t.within, a.limit)) t.short
-        (subst (λ (ws : List Withheld). TellsWithheld releases moves ws at new end sink sink') t.behind told))
+        (tells at (lines_after (rest_after begun bytes) more) t.held shown end a.told t.answers t.counted (omega (arith, t.within, a.limit)) t.shows
+        (subst (λ (ws : List Withheld). TellsWithheld releases moves shown ws at new end sink sink') t.behind told))
 
     no_quit_on : (begun bytes more : List ℕ) → NoQuit (lines_after begun bytes) → NoQuit (lines_after (rest_after begun bytes) more) → NoQuit (lines_after begun (bytes ++ more))
     no_quit_on begun bytes more a b = subst NoQuit (sym (lines_after-append begun bytes more)) (no_quit_both (lines_after begun bytes) (lines_after (rest_after begun bytes) more) a b)
@@ -376,9 +384,9 @@ module _ {D : Type 0} (takes : D → Ask → Withheld → D → Type 0) where
     last_on (Some ends.Ended) limit count begun bytes more left a h = absurd h
     last_on (Some ends.ReadFault) limit count begun bytes more left a h = absurd h
 
-    pub ahead_more : {session session' session'' : TheSession} {first : D} {start : Taken} {now at new : D} {sink sink' : Taken} {begun bytes : List ℕ} {withheld : List Withheld} {halt : Option End} (more left : List ℕ)
-        → (a : Ahead session first start now sink session' begun bytes) → Took takes session' now [] (rest_after begun bytes) more left session'' at withheld halt
-        → halt ≡ None → TellsWithheld releases moves withheld at new None sink sink' → Ahead session first start new sink' session'' begun (bytes ++ more)
+    pub ahead_more : {session session' session'' : TheSession} {first : D} {start : Taken} {now at new : D} {sink sink' : Taken} {begun bytes : List ℕ} {withheld : List Withheld} {halt : Option End} {shown : List ℕ} (more left : List ℕ)
+        → (a : Ahead session first start now sink session' begun bytes) → Took takes session' now [] (rest_after begun bytes) more left session'' at withheld halt shown
+        → halt ≡ None → TellsWithheld releases moves shown withheld at new None sink sink' → Ahead session first start new sink' session'' begun (bytes ++ more)
     ahead_more {session' = session'} {session'' = session''} {begun = begun} {bytes = bytes} more left a t goes told = record {
       told = told_on more left None a t told;
       no_quit = no_quit_on begun bytes more a.no_quit
@@ -392,10 +400,10 @@ module _ {D : Type 0} (takes : D → Ask → Withheld → D → Type 0) where
     behind begun bytes more left all whole =
         ap (λ (t : List ℕ). lines_after begun (bytes ++ more) ++ lines_after t left) (sym (rest_after-append begun bytes more)) ∙ sym (lines_after-append begun (bytes ++ more) left) ∙ ap (lines_after begun) whole
 
-    -- the session ends with the last taking: writing broke off, or there was no memory; ..
-    pub feed_broken : {session session' session'' : TheSession} {first : D} {start : Taken} {now at new : D} {sink sink' : Taken} {begun bytes : List ℕ} {withheld : List Withheld} {halt : Option End} (more left all : List ℕ) (end : End)
-        → (a : Ahead session first start now sink session' begun bytes) → Took takes session' now [] (rest_after begun bytes) more left session'' at withheld halt
-        → TellsWithheld releases moves withheld at new (Some end) sink sink' → (bytes ++ more) ++ left ≡ all
+    -- the session ends with the last taking: writing broke off; ..
+    pub feed_broken : {session session' session'' : TheSession} {first : D} {start : Taken} {now at new : D} {sink sink' : Taken} {begun bytes : List ℕ} {withheld : List Withheld} {halt : Option End} {shown : List ℕ} (more left all : List ℕ) (end : End)
+        → (a : Ahead session first start now sink session' begun bytes) → Took takes session' now [] (rest_after begun bytes) more left session'' at withheld halt shown
+        → TellsWithheld releases moves shown withheld at new (Some end) sink sink' → (bytes ++ more) ++ left ≡ all
         → Fed takes releases moves session first start (lines_after begun all) session'' new sink' (Some end)
     feed_broken {session = session} {session'' = session''} {begun = begun} {bytes = bytes} {halt = halt} more left all end a t told whole =
         fed_broken (lines_after (rest_after (rest_after begun bytes) more) left) (lines_after begun all) end (told_on more left (Some end) a t told) (behind begun bytes more left all whole) (t.limit ∙ a.limit)
@@ -415,9 +423,9 @@ module _ {D : Type 0} (takes : D → Ask → Withheld → D → Type 0) where
     halted session'' more left ends.Ended a told h = absurd h
     halted session'' more left ends.ReadFault a told h = absurd h
 
-    pub feed_halted : {session session' session'' : TheSession} {first : D} {start : Taken} {now at new : D} {sink sink' : Taken} {begun bytes : List ℕ} {withheld : List Withheld} {end : Option End} (more left all : List ℕ) (halt : End)
-        → (a : Ahead session first start now sink session' begun bytes) → Took takes session' now [] (rest_after begun bytes) more left session'' at withheld end
-        → end ≡ Some halt → TellsWithheld releases moves withheld at new None sink sink' → (bytes ++ more) ++ left ≡ all
+    pub feed_halted : {session session' session'' : TheSession} {first : D} {start : Taken} {now at new : D} {sink sink' : Taken} {begun bytes : List ℕ} {withheld : List Withheld} {end : Option End} {shown : List ℕ} (more left all : List ℕ) (halt : End)
+        → (a : Ahead session first start now sink session' begun bytes) → Took takes session' now [] (rest_after begun bytes) more left session'' at withheld end shown
+        → end ≡ Some halt → TellsWithheld releases moves shown withheld at new None sink sink' → (bytes ++ more) ++ left ≡ all
         → Fed takes releases moves session first start (lines_after begun all) session'' new sink' (Some halt)
     feed_halted {session' = session'} {session'' = session''} {begun = begun} {bytes = bytes} more left all halt a t ends_so told whole =
         let told_so = told_on more left None a t told in
@@ -515,6 +523,26 @@ module _ {D : Type 0} (takes : D → Ask → Withheld → D → Type 0) where
       begun = line;
     }
 
+    -- a session without memory reads nothing
+    pub closed_unread : (limits : Limits) (desk : D) (source : Told) (sink : Taken) → source.ended ≡ false → source.failed ≡ false → sink.failed ≡ false
+        → Session takes releases moves limits desk source sink desk source sink ends.Memory
+    unfolding lines_after rest_after
+    closed_unread limits desk source sink unended unfailed sound = record {
+      input = [];
+      read = sym (append-nil source.bytes);
+      answered = [];
+      left = [];
+      these = refl;
+      said = [];
+      answers = no_lines_answered desk;
+      lines_within = omega arith;
+      reads_within = omega arith;
+      closes = (refl, refl);
+      ended = unended;
+      read_failed = unfailed;
+      write_failed = sound;
+    }
+
     delivers_more : (old mid new : Taken) (before more : List Answer) → DeliversAll old mid before → Delivered mid new more → DeliversAll old new (before ++ more)
     delivers_more old mid new before more a b = record {
       bytes = b.bytes ∙ ap (λ (t : List ℕ). t ++ session_text more) a.bytes ∙ append_assoc old.bytes (session_text before) (session_text more) ∙ ap (λ (t : List ℕ). old.bytes ++ t) (sym (flat_map-append text before more));
@@ -582,16 +610,7 @@ module _ {D : Type 0} (takes : D → Ask → Withheld → D → Type 0) where
       before_last_both (input_lines input) h.answered a.no_quit h.stands.0,
       breaks_off input chunk start sink sink' a.said h.said (answered_length first (input_lines input) a.said now a.answers) one a.delivered h.stands.1,
     )
-    closes {start = start} {sink = sink} {sink' = sink'} {input = input} limits source source' chunk ends.Memory one is a h = (
-      before_last_both (input_lines input) h.answered a.no_quit h.stands.0,
-      record {
-        before = a.said ++ h.stands.1.before;
-        last = h.stands.1.last;
-        these = ap (λ (t : List Answer). a.said ++ t) h.stands.1.these ∙ sym (append_assoc a.said h.stands.1.before (h.stands.1.last ∷ []));
-        memory = h.stands.1.memory;
-        told = delivers_more start sink sink' a.said h.stands.1.before a.delivered h.stands.1.told;
-      },
-    )
+    closes limits source source' chunk ends.Memory one is a h = absurd h.stands
     closes limits source source' chunk ends.Ended one is a h = absurd h.stands
     closes limits source source' chunk ends.ReadFault one is a h = absurd h.stands
 
@@ -600,7 +619,7 @@ module _ {D : Type 0} (takes : D → Ask → Withheld → D → Type 0) where
         → Stands (Some end) tells limit count answered left said sink sink' → (is_input_end end ≡ false) × (is_read_fault end ≡ false)
     source_marks ends.Quit tells limit count answered left said sink sink' h = (refl, refl)
     source_marks ends.WriteFault tells limit count answered left said sink sink' h = (refl, refl)
-    source_marks ends.Memory tells limit count answered left said sink sink' h = (refl, refl)
+    source_marks ends.Memory tells limit count answered left said sink sink' h = absurd h
     source_marks ends.Limit tells limit count answered left said sink sink' h = (refl, refl)
     source_marks ends.Ended tells limit count answered left said sink sink' h = absurd h
     source_marks ends.ReadFault tells limit count answered left said sink sink' h = absurd h

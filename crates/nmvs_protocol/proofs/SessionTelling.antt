@@ -1,6 +1,6 @@
 -- The release of withheld answers, and their writing: gathered, broken off, and handed on.
-use Rattle.std.proofs.Common.{◌≡◌, ◌≢◌, ◌==◌, ◌+◌, ℕ, true, false, List, [], ◌∷◌, ◌++◌, All, IsTrue, Option, Some, None, Result, Ok, Err, length, take, map, refl, sym, ap, ◌∙◌, subst, inl, inr, arith}
-use Rattle.std.proofs.lemmas.List.{flat_map_more, append-nil, append_assoc, length-append, take_at}
+use Rattle.std.proofs.Common.{◌≡◌, ◌≢◌, ◌==◌, ◌+◌, ℕ, Bool, true, false, cond, List, [], ◌∷◌, ◌++◌, All, Option, Some, None, Result, Ok, Err, length, take, drop, map, refl, sym, ap, ◌∙◌, subst, inl, inr, arith}
+use Rattle.std.proofs.lemmas.List.{append-nil, append_assoc, length-append, map-append, take-append-drop, take_at}
 use Rattle.std.proofs.lemmas.List.Elements.{All-append, All-cons, All-nil, All-tail}
 use Rattle.std.proofs.lemmas.Grind.{flat_map-append}
 use Rattle.nmvs_stream.specs.Sink.{Taken, Flushes, FailsToTake}
@@ -18,81 +18,132 @@ use Rattle.nmvs_messages.specs.declared.withheld.Withheld.{Withheld}
 use Rattle.nmvs_messages.specs.declared.end.End.{End}
 use Rattle.nmvs_messages.specs.declared.end.End.TheVariants as ends
 use Rattle.nmvs_protocol.specs.Lines.{line_text}
-use Rattle.nmvs_protocol.specs.Texts.{content_text, lines_behind, tagged_text, text}
+use Rattle.nmvs_protocol.specs.Texts.{bare, content_text, ends_with_reply, is_reply, last_showing, lines_behind, showing, tagged_text, text}
 use Rattle.nmvs_protocol.specs.Tags.{tag_text}
-use Rattle.nmvs_messages.specs.Withheld.{answer_of, content_is_long, content_takes_memory, takes_memory, AreReleased, StaysOrTurns}
+use Rattle.nmvs_line.specs.Export.{ended_line, export_text}
+use Rattle.nmvs_rules.specs.declared.entry.Entry.{Entry}
+use Rattle.nmvs_words.specs.Words.{spaced}
+use Rattle.nmvs_messages.specs.Words.{reply_words}
+use Rattle.std.specs.Option.{is_some}
+use Rattle.nmvs_messages.specs.Withheld.{answer_of, content_shown, shown_text, text_left, AreReleased, StaysOrTurns}
 use Rattle.nmvs_protocol.specs.Session.{ReleasesAll, NoQuit, NoQuitBeforeLast, session_text}
-use Rattle.nmvs_protocol.specs.Progress.{AreShortButLast, Gathers, Delivered, Tells, TellsFirst, TellsWithheld, Stands, has_write_fault}
+use Rattle.nmvs_protocol.specs.Progress.{LastShows, Gathers, Delivered, Tells, TellsWithheld, Stands, has_write_fault}
 
 -- one more line that is not QUIT
 pub no_quit_more : (xs : List (List ℕ)) (x : List ℕ) → NoQuit xs → x ≢ line_text lines.Quit → NoQuit (xs ++ x ∷ [])
 no_quit_more xs x none other = All-append (λ (y : List ℕ). y ≢ line_text lines.Quit) xs (x ∷ []) none (All-cons (λ (y : List ℕ). y ≢ line_text lines.Quit) x [] other (All-nil (λ (y : List ℕ). y ≢ line_text lines.Quit)))
 
--- the text of a withheld answer is short
-abbrev pub IsShort : Withheld → Type 0
-IsShort w = takes_memory w.answer ≡ false
+-- a withheld answer shows no entry
+abbrev pub ShowsNone : Withheld → Type 0
+ShowsNone w = shown_text w ≡ []
 
--- a text that is not long takes no memory
-pub short_of : (c : Content) → content_is_long c ≡ false → content_takes_memory c ≡ false
-short_of (contents.Replied r []) short = refl
-short_of (contents.Replied r (e ∷ es)) short = absurd (cc short)
-short_of (contents.Reported t) short = refl
-short_of (contents.Turned turn) short = refl
-short_of (contents.Unread fault) short = refl
-short_of contents.Pong short = refl
-short_of contents.Version short = refl
-short_of contents.Help short = refl
-short_of contents.Bye short = refl
+-- the text of a content that shows entries: that of the content without them, and then that of the entries
+tagged_shown : (g : Option Tag) (c : Content) (shown : List ℕ) → tagged_text g (showing shown c) ≡ tagged_text g (showing [] c) ++ cond (is_reply c) shown []
+unfolding content_text
+tagged_shown None (contents.Replied r s) shown = ap (λ (t : List ℕ). t ++ shown) (sym (append-nil (spaced (reply_words r))))
+tagged_shown (Some g) (contents.Replied r s) shown =
+    let front = tag_text (Some g) in
+    let words = spaced (reply_words r) in
+    sym (append_assoc front words shown) ∙ ap (λ (t : List ℕ). (front ++ t) ++ shown) (sym (append-nil words))
+tagged_shown None (contents.Reported t) shown = sym (append-nil _)
+tagged_shown (Some g) (contents.Reported t) shown = sym (append-nil _)
+tagged_shown None (contents.Turned turn) shown = sym (append-nil _)
+tagged_shown (Some g) (contents.Turned turn) shown = sym (append-nil _)
+tagged_shown None (contents.Unread fault) shown = sym (append-nil _)
+tagged_shown (Some g) (contents.Unread fault) shown = sym (append-nil _)
+tagged_shown None contents.Pong shown = sym (append-nil _)
+tagged_shown (Some g) contents.Pong shown = sym (append-nil _)
+tagged_shown None contents.Version shown = sym (append-nil _)
+tagged_shown (Some g) contents.Version shown = sym (append-nil _)
+tagged_shown None contents.Help shown = sym (append-nil _)
+tagged_shown (Some g) contents.Help shown = sym (append-nil _)
+tagged_shown None contents.Bye shown = sym (append-nil _)
+tagged_shown (Some g) contents.Bye shown = sym (append-nil _)
 
--- short answers, and one more
-pub short_but_last : (withheld : List Withheld) (w : Withheld) → All IsShort withheld → AreShortButLast (map answer_of (withheld ++ w ∷ []))
-short_but_last [] w short = tt
-short_but_last (h ∷ []) w short = (short 0 h (omega arith), tt)
-short_but_last (h ∷ g ∷ withheld) w short = (short 0 h (omega arith), short_but_last (g ∷ withheld) w (All-tail IsShort h (g ∷ withheld) short))
+text_shown : (a : Answer) (shown : List ℕ) → text (record a { content = showing shown a.content }) ≡ text (bare a) ++ cond (is_reply a.content) shown []
+unfolding text
+text_shown a shown = tagged_shown a.tag a.content shown
 
-pub all_short : (withheld : List Withheld) → All IsShort withheld → AreShortButLast (map answer_of withheld)
-all_short [] short = tt
-all_short (h ∷ []) short = tt
-all_short (h ∷ g ∷ withheld) short = (short 0 h (omega arith), all_short (g ∷ withheld) (All-tail IsShort h (g ∷ withheld) short))
+-- the text of answers, the last of which shows entries
+pub session_text_last : (shown : List ℕ) (said : List Answer) → session_text (last_showing shown said) ≡ session_text (map bare said) ++ cond (ends_with_reply said) shown []
+session_text_last shown [] = refl
+session_text_last shown (a ∷ []) =
+    append-nil (text (record a { content = showing shown a.content })) ∙ text_shown a shown ∙ ap (λ (t : List ℕ). t ++ cond (is_reply a.content) shown []) (sym (append-nil (text (bare a))))
+session_text_last shown (a ∷ b ∷ more) =
+    ap (λ (t : List ℕ). text (bare a) ++ t) (session_text_last shown (b ∷ more)) ∙ sym (append_assoc (text (bare a)) (session_text (map bare (b ∷ more))) (cond (ends_with_reply (b ∷ more)) shown []))
 
--- no answer stands after an answer whose text takes memory
-pub none_behind : (before : List Answer) (a : Answer) (later : List Answer) → AreShortButLast (before ++ a ∷ later) → IsTrue (takes_memory a) → later ≡ []
-none_behind [] a [] short long = refl
-none_behind [] a (b ∷ later) short long = absurd (cc (short.0, long))
-none_behind (c ∷ []) a later short long = none_behind [] a later short.1 long
-none_behind (c ∷ d ∷ before) a later short long = none_behind (d ∷ before) a later short.1 long
+-- a content that shows a text stays the same if it shows that text
+showing_same : (c : Content) (shown : List ℕ) → content_shown c ≡ shown → showing shown c ≡ c
+showing_same (contents.Replied r s) shown is = ap (λ (t : List ℕ). contents.Replied r t) (sym is)
+showing_same (contents.Reported t) shown is = refl
+showing_same (contents.Turned turn) shown is = refl
+showing_same (contents.Unread fault) shown is = refl
+showing_same contents.Pong shown is = refl
+showing_same contents.Version shown is = refl
+showing_same contents.Help shown is = refl
+showing_same contents.Bye shown is = refl
 
-stays_short : (w : Withheld) (a : Answer) → StaysOrTurns w a → takes_memory w.answer ≡ false → takes_memory a ≡ false
-stays_short w a (inl e) short = ap takes_memory e ∙ short
-stays_short w a (inr turns) short = ap takes_memory turns.2
+answer_same : (a : Answer) (shown : List ℕ) → content_shown a.content ≡ shown → record a { content = showing shown a.content } ≡ a
+answer_same a shown is = ap (λ (c : Content). record a { content = c }) (showing_same a.content shown is)
 
-pub released_short : (releases : Withheld → Answer → Type 0) (withheld : List Withheld) (said : List Answer) → AreReleased releases withheld said → AreShortButLast (map answer_of withheld)
-    → AreShortButLast said
-released_short releases [] [] r short = tt
-released_short releases (w ∷ []) (a ∷ []) r short = tt
-released_short releases (w ∷ v ∷ withheld) (a ∷ b ∷ said) r short = (stays_short w a r.1 short.0, released_short releases (v ∷ withheld) (b ∷ said) r.2 short.1)
-released_short releases (w ∷ v ∷ withheld) (a ∷ []) r short = absurd r.2
-released_short releases (w ∷ []) (a ∷ b ∷ said) r short = absurd r.2
-released_short releases [] (a ∷ said) r short = absurd r
-released_short releases (w ∷ withheld) [] r short = absurd r
+-- without a list no entry is left
+pub none_left : {L : Type 0} (left : L → List Entry) (list : Option L) → is_some list ≡ false → text_left left list ≡ []
+none_left left None none = refl
+none_left left (Some l) none = absurd (cc none)
+
+-- answers that show no entry, and one more
+pub last_shows : (withheld : List Withheld) (w : Withheld) (shown : List ℕ) → All ShowsNone withheld → shown_text w ≡ shown → LastShows shown (map answer_of (withheld ++ w ∷ []))
+last_shows [] w shown none is = ap (λ (a : Answer). a ∷ []) (answer_same w.answer shown is)
+last_shows (h ∷ []) w shown none is =
+    (λ i. answer_same h.answer [] (none 0 h (omega arith)) i ∷ answer_same w.answer shown is i ∷ [])
+last_shows (h ∷ g ∷ withheld) w shown none is =
+    (λ i. answer_same h.answer [] (none 0 h (omega arith)) i ∷ last_shows (g ∷ withheld) w shown (All-tail ShowsNone h (g ∷ withheld) none) is i)
+
+pub none_shows : (withheld : List Withheld) → All ShowsNone withheld → LastShows [] (map answer_of withheld)
+none_shows [] none = refl
+none_shows (h ∷ []) none = ap (λ (a : Answer). a ∷ []) (answer_same h.answer [] (none 0 h (omega arith)))
+none_shows (h ∷ g ∷ withheld) none =
+    (λ i. answer_same h.answer [] (none 0 h (omega arith)) i ∷ none_shows (g ∷ withheld) (All-tail ShowsNone h (g ∷ withheld) none) i)
+
+-- a release leaves to each answer the entries that it shows, or turns its line away
+stays_showing : (w : Withheld) (a : Answer) (shown : List ℕ) → StaysOrTurns w a → record w.answer { content = showing shown w.answer.content } ≡ w.answer → record a { content = showing shown a.content } ≡ a
+stays_showing w a shown (inl e) is = subst (λ (b : Answer). record b { content = showing shown b.content } ≡ b) (sym e) is
+stays_showing w a shown (inr turns) is = subst (λ (b : Answer). record b { content = showing shown b.content } ≡ b) (sym turns.2) refl
+
+pub released_shows : (releases : Withheld → Answer → Type 0) (shown : List ℕ) (withheld : List Withheld) (said : List Answer) → AreReleased releases withheld said → LastShows shown (map answer_of withheld)
+    → LastShows shown said
+released_shows releases shown [] [] r is = refl
+released_shows releases shown (w ∷ []) (a ∷ []) r is = ap (λ (b : Answer). b ∷ []) (stays_showing w a shown r.1 (cc is))
+released_shows releases shown (w ∷ v ∷ withheld) (a ∷ b ∷ said) r is =
+    let first : bare w.answer ≡ w.answer = cc is in
+    let rest : LastShows shown (map answer_of (v ∷ withheld)) = cc is in
+    (λ i. stays_showing w a [] r.1 first i ∷ released_shows releases shown (v ∷ withheld) (b ∷ said) r.2 rest i)
+released_shows releases shown (w ∷ v ∷ withheld) (a ∷ []) r is = absurd r.2
+released_shows releases shown (w ∷ []) (a ∷ b ∷ said) r is = absurd r.2
+released_shows releases shown [] (a ∷ said) r is = absurd r
+released_shows releases shown (w ∷ withheld) [] r is = absurd r
+
+-- the text of the answers without entries, and then that of the entries
+pub told_last : (shown : List ℕ) (said : List Answer) (replied : Bool) → replied ≡ ends_with_reply said → LastShows shown said → session_text (map bare said) ++ cond replied shown [] ≡ session_text said
+told_last shown said replied is shows = ap (λ (b : Bool). session_text (map bare said) ++ cond b shown []) is ∙ sym (session_text_last shown said) ∙ ap session_text shows
 
 -- the result of writing some withheld answers
-pub told_withheld : {D : Type 0} (releases : D → D → Withheld → Answer → Type 0) (moves : D → D → Type 0) (withheld : List Withheld) (old new : D) (said : List Answer) (end : Option End) (sink sink' : Taken)
-    → (length withheld == 0) ≡ false → moves old new → AreReleased (releases old new) withheld said → (AreShortButLast said → Tells end sink sink' said) → TellsWithheld releases moves withheld old new end sink sink'
-told_withheld releases moves [] old new said end sink sink' some m r told = absurd (cc some)
-told_withheld releases moves (w ∷ withheld) old new said end sink sink' some m r told =
-    (said, (m, r), λ short. told (released_short (releases old new) (w ∷ withheld) said r short))
+pub told_withheld : {D : Type 0} (releases : D → D → Withheld → Answer → Type 0) (moves : D → D → Type 0) (shown : List ℕ) (withheld : List Withheld) (old new : D) (said : List Answer) (end : Option End) (sink sink' : Taken)
+    → (length withheld == 0) ≡ false → moves old new → AreReleased (releases old new) withheld said → (LastShows shown said → Tells end sink sink' said) → TellsWithheld releases moves shown withheld old new end sink sink'
+told_withheld releases moves shown [] old new said end sink sink' some m r told = absurd (cc some)
+told_withheld releases moves shown (w ∷ withheld) old new said end sink sink' some m r told =
+    (said, (m, r), λ shows. told (released_shows (releases old new) shown (w ∷ withheld) said r shows))
 
 -- the result of writing the withheld answers, if there are any
-pub told_of : {D : Type 0} (releases : D → D → Withheld → Answer → Type 0) (moves : D → D → Type 0) (withheld : List Withheld) (old new : D) (end : Option End) (sink sink' : Taken)
-    → TellsWithheld releases moves withheld old new end sink sink' → (said : List Answer) × ReleasesAll releases moves old withheld said new × (AreShortButLast (map answer_of withheld) → Tells end sink sink' said)
-told_of releases moves [] old new end sink sink' t = (
+pub told_of : {D : Type 0} (releases : D → D → Withheld → Answer → Type 0) (moves : D → D → Type 0) (shown : List ℕ) (withheld : List Withheld) (old new : D) (end : Option End) (sink sink' : Taken)
+    → TellsWithheld releases moves shown withheld old new end sink sink' → (said : List Answer) × ReleasesAll releases moves old withheld said new × (LastShows shown (map answer_of withheld) → Tells end sink sink' said)
+told_of releases moves shown [] old new end sink sink' t = (
   [],
   (refl, t.0),
-  λ short. subst (λ (e : Option End). Tells e sink sink' []) (sym t.1)
+  λ shows. subst (λ (e : Option End). Tells e sink sink' []) (sym t.1)
       (subst (λ (s : Taken). Gathers sink s []) (sym t.2) (record { bytes = sym (append-nil sink.bytes); flushed = λ none. refl; failed = refl })),
 )
-told_of releases moves (w ∷ withheld) old new end sink sink' t = t
+told_of releases moves shown (w ∷ withheld) old new end sink sink' t = t
 
 -- there is an answer for each withheld one
 released_length : (releases : Withheld → Answer → Type 0) (withheld : List Withheld) (said : List Answer) → AreReleased releases withheld said → length said ≡ length withheld
@@ -105,6 +156,12 @@ pub all_length : {D : Type 0} (releases : D → D → Withheld → Answer → Ty
     → ReleasesAll releases moves old withheld said new → length said ≡ length withheld
 all_length releases moves old new [] said r = ap (λ (l : List Answer). length l) r.0
 all_length releases moves old new (w ∷ withheld) said r = released_length (releases old new) (w ∷ withheld) said r.1
+
+-- each is released
+pub all_released : {D : Type 0} (releases : D → D → Withheld → Answer → Type 0) (moves : D → D → Type 0) (old new : D) (withheld : List Withheld) (said : List Answer)
+    → ReleasesAll releases moves old withheld said new → AreReleased (releases old new) withheld said
+all_released releases moves old new [] said r = subst (λ (l : List Answer). AreReleased (releases old new) [] l) (sym r.0) tt
+all_released releases moves old new (w ∷ withheld) said r = r.1
 
 none_before : (xs ys : List ℕ) → xs ++ ys ≡ [] → xs ≡ []
 none_before [] ys e = refl
@@ -245,59 +302,55 @@ breaks_after : (old mid new : Taken) (before more : List Answer) → Gathers old
 breaks_after old mid new before more a b =
     subst (λ (t : List ℕ). DeliversPart old new t) (sym (flat_map-append text before more)) (part_more old mid new (session_text before) (session_text more) a b)
 
--- writing breaks off at an answer, after the earlier ones were written, or there is no memory for its text
-pub tells_until : (end : End) (old mid new : Taken) (before : List Answer) (a : Answer) (later : List Answer) → Gathers old mid before
-    → Tells (Some end) mid new (a ∷ []) → TellsFirst (Some end) old new (before ++ a ∷ later)
-tells_until ends.WriteFault old mid new before a later g t =
-    breaks_after old mid new before (a ∷ later) g
-    (part_of mid new (text a) (session_text later) (subst (λ (u : List ℕ). DeliversPart mid new u) (append-nil (text a)) t))
-tells_until ends.Memory old mid new before a later g t =
-    let alone = one_left t.before t.last a (sym t.these) in record {
-      before = before;
-      last = a;
-      later = later;
-      these = refl;
-      memory = subst (λ (b : Answer). IsTrue (takes_memory b)) alone.1 t.memory;
-      told = subst (λ (r : List Answer). Gathers old new r) (ap (λ (r : List Answer). before ++ r) alone.0 ∙ append-nil before) (gathers_more old mid new before t.before g t.told);
-    }
-  where
-    one_left : (xs : List Answer) (x y : Answer) → xs ++ x ∷ [] ≡ y ∷ [] → (xs ≡ []) × (x ≡ y)
-    one_left [] x y e = (refl, cc e)
-    one_left (z ∷ []) x y e = absurd (cc e)
-    one_left (z ∷ w ∷ xs) x y e = absurd (cc e)
-tells_until ends.Quit old mid new before a later g t = absurd t
-tells_until ends.Limit old mid new before a later g t = absurd t
-tells_until ends.Ended old mid new before a later g t = absurd t
-tells_until ends.ReadFault old mid new before a later g t = absurd t
+-- the answers without entries are written, or the first of them and a part of the next
+pub bare_more : (old mid new : Taken) (before : List Answer) (a : Answer) → Gathers old mid (map bare before) → Writes mid new (text (bare a)) → Gathers old new (map bare (before ++ a ∷ []))
+bare_more old mid new before a g w =
+    subst (λ (l : List Answer). Gathers old new l) (sym (map-append bare before (a ∷ [])))
+    (gathers_more old mid new (map bare before) (bare a ∷ []) g (subst (λ (t : List ℕ). Writes mid new t) (sym (append-nil (text (bare a)))) w))
 
--- no answer stands after one that there is no memory for, if only the last takes memory
-pub tells_short : (end : Option End) (sink sink' : Taken) (said : List Answer) → AreShortButLast said → TellsFirst end sink sink' said → Tells end sink sink' said
-tells_short (Some ends.Memory) sink sink' said short t =
-    let last = none_behind t.before t.last t.later (subst AreShortButLast t.these short) t.memory in record {
-      before = t.before;
-      last = t.last;
-      these = t.these ∙ ap (λ (r : List Answer). t.before ++ t.last ∷ r) last;
-      memory = t.memory;
-      told = t.told;
-    }
-tells_short (None) sink sink' said short t = t
-tells_short (Some ends.WriteFault) sink sink' said short t = t
-tells_short (Some ends.Quit) sink sink' said short t = absurd t
-tells_short (Some ends.Limit) sink sink' said short t = absurd t
-tells_short (Some ends.Ended) sink sink' said short t = absurd t
-tells_short (Some ends.ReadFault) sink sink' said short t = absurd t
+pub bare_broken : (old mid new : Taken) (before : List Answer) (a : Answer) (later : List Answer) → Gathers old mid (map bare before) → DeliversPart mid new (text (bare a)) → DeliversPart old new (session_text (map bare (before ++ a ∷ later)))
+bare_broken old mid new before a later g w =
+    subst (λ (l : List Answer). DeliversPart old new (session_text l)) (sym (map-append bare before (a ∷ later)))
+    (breaks_after old mid new (map bare before) (bare a ∷ map bare later) g (part_of mid new (text (bare a)) (session_text (map bare later)) w))
+
+-- the last answer decides
+pub ends_push : (before : List Answer) (a : Answer) → ends_with_reply (before ++ a ∷ []) ≡ is_reply a.content
+ends_push [] a = refl
+ends_push (b ∷ []) a = refl
+ends_push (b ∷ c ∷ before) a = ends_push (c ∷ before) a
+
+-- the lines of more entries are written, or of some of them a part
+pub entries_more : (old mid new : Taken) (before more : List Entry) → Writes old mid (export_text before) → Writes mid new (export_text more) → Writes old new (export_text (before ++ more))
+entries_more old mid new before more a b =
+    subst (λ (t : List ℕ). Writes old new t) (sym (flat_map-append ended_line before more)) (writes_more old mid new (export_text before) (export_text more) a b)
+
+pub entries_broken : (old mid new : Taken) (before more later : List Entry) → Writes old mid (export_text before) → DeliversPart mid new (export_text more) → DeliversPart old new (export_text (before ++ (more ++ later)))
+entries_broken old mid new before more later a b =
+    subst (λ (t : List ℕ). DeliversPart old new t) (sym (flat_map-append ended_line before (more ++ later) ∙ ap (λ (t : List ℕ). export_text before ++ t) (flat_map-append ended_line more later)))
+    (part_more old mid new (export_text before) (export_text more ++ export_text later) a (part_of mid new (export_text more) (export_text later) b))
+
+-- entries that are cut once more
+pub entries_cut : (n : ℕ) (before left : List Entry) {all : List Entry} → before ++ left ≡ all → (before ++ take n left) ++ drop n left ≡ all
+entries_cut n before left whole = append_assoc before (take n left) (drop n left) ∙ ap (λ (t : List Entry). before ++ t) (take-append-drop n left) ∙ whole
+
+-- the entries are written after the answers, whose text is then whole
+pub tells_whole : (old mid new : Taken) (shown : List ℕ) (said : List Answer) (replied : Bool) → replied ≡ ends_with_reply said → Gathers old mid (map bare said) → Writes mid new (cond replied shown []) → LastShows shown said → Gathers old new said
+tells_whole old mid new shown said replied is g w shows = subst (λ (t : List ℕ). Writes old new t) (told_last shown said replied is shows) (writes_more old mid new (session_text (map bare said)) (cond replied shown []) g w)
+
+-- or writing breaks off within the entries
+pub tells_part : (old mid new : Taken) (shown : List ℕ) (said : List Answer) (replied : Bool) → replied ≡ ends_with_reply said → Gathers old mid (map bare said) → DeliversPart mid new (cond replied shown []) → LastShows shown said → DeliversPart old new (session_text said)
+tells_part old mid new shown said replied is g w shows = subst (λ (t : List ℕ). DeliversPart old new t) (told_last shown said replied is shows) (part_more old mid new (session_text (map bare said)) (cond replied shown []) g w)
+
+-- or before them
+pub tells_front : (old new : Taken) (shown : List ℕ) (said : List Answer) → DeliversPart old new (session_text (map bare said)) → LastShows shown said → DeliversPart old new (session_text said)
+tells_front old new shown said w shows =
+    subst (λ (t : List ℕ). DeliversPart old new t) (told_last shown said (ends_with_reply said) refl shows) (part_of old new (session_text (map bare said)) (cond (ends_with_reply said) shown []) w)
 
 -- the result of writing answers after others
 pub tells_more : (end : Option End) (old mid new : Taken) (before more : List Answer) → Gathers old mid before → Tells end mid new more → Tells end old new (before ++ more)
 tells_more (None) old mid new before more a b = gathers_more old mid new before more a b
 tells_more (Some ends.WriteFault) old mid new before more a b = breaks_after old mid new before more a b
-tells_more (Some ends.Memory) old mid new before more a b = record {
-  before = before ++ b.before;
-  last = b.last;
-  these = ap (λ (t : List Answer). before ++ t) b.these ∙ sym (append_assoc before b.before (b.last ∷ []));
-  memory = b.memory;
-  told = gathers_more old mid new before b.before a b.told;
-}
+tells_more (Some ends.Memory) old mid new before more a b = absurd b
 tells_more (Some ends.Quit) old mid new before more a b = absurd b
 tells_more (Some ends.Limit) old mid new before more a b = absurd b
 tells_more (Some ends.Ended) old mid new before more a b = absurd b
@@ -306,17 +359,17 @@ tells_more (Some ends.ReadFault) old mid new before more a b = absurd b
 pub tells_sound : (end : Option End) (old new : Taken) (said : List Answer) → Tells end old new said → old.failed ≡ false → new.failed ≡ has_write_fault end
 tells_sound (None) old new said t sound = t.failed ∙ sound
 tells_sound (Some ends.WriteFault) old new said t sound = t.failed
-tells_sound (Some ends.Memory) old new said t sound = t.told.failed ∙ sound
+tells_sound (Some ends.Memory) old new said t sound = absurd t
 tells_sound (Some ends.Quit) old new said t sound = absurd t
 tells_sound (Some ends.Limit) old new said t sound = absurd t
 tells_sound (Some ends.Ended) old new said t sound = absurd t
 tells_sound (Some ends.ReadFault) old new said t sound = absurd t
 
--- writing broke off, or there was no memory
+-- writing broke off
 pub broken : (end : End) (limit count : ℕ) (answered left : List (List ℕ)) (said : List Answer) (old new : Taken) → NoQuitBeforeLast answered → Tells (Some end) old new said
     → Stands (Some end) (Gathers old new) limit count answered left said old new
 broken ends.WriteFault limit count answered left said old new quit t = (quit, t)
-broken ends.Memory limit count answered left said old new quit t = (quit, t)
+broken ends.Memory limit count answered left said old new quit t = absurd t
 broken ends.Quit limit count answered left said old new quit t = absurd t
 broken ends.Limit limit count answered left said old new quit t = absurd t
 broken ends.Ended limit count answered left said old new quit t = absurd t
@@ -331,8 +384,7 @@ pub flushes : (end : Option End) (limit count : ℕ) (answered left : List (List
 flushes (None) limit count answered left said old mid new none f s = (s.0, handed_on old mid new said s.1 f)
 flushes (Some ends.Quit) limit count answered left said old mid new none f s = (s.0, handed_on old mid new said s.1 f)
 flushes (Some ends.Limit) limit count answered left said old mid new none f s = (s.0, handed_on old mid new said s.1 f, s.2)
-flushes (Some ends.Memory) limit count answered left said old mid new none f s =
-    (s.0, record { before = s.1.before; last = s.1.last; these = s.1.these; memory = s.1.memory; told = handed_on old mid new s.1.before s.1.told f })
+flushes (Some ends.Memory) limit count answered left said old mid new none f s = absurd s
 flushes (Some ends.WriteFault) limit count answered left said old mid new none f s = absurd (cc none)
 flushes (Some ends.Ended) limit count answered left said old mid new none f s = absurd s
 flushes (Some ends.ReadFault) limit count answered left said old mid new none f s = absurd s
@@ -344,7 +396,7 @@ unflushed (Some ends.WriteFault) limit count answered left said old new fault s 
 unflushed (None) limit count answered left said old new fault s = absurd (cc fault)
 unflushed (Some ends.Quit) limit count answered left said old new fault s = absurd (cc fault)
 unflushed (Some ends.Limit) limit count answered left said old new fault s = absurd (cc fault)
-unflushed (Some ends.Memory) limit count answered left said old new fault s = absurd (cc fault)
+unflushed (Some ends.Memory) limit count answered left said old new fault s = absurd s
 unflushed (Some ends.Ended) limit count answered left said old new fault s = absurd s
 unflushed (Some ends.ReadFault) limit count answered left said old new fault s = absurd s
 
@@ -365,18 +417,7 @@ pub flush_fails : (end : Option End) (limit count : ℕ) (answered left : List (
 flush_fails (None) limit count answered left said old mid new none f s = (inl s.0.no_quit, all_gathered old mid new said s.1 f)
 flush_fails (Some ends.Quit) limit count answered left said old mid new none f s = (inr s.0, all_gathered old mid new said s.1 f)
 flush_fails (Some ends.Limit) limit count answered left said old mid new none f s = (inl s.0, all_gathered old mid new said s.1 f)
-flush_fails (Some ends.Memory) limit count answered left said old mid new none f s =
-    let part = all_gathered old mid new s.1.before s.1.told f in (
-      s.0,
-      record {
-        written = session_text s.1.before;
-        unwritten = text s.1.last;
-        cut = ap session_text s.1.these ∙ sym (flat_map_more text [] s.1.before s.1.last);
-        bytes = part.bytes;
-        flushed = part.flushed;
-        failed = f.failed;
-      },
-    )
+flush_fails (Some ends.Memory) limit count answered left said old mid new none f s = absurd s
 flush_fails (Some ends.WriteFault) limit count answered left said old mid new none f s = absurd (cc none)
 flush_fails (Some ends.Ended) limit count answered left said old mid new none f s = absurd s
 flush_fails (Some ends.ReadFault) limit count answered left said old mid new none f s = absurd s

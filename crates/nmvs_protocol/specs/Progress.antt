@@ -1,5 +1,5 @@
 -- The state of a session between its lines and between its reads (own).
-use Rattle.std.specs.Prelude.{◌≡◌, ◌≤◌, ◌<◌, ◌+◌, ℕ, Bool, false, List, [], ◌∷◌, ◌++◌, length, map, Option, Some, None, IsTrue}
+use Rattle.std.specs.Prelude.{◌≡◌, ◌≤◌, ◌<◌, ◌+◌, ℕ, Bool, false, List, [], ◌∷◌, ◌++◌, length, map, Option, Some, None}
 use Rattle.nmvs_stream.specs.Sink.{Taken}
 use Rattle.nmvs_stream.specs.Delivery.{Writes, Delivers, DeliversPart}
 use Rattle.nmvs_messages.specs.declared.ask.Ask.{Ask}
@@ -10,14 +10,13 @@ use Rattle.nmvs_protocol.specs.declared.session.Session.{Session}
 use Rattle.nmvs_messages.specs.declared.withheld.Withheld.{Withheld}
 use Rattle.nmvs_stream.specs.InputLines.{lines_after, rest_after}
 use Rattle.nmvs_messages.specs.PendingLines.{kept_part}
-use Rattle.nmvs_messages.specs.Withheld.{answer_of, takes_memory}
-use Rattle.nmvs_protocol.specs.Session.{TakesLines, ReleasesAll, AnswersLines, AnswersAll, NoQuit, EndsWithQuit, NoQuitBeforeLast, LacksLast, session_text, is_write_fault}
+use Rattle.nmvs_messages.specs.Withheld.{answer_of}
+use Rattle.nmvs_protocol.specs.Session.{TakesLines, ReleasesAll, AnswersLines, AnswersAll, NoQuit, EndsWithQuit, NoQuitBeforeLast, session_text, is_write_fault}
+use Rattle.nmvs_protocol.specs.Texts.{last_showing}
 
--- only the last of these answers, if any, has a text that takes memory
-abbrev pub AreShortButLast : List Answer → Type 0
-AreShortButLast [] = Unit {0}
-AreShortButLast (a ∷ []) = Unit {0}
-AreShortButLast (a ∷ b ∷ more) = (takes_memory a ≡ false) × AreShortButLast (b ∷ more)
+-- only the last of these answers may show entries, with this text if it is a reply
+abbrev pub LastShows : List ℕ → List Answer → Type 0
+LastShows shown answers = last_showing shown answers ≡ answers
 
 -- the sink took the text of these answers, and a flush is still to come
 abbrev pub Gathers : Taken → Taken → List Answer → Type 0
@@ -31,32 +30,19 @@ Delivered sink sink' said = Delivers sink sink' (session_text said)
 abbrev pub Tells : Option End → Taken → Taken → List Answer → Type 0
 Tells (None) sink sink' said = Gathers sink sink' said
 Tells (Some ends.WriteFault) sink sink' said = DeliversPart sink sink' (session_text said)
-Tells (Some ends.Memory) sink sink' said = LacksLast (Gathers sink sink') said
+Tells (Some ends.Memory) sink sink' said = ⊥
 Tells (Some ends.Quit) sink sink' said = ⊥
 Tells (Some ends.Limit) sink sink' said = ⊥
 Tells (Some ends.Ended) sink sink' said = ⊥
 Tells (Some ends.ReadFault) sink sink' said = ⊥
 
--- the first of these answers are written in this way; the text of the next takes memory, and is missing with those after it
-pub record LacksRest (tells : List Answer → Type 0) (said : List Answer) : Type 0 where
-  pub before : List Answer
-  pub last : Answer
-  pub later : List Answer
-  pub these : said ≡ before ++ last ∷ later
-  pub memory : IsTrue (takes_memory last)
-  pub told : tells before
-
--- the result of writing the text of any answers
-abbrev pub TellsFirst : Option End → Taken → Taken → List Answer → Type 0
-TellsFirst (Some ends.Memory) sink sink' said = LacksRest (Gathers sink sink') said
-TellsFirst end sink sink' said = Tells end sink sink' said
-
--- the result of releasing and writing the withheld answers, and the desk after it; without such answers the desk is not asked
-abbrev pub TellsWithheld : {D : Type 0} → (D → D → Withheld → Answer → Type 0) → (D → D → Type 0) → List Withheld → D → D → Option End → Taken → Taken → Type 0
-TellsWithheld releases moves [] old new end sink sink' = (new ≡ old) × (end ≡ None) × (sink' ≡ sink)
-TellsWithheld releases moves (w ∷ withheld) old new end sink sink' =
+-- the result of releasing and writing the withheld answers, the last of which shows this text, and the desk after it; without
+-- such answers the desk is not asked
+abbrev pub TellsWithheld : {D : Type 0} → (D → D → Withheld → Answer → Type 0) → (D → D → Type 0) → List ℕ → List Withheld → D → D → Option End → Taken → Taken → Type 0
+TellsWithheld releases moves shown [] old new end sink sink' = (new ≡ old) × (end ≡ None) × (sink' ≡ sink)
+TellsWithheld releases moves shown (w ∷ withheld) old new end sink sink' =
     (said : List Answer) × ReleasesAll releases moves old (w ∷ withheld) said new
-    × (AreShortButLast (map answer_of (w ∷ withheld)) → Tells end sink sink' said)
+    × (LastShows shown (map answer_of (w ∷ withheld)) → Tells end sink sink' said)
 
 -- another whole line is there, and no more may be answered
 pub record LimitReached (count limit : ℕ) (left : List (List ℕ)) : Type 0 where
@@ -74,8 +60,8 @@ Halts (Some ends.Ended) limit count taken begun left = ⊥
 Halts (Some ends.ReadFault) limit count taken begun left = ⊥
 
 -- a session took the lines that these bytes complete, after the line that was begun, and added their answers to those that were
--- withheld; these bytes are left
-pub record Took {D : Type 0} (takes : D → Ask → Withheld → D → Type 0) (session : Session) (desk : D) (withheld : List Withheld) (begun bytes left : List ℕ) (session' : Session) (desk' : D) (withheld' : List Withheld) (end : Option End) : Type 0 where
+-- withheld; these bytes are left. The last of those answers shows this text
+pub record Took {D : Type 0} (takes : D → Ask → Withheld → D → Type 0) (session : Session) (desk : D) (withheld : List Withheld) (begun bytes left : List ℕ) (session' : Session) (desk' : D) (withheld' : List Withheld) (end : Option End) (shown : List ℕ) : Type 0 where
   pub held : List Withheld
   pub behind : withheld' ≡ withheld ++ held
   pub answers : TakesLines takes desk (lines_after begun bytes) held desk'
@@ -83,7 +69,8 @@ pub record Took {D : Type 0} (takes : D → Ask → Withheld → D → Type 0) (
   pub counted : session'.answered ≡ session.answered + length held
   pub limit : session'.limit ≡ session.limit
   pub within : session'.answered ≤ session.limit
-  pub short : AreShortButLast (map answer_of held)
+  pub shows : LastShows shown (map answer_of held)
+  pub none : held ≡ [] → shown ≡ []
   pub halts : Halts end session.limit session'.answered (lines_after begun bytes) (rest_after begun bytes) left
 
 -- the answers that may be given after some bytes; None means that the session goes on
@@ -92,7 +79,7 @@ Stands (None) tells limit count answered left said sink sink' = AnswersAll answe
 Stands (Some ends.Quit) tells limit count answered left said sink sink' = EndsWithQuit answered × tells said
 Stands (Some ends.WriteFault) tells limit count answered left said sink sink' = NoQuitBeforeLast answered × DeliversPart sink sink' (session_text said)
 Stands (Some ends.Limit) tells limit count answered left said sink sink' = NoQuit answered × tells said × LimitReached count limit left
-Stands (Some ends.Memory) tells limit count answered left said sink sink' = NoQuitBeforeLast answered × LacksLast tells said
+Stands (Some ends.Memory) tells limit count answered left said sink sink' = ⊥
 Stands (Some ends.Ended) tells limit count answered left said sink sink' = ⊥
 Stands (Some ends.ReadFault) tells limit count answered left said sink sink' = ⊥
 

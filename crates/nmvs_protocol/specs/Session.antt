@@ -1,5 +1,5 @@
 -- Sessions: the lines that were answered and their answers, the bytes that were written, and the meaning of each end (own).
-use Rattle.std.specs.Prelude.{◌≡◌, ◌≢◌, ◌<◌, ◌≤◌, ◌+◌, ◌⊎◌, ℕ, Bool, true, false, List, [], ◌∷◌, ◌++◌, length, All, Result, Ok, Err, IsTrue}
+use Rattle.std.specs.Prelude.{◌≡◌, ◌≢◌, ◌<◌, ◌≤◌, ◌+◌, ◌⊎◌, ℕ, Bool, true, false, List, [], ◌∷◌, ◌++◌, length, All, Result, Ok, Err}
 use Rattle.std.specs.List.{flat_map}
 use Rattle.nmvs_stream.specs.Source.{Told}
 use Rattle.nmvs_stream.specs.Sink.{Taken}
@@ -13,7 +13,7 @@ use Rattle.nmvs_messages.specs.declared.withheld.Withheld.{Withheld}
 use Rattle.nmvs_messages.specs.declared.limits.Limits.{Limits}
 use Rattle.nmvs_messages.specs.declared.end.End.{End}
 use Rattle.nmvs_messages.specs.declared.end.End.TheVariants as ends
-use Rattle.nmvs_messages.specs.Withheld.{AreReleased, plain, tagged, takes_memory}
+use Rattle.nmvs_messages.specs.Withheld.{AreReleased, plain, tagged}
 use Rattle.nmvs_protocol.specs.Lines.{line_text, ReadsLine}
 use Rattle.nmvs_protocol.specs.Texts.{text}
 use Rattle.nmvs_stream.specs.InputLines.{input_lines}
@@ -118,14 +118,6 @@ pub record BreaksOff (old new : Taken) (input : List ℕ) (said : List Answer) :
   pub bytes : new.bytes ≡ old.bytes ++ session_text before ++ written
   pub flushed : written ≡ [] → 0 < length before → new.flushed ≡ true
 
--- all of these answers but the last are written in this way; the text of the last takes memory, and is missing
-pub record LacksLast (tells : List Answer → Type 0) (said : List Answer) : Type 0 where
-  pub before : List Answer
-  pub last : Answer
-  pub these : said ≡ before ++ last ∷ []
-  pub memory : IsTrue (takes_memory last)
-  pub told : tells before
-
 -- all lines are answered, and none was QUIT
 pub record AnswersAll (answered left : List (List ℕ)) : Type 0 where
   pub all : left ≡ []
@@ -149,7 +141,7 @@ Closes ends.ReadFault limits input answered left said source source' sink sink' 
 Closes ends.WriteFault limits input answered left said source source' sink sink' = NoQuitBeforeLast answered × BreaksOff sink sink' input said
 Closes ends.Limit limits input answered left said source source' sink sink' =
     NoQuit answered × DeliversAll sink sink' said × (LineLimit limits.lines left said ⊎ ReadLimit limits.reads left source source')
-Closes ends.Memory limits input answered left said source source' sink sink' = NoQuitBeforeLast answered × LacksLast (DeliversAll sink sink') said
+Closes ends.Memory limits input answered left said source source' sink sink' = (source' ≡ source) × (sink' ≡ sink)
 
 -- the end of the input was read at this end alone
 abbrev pub is_input_end : End → Bool

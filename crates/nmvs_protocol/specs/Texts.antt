@@ -1,5 +1,5 @@
 -- The text of each answer: words and values joined by single spaces, then LF; entry lines and reports as they are (own).
-use Rattle.std.specs.Prelude.{ℕ, List, [], ◌∷◌, ◌++◌, codes, Option, Some}
+use Rattle.std.specs.Prelude.{ℕ, Bool, true, false, List, [], ◌∷◌, ◌++◌, codes, Option, Some}
 use Rattle.std.specs.List.{flat_map}
 use Rattle.nmvs_identifier.specs.Tag.{Tag}
 use Rattle.nmvs_stream.specs.InputLines.{input_lines}
@@ -48,7 +48,7 @@ help_text = flat_map (λ line. codes "HELP " ++ (line ++ 10 ∷ [])) help_lines
 
 -- the text of the answer to a line without a tag
 unfoldable pub content_text : Content → List ℕ
-content_text (contents.Replied r shown) = reply_text r shown
+content_text (contents.Replied r shown) = spaced (reply_words r) ++ shown
 content_text (contents.Reported t) = t
 content_text (contents.Turned t) = spaced (codes "FAULT" ∷ turn_word t ∷ [])
 content_text (contents.Unread f) = spaced (codes "FAULT" ∷ fault_word f ∷ [])
@@ -69,3 +69,29 @@ tagged_text g content = tag_text g ++ content_text content
 -- the text of an answer
 unfoldable pub text : Answer → List ℕ
 text a = tagged_text a.tag a.content
+
+-- this content, with this text of entries if it is a reply
+abbrev pub showing : List ℕ → Content → Content
+showing shown (contents.Replied r _) = contents.Replied r shown
+showing shown content = content
+
+-- an answer without the entries that it shows
+abbrev pub bare : Answer → Answer
+bare a = record a { content = showing [] a.content }
+
+-- these answers, where the last one shows this text if it is a reply, and no other shows any
+abbrev pub last_showing : List ℕ → List Answer → List Answer
+last_showing shown [] = []
+last_showing shown (a ∷ []) = record a { content = showing shown a.content } ∷ []
+last_showing shown (a ∷ b ∷ more) = bare a ∷ last_showing shown (b ∷ more)
+
+-- whether this is a reply
+abbrev pub is_reply : Content → Bool
+is_reply (contents.Replied r shown) = true
+is_reply _ = false
+
+-- whether the last of these answers is a reply
+abbrev pub ends_with_reply : List Answer → Bool
+ends_with_reply [] = false
+ends_with_reply (a ∷ []) = is_reply a.content
+ends_with_reply (a ∷ b ∷ more) = ends_with_reply (b ∷ more)

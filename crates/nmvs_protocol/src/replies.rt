@@ -1,10 +1,9 @@
 //! The texts of answers.
-ghost use Rattle.std.specs.Prelude.{◌≡◌, ◌≤◌, ◌<◌, [], ◌∷◌, length, map, IfOk, OnErr, IsTrue, string_bytes};
+ghost use Rattle.std.specs.Prelude.{◌≡◌, ◌≤◌, [], ◌∷◌, length, map, IfOk, string_bytes};
 ghost use Rattle.std.specs.Fmt.{decimal};
 ghost use Rattle.nmvs_words.specs.Words.{spaced};
-ghost use Rattle.nmvs_messages.specs.Withheld.{content_takes_memory};
 ghost use Rattle.nmvs_messages.specs.Words.{reply_words};
-ghost use Rattle.nmvs_protocol.specs.Texts.{content_text, reply_text as text_of_reply};
+ghost use Rattle.nmvs_protocol.specs.Texts.{content_text, reply_text as text_of_reply, showing};
 ghost use Rattle.nmvs_protocol.specs.Wordings.{wording_text};
 
 use crate::help::help;
@@ -43,17 +42,13 @@ pub fn reply_text(alloc: Global, reply: &Reply, shown: &[Entry]) -> Result<Strin
     Ok(text)
 }
 
-/// The text of an answer's content, without a tag, with its last LF. Only a shown audit takes memory.
+/// The text of an answer's content without a tag and without the entries that it shows, with its last LF.
 #[tactic(auto, unfolding(crate::specs::Texts::content_text))]
-pub(crate) fn wording<'w>(
-    alloc: Global,
-    content: &'w Content<'_>,
-) -> Result<Wording<'w>, AllocError>
-    ensures text { IfOk result (λ wording. wording_text wording ≡ content_text content.now) }
-    ensures memory { OnErr result (IsTrue (content_takes_memory content.now)) }
+pub(crate) fn wording(content: &Content) -> Wording<'_>
+    ensures { wording_text result ≡ content_text (showing [] content.now) }
 {
-    Ok(match content {
-        Content::Replied(reply, shown) => reply_wording(alloc, reply, shown.entries())?,
+    match content {
+        Content::Replied(reply, _) => Wording::Composed(reply_line(reply)),
         Content::Reported(report) => Wording::Lent(report.text()),
         Content::Turned(turn) => Wording::Composed(in_words("FAULT", &[word_of_turn(*turn)])),
         Content::Unread(fault) => Wording::Composed(in_words("FAULT", &[word_of_fault(*fault)])),
@@ -61,23 +56,7 @@ pub(crate) fn wording<'w>(
         Content::Version => Wording::Composed(in_words("VERSION", &[VERSION])),
         Content::Help => Wording::Lent(help()),
         Content::Bye => Wording::Composed(in_words("BYE", &[])),
-    })
-}
-
-/// The text of a reply, composed in place if it shows no entry.
-fn reply_wording<'w>(
-    alloc: Global,
-    reply: &Reply,
-    shown: &[Entry],
-) -> Result<Wording<'w>, AllocError>
-    ensures text { IfOk result (λ wording.
-        wording_text wording ≡ text_of_reply reply.now shown.now) }
-    ensures memory { OnErr result (0 < length shown.now) }
-{
-    if shown.is_empty() {
-        return Ok(Wording::Composed(reply_line(reply)));
     }
-    Ok(Wording::Made(reply_text(alloc, reply, shown)?))
 }
 
 fn reply_line(reply: &Reply) -> ArrayString<LONGEST_REPLY>

@@ -1,5 +1,5 @@
 //! Sessions over a source of bytes.
-ghost use Rattle.std.specs.Prelude.{◌≡◌, ◌≤◌, ◌++◌, List, ℕ, false, IfNone};
+ghost use Rattle.std.specs.Prelude.{◌≡◌, ◌≤◌, ◌<◌, ◌++◌, List, ℕ, false, IfNone, vec_capacity};
 ghost use Rattle.nmvs_stream.specs.Sink.{Taken};
 ghost use Rattle.nmvs_stream.specs.InputLines.{lines_after, unfinished_line};
 ghost use Rattle.nmvs_protocol.specs.Session.{Session as TheSession};
@@ -7,16 +7,18 @@ ghost use Rattle.nmvs_messages.specs.PendingLines.{kept_part};
 ghost use Rattle.nmvs_messages.specs.Peers.{TakesFrom};
 ghost use Rattle.nmvs_protocol.specs.Progress.{Served, has_write_fault};
 
-use crate::Session;
+use crate::{PIECE, Session};
 use nmvs_messages::{Desk, End, Limits, Peer, READ_SIZE, WithheldAnswers};
+use nmvs_rules::Entry;
 use nmvs_stream::{Failed, Sink, Source};
 use std::alloc::Global;
 
 /// Serves a session of a peer: answers the lines of the source in order. The answers to the whole lines of one read are written
 /// together. They are flushed before the next read and before the session ends (own).
 ///
-/// Bytes after the last LF get no answer. QUIT ends the session. [`Session::feed`] has the limits of memory and of lines.
-pub fn serve<'a, R: Source, W: Sink, D: Desk<'a>>(
+/// Bytes after the last LF get no answer. QUIT ends the session. [`Session::feed`] has the limit of lines. Without memory for one
+/// piece of a list nothing is read.
+pub fn serve<R: Source, W: Sink, D: Desk>(
     alloc: Global,
     source: &mut R,
     sink: &mut W,
@@ -30,6 +32,9 @@ pub fn serve<'a, R: Source, W: Sink, D: Desk<'a>>(
     ensures { TheSession (TakesFrom D.takes from.now) D.releases D.moves limits desk.old (R.told source.old) (W.taken sink.old)
         desk.new (R.told source.new) (W.taken sink.new) result }
 {
+    let Ok(mut piece) = Vec::with_capacity(alloc, PIECE) else {
+        return End::Memory;
+    };
     let mut session = Session::new(limits.lines);
     let mut withheld = WithheldAnswers::new();
     let mut buffer = [0; READ_SIZE];
@@ -39,7 +44,15 @@ pub fn serve<'a, R: Source, W: Sink, D: Desk<'a>>(
             Ok(0) => return End::Ended,
             Ok(count) => {
                 let chunk = &buffer[..count];
-                match serve_read(alloc, &mut session, chunk, &mut withheld, sink, from, desk) {
+                match serve_read(
+                    &mut session,
+                    chunk,
+                    &mut withheld,
+                    &mut piece,
+                    sink,
+                    from,
+                    desk,
+                ) {
                     Some(end) => return end,
                     None => {}
                 }
@@ -50,22 +63,24 @@ pub fn serve<'a, R: Source, W: Sink, D: Desk<'a>>(
 }
 
 /// Feeds the bytes of one read to the session, and flushes the answers.
-fn serve_read<'a, W: Sink, D: Desk<'a>>(
-    alloc: Global,
+fn serve_read<W: Sink, D: Desk>(
     session: &mut Session,
     chunk: &[u8],
-    withheld: &mut WithheldAnswers<'a>,
+    withheld: &mut WithheldAnswers,
+    piece: &mut Vec<Entry>,
     sink: &mut W,
     from: &Peer,
     desk: &mut D,
 ) -> Option<End>
-    ensures { (fed : List ℕ) → session.old.line ≡ kept_part (unfinished_line fed) → session.old.answered ≤ session.old.limit
+    requires room { 0 < vec_capacity piece.old }
+    ensures room { vec_capacity piece.new ≡ vec_capacity piece.old }
+    ensures served { (fed : List ℕ) → session.old.line ≡ kept_part (unfinished_line fed) → session.old.answered ≤ session.old.limit
         → (W.taken sink.old).failed ≡ false
         → Served (TakesFrom D.takes from.now) D.releases D.moves session.old desk.old (W.taken sink.old) (lines_after (unfinished_line fed) chunk.now)
         session.new desk.new (W.taken sink.new) result
         × IfNone result (session.new.line ≡ kept_part (unfinished_line (fed ++ chunk.now))) }
 {
-    let fed = session.feed(alloc, chunk, withheld, sink, from, desk);
+    let fed = session.feed(chunk, withheld, piece, sink, from, desk);
     if is_write_fault(fed) {
         return fed;
     }

@@ -1,23 +1,29 @@
 //! A session that takes bytes.
-ghost use Rattle.std.specs.Prelude.{◌≡◌, ◌==◌, ◌≤◌, ◌<◌, ◌-◌, ◌++◌, ◌∷◌, ◌↔◌, [], List, ℕ, Ok, IsTrue, IfNone, OnOk, OnErr, not, length, take, drop};
+ghost use Rattle.std.specs.Prelude.{◌≡◌, ◌==◌, ◌≤◌, ◌<◌, ◌-◌, ◌++◌, ◌↔◌, [], List, ℕ, Ok, IsTrue, IfNone, IfOk, OnOk, OnErr, if◌then◌else◌, not, length, map, take, drop, vec_capacity};
 ghost use Rattle.nmvs_stream.specs.Delivery.{Writes, DeliversPart};
 ghost use Rattle.nmvs_stream.specs.InputLines.{lines_after, unfinished_line};
 ghost use Rattle.nmvs_protocol.specs.Lines.{line_text};
-ghost use Rattle.nmvs_protocol.specs.Session.{Answers, TakesLine};
-ghost use Rattle.nmvs_protocol.specs.Texts.{content_text, lines_behind, text};
+ghost use Rattle.nmvs_line.specs.Export.{ended_line, export_text};
+ghost use Rattle.nmvs_protocol.specs.Session.{Answers, TakesLine, session_text};
+ghost use Rattle.nmvs_protocol.specs.Texts.{bare, content_text, ends_with_reply, is_reply, lines_behind, showing, text};
 ghost use Rattle.nmvs_messages.specs.PendingLines.{kept_part};
 ghost use Rattle.nmvs_messages.specs.Peers.{TakesFrom};
-ghost use Rattle.nmvs_protocol.specs.Progress.{Fed, Took, Tells, TellsFirst, TellsWithheld};
+ghost use Rattle.nmvs_messages.specs.Withheld.{shown_text, text_left};
+ghost use Rattle.nmvs_protocol.specs.Progress.{Fed, Took, TellsWithheld};
 
 use crate::read_line;
 use crate::replies::wording;
 use crate::tags::tag_text;
+use nmvs_line::entry_line;
 use nmvs_messages::{
-    Answer, Content, Desk, End, Line, Peer, PendingLine, Released, Unread, Withheld,
+    Answer, Content, Desk, End, EntryList, Line, Peer, PendingLine, Released, Unread, Withheld,
     WithheldAnswers,
 };
+use nmvs_rules::Entry;
 use nmvs_stream::{Failed, Sink, cut_line, write_all};
-use std::alloc::Global;
+
+/// The most entries of a list that are fetched and written together (own).
+pub const PIECE: usize = 32;
 
 /// The state of a session: the line that was begun, the number of lines that were answered, and the limit of that number.
 #[derive(Drop)]
@@ -28,12 +34,14 @@ pub struct Session {
 }
 
 /// The progress of a session through some bytes.
-#[derive(Clone, Copy, Debug, PartialEq, Eq)]
-pub struct Taking {
+#[derive(Drop)]
+pub struct Taking<L: EntryList> {
     /// The number of bytes that it took, from the front.
     pub bytes: usize,
     /// The end of the session after its answers are written, if it ends.
     pub end: Option<End>,
+    /// The entries that the last of the answers shows, if it shows any.
+    pub list: Option<L>,
 }
 
 impl Session {
@@ -61,21 +69,22 @@ impl Session {
     /// to the sink, and leaves the flush to the caller. It takes lines until no more answers can be withheld, and then releases
     /// those together.
     ///
-    /// A line of more than 200 bytes is answered once, at its LF, and takes no memory. Only the text of a shown audit takes
-    /// memory, since it may be of any length. A report and the help are written as they are, and all other texts are composed
-    /// in place.
+    /// A line of more than 200 bytes is answered once, at its LF. No text takes memory: a report and the help are written as
+    /// they are, the entries of a shown audit a piece at a time, and all other texts are composed in place.
     ///
     /// `None` means that the session goes on. Else it has this end, and takes no more bytes.
-    pub fn feed<'a, W: Sink, D: Desk<'a>>(
+    pub fn feed<W: Sink, D: Desk>(
         &mut self,
-        alloc: Global,
         more: &[u8],
-        withheld: &mut WithheldAnswers<'a>,
+        withheld: &mut WithheldAnswers,
+        piece: &mut Vec<Entry>,
         sink: &mut W,
         from: &Peer,
         desk: &mut D,
     ) -> Option<End>
-        ensures { (fed : List ℕ) → self.old.line ≡ kept_part (unfinished_line fed) → self.old.answered ≤ self.old.limit
+        requires room { 0 < vec_capacity piece.old }
+        ensures room { vec_capacity piece.new ≡ vec_capacity piece.old }
+        ensures fed { (fed : List ℕ) → self.old.line ≡ kept_part (unfinished_line fed) → self.old.answered ≤ self.old.limit
             → Fed (TakesFrom D.takes from.now) D.releases D.moves self.old desk.old (W.taken sink.old) (lines_after (unfinished_line fed) more.now)
             self.new desk.new (W.taken sink.new) result
             × IfNone result (self.new.line ≡ kept_part (unfinished_line (fed ++ more.now))) }
@@ -84,75 +93,79 @@ impl Session {
         let mut rest = more;
         while !rest.is_empty() {
             let taking = self.take(rest, withheld, from, desk);
-            match tell(alloc, withheld, sink, desk) {
+            let Taking { bytes, end, list } = taking;
+            match tell(withheld, list, piece, sink, desk) {
                 Some(end) => return Some(end),
                 None => {}
             }
-            match taking.end {
+            match end {
                 Some(end) => return Some(end),
-                None => rest = &rest[taking.bytes..],
+                None => rest = &rest[bytes..],
             }
         }
         None
     }
 
     /// Takes the lines that these bytes of a peer complete, after the earlier bytes, and adds their answers to the withheld
-    /// ones. It stops after a line whose answer may be long, and before a line whose answer finds no room.
+    /// ones. It stops after a line whose answer may be long or shows entries, and before a line whose answer finds no room.
     ///
     /// After those answers are written, the session goes on with the bytes that are left, or has ended.
-    pub fn take<'a, D: Desk<'a>>(
+    pub fn take<D: Desk>(
         &mut self,
         more: &[u8],
-        withheld: &mut WithheldAnswers<'a>,
+        withheld: &mut WithheldAnswers,
         from: &Peer,
         desk: &mut D,
-    ) -> Taking
+    ) -> Taking<D::List>
         ensures within { result.bytes ≤ length more.now }
         ensures moves { 0 < length more.now → withheld.old ≡ [] → IfNone result.end (0 < result.bytes) }
         ensures takes { (begun : List ℕ) → self.old.line ≡ kept_part begun → self.old.answered ≤ self.old.limit
             → Took (TakesFrom D.takes from.now) self.old desk.old withheld.old begun (take result.bytes more.now) (drop result.bytes more.now)
-            self.new desk.new withheld.new result.end }
+            self.new desk.new withheld.new result.end (text_left D.List.left result.list) }
     {
         let mut rest = more;
         while let Some((tail, behind)) = cut_line(rest) {
             if self.answered >= self.limit {
-                return taken_until(more, rest, Some(End::Limit));
+                return taken_until(more, rest, Some(End::Limit), None);
             }
             if withheld.is_full() {
-                return taken_until(more, rest, None);
+                return taken_until(more, rest, None, None);
             }
             rest = behind;
-            let (answer, quits) = self.take_tail(tail, from, desk);
+            let (answer, list, quits) = self.take_tail(tail, from, desk);
             let is_long = answer.is_long();
             withheld.push(answer);
             self.answered += 1;
             if quits {
-                return taken_until(more, rest, Some(End::Quit));
+                return taken_until(more, rest, Some(End::Quit), list);
             }
-            if is_long {
-                return taken_until(more, rest, None);
+            if is_long || list.is_some() {
+                return taken_until(more, rest, None, list);
             }
         }
         self.line.extend(rest);
         Taking {
             bytes: more.len(),
             end: None,
+            list: None,
         }
     }
 
-    /// Takes the line that these bytes end. The second value is whether it is QUIT.
-    fn take_tail<'a, D: Desk<'a>>(
+    /// Takes the line that these bytes end. With its answer comes the list of the entries that it shows. The third value is
+    /// whether it is QUIT.
+    fn take_tail<D: Desk>(
         &mut self,
         tail: &[u8],
         from: &Peer,
         desk: &mut D,
-    ) -> (Withheld<'a>, bool)
+    ) -> (Withheld, Option<D::List>, bool)
         ensures begun { self.new.line ≡ [] }
         ensures counts { (self.new.answered ≡ self.old.answered) × (self.new.limit ≡ self.old.limit) }
         ensures takes { (begun : List ℕ) → self.old.line ≡ kept_part begun
             → TakesLine (TakesFrom D.takes from.now) desk.old (begun ++ tail.now) result.0 desk.new }
+        ensures shows { shown_text result.0 ≡ text_left D.List.left result.1 }
         ensures quit { (begun : List ℕ) → self.old.line ≡ kept_part begun
-            → (IsTrue result.1 ↔ (begun ++ tail.now ≡ line_text Line.Quit)) }
+            → (IsTrue result.2 ↔ (begun ++ tail.now ≡ line_text Line.Quit)) }
     {
         // A line that lies in one read is not copied.
         if self.line.is_empty() {
@@ -166,48 +179,60 @@ impl Session {
 }
 
 /// The progress through some bytes of which these are left.
-fn taken_until(more: &[u8], left: &[u8], end: Option<End>) -> Taking
+fn taken_until<L: EntryList>(
+    more: &[u8],
+    left: &[u8],
+    end: Option<End>,
+    list: Option<L>,
+) -> Taking<L>
     requires { length left.now ≤ length more.now }
-    ensures { result ≡ record { bytes = length more.now - length left.now; end = end } }
+    ensures bytes { result.bytes ≡ length more.now - length left.now }
+    ensures end { result.end ≡ end }
+    ensures list { result.list ≡ list }
 {
     Taking {
         bytes: more.len() - left.len(),
         end,
+        list,
     }
 }
 
-/// Takes a line, given with at least its kept bytes. The second value is whether it is QUIT.
-fn take_line<'a, D: Desk<'a>>(line: &[u8], from: &Peer, desk: &mut D) -> (Withheld<'a>, bool)
+/// Takes a line, given with at least its kept bytes. With its answer comes the list of the entries that it shows. The third
+/// value is whether it is QUIT.
+fn take_line<D: Desk>(line: &[u8], from: &Peer, desk: &mut D) -> (Withheld, Option<D::List>, bool)
     ensures takes { (x : List ℕ) → kept_part line.now ≡ kept_part x → TakesLine (TakesFrom D.takes from.now) desk.old x result.0 desk.new }
-    ensures quit { (x : List ℕ) → kept_part line.now ≡ kept_part x → (IsTrue result.1 ↔ (x ≡ line_text Line.Quit)) }
+    ensures shows { shown_text result.0 ≡ text_left D.List.left result.1 }
+    ensures quit { (x : List ℕ) → kept_part line.now ≡ kept_part x → (IsTrue result.2 ↔ (x ≡ line_text Line.Quit)) }
 {
     let reading = read_line(line);
-    let withheld = answer(&reading, from, desk);
-    (withheld, is_quit(&reading))
+    let (withheld, list) = answer(&reading, from, desk);
+    (withheld, list, is_quit(&reading))
 }
 
-/// The answer to a reading. PING, VERSION, HELP and QUIT are answered without the desk.
-fn answer<'a, D: Desk<'a>>(
+/// The answer to a reading, and the list of the entries that it shows. PING, VERSION, HELP and QUIT are answered without the
+/// desk.
+fn answer<D: Desk>(
     reading: &Result<Line, Unread>,
     from: &Peer,
     desk: &mut D,
-) -> Withheld<'a>
-    ensures { Answers (TakesFrom D.takes from.now) desk.old reading.now result desk.new }
+) -> (Withheld, Option<D::List>)
+    ensures answers { Answers (TakesFrom D.takes from.now) desk.old reading.now result.0 desk.new }
+    ensures shows { shown_text result.0 ≡ text_left D.List.left result.1 }
 {
     match reading {
         Ok(Line::Ask(ask)) => {
-            let mut withheld = desk.take(from, ask);
+            let (mut withheld, list) = desk.take(from, ask);
             withheld.set_tag(ask.tag);
-            withheld
+            (withheld, list)
         }
-        Ok(Line::Ping) => Withheld::new(Content::Pong),
-        Ok(Line::Version) => Withheld::new(Content::Version),
-        Ok(Line::Help) => Withheld::new(Content::Help),
-        Ok(Line::Quit) => Withheld::new(Content::Bye),
+        Ok(Line::Ping) => (Withheld::new(Content::Pong), None),
+        Ok(Line::Version) => (Withheld::new(Content::Version), None),
+        Ok(Line::Help) => (Withheld::new(Content::Help), None),
+        Ok(Line::Quit) => (Withheld::new(Content::Bye), None),
         Err(Unread { tag, fault }) => {
             let mut withheld = Withheld::new(Content::Unread(*fault));
             withheld.set_tag(*tag);
-            withheld
+            (withheld, None)
         }
     }
 }
@@ -218,62 +243,70 @@ fn is_quit(reading: &Result<Line, Unread>) -> bool
     matches!(reading, Ok(Line::Quit))
 }
 
-/// Releases the withheld answers, and writes their texts. No answer is withheld then.
-fn tell<'a, W: Sink, D: Desk<'a>>(
-    alloc: Global,
-    withheld: &mut WithheldAnswers<'a>,
+/// Releases the withheld answers, and writes their texts. The last of them shows the entries of the list. No answer is withheld
+/// then.
+fn tell<W: Sink, D: Desk>(
+    withheld: &mut WithheldAnswers,
+    list: Option<D::List>,
+    piece: &mut Vec<Entry>,
     sink: &mut W,
     desk: &mut D,
 ) -> Option<End>
+    requires room { 0 < vec_capacity piece.old }
+    ensures room { vec_capacity piece.new ≡ vec_capacity piece.old }
     ensures none_withheld { withheld.new ≡ [] }
-    ensures tells { TellsWithheld D.releases D.moves withheld.old desk.old desk.new result (W.taken sink.old) (W.taken sink.new) }
+    ensures tells { TellsWithheld D.releases D.moves (text_left D.List.left list) withheld.old desk.old desk.new result (W.taken sink.old) (W.taken sink.new) }
 {
     if withheld.is_empty() {
         return None;
     }
     let released = desk.release(withheld);
-    let told = write_texts(alloc, released, sink);
+    let written = write_texts(released, sink);
     withheld.clear();
-    told
-}
-
-/// Writes the texts of the answers, up to an answer for which there is no memory. It leaves the flush to the caller.
-///
-/// `None` means that all were written. Else the session has this end.
-pub fn write_texts<W: Sink>(alloc: Global, released: Released<'_, '_>, sink: &mut W) -> Option<End>
-    ensures { TellsFirst result (W.taken sink.old) (W.taken sink.new) released.entry }
-{
-    let mut rest = released;
-    while let Some((answer, later)) = rest.split_first() {
-        match write_text(alloc, answer, sink) {
-            Some(end) => return Some(end),
-            None => {}
-        }
-        rest = later;
-    }
-    None
-}
-
-/// Writes the text of an answer.
-fn write_text<W: Sink>(alloc: Global, answer: &Answer<'_>, sink: &mut W) -> Option<End>
-    ensures { Tells result (W.taken sink.old) (W.taken sink.new) (answer.now ∷ []) }
-{
-    let Ok(text) = wording(alloc, &answer.content) else {
-        return Some(End::Memory);
+    let Ok(replied) = written else {
+        return Some(End::WriteFault);
     };
-    match write_tagged(answer, text.as_str().as_bytes(), sink) {
+    match write_shown(list, replied, piece, sink, desk) {
         Ok(()) => None,
         Err(Failed) => Some(End::WriteFault),
     }
 }
 
-/// Writes the text of an answer, given without its tag.
-#[tactic(auto, unfolding(crate::specs::Texts::text))]
-fn write_tagged<W: Sink>(answer: &Answer<'_>, content: &[u8], sink: &mut W) -> Result<(), Failed>
-    requires { content.now ≡ content_text answer.now.content }
-    ensures ok { OnOk result (Writes (W.taken sink.old) (W.taken sink.new) (text answer.now)) }
-    ensures err { OnErr result (DeliversPart (W.taken sink.old) (W.taken sink.new) (text answer.now)) }
+/// Writes the texts of the answers, without the entries that they show. It leaves the flush to the caller. The result is
+/// whether the last of them is a reply.
+///
+/// # Errors
+///
+/// A write failed. Some of the text may have been taken, from the front.
+pub fn write_texts<W: Sink>(released: Released<'_>, sink: &mut W) -> Result<bool, Failed>
+    ensures ok { OnOk result (Writes (W.taken sink.old) (W.taken sink.new) (session_text (map bare released.entry))) }
+    ensures replied { IfOk result (λ replied. replied ≡ ends_with_reply released.entry) }
+    ensures err { OnErr result (DeliversPart (W.taken sink.old) (W.taken sink.new) (session_text (map bare released.entry))) }
 {
+    let mut replied = false;
+    let mut rest = released;
+    while let Some((answer, later)) = rest.split_first() {
+        write_text(answer, sink)?;
+        replied = is_reply(&answer.content);
+        rest = later;
+    }
+    Ok(replied)
+}
+
+fn is_reply(content: &Content) -> bool
+    ensures { result ≡ is_reply content.now }
+{
+    matches!(content, Content::Replied(..))
+}
+
+/// Writes the text of an answer, without the entries that it shows.
+#[tactic(auto, unfolding(crate::specs::Texts::text))]
+fn write_text<W: Sink>(answer: &Answer, sink: &mut W) -> Result<(), Failed>
+    ensures ok { OnOk result (Writes (W.taken sink.old) (W.taken sink.new) (text (bare answer.now))) }
+    ensures err { OnErr result (DeliversPart (W.taken sink.old) (W.taken sink.new) (text (bare answer.now))) }
+{
+    let content = wording(&answer.content);
+    let content = content.as_str().as_bytes();
     let Some(_) = &answer.tag else {
         return write_all(sink, content);
     };
@@ -283,6 +316,68 @@ fn write_tagged<W: Sink>(answer: &Answer<'_>, content: &[u8], sink: &mut W) -> R
         Content::Reported(_) => write_lines(front, content, sink),
         _ => write_both(front, content, sink),
     }
+}
+
+/// Writes the entries of a list, if the answer that shows them is a reply.
+fn write_shown<W: Sink, D: Desk>(
+    list: Option<D::List>,
+    replied: bool,
+    piece: &mut Vec<Entry>,
+    sink: &mut W,
+    desk: &D,
+) -> Result<(), Failed>
+    requires room { 0 < vec_capacity piece.old }
+    ensures room { vec_capacity piece.new ≡ vec_capacity piece.old }
+    ensures ok { OnOk result (Writes (W.taken sink.old) (W.taken sink.new) (if replied then text_left D.List.left list else [])) }
+    ensures err { OnErr result (DeliversPart (W.taken sink.old) (W.taken sink.new) (if replied then text_left D.List.left list else [])) }
+{
+    match list {
+        Some(list) if replied => write_list(list, piece, sink, desk),
+        _ => Ok(()),
+    }
+}
+
+/// Writes the entries of a list, a piece at a time.
+fn write_list<W: Sink, D: Desk>(
+    list: D::List,
+    piece: &mut Vec<Entry>,
+    sink: &mut W,
+    desk: &D,
+) -> Result<(), Failed>
+    requires room { 0 < vec_capacity piece.old }
+    ensures room { vec_capacity piece.new ≡ vec_capacity piece.old }
+    ensures ok { OnOk result (Writes (W.taken sink.old) (W.taken sink.new) (export_text (D.List.left list))) }
+    ensures err { OnErr result (DeliversPart (W.taken sink.old) (W.taken sink.new) (export_text (D.List.left list))) }
+{
+    let mut list = list;
+    while !list.is_empty() {
+        piece.clear();
+        desk.fetch(&mut list, piece);
+        write_entries(piece.as_slice(), sink)?;
+    }
+    Ok(())
+}
+
+/// Writes the lines of entries, each with LF.
+fn write_entries<W: Sink>(entries: &[Entry], sink: &mut W) -> Result<(), Failed>
+    ensures ok { OnOk result (Writes (W.taken sink.old) (W.taken sink.new) (export_text entries.now)) }
+    ensures err { OnErr result (DeliversPart (W.taken sink.old) (W.taken sink.new) (export_text entries.now)) }
+{
+    let mut rest = entries;
+    while let Some((entry, later)) = rest.split_first() {
+        write_entry(entry, sink)?;
+        rest = later;
+    }
+    Ok(())
+}
+
+/// Writes the line of an entry, with LF.
+fn write_entry<W: Sink>(entry: &Entry, sink: &mut W) -> Result<(), Failed>
+    ensures ok { OnOk result (Writes (W.taken sink.old) (W.taken sink.new) (ended_line entry.now)) }
+    ensures err { OnErr result (DeliversPart (W.taken sink.old) (W.taken sink.new) (ended_line entry.now)) }
+{
+    let line = entry_line(entry);
+    write_both(line.as_str().as_bytes(), b"\n", sink)
 }
 
 /// Writes one text, and another one after it.

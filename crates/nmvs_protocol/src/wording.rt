@@ -4,13 +4,11 @@ ghost use Rattle.nmvs_protocol.specs.Wordings.{wording_text};
 use crate::replies::LONGEST_REPLY;
 use arrayvec::ArrayString;
 
-/// The text of an answer in its three forms.
+/// The text of an answer in its two forms.
 #[derive(Drop)]
 pub(crate) enum Wording<'w> {
     /// A short text, composed in place.
     Composed(ArrayString<LONGEST_REPLY>),
-    /// A text of any length, made on the heap.
-    Made(String),
     /// A text that the answer has.
     Lent(&'w str),
 }
@@ -21,7 +19,6 @@ impl<'w> Wording<'w> {
     {
         match self {
             Wording::Composed(text) => text.as_str(),
-            Wording::Made(text) => text.as_str(),
             Wording::Lent(text) => text,
         }
     }

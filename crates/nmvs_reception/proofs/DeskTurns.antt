@@ -1,7 +1,5 @@
 -- The steps of the program's desk.
 use Rattle.std.proofs.Common.{◌≡◌, ◌≢◌, ◌<◌, ◌+◌, ◌⊎◌, ◌∙◌, ◌++◌, ◌∷◌, ℕ, ℤ, Bool, true, List, [], Option, Some, None, IfSome, length, refl, sym, ap, subst, inl, inr, arith, length-append}
-use Rattle.std.specs.Borrow.{Bor}
-use Rattle.std.specs.Global.{Global}
 use Rattle.std.proofs.lemmas.Bool.Decides.{eqb_tells}
 use mathlib.Core.List.{IsPrefix}
 use Rattle.nmvs_history.proofs.Beginnings.{prefix_self, prefix_trans, prefix_length}
@@ -120,22 +118,22 @@ all_within new shard None r = tt
 all_within new shard (Some b) r = subst (λ i. b.place < length (row new.clerk.sights i)) (sym r.0) (omega (arith, r.1))
 
 -- the entry that answers a question was seen
-said_within : (new : DeskView) (shard : ℕ) (trail : List Entry) (put : Put) (printed : Option Printed) (o : Outcome (Bor Global)) (said : Content) (basis : Option Basis)
-    → Asks trail put printed (row new.clerk.sights shard) o → Says shard o said basis → Within new basis
-said_within new shard trail put printed (outcomes.New a) said basis asks says =
+said_within : (new : DeskView) (shard : ℕ) (trail : List Entry) (put : Put) (printed : Option Printed) (o : Outcome) (shown : List Entry) (said : Content) (basis : Option Basis)
+    → Asks trail put printed (row new.clerk.sights shard) o → Says shard o shown said basis → Within new basis
+said_within new shard trail put printed (outcomes.New a) shown said basis asks says =
     let long = ap length asks.2.trail ∙ length-append trail (answered put a.reply ∷ []) in
     subst (Within new) (sym says.1) (omega (arith, long, asks.2.place))
-said_within new shard trail put printed (outcomes.Again a) said basis asks says =
+said_within new shard trail put printed (outcomes.Again a) shown said basis asks says =
     let there = (stands_for trail put a.place a.reply asks.1.repeat).within in
     subst (Within new) (sym says.1) (subst (λ t. a.place < length t) (sym asks.0) there)
-said_within new shard trail put printed outcomes.Other said basis asks says = none_within new basis says.1
-said_within new shard trail put printed outcomes.Differs said basis asks says = none_within new basis says.1
+said_within new shard trail put printed outcomes.Other shown said basis asks says = none_within new basis says.1
+said_within new shard trail put printed outcomes.Differs shown said basis asks says = none_within new basis says.1
 
 admitted_within : (old : DeskView) (tag : Option Tag) (what : Asked) (moment : ℕ) (actor : Actor) (said : Content) (basis : Option Basis) (new : DeskView)
     → AnswersAdmitted old tag what moment actor said basis new → Within new basis
-admitted_within old tag (asked.Question user q) moment actor said basis new (inl is) = said_within new _ is.answers.trail _ None is.outcome said basis is.answers.asks is.says
+admitted_within old tag (asked.Question user q) moment actor said basis new (inl is) = said_within new _ is.answers.trail _ None is.outcome is.shown said basis is.answers.asks is.says
 admitted_within old tag (asked.Question user q) moment actor said basis new (inr is) = none_within new basis is.0.1
-admitted_within old tag (asked.Conditional user kind p printed) moment actor said basis new (inl is) = said_within new _ is.answers.trail _ (Some printed) is.outcome said basis is.answers.asks is.says
+admitted_within old tag (asked.Conditional user kind p printed) moment actor said basis new (inl is) = said_within new _ is.answers.trail _ (Some printed) is.outcome is.shown said basis is.answers.asks is.says
 admitted_within old tag (asked.Conditional user kind p printed) moment actor said basis new (inr is) = none_within new basis is.0.1
 admitted_within old tag (asked.Report user c) moment actor said basis new (sees, inl is) = all_within new _ basis is.rests
 admitted_within old tag (asked.Report user c) moment actor said basis new (sees, inr is) = none_within new basis is.1

@@ -1,13 +1,12 @@
 -- The program's desk: the lines that it admits, the answers that it may give, and the entries that it then records (own).
 use Rattle.std.specs.Prelude.{◌≡◌, ◌≢◌, ◌+◌, ◌⊎◌, ℕ, ℤ, pos, ◌≤ℤ◌, Bool, true, false, List, [], Option, Some, None, length}
-use Rattle.std.specs.Borrow.{Bor}
-use Rattle.std.specs.Global.{Global}
 use mathlib.Core.List.{IsPrefix}
 use Rattle.nmvs_identifier.specs.Moment.{last_moment}
 use Rattle.nmvs_identifier.specs.Name.{Name}
 use Rattle.nmvs_identifier.specs.ProductCode.{ProductCode}
 use Rattle.nmvs_identifier.specs.Tag.{Tag}
 use Rattle.nmvs_directory.specs.Window.{Reads}
+use Rattle.nmvs_line.specs.Export.{export_text}
 use Rattle.nmvs_directory.specs.declared.change.Change.{Change}
 use Rattle.nmvs_directory.specs.declared.look.Look.{Look}
 use Rattle.nmvs_directory.specs.declared.look.Look.TheVariants as looks
@@ -107,19 +106,21 @@ Refuses notice old from ask turns.Tag new = ⊥
 Refuses notice old from ask turns.Differs new = ⊥
 
 -- the answer to an outcome in the shard of this number, and its basis: the reply of the entry that answers the question, with
--- the entries that it shows, on the entries up to that one; or a turn, since the tag is another question's, or the pack was
--- uploaded with other values than those printed on it
-abbrev pub Says : ℕ → Outcome (Bor Global) → Content → Option Basis → Type 0
-Says shard (outcomes.New a) said basis = (said ≡ contents.Replied a.reply a.shown.items) × (basis ≡ Some (record { shard = shard; place = a.place }))
-Says shard (outcomes.Again a) said basis = (said ≡ contents.Replied a.reply a.shown.items) × (basis ≡ Some (record { shard = shard; place = a.place }))
-Says shard outcomes.Other said basis = (said ≡ contents.Turned turns.Tag) × (basis ≡ None)
-Says shard outcomes.Differs said basis = (said ≡ contents.Turned turns.Differs) × (basis ≡ None)
+-- the text of the entries that are shown, on the entries up to that one; or a turn, since the tag is another question's, or the
+-- pack was uploaded with other values than those printed on it
+abbrev pub Says : ℕ → Outcome → List Entry → Content → Option Basis → Type 0
+Says shard (outcomes.New a) shown said basis = (said ≡ contents.Replied a.reply (export_text shown)) × (basis ≡ Some (record { shard = shard; place = a.place }))
+Says shard (outcomes.Again a) shown said basis = (said ≡ contents.Replied a.reply (export_text shown)) × (basis ≡ Some (record { shard = shard; place = a.place }))
+Says shard outcomes.Other shown said basis = (said ≡ contents.Turned turns.Tag) × (basis ≡ None)
+Says shard outcomes.Differs shown said basis = (said ≡ contents.Turned turns.Differs) × (basis ≡ None)
 
--- the clerk asks the question in the shard of this number, once, and the desk gives the outcome; nothing else changes
+-- the clerk asks the question in the shard of this number, once, and the desk gives the outcome, with the entries that the
+-- rules show; nothing else changes
 pub record Replies (old : DeskView) (shard : ℕ) (put : Put) (printed : Option Printed) (said : Content) (basis : Option Basis) (new : DeskView) : Type 0 where
-  pub outcome : Outcome (Bor Global)
-  pub answers : Answers old.shards shard put printed old.clerk new.clerk outcome
-  pub says : Says shard outcome said basis
+  pub outcome : Outcome
+  pub shown : List Entry
+  pub answers : Answers old.shards shard put printed old.clerk new.clerk outcome shown
+  pub says : Says shard outcome shown said basis
   pub same : new ≡ record old { clerk = new.clerk }
 
 -- an admitted line is turned away for want of memory

@@ -1,25 +1,26 @@
 //! The program's desk.
-ghost use Rattle.std.specs.Prelude.{◌≡◌, ◌⊎◌, List, true, length, IfSome};
+ghost use Rattle.std.specs.Prelude.{◌≡◌, ◌⊎◌, List, [], true, length, IfSome};
 ghost use Rattle.std.specs.Option.{is_some};
 ghost use Rattle.nmvs_messages.specs.declared.answer.Turn.TheVariants as turns;
+ghost use Rattle.nmvs_messages.specs.Withheld.{content_shown, entries_left, text_left};
 ghost use Rattle.nmvs_rules.specs.declared.entry.Entry.{Entry as TheEntry};
 ghost use Rattle.nmvs_reception.specs.Desk.{may_ask_this, RestsOnAll, Says};
 
 use crate::{Alerts, Clock};
 use log::Log;
-use nmvs_desk::{Clerk, Reader, Repository};
+use nmvs_desk::{Clerk, Reader, Repository, Shown};
 use nmvs_directory::{Look, Naming, Notice};
 use nmvs_history::Histories;
 use nmvs_identifier::{Moment, Name, ProductCode, Tag};
 use nmvs_journal::{CommitLog, Confirmed, LogName, Reach, Store};
 use nmvs_messages::{
-    Ask, Asked, Basis, Content, Desk, Entries, Peer, Released, Text, Turn, Withheld,
+    Ask, Asked, Basis, Content, Desk, Peer, Released, ShownText, Text, Turn, Withheld,
     WithheldAnswers,
 };
 use nmvs_metrics::WorkerMetrics;
 use nmvs_rate::SharedLimiter;
 use nmvs_record::report;
-use nmvs_rules::{Actor, Printed, Put, Question, Reply, Role, may_report};
+use nmvs_rules::{Actor, Entry, Printed, Put, Question, Reply, Role, may_report};
 use nmvs_shard::{Answered, Outcome, Shard};
 use std::alloc::{AllocError, Global};
 use std::marker::Model;
@@ -101,15 +102,21 @@ impl<'r, 'a, R: Wait + rt::Clock + Log, J: Naming, H: Histories, K: Clock> Clerk
         self.clerk
     }
 
-    /// The answer to a line of this peer, and its basis. It waits for the notice's lock, and lets it go.
-    pub(crate) fn answer(&mut self, from: &Peer, ask: &Ask) -> (Content<'a>, Option<Basis>)
-        ensures { Serves self.old from.now ask.now result.0 result.1 self.new }
+    /// The answer to a line of this peer, its basis, and the list of the entries that it shows. It waits for the notice's lock,
+    /// and lets it go.
+    pub(crate) fn answer(
+        &mut self,
+        from: &Peer,
+        ask: &Ask,
+    ) -> (Content, Option<Basis>, Option<Shown<H>>)
+        ensures serves { Serves self.old from.now ask.now result.0 result.1 self.new }
+        ensures shows { content_shown result.0 ≡ text_left (λ s. s) result.2 }
     {
         self.metrics.note_line();
         let notice = self.latest.lock(self.rt).again();
         match self.admit(&notice, from, ask) {
             Ok((moment, actor)) => self.answer_admitted(moment, actor, ask),
-            Err(turn) => (Content::Turned(turn), None),
+            Err(turn) => (Content::Turned(turn), None, None),
         }
     }
 
@@ -144,14 +151,15 @@ impl<'r, 'a, R: Wait + rt::Clock + Log, J: Naming, H: Histories, K: Clock> Clerk
         Ok((moment, actor))
     }
 
-    /// The answer to an admitted line, and its basis.
+    /// The answer to an admitted line, its basis, and the list of the entries that it shows.
     fn answer_admitted(
         &mut self,
         moment: Moment,
         actor: Actor,
         ask: &Ask,
-    ) -> (Content<'a>, Option<Basis>)
-        ensures { AnswersAdmitted self.old ask.now.tag ask.now.asked moment actor result.0 result.1 self.new }
+    ) -> (Content, Option<Basis>, Option<Shown<H>>)
+        ensures answers { AnswersAdmitted self.old ask.now.tag ask.now.asked moment actor result.0 result.1 self.new }
+        ensures shows { content_shown result.0 ≡ text_left (λ s. s) result.2 }
     {
         match &ask.asked {
             Asked::Question(user, question) => {
@@ -162,28 +170,37 @@ impl<'r, 'a, R: Wait + rt::Clock + Log, J: Naming, H: Histories, K: Clock> Clerk
                 let put = put_at(moment, user, actor, kind.naming(*pack), ask.tag);
                 self.ask(&put, &Some(*printed))
             }
-            Asked::Report(_, code) => self.report(code),
+            Asked::Report(_, code) => {
+                let (content, basis) = self.report(code);
+                (content, basis, None)
+            }
         }
     }
 
     /// Asks a question by the clerk, and counts it if it was put.
-    fn ask(&mut self, put: &Put, printed: &Option<Printed>) -> (Content<'a>, Option<Basis>)
-        ensures { AnswersQuestion self.old put.now printed.now result.0 result.1 self.new }
+    fn ask(
+        &mut self,
+        put: &Put,
+        printed: &Option<Printed>,
+    ) -> (Content, Option<Basis>, Option<Shown<H>>)
+        ensures answers { AnswersQuestion self.old put.now printed.now result.0 result.1 self.new }
+        ensures shows { content_shown result.0 ≡ text_left (λ s. s) result.2 }
     {
         let (rt, repository) = (self.rt, self.repository);
         let shard = repository.shard_of(&put.question.code());
         match self.clerk.ask(rt, repository, put, printed) {
-            Ok(outcome) => {
+            Ok((outcome, list)) => {
                 note_put(rt, &self.metrics, self.alerts, shard, put, &outcome);
-                answer_by(shard, outcome)
+                answer_by(shard, outcome, list)
             }
-            Err(AllocError) => (Content::Turned(Turn::Memory), None),
+            Err(AllocError) => (Content::Turned(Turn::Memory), None, None),
         }
     }
 
     /// Reports on a product code. It waits for the code's shard, and nothing is recorded.
-    fn report(&mut self, code: &ProductCode) -> (Content<'a>, Option<Basis>)
-        ensures { AnswersReport self.old code.now result.0 result.1 self.new }
+    fn report(&mut self, code: &ProductCode) -> (Content, Option<Basis>)
+        ensures answers { AnswersReport self.old code.now result.0 result.1 self.new }
+        ensures shows { content_shown result.0 ≡ [] }
     {
         match self.report_on(code) {
             Ok((text, basis)) => {
@@ -228,8 +245,8 @@ impl<'r, 'a, R: Wait + rt::Clock + Log, J: Naming, H: Histories, K: Clock> Clerk
         log: &CommitLog<'_, 'a, D, H, L>,
         reach: &mut Reach,
         confirmed: &mut Confirmed<L>,
-        withheld: &'h mut WithheldAnswers<'a>,
-    ) -> Released<'h, 'a>
+        withheld: &'h mut WithheldAnswers,
+    ) -> Released<'h>
         ensures reach { (sights : List (List TheEntry)) → IsWithin reach.new sights }
         ensures released { AreReleased (IsTold H.shards confirmed.new self.old.clerk.sights) withheld.old result }
         ensures longer { IsPrefix confirmed.old confirmed.new }
@@ -281,22 +298,23 @@ fn put_at(moment: Moment, user: &Name, actor: Actor, question: Question, tag: Op
     }
 }
 
-/// The answer to an outcome in the shard of this number, and its basis.
-fn answer_by<'a>(shard: usize, outcome: Outcome<&'a Global>) -> (Content<'a>, Option<Basis>)
-    ensures { Says shard outcome.entry result.0 result.1 }
+/// The answer to an outcome in the shard of this number, its basis, and the list of the entries that it shows.
+fn answer_by<H: Histories>(
+    shard: usize,
+    outcome: Outcome,
+    list: Option<Shown<H>>,
+) -> (Content, Option<Basis>, Option<Shown<H>>)
+    ensures says { Says shard outcome (entries_left (λ s. s) list) result.0 result.1 }
+    ensures shows { content_shown result.0 ≡ text_left (λ s. s) result.2 }
 {
     match outcome {
-        Outcome::New(answered) | Outcome::Again(answered) => {
-            let Answered {
-                place,
-                reply,
-                shown,
-            } = answered;
-            let content = Content::Replied(reply, Entries::new(shown));
-            (content, Some(Basis { shard, place }))
+        Outcome::New(Answered { place, reply, .. })
+        | Outcome::Again(Answered { place, reply, .. }) => {
+            let content = Content::Replied(reply, ShownText::of(&list));
+            (content, Some(Basis { shard, place }), list)
         }
-        Outcome::Other => (Content::Turned(Turn::Tag), None),
-        Outcome::Differs => (Content::Turned(Turn::Differs), None),
+        Outcome::Other => (Content::Turned(Turn::Tag), None, None),
+        Outcome::Differs => (Content::Turned(Turn::Differs), None, None),
     }
 }
 
@@ -307,7 +325,7 @@ fn note_put<R: Wait + Log>(
     alerts: &Alerts,
     shard: usize,
     put: &Put,
-    outcome: &Outcome<&Global>,
+    outcome: &Outcome,
 ) {
     let Outcome::New(answered) = outcome else {
         return;
@@ -366,10 +384,12 @@ impl<'a, 'c> Reader<Shard<&'a Global>> for ReportOf<'c> {
     }
 }
 
-impl<'r, 'a, R: Wait + rt::Clock + Log, J: Naming, H: Histories, K: Clock> Desk<'a>
+impl<'r, 'a, R: Wait + rt::Clock + Log, J: Naming, H: Histories, K: Clock> Desk
     for ClerkDesk<'r, 'a, R, J, H, K> {
     ghost use Rattle.nmvs_messages.specs.Withheld.{AtOnce, Stays};
     ghost use Rattle.nmvs_reception.specs.Desk.{Takes};
+
+    type List = Shown<H>;
 
     ghost takes = { Takes };
 
@@ -377,13 +397,18 @@ impl<'r, 'a, R: Wait + rt::Clock + Log, J: Naming, H: Histories, K: Clock> Desk<
 
     ghost moves = { Stays };
 
-    fn take(&mut self, from: &Peer, ask: &Ask) -> Withheld<'a> {
-        let (content, basis) = self.answer(from, ask);
-        Withheld::resting_on(basis, content)
+    fn take(&mut self, from: &Peer, ask: &Ask) -> (Withheld, Option<Shown<H>>) {
+        let (content, basis, list) = self.answer(from, ask);
+        (Withheld::resting_on(basis, content), list)
     }
 
-    fn release<'h>(&mut self, withheld: &'h mut WithheldAnswers<'a>) -> Released<'h, 'a> {
+    fn release<'h>(&mut self, withheld: &'h mut WithheldAnswers) -> Released<'h> {
         self.metrics.note_release();
         withheld.release()
+    }
+
+    /// It waits for the shard of the entries.
+    fn fetch(&self, list: &mut Shown<H>, entries: &mut Vec<Entry>) {
+        self.repository.fetch(self.rt, list, entries);
     }
 }

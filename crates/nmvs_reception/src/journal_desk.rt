@@ -3,11 +3,12 @@ ghost use Rattle.std.specs.Prelude.{◌≡◌};
 
 use crate::{ClerkDesk, Clock};
 use log::Log;
-use nmvs_desk::Clerk;
+use nmvs_desk::{Clerk, Shown};
 use nmvs_directory::Naming;
 use nmvs_history::Histories;
 use nmvs_journal::{CommitLog, Confirmed, LogName, Reach, Store};
 use nmvs_messages::{Ask, Desk, Peer, Released, Withheld, WithheldAnswers};
+use nmvs_rules::Entry;
 use std::marker::Model;
 use std::rt;
 use std::sync::Wait;
@@ -96,9 +97,11 @@ impl<
     K: Clock,
     D: Store + Drop,
     L: LogName,
-> Desk<'a> for JournalDesk<'r, 'v, 'f, 'a, R, J, H, K, D, L> {
+> Desk for JournalDesk<'r, 'v, 'f, 'a, R, J, H, K, D, L> {
     ghost use Rattle.nmvs_journal.specs.Told.{IsTold};
     ghost use Rattle.nmvs_reception.specs.Desk.{LearnsMore, TakesWaiting};
+
+    type List = Shown<H>;
 
     ghost takes = { TakesWaiting };
 
@@ -106,13 +109,18 @@ impl<
 
     ghost moves = { LearnsMore };
 
-    fn take(&mut self, from: &Peer, ask: &Ask) -> Withheld<'a> {
-        let (answer, basis) = self.desk.answer(from, ask);
+    fn take(&mut self, from: &Peer, ask: &Ask) -> (Withheld, Option<Shown<H>>) {
+        let (answer, basis, list) = self.desk.answer(from, ask);
         self.reach.note(basis);
-        Withheld::resting_on(basis, answer)
+        (Withheld::resting_on(basis, answer), list)
     }
 
-    fn release<'h>(&mut self, withheld: &'h mut WithheldAnswers<'a>) -> Released<'h, 'a> {
+    /// It waits for the shard of the entries.
+    fn fetch(&self, list: &mut Shown<H>, entries: &mut Vec<Entry>) {
+        self.desk.fetch(list, entries);
+    }
+
+    fn release<'h>(&mut self, withheld: &'h mut WithheldAnswers) -> Released<'h> {
         self.desk
             .release_by(self.log, &mut self.reach, &mut self.confirmed, withheld)
     }

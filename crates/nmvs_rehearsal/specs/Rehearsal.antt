@@ -15,6 +15,7 @@ use Rattle.nmvs_rules.specs.Questions.{may_report}
 use Rattle.nmvs_rules.specs.Repeats.{repeat_of}
 use Rattle.nmvs_rules.specs.Rules.{reply_of, shown_of, answered}
 use Rattle.nmvs_words.specs.Kinds.{naming_pack}
+use Rattle.nmvs_line.specs.Export.{export_text}
 use Rattle.nmvs_record.specs.Report.{report_text}
 use Rattle.nmvs_messages.specs.declared.ask.Ask.{Ask}
 use Rattle.nmvs_messages.specs.declared.ask.Asked.{Asked}
@@ -101,7 +102,7 @@ GetsReports user answer = (actor : Actor) × IsRostered user actor × (may_repor
 -- it repeats; or a turn without an entry: nobody has the user's name, there was no memory, its tag is that of something else, or
 -- the values printed on its pack differ
 abbrev pub JudgesQuestion : ℕ → Rehearsal → Name → Option Tag → Question → Option Printed → Content → Rehearsal → Type 0
-JudgesQuestion moment old user g q printed (contents.Replied r shown) new = Replies moment old new user g q printed r shown
+JudgesQuestion moment old user g q printed (contents.Replied r text) new = (shown : List Entry) × (text ≡ export_text shown) × Replies moment old new user g q printed r shown
 JudgesQuestion moment old user g q printed (contents.Turned turns.Nobody) new = (post_of user.bytes ≡ None) × Stays old new
 JudgesQuestion moment old user g q printed (contents.Turned turns.Memory) new = IsSome (post_of user.bytes) × Stays old new
 JudgesQuestion moment old user g q printed (contents.Turned turns.Tag) new = AsksOther moment old user g q × Stays old new

@@ -1,21 +1,22 @@
 //! The rehearsal: a session to learn the repository by, whose every answer is proved.
 ghost use Rattle.nmvs_messages.specs.declared.answer.Content.TheVariants.{Replied};
-ghost use Rattle.std.specs.Prelude.{◌≡◌, ◌<◌, ◌∷◌, [], length};
-ghost use Rattle.nmvs_messages.specs.Withheld.{AtOnce, Stays};
+ghost use Rattle.std.specs.Prelude.{◌≡◌, ◌<◌, ◌∷◌, [], IfOk, length};
+ghost use Rattle.nmvs_messages.specs.Withheld.{AtOnce, Stays, content_shown, entries_left, text_left};
 ghost use Rattle.nmvs_protocol.specs.Session.{session_limits, Session};
+ghost use Rattle.nmvs_rules.specs.Rules.{shown_of};
 ghost use Rattle.nmvs_stream.specs.Console.{IsFresh};
 ghost use Rattle.nmvs_rehearsal.specs.Rehearsal.{Rehearsal, Takes};
 
 use crate::roster::actor_of;
 use nmvs_identifier::{Moment, Name, ProductCode, Tag};
 use nmvs_messages::{
-    Ask, Asked, Content, Desk, End, Entries, Peer, Released, SESSION_LIMITS, Text, Turn, Withheld,
-    WithheldAnswers,
+    Ask, Asked, Content, Desk, End, GatheredEntries, Peer, Released, SESSION_LIMITS, ShownText,
+    Text, Turn, Withheld, WithheldAnswers,
 };
 use nmvs_protocol::serve;
 use nmvs_record::report;
-use nmvs_rules::{Printed, Put, Question, may_report};
-use nmvs_shard::{Answered, HashKey, Outcome, Shard};
+use nmvs_rules::{Entry, Printed, Put, Question, Reply, may, may_report};
+use nmvs_shard::{HashKey, Outcome, Shard};
 use nmvs_stream::{Sink, Source};
 use std::alloc::{AllocError, Global};
 use std::marker::Model;
@@ -113,11 +114,12 @@ impl<'a> RehearsalDesk<'a> {
         tag: Option<Tag>,
         question: &Question,
         printed: &Option<Printed>,
-    ) -> Content<'a>
-        ensures { JudgesQuestion moment self.old user.now tag question.now printed.now result self.new }
+    ) -> (Content, Option<GatheredEntries<&'a Global>>)
+        ensures judges { JudgesQuestion moment self.old user.now tag question.now printed.now result.0 self.new }
+        ensures shows { content_shown result.0 ≡ text_left (λ s. s) result.1 }
     {
         let Some(actor) = actor_of(user) else {
-            return Content::Turned(Turn::Nobody);
+            return (Content::Turned(Turn::Nobody), None);
         };
         let put = Put {
             moment,
@@ -126,18 +128,35 @@ impl<'a> RehearsalDesk<'a> {
             question: *question,
             tag,
         };
+        // They are gathered first, because an entry that is stored stays.
+        let Ok(list) = self.entries_shown(&put) else {
+            return (Content::Turned(Turn::Memory), None);
+        };
         match self.shard.ask(&put, printed) {
-            Ok(Outcome::New(answered)) => told(answered),
-            Ok(Outcome::Again(answered)) => told(answered),
-            Ok(Outcome::Other) => Content::Turned(Turn::Tag),
-            Ok(Outcome::Differs) => Content::Turned(Turn::Differs),
-            Err(AllocError) => Content::Turned(Turn::Memory),
+            Ok(Outcome::New(answered)) => replied(answered.reply, list),
+            Ok(Outcome::Again(answered)) => replied(answered.reply, None),
+            Ok(Outcome::Other) => (Content::Turned(Turn::Tag), None),
+            Ok(Outcome::Differs) => (Content::Turned(Turn::Differs), None),
+            Err(AllocError) => (Content::Turned(Turn::Memory), None),
+        }
+    }
+
+    /// The entries that the reply to a question shows, if it is new.
+    fn entries_shown(&self, put: &Put) -> Result<Option<GatheredEntries<&'a Global>>, AllocError>
+        ensures { IfOk result (λ list. entries_left (λ s. s) list ≡ shown_of self.now.trail put.now) }
+    {
+        match &put.question {
+            Question::Audit(pack) if may(put.actor.role, &put.question) => {
+                Ok(Some(GatheredEntries::new(self.shard.entries_of(pack)?)))
+            }
+            _ => Ok(None),
         }
     }
 
     /// Reports on a product code to a user who may have it. It leaves no entry.
-    fn report(&self, user: &Name, code: &ProductCode) -> Content<'a>
-        ensures { JudgesReport self.now.trail user.now code.now result }
+    fn report(&self, user: &Name, code: &ProductCode) -> Content
+        ensures judges { JudgesReport self.now.trail user.now code.now result }
+        ensures shows { content_shown result ≡ [] }
     {
         let Some(actor) = actor_of(user) else {
             return Content::Turned(Turn::Nobody);
@@ -152,16 +171,22 @@ impl<'a> RehearsalDesk<'a> {
     }
 }
 
-/// The reply to a question, with the entries that it shows.
-fn told<'a>(answered: Answered<&'a Global>) -> Content<'a>
-    ensures { result ≡ Replied answered.entry.reply answered.entry.shown.items }
+/// The reply to a question, with the list of the entries that it shows.
+fn replied<'a>(
+    reply: Reply,
+    list: Option<GatheredEntries<&'a Global>>,
+) -> (Content, Option<GatheredEntries<&'a Global>>)
+    ensures content { result.0 ≡ Replied reply (text_left (λ s. s) list.entry) }
+    ensures list { result.1 ≡ list.entry }
 {
-    Content::Replied(answered.reply, Entries::new(answered.shown))
+    (Content::Replied(reply, ShownText::of(&list)), list)
 }
 
-impl<'a> Desk<'a> for RehearsalDesk<'a> {
+impl<'a> Desk for RehearsalDesk<'a> {
     ghost use Rattle.nmvs_messages.specs.Withheld.{AtOnce, Stays};
     ghost use Rattle.nmvs_rehearsal.specs.Rehearsal.{Takes};
+
+    type List = GatheredEntries<&'a Global>;
 
     ghost takes = { λ old from ask withheld new. Takes old ask withheld new };
 
@@ -170,9 +195,9 @@ impl<'a> Desk<'a> for RehearsalDesk<'a> {
     ghost moves = { Stays };
 
     /// Every peer is believed.
-    fn take(&mut self, _from: &Peer, ask: &Ask) -> Withheld<'a> {
+    fn take(&mut self, _from: &Peer, ask: &Ask) -> (Withheld, Option<GatheredEntries<&'a Global>>) {
         let moment = self.next_moment();
-        Withheld::new(match &ask.asked {
+        let (content, list) = match &ask.asked {
             Asked::Question(user, question) => {
                 self.judge(moment, user, ask.tag, question, &None)
             }
@@ -180,11 +205,16 @@ impl<'a> Desk<'a> for RehearsalDesk<'a> {
                 let question = kind.naming(*pack);
                 self.judge(moment, user, ask.tag, &question, &Some(*printed))
             }
-            Asked::Report(user, code) => self.report(user, code),
-        })
+            Asked::Report(user, code) => (self.report(user, code), None),
+        };
+        (Withheld::new(content), list)
     }
 
-    fn release<'h>(&mut self, withheld: &'h mut WithheldAnswers<'a>) -> Released<'h, 'a> {
+    fn release<'h>(&mut self, withheld: &'h mut WithheldAnswers) -> Released<'h> {
         withheld.release()
+    }
+
+    fn fetch(&self, list: &mut GatheredEntries<&'a Global>, entries: &mut Vec<Entry>) {
+        list.fetch(entries);
     }
 }

@@ -109,7 +109,7 @@ fn desk_of<'s, 'r, R: Wait + Clock + Log, J: Naming, H: Histories + LogName>(
 }
 
 /// Serves connections by a desk, and returns the desk. If it cannot go on, it ends the service.
-fn serve_by_desk<'r, R: Wait + Clock + Log, J: Naming, H: Histories + LogName, D: Desk<'r>>(
+fn serve_by_desk<'r, R: Wait + Clock + Log, J: Naming, H: Histories + LogName, D: Desk>(
     server: &Server<'_, 'r, '_, R, J, H>,
     number: usize,
     poller: Poller,

@@ -38,10 +38,10 @@ impl SameTag {
             .ask(rt, place.repository, &put, &None)
             .expect(rt, "an answer")
         {
-            Outcome::New(answered) | Outcome::Again(answered) => {
+            (Outcome::New(answered) | Outcome::Again(answered), _) => {
                 Some((answered.place, answered.reply))
             }
-            Outcome::Other | Outcome::Differs => None,
+            (Outcome::Other | Outcome::Differs, _) => None,
         }
     }
 }

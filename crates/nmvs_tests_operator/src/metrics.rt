@@ -1,13 +1,14 @@
 use http_server::{Config, Connection, serve};
 use nmvs_messages::{
-    Ask, Asked, Content, Desk, Line, Peer, Released, Turn, Withheld, WithheldAnswers,
+    Ask, Asked, Content, Desk, GatheredEntries, Line, Peer, Released, Turn, Withheld,
+    WithheldAnswers,
 };
 use nmvs_metrics::{
     Answered, Bucket, ClockReading, Counted, Fault, Histogram, LogSnapshot, Metrics,
     MetricsService, Numbered, Snapshot, encode, resident_in,
 };
 use nmvs_protocol::{Session, read_line};
-use nmvs_rules::{Cause, Question, Refusal, Reply};
+use nmvs_rules::{Cause, Entry, Question, Refusal, Reply};
 use nmvs_words::{PackQuestion, QuestionKind, ReplyKind};
 use std::alloc::{AllocError, Global};
 use std::hash::RandomState;
@@ -460,8 +461,10 @@ fn memory_is_read_as_the_system_reports_it(rt: HostRuntime) {
 #[derive(Clone, Copy)]
 struct Stranger;
 
-impl<'a> Desk<'a> for Stranger {
+impl Desk for Stranger {
     ghost use Rattle.nmvs_messages.specs.Withheld.{AtOnce, Stays};
+
+    type List = GatheredEntries;
 
     ghost takes = { λ _ _ _ _ _. Unit {0} };
 
@@ -469,11 +472,15 @@ impl<'a> Desk<'a> for Stranger {
 
     ghost moves = { Stays };
 
-    fn take(&mut self, _from: &Peer, _ask: &Ask) -> Withheld<'a> {
-        Withheld::new(Content::Turned(Turn::Nobody))
+    fn take(&mut self, _from: &Peer, _ask: &Ask) -> (Withheld, Option<GatheredEntries>) {
+        (Withheld::new(Content::Turned(Turn::Nobody)), None)
     }
 
-    fn release<'h>(&mut self, withheld: &'h mut WithheldAnswers<'a>) -> Released<'h, 'a> {
+    fn fetch(&self, list: &mut GatheredEntries, entries: &mut Vec<Entry>) {
+        list.fetch(entries);
+    }
+
+    fn release<'h>(&mut self, withheld: &'h mut WithheldAnswers) -> Released<'h> {
         withheld.release()
     }
 }

@@ -1,10 +1,11 @@
 //! The lines that a peer may send.
 use nmvs_identifier::Name;
 use nmvs_messages::{
-    Ask, Content, Desk, End, NameOf, Peer, Released, SESSION_LIMITS, Turn, Withheld,
-    WithheldAnswers,
+    Ask, Content, Desk, End, GatheredEntries, NameOf, Peer, Released, SESSION_LIMITS, Turn,
+    Withheld, WithheldAnswers,
 };
 use nmvs_protocol::serve;
+use nmvs_rules::Entry;
 use nmvs_stream::Device;
 use std::process::Abort;
 use std::test::*;
@@ -42,8 +43,10 @@ struct Own {
     peer: Peer,
 }
 
-impl<'a> Desk<'a> for Own {
+impl Desk for Own {
     ghost use Rattle.nmvs_messages.specs.Withheld.{AtOnce, Stays};
+
+    type List = GatheredEntries;
 
     ghost takes = { λ _ _ _ _ _. Unit {0} };
 
@@ -51,15 +54,20 @@ impl<'a> Desk<'a> for Own {
 
     ghost moves = { Stays };
 
-    fn take(&mut self, from: &Peer, _ask: &Ask) -> Withheld<'a> {
-        Withheld::new(Content::Turned(if *from == self.peer {
+    fn take(&mut self, from: &Peer, _ask: &Ask) -> (Withheld, Option<GatheredEntries>) {
+        let turn = if *from == self.peer {
             Turn::Rate
         } else {
             Turn::Nobody
-        }))
+        };
+        (Withheld::new(Content::Turned(turn)), None)
     }
 
-    fn release<'h>(&mut self, withheld: &'h mut WithheldAnswers<'a>) -> Released<'h, 'a> {
+    fn fetch(&self, list: &mut GatheredEntries, entries: &mut Vec<Entry>) {
+        list.fetch(entries);
+    }
+
+    fn release<'h>(&mut self, withheld: &'h mut WithheldAnswers) -> Released<'h> {
         withheld.release()
     }
 }

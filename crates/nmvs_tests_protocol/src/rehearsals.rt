@@ -115,6 +115,26 @@ fn rehearsed(rt: &impl Abort, alloc: Global, seconds: &[i64], input: &[u8]) -> (
     (output, end)
 }
 
+/// The entries of a long audit are written a piece at a time, whole and in order.
+#[test]
+fn an_audit_of_131_entries_is_shown_whole(rt: HostRuntime) {
+    let mut input = Vec::new(rt.alloc());
+    push_line(&rt, &mut input, "mah1 UPLOAD 09506000134352 SN1 B1 280200");
+    for _ in 0..130 {
+        push_line(&rt, &mut input, "ph1 STATUS 09506000134352 SN1");
+    }
+    push_line(&rt, &mut input, "au1 AUDIT 09506000134352 SN1");
+    let (output, end) = rehearsed(&rt, rt.alloc(), &[NEW_YEAR], &input);
+    assert!(rt; end == End::Ended);
+    let text = str::from_utf8(output.as_slice()).expect(&rt, "ASCII");
+    let (_, shown) = text.split_once("SHOWN 131\n").expect(&rt, "a list");
+    let (first, others) = shown.split_once("\n").expect(&rt, "an entry");
+    let (second, _) = others.split_once("\n").expect(&rt, "another entry");
+    assert!(rt; first.contains("UPLOAD") && second.contains("STATUS"));
+    assert_eq!(rt; others.lines().count(), 130);
+    assert!(rt; others.lines().all(|line| line == second));
+}
+
 #[test]
 fn a_session_has_at_most_10_000_lines(rt: HostRuntime) {
     let mut input = Vec::new(rt.alloc());

@@ -1,6 +1,8 @@
 //! The texts of answers.
 use nmvs_identifier::{Batch, Expiry};
-use nmvs_messages::{Content, Entries, LineFault, Text, Turn, Withheld, WithheldAnswers};
+use nmvs_messages::{
+    Content, GatheredEntries, LineFault, ShownText, Text, Turn, Withheld, WithheldAnswers,
+};
 use nmvs_protocol::{reply_text, write_texts};
 use nmvs_rules::{BatchLock, Cause, Onward, OwnStatus, Refusal, Reply};
 use nmvs_stream::Device;
@@ -9,18 +11,18 @@ use std::process::Abort;
 use std::rt::HostRuntime;
 
 /// Whether the answer has this text.
-fn is_told(alloc: Global, answer: Content<'_>, text: &str) -> bool {
+fn is_told(alloc: Global, answer: Content, text: &str) -> bool {
     let mut withheld = WithheldAnswers::new();
     withheld.push(Withheld::new(answer));
     let mut told = Vec::new(alloc);
-    let end = write_texts(alloc, withheld.release(), &mut Device::new(&mut told));
-    end.is_none() && told.as_slice() == text.as_bytes()
+    let written = write_texts(withheld.release(), &mut Device::new(&mut told));
+    written.is_ok() && told.as_slice() == text.as_bytes()
 }
 
 /// Whether the reply has this text, on the heap and as an answer.
 fn is_replied(rt: &impl Abort, alloc: Global, reply: Reply, text: &str) -> bool {
     let line = reply_text(alloc, &reply, &[]).expect(rt, "ample memory");
-    let answer = Content::Replied(reply, Entries::new(Vec::new(&alloc)));
+    let answer = Content::Replied(reply, ShownText::of::<GatheredEntries>(&None));
     line.as_str() == text && is_told(alloc, answer, text)
 }
 

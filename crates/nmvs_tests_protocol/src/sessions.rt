@@ -1,11 +1,11 @@
 //! Sessions over bytes that come and go in pieces.
 use nmvs_identifier::{Batch, Expiry};
 use nmvs_messages::{
-    Ask, Asked, Basis, Content, Desk, End, Entries, Limits, Peer, Released, Text, Turn, Withheld,
-    WithheldAnswers,
+    Ask, Asked, Basis, Content, Desk, End, GatheredEntries, Limits, Peer, Released, ShownText,
+    Text, Turn, Withheld, WithheldAnswers,
 };
-use nmvs_protocol::{Session, read_line, serve};
-use nmvs_rules::{Question, Reply};
+use nmvs_protocol::{PIECE, Session, read_line, serve};
+use nmvs_rules::{Entry, Question, Reply};
 use nmvs_stream::Device;
 use std::alloc::Global;
 use std::cell::Cell;
@@ -37,14 +37,14 @@ struct Shelf<'a> {
 }
 
 impl<'a> Shelf<'a> {
-    fn answer(&mut self, ask: &Ask) -> Content<'a> {
+    fn answer(&mut self, ask: &Ask) -> Content {
         if let Asked::Report(..) = ask.asked {
             return match String::from_str(*self.alloc, "HOLDER -\nEND\n") {
                 Ok(report) => Content::Reported(Text::new(report)),
                 Err(_) => Content::Turned(Turn::Memory),
             };
         }
-        let none = Entries::new(Vec::new(self.alloc));
+        let none = ShownText::of::<GatheredEntries>(&None);
         if let Asked::Question(_, Question::Upload { batch, expiry, .. }) = &ask.asked {
             self.uploaded = Some((*batch, *expiry));
             return Content::Replied(Reply::Uploaded, none);
@@ -61,9 +61,11 @@ impl<'a> Shelf<'a> {
     }
 }
 
-impl<'a> Desk<'a> for Shelf<'a> {
+impl<'a> Desk for Shelf<'a> {
     ghost use Rattle.std.specs.Prelude.{◌≡◌};
     ghost use Rattle.nmvs_messages.specs.Withheld.{told_where};
+
+    type List = GatheredEntries;
 
     ghost takes = { λ _ _ _ _ _. Unit {0} };
 
@@ -71,16 +73,20 @@ impl<'a> Desk<'a> for Shelf<'a> {
 
     ghost moves = { λ old new. new ≡ old };
 
-    fn take(&mut self, _from: &Peer, ask: &Ask) -> Withheld<'a> {
+    fn take(&mut self, _from: &Peer, ask: &Ask) -> (Withheld, Option<GatheredEntries>) {
         let basis = Basis {
             shard: 0,
             place: self.asked,
         };
         self.asked = self.asked.saturating_add(1);
-        Withheld::resting_on(Some(basis), self.answer(ask))
+        (Withheld::resting_on(Some(basis), self.answer(ask)), None)
     }
 
-    fn release<'h>(&mut self, withheld: &'h mut WithheldAnswers<'a>) -> Released<'h, 'a> {
+    fn fetch(&self, list: &mut GatheredEntries, entries: &mut Vec<Entry>) {
+        list.fetch(entries);
+    }
+
+    fn release<'h>(&mut self, withheld: &'h mut WithheldAnswers) -> Released<'h> {
         withheld.release_kept(&self.kept)
     }
 }
@@ -332,11 +338,12 @@ fn a_session_is_fed_in_any_pieces(rt: HostRuntime) {
             kept: [ALL],
         };
         let mut end = None;
+        let mut room = Vec::with_capacity(alloc, PIECE).expect(&rt, "memory");
         for more in input.chunks(piece) {
             end = session.feed(
-                alloc,
                 more,
                 &mut withheld,
+                &mut room,
                 &mut sink,
                 &Peer::Anyone,
                 &mut desk,
@@ -349,7 +356,7 @@ fn a_session_is_fed_in_any_pieces(rt: HostRuntime) {
 }
 
 /// The kind of the answer at this place, in a word.
-fn kind_at(released: &Released<'_, '_>, place: usize) -> &'static str {
+fn kind_at(released: &Released<'_>, place: usize) -> &'static str {
     let Some(answer) = released.answer(place) else {
         return "none";
     };

@@ -108,7 +108,7 @@ impl<'s> Clock for Seconds<'s> {
 }
 
 /// The answer of the desk to one line of this peer.
-fn asked<'a, D: Desk<'a>>(
+fn asked<D: Desk>(
     alloc: Global,
     desk: &mut D,
     from: &Peer,

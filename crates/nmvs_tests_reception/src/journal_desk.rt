@@ -32,7 +32,7 @@ use std::thread::{Threads, join};
 const QUESTION: &[u8] = b"ph1 STATUS 09506000134352 S1\n";
 
 /// Asks the question in a session of its own. Whether it got its reply; else it got `FAULT JOURNAL`.
-fn is_told<'a, D: Desk<'a>>(rt: &impl Abort, alloc: Global, desk: &mut D) -> bool {
+fn is_told<D: Desk>(rt: &impl Abort, alloc: Global, desk: &mut D) -> bool {
     let mut output = Vec::new(alloc);
     let _end = serve(
         alloc,
@@ -50,7 +50,7 @@ fn is_told<'a, D: Desk<'a>>(rt: &impl Abort, alloc: Global, desk: &mut D) -> boo
 }
 
 /// Asks three times, and returns the number of replies. At each reply the file has confirmed its line.
-fn ask_thrice<'a, D: Desk<'a>>(
+fn ask_thrice<D: Desk>(
     rt: &(impl Wait + Abort),
     alloc: Global,
     desk: &mut D,

@@ -1,4 +1,4 @@
-use Rattle.std.proofs.Common.{◌≡◌, ◌≤◌, ◌∙◌, ◌++◌, ℕ, List, Option, None, inr, length, take, refl, sym, ap, subst, arith, rules}
+use Rattle.std.proofs.Common.{◌≡◌, ◌≤◌, ◌∙◌, ◌++◌, ℕ, List, [], Option, None, inr, length, take, refl, sym, ap, subst, arith, rules}
 use Rattle.std.proofs.lemmas.List.{length-take, take-take}
 use Rattle.nmvs_messages.specs.declared.peer.Peer.{Peer}
 use Rattle.nmvs_connections.specs.Turns.{TakesBy}
@@ -22,6 +22,9 @@ returns-then-is_some-clause-takes g c = lines_kept _ _ _ _ _ _ _ _ refl refl (ke
 pub returns-then-waiting-ne0-clause-takes : goal.returns-then-waiting-ne0-clause-takes
 returns-then-waiting-ne0-clause-takes g c = lines_kept _ _ _ _ _ _ _ _ refl refl (kept_same c.args.session.now c.args.session.now refl)
 
+pub returns-then-is_listing-clause-takes : goal.returns-then-is_listing-clause-takes
+returns-then-is_listing-clause-takes g c = lines_kept _ _ _ _ _ _ _ _ refl refl (kept_same c.args.session.now c.args.session.now refl)
+
 pub returns-clause-within : goal.returns-clause-within
 returns-clause-within g c =
     let p = c.part_for_now.ensures in
@@ -40,7 +43,8 @@ returns-clause-takes g c =
     let a = e.asks in
     let open_still : c.args.session.now.ended ≡ None = search rules in
     let w = c.waiting.ensures in
-    let told : c.args.session.now.waiting ≡ 0 = omega (arith, w, c.if-waiting-ne0.false) in record {
+    let told : c.args.session.now.waiting ≡ 0 = omega (arith, w, c.if-waiting-ne0.false) in
+    let unlisted : c.args.session.now.listed ≡ [] = c.is_listing.ensures.none c.if-is_listing.false in record {
       lines = lines_after (unfinished_line fed) bytes;
       held = a.held;
       behind = a.behind;
@@ -48,11 +52,12 @@ returns-clause-takes g c =
       goes = inr (
           record {
             lines_are = ap (λ (f : List ℕ). input_lines f) e.fed ∙ lines_more fed bytes;
-            text = λ i. e.replies.0 i ++ e.replies.1 i;
+            text = (λ i. (e.replies.0 i ++ e.replies.1 i) ++ e.replies.2 i) ∙ ap (λ (t : List ℕ). (c.args.session.now.sent ++ c.args.session.now.unsent) ++ t) (sym unlisted);
             open_still = open_still;
             told = told;
             starts = e.first;
             waits = sym a.one;
+            shows = a.shows;
             sound = e.sound;
           }
           );

@@ -8,7 +8,7 @@ pub returns-clause-takes : goal.returns-clause-takes
 returns-clause-takes g c x is =
     let r = c.read_line-reading.result in
     let reads = subst (λ (t : List ℕ). ReadsLine t r) is (reads_kept c.args.line.now r c.read_line-reading.ensures) in
-    record { reading = r; reads = kept_reads x r reads; answers = c.answer-withheld.ensures }
+    record { reading = r; reads = kept_reads x r reads; answers = c.answer-withheld.ensures.answers }
 
 pub returns-clause-quit : goal.returns-clause-quit
 returns-clause-quit g c x is =

@@ -6,7 +6,7 @@ use Rattle.nmvs_connections.proofs.RepliesSteps.{none_kept}
 use Rattle.nmvs_connections.proofs.buffered_session.BufferedSession.has_pending_line.Goals as goal
 
 pub returns : goal.returns
-returns c open_still =
+returns g c open_still =
     let is = c.self.inside in
     let none : is.end ≡ None = ap (λ t. t.ended) c.self.view_is ∙ open_still in
     let ready : GoesOn None is.session is.fed.numbers = subst (λ (o : Option End). GoesOn o is.session is.fed.numbers) none c.self.invariant.1 in

@@ -8,6 +8,10 @@ returns-in_default g c = steps_kept _ _ _ _ _ _ _ _ refl refl c.send.ensures.kep
 pub returns-then-not-is_sent : goal.returns-then-not-is_sent
 returns-then-not-is_sent g c = steps_kept _ _ _ _ _ _ _ _ refl refl c.send.ensures.kept (λ p known. c.send.ensures.peer ∙ known) c.send.ensures.is
 
+pub returns-then-is_listing : goal.returns-then-is_listing
+returns-then-is_listing g c =
+    steps_kept _ _ _ _ _ _ _ _ refl refl (kept_twice _ _ _ c.send.ensures.kept c.send_piece.ensures.kept) (λ p known. c.send_piece.ensures.peer ∙ c.send.ensures.peer ∙ known) c.send.ensures.is
+
 pub returns : goal.returns
 returns g c =
     let same = c.exchange.ensures in

@@ -6,7 +6,7 @@ use Rattle.nmvs_connections.proofs.LineSteps.{stands_named, stands_over, stands_
 use Rattle.nmvs_connections.proofs.peer_session.PeerSession.read_header.Goals as goal
 
 pub invariant_of-self-in-Whole : goal.invariant_of-self-in-Whole
-invariant_of-self-in-Whole c =
+invariant_of-self-in-Whole g c =
     let is = c.self.inside in
     let view = c.self.view_is in
     let new = c.begin.new.self in
@@ -15,7 +15,7 @@ invariant_of-self-in-Whole c =
     c.clear.ensures.items reads c.begin.ensures.carried c.begin.ensures.before c.self.invariant
 
 pub invariant_of-self : goal.invariant_of-self
-invariant_of-self c =
+invariant_of-self g c =
     let is = c.self.inside in
     let new = c.begin.new.self in
     let refused : c.begin.result ≡ false = first_of (search rules, cc (c.if-not-begin.true)) in

@@ -7,7 +7,7 @@ use Rattle.nmvs_connections.proofs.PeerSteps.{empty}
 use Rattle.nmvs_connections.proofs.peer_session.PeerSession.respond.Goals as goal
 
 pub respond-requires : goal.respond-requires
-respond-requires c =
+respond-requires g c =
     let is = c.self.inside in
     let answered : c.is_answered.result ≡ true = search rules in
     let replies = subst (λ (e : Option End). Replies is.session.fed is.session.sent 0 e) (sym c.end.ensures) (c.is_answered.ensures answered) in

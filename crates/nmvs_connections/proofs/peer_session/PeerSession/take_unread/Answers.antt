@@ -6,8 +6,8 @@ use Rattle.nmvs_connections.proofs.LineSteps.{stands_taken}
 use Rattle.nmvs_connections.proofs.PeerSteps.{cut_front}
 use Rattle.nmvs_connections.proofs.peer_session.PeerSession.take_unread.Goals as goal
 
-pub returns-then-before_list-eq0 : goal.returns-then-before_list-eq0
-returns-then-before_list-eq0 g c = rw (← c.self.view_is) (steps_kept _ _ _ _ _ _ _ _ refl refl (kept_same _ _ refl) (λ peer known. known) (c.self.inside.unread.items, c.self.invariant.0))
+pub returns-then-before_report-eq0 : goal.returns-then-before_report-eq0
+returns-then-before_report-eq0 g c = rw (← c.self.view_is) (steps_kept _ _ _ _ _ _ _ _ refl refl (kept_same _ _ refl) (λ peer known. known) (c.self.inside.unread.items, c.self.invariant.0))
 
 pub invariant_of-self : goal.invariant_of-self
 invariant_of-self g c =
