@@ -35,7 +35,7 @@ pub struct BufferedSession<L: EntryList> {
     first: usize,
     /// How many answers it waits for.
     waiting: usize,
-    /// The entries that the last of these answers shows, or that follow the replies once it is told.
+    /// The entries that the last answer shows. They follow the replies after that answer is told.
     list: Option<L>,
     end: Option<End>,
     fed: Tag,
@@ -258,7 +258,7 @@ fn kept_list<L: EntryList>(list: Option<L>, worded: Option<bool>) -> Option<L>
     }
 }
 
-/// The end of a session after its answers were worded, or not for want of memory.
+/// The end of a session whose answers were worded: as it was. Without memory for them it ends as by a failed write.
 fn kept_end(end: Option<End>, worded: Option<bool>) -> Option<End>
     ensures { result ≡ ended_by worded end }
 {
