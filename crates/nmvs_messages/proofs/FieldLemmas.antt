@@ -1,21 +1,18 @@
 -- Printable text is UTF-8, and the kept fields of a line.
-use Rattle.std.proofs.Common.{◌≡◌, ◌<◌, ◌≤◌, ◌||◌, ◌==◌, ℕ, true, false, List, [], ◌∷◌, ◌++◌, length, get_or, map, take, Bor, refl, lit<, sym, ◌∙◌, ap, arith}
-use Rattle.std.specs.List.{list_all, list_any, AllByRecursion}
+use Rattle.std.proofs.Common.{◌≡◌, ◌<◌, ◌≤◌, ◌+◌, ◌-◌, ◌==◌, ℕ, Bool, nat_le, ◌&&◌, true, false, List, [], ◌∷◌, ◌++◌, length, get_or, map, take, drop, Bor, refl, sym, ◌∙◌, ap, subst, add-one, arith}
+use Rattle.std.specs.List.{list_all, AllByRecursion}
 use Rattle.std.specs.Str.{IsUtf8}
 use Rattle.std.proofs.lemmas.Bool.{and_parts, eqb-true}
 use Rattle.std.proofs.lemmas.Bool.Decides.{nat_tests}
-use Rattle.std.proofs.lemmas.List.{length-take, length_push, map_push, take_all, take-append-le}
+use Rattle.std.proofs.lemmas.List.{length-take, length-drop, length-map, take_all, take-append-drop, take-append-le}
+use Rattle.std.proofs.Math.Seq.{drop-cons}
 use Rattle.std.proofs.lemmas.List.Elements.{All-from_recursion}
-use Rattle.std.proofs.lemmas.List.Folds.{list_any_at, list_any-append}
-use Rattle.std.proofs.lemmas.List.Splits.{join_with_byte-slice_split}
-use Rattle.std.specs.Str.Iter.{split_steps, split_text, split_has_more, split_pattern}
-use Rattle.std.specs.Str.Pattern.{FindsChar}
-use Rattle.std.specs.declared.str.Split.{Split}
-use Rattle.std.proofs.lemmas.Iterator.{YieldsList}
-use Rattle.std.proofs.lemmas.Iterator.Splits.{YieldsList-from_str_split}
+use Rattle.std.proofs.lemmas.List.Folds.{list_all-append}
+use Rattle.std.proofs.lemmas.List.Splits.{join_with_byte-slice_split, slice_split_at, slice_split_none}
 use Rattle.std.proofs.lemmas.Str.{IsUtf8-from_ascii}
 use Rattle.std.proofs.lemmas.Str.Ascii.{IsAscii-from_all}
-use Rattle.nmvs_messages.specs.Fields.{is_printable, is_empty, fields_in, line_of_fields}
+use Rattle.nmvs_identifier.proofs.PlainTexts.{all_weaker}
+use Rattle.nmvs_messages.specs.Fields.{is_printable, is_space, fields_in, line_of_fields}
 
 printable-small : (b : ℕ) → is_printable b ≡ true → b < 128
 printable-small b e = grind (arith, nat_tests)
@@ -30,36 +27,58 @@ all_small (b ∷ bs) e =
 pub printable-utf8 : (x : List ℕ) → list_all is_printable x ≡ true → IsUtf8 x
 printable-utf8 x e = IsUtf8-from_ascii x (IsAscii-from_all x (All-from_recursion _ x (all_small x e)))
 
--- the pieces of a text
-pub splits : (s t : Split ℕ) (x : List ℕ) → t ≡ s → split_text s ≡ x → split_has_more s ≡ true → split_pattern s ≡ 32
-    → YieldsList (split_steps FindsChar (λ a b. b ≡ a)) (λ f. f.now) t (fields_in x)
-splits s t x same text more space = YieldsList-from_str_split 32 x (lit< tt) (ap split_text same ∙ text) (ap split_has_more same ∙ more) (ap split_pattern same ∙ space)
+-- a printable character other than the space
+abbrev pub is_in_field : ℕ → Bool
+is_in_field b = nat_le 33 b && nat_le b 126
 
--- a text with an empty field has it at some place
-pub empty_at : (x : List ℕ) (i : ℕ) (f : List ℕ) → (i < length (fields_in x)) × (f ≡ get_or (fields_in x) i f) → is_empty f ≡ true → list_any is_empty (fields_in x) ≡ true
-empty_at x i f here e = list_any_at is_empty (fields_in x) i f here.0 (ap is_empty (sym here.1) ∙ e)
+in_field-printable : (b : ℕ) → is_in_field b ≡ true → is_printable b ≡ true
+in_field-printable b e = grind (arith, nat_tests)
 
--- the fields so far, none of them empty, with one more field
-pub filled_push : (fs : List (Bor (List ℕ))) (f : Bor (List ℕ)) → list_any is_empty (map (λ g. g.now) fs) ≡ false → is_empty f.now ≡ false
-    → list_any is_empty (map (λ g. g.now) (fs ++ f ∷ [])) ≡ false
-filled_push fs f filled e =
-    ap (list_any is_empty) (map_push (λ g. g.now) fs f) ∙ list_any-append is_empty (map (λ g. g.now) fs) (f.now ∷ [])
-    ∙ (λ i. filled i || (e i || false))
+in_field-spaceless : (b : ℕ) → is_in_field b ≡ true → is_space b ≡ false
+in_field-spaceless b e = grind (arith, nat_tests)
 
--- one more element, if there is room
-pub take_push : {A : Type 0} (xs : List A) (x : A) → length (take 8 xs) < 8 → take 8 (xs ++ x ∷ []) ≡ take 8 xs ++ x ∷ []
-take_push xs x room =
-    let kept = length-take 8 xs in
-    let more = length_push xs x in
-    take_all 8 (xs ++ x ∷ []) (omega arith) ∙ ap (λ ys. ys ++ x ∷ []) (sym (take_all 8 xs (omega arith)))
+spaceless : (x : List ℕ) → list_all is_in_field x ≡ true → AllByRecursion (λ b. is_space b ≡ false) x
+spaceless [] e = tt
+spaceless (b ∷ bs) e =
+    let parts = and_parts (is_in_field b) (list_all is_in_field bs) e in
+    (in_field-spaceless b parts.0, spaceless bs parts.1)
 
--- one more element is not kept if there is no room
-pub take_push_full : {A : Type 0} (xs : List A) (x : A) → 8 ≤ length (take 8 xs) → take 8 (xs ++ x ∷ []) ≡ take 8 xs
-take_push_full xs x full = let kept = length-take 8 xs in take-append-le 8 xs (x ∷ []) (omega arith)
+-- a field is printable, and the one field of its text
+pub field_printable : (x : List ℕ) → list_all is_in_field x ≡ true → list_all is_printable x ≡ true
+field_printable x e = all_weaker is_in_field is_printable in_field-printable x e
 
--- a list that has eight kept elements is full
-pub full : {A : Type 0} (kept all : List A) → kept ≡ take 8 all → (length kept == 8) ≡ true → 8 ≤ length (take 8 all)
-full kept all same is_full = let n = eqb-true (length kept) 8 is_full in let m = ap length same in omega arith
+pub one_field : (x : List ℕ) → list_all is_in_field x ≡ true → fields_in x ≡ x ∷ []
+one_field x e = slice_split_none is_space x (All-from_recursion _ x (spaceless x e))
+
+-- a text whose bytes were all looked at
+pub whole_field : (x : List ℕ) (n : ℕ) → length x ≤ n → list_all is_in_field (take n x) ≡ true → list_all is_in_field x ≡ true
+whole_field x n all e = ap (list_all is_in_field) (sym (take_all n x all)) ∙ e
+
+-- a text that goes on after the space behind a field
+pub record IsCut (x field behind : List ℕ) : Type 0 where
+  pub fields : fields_in x ≡ field ∷ fields_in behind
+  pub printable : list_all is_printable x ≡ list_all is_printable behind
+
+joined : (field behind : List ℕ) → list_all is_in_field field ≡ true → IsCut (field ++ 32 ∷ behind) field behind
+joined field behind e = record {
+  fields = slice_split_at is_space field 32 behind (All-from_recursion _ field (spaceless field e)) refl;
+  printable = list_all-append is_printable field (32 ∷ behind) ∙ ap (λ b. b && list_all is_printable behind) (field_printable field e);
+}
+
+pub cut_at : (x : List ℕ) (n : ℕ) → n < length x → get_or x n 0 ≡ 32 → list_all is_in_field (take n x) ≡ true
+    → IsCut x (take n x) (take (length x - (n + 1)) (drop (n + 1) x))
+cut_at x n within space e =
+    let rest : drop (n + 1) x ≡ take (length x - (n + 1)) (drop (n + 1) x) = sym (take_all (length x - (n + 1)) (drop (n + 1) x) (omega (arith, length-drop (n + 1) x))) in
+    let whole : take n x ++ 32 ∷ take (length x - (n + 1)) (drop (n + 1) x) ≡ x =
+    (λ i. take n x ++ sym space i ∷ sym rest i) ∙ ap (λ k. take n x ++ get_or x n 0 ∷ drop k x) (add-one n) ∙ ap (λ t. take n x ++ t) (sym (drop-cons x n 0 within)) ∙ take-append-drop n x in
+    subst (λ t. IsCut t (take n x) (take (length x - (n + 1)) (drop (n + 1) x))) whole (joined (take n x) (take (length x - (n + 1)) (drop (n + 1) x)) e)
+
+-- eight fields are all that are kept, whatever follows them
+pub kept_full : (kept : List (Bor (List ℕ))) (fs gs : List (List ℕ)) → (length kept == 8) ≡ true
+    → take 8 (map (λ g. g.now) kept ++ fs) ≡ take 8 (map (λ g. g.now) kept ++ gs)
+kept_full kept fs gs full =
+    let many : 8 ≤ length (map (λ g. g.now) kept) = omega (arith, eqb-true (length kept) 8 full, length-map kept (λ (g : Bor (List ℕ)). g.now)) in
+    take-append-le 8 (map (λ g. g.now) kept) fs many ∙ sym (take-append-le 8 (map (λ g. g.now) kept) gs many)
 
 -- a line with less than eight kept fields has exactly these, and is made of them
 pub line_of_kept : (x : List ℕ) (fs : List (List ℕ)) → take 8 (fields_in x) ≡ fs → length fs < 8 → x ≡ line_of_fields fs

@@ -1,5 +1,6 @@
 -- The fields of a line: the texts between single spaces (own).
-use Rattle.std.specs.Prelude.{ℕ, Bool, List, length, ◌==◌, ◌&&◌, nat_le, nat_lt, not, Option, Some, if◌then◌else◌}
+use Rattle.std.specs.Prelude.{ℕ, Bool, true, List, [], length, ◌==◌, ◌+◌, ◌&&◌, nat_le, nat_lt, not, Option, Some, None, if◌then◌else◌}
+use Rattle.std.specs.Borrow.{Bor}
 use Rattle.std.specs.List.{list_all, list_any, slice_split, join_with_byte}
 
 -- a printable ASCII character, the space among them
@@ -13,6 +14,21 @@ is_space b = b == 32
 -- the fields of a line
 abbrev pub fields_in : List ℕ → List (List ℕ)
 fields_in x = slice_split is_space x
+
+-- the fields of the bytes after a space, if there is one
+abbrev pub fields_behind : Option (Bor (List ℕ)) → List (List ℕ)
+fields_behind None = []
+fields_behind (Some behind) = fields_in behind.now
+
+-- whether all of those bytes are printable
+abbrev pub are_printable_behind : Option (Bor (List ℕ)) → Bool
+are_printable_behind None = true
+are_printable_behind (Some behind) = list_all is_printable behind.now
+
+-- their number, and one for the space
+abbrev pub length_behind : Option (Bor (List ℕ)) → ℕ
+length_behind None = 0
+length_behind (Some behind) = length behind.now + 1
 
 -- the line that has these fields
 abbrev pub line_of_fields : List (List ℕ) → List ℕ

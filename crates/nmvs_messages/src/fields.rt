@@ -1,7 +1,7 @@
 //! The fields of a line.
-ghost use Rattle.std.specs.Prelude.{◌≡◌, ◌↔◌, ℕ, List, Option, Some, IsTrue, IsSome, IfSome, IsNone, IfOk, MatchResult, map, take};
-ghost use Rattle.std.specs.List.{list_any, list_all};
-ghost use Rattle.nmvs_messages.specs.Fields.{is_printable, is_empty, fields_in, line_fault};
+ghost use Rattle.std.specs.Prelude.{◌≡◌, ◌≤◌, ◌∷◌, ℕ, List, Option, Some, false, IsTrue, IfSome, IfNone, IfOk, MatchResult, length, map, take};
+ghost use Rattle.std.specs.List.{list_all};
+ghost use Rattle.nmvs_messages.specs.Fields.{is_printable, fields_in, fields_behind, are_printable_behind, length_behind, line_fault};
 
 use crate::LONGEST_LINE;
 use arrayvec::ArrayVec;
@@ -28,42 +28,50 @@ pub fn fields_of<F: Copy>(line: &[u8], long: F, bytes: F, empty: F) -> Result<Fi
     if line.len() > LONGEST_LINE {
         return Err(long);
     }
-    let text = printable_text(line).ok_or(bytes)?;
-    split(text).ok_or(empty)
+    let mut fields = Fields::new();
+    let mut rest = Some(line);
+    while let Some(text) = rest {
+        let (field, behind) = cut_field(text).ok_or(bytes)?;
+        if field.is_empty() {
+            return Err(if are_printable(text) { empty } else { bytes });
+        }
+        if !fields.is_full() {
+            fields.push(field);
+        }
+        rest = behind;
+    }
+    Ok(fields)
 }
 
-/// The line as a text, if each byte is a printable ASCII character.
-fn printable_text(bytes: &[u8]) -> Option<&str>
-    ensures printable { IsSome result ↔ IsTrue (list_all is_printable bytes.now) }
-    ensures same { IfSome result (λ text. text.now ≡ bytes.now) }
+/// The first field of a text, and the bytes after the space that ends it, if one does. There is none if a byte up to there is
+/// not printable.
+fn cut_field(text: &[u8]) -> Option<(&str, Option<&[u8]>)>
+    ensures fields { IfSome result (λ cut. fields_in text.now ≡ cut.0.now ∷ fields_behind cut.1) }
+    ensures printable { IfSome result (λ cut. list_all is_printable text.now ≡ are_printable_behind cut.1) }
+    ensures shorter { IfSome result (λ cut. length_behind cut.1 ≤ length text.now) }
+    ensures none { IfNone result (list_all is_printable text.now ≡ false) }
 {
-    if !are_printable(bytes) {
-        return None;
+    for (i, b) in text.iter().enumerate() {
+        match *b {
+            b'!'..=b'~' => {}
+            b' ' => return Some((as_text(&text[..i]), Some(&text[i + 1..]))),
+            _ => return None,
+        }
     }
+    Some((as_text(text), None))
+}
+
+/// Printable bytes as a text.
+fn as_text(bytes: &[u8]) -> &str
+    requires { IsTrue (list_all is_printable bytes.now) }
+    ensures { result.now ≡ bytes.now }
+{
     // Printable ASCII is UTF-8, which is proved, so no run looks for it.
-    Some(unsafe { str::from_utf8_unchecked(bytes) })
+    unsafe { str::from_utf8_unchecked(bytes) }
 }
 
 fn are_printable(bytes: &[u8]) -> bool
     ensures { result ≡ list_all is_printable bytes.now }
 {
     bytes.iter().all(|b| matches!(*b, b' '..=b'~'))
-}
-
-/// The fields of a text, if none is empty.
-fn split(text: &str) -> Option<Fields<'_>>
-    ensures filled { IsNone result ↔ IsTrue (list_any is_empty (fields_in text.now)) }
-    ensures fields { IfSome result (λ fields.
-        map (λ f. f.now) fields.items ≡ take KEPT_FIELDS (fields_in text.now)) }
-{
-    let mut fields = Fields::new();
-    for field in text.split(' ') {
-        if field.is_empty() {
-            return None;
-        }
-        if !fields.is_full() {
-            fields.push(field);
-        }
-    }
-    Some(fields)
 }

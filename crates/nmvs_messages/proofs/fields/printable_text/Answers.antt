@@ -1,6 +1,0 @@
-use Rattle.std.proofs.Common.{sym, ◌∙◌}
-use Rattle.nmvs_messages.proofs.FieldLemmas.{printable-utf8}
-use Rattle.nmvs_messages.proofs.fields.printable_text.Goals as goal
-
-pub from_utf8_unchecked-requires : goal.from_utf8_unchecked-requires
-from_utf8_unchecked-requires c = printable-utf8 c.args.bytes.now (sym c.are_printable.ensures ∙ c.if-not-are_printable.false)
