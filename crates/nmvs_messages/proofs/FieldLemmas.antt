@@ -1,6 +1,7 @@
 -- Printable text is UTF-8, and the kept fields of a line.
 use Rattle.std.proofs.Common.{◌≡◌, ◌<◌, ◌≤◌, ◌+◌, ◌-◌, ◌==◌, ℕ, Bool, nat_le, ◌&&◌, true, false, List, [], ◌∷◌, ◌++◌, length, get_or, map, take, drop, Bor, refl, sym, ◌∙◌, ap, subst, add-one, arith}
 use Rattle.std.specs.List.{list_all, AllByRecursion}
+use Rattle.std.specs.Char.{is_ascii_graphic}
 use Rattle.std.specs.Str.{IsUtf8}
 use Rattle.std.proofs.lemmas.Bool.{and_parts, eqb-true}
 use Rattle.std.proofs.lemmas.Bool.Decides.{nat_tests}
@@ -27,45 +28,41 @@ all_small (b ∷ bs) e =
 pub printable-utf8 : (x : List ℕ) → list_all is_printable x ≡ true → IsUtf8 x
 printable-utf8 x e = IsUtf8-from_ascii x (IsAscii-from_all x (All-from_recursion _ x (all_small x e)))
 
--- a printable character other than the space
-abbrev pub is_in_field : ℕ → Bool
-is_in_field b = nat_le 33 b && nat_le b 126
-
-in_field-printable : (b : ℕ) → is_in_field b ≡ true → is_printable b ≡ true
+in_field-printable : (b : ℕ) → is_ascii_graphic b ≡ true → is_printable b ≡ true
 in_field-printable b e = grind (arith, nat_tests)
 
-in_field-spaceless : (b : ℕ) → is_in_field b ≡ true → is_space b ≡ false
+in_field-spaceless : (b : ℕ) → is_ascii_graphic b ≡ true → is_space b ≡ false
 in_field-spaceless b e = grind (arith, nat_tests)
 
-spaceless : (x : List ℕ) → list_all is_in_field x ≡ true → AllByRecursion (λ b. is_space b ≡ false) x
+spaceless : (x : List ℕ) → list_all is_ascii_graphic x ≡ true → AllByRecursion (λ b. is_space b ≡ false) x
 spaceless [] e = tt
 spaceless (b ∷ bs) e =
-    let parts = and_parts (is_in_field b) (list_all is_in_field bs) e in
+    let parts = and_parts (is_ascii_graphic b) (list_all is_ascii_graphic bs) e in
     (in_field-spaceless b parts.0, spaceless bs parts.1)
 
 -- a field is printable, and the one field of its text
-pub field_printable : (x : List ℕ) → list_all is_in_field x ≡ true → list_all is_printable x ≡ true
-field_printable x e = all_weaker is_in_field is_printable in_field-printable x e
+pub field_printable : (x : List ℕ) → list_all is_ascii_graphic x ≡ true → list_all is_printable x ≡ true
+field_printable x e = all_weaker is_ascii_graphic is_printable in_field-printable x e
 
-pub one_field : (x : List ℕ) → list_all is_in_field x ≡ true → fields_in x ≡ x ∷ []
+pub one_field : (x : List ℕ) → list_all is_ascii_graphic x ≡ true → fields_in x ≡ x ∷ []
 one_field x e = slice_split_none is_space x (All-from_recursion _ x (spaceless x e))
 
 -- a text whose bytes were all looked at
-pub whole_field : (x : List ℕ) (n : ℕ) → length x ≤ n → list_all is_in_field (take n x) ≡ true → list_all is_in_field x ≡ true
-whole_field x n all e = ap (list_all is_in_field) (sym (take_all n x all)) ∙ e
+pub whole_field : (x : List ℕ) (n : ℕ) → length x ≤ n → list_all is_ascii_graphic (take n x) ≡ true → list_all is_ascii_graphic x ≡ true
+whole_field x n all e = ap (list_all is_ascii_graphic) (sym (take_all n x all)) ∙ e
 
 -- a text that goes on after the space behind a field
 pub record IsCut (x field behind : List ℕ) : Type 0 where
   pub fields : fields_in x ≡ field ∷ fields_in behind
   pub printable : list_all is_printable x ≡ list_all is_printable behind
 
-joined : (field behind : List ℕ) → list_all is_in_field field ≡ true → IsCut (field ++ 32 ∷ behind) field behind
+joined : (field behind : List ℕ) → list_all is_ascii_graphic field ≡ true → IsCut (field ++ 32 ∷ behind) field behind
 joined field behind e = record {
   fields = slice_split_at is_space field 32 behind (All-from_recursion _ field (spaceless field e)) refl;
   printable = list_all-append is_printable field (32 ∷ behind) ∙ ap (λ b. b && list_all is_printable behind) (field_printable field e);
 }
 
-pub cut_at : (x : List ℕ) (n : ℕ) → n < length x → get_or x n 0 ≡ 32 → list_all is_in_field (take n x) ≡ true
+pub cut_at : (x : List ℕ) (n : ℕ) → n < length x → get_or x n 0 ≡ 32 → list_all is_ascii_graphic (take n x) ≡ true
     → IsCut x (take n x) (take (length x - (n + 1)) (drop (n + 1) x))
 cut_at x n within space e =
     let rest : drop (n + 1) x ≡ take (length x - (n + 1)) (drop (n + 1) x) = sym (take_all (length x - (n + 1)) (drop (n + 1) x) (omega (arith, length-drop (n + 1) x))) in

@@ -1,5 +1,5 @@
 //! The fields of a line.
-ghost use Rattle.std.specs.Prelude.{◌≡◌, ◌≤◌, ◌∷◌, ℕ, List, Option, Some, false, IsTrue, IfSome, IfNone, IfOk, MatchResult, length, map, take};
+ghost use Rattle.std.specs.Prelude.{◌≡◌, ◌≤◌, [], ◌∷◌, ℕ, List, Option, Some, false, IsTrue, IfSome, IfNone, IfOk, MatchResult, length, map, take};
 ghost use Rattle.std.specs.List.{list_all};
 ghost use Rattle.nmvs_messages.specs.Fields.{is_printable, fields_in, fields_behind, are_printable_behind, length_behind, line_fault};
 
@@ -25,10 +25,32 @@ pub fn fields_of<F: Copy>(line: &[u8], long: F, bytes: F, empty: F) -> Result<Fi
         (λ fields. line_fault long bytes empty of_fields line.now ≡ of_fields (fields_in line.now))
         (λ fault. line_fault long bytes empty of_fields line.now ≡ Some fault) }
 {
+    let mut fields = Fields::new();
+    fill_fields(&mut fields, line, long, bytes, empty)?;
+    Ok(fields)
+}
+
+/// Puts the fields of a line, or the first eight if there are more, into a list of none.
+///
+/// # Errors
+///
+/// Those of [`fields_of`]. Some fields may be in the list then.
+pub fn fill_fields<'l, F: Copy>(
+    fields: &mut Fields<'l>,
+    line: &'l [u8],
+    long: F,
+    bytes: F,
+    empty: F,
+) -> Result<(), F>
+    requires { fields.old.items ≡ [] }
+    ensures fields { IfOk result (λ _. map (λ f. f.now) fields.new.items ≡ take KEPT_FIELDS (fields_in line.now)) }
+    ensures fault { (of_fields : List (List ℕ) → Option F) → MatchResult result
+        (λ _. line_fault long bytes empty of_fields line.now ≡ of_fields (fields_in line.now))
+        (λ fault. line_fault long bytes empty of_fields line.now ≡ Some fault) }
+{
     if line.len() > LONGEST_LINE {
         return Err(long);
     }
-    let mut fields = Fields::new();
     let mut rest = Some(line);
     while let Some(text) = rest {
         let (field, behind) = cut_field(text).ok_or(bytes)?;
@@ -40,7 +62,7 @@ pub fn fields_of<F: Copy>(line: &[u8], long: F, bytes: F, empty: F) -> Result<Fi
         }
         rest = behind;
     }
-    Ok(fields)
+    Ok(())
 }
 
 /// The first field of a text, and the bytes after the space that ends it, if one does. There is none if a byte up to there is
@@ -52,10 +74,11 @@ fn cut_field(text: &[u8]) -> Option<(&str, Option<&[u8]>)>
     ensures none { IfNone result (list_all is_printable text.now ≡ false) }
 {
     for (i, b) in text.iter().enumerate() {
-        match *b {
-            b'!'..=b'~' => {}
-            b' ' => return Some((as_text(&text[..i]), Some(&text[i + 1..]))),
-            _ => return None,
+        if !b.is_ascii_graphic() {
+            if *b != b' ' {
+                return None;
+            }
+            return Some((as_text(&text[..i]), Some(&text[i + 1..])));
         }
     }
     Some((as_text(text), None))

@@ -27,7 +27,7 @@ pub use commands::{command_of, read_command};
 pub use desk::Desk;
 pub use end::End;
 pub use entry_list::EntryList;
-pub use fields::{Fields, KEPT_FIELDS, fields_of};
+pub use fields::{Fields, KEPT_FIELDS, fields_of, fill_fields};
 pub use gathered::GatheredEntries;
 pub use laws::commands_are_read;
 pub use limits::{

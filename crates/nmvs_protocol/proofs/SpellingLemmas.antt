@@ -1,5 +1,5 @@
 -- The text of a line is read as it, and is the text of no other line.
-use Rattle.std.proofs.Common.{◌≡◌, ◌≢◌, ◌≤◌, ◌<◌, ◌==◌, ◌&&◌, ◌||◌, not, ℕ, true, false, List, [], ◌∷◌, ◌++◌, length, map, take, drop, get_or, codes, Bor, Option, Some, None, inl, inr, refl, sym, ap, ◌∙◌, lit≤, cond, arith, Result, Ok, Err}
+use Rattle.std.proofs.Common.{◌≡◌, ◌≢◌, ◌≤◌, ◌<◌, ◌-◌, ◌==◌, ◌&&◌, ◌||◌, not, ℕ, true, false, List, [], ◌∷◌, ◌++◌, length, map, take, drop, get_or, codes, Bor, Option, Some, None, inl, inr, refl, sym, ap, ◌∙◌, lit≤, cond, arith, Result, Ok, Err}
 use Rattle.std.specs.Prelude.{IfOk, IsTrue}
 use Rattle.std.specs.Result.{result_err}
 use Rattle.std.specs.List.{AllByRecursion}
@@ -323,6 +323,15 @@ no_report word other = no_such_word word report_word other
 pub ask_fault-question : (user word : List ℕ) (ts : List (List ℕ)) → word ≢ report_word → ask_fault user word ts ≡ question_fault user (kind_named word) ts
 ask_fault-question user word ts other =
     let no = no_report word other in λ i. cond (no i) (texts_fault report_grammars user ts) (question_fault user (kind_named word) ts)
+
+-- the fault of fields whose second asks for no report
+pub asked_fault-question : (fs : List (Bor (List ℕ))) (a : Bor (List ℕ)) → 2 ≤ length fs → (get_or fs 1 a).now ≢ report_word
+    → asked_fault (map (λ f. f.now) fs) ≡ question_fault (get_or fs 0 a).now (kind_named (get_or fs 1 a).now) (map (λ f. f.now) (take (length fs - 2) (drop 2 fs)))
+asked_fault-question [] a some other = absurd (omega (arith, some))
+asked_fault-question (f ∷ []) a some other = absurd (omega (arith, some))
+asked_fault-question (f ∷ g ∷ fs) a some other =
+    ask_fault-question f.now g.now (map (λ t. t.now) fs) other
+    ∙ ap (λ (ts : List (Bor (List ℕ))). question_fault f.now (kind_named g.now) (map (λ t. t.now) ts)) (sym (take_all (length (f ∷ g ∷ fs) - 2) fs (omega arith)))
 
 -- but for five texts, a question about a pack has the fault of two
 pack_fault-other : (user : List ℕ) (ts : List (List ℕ)) → length ts ≢ 5 → pack_fault user ts ≡ texts_fault pack_grammars user ts

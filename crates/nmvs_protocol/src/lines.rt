@@ -8,11 +8,11 @@ ghost use Rattle.nmvs_identifier.specs.Batch.{is_batch};
 ghost use Rattle.nmvs_identifier.specs.Expiry.{is_expiry};
 ghost use Rattle.nmvs_words.specs.Kinds.{kind_named, kind_word};
 ghost use Rattle.nmvs_messages.specs.Fields.{line_of_fields};
-ghost use Rattle.nmvs_protocol.specs.Lines.{ReadsLine, ReadsUntagged, fields as line_fields, line_tag, byte_fault as fault_of_byte, asked_fields, report_word, line_text as text_of_line, is_line, is_asked, asked_line_fault, fields_fault, asked_fault, ask_fault, question_fault, pack_fault, texts_fault, grammars, report_grammars};
+ghost use Rattle.nmvs_protocol.specs.Lines.{ReadsLine, ReadsUntagged, fields as line_fields, line_tag, byte_fault as fault_of_byte, asked_fields, report_word, line_text as text_of_line, is_line, is_asked, asked_line_fault, fields_fault, asked_fault, question_fault, pack_fault, texts_fault, grammars, report_grammars};
 
 use crate::tags::{cut_tag, tag_text};
 use nmvs_identifier::{Batch, Expiry, Name, Pack, ProductCode, Serial};
-use nmvs_messages::{Ask, Asked, LONGEST_LINE, Line, LineFault, Unread, fields_of};
+use nmvs_messages::{Ask, Asked, Fields, LONGEST_LINE, Line, LineFault, Unread, fill_fields};
 use nmvs_rules::{Printed, Question};
 use nmvs_words::{BatchQuestion, PackQuestion, QuestionKind};
 use std::alloc::{AllocError, Allocator};
@@ -43,8 +43,10 @@ pub fn read_line(bytes: &[u8]) -> Result<Line, Unread>
 fn read_untagged(bytes: &[u8]) -> Result<Line, LineFault>
     ensures { ReadsUntagged bytes.now result }
 {
-    let fields = fields_of(bytes, LineFault::Long, byte_fault(bytes), LineFault::Fields)?;
-    read_fields(&fields)
+    let fault = byte_fault(bytes);
+    let mut found = Fields::new();
+    fill_fields(&mut found, bytes, LineFault::Long, fault, LineFault::Fields)?;
+    read_fields(&found)
 }
 
 /// Reads the ask after the tag of a line that has this number of bytes.
@@ -56,13 +58,10 @@ fn read_tagged(count: usize, behind: &[u8]) -> Result<Asked, LineFault>
     if count > LONGEST_LINE {
         return Err(LineFault::Long);
     }
-    let fields = fields_of(
-        behind,
-        LineFault::Long,
-        byte_fault(behind),
-        LineFault::Fields,
-    )?;
-    read_asked(&fields)
+    let fault = byte_fault(behind);
+    let mut found = Fields::new();
+    fill_fields(&mut found, behind, LineFault::Long, fault, LineFault::Fields)?;
+    read_asked(&found)
 }
 
 /// The fault of a line with a byte that is not printable. A line that ends with CR LF has a fault of its own (own).
@@ -90,10 +89,10 @@ fn read_fields(fields: &[&str]) -> Result<Line, LineFault>
             "QUIT" => Ok(Line::Quit),
             _ => Err(LineFault::Fields),
         },
-        _ => {
-            let asked = read_asked(fields)?;
-            Ok(Line::Ask(Ask { tag: None, asked }))
-        }
+        _ => match read_asked(fields) {
+            Ok(asked) => Ok(Line::Ask(Ask { tag: None, asked })),
+            Err(fault) => Err(fault),
+        },
     }
 }
 
@@ -104,21 +103,11 @@ fn read_asked(fields: &[&str]) -> Result<Asked, LineFault>
     ensures fault { result_err result ≡ asked_fault (map (λ f. f.now) fields.now) }
 {
     match fields {
-        [user, word, texts @ ..] => read_ask(user, word, texts),
+        [user, word, texts @ ..] => match *word {
+            "REPORT" => read_report(user, texts),
+            _ => read_question(user, word, texts),
+        },
         _ => Err(LineFault::Fields),
-    }
-}
-
-/// The ask of a user with this word and the texts after it.
-fn read_ask(user: &str, word: &str, texts: &[&str]) -> Result<Asked, LineFault>
-    ensures fields { IfOk result (λ asked.
-        asked_fields asked ≡ user.now ∷ word.now ∷ map (λ t. t.now) texts.now) }
-    ensures valid { IfOk result (λ asked. IsTrue (is_asked asked)) }
-    ensures fault { result_err result ≡ ask_fault user.now word.now (map (λ t. t.now) texts.now) }
-{
-    match word {
-        "REPORT" => read_report(user, texts),
-        _ => read_question(user, word, texts),
     }
 }
 

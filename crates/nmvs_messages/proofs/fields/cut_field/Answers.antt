@@ -6,13 +6,13 @@ use Rattle.nmvs_messages.proofs.fields.cut_field.Goals as goal
 pub as_text-requires : goal.as_text-requires
 as_text-requires c = field_printable (take c.loop-i.i c.args.text.now) c.loop-i.invariant
 
-pub returns-in-32-clause-fields : goal.returns-in-32-clause-fields
-returns-in-32-clause-fields c =
-    (cut_at c.args.text.now c.loop-i.i c.loop-i-test.true c.in-32.is c.loop-i.invariant).fields
+pub returns-then-not-is_ascii_graphic-clause-fields : goal.returns-then-not-is_ascii_graphic-clause-fields
+returns-then-not-is_ascii_graphic-clause-fields c =
+    (cut_at c.args.text.now c.loop-i.i c.loop-i-test.true c.if-b-ne32.false c.loop-i.invariant).fields
     ∙ ap (λ t. t ∷ fields_in (take (length c.args.text.now - (c.loop-i.i + 1)) (drop (c.loop-i.i + 1) c.args.text.now))) (sym c.as_text.ensures)
 
-pub returns-in-32-clause-printable : goal.returns-in-32-clause-printable
-returns-in-32-clause-printable c = (cut_at c.args.text.now c.loop-i.i c.loop-i-test.true c.in-32.is c.loop-i.invariant).printable
+pub returns-then-not-is_ascii_graphic-clause-printable : goal.returns-then-not-is_ascii_graphic-clause-printable
+returns-then-not-is_ascii_graphic-clause-printable c = (cut_at c.args.text.now c.loop-i.i c.loop-i-test.true c.if-b-ne32.false c.loop-i.invariant).printable
 
 pub as_text-requires-2 : goal.as_text-requires-2
 as_text-requires-2 c = field_printable c.args.text.now (whole_field c.args.text.now c.loop-i.i c.loop-i-test.false c.loop-i.invariant)

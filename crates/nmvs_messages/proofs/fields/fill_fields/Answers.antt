@@ -1,7 +1,7 @@
 use Rattle.std.proofs.Common.{◌∙◌, sym, rules}
 use Rattle.nmvs_messages.specs.Fields.{fields_behind}
 use Rattle.nmvs_messages.proofs.FieldLemmas.{kept_full}
-use Rattle.nmvs_messages.proofs.fields.fields_of.Goals as goal
+use Rattle.nmvs_messages.proofs.fields.fill_fields.Goals as goal
 
 pub loop-rest-preserved : goal.loop-rest-preserved
 loop-rest-preserved g c =

@@ -1,7 +1,7 @@
 use Rattle.std.proofs.Common.{◌≡◌, ◌≤◌, ◌++◌, length, map, take}
 use Rattle.std.specs.List.{list_any, list_all}
 use Rattle.nmvs_messages.specs.Fields.{is_printable, is_empty, fields_in, fields_behind, are_printable_behind, length_behind}
-use Rattle.nmvs_messages.proofs.fields.fields_of.Given as goal
+use Rattle.nmvs_messages.proofs.fields.fill_fields.Given as goal
 
 abbrev pub invariant-loop-rest : goal.invariant-loop-rest
 invariant-loop-rest g l = record {
