@@ -23,7 +23,10 @@ use std::alloc::{AllocError, Global};
 pub const VERSION: &str = "0.9.0";
 
 /// The most bytes of the text of a short answer: a status with the longest words and values, and LF.
-pub(crate) const LONGEST_REPLY: usize = 67;
+const LONGEST_REPLY: usize = 67;
+
+/// The text of a short answer.
+pub(crate) type ShortLine = ArrayString<LONGEST_REPLY>;
 
 /// The text of a reply and of the entries that it shows: its line, and then the line of each entry.
 ///
@@ -59,70 +62,85 @@ pub(crate) fn wording(content: &Content) -> Wording<'_>
     }
 }
 
-fn reply_line(reply: &Reply) -> ArrayString<LONGEST_REPLY>
+fn reply_line(reply: &Reply) -> ShortLine
     ensures { result.bytes ≡ spaced (reply_words reply.now) }
 {
+    let mut line = ShortLine::new();
+    push_reply(&mut line, reply);
+    line
+}
+
+/// Puts the words of a reply into an empty line.
+fn push_reply(line: &mut ShortLine, reply: &Reply)
+    requires { line.old.bytes ≡ [] }
+    ensures { line.new.bytes ≡ spaced (reply_words reply.now) }
+{
     match reply {
-        Reply::Uploaded => in_words("UPLOADED", &[]),
+        Reply::Uploaded => push_words(line, "UPLOADED", &[]),
         Reply::Authentic {
             batch,
             expiry,
             expired,
-        } => authentic_line(*batch, *expiry, *expired),
+        } => push_authentic(line, *batch, *expiry, *expired),
         Reply::Alert {
             cause,
             flagged,
             number,
-        } => alert_line(*cause, *flagged, *number),
+        } => push_alert(line, *cause, *flagged, *number),
         Reply::StatusIs {
             own,
             lock,
             onward,
             batch,
             expiry,
-        } => status_line(*own, *lock, *onward, *batch, *expiry),
-        Reply::NoPack => in_words("NOPACK", &[]),
-        Reply::Decommissioned => in_words("DECOMMISSIONED", &[]),
-        Reply::HandedOver => in_words("HANDED_OVER", &[]),
-        Reply::Reverted => in_words("REVERTED", &[]),
-        Reply::LockedNow(count) => count_line("LOCKED", *count),
-        Reply::MarkedStolen => in_words("STOLEN", &[]),
-        Reply::Shown(count) => count_line("SHOWN", *count),
-        Reply::Refused(refusal) => refusal_line(*refusal),
+        } => push_status(line, *own, *lock, *onward, *batch, *expiry),
+        Reply::NoPack => push_words(line, "NOPACK", &[]),
+        Reply::Decommissioned => push_words(line, "DECOMMISSIONED", &[]),
+        Reply::HandedOver => push_words(line, "HANDED_OVER", &[]),
+        Reply::Reverted => push_words(line, "REVERTED", &[]),
+        Reply::LockedNow(count) => push_count(line, "LOCKED", *count),
+        Reply::MarkedStolen => push_words(line, "STOLEN", &[]),
+        Reply::Shown(count) => push_count(line, "SHOWN", *count),
+        Reply::Refused(refusal) => push_refusal(line, *refusal),
     }
 }
 
-fn authentic_line(batch: Batch, expiry: Expiry, expired: bool) -> ArrayString<LONGEST_REPLY>
-    ensures { result.bytes ≡ spaced (reply_words (Reply.Authentic batch expiry expired)) }
+fn push_authentic(line: &mut ShortLine, batch: Batch, expiry: Expiry, expired: bool)
+    requires { line.old.bytes ≡ [] }
+    ensures { line.new.bytes ≡ spaced (reply_words (Reply.Authentic batch expiry expired)) }
 {
-    let expiry = expiry.text();
-    in_words(
+    push_words(
+        line,
         "AUTHENTIC",
         &[batch.text(), expiry.as_str(), validity_word(expired)],
-    )
+    );
 }
 
-fn alert_line(cause: Cause, flagged: bool, number: u64) -> ArrayString<LONGEST_REPLY>
-    ensures { result.bytes ≡ spaced (reply_words (Reply.Alert cause flagged number)) }
+fn push_alert(line: &mut ShortLine, cause: Cause, flagged: bool, number: u64)
+    requires { line.old.bytes ≡ [] }
+    ensures { line.new.bytes ≡ spaced (reply_words (Reply.Alert cause flagged number)) }
 {
     let mut digits = Buffer::new();
-    in_words(
+    push_words(
+        line,
         "ALERT",
         &[cause_word(cause), flag_word(flagged), digits.format(number)],
-    )
+    );
 }
 
-fn status_line(
+fn push_status(
+    line: &mut ShortLine,
     own: OwnStatus,
     lock: BatchLock,
     onward: Onward,
     batch: Batch,
     expiry: Expiry,
-) -> ArrayString<LONGEST_REPLY>
-    ensures { result.bytes ≡ spaced (reply_words (Reply.StatusIs own lock onward batch expiry)) }
+)
+    requires { line.old.bytes ≡ [] }
+    ensures { line.new.bytes ≡ spaced (reply_words (Reply.StatusIs own lock onward batch expiry)) }
 {
-    let expiry = expiry.text();
-    in_words(
+    push_words(
+        line,
         "STATUS",
         &[
             own_word(own),
@@ -131,40 +149,52 @@ fn status_line(
             batch.text(),
             expiry.as_str(),
         ],
-    )
+    );
 }
 
-fn count_line(word: &str, count: u64) -> ArrayString<LONGEST_REPLY>
-    requires { length word.now ≤ 6 }
-    ensures { result.bytes ≡ spaced (word.now ∷ decimal count ∷ []) }
+fn push_count(line: &mut ShortLine, word: &str, count: u64)
+    requires empty { line.old.bytes ≡ [] }
+    requires short { length word.now ≤ 6 }
+    ensures { line.new.bytes ≡ spaced (word.now ∷ decimal count ∷ []) }
 {
     let mut digits = Buffer::new();
-    in_words(word, &[digits.format(count)])
+    push_words(line, word, &[digits.format(count)]);
 }
 
-fn refusal_line(refusal: Refusal) -> ArrayString<LONGEST_REPLY>
-    ensures { result.bytes ≡ spaced (reply_words (Reply.Refused refusal)) }
+fn push_refusal(line: &mut ShortLine, refusal: Refusal)
+    requires { line.old.bytes ≡ [] }
+    ensures { line.new.bytes ≡ spaced (reply_words (Reply.Refused refusal)) }
 {
     let mut digits = Buffer::new();
-    in_words(
+    push_words(
+        line,
         "REFUSED",
         &[digits.format(refusal.number()), refusal_word(refusal)],
-    )
+    );
 }
 
-/// The words with a space between each two, and LF after the last.
-fn in_words(first: &str, others: &[&str]) -> ArrayString<LONGEST_REPLY>
+/// The words in a line.
+fn in_words(first: &str, others: &[&str]) -> ShortLine
     requires { length (spaced (first.now ∷ map (λ w. w.now) others.now)) ≤ LONGEST_REPLY }
     ensures { result.bytes ≡ spaced (first.now ∷ map (λ w. w.now) others.now) }
 {
-    let mut text = ArrayString::new();
-    text.push_str(first);
+    let mut line = ShortLine::new();
+    push_words(&mut line, first, others);
+    line
+}
+
+/// Puts words into an empty line, with a space between each two, and LF after the last.
+fn push_words(line: &mut ShortLine, first: &str, others: &[&str])
+    requires empty { line.old.bytes ≡ [] }
+    requires short { length (spaced (first.now ∷ map (λ w. w.now) others.now)) ≤ LONGEST_REPLY }
+    ensures { line.new.bytes ≡ spaced (first.now ∷ map (λ w. w.now) others.now) }
+{
+    line.push_str(first);
     let mut rest = others;
     while let [word, later @ ..] = rest {
-        text.push_str(" ");
-        text.push_str(word);
+        line.push_str(" ");
+        line.push_str(word);
         rest = later;
     }
-    text.push_str("\n");
-    text
+    line.push_str("\n");
 }

@@ -1,14 +1,13 @@
 ghost use Rattle.std.specs.Prelude.{◌≡◌};
 ghost use Rattle.nmvs_protocol.specs.Wordings.{wording_text};
 
-use crate::replies::LONGEST_REPLY;
-use arrayvec::ArrayString;
+use crate::replies::ShortLine;
 
 /// The text of an answer in its two forms.
 #[derive(Drop)]
 pub(crate) enum Wording<'w> {
     /// A short text, composed in place.
-    Composed(ArrayString<LONGEST_REPLY>),
+    Composed(ShortLine),
     /// A text that the answer has.
     Lent(&'w str),
 }

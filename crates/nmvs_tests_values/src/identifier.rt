@@ -123,7 +123,8 @@ fn expiries(rt: HostRuntime) {
     ] {
         assert!(rt; day_of(text) == Some(day), "{text}");
     }
-    assert!(rt; &*Expiry::read("280200").expect(&rt, "as written").text() == "280200");
+    let expiry = Expiry::read("280200").expect(&rt, "as written");
+    assert!(rt; &*expiry.text() == "280200" && expiry.as_str() == "280200");
 }
 
 #[test]
