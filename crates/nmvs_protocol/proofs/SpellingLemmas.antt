@@ -1,7 +1,6 @@
 -- The text of a line is read as it, and is the text of no other line.
 use Rattle.std.proofs.Common.{◌≡◌, ◌≢◌, ◌≤◌, ◌<◌, ◌-◌, ◌==◌, ◌&&◌, ◌||◌, not, ℕ, true, false, List, [], ◌∷◌, ◌++◌, length, map, take, drop, get_or, codes, Bor, Option, Some, None, inl, inr, refl, sym, ap, ◌∙◌, lit≤, cond, arith, Result, Ok, Err}
-use Rattle.std.specs.Prelude.{IfOk, IsTrue}
-use Rattle.std.specs.Result.{result_err}
+use Rattle.std.specs.Prelude.{IfOk, MatchResult, IsTrue}
 use Rattle.std.specs.List.{AllByRecursion}
 use Rattle.std.proofs.lemmas.Bool.{and_parts, ne_eqb, cases_lt, false_from_ne_true}
 use Rattle.std.proofs.lemmas.Slice.Eq.{bytes_eq-Decides}
@@ -25,11 +24,12 @@ use Rattle.nmvs_messages.specs.declared.ask.Line.{Line}
 use Rattle.nmvs_messages.specs.declared.ask.Line.TheVariants as lines
 use Rattle.nmvs_messages.specs.declared.ask.LineFault.TheVariants as fault
 use Rattle.nmvs_messages.specs.declared.ask.LineFault.{LineFault}
+use Rattle.nmvs_messages.specs.declared.ask.Unread.{Unread}
 use Rattle.nmvs_messages.specs.Fields.{fields_in, line_of_fields, line_fault}
 use Rattle.nmvs_protocol.specs.Tags.{tag_text, tag_of, behind_tag}
 use Rattle.nmvs_identifier.specs.Tag.{Tag}
 use Rattle.nmvs_rules.specs.Entries.{is_tag_or_none}
-use Rattle.nmvs_protocol.specs.Lines.{asked_fields, line_tag, fields, line_text, report_word, Grammar, grammars, if_word, pack_grammars, report_grammars, all_read, first_misread, texts_fault, pack_fault, question_fault, ask_fault, asked_fault, fields_fault, byte_fault, asked_line_fault, fault_behind, first_fault, is_asked, is_line, ReadsLine, ReadsUntagged, OneReading, EachIsRead, OneSpelling, ShortLines}
+use Rattle.nmvs_protocol.specs.Lines.{asked_fields, line_tag, fields, line_text, report_word, Grammar, grammars, if_word, pack_grammars, report_grammars, all_read, first_misread, texts_fault, pack_fault, question_fault, ask_fault, asked_fault, fields_fault, byte_fault, asked_line_fault, fault_behind, first_fault, is_asked, is_line, ReadsLine, OneReading, EachIsRead, OneSpelling, ShortLines}
 use Rattle.nmvs_identifier.proofs.PlainTexts.{IsPlain, plain_name, plain_code, plain_serial, plain_batch, plain_expiry}
 use Rattle.nmvs_words.proofs.PlainWords.{word_plain}
 use Rattle.nmvs_protocol.proofs.QuestionLemmas.{written, same_question}
@@ -396,14 +396,19 @@ pub each_is_read : EachIsRead
 each_is_read l e = (refl, first_fault-text l e, e)
 
 -- a text without a tag is read as a line, or with a fault, if its fields are
-pub reads_fields : (x : List ℕ) (fs : List (List ℕ)) (r : Result Line LineFault) → fs ≡ take 8 (fields_in x) → IfOk r (λ l. line_tag l ≡ None)
-    → IfOk r (λ l. fields l ≡ fs) → IfOk r (λ l. IsTrue (is_line l)) → result_err r ≡ fault_behind None x → ReadsUntagged x r
-reads_fields x fs (Ok l) kept untagged same valid none = (
+pub reads_fields : (x : List ℕ) (fs : List (List ℕ)) (r : Result Line Unread) → tag_of x ≡ None → fs ≡ take 8 (fields_in x) → fields_fault fs ≡ fault_behind None x
+    → IfOk r (λ l. line_tag l ≡ None) → IfOk r (λ l. fields l ≡ fs) → IfOk r (λ l. IsTrue (is_line l))
+    → MatchResult r (λ _. fields_fault fs ≡ None) (λ u. (fields_fault fs ≡ Some u.fault) × (u.tag ≡ None)) → ReadsLine x r
+unfolding first_fault
+reads_fields x fs (Ok l) none kept same_fault untagged same valid fault = (
   line_of_kept x (fields l) (sym (same ∙ kept)) (few_fields l valid) ∙ ap (λ (g : Option Tag). tag_text g ++ line_of_fields (fields l)) (sym untagged),
-  sym none,
+  ap (λ (g : Option Tag). fault_behind g x) none ∙ sym same_fault ∙ fault,
   valid,
 )
-reads_fields x fs (Err f) kept untagged same valid told = sym told
+reads_fields x fs (Err u) none kept same_fault untagged same valid fault = (
+  ap (λ (g : Option Tag). fault_behind g x) none ∙ sym same_fault ∙ fault.0,
+  fault.1 ∙ sym none,
+)
 
 -- the text after a tag is the text of the ask that its fields are read as
 pub reads_asked : (x : List ℕ) (fs : List (List ℕ)) (r : Result Asked LineFault) → fs ≡ take 8 (fields_in x) → IfOk r (λ a. asked_fields a ≡ fs)

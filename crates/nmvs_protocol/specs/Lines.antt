@@ -166,11 +166,6 @@ is_line lines.Version = true
 is_line lines.Help = true
 is_line lines.Quit = true
 
--- a text without a tag is read as the line whose text it is, else with its first fault
-abbrev pub ReadsUntagged : List ℕ → Result Line LineFault → Type 0
-ReadsUntagged x (Ok l) = (x ≡ line_text l) × (fault_behind None x ≡ None) × IsTrue (is_line l)
-ReadsUntagged x (Err f) = fault_behind None x ≡ Some f
-
 -- a text is read as the line whose text it is, else with its first fault and the tag that it begins with
 abbrev pub ReadsLine : List ℕ → Result Line Unread → Type 0
 ReadsLine x (Ok l) = (x ≡ line_text l) × (first_fault x ≡ None) × IsTrue (is_line l)

@@ -1,5 +1,5 @@
 //! The lines of users.
-ghost use Rattle.std.specs.Prelude.{◌≡◌, [], ◌∷◌, None, map, true, false, IsTrue, IfOk, IfErr, string_bytes};
+ghost use Rattle.std.specs.Prelude.{◌≡◌, [], ◌∷◌, None, map, true, false, IsTrue, Some, IfOk, IfErr, MatchResult, string_bytes};
 ghost use Rattle.std.specs.Result.{result_err};
 ghost use Rattle.nmvs_identifier.specs.Name.{is_name};
 ghost use Rattle.nmvs_identifier.specs.ProductCode.{is_product_code};
@@ -8,7 +8,8 @@ ghost use Rattle.nmvs_identifier.specs.Batch.{is_batch};
 ghost use Rattle.nmvs_identifier.specs.Expiry.{is_expiry};
 ghost use Rattle.nmvs_words.specs.Kinds.{kind_named, kind_word};
 ghost use Rattle.nmvs_messages.specs.Fields.{line_of_fields};
-ghost use Rattle.nmvs_protocol.specs.Lines.{ReadsLine, ReadsUntagged, fields as line_fields, line_tag, byte_fault as fault_of_byte, asked_fields, report_word, line_text as text_of_line, is_line, is_asked, asked_line_fault, fields_fault, asked_fault, question_fault, pack_fault, texts_fault, grammars, report_grammars};
+ghost use Rattle.nmvs_protocol.specs.Tags.{tag_of};
+ghost use Rattle.nmvs_protocol.specs.Lines.{ReadsLine, fields as line_fields, line_tag, byte_fault as fault_of_byte, asked_fields, report_word, line_text as text_of_line, is_line, is_asked, asked_line_fault, fields_fault, asked_fault, question_fault, pack_fault, texts_fault, grammars, report_grammars};
 
 use crate::tags::{cut_tag, tag_text};
 use nmvs_identifier::{Batch, Expiry, Name, Pack, ProductCode, Serial};
@@ -27,10 +28,7 @@ pub fn read_line(bytes: &[u8]) -> Result<Line, Unread>
     ensures { ReadsLine bytes.now result }
 {
     let Some(cut) = cut_tag(bytes) else {
-        return match read_untagged(bytes) {
-            Ok(line) => Ok(line),
-            Err(fault) => Err(Unread { tag: None, fault }),
-        };
+        return read_untagged(bytes);
     };
     let tag = Some(cut.0);
     match read_tagged(bytes.len(), cut.1) {
@@ -40,13 +38,16 @@ pub fn read_line(bytes: &[u8]) -> Result<Line, Unread>
 }
 
 /// Reads a line without a tag.
-fn read_untagged(bytes: &[u8]) -> Result<Line, LineFault>
-    ensures { ReadsUntagged bytes.now result }
+fn read_untagged(bytes: &[u8]) -> Result<Line, Unread>
+    requires { tag_of bytes.now ≡ None }
+    ensures { ReadsLine bytes.now result }
 {
     let fault = byte_fault(bytes);
     let mut found = Fields::new();
-    fill_fields(&mut found, bytes, LineFault::Long, fault, LineFault::Fields)?;
-    read_fields(&found)
+    match fill_fields(&mut found, bytes, LineFault::Long, fault, LineFault::Fields) {
+        Ok(()) => read_fields(&found),
+        Err(fault) => Err(Unread { tag: None, fault }),
+    }
 }
 
 /// Reads the ask after the tag of a line that has this number of bytes.
@@ -60,7 +61,13 @@ fn read_tagged(count: usize, behind: &[u8]) -> Result<Asked, LineFault>
     }
     let fault = byte_fault(behind);
     let mut found = Fields::new();
-    fill_fields(&mut found, behind, LineFault::Long, fault, LineFault::Fields)?;
+    fill_fields(
+        &mut found,
+        behind,
+        LineFault::Long,
+        fault,
+        LineFault::Fields,
+    )?;
     read_asked(&found)
 }
 
@@ -75,11 +82,12 @@ fn byte_fault(line: &[u8]) -> LineFault
 }
 
 /// The line without a tag that has these fields.
-fn read_fields(fields: &[&str]) -> Result<Line, LineFault>
+fn read_fields(fields: &[&str]) -> Result<Line, Unread>
     ensures untagged { IfOk result (λ line. line_tag line ≡ None) }
     ensures fields { IfOk result (λ line. line_fields line ≡ map (λ f. f.now) fields.now) }
     ensures valid { IfOk result (λ line. IsTrue (is_line line)) }
-    ensures fault { result_err result ≡ fields_fault (map (λ f. f.now) fields.now) }
+    ensures fault { MatchResult result (λ _. fields_fault (map (λ f. f.now) fields.now) ≡ None)
+        (λ unread. (fields_fault (map (λ f. f.now) fields.now) ≡ Some unread.fault) × (unread.tag ≡ None)) }
 {
     match fields {
         [word] => match *word {
@@ -87,11 +95,14 @@ fn read_fields(fields: &[&str]) -> Result<Line, LineFault>
             "VERSION" => Ok(Line::Version),
             "HELP" => Ok(Line::Help),
             "QUIT" => Ok(Line::Quit),
-            _ => Err(LineFault::Fields),
+            _ => Err(Unread {
+                tag: None,
+                fault: LineFault::Fields,
+            }),
         },
         _ => match read_asked(fields) {
             Ok(asked) => Ok(Line::Ask(Ask { tag: None, asked })),
-            Err(fault) => Err(fault),
+            Err(fault) => Err(Unread { tag: None, fault }),
         },
     }
 }

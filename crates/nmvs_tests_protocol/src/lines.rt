@@ -1,7 +1,7 @@
 //! The reading and writing of lines.
 use linked_list_allocator::LocalHeap;
 use nmvs_identifier::{Batch, Expiry, Name, Pack, ProductCode, Serial, Tag};
-use nmvs_messages::{Ask, Asked, Line, LineFault, Unread};
+use nmvs_messages::{Ask, Asked, Fields, Line, LineFault, Unread, fill_fields};
 use nmvs_protocol::{line_text, read_line};
 use nmvs_rules::{Printed, Question, Reason};
 use nmvs_words::PackQuestion;
@@ -134,6 +134,15 @@ fn each_kind_of_line_has_its_text(rt: HostRuntime) {
     ] {
         assert!(rt; is_written_again(rt.alloc(), line), "{line}");
     }
+}
+
+#[test]
+fn fields_are_put_into_a_list(rt: HostRuntime) {
+    let mut fields = Fields::new();
+    let filled = fill_fields(&mut fields, b"ph1 STATUS", 'l', 'b', 'e');
+    assert!(rt; filled == Ok(()) && fields.len() == 2);
+    let fields = fields.as_slice();
+    assert!(rt; fields.first() == Some(&"ph1") && fields.last() == Some(&"STATUS"));
 }
 
 #[test]
