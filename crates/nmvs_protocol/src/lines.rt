@@ -8,7 +8,6 @@ ghost use Rattle.nmvs_identifier.specs.Batch.{is_batch};
 ghost use Rattle.nmvs_identifier.specs.Expiry.{is_expiry};
 ghost use Rattle.nmvs_words.specs.Kinds.{kind_named, kind_word};
 ghost use Rattle.nmvs_messages.specs.Fields.{line_of_fields};
-ghost use Rattle.nmvs_protocol.specs.Tags.{tag_of};
 ghost use Rattle.nmvs_protocol.specs.Lines.{ReadsLine, fields as line_fields, line_tag, byte_fault as fault_of_byte, asked_fields, report_word, line_text as text_of_line, is_line, is_asked, asked_line_fault, fields_fault, asked_fault, question_fault, pack_fault, texts_fault, grammars, report_grammars};
 
 use crate::tags::{cut_tag, tag_text};
@@ -28,25 +27,17 @@ pub fn read_line(bytes: &[u8]) -> Result<Line, Unread>
     ensures { ReadsLine bytes.now result }
 {
     let Some(cut) = cut_tag(bytes) else {
-        return read_untagged(bytes);
+        let fault = byte_fault(bytes);
+        let mut found = Fields::new();
+        return match fill_fields(&mut found, bytes, LineFault::Long, fault, LineFault::Fields) {
+            Ok(()) => read_fields(&found),
+            Err(fault) => Err(Unread { tag: None, fault }),
+        };
     };
     let tag = Some(cut.0);
     match read_tagged(bytes.len(), cut.1) {
         Ok(asked) => Ok(Line::Ask(Ask { tag, asked })),
         Err(fault) => Err(Unread { tag, fault }),
-    }
-}
-
-/// Reads a line without a tag.
-fn read_untagged(bytes: &[u8]) -> Result<Line, Unread>
-    requires { tag_of bytes.now ≡ None }
-    ensures { ReadsLine bytes.now result }
-{
-    let fault = byte_fault(bytes);
-    let mut found = Fields::new();
-    match fill_fields(&mut found, bytes, LineFault::Long, fault, LineFault::Fields) {
-        Ok(()) => read_fields(&found),
-        Err(fault) => Err(Unread { tag: None, fault }),
     }
 }
 
