@@ -30,7 +30,7 @@ pub fn fields_of<F: Copy>(line: &[u8], long: F, bytes: F, empty: F) -> Result<Fi
     Ok(fields)
 }
 
-/// Puts the fields of a line, or the first eight if there are more, into a list of none.
+/// Puts the fields of a line, or the first eight if there are more, into an empty list.
 ///
 /// # Errors
 ///

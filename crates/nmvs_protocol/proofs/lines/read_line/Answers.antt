@@ -20,7 +20,7 @@ pub returns-in-Err : goal.returns-in-Err
 unfolding first_fault
 returns-in-Err c = (
   ap (λ (g : Option Tag). fault_behind g c.args.bytes.now) c.in_default.ensures.none
-  ∙ ap (λ (f : LineFault). line_fault fault.Long f fault.Fields fields_fault c.args.bytes.now) (sym c.byte_fault-fault.ensures) ∙ c.in-Err.ensures.fault fields_fault,
+      ∙ ap (λ (f : LineFault). line_fault fault.Long f fault.Fields fields_fault c.args.bytes.now) (sym c.byte_fault-fault.ensures) ∙ c.in-Err.ensures.fault fields_fault,
   sym c.in_default.ensures.none,
 )
 
