@@ -16,8 +16,6 @@ use Rattle.std.specs.Result.{result_ok}
 use Rattle.nmvs_stream.specs.Sink.{Taken}
 use Rattle.nmvs_stream.specs.Delivery.{Writes, DeliversPart}
 use Rattle.nmvs_stream.specs.declared.failed.Failed.{Failed}
-use Rattle.nmvs_line.specs.Export.{ended_line, export_text}
-use Rattle.nmvs_rules.specs.declared.entry.Entry.{Entry}
 use Rattle.nmvs_messages.specs.Withheld.{answer_of}
 use Rattle.nmvs_protocol.specs.Progress.{Halts, LastShows}
 use Rattle.nmvs_protocol.specs.Session.{TakesLines, session_text}
@@ -223,16 +221,13 @@ pub waits_first : (waiting : ℕ) (text : List ℕ) → 0 < waiting → while_wa
 waits_first waiting text some = cond-false (waiting == 0) [] text (ne_eqb waiting 0 (positive waiting some))
 
 -- one piece more of the listed entries is worded
-pub piece_more : (sent replies new : List ℕ) (gone waiting room : ℕ) (l : List Entry) → gone ≤ length replies → waiting ≡ 0 → new ≡ replies ++ export_text (take room l)
-    → (sent ++ drop gone new) ++ once_told waiting (export_text (drop room l)) ≡ (sent ++ drop gone replies) ++ once_told waiting (export_text l)
-piece_more sent replies new gone waiting room l within told is =
-    let p = export_text (take room l) in
-    let q = export_text (drop room l) in
+pub piece_more : (sent replies new piece left left' : List ℕ) (gone waiting : ℕ) → gone ≤ length replies → waiting ≡ 0 → new ≡ replies ++ piece → piece ++ left' ≡ left
+    → (sent ++ drop gone new) ++ once_told waiting left' ≡ (sent ++ drop gone replies) ++ once_told waiting left
+piece_more sent replies new piece left left' gone waiting within told is cut =
     let front = sent ++ drop gone replies in
-    let cut : p ++ q ≡ export_text l = sym (flat_map-append ended_line (take room l) (drop room l)) ∙ ap (λ (e : List Entry). export_text e) (take-append-drop room l) in
-    subst (λ (n : ℕ). (sent ++ drop gone new) ++ once_told n q ≡ front ++ once_told n (export_text l)) (sym told)
-    (ap (λ (t : List ℕ). (sent ++ t) ++ q) (unsent_more gone replies new p within is)
-    ∙ ap (λ (t : List ℕ). t ++ q) (sym (append_assoc sent (drop gone replies) p)) ∙ append_assoc front p q ∙ ap (λ (t : List ℕ). front ++ t) cut)
+    subst (λ (n : ℕ). (sent ++ drop gone new) ++ once_told n left' ≡ front ++ once_told n left) (sym told)
+    (ap (λ (t : List ℕ). (sent ++ t) ++ left') (unsent_more gone replies new piece within is)
+    ∙ ap (λ (t : List ℕ). t ++ left') (sym (append_assoc sent (drop gone replies) piece)) ∙ append_assoc front piece left' ∙ ap (λ (t : List ℕ). front ++ t) cut)
 
 -- once no answer is waited for, no entries are awaited
 pub none_while : (waiting : ℕ) (a b : List ℕ) → waiting ≡ 0 → while_waiting waiting a ≡ while_waiting waiting b

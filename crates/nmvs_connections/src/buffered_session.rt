@@ -1,8 +1,7 @@
 //! A session whose bytes the caller moves.
-ghost use Rattle.std.specs.Prelude.{◌≡◌, ◌==◌, ◌≤◌, ◌+◌, ◌*◌, ◌++◌, if◌then◌else◌, List, [], ℕ, None, OnErr, false, true, not, length, map, take, drop, vec_len, vec_capacity};
+ghost use Rattle.std.specs.Prelude.{◌≡◌, ◌==◌, ◌<◌, ◌≤◌, ◌+◌, ◌++◌, if◌then◌else◌, List, [], ℕ, None, OnOk, OnErr, false, true, not, length, map, take, drop, vec_len, vec_capacity};
 ghost use Rattle.nmvs_messages.specs.Peers.{TakesFrom};
 ghost use Rattle.nmvs_stream.specs.InputLines.{unfinished_line};
-ghost use Rattle.nmvs_line.specs.Export.{ended_line, export_text};
 ghost use Rattle.nmvs_messages.specs.Withheld.{answer_of, text_left};
 ghost use Rattle.nmvs_protocol.specs.Progress.{LastShows};
 ghost use Rattle.nmvs_connections.specs.Replies.{Asked, LacksMemory, Replies, TellsPart, WordsPart, ended_by, is_replied, replied};
@@ -10,10 +9,8 @@ ghost use Rattle.nmvs_connections.specs.Turns.{Kept};
 
 use boxcar::tag::Tag;
 use nmvs_http::{WriteBuffer, extended};
-use nmvs_line::{LONGEST_LINE, entry_line};
-use nmvs_messages::{Desk, End, EntryList, Peer, Released, WithheldAnswers};
-use nmvs_protocol::{PIECE, Session, Taking, write_texts};
-use nmvs_rules::Entry;
+use nmvs_messages::{Desk, End, LineList, PIECE_BYTES, Peer, Piece, Released, WithheldAnswers};
+use nmvs_protocol::{Session, Taking, write_texts};
 use std::alloc::{AllocError, Global};
 use std::marker::Model;
 use std::mem;
@@ -21,12 +18,12 @@ use std::mem;
 /// The session of one connection: the bytes that it was fed, and the replies to them, the last of which may be unsent.
 /// The caller moves the bytes. Many sessions share a desk, and one list of answers that are withheld.
 ///
-/// The last of its answers may show a list of entries. They are fetched and worded a piece at a time, after the answer is told.
+/// A list of lines may follow the last of its answers. They are fetched a piece at a time, once the answer is a reply.
 ///
-/// Contracts see the bytes that it was fed, its sent and unsent replies, the text of the entries that follow them, how it ended,
+/// Contracts see the bytes that it was fed, its sent and unsent replies, the text of the lines that follow them, how it ended,
 /// and which of the withheld answers it waits for.
 #[derive(Drop)]
-pub struct BufferedSession<L: EntryList> {
+pub struct BufferedSession<L: LineList> {
     session: Session,
     replies: WriteBuffer,
     /// How many bytes of the replies were sent.
@@ -35,14 +32,14 @@ pub struct BufferedSession<L: EntryList> {
     first: usize,
     /// How many answers it waits for.
     waiting: usize,
-    /// The entries that the last answer shows. They follow the replies after that answer is told.
+    /// The lines that follow the last answer. They follow the replies once that answer is one.
     list: Option<L>,
     end: Option<End>,
     fed: Tag,
     sent: Tag,
 }
 
-impl<L: EntryList> Model for BufferedSession<L> {
+impl<L: LineList> Model for BufferedSession<L> {
     ghost use Rattle.std.specs.Prelude.{◌≤◌, ◌++◌, length, drop};
     ghost use Rattle.nmvs_messages.specs.Withheld.{text_left};
     ghost use Rattle.nmvs_connections.specs.Replies.{SessionState, Replies, GoesOn, once_told, while_waiting};
@@ -65,7 +62,7 @@ impl<L: EntryList> Model for BufferedSession<L> {
         × Replies d.fed.numbers ((d.sent.numbers ++ drop d.gone d.replies.bytes.items) ++ once_told d.waiting (text_left L.left d.list)) d.waiting d.end };
 }
 
-impl<L: EntryList> BufferedSession<L> {
+impl<L: LineList> BufferedSession<L> {
     /// A session that was fed nothing, and that answers at most this number of lines.
     pub fn new(alloc: Global, limit: u64) -> BufferedSession<L>
         ensures { result ≡ record { fed = []; sent = []; unsent = []; listed = []; ended = None; first = 0; waiting = 0; awaited = [] } }
@@ -90,7 +87,7 @@ impl<L: EntryList> BufferedSession<L> {
         self.end
     }
 
-    /// The replies that are unsent. With those that were sent, and the entries that follow them, they are the texts of the
+    /// The replies that are unsent. With those that were sent, and the lines that follow them, they are the texts of the
     /// answers to the lines that it was fed, one answer a line, in order. The lines whose answers it waits for have no reply yet.
     pub fn unsent(&self) -> &[u8]
         ensures bytes { result.now ≡ self.now.unsent }
@@ -113,7 +110,7 @@ impl<L: EntryList> BufferedSession<L> {
         self.waiting
     }
 
-    /// Whether entries follow the replies, and are still to be fetched.
+    /// Whether lines follow the replies, and are still to be fetched.
     pub fn is_listing(&self) -> bool
         ensures told { result ≡ true → self.now.waiting ≡ 0 }
         ensures none { result ≡ false → self.now.listed ≡ [] }
@@ -121,11 +118,15 @@ impl<L: EntryList> BufferedSession<L> {
         self.waiting == 0 && self.list.is_some()
     }
 
-    /// The memory of its replies, in bytes. Room that is not used counts.
+    /// The memory of its replies and of the list that follows them, in bytes. Room that is not used counts.
     pub fn memory(&self) -> usize
         ensures { length self.now.unsent ≤ result }
     {
-        self.replies.bytes.capacity()
+        let list = match &self.list {
+            Some(list) => list.memory(),
+            None => 0,
+        };
+        self.replies.bytes.capacity().saturating_add(list)
     }
 
     /// Takes the lines that these bytes complete, as [`Session::take`] does, and returns the number of bytes that it took. The
@@ -157,7 +158,7 @@ impl<L: EntryList> BufferedSession<L> {
         bytes
     }
 
-    /// Turns the answers that it waits for, among these that were released, into replies. The entries that the last one shows
+    /// Turns the answers that it waits for, among these that were released, into replies. The lines that follow the last one
     /// follow them. If there is no memory for the replies, or the answers are not there, the session ends as by a failed write.
     pub fn tell(&mut self, released: &Released<'_>)
         ensures fed { (self.new.fed ≡ self.old.fed) × (self.new.sent ≡ self.old.sent) }
@@ -174,31 +175,25 @@ impl<L: EntryList> BufferedSession<L> {
         self.end = kept_end(self.end, worded);
     }
 
-    /// Fetches one piece of the entries that follow the replies, and adds their lines.
+    /// Fetches one piece of the lines that follow the replies, and adds it to them.
     ///
     /// # Errors
     ///
     /// There is no memory for the lines. Nothing changes.
-    pub fn more<D: Desk<List = L>>(
-        &mut self,
-        piece: &mut Vec<Entry>,
-        desk: &D,
-    ) -> Result<(), AllocError>
+    pub fn more<D: Desk<List = L>>(&mut self, piece: &mut Piece, desk: &D) -> Result<(), AllocError>
         requires told { self.old.waiting ≡ 0 }
-        requires room { vec_capacity piece.old ≡ PIECE }
-        ensures room { vec_capacity piece.new ≡ PIECE }
         ensures kept { Kept self.old self.new }
         ensures sent { self.new.sent ≡ self.old.sent }
+        ensures fewer { OnOk result (0 < length self.old.listed → length self.new.listed < length self.old.listed) }
         ensures err { OnErr result (self.new ≡ self.old) }
     {
         let Some(list) = &mut self.list else {
             return Ok(());
         };
         let bytes = &mut self.replies.bytes;
-        bytes.reserve(PIECE * (LONGEST_LINE + 1))?;
-        piece.clear();
+        bytes.reserve(PIECE_BYTES)?;
         desk.fetch(list, piece);
-        push_lines(bytes, piece.as_slice());
+        push_all(bytes, piece.text.as_slice());
         if list.is_empty() {
             self.list = None;
         }
@@ -234,8 +229,8 @@ impl<L: EntryList> BufferedSession<L> {
     }
 }
 
-/// Writes this number of released answers as text, from this place on, without the entries that they show. The result is whether
-/// the last is a reply, or none if they are not there or memory ran out.
+/// Writes this number of released answers as text, from this place on, without the lines that follow them. The result is whether
+/// the last is a reply or a report, or none if they are not there or memory ran out.
 fn word_part(
     released: &Released<'_>,
     first: usize,
@@ -248,8 +243,8 @@ fn word_part(
     write_texts(part, replies).ok()
 }
 
-/// The list of the last answer, if that is a reply after its release.
-fn kept_list<L: EntryList>(list: Option<L>, worded: Option<bool>) -> Option<L>
+/// The list of the last answer, if that is a reply or a report after its release.
+fn kept_list<L: LineList>(list: Option<L>, worded: Option<bool>) -> Option<L>
     ensures { text_left L.left result ≡ (if is_replied worded then text_left L.left list else []) }
 {
     match worded {
@@ -268,26 +263,10 @@ fn kept_end(end: Option<End>, worded: Option<bool>) -> Option<End>
     }
 }
 
-/// Adds the lines of entries, each with LF. There is room for them.
-fn push_lines(bytes: &mut Vec<u8>, entries: &[Entry])
-    requires { vec_len bytes.old + length entries.now * (LONGEST_LINE + 1) ≤ vec_capacity bytes.old }
-    ensures { bytes.new.items ≡ bytes.old.items ++ export_text entries.now }
+/// Adds bytes. There is room for them.
+fn push_all(bytes: &mut Vec<u8>, more: &[u8])
+    requires { vec_len bytes.old + length more.now ≤ vec_capacity bytes.old }
+    ensures { bytes.new.items ≡ bytes.old.items ++ more.now }
 {
-    let mut rest = entries;
-    while let Some((entry, later)) = rest.split_first() {
-        push_line(bytes, entry);
-        rest = later;
-    }
-}
-
-/// Adds the line of an entry, with LF. There is room for it.
-fn push_line(bytes: &mut Vec<u8>, entry: &Entry)
-    requires { vec_len bytes.old + (LONGEST_LINE + 1) ≤ vec_capacity bytes.old }
-    ensures items { bytes.new.items ≡ bytes.old.items ++ ended_line entry.now }
-    ensures len { vec_len bytes.new ≤ vec_len bytes.old + (LONGEST_LINE + 1) }
-    ensures capacity { vec_capacity bytes.old ≤ vec_capacity bytes.new }
-{
-    let line = entry_line(entry);
-    let _line = bytes.extend_from_slice(line.as_str().as_bytes());
-    let _line_feed = bytes.push(b'\n');
+    let _more = bytes.extend_from_slice(more);
 }

@@ -10,7 +10,7 @@ use crate::scratch::Scratch;
 use crate::socket::Moved;
 use crate::worker_pool::{Accepted, WorkerPool};
 use mio::Registry;
-use nmvs_messages::{Desk, End, EntryList, NameOf, Released, WithheldAnswers};
+use nmvs_messages::{Desk, End, LineList, NameOf, Released, WithheldAnswers};
 use std::alloc::{AllocError, Global};
 use std::io;
 use std::sync::Wait;
@@ -31,7 +31,7 @@ const LINE_TIMEOUT: u64 = 30;
 
 /// One connection of a worker: the session of its peer, and what the system reports of it.
 #[derive(Drop)]
-pub(crate) struct Connection<L: EntryList> {
+pub(crate) struct Connection<L: LineList> {
     /// The number of the connection, in the order in which they were accepted.
     pub(crate) number: usize,
     session: PeerSession<L>,
@@ -48,7 +48,7 @@ pub(crate) struct Connection<L: EntryList> {
     pub(crate) memory: usize,
 }
 
-impl<L: EntryList> Connection<L> {
+impl<L: LineList> Connection<L> {
     /// A connection, which begins with a gateway's header if `proxy` says whose name that has.
     ///
     /// # Errors
@@ -150,7 +150,7 @@ impl<L: EntryList> Connection<L> {
         self.step(rt, pool, scratch, withheld, desk)
     }
 
-    /// Words a piece of the list, and sends it. Without memory for it the connection is closed.
+    /// Fetches a piece of the list, and sends it. Without memory for it the connection is closed.
     fn send_piece<D: Desk<List = L>>(&mut self, scratch: &mut Scratch, desk: &D) -> Next
         requires told { self.old.session.session.waiting ≡ 0 }
         ensures kept { Kept self.old.session.session self.new.session.session }

@@ -13,7 +13,7 @@ use crate::worker_pool::{Accepted, Poller, WAKE, WorkerPool};
 use log::{Log, debug, warn};
 use mio::event::Event;
 use mio::{Events, Registry};
-use nmvs_messages::{Desk, EntryList, Released, WithheldAnswers};
+use nmvs_messages::{Desk, LineList, Released, WithheldAnswers};
 use nmvs_metrics::Fault;
 use slab::Slab;
 use std::alloc::{AllocError, Global};
@@ -46,7 +46,7 @@ pub fn serve<R: Wait + Clock + Log, D: Desk>(
 
 /// The connections of a worker, and whose turns come.
 #[derive(Drop)]
-struct EventLoop<L: EntryList> {
+struct EventLoop<L: LineList> {
     /// The number of the worker.
     worker: usize,
     connections: Slab<Connection<L>>,
@@ -64,7 +64,7 @@ struct EventLoop<L: EntryList> {
     evicted: usize,
 }
 
-impl<L: EntryList> EventLoop<L> {
+impl<L: LineList> EventLoop<L> {
     fn new(alloc: Global, worker: usize, now: Instant) -> EventLoop<L> {
         EventLoop {
             worker,

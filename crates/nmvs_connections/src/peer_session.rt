@@ -19,7 +19,7 @@ use crate::worker_pool::{Accepted, WorkerPool};
 use memchr::{memchr, memmem, memrchr};
 use mio::{Registry, Token};
 use nmvs_messages::{
-    Desk, End, EntryList, NO_LIMITS, NameOf, Peer, READ_SIZE, Released, WithheldAnswers,
+    Desk, End, LineList, NO_LIMITS, NameOf, Peer, READ_SIZE, Released, WithheldAnswers,
 };
 use std::alloc::{AllocError, Global};
 use std::hash::RandomState;
@@ -45,7 +45,7 @@ pub(crate) enum Stage {
 /// The session of the peer of a connection: its lines are read from the stream, and its replies are written there. Behind a
 /// gateway the stream begins with a header, which names the peer. No line is taken before the peer is known.
 #[derive(Drop)]
-pub(crate) struct PeerSession<L: EntryList> {
+pub(crate) struct PeerSession<L: LineList> {
     stream: LineStream,
     session: BufferedSession<L>,
     /// Whether the header names a user or an authorisation, if the stream begins with a header.
@@ -63,7 +63,7 @@ pub(crate) struct PeerSession<L: EntryList> {
     served: bool,
 }
 
-impl<L: EntryList> Model for PeerSession<L> {
+impl<L: LineList> Model for PeerSession<L> {
     ghost use Rattle.nmvs_connections.specs.LineStreams.{Behind, before_of, carried};
     ghost use Rattle.nmvs_connections.specs.Peers.{PeerState, Holds};
 
@@ -75,7 +75,7 @@ impl<L: EntryList> Model for PeerSession<L> {
         × Behind (before_of p.stream.http) p.peer (carried p.stream).received p.session.fed p.unread.items p.stage };
 }
 
-impl<L: EntryList> PeerSession<L> {
+impl<L: LineList> PeerSession<L> {
     /// The session over an accepted connection: of anyone, or of the peer that a header names.
     ///
     /// # Errors
@@ -160,7 +160,8 @@ impl<L: EntryList> PeerSession<L> {
         self.filled || !self.unread.is_empty()
     }
 
-    /// The memory of its buffers, in bytes: of unsent replies, and of bytes that were read and not taken.
+    /// The memory of its buffers, in bytes: of unsent replies, of the list that follows them, and of bytes that were read and not
+    /// taken.
     pub(crate) fn memory(&self) -> usize
         ensures { length self.now.session.unsent ≤ result }
     {
@@ -168,7 +169,7 @@ impl<L: EntryList> PeerSession<L> {
         self.session.memory().saturating_add(read)
     }
 
-    /// Whether entries follow the replies, and are still to be fetched.
+    /// Whether lines follow the replies, and are still to be fetched.
     pub(crate) fn is_listing(&self) -> bool
         ensures { result ≡ true → self.now.session.waiting ≡ 0 }
     {
@@ -387,7 +388,7 @@ impl<L: EntryList> PeerSession<L> {
         self.stop_serving();
     }
 
-    /// Fetches one piece of the entries that follow the replies, and words it.
+    /// Fetches one piece of the lines that follow the replies.
     ///
     /// # Errors
     ///
@@ -509,7 +510,7 @@ fn lines_of(
 }
 
 /// Whether all lines that the session was fed are answered, and the replies were taken.
-fn is_answered<L: EntryList>(session: &BufferedSession<L>) -> bool
+fn is_answered<L: LineList>(session: &BufferedSession<L>) -> bool
     ensures { result ≡ true → Replies session.now.fed session.now.sent 0 session.now.ended }
 {
     session.unsent().is_empty() && session.waiting() == 0 && !session.is_listing()

@@ -1,9 +1,5 @@
 //! The buffers that the connections of a worker share.
-ghost use Rattle.std.specs.Prelude.{◌≡◌, IfOk, vec_capacity};
-
-use nmvs_messages::READ_SIZE;
-use nmvs_protocol::PIECE;
-use nmvs_rules::Entry;
+use nmvs_messages::{Piece, READ_SIZE};
 use std::alloc::{AllocError, Global};
 use std::time::Instant;
 
@@ -18,9 +14,8 @@ pub(crate) struct Scratch {
     pub(crate) now: Instant,
     pub(crate) buffer: [u8; READ_SIZE],
     pub(crate) room: Vec<u8>,
-    /// The entries of one piece of a list.
-    pub(crate) piece: Vec<Entry>,
-    ghost piece_room: { vec_capacity piece ≡ 32 },
+    /// The room for one piece of a list.
+    pub(crate) piece: Piece,
     /// Whether a connection got a report in this turn. None gets a second one, so that others do not wait for it.
     pub(crate) reported: bool,
 }
@@ -30,7 +25,7 @@ impl Scratch {
     ///
     /// There is no memory for a piece.
     pub(crate) fn new(alloc: Global, now: Instant) -> Result<Scratch, AllocError> {
-        let piece = Vec::with_capacity(alloc, PIECE)?;
+        let piece = Piece::new(alloc)?;
         Ok(Scratch {
             alloc,
             now,

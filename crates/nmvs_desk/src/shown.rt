@@ -5,7 +5,7 @@ ghost use Rattle.nmvs_tables.specs.Cursors.{remaining, IsCursorOf};
 ghost use Rattle.nmvs_desk.specs.Answers.{cursor_of};
 
 use nmvs_history::{Histories, Sight};
-use nmvs_messages::EntryList;
+use nmvs_messages::LineList;
 use nmvs_shard::{Cursor, Outcome};
 use std::marker::{Model, PhantomData};
 
@@ -50,11 +50,17 @@ impl<H: Histories> Shown<H> {
     }
 }
 
-impl<H: Histories> EntryList for Shown<H> {
-    ghost left = { λ s. s };
+impl<H: Histories> LineList for Shown<H> {
+    ghost use Rattle.nmvs_line.specs.Export.{export_text};
+
+    ghost left = { λ s. export_text s };
 
     fn is_empty(&self) -> bool {
         self.cursor.left == 0
+    }
+
+    fn memory(&self) -> usize {
+        0
     }
 }
 

@@ -6,5 +6,6 @@ pub mod SelectionLemmas
 pub mod GroupLemmas
 pub mod PackLemmas
 pub mod ReportRowLemmas
+pub mod BatchLines
 pub mod ComparisonLemmas
 pub mod HtmlLemmas

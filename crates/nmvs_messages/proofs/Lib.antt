@@ -1,3 +1,4 @@
+pub mod EntryTexts
 pub mod FieldLemmas
 pub mod KeptLines
 pub mod PlainLemmas

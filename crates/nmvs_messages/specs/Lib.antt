@@ -1,4 +1,5 @@
 pub mod Fields
+pub mod Tags
 pub mod Commands
 pub mod Words
 pub mod Asks

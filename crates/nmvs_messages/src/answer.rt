@@ -2,7 +2,7 @@
 ghost use Rattle.std.specs.Prelude.{◌≡◌, string_bytes};
 ghost use Rattle.nmvs_messages.specs.Withheld.{text_left};
 
-use crate::{EntryList, LineFault};
+use crate::{LineFault, LineList};
 use boxcar::tag::{self, Names};
 use nmvs_identifier::Tag;
 use nmvs_rules::Reply;
@@ -20,8 +20,9 @@ pub struct Answer {
 pub enum Content {
     /// The repository's reply to a question, and the text of the entries that it shows. Only an audit shows entries.
     Replied(Reply, ShownText),
-    /// The report of a product code, lines that each end with LF.
-    Reported(Text),
+    /// The report of a product code: its first line, with LF, and the text of the lines that follow. The line's tag stands in
+    /// front of each of those.
+    Reported(Text, ShownText),
     /// The desk turned the line away.
     Turned(Turn),
     /// The line cannot be read.
@@ -61,8 +62,9 @@ pub enum Turn {
     Journal,
 }
 
-/// The text of the entries that an audit shows, oldest first, each as its line (Article 35). It has no bytes, and contracts alone
-/// see it. The entries are fetched from the list that the desk gives with the answer.
+/// The text of the lines that follow an answer's own: the entries that an audit shows, oldest first (Article 35), or the batches
+/// of a report. It has no bytes, and contracts alone see it. The lines are fetched from the list that the desk gives with the
+/// answer.
 #[derive(Drop)]
 pub struct ShownText {
     text: tag::Tag,
@@ -78,15 +80,13 @@ impl Model for ShownText {
 
 struct TextOf;
 
-impl<L: EntryList> Names<L> for TextOf {
-    ghost use Rattle.nmvs_line.specs.Export.{export_text};
-
-    ghost numbers = { λ l. export_text (L.left l) };
+impl<L: LineList> Names<L> for TextOf {
+    ghost numbers = { λ l. L.left l };
 }
 
 impl ShownText {
-    /// The text of the entries that a list has left; none without a list.
-    pub fn of<L: EntryList>(list: &Option<L>) -> ShownText
+    /// The text that a list has left; none without a list.
+    pub fn of<L: LineList>(list: &Option<L>) -> ShownText
         ensures { result ≡ text_left L.left list.now }
     {
         let text = match list {

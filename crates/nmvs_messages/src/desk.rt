@@ -1,17 +1,16 @@
-ghost use Rattle.std.specs.Prelude.{◌≡◌, ◌-◌, ◌++◌, take, drop, vec_len, vec_capacity};
+ghost use Rattle.std.specs.Prelude.{◌≡◌, ◌<◌, ◌++◌, length};
 ghost use Rattle.nmvs_messages.specs.declared.peer.Peer.{Peer as ThePeer};
 ghost use Rattle.nmvs_messages.specs.declared.ask.Ask.{Ask as TheAsk};
 ghost use Rattle.nmvs_messages.specs.declared.answer.Answer.{Answer as TheAnswer};
 ghost use Rattle.nmvs_messages.specs.declared.withheld.Withheld.{Withheld as TheWithheld};
 ghost use Rattle.nmvs_messages.specs.Withheld.{AreReleased, shown_text, text_left};
 
-use crate::{Ask, EntryList, Peer, Released, Withheld, WithheldAnswers};
-use nmvs_rules::Entry;
+use crate::{Ask, LineList, Peer, Piece, Released, Withheld, WithheldAnswers};
 
 /// Answers the asks of a session. A desk that waits carries the runtime.
 pub trait Desk {
-    /// The entries that an answer shows.
-    type List: EntryList;
+    /// The lines that follow an answer.
+    type List: LineList;
 
     // Whether a desk in this state may take this ask from this peer, withhold this answer, and come to that state.
     ghost takes: { Self → ThePeer → TheAsk → TheWithheld → Self → Type 0 };
@@ -22,8 +21,8 @@ pub trait Desk {
     // Whether a release may take a desk from this state to that one.
     ghost moves: { Self → Self → Type 0 };
 
-    /// Answers what this peer asks. The answer is withheld until it is released. With it comes the list of the entries that it
-    /// shows, if it shows any. Without memory it is `Turned(Memory)`.
+    /// Answers what this peer asks. The answer is withheld until it is released. With it comes the list of the lines that follow
+    /// it, if any do. Without memory it is `Turned(Memory)`.
     fn take(&mut self, from: &Peer, ask: &Ask) -> (Withheld, Option<Self::List>)
         ensures takes { takes self.old from.now ask.now result.0 self.new }
         ensures list { shown_text result.0 ≡ text_left Self.List.left result.1 };
@@ -34,11 +33,8 @@ pub trait Desk {
         ensures moves { moves self.old self.new }
         ensures released { AreReleased (releases self.old self.new) withheld.old result };
 
-    /// Fetches the next entries of a list, oldest first: as many as the buffer has room for, which does not grow.
-    fn fetch(&self, list: &mut Self::List, entries: &mut Vec<Entry>)
-        ensures fetched { let room = vec_capacity entries.old - vec_len entries.old in
-            entries.new.items ≡ entries.old.items ++ take room (Self.List.left list.old) }
-        ensures rest { let room = vec_capacity entries.old - vec_len entries.old in
-            Self.List.left list.new ≡ drop room (Self.List.left list.old) }
-        ensures capacity { vec_capacity entries.new ≡ vec_capacity entries.old };
+    /// Fetches the next lines of a list: they take the place of the text of the piece.
+    fn fetch(&self, list: &mut Self::List, piece: &mut Piece)
+        ensures text { piece.new.text.items ++ Self.List.left list.new ≡ Self.List.left list.old }
+        ensures some { 0 < length (Self.List.left list.old) → 0 < length piece.new.text.items };
 }

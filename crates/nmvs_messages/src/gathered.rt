@@ -1,10 +1,13 @@
 //! A list of entries in memory.
-ghost use Rattle.std.specs.Prelude.{◌≡◌, ◌≤◌, ◌+◌, ◌-◌, ◌++◌, length, take, drop, vec_len, vec_capacity};
+ghost use Rattle.std.specs.Prelude.{◌≡◌, ◌<◌, ◌++◌, length};
+ghost use Rattle.nmvs_line.specs.Export.{export_text};
 
-use crate::EntryList;
+use crate::LineList;
+use crate::piece::{PIECE, Piece, push_lines};
 use nmvs_rules::Entry;
 use std::alloc::{Allocator, Global};
 use std::marker::Model;
+use std::mem::size_of;
 
 /// Entries that were gathered before their answer, and are not fetched yet. Contracts see them, oldest first.
 #[derive(Drop)]
@@ -36,37 +39,29 @@ impl<A: Allocator> GatheredEntries<A> {
         }
     }
 
-    /// Fetches the next entries: as many as the buffer has room for, which does not grow.
-    pub fn fetch(&mut self, entries: &mut Vec<Entry>)
-        ensures fetched { let room = vec_capacity entries.old - vec_len entries.old in
-            entries.new.items ≡ entries.old.items ++ take room self.old }
-        ensures rest { let room = vec_capacity entries.old - vec_len entries.old in
-            self.new ≡ drop room self.old }
-        ensures capacity { vec_capacity entries.new ≡ vec_capacity entries.old }
+    /// Fetches the next lines, as a desk does.
+    pub fn fetch(&mut self, piece: &mut Piece)
+        ensures text { piece.new.text.items ++ export_text self.new ≡ export_text self.old }
+        ensures some { 0 < length self.old → 0 < length piece.new.text.items }
     {
         let left = &self.entries.as_slice()[self.fetched..];
-        let room = entries.capacity() - entries.len();
-        let count = room.min(left.len());
-        push_all(entries, &left[..count]);
+        let count = PIECE.min(left.len());
+        piece.text.clear();
+        push_lines(&mut piece.text, &left[..count]);
         self.fetched += count;
     }
 }
 
-/// Adds entries to a buffer that has room for them.
-fn push_all(buffer: &mut Vec<Entry>, entries: &[Entry])
-    requires { vec_len buffer.old + length entries.now ≤ vec_capacity buffer.old }
-    ensures items { buffer.new.items ≡ buffer.old.items ++ entries.now }
-    ensures capacity { vec_capacity buffer.new ≡ vec_capacity buffer.old }
-{
-    for entry in entries {
-        buffer.push_reserved(*entry);
-    }
-}
+impl<A: Allocator> LineList for GatheredEntries<A> {
+    ghost use Rattle.nmvs_line.specs.Export.{export_text};
 
-impl<A: Allocator> EntryList for GatheredEntries<A> {
-    ghost left = { λ g. g };
+    ghost left = { λ g. export_text g };
 
     fn is_empty(&self) -> bool {
         self.fetched == self.entries.len()
+    }
+
+    fn memory(&self) -> usize {
+        self.entries.capacity().saturating_mul(size_of::<Entry>())
     }
 }

@@ -10,13 +10,15 @@ mod command;
 mod commands;
 mod desk;
 mod end;
-mod entry_list;
 mod fields;
 mod gathered;
 mod laws;
 mod limits;
+mod line_list;
 mod peer;
 mod pending_line;
+mod piece;
+mod tags;
 mod withheld;
 mod words;
 
@@ -26,14 +28,16 @@ pub use command::{Command, CommandFault};
 pub use commands::{command_of, read_command};
 pub use desk::Desk;
 pub use end::End;
-pub use entry_list::EntryList;
 pub use fields::{Fields, KEPT_FIELDS, fields_of, fill_fields};
 pub use gathered::GatheredEntries;
 pub use laws::commands_are_read;
 pub use limits::{
     LONGEST_LINE, Limits, MOST_LINES, MOST_READS, NO_LIMITS, READ_SIZE, SESSION_LIMITS,
 };
+pub use line_list::LineList;
 pub use peer::{NameOf, Peer};
 pub use pending_line::PendingLine;
-pub use withheld::{Basis, Released, Withheld, WithheldAnswers};
+pub use piece::{PIECE, PIECE_BYTES, Piece};
+pub use tags::{LONGEST_TAG_TEXT, tag_text};
+pub use withheld::{Basis, Released, Withheld, WithheldAnswers, is_of_repository};
 pub use words::{word_of_fault, word_of_turn};

@@ -55,11 +55,11 @@ impl Withheld {
         self.answer.tag = tag;
     }
 
-    /// Whether its text may be long, without the entries that it shows: that of a report, or of the help.
+    /// Whether it may take long: a report, whose batches are copied, or the help.
     pub fn is_long(&self) -> bool
         ensures { result ≡ is_long self.now.answer }
     {
-        matches!(self.answer.content, Content::Reported(_) | Content::Help)
+        matches!(self.answer.content, Content::Reported(..) | Content::Help)
     }
 
     /// The answer, once it is released.
@@ -89,10 +89,11 @@ fn is_basis_kept(basis: Option<Basis>, kept: &[usize]) -> bool
     }
 }
 
-fn is_of_repository(answer: &Answer) -> bool
+/// Whether an answer is a reply or a report of the repository.
+pub fn is_of_repository(answer: &Answer) -> bool
     ensures { result ≡ of_repository answer.now }
 {
-    matches!(answer.content, Content::Replied(..) | Content::Reported(_))
+    matches!(answer.content, Content::Replied(..) | Content::Reported(..))
 }
 
 /// Answers that are withheld, in the order of their lines. A desk releases them together.
@@ -150,7 +151,7 @@ impl WithheldAnswers {
         self.list.is_full()
     }
 
-    /// Whether the text of the last may be long.
+    /// Whether the last may take long.
     pub fn ends_long(&self) -> bool
         ensures { result ≡ ends_long self.now }
     {

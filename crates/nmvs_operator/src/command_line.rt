@@ -99,7 +99,7 @@ static OPTIONS: [Described; 25] = [
     Described {
         name: "connection-memory",
         value: Value::Number(1, MOST_CONNECTION_MEMORY as i64),
-        default: Some("256"),
+        default: Some("128"),
         help: "Memory of the buffers of all connections in MiB, 1 to 1048576; above it the connection that takes most is closed",
     },
     Described {

@@ -12,7 +12,7 @@ use Rattle.nmvs_messages.specs.declared.ask.Line.TheVariants as lines
 use Rattle.nmvs_messages.specs.declared.ask.Unread.{Unread}
 use Rattle.nmvs_messages.specs.Fields.{is_space, line_of_fields}
 use Rattle.nmvs_protocol.specs.Lines.{asked_fields, if_word, line_text, report_word, first_fault, ReadsLine}
-use Rattle.nmvs_protocol.specs.Tags.{tag_text}
+use Rattle.nmvs_messages.specs.Tags.{tag_text}
 use Rattle.nmvs_protocol.proofs.SpellingLemmas.{first_fault-text}
 
 -- a line of several fields has a space

@@ -18,14 +18,12 @@ use Rattle.nmvs_messages.specs.declared.withheld.Withheld.{Withheld}
 use Rattle.nmvs_messages.specs.declared.end.End.{End}
 use Rattle.nmvs_messages.specs.declared.end.End.TheVariants as ends
 use Rattle.nmvs_protocol.specs.Lines.{line_text}
-use Rattle.nmvs_protocol.specs.Texts.{bare, content_text, ends_with_reply, is_reply, last_showing, lines_behind, showing, tagged_text, text}
-use Rattle.nmvs_protocol.specs.Tags.{tag_text}
-use Rattle.nmvs_line.specs.Export.{ended_line, export_text}
-use Rattle.nmvs_rules.specs.declared.entry.Entry.{Entry}
+use Rattle.nmvs_protocol.specs.Texts.{bare, content_text, ends_with_reply, last_showing, showing, text}
+use Rattle.nmvs_messages.specs.Tags.{tag_text}
 use Rattle.nmvs_words.specs.Words.{spaced}
 use Rattle.nmvs_messages.specs.Words.{reply_words}
 use Rattle.std.specs.Option.{is_some}
-use Rattle.nmvs_messages.specs.Withheld.{answer_of, content_shown, shown_text, text_left, AreReleased, StaysOrTurns}
+use Rattle.nmvs_messages.specs.Withheld.{answer_of, content_shown, is_from_repository, is_of_repository, shown_text, text_left, AreReleased, StaysOrTurns}
 use Rattle.nmvs_protocol.specs.Session.{ReleasesAll, NoQuit, NoQuitBeforeLast, session_text}
 use Rattle.nmvs_protocol.specs.Progress.{LastShows, Gathers, Delivered, Tells, TellsWithheld, Stands, has_write_fault}
 
@@ -37,45 +35,36 @@ no_quit_more xs x none other = All-append (λ (y : List ℕ). y ≢ line_text li
 abbrev pub ShowsNone : Withheld → Type 0
 ShowsNone w = shown_text w ≡ []
 
--- the text of a content that shows entries: that of the content without them, and then that of the entries
-tagged_shown : (g : Option Tag) (c : Content) (shown : List ℕ) → tagged_text g (showing shown c) ≡ tagged_text g (showing [] c) ++ cond (is_reply c) shown []
+-- the text of a content with lines that follow it: that of the content without them, and then that of the lines
+worded_shown : (c : Content) (shown : List ℕ) → content_text (showing shown c) ≡ content_text (showing [] c) ++ cond (is_from_repository c) shown []
 unfolding content_text
-tagged_shown None (contents.Replied r s) shown = ap (λ (t : List ℕ). t ++ shown) (sym (append-nil (spaced (reply_words r))))
-tagged_shown (Some g) (contents.Replied r s) shown =
-    let front = tag_text (Some g) in
-    let words = spaced (reply_words r) in
-    sym (append_assoc front words shown) ∙ ap (λ (t : List ℕ). (front ++ t) ++ shown) (sym (append-nil words))
-tagged_shown None (contents.Reported t) shown = sym (append-nil _)
-tagged_shown (Some g) (contents.Reported t) shown = sym (append-nil _)
-tagged_shown None (contents.Turned turn) shown = sym (append-nil _)
-tagged_shown (Some g) (contents.Turned turn) shown = sym (append-nil _)
-tagged_shown None (contents.Unread fault) shown = sym (append-nil _)
-tagged_shown (Some g) (contents.Unread fault) shown = sym (append-nil _)
-tagged_shown None contents.Pong shown = sym (append-nil _)
-tagged_shown (Some g) contents.Pong shown = sym (append-nil _)
-tagged_shown None contents.Version shown = sym (append-nil _)
-tagged_shown (Some g) contents.Version shown = sym (append-nil _)
-tagged_shown None contents.Help shown = sym (append-nil _)
-tagged_shown (Some g) contents.Help shown = sym (append-nil _)
-tagged_shown None contents.Bye shown = sym (append-nil _)
-tagged_shown (Some g) contents.Bye shown = sym (append-nil _)
+worded_shown (contents.Replied r s) shown = ap (λ (t : List ℕ). t ++ shown) (sym (append-nil (spaced (reply_words r))))
+worded_shown (contents.Reported first s) shown = ap (λ (t : List ℕ). t ++ shown) (sym (append-nil first))
+worded_shown (contents.Turned turn) shown = sym (append-nil _)
+worded_shown (contents.Unread fault) shown = sym (append-nil _)
+worded_shown contents.Pong shown = sym (append-nil _)
+worded_shown contents.Version shown = sym (append-nil _)
+worded_shown contents.Help shown = sym (append-nil _)
+worded_shown contents.Bye shown = sym (append-nil _)
 
-text_shown : (a : Answer) (shown : List ℕ) → text (record a { content = showing shown a.content }) ≡ text (bare a) ++ cond (is_reply a.content) shown []
+text_shown : (a : Answer) (shown : List ℕ) → text (record a { content = showing shown a.content }) ≡ text (bare a) ++ cond (is_of_repository a) shown []
 unfolding text
-text_shown a shown = tagged_shown a.tag a.content shown
+text_shown a shown =
+    ap (λ (t : List ℕ). tag_text a.tag ++ t) (worded_shown a.content shown)
+    ∙ sym (append_assoc (tag_text a.tag) (content_text (showing [] a.content)) (cond (is_of_repository a) shown []))
 
 -- the text of answers, the last of which shows entries
 pub session_text_last : (shown : List ℕ) (said : List Answer) → session_text (last_showing shown said) ≡ session_text (map bare said) ++ cond (ends_with_reply said) shown []
 session_text_last shown [] = refl
 session_text_last shown (a ∷ []) =
-    append-nil (text (record a { content = showing shown a.content })) ∙ text_shown a shown ∙ ap (λ (t : List ℕ). t ++ cond (is_reply a.content) shown []) (sym (append-nil (text (bare a))))
+    append-nil (text (record a { content = showing shown a.content })) ∙ text_shown a shown ∙ ap (λ (t : List ℕ). t ++ cond (is_of_repository a) shown []) (sym (append-nil (text (bare a))))
 session_text_last shown (a ∷ b ∷ more) =
     ap (λ (t : List ℕ). text (bare a) ++ t) (session_text_last shown (b ∷ more)) ∙ sym (append_assoc (text (bare a)) (session_text (map bare (b ∷ more))) (cond (ends_with_reply (b ∷ more)) shown []))
 
 -- a content that shows a text stays the same if it shows that text
 showing_same : (c : Content) (shown : List ℕ) → content_shown c ≡ shown → showing shown c ≡ c
 showing_same (contents.Replied r s) shown is = ap (λ (t : List ℕ). contents.Replied r t) (sym is)
-showing_same (contents.Reported t) shown is = refl
+showing_same (contents.Reported first s) shown is = ap (λ (t : List ℕ). contents.Reported first t) (sym is)
 showing_same (contents.Turned turn) shown is = refl
 showing_same (contents.Unread fault) shown is = refl
 showing_same contents.Pong shown is = refl
@@ -87,7 +76,7 @@ answer_same : (a : Answer) (shown : List ℕ) → content_shown a.content ≡ sh
 answer_same a shown is = ap (λ (c : Content). record a { content = c }) (showing_same a.content shown is)
 
 -- without a list no entry is left
-pub none_left : {L : Type 0} (left : L → List Entry) (list : Option L) → is_some list ≡ false → text_left left list ≡ []
+pub none_left : {L : Type 0} (left : L → List ℕ) (list : Option L) → is_some list ≡ false → text_left left list ≡ []
 none_left left None none = refl
 none_left left (Some l) none = absurd (cc none)
 
@@ -215,83 +204,6 @@ pub both_err : {T E : Type 0} (r : Result T E) (old mid new : Taken) (p q : List
 both_err (Ok t) old mid new p q a b = tt
 both_err (Err e) old mid new p q a b = part_more old mid new p q a b
 
--- the written lines of a text, each after the same bytes: those of its first bytes, which end a line
-pub record LinesWritten (old now : Taken) (front text rest : List ℕ) : Type 0 where
-  pub before : List ℕ
-  pub whole : before ++ rest ≡ text
-  pub ended : rest_after [] before ≡ []
-  pub written : Writes old now (lines_behind front before)
-
-pub no_lines : (old : Taken) (front text : List ℕ) → LinesWritten old old front text text
-unfolding lines_after rest_after
-no_lines old front text = record {
-  before = [];
-  whole = refl;
-  ended = refl;
-  written = record { bytes = sym (append-nil old.bytes); flushed = λ none. refl; failed = refl };
-}
-
--- the lines up to the end of one more line
-more_lines : (front before line : List ℕ) → rest_after [] before ≡ [] → HasNoLf line
-    → (lines_behind front (before ++ (line ++ 10 ∷ [])) ≡ lines_behind front before ++ (front ++ (line ++ 10 ∷ []))) × (rest_after [] (before ++ (line ++ 10 ∷ [])) ≡ [])
-unfolding lines_after rest_after
-more_lines front before line ended none =
-    let tell : List ℕ → List ℕ = λ x. front ++ (x ++ 10 ∷ []) in
-    let cut : lines_after [] (before ++ (line ++ 10 ∷ [])) ≡ lines_after [] before ++ line ∷ [] =
-    lines_after-append [] before (line ++ 10 ∷ []) ∙ (λ i. lines_after [] before ++ lines_after (ended i) (line ++ 10 ∷ []))
-    ∙ ap (λ (t : List (List ℕ)). lines_after [] before ++ t) (line_cut [] line [] refl none) in (
-      ap (flat_map tell) cut ∙ flat_map-append tell (lines_after [] before) (line ∷ []) ∙ ap (λ (t : List ℕ). lines_behind front before ++ t) (append-nil (tell line)),
-      rest_after-append [] before (line ++ 10 ∷ []) ∙ (λ i. rest_after (ended i) (line ++ 10 ∷ [])) ∙ left_cut [] line [] refl none,
-    )
-
-behind_one : (before line behind rest text : List ℕ) → before ++ rest ≡ text → rest ≡ line ++ 10 ∷ behind → (before ++ (line ++ 10 ∷ [])) ++ behind ≡ text
-behind_one before line behind rest text whole cut =
-    append_assoc before (line ++ 10 ∷ []) behind ∙ ap (λ (t : List ℕ). before ++ t) (append_assoc line (10 ∷ []) behind ∙ sym cut) ∙ whole
-
--- the bytes up to the end of a line
-pub first_line : (rest line behind : List ℕ) → rest ≡ line ++ 10 ∷ behind → take (length line + 1) rest ≡ line ++ 10 ∷ []
-first_line rest line behind cut =
-    ap (take (length line + 1)) (cut ∙ sym (append_assoc line (10 ∷ []) behind)) ∙ take_at (line ++ 10 ∷ []) behind (length line + 1) (omega (arith, length-append line (10 ∷ [])))
-
-pub line_written : (old now new : Taken) (front text rest line behind : List ℕ) → LinesWritten old now front text rest → rest ≡ line ++ 10 ∷ behind → HasNoLf line
-    → Writes now new (front ++ (line ++ 10 ∷ [])) → LinesWritten old new front text behind
-line_written old now new front text rest line behind l cut none w =
-    let more = more_lines front l.before line l.ended none in record {
-      before = l.before ++ (line ++ 10 ∷ []);
-      whole = behind_one l.before line behind rest text l.whole cut;
-      ended = more.1;
-      written = subst (λ (t : List ℕ). Writes old new t) (sym more.0) (writes_more old now new (lines_behind front l.before) (front ++ (line ++ 10 ∷ [])) l.written w);
-    }
-
--- a write fails within one more line
-pub line_broken : (old now new : Taken) (front text rest line behind : List ℕ) → LinesWritten old now front text rest → rest ≡ line ++ 10 ∷ behind → HasNoLf line
-    → DeliversPart now new (front ++ (line ++ 10 ∷ [])) → DeliversPart old new (lines_behind front text)
-line_broken old now new front text rest line behind l cut none w =
-    let tell : List ℕ → List ℕ = λ x. front ++ (x ++ 10 ∷ []) in
-    let more = more_lines front l.before line l.ended none in
-    let some = l.before ++ (line ++ 10 ∷ []) in
-    let all : lines_behind front some ++ flat_map tell (lines_after (rest_after [] some) behind) ≡ lines_behind front text =
-    sym (flat_map-append tell (lines_after [] some) (lines_after (rest_after [] some) behind))
-    ∙ ap (flat_map tell) (sym (lines_after-append [] some behind) ∙ ap (lines_after []) (behind_one l.before line behind rest text l.whole cut)) in
-    let part : DeliversPart old new (lines_behind front some) =
-    subst (λ (t : List ℕ). DeliversPart old new t) (sym more.0) (part_more old now new (lines_behind front l.before) (front ++ (line ++ 10 ∷ [])) l.written w) in
-    subst (λ (t : List ℕ). DeliversPart old new t) all (part_of old new (lines_behind front some) (flat_map tell (lines_after (rest_after [] some) behind)) part)
-
--- the bytes that are left end no line
-pub lines_written : (old now : Taken) (front text rest : List ℕ) → LinesWritten old now front text rest → HasNoLf rest → Writes old now (lines_behind front text)
-lines_written old now front text rest l none =
-    let tell : List ℕ → List ℕ = λ x. front ++ (x ++ 10 ∷ []) in
-    let all : lines_after [] text ≡ lines_after [] l.before =
-    ap (lines_after []) (sym l.whole) ∙ lines_after-append [] l.before rest
-    ∙ ap (λ (t : List (List ℕ)). lines_after [] l.before ++ t) (no_line (rest_after [] l.before) rest none).0 ∙ append-nil (lines_after [] l.before) in
-    subst (λ (t : List ℕ). Writes old now t) (sym (ap (flat_map tell) all)) l.written
-
--- the lines of a report, each after the tag
-pub reported_text : (a : Answer) (g : Tag) (t front content : List ℕ) → a.tag ≡ Some g → a.content ≡ contents.Reported t → front ≡ tag_text a.tag → content ≡ content_text a.content
-    → lines_behind front content ≡ text a
-unfolding text content_text
-reported_text a g t front content tag is f c = (λ i. lines_behind ((f ∙ ap tag_text tag) i) ((c ∙ ap content_text is) i)) ∙ sym (λ i. tagged_text (tag i) (is i))
-
 -- texts after texts
 pub gathers_more : (old mid new : Taken) (before more : List Answer) → Gathers old mid before → Gathers mid new more → Gathers old new (before ++ more)
 gathers_more old mid new before more a b =
@@ -314,24 +226,19 @@ bare_broken old mid new before a later g w =
     (breaks_after old mid new (map bare before) (bare a ∷ map bare later) g (part_of mid new (text (bare a)) (session_text (map bare later)) w))
 
 -- the last answer decides
-pub ends_push : (before : List Answer) (a : Answer) → ends_with_reply (before ++ a ∷ []) ≡ is_reply a.content
+pub ends_push : (before : List Answer) (a : Answer) → ends_with_reply (before ++ a ∷ []) ≡ is_of_repository a
 ends_push [] a = refl
 ends_push (b ∷ []) a = refl
 ends_push (b ∷ c ∷ before) a = ends_push (c ∷ before) a
 
--- the lines of more entries are written, or of some of them a part
-pub entries_more : (old mid new : Taken) (before more : List Entry) → Writes old mid (export_text before) → Writes mid new (export_text more) → Writes old new (export_text (before ++ more))
-entries_more old mid new before more a b =
-    subst (λ (t : List ℕ). Writes old new t) (sym (flat_map-append ended_line before more)) (writes_more old mid new (export_text before) (export_text more) a b)
+-- a text that is written piece by piece, and a write that fails within a piece
+pub piece_cut : (before piece left left' all : List ℕ) → before ++ left ≡ all → piece ++ left' ≡ left → (before ++ piece) ++ left' ≡ all
+piece_cut before piece left left' all whole cut = append_assoc before piece left' ∙ ap (λ (t : List ℕ). before ++ t) cut ∙ whole
 
-pub entries_broken : (old mid new : Taken) (before more later : List Entry) → Writes old mid (export_text before) → DeliversPart mid new (export_text more) → DeliversPart old new (export_text (before ++ (more ++ later)))
-entries_broken old mid new before more later a b =
-    subst (λ (t : List ℕ). DeliversPart old new t) (sym (flat_map-append ended_line before (more ++ later) ∙ ap (λ (t : List ℕ). export_text before ++ t) (flat_map-append ended_line more later)))
-    (part_more old mid new (export_text before) (export_text more ++ export_text later) a (part_of mid new (export_text more) (export_text later) b))
-
--- entries that are cut once more
-pub entries_cut : (n : ℕ) (before left : List Entry) {all : List Entry} → before ++ left ≡ all → (before ++ take n left) ++ drop n left ≡ all
-entries_cut n before left whole = append_assoc before (take n left) (drop n left) ∙ ap (λ (t : List Entry). before ++ t) (take-append-drop n left) ∙ whole
+pub piece_broken : (old mid new : Taken) (before piece left left' all : List ℕ) → before ++ left ≡ all → piece ++ left' ≡ left
+    → Writes old mid before → DeliversPart mid new piece → DeliversPart old new all
+piece_broken old mid new before piece left left' all whole cut a b =
+    subst (λ (t : List ℕ). DeliversPart old new t) (ap (λ (t : List ℕ). before ++ t) cut ∙ whole) (part_more old mid new before (piece ++ left') a (part_of mid new piece left' b))
 
 -- the entries are written after the answers, whose text is then whole
 pub tells_whole : (old mid new : Taken) (shown : List ℕ) (said : List Answer) (replied : Bool) → replied ≡ ends_with_reply said → Gathers old mid (map bare said) → Writes mid new (cond replied shown []) → LastShows shown said → Gathers old new said

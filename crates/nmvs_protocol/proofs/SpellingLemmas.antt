@@ -26,7 +26,8 @@ use Rattle.nmvs_messages.specs.declared.ask.LineFault.TheVariants as fault
 use Rattle.nmvs_messages.specs.declared.ask.LineFault.{LineFault}
 use Rattle.nmvs_messages.specs.declared.ask.Unread.{Unread}
 use Rattle.nmvs_messages.specs.Fields.{fields_in, line_of_fields, line_fault}
-use Rattle.nmvs_protocol.specs.Tags.{tag_text, tag_of, behind_tag}
+use Rattle.nmvs_messages.specs.Tags.{tag_text}
+use Rattle.nmvs_protocol.specs.Tags.{tag_of, behind_tag}
 use Rattle.nmvs_identifier.specs.Tag.{Tag}
 use Rattle.nmvs_rules.specs.Entries.{is_tag_or_none}
 use Rattle.nmvs_protocol.specs.Lines.{asked_fields, line_tag, fields, line_text, report_word, Grammar, grammars, if_word, pack_grammars, report_grammars, all_read, first_misread, texts_fault, pack_fault, question_fault, ask_fault, asked_fault, fields_fault, byte_fault, asked_line_fault, fault_behind, first_fault, is_asked, is_line, ReadsLine, OneReading, EachIsRead, OneSpelling, ShortLines}

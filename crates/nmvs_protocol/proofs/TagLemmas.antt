@@ -15,7 +15,8 @@ use Rattle.nmvs_identifier.specs.Name.{is_name, has_name_characters}
 use Rattle.nmvs_identifier.specs.Texts.{longest_text}
 use Rattle.nmvs_identifier.proofs.PlainTexts.{is_plain, plain_name, all_weaker}
 use Rattle.nmvs_messages.specs.Fields.{fields_in, is_printable, is_space, line_of_fields}
-use Rattle.nmvs_protocol.specs.Tags.{tag_text, tag_named, first_tag, tag_of, behind_tag}
+use Rattle.nmvs_messages.specs.Tags.{tag_text}
+use Rattle.nmvs_protocol.specs.Tags.{tag_named, first_tag, tag_of, behind_tag}
 use Rattle.nmvs_messages.specs.PendingLines.{kept_part}
 use Rattle.nmvs_messages.proofs.PlainLemmas.{no_space, plain_printable}
 use Rattle.nmvs_messages.proofs.FieldLemmas.{printable-utf8}

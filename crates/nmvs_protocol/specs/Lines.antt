@@ -20,7 +20,8 @@ use Rattle.nmvs_messages.specs.declared.ask.LineFault.{LineFault}
 use Rattle.nmvs_messages.specs.declared.ask.LineFault.TheVariants as fault
 use Rattle.nmvs_messages.specs.declared.ask.Unread.{Unread}
 use Rattle.nmvs_messages.specs.Fields.{line_of_fields, line_fault}
-use Rattle.nmvs_protocol.specs.Tags.{tag_text, tag_of, behind_tag}
+use Rattle.nmvs_messages.specs.Tags.{tag_text}
+use Rattle.nmvs_protocol.specs.Tags.{tag_of, behind_tag}
 
 -- the word that asks for a report
 abbrev pub report_word : List ℕ

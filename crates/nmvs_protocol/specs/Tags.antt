@@ -3,11 +3,7 @@ use Rattle.std.specs.Prelude.{ℕ, List, [], ◌∷◌, ◌++◌, length, take, 
 use Rattle.nmvs_identifier.specs.Tag.{Tag, is_tag}
 use Rattle.nmvs_identifier.specs.Texts.{longest_text}
 use Rattle.nmvs_messages.specs.Fields.{fields_in}
-
--- the bytes before a line with a tag, and before its reply: #, the tag and a space
-abbrev pub tag_text : Option Tag → List ℕ
-tag_text None = []
-tag_text (Some g) = 35 ∷ g.bytes ++ 32 ∷ []
+use Rattle.nmvs_messages.specs.Tags.{tag_text}
 
 -- the most bytes that this has
 abbrev pub longest_tag_text : ℕ

@@ -1,8 +1,6 @@
--- The text of each answer: words and values joined by single spaces, then LF; entry lines and reports as they are (own).
-use Rattle.std.specs.Prelude.{ℕ, Bool, true, false, List, [], ◌∷◌, ◌++◌, codes, Option, Some}
+-- The text of each answer: words and values joined by single spaces, then LF; the lines that follow it as they are (own).
+use Rattle.std.specs.Prelude.{ℕ, Bool, true, false, List, [], ◌∷◌, ◌++◌, codes}
 use Rattle.std.specs.List.{flat_map}
-use Rattle.nmvs_identifier.specs.Tag.{Tag}
-use Rattle.nmvs_stream.specs.InputLines.{input_lines}
 use Rattle.nmvs_rules.specs.declared.entry.Entry.{Entry}
 use Rattle.nmvs_rules.specs.declared.reply.Reply.{Reply}
 use Rattle.nmvs_words.specs.Words.{spaced}
@@ -10,8 +8,9 @@ use Rattle.nmvs_line.specs.Export.{export_text}
 use Rattle.nmvs_messages.specs.declared.answer.Answer.{Answer}
 use Rattle.nmvs_messages.specs.declared.answer.Content.{Content}
 use Rattle.nmvs_messages.specs.declared.answer.Content.TheVariants as contents
+use Rattle.nmvs_messages.specs.Withheld.{is_of_repository}
 use Rattle.nmvs_messages.specs.Words.{fault_word, reply_words, turn_word}
-use Rattle.nmvs_protocol.specs.Tags.{tag_text}
+use Rattle.nmvs_messages.specs.Tags.{tag_text}
 
 -- the text of a reply and of the entries that it shows: its words, and then the line of each entry
 abbrev pub reply_text : Reply → List Entry → List ℕ
@@ -49,7 +48,7 @@ help_text = flat_map (λ line. codes "HELP " ++ (line ++ 10 ∷ [])) help_lines
 -- the text of the answer to a line without a tag
 unfoldable pub content_text : Content → List ℕ
 content_text (contents.Replied r shown) = spaced (reply_words r) ++ shown
-content_text (contents.Reported t) = t
+content_text (contents.Reported first shown) = first ++ shown
 content_text (contents.Turned t) = spaced (codes "FAULT" ∷ turn_word t ∷ [])
 content_text (contents.Unread f) = spaced (codes "FAULT" ∷ fault_word f ∷ [])
 content_text contents.Pong = spaced (codes "PONG" ∷ [])
@@ -57,41 +56,28 @@ content_text contents.Version = spaced (codes "VERSION" ∷ codes "0.9.0" ∷ []
 content_text contents.Help = help_text
 content_text contents.Bye = spaced (codes "BYE" ∷ [])
 
--- the lines of a text, each after the same bytes
-abbrev pub lines_behind : List ℕ → List ℕ → List ℕ
-lines_behind front t = flat_map (λ line. front ++ (line ++ 10 ∷ [])) (input_lines t)
-
--- the text of the answer to a line with this tag, if it has one: the tag begins each of its lines that is no entry line
-abbrev pub tagged_text : Option Tag → Content → List ℕ
-tagged_text (Some g) (contents.Reported t) = lines_behind (tag_text (Some g)) t
-tagged_text g content = tag_text g ++ content_text content
-
--- the text of an answer
+-- the text of an answer: the tag of its line, if it has one, and the content
 unfoldable pub text : Answer → List ℕ
-text a = tagged_text a.tag a.content
+text a = tag_text a.tag ++ content_text a.content
 
--- this content, with this text of entries if it is a reply
+-- this content, with this text of the lines that follow it if it is a reply or a report
 abbrev pub showing : List ℕ → Content → Content
 showing shown (contents.Replied r _) = contents.Replied r shown
+showing shown (contents.Reported first _) = contents.Reported first shown
 showing shown content = content
 
--- an answer without the entries that it shows
+-- an answer without the lines that follow it
 abbrev pub bare : Answer → Answer
 bare a = record a { content = showing [] a.content }
 
--- these answers, where the last one shows this text if it is a reply, and no other shows any
+-- these answers, where this text follows the last one if it is a reply or a report, and none any other
 abbrev pub last_showing : List ℕ → List Answer → List Answer
 last_showing shown [] = []
 last_showing shown (a ∷ []) = record a { content = showing shown a.content } ∷ []
 last_showing shown (a ∷ b ∷ more) = bare a ∷ last_showing shown (b ∷ more)
 
--- whether this is a reply
-abbrev pub is_reply : Content → Bool
-is_reply (contents.Replied r shown) = true
-is_reply _ = false
-
--- whether the last of these answers is a reply
+-- whether the last of these answers is a reply or a report
 abbrev pub ends_with_reply : List Answer → Bool
 ends_with_reply [] = false
-ends_with_reply (a ∷ []) = is_reply a.content
+ends_with_reply (a ∷ []) = is_of_repository a
 ends_with_reply (a ∷ b ∷ more) = ends_with_reply (b ∷ more)

@@ -14,4 +14,4 @@ pub use laws::lines_are_read;
 pub use lines::{line_text, read_line};
 pub use replies::{VERSION, reply_text};
 pub use serving::serve;
-pub use session::{PIECE, Session, Taking, write_texts};
+pub use session::{Session, Taking, write_texts};

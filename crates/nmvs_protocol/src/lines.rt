@@ -10,9 +10,11 @@ ghost use Rattle.nmvs_words.specs.Kinds.{kind_named, kind_word};
 ghost use Rattle.nmvs_messages.specs.Fields.{line_of_fields};
 ghost use Rattle.nmvs_protocol.specs.Lines.{ReadsLine, fields as line_fields, line_tag, byte_fault as fault_of_byte, asked_fields, report_word, line_text as text_of_line, is_line, is_asked, asked_line_fault, fields_fault, asked_fault, question_fault, pack_fault, texts_fault, grammars, report_grammars};
 
-use crate::tags::{cut_tag, tag_text};
+use crate::tags::cut_tag;
 use nmvs_identifier::{Batch, Expiry, Name, Pack, ProductCode, Serial};
-use nmvs_messages::{Ask, Asked, Fields, LONGEST_LINE, Line, LineFault, Unread, fill_fields};
+use nmvs_messages::{
+    Ask, Asked, Fields, LONGEST_LINE, Line, LineFault, Unread, fill_fields, tag_text,
+};
 use nmvs_rules::{Printed, Question};
 use nmvs_words::{BatchQuestion, PackQuestion, QuestionKind};
 use std::alloc::{AllocError, Allocator};

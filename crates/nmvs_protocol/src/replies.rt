@@ -45,14 +45,14 @@ pub fn reply_text(alloc: Global, reply: &Reply, shown: &[Entry]) -> Result<Strin
     Ok(text)
 }
 
-/// The text of an answer's content without a tag and without the entries that it shows, with its last LF.
+/// The text of an answer's content without a tag and without the lines that follow it, with its last LF.
 #[tactic(auto, unfolding(crate::specs::Texts::content_text))]
 pub(crate) fn wording(content: &Content) -> Wording<'_>
     ensures { wording_text result ≡ content_text (showing [] content.now) }
 {
     match content {
         Content::Replied(reply, _) => Wording::Composed(reply_line(reply)),
-        Content::Reported(report) => Wording::Lent(report.text()),
+        Content::Reported(first, _) => Wording::Lent(first.text()),
         Content::Turned(turn) => Wording::Composed(in_words("FAULT", &[word_of_turn(*turn)])),
         Content::Unread(fault) => Wording::Composed(in_words("FAULT", &[word_of_fault(*fault)])),
         Content::Pong => Wording::Composed(in_words("PONG", &[])),

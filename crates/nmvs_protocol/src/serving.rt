@@ -1,5 +1,5 @@
 //! Sessions over a source of bytes.
-ghost use Rattle.std.specs.Prelude.{◌≡◌, ◌≤◌, ◌<◌, ◌++◌, List, ℕ, false, IfNone, vec_capacity};
+ghost use Rattle.std.specs.Prelude.{◌≡◌, ◌≤◌, ◌<◌, ◌++◌, List, ℕ, false, IfNone};
 ghost use Rattle.nmvs_stream.specs.Sink.{Taken};
 ghost use Rattle.nmvs_stream.specs.InputLines.{lines_after, unfinished_line};
 ghost use Rattle.nmvs_protocol.specs.Session.{Session as TheSession};
@@ -7,9 +7,8 @@ ghost use Rattle.nmvs_messages.specs.PendingLines.{kept_part};
 ghost use Rattle.nmvs_messages.specs.Peers.{TakesFrom};
 ghost use Rattle.nmvs_protocol.specs.Progress.{Served, has_write_fault};
 
-use crate::{PIECE, Session};
-use nmvs_messages::{Desk, End, Limits, Peer, READ_SIZE, WithheldAnswers};
-use nmvs_rules::Entry;
+use crate::Session;
+use nmvs_messages::{Desk, End, Limits, Peer, Piece, READ_SIZE, WithheldAnswers};
 use nmvs_stream::{Failed, Sink, Source};
 use std::alloc::Global;
 
@@ -32,7 +31,7 @@ pub fn serve<R: Source, W: Sink, D: Desk>(
     ensures { TheSession (TakesFrom D.takes from.now) D.releases D.moves limits desk.old (R.told source.old) (W.taken sink.old)
         desk.new (R.told source.new) (W.taken sink.new) result }
 {
-    let Ok(mut piece) = Vec::with_capacity(alloc, PIECE) else {
+    let Ok(mut piece) = Piece::new(alloc) else {
         return End::Memory;
     };
     let mut session = Session::new(limits.lines);
@@ -67,14 +66,12 @@ fn serve_read<W: Sink, D: Desk>(
     session: &mut Session,
     chunk: &[u8],
     withheld: &mut WithheldAnswers,
-    piece: &mut Vec<Entry>,
+    piece: &mut Piece,
     sink: &mut W,
     from: &Peer,
     desk: &mut D,
 ) -> Option<End>
-    requires room { 0 < vec_capacity piece.old }
-    ensures room { vec_capacity piece.new ≡ vec_capacity piece.old }
-    ensures served { (fed : List ℕ) → session.old.line ≡ kept_part (unfinished_line fed) → session.old.answered ≤ session.old.limit
+    ensures { (fed : List ℕ) → session.old.line ≡ kept_part (unfinished_line fed) → session.old.answered ≤ session.old.limit
         → (W.taken sink.old).failed ≡ false
         → Served (TakesFrom D.takes from.now) D.releases D.moves session.old desk.old (W.taken sink.old) (lines_after (unfinished_line fed) chunk.now)
         session.new desk.new (W.taken sink.new) result

@@ -1,11 +1,10 @@
 //! A session that takes bytes.
-ghost use Rattle.std.specs.Prelude.{◌≡◌, ◌==◌, ◌≤◌, ◌<◌, ◌-◌, ◌++◌, ◌↔◌, [], List, ℕ, Ok, IsTrue, IfNone, IfOk, OnOk, OnErr, if◌then◌else◌, not, length, map, take, drop, vec_capacity};
+ghost use Rattle.std.specs.Prelude.{◌≡◌, ◌==◌, ◌≤◌, ◌<◌, ◌-◌, ◌++◌, ◌↔◌, [], List, ℕ, Ok, IsTrue, IfNone, IfOk, OnOk, OnErr, if◌then◌else◌, not, length, map, take, drop};
 ghost use Rattle.nmvs_stream.specs.Delivery.{Writes, DeliversPart};
 ghost use Rattle.nmvs_stream.specs.InputLines.{lines_after, unfinished_line};
 ghost use Rattle.nmvs_protocol.specs.Lines.{line_text};
-ghost use Rattle.nmvs_line.specs.Export.{ended_line, export_text};
 ghost use Rattle.nmvs_protocol.specs.Session.{Answers, TakesLine, session_text};
-ghost use Rattle.nmvs_protocol.specs.Texts.{bare, content_text, ends_with_reply, is_reply, lines_behind, showing, text};
+ghost use Rattle.nmvs_protocol.specs.Texts.{bare, ends_with_reply, text};
 ghost use Rattle.nmvs_messages.specs.PendingLines.{kept_part};
 ghost use Rattle.nmvs_messages.specs.Peers.{TakesFrom};
 ghost use Rattle.nmvs_messages.specs.Withheld.{shown_text, text_left};
@@ -13,17 +12,11 @@ ghost use Rattle.nmvs_protocol.specs.Progress.{Fed, Took, TellsWithheld};
 
 use crate::read_line;
 use crate::replies::wording;
-use crate::tags::tag_text;
-use nmvs_line::entry_line;
 use nmvs_messages::{
-    Answer, Content, Desk, End, EntryList, Line, Peer, PendingLine, Released, Unread, Withheld,
-    WithheldAnswers,
+    Answer, Content, Desk, End, Line, LineList, Peer, PendingLine, Piece, Released, Unread,
+    Withheld, WithheldAnswers, is_of_repository, tag_text,
 };
-use nmvs_rules::Entry;
 use nmvs_stream::{Failed, Sink, cut_line, write_all};
-
-/// The most entries of a list that are fetched and written together (own).
-pub const PIECE: usize = 32;
 
 /// The state of a session: the line that was begun, the number of lines that were answered, and the limit of that number.
 #[derive(Drop)]
@@ -35,12 +28,12 @@ pub struct Session {
 
 /// The progress of a session through some bytes.
 #[derive(Drop)]
-pub struct Taking<L: EntryList> {
+pub struct Taking<L: LineList> {
     /// The number of bytes that it took, from the front.
     pub bytes: usize,
     /// The end of the session after its answers are written, if it ends.
     pub end: Option<End>,
-    /// The entries that the last of the answers shows, if it shows any.
+    /// The lines that follow the last of the answers, if any do.
     pub list: Option<L>,
 }
 
@@ -69,22 +62,20 @@ impl Session {
     /// to the sink, and leaves the flush to the caller. It takes lines until no more answers can be withheld, and then releases
     /// those together.
     ///
-    /// A line of more than 200 bytes is answered once, at its LF. No text takes memory: a report and the help are written as
-    /// they are, the entries of a shown audit a piece at a time, and all other texts are composed in place.
+    /// A line of more than 200 bytes is answered once, at its LF. No text takes memory: the help is written as it is, the lines
+    /// of a list a piece at a time, and all other texts are composed in place.
     ///
     /// `None` means that the session goes on. Else it has this end, and takes no more bytes.
     pub fn feed<W: Sink, D: Desk>(
         &mut self,
         more: &[u8],
         withheld: &mut WithheldAnswers,
-        piece: &mut Vec<Entry>,
+        piece: &mut Piece,
         sink: &mut W,
         from: &Peer,
         desk: &mut D,
     ) -> Option<End>
-        requires room { 0 < vec_capacity piece.old }
-        ensures room { vec_capacity piece.new ≡ vec_capacity piece.old }
-        ensures fed { (fed : List ℕ) → self.old.line ≡ kept_part (unfinished_line fed) → self.old.answered ≤ self.old.limit
+        ensures { (fed : List ℕ) → self.old.line ≡ kept_part (unfinished_line fed) → self.old.answered ≤ self.old.limit
             → Fed (TakesFrom D.takes from.now) D.releases D.moves self.old desk.old (W.taken sink.old) (lines_after (unfinished_line fed) more.now)
             self.new desk.new (W.taken sink.new) result
             × IfNone result (self.new.line ≡ kept_part (unfinished_line (fed ++ more.now))) }
@@ -107,7 +98,7 @@ impl Session {
     }
 
     /// Takes the lines that these bytes of a peer complete, after the earlier bytes, and adds their answers to the withheld
-    /// ones. It stops after a line whose answer may be long or shows entries, and before a line whose answer finds no room.
+    /// ones. It stops after a line whose answer may take long or has a list, and before a line whose answer finds no room.
     ///
     /// After those answers are written, the session goes on with the bytes that are left, or has ended.
     pub fn take<D: Desk>(
@@ -151,7 +142,7 @@ impl Session {
         }
     }
 
-    /// Takes the line that these bytes end. With its answer comes the list of the entries that it shows. The third value is
+    /// Takes the line that these bytes end. With its answer comes the list of the lines that follow it. The third value is
     /// whether it is QUIT.
     fn take_tail<D: Desk>(
         &mut self,
@@ -179,7 +170,7 @@ impl Session {
 }
 
 /// The progress through some bytes of which these are left.
-fn taken_until<L: EntryList>(
+fn taken_until<L: LineList>(
     more: &[u8],
     left: &[u8],
     end: Option<End>,
@@ -197,7 +188,7 @@ fn taken_until<L: EntryList>(
     }
 }
 
-/// Takes a line, given with at least its kept bytes. With its answer comes the list of the entries that it shows. The third
+/// Takes a line, given with at least its kept bytes. With its answer comes the list of the lines that follow it. The third
 /// value is whether it is QUIT.
 fn take_line<D: Desk>(line: &[u8], from: &Peer, desk: &mut D) -> (Withheld, Option<D::List>, bool)
     ensures takes { (x : List ℕ) → kept_part line.now ≡ kept_part x → TakesLine (TakesFrom D.takes from.now) desk.old x result.0 desk.new }
@@ -209,7 +200,7 @@ fn take_line<D: Desk>(line: &[u8], from: &Peer, desk: &mut D) -> (Withheld, Opti
     (withheld, list, is_quit(&reading))
 }
 
-/// The answer to a reading, and the list of the entries that it shows. PING, VERSION, HELP and QUIT are answered without the
+/// The answer to a reading, and the list of the lines that follow it. PING, VERSION, HELP and QUIT are answered without the
 /// desk.
 fn answer<D: Desk>(
     reading: &Result<Line, Unread>,
@@ -243,17 +234,15 @@ fn is_quit(reading: &Result<Line, Unread>) -> bool
     matches!(reading, Ok(Line::Quit))
 }
 
-/// Releases the withheld answers, and writes their texts. The last of them shows the entries of the list. No answer is withheld
+/// Releases the withheld answers, and writes their texts. The lines of the list follow the last of them. No answer is withheld
 /// then.
 fn tell<W: Sink, D: Desk>(
     withheld: &mut WithheldAnswers,
     list: Option<D::List>,
-    piece: &mut Vec<Entry>,
+    piece: &mut Piece,
     sink: &mut W,
     desk: &mut D,
 ) -> Option<End>
-    requires room { 0 < vec_capacity piece.old }
-    ensures room { vec_capacity piece.new ≡ vec_capacity piece.old }
     ensures none_withheld { withheld.new ≡ [] }
     ensures tells { TellsWithheld D.releases D.moves (text_left D.List.left list) withheld.old desk.old desk.new result (W.taken sink.old) (W.taken sink.new) }
 {
@@ -272,8 +261,8 @@ fn tell<W: Sink, D: Desk>(
     }
 }
 
-/// Writes the texts of the answers, without the entries that they show. It leaves the flush to the caller. The result is
-/// whether the last of them is a reply.
+/// Writes the texts of the answers, without the lines that follow them. It leaves the flush to the caller. The result is
+/// whether the last of them is a reply or a report.
 ///
 /// # Errors
 ///
@@ -287,19 +276,13 @@ pub fn write_texts<W: Sink>(released: Released<'_>, sink: &mut W) -> Result<bool
     let mut rest = released;
     while let Some((answer, later)) = rest.split_first() {
         write_text(answer, sink)?;
-        replied = is_reply(&answer.content);
+        replied = is_of_repository(answer);
         rest = later;
     }
     Ok(replied)
 }
 
-fn is_reply(content: &Content) -> bool
-    ensures { result ≡ is_reply content.now }
-{
-    matches!(content, Content::Replied(..))
-}
-
-/// Writes the text of an answer, without the entries that it shows.
+/// Writes the text of an answer, without the lines that follow it.
 #[tactic(auto, unfolding(crate::specs::Texts::text))]
 fn write_text<W: Sink>(answer: &Answer, sink: &mut W) -> Result<(), Failed>
     ensures ok { OnOk result (Writes (W.taken sink.old) (W.taken sink.new) (text (bare answer.now))) }
@@ -311,23 +294,17 @@ fn write_text<W: Sink>(answer: &Answer, sink: &mut W) -> Result<(), Failed>
         return write_all(sink, content);
     };
     let front = tag_text(&answer.tag);
-    let front = front.as_str().as_bytes();
-    match &answer.content {
-        Content::Reported(_) => write_lines(front, content, sink),
-        _ => write_both(front, content, sink),
-    }
+    write_both(front.as_str().as_bytes(), content, sink)
 }
 
-/// Writes the entries of a list, if the answer that shows them is a reply.
+/// Writes the lines of a list, unless the line of its answer was turned away.
 fn write_shown<W: Sink, D: Desk>(
     list: Option<D::List>,
     replied: bool,
-    piece: &mut Vec<Entry>,
+    piece: &mut Piece,
     sink: &mut W,
     desk: &D,
 ) -> Result<(), Failed>
-    requires room { 0 < vec_capacity piece.old }
-    ensures room { vec_capacity piece.new ≡ vec_capacity piece.old }
     ensures ok { OnOk result (Writes (W.taken sink.old) (W.taken sink.new) (if replied then text_left D.List.left list else [])) }
     ensures err { OnErr result (DeliversPart (W.taken sink.old) (W.taken sink.new) (if replied then text_left D.List.left list else [])) }
 {
@@ -337,47 +314,22 @@ fn write_shown<W: Sink, D: Desk>(
     }
 }
 
-/// Writes the entries of a list, a piece at a time.
+/// Writes the lines of a list, a piece at a time.
 fn write_list<W: Sink, D: Desk>(
     list: D::List,
-    piece: &mut Vec<Entry>,
+    piece: &mut Piece,
     sink: &mut W,
     desk: &D,
 ) -> Result<(), Failed>
-    requires room { 0 < vec_capacity piece.old }
-    ensures room { vec_capacity piece.new ≡ vec_capacity piece.old }
-    ensures ok { OnOk result (Writes (W.taken sink.old) (W.taken sink.new) (export_text (D.List.left list))) }
-    ensures err { OnErr result (DeliversPart (W.taken sink.old) (W.taken sink.new) (export_text (D.List.left list))) }
+    ensures ok { OnOk result (Writes (W.taken sink.old) (W.taken sink.new) (D.List.left list)) }
+    ensures err { OnErr result (DeliversPart (W.taken sink.old) (W.taken sink.new) (D.List.left list)) }
 {
     let mut list = list;
     while !list.is_empty() {
-        piece.clear();
         desk.fetch(&mut list, piece);
-        write_entries(piece.as_slice(), sink)?;
+        write_all(sink, piece.text.as_slice())?;
     }
     Ok(())
-}
-
-/// Writes the lines of entries, each with LF.
-fn write_entries<W: Sink>(entries: &[Entry], sink: &mut W) -> Result<(), Failed>
-    ensures ok { OnOk result (Writes (W.taken sink.old) (W.taken sink.new) (export_text entries.now)) }
-    ensures err { OnErr result (DeliversPart (W.taken sink.old) (W.taken sink.new) (export_text entries.now)) }
-{
-    let mut rest = entries;
-    while let Some((entry, later)) = rest.split_first() {
-        write_entry(entry, sink)?;
-        rest = later;
-    }
-    Ok(())
-}
-
-/// Writes the line of an entry, with LF.
-fn write_entry<W: Sink>(entry: &Entry, sink: &mut W) -> Result<(), Failed>
-    ensures ok { OnOk result (Writes (W.taken sink.old) (W.taken sink.new) (ended_line entry.now)) }
-    ensures err { OnErr result (DeliversPart (W.taken sink.old) (W.taken sink.new) (ended_line entry.now)) }
-{
-    let line = entry_line(entry);
-    write_both(line.as_str().as_bytes(), b"\n", sink)
 }
 
 /// Writes one text, and another one after it.
@@ -387,17 +339,4 @@ fn write_both<W: Sink>(first: &[u8], second: &[u8], sink: &mut W) -> Result<(), 
 {
     write_all(sink, first)?;
     write_all(sink, second)
-}
-
-/// Writes the lines of a text, each after a tag.
-fn write_lines<W: Sink>(tag: &[u8], text: &[u8], sink: &mut W) -> Result<(), Failed>
-    ensures ok { OnOk result (Writes (W.taken sink.old) (W.taken sink.new) (lines_behind tag.now text.now)) }
-    ensures err { OnErr result (DeliversPart (W.taken sink.old) (W.taken sink.new) (lines_behind tag.now text.now)) }
-{
-    let mut rest = text;
-    while let Some((line, behind)) = cut_line(rest) {
-        write_both(tag, &rest[..line.len() + 1], sink)?;
-        rest = behind;
-    }
-    Ok(())
 }

@@ -1,15 +1,11 @@
-//! Tags before lines, and before their replies.
-ghost use Rattle.std.specs.Prelude.{◌≡◌, ◌<◌, ◌∷◌, [], Some, None, IsTrue, IfSome, IfNone, length};
-ghost use Rattle.nmvs_rules.specs.Entries.{is_tag_or_none};
+//! Tags before lines.
+ghost use Rattle.std.specs.Prelude.{◌≡◌, ◌<◌, ◌∷◌, [], Some, None, IfSome, IfNone, length};
 ghost use Rattle.nmvs_messages.specs.Fields.{fields_in};
-ghost use Rattle.nmvs_protocol.specs.Tags.{behind_tag, tag_named as tag_of_field, tag_of, tag_text as text_of_tag};
+ghost use Rattle.nmvs_protocol.specs.Tags.{behind_tag, tag_named as tag_of_field, tag_of};
 
-use arrayvec::ArrayString;
 use memchr::memchr;
 use nmvs_identifier::Tag;
-
-/// The most bytes before a line with a tag: `#`, the tag and a space (own).
-pub(crate) const LONGEST_TAG_TEXT: usize = 22;
+use nmvs_messages::LONGEST_TAG_TEXT;
 
 /// The tag that a line begins with, if there is one, and the bytes after it. A tag stands after `#` and before a space (own).
 pub(crate) fn cut_tag(line: &[u8]) -> Option<(Tag, &[u8])>
@@ -48,18 +44,4 @@ fn tag_named(field: &[u8]) -> Option<Tag>
         Ok(name) => Tag::read(name).ok(),
         Err(_) => None,
     }
-}
-
-/// The bytes before a line with this tag, and before its reply. Without a tag there are none.
-pub(crate) fn tag_text(tag: &Option<Tag>) -> ArrayString<LONGEST_TAG_TEXT>
-    ensures text { result.bytes ≡ text_of_tag tag.now }
-    ensures grammar { IsTrue (is_tag_or_none tag.now) }
-{
-    let mut text = ArrayString::new();
-    if let Some(tag) = tag {
-        text.push_str("#");
-        text.push_str(tag.text());
-        text.push_str(" ");
-    }
-    text
 }

@@ -35,7 +35,8 @@ use Rattle.nmvs_messages.specs.declared.answer.Turn.TheVariants as turns
 use Rattle.nmvs_messages.specs.declared.peer.Peer.{Peer}
 use Rattle.nmvs_messages.specs.declared.withheld.Basis.{Basis}
 use Rattle.nmvs_messages.specs.declared.withheld.Withheld.{Withheld}
-use Rattle.nmvs_record.specs.Report.{report_text}
+use Rattle.nmvs_messages.specs.Tags.{tag_text}
+use Rattle.nmvs_record.specs.Report.{product_line, report_lines}
 
 -- a desk: its clerk, the number of its repository's shards, and whether its users have a rate; how often its clock was asked,
 -- and the seconds that it gave last
@@ -138,11 +139,10 @@ abbrev pub RestsOnAll : ℕ → List Entry → Option Basis → Type 0
 RestsOnAll shard t None = length t ≡ 0
 RestsOnAll shard t (Some basis) = (basis.shard ≡ shard) × (basis.place + 1 ≡ length t)
 
--- the report of the product code on the clerk's sight of its shard, and all of that as its basis
-pub record Reports (new : DeskView) (shard : ℕ) (code : ProductCode) (said : Content) (basis : Option Basis) : Type 0 where
-  pub text : List ℕ
-  pub is : said ≡ contents.Reported text
-  pub reports : text ≡ report_text (row new.clerk.sights shard) code
+-- the report of the product code on the clerk's sight of its shard, each line after the tag of the line that asked, and all of
+-- that sight as its basis
+pub record Reports (new : DeskView) (shard : ℕ) (tag : Option Tag) (code : ProductCode) (said : Content) (basis : Option Basis) : Type 0 where
+  pub is : let t = row new.clerk.sights shard in said ≡ contents.Reported (product_line t code) (report_lines (tag_text tag) t code)
   pub rests : RestsOnAll shard (row new.clerk.sights shard) basis
 
 -- the answers that the desk may give to an admitted question
@@ -151,10 +151,10 @@ AnswersQuestion old put printed said basis new =
     Replies old (shard_of old.shards (code_of put.question)) put printed said basis new ⊎ (WantsMemory said basis × (new ≡ old))
 
 -- the answers that it may give to a user who may have a report
-abbrev pub AnswersReport : DeskView → ProductCode → Content → Option Basis → DeskView → Type 0
-AnswersReport old code said basis new =
+abbrev pub AnswersReport : DeskView → Option Tag → ProductCode → Content → Option Basis → DeskView → Type 0
+AnswersReport old tag code said basis new =
     let shard = shard_of old.shards code in
-    SeesShard old shard new × (Reports new shard code said basis ⊎ WantsMemory said basis)
+    SeesShard old shard new × (Reports new shard tag code said basis ⊎ WantsMemory said basis)
 
 -- the answers that it may give to an admitted line
 abbrev pub AnswersAdmitted : DeskView → Option Tag → Asked → ℕ → Actor → Content → Option Basis → DeskView → Type 0
@@ -162,7 +162,7 @@ AnswersAdmitted old tag (asked.Question user q) moment actor said basis new =
     AnswersQuestion old (record { moment = moment; user = user; actor = actor; question = q; tag = tag }) None said basis new
 AnswersAdmitted old tag (asked.Conditional user kind p printed) moment actor said basis new =
     AnswersQuestion old (record { moment = moment; user = user; actor = actor; question = naming_pack kind p; tag = tag }) (Some printed) said basis new
-AnswersAdmitted old tag (asked.Report user c) moment actor said basis new = AnswersReport old c said basis new
+AnswersAdmitted old tag (asked.Report user c) moment actor said basis new = AnswersReport old tag c said basis new
 
 -- the answers that it may give to a line, and their bases, after it learned a notice: the line is turned away, or admitted and
 -- answered

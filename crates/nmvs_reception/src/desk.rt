@@ -1,26 +1,31 @@
 //! The program's desk.
-ghost use Rattle.std.specs.Prelude.{◌≡◌, ◌⊎◌, List, [], true, length, IfSome};
+ghost use Rattle.std.specs.Prelude.{◌≡◌, ◌⊎◌, ◌++◌, List, codes, true, length, string_bytes, IfSome};
 ghost use Rattle.std.specs.Option.{is_some};
+ghost use Rattle.nmvs_messages.specs.declared.answer.Content.TheVariants.{Reported};
 ghost use Rattle.nmvs_messages.specs.declared.answer.Turn.TheVariants as turns;
+ghost use Rattle.nmvs_messages.specs.Tags.{tag_text};
+ghost use Rattle.nmvs_record.specs.Report.{record_lines};
 ghost use Rattle.nmvs_messages.specs.Withheld.{content_shown, entries_left, text_left};
 ghost use Rattle.nmvs_rules.specs.declared.entry.Entry.{Entry as TheEntry};
 ghost use Rattle.nmvs_reception.specs.Desk.{may_ask_this, RestsOnAll, Says};
+ghost use Rattle.nmvs_line.specs.Export.{export_text};
+ghost use Rattle.nmvs_record.specs.Following.{following_text};
 
 use crate::{Alerts, Clock};
 use log::Log;
 use nmvs_desk::{Clerk, Reader, Repository, Shown};
 use nmvs_directory::{Look, Naming, Notice};
 use nmvs_history::Histories;
-use nmvs_identifier::{Moment, Name, ProductCode, Tag};
+use nmvs_identifier::{Batch, Moment, Name, ProductCode, Tag};
 use nmvs_journal::{CommitLog, Confirmed, LogName, Reach, Store};
 use nmvs_messages::{
-    Ask, Asked, Basis, Content, Desk, Peer, Released, ShownText, Text, Turn, Withheld,
+    Ask, Asked, Basis, Content, Desk, Peer, Piece, Released, ShownText, Text, Turn, Withheld,
     WithheldAnswers,
 };
 use nmvs_metrics::WorkerMetrics;
 use nmvs_rate::SharedLimiter;
-use nmvs_record::report;
-use nmvs_rules::{Actor, Entry, Printed, Put, Question, Reply, Role, may_report};
+use nmvs_record::{Following, ReportList, batches, product_line};
+use nmvs_rules::{Actor, BatchRecord, Printed, Put, Question, Reply, Role, may_report};
 use nmvs_shard::{Answered, Outcome, Shard};
 use std::alloc::{AllocError, Global};
 use std::marker::Model;
@@ -62,7 +67,7 @@ impl<'r, 'a, R: Wait + rt::Clock + Log, J: Naming, H: Histories, K: Clock> Clerk
     ghost use Rattle.std.specs.Option.{is_some};
     ghost use Rattle.nmvs_desk.specs.Placing.{shard_of};
     ghost use Rattle.nmvs_desk.specs.Settlement.{row};
-    ghost use Rattle.nmvs_record.specs.Report.{report_text};
+    ghost use Rattle.nmvs_record.specs.Report.{product_line, report_batches};
     ghost use Rattle.nmvs_reception.specs.Desk.{Admits, AnswersAdmitted, AnswersQuestion, AnswersReport, Refuses, RestsOnAll, SeesShard, Serves};
 
     /// A desk over a clerk of this repository, the lock of the latest notice, and the limiter of the users' rate, if they have
@@ -102,15 +107,15 @@ impl<'r, 'a, R: Wait + rt::Clock + Log, J: Naming, H: Histories, K: Clock> Clerk
         self.clerk
     }
 
-    /// The answer to a line of this peer, its basis, and the list of the entries that it shows. It waits for the notice's lock,
+    /// The answer to a line of this peer, its basis, and the list of the lines that follow it. It waits for the notice's lock,
     /// and lets it go.
     pub(crate) fn answer(
         &mut self,
         from: &Peer,
         ask: &Ask,
-    ) -> (Content, Option<Basis>, Option<Shown<H>>)
+    ) -> (Content, Option<Basis>, Option<Following<Shown<H>>>)
         ensures serves { Serves self.old from.now ask.now result.0 result.1 self.new }
-        ensures shows { content_shown result.0 ≡ text_left (λ s. s) result.2 }
+        ensures shows { content_shown result.0 ≡ text_left (following_text export_text) result.2 }
     {
         self.metrics.note_line();
         let notice = self.latest.lock(self.rt).again();
@@ -151,15 +156,15 @@ impl<'r, 'a, R: Wait + rt::Clock + Log, J: Naming, H: Histories, K: Clock> Clerk
         Ok((moment, actor))
     }
 
-    /// The answer to an admitted line, its basis, and the list of the entries that it shows.
+    /// The answer to an admitted line, its basis, and the list of the lines that follow it.
     fn answer_admitted(
         &mut self,
         moment: Moment,
         actor: Actor,
         ask: &Ask,
-    ) -> (Content, Option<Basis>, Option<Shown<H>>)
+    ) -> (Content, Option<Basis>, Option<Following<Shown<H>>>)
         ensures answers { AnswersAdmitted self.old ask.now.tag ask.now.asked moment actor result.0 result.1 self.new }
-        ensures shows { content_shown result.0 ≡ text_left (λ s. s) result.2 }
+        ensures shows { content_shown result.0 ≡ text_left (following_text export_text) result.2 }
     {
         match &ask.asked {
             Asked::Question(user, question) => {
@@ -170,10 +175,7 @@ impl<'r, 'a, R: Wait + rt::Clock + Log, J: Naming, H: Histories, K: Clock> Clerk
                 let put = put_at(moment, user, actor, kind.naming(*pack), ask.tag);
                 self.ask(&put, &Some(*printed))
             }
-            Asked::Report(_, code) => {
-                let (content, basis) = self.report(code);
-                (content, basis, None)
-            }
+            Asked::Report(_, code) => self.report(code, ask.tag),
         }
     }
 
@@ -182,9 +184,9 @@ impl<'r, 'a, R: Wait + rt::Clock + Log, J: Naming, H: Histories, K: Clock> Clerk
         &mut self,
         put: &Put,
         printed: &Option<Printed>,
-    ) -> (Content, Option<Basis>, Option<Shown<H>>)
+    ) -> (Content, Option<Basis>, Option<Following<Shown<H>>>)
         ensures answers { AnswersQuestion self.old put.now printed.now result.0 result.1 self.new }
-        ensures shows { content_shown result.0 ≡ text_left (λ s. s) result.2 }
+        ensures shows { content_shown result.0 ≡ text_left (following_text export_text) result.2 }
     {
         let (rt, repository) = (self.rt, self.repository);
         let shard = repository.shard_of(&put.question.code());
@@ -197,32 +199,41 @@ impl<'r, 'a, R: Wait + rt::Clock + Log, J: Naming, H: Histories, K: Clock> Clerk
         }
     }
 
-    /// Reports on a product code. It waits for the code's shard, and nothing is recorded.
-    fn report(&mut self, code: &ProductCode) -> (Content, Option<Basis>)
-        ensures answers { AnswersReport self.old code.now result.0 result.1 self.new }
-        ensures shows { content_shown result.0 ≡ [] }
+    /// Reports on a product code, to a line with this tag, if it has one. It waits for the code's shard, and nothing is recorded.
+    fn report(
+        &mut self,
+        code: &ProductCode,
+        tag: Option<Tag>,
+    ) -> (Content, Option<Basis>, Option<Following<Shown<H>>>)
+        ensures answers { AnswersReport self.old tag code.now result.0 result.1 self.new }
+        ensures shows { content_shown result.0 ≡ text_left (following_text export_text) result.2 }
     {
         match self.report_on(code) {
-            Ok((text, basis)) => {
+            Ok((first, batches, basis)) => {
                 self.metrics.note_report();
-                (Content::Reported(Text::new(text)), basis)
+                let (content, list) = reported(first, batches, tag);
+                (content, basis, list)
             }
-            Err(AllocError) => (Content::Turned(Turn::Memory), None),
+            Err(AllocError) => (Content::Turned(Turn::Memory), None, None),
         }
     }
 
-    /// The report of a product code, by its shard. It rests on all of the shard's trail.
-    fn report_on(&mut self, code: &ProductCode) -> Result<(String, Option<Basis>), AllocError>
+    /// The first line of the report of a product code, and its batches, by its shard. They rest on all of the shard's trail.
+    fn report_on(
+        &mut self,
+        code: &ProductCode,
+    ) -> Result<(String, Batches, Option<Basis>), AllocError>
         ensures sees { SeesShard self.old (shard_of self.old.shards code.now) self.new }
-        ensures reports { IfOk result (λ r. string_bytes r.0 ≡ report_text (row self.new.clerk.sights (shard_of self.old.shards code.now)) code.now) }
-        ensures rests { IfOk result (λ r. RestsOnAll (shard_of self.old.shards code.now) (row self.new.clerk.sights (shard_of self.old.shards code.now)) r.1) }
+        ensures first { IfOk result (λ r. string_bytes r.0 ≡ product_line (row self.new.clerk.sights (shard_of self.old.shards code.now)) code.now) }
+        ensures batches { IfOk result (λ r. r.1.items ≡ report_batches (row self.new.clerk.sights (shard_of self.old.shards code.now)) code.now) }
+        ensures rests { IfOk result (λ r. RestsOnAll (shard_of self.old.shards code.now) (row self.new.clerk.sights (shard_of self.old.shards code.now)) r.2) }
     {
         let (rt, repository) = (self.rt, self.repository);
         let alloc = *self.clerk.allocator();
         let shard = repository.shard_of(code);
         let reader = ReportOf { alloc, code };
-        let (text, count) = self.clerk.look_at(rt, repository, shard, reader)?;
-        Ok((text, basis_of(shard, count)))
+        let (first, batches, count) = self.clerk.look_at(rt, repository, shard, reader)?;
+        Ok((first, batches, basis_of(shard, count)))
     }
 }
 
@@ -298,18 +309,36 @@ fn put_at(moment: Moment, user: &Name, actor: Actor, question: Question, tag: Op
     }
 }
 
+/// The batches of a product code with their records.
+type Batches = Vec<(Batch, BatchRecord)>;
+
+/// The report with this first line and these batches, to a line with this tag, if it has one, and the list of its other lines.
+fn reported<H: Histories>(
+    first: String,
+    batches: Batches,
+    tag: Option<Tag>,
+) -> (Content, Option<Following<Shown<H>>>)
+    ensures content { result.0 ≡ Reported (string_bytes first) (record_lines (tag_text tag) batches.items ++ (tag_text tag ++ codes "END\n")) }
+    ensures shows { content_shown result.0 ≡ text_left (following_text export_text) result.1 }
+{
+    let list = Some(Following::Batches(ReportList::new(tag, batches)));
+    let shown = ShownText::of(&list);
+    (Content::Reported(Text::new(first), shown), list)
+}
+
 /// The answer to an outcome in the shard of this number, its basis, and the list of the entries that it shows.
 fn answer_by<H: Histories>(
     shard: usize,
     outcome: Outcome,
     list: Option<Shown<H>>,
-) -> (Content, Option<Basis>, Option<Shown<H>>)
+) -> (Content, Option<Basis>, Option<Following<Shown<H>>>)
     ensures says { Says shard outcome (entries_left (λ s. s) list) result.0 result.1 }
-    ensures shows { content_shown result.0 ≡ text_left (λ s. s) result.2 }
+    ensures shows { content_shown result.0 ≡ text_left (following_text export_text) result.2 }
 {
     match outcome {
         Outcome::New(Answered { place, reply, .. })
         | Outcome::Again(Answered { place, reply, .. }) => {
+            let list = Following::of_entries(list);
             let content = Content::Replied(reply, ShownText::of(&list));
             (content, Some(Basis { shard, place }), list)
         }
@@ -363,7 +392,8 @@ fn basis_of(shard: usize, count: usize) -> Option<Basis>
     })
 }
 
-/// Makes the report of a product code from a shard that is held, and counts the entries of its trail.
+/// Makes the first line of the report of a product code from a shard that is held, copies its batches, and counts the entries of
+/// the trail.
 #[derive(Clone, Copy)]
 struct ReportOf<'c> {
     alloc: Global,
@@ -371,16 +401,18 @@ struct ReportOf<'c> {
 }
 
 impl<'a, 'c> Reader<Shard<&'a Global>> for ReportOf<'c> {
-    type Output = Result<(String, usize), AllocError>;
+    type Output = Result<(String, Batches, usize), AllocError>;
 
     ghost use Rattle.std.specs.Prelude.{◌≡◌, IfOk, length, string_bytes};
-    ghost use Rattle.nmvs_record.specs.Report.{report_text};
+    ghost use Rattle.nmvs_record.specs.Report.{product_line, report_batches};
 
-    ghost tells = { λ r t result. IfOk result (λ made. (string_bytes made.0 ≡ report_text t r.code.now) × (length t ≡ made.1)) };
+    ghost tells = { λ r t result. IfOk result (λ made.
+        (string_bytes made.0 ≡ product_line t r.code.now) × (made.1.items ≡ report_batches t r.code.now) × (length t ≡ made.2)) };
 
-    fn read(self, shard: &Shard<&'a Global>) -> Result<(String, usize), AllocError> {
-        let text = report(self.alloc, shard, self.code)?;
-        Ok((text, shard.trail().len()))
+    fn read(self, shard: &Shard<&'a Global>) -> Result<(String, Batches, usize), AllocError> {
+        let batches = batches(self.alloc, shard.tables(), self.code)?;
+        let first = product_line(self.alloc, shard, self.code)?;
+        Ok((first, batches, shard.trail().len()))
     }
 }
 
@@ -389,7 +421,7 @@ impl<'r, 'a, R: Wait + rt::Clock + Log, J: Naming, H: Histories, K: Clock> Desk
     ghost use Rattle.nmvs_messages.specs.Withheld.{AtOnce, Stays};
     ghost use Rattle.nmvs_reception.specs.Desk.{Takes};
 
-    type List = Shown<H>;
+    type List = Following<Shown<H>>;
 
     ghost takes = { Takes };
 
@@ -397,7 +429,7 @@ impl<'r, 'a, R: Wait + rt::Clock + Log, J: Naming, H: Histories, K: Clock> Desk
 
     ghost moves = { Stays };
 
-    fn take(&mut self, from: &Peer, ask: &Ask) -> (Withheld, Option<Shown<H>>) {
+    fn take(&mut self, from: &Peer, ask: &Ask) -> (Withheld, Option<Following<Shown<H>>>) {
         let (content, basis, list) = self.answer(from, ask);
         (Withheld::resting_on(basis, content), list)
     }
@@ -408,7 +440,10 @@ impl<'r, 'a, R: Wait + rt::Clock + Log, J: Naming, H: Histories, K: Clock> Desk
     }
 
     /// It waits for the shard of the entries.
-    fn fetch(&self, list: &mut Shown<H>, entries: &mut Vec<Entry>) {
-        self.repository.fetch(self.rt, list, entries);
+    fn fetch(&self, list: &mut Following<Shown<H>>, piece: &mut Piece) {
+        match list {
+            Following::Entries(shown) => self.repository.fetch(self.rt, shown, piece),
+            Following::Batches(batches) => batches.fetch(piece),
+        }
     }
 }

@@ -7,8 +7,8 @@ use nmvs_desk::{Clerk, Shown};
 use nmvs_directory::Naming;
 use nmvs_history::Histories;
 use nmvs_journal::{CommitLog, Confirmed, LogName, Reach, Store};
-use nmvs_messages::{Ask, Desk, Peer, Released, Withheld, WithheldAnswers};
-use nmvs_rules::Entry;
+use nmvs_messages::{Ask, Desk, Peer, Piece, Released, Withheld, WithheldAnswers};
+use nmvs_record::Following;
 use std::marker::Model;
 use std::rt;
 use std::sync::Wait;
@@ -101,7 +101,7 @@ impl<
     ghost use Rattle.nmvs_journal.specs.Told.{IsTold};
     ghost use Rattle.nmvs_reception.specs.Desk.{LearnsMore, TakesWaiting};
 
-    type List = Shown<H>;
+    type List = Following<Shown<H>>;
 
     ghost takes = { TakesWaiting };
 
@@ -109,15 +109,15 @@ impl<
 
     ghost moves = { LearnsMore };
 
-    fn take(&mut self, from: &Peer, ask: &Ask) -> (Withheld, Option<Shown<H>>) {
+    fn take(&mut self, from: &Peer, ask: &Ask) -> (Withheld, Option<Following<Shown<H>>>) {
         let (answer, basis, list) = self.desk.answer(from, ask);
         self.reach.note(basis);
         (Withheld::resting_on(basis, answer), list)
     }
 
     /// It waits for the shard of the entries.
-    fn fetch(&self, list: &mut Shown<H>, entries: &mut Vec<Entry>) {
-        self.desk.fetch(list, entries);
+    fn fetch(&self, list: &mut Following<Shown<H>>, piece: &mut Piece) {
+        self.desk.fetch(list, piece);
     }
 
     fn release<'h>(&mut self, withheld: &'h mut WithheldAnswers) -> Released<'h> {

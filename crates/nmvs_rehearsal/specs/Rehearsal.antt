@@ -16,7 +16,8 @@ use Rattle.nmvs_rules.specs.Repeats.{repeat_of}
 use Rattle.nmvs_rules.specs.Rules.{reply_of, shown_of, answered}
 use Rattle.nmvs_words.specs.Kinds.{naming_pack}
 use Rattle.nmvs_line.specs.Export.{export_text}
-use Rattle.nmvs_record.specs.Report.{report_text}
+use Rattle.nmvs_messages.specs.Tags.{tag_text}
+use Rattle.nmvs_record.specs.Report.{product_line, report_lines}
 use Rattle.nmvs_messages.specs.declared.ask.Ask.{Ask}
 use Rattle.nmvs_messages.specs.declared.ask.Asked.{Asked}
 use Rattle.nmvs_messages.specs.declared.ask.Asked.TheVariants as asked
@@ -109,14 +110,14 @@ JudgesQuestion moment old user g q printed (contents.Turned turns.Tag) new = Ask
 JudgesQuestion moment old user g q printed (contents.Turned turns.Differs) new = Differs moment old user g q printed × Stays old new
 JudgesQuestion _ _ _ _ _ _ _ _ = ⊥
 
--- the answers that it may give to a user who asks for a report: that of the trail; or a turn: nobody has the user's name, the
--- role gets no report, or there was no memory
-abbrev pub JudgesReport : List Entry → Name → ProductCode → Content → Type 0
-JudgesReport trail user c (contents.Reported text) = GetsReports user true × (text ≡ report_text trail c)
-JudgesReport trail user c (contents.Turned turns.Nobody) = post_of user.bytes ≡ None
-JudgesReport trail user c (contents.Turned turns.Role) = GetsReports user false
-JudgesReport trail user c (contents.Turned turns.Memory) = GetsReports user true
-JudgesReport _ _ _ _ = ⊥
+-- the answers that it may give to a user who asks for a report, on a line with this tag: that of the trail, each line after the
+-- tag; or a turn: nobody has the user's name, the role gets no report, or there was no memory
+abbrev pub JudgesReport : List Entry → Name → Option Tag → ProductCode → Content → Type 0
+JudgesReport trail user g c (contents.Reported first others) = GetsReports user true × (first ≡ product_line trail c) × (others ≡ report_lines (tag_text g) trail c)
+JudgesReport trail user g c (contents.Turned turns.Nobody) = post_of user.bytes ≡ None
+JudgesReport trail user g c (contents.Turned turns.Role) = GetsReports user false
+JudgesReport trail user g c (contents.Turned turns.Memory) = GetsReports user true
+JudgesReport _ _ _ _ _ = ⊥
 
 -- the answers that it may give to the next line, which takes its moment first; a report leaves no entry
 abbrev pub Judges : Rehearsal → Option Tag → Asked → Content → Rehearsal → Type 0
@@ -125,7 +126,7 @@ Judges old tag (asked.Question user q) said new =
 Judges old tag (asked.Conditional user kind p printed) said new =
     (moment : ℕ) × (begun : Rehearsal) × TakesMoment old moment begun
     × JudgesQuestion moment begun user tag (naming_pack kind p) (Some printed) said new
-Judges old tag (asked.Report user c) said new = (moment : ℕ) × TakesMoment old moment new × JudgesReport new.trail user c said
+Judges old tag (asked.Report user c) said new = (moment : ℕ) × TakesMoment old moment new × JudgesReport new.trail user tag c said
 
 -- its answers rest on nothing
 abbrev pub Takes : Rehearsal → Ask → Withheld → Rehearsal → Type 0

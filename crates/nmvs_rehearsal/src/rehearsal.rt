@@ -1,8 +1,12 @@
 //! The rehearsal: a session to learn the repository by, whose every answer is proved.
-ghost use Rattle.nmvs_messages.specs.declared.answer.Content.TheVariants.{Replied};
+ghost use Rattle.nmvs_messages.specs.declared.answer.Content.TheVariants.{Replied, Reported};
 ghost use Rattle.std.specs.Prelude.{◌≡◌, ◌<◌, ◌∷◌, [], IfOk, length};
 ghost use Rattle.nmvs_messages.specs.Withheld.{AtOnce, Stays, content_shown, entries_left, text_left};
 ghost use Rattle.nmvs_protocol.specs.Session.{session_limits, Session};
+ghost use Rattle.nmvs_line.specs.Export.{export_text};
+ghost use Rattle.nmvs_messages.specs.Tags.{tag_text};
+ghost use Rattle.nmvs_record.specs.Report.{product_line, report_lines};
+ghost use Rattle.nmvs_record.specs.Following.{following_text};
 ghost use Rattle.nmvs_rules.specs.Rules.{shown_of};
 ghost use Rattle.nmvs_stream.specs.Console.{IsFresh};
 ghost use Rattle.nmvs_rehearsal.specs.Rehearsal.{Rehearsal, Takes};
@@ -10,12 +14,12 @@ ghost use Rattle.nmvs_rehearsal.specs.Rehearsal.{Rehearsal, Takes};
 use crate::roster::actor_of;
 use nmvs_identifier::{Moment, Name, ProductCode, Tag};
 use nmvs_messages::{
-    Ask, Asked, Content, Desk, End, GatheredEntries, Peer, Released, SESSION_LIMITS, ShownText,
-    Text, Turn, Withheld, WithheldAnswers,
+    Ask, Asked, Content, Desk, End, GatheredEntries, Peer, Piece, Released, SESSION_LIMITS,
+    ShownText, Text, Turn, Withheld, WithheldAnswers,
 };
 use nmvs_protocol::serve;
-use nmvs_record::report;
-use nmvs_rules::{Entry, Printed, Put, Question, Reply, may, may_report};
+use nmvs_record::{Following, ReportList, batches, product_line};
+use nmvs_rules::{Printed, Put, Question, Reply, may, may_report};
 use nmvs_shard::{HashKey, Outcome, Shard};
 use nmvs_stream::{Sink, Source};
 use std::alloc::{AllocError, Global};
@@ -114,9 +118,9 @@ impl<'a> RehearsalDesk<'a> {
         tag: Option<Tag>,
         question: &Question,
         printed: &Option<Printed>,
-    ) -> (Content, Option<GatheredEntries<&'a Global>>)
+    ) -> (Content, Option<Following<GatheredEntries<&'a Global>>>)
         ensures judges { JudgesQuestion moment self.old user.now tag question.now printed.now result.0 self.new }
-        ensures shows { content_shown result.0 ≡ text_left (λ s. s) result.1 }
+        ensures shows { content_shown result.0 ≡ text_left (following_text export_text) result.1 }
     {
         let Some(actor) = actor_of(user) else {
             return (Content::Turned(Turn::Nobody), None);
@@ -153,21 +157,42 @@ impl<'a> RehearsalDesk<'a> {
         }
     }
 
-    /// Reports on a product code to a user who may have it. It leaves no entry.
-    fn report(&self, user: &Name, code: &ProductCode) -> Content
-        ensures judges { JudgesReport self.now.trail user.now code.now result }
-        ensures shows { content_shown result ≡ [] }
+    /// Reports on a product code to a user who may have it, on a line with this tag, if it has one. It leaves no entry.
+    fn report(
+        &self,
+        user: &Name,
+        code: &ProductCode,
+        tag: Option<Tag>,
+    ) -> (Content, Option<Following<GatheredEntries<&'a Global>>>)
+        ensures judges { JudgesReport self.now.trail user.now tag code.now result.0 }
+        ensures shows { content_shown result.0 ≡ text_left (following_text export_text) result.1 }
     {
         let Some(actor) = actor_of(user) else {
-            return Content::Turned(Turn::Nobody);
+            return (Content::Turned(Turn::Nobody), None);
         };
         if !may_report(actor.role) {
-            return Content::Turned(Turn::Role);
+            return (Content::Turned(Turn::Role), None);
         }
-        match report(*self.alloc, &self.shard, code) {
-            Ok(text) => Content::Reported(Text::new(text)),
-            Err(_) => Content::Turned(Turn::Memory),
+        match self.reported(code, tag) {
+            Ok((content, list)) => (content, list),
+            Err(AllocError) => (Content::Turned(Turn::Memory), None),
         }
+    }
+
+    /// The report of a product code, and the list of the lines after its first.
+    fn reported(
+        &self,
+        code: &ProductCode,
+        tag: Option<Tag>,
+    ) -> Result<(Content, Option<Following<GatheredEntries<&'a Global>>>), AllocError>
+        ensures content { IfOk result (λ r. r.0 ≡ Reported (product_line self.now.trail code.now) (report_lines (tag_text tag) self.now.trail code.now)) }
+        ensures shows { IfOk result (λ r. content_shown r.0 ≡ text_left (following_text export_text) r.1) }
+    {
+        let batches = batches(*self.alloc, self.shard.tables(), code)?;
+        let first = Text::new(product_line(*self.alloc, &self.shard, code)?);
+        let list = Some(Following::Batches(ReportList::new(tag, batches)));
+        let shown = ShownText::of(&list);
+        Ok((Content::Reported(first, shown), list))
     }
 }
 
@@ -175,10 +200,11 @@ impl<'a> RehearsalDesk<'a> {
 fn replied<'a>(
     reply: Reply,
     list: Option<GatheredEntries<&'a Global>>,
-) -> (Content, Option<GatheredEntries<&'a Global>>)
-    ensures content { result.0 ≡ Replied reply (text_left (λ s. s) list.entry) }
-    ensures list { result.1 ≡ list.entry }
+) -> (Content, Option<Following<GatheredEntries<&'a Global>>>)
+    ensures content { result.0 ≡ Replied reply (export_text (entries_left (λ s. s) list.entry)) }
+    ensures list { text_left (following_text export_text) result.1 ≡ export_text (entries_left (λ s. s) list.entry) }
 {
+    let list = Following::of_entries(list);
     (Content::Replied(reply, ShownText::of(&list)), list)
 }
 
@@ -186,7 +212,7 @@ impl<'a> Desk for RehearsalDesk<'a> {
     ghost use Rattle.nmvs_messages.specs.Withheld.{AtOnce, Stays};
     ghost use Rattle.nmvs_rehearsal.specs.Rehearsal.{Takes};
 
-    type List = GatheredEntries<&'a Global>;
+    type List = Following<GatheredEntries<&'a Global>>;
 
     ghost takes = { λ old from ask withheld new. Takes old ask withheld new };
 
@@ -195,7 +221,11 @@ impl<'a> Desk for RehearsalDesk<'a> {
     ghost moves = { Stays };
 
     /// Every peer is believed.
-    fn take(&mut self, _from: &Peer, ask: &Ask) -> (Withheld, Option<GatheredEntries<&'a Global>>) {
+    fn take(
+        &mut self,
+        _from: &Peer,
+        ask: &Ask,
+    ) -> (Withheld, Option<Following<GatheredEntries<&'a Global>>>) {
         let moment = self.next_moment();
         let (content, list) = match &ask.asked {
             Asked::Question(user, question) => {
@@ -205,7 +235,7 @@ impl<'a> Desk for RehearsalDesk<'a> {
                 let question = kind.naming(*pack);
                 self.judge(moment, user, ask.tag, &question, &Some(*printed))
             }
-            Asked::Report(user, code) => (self.report(user, code), None),
+            Asked::Report(user, code) => self.report(user, code, ask.tag),
         };
         (Withheld::new(content), list)
     }
@@ -214,7 +244,10 @@ impl<'a> Desk for RehearsalDesk<'a> {
         withheld.release()
     }
 
-    fn fetch(&self, list: &mut GatheredEntries<&'a Global>, entries: &mut Vec<Entry>) {
-        list.fetch(entries);
+    fn fetch(&self, list: &mut Following<GatheredEntries<&'a Global>>, piece: &mut Piece) {
+        match list {
+            Following::Entries(entries) => entries.fetch(piece),
+            Following::Batches(batches) => batches.fetch(piece),
+        }
     }
 }

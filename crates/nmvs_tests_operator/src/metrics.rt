@@ -1,6 +1,6 @@
 use http_server::{Config, Connection, serve};
 use nmvs_messages::{
-    Ask, Asked, Content, Desk, GatheredEntries, Line, Peer, Released, Turn, Withheld,
+    Ask, Asked, Content, Desk, GatheredEntries, Line, Peer, Piece, Released, Turn, Withheld,
     WithheldAnswers,
 };
 use nmvs_metrics::{
@@ -476,8 +476,8 @@ impl Desk for Stranger {
         (Withheld::new(Content::Turned(Turn::Nobody)), None)
     }
 
-    fn fetch(&self, list: &mut GatheredEntries, entries: &mut Vec<Entry>) {
-        list.fetch(entries);
+    fn fetch(&self, list: &mut GatheredEntries, piece: &mut Piece) {
+        list.fetch(piece);
     }
 
     fn release<'h>(&mut self, withheld: &'h mut WithheldAnswers) -> Released<'h> {

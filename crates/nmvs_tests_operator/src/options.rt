@@ -31,7 +31,7 @@ fn options_have_defaults(rt: HostRuntime) {
     );
     assert_eq!(rt; (options.moment, options.stdin), (None, false));
     assert_eq!(rt; (options.connections, options.idle), (10_000, 300));
-    assert_eq!(rt; options.connection_memory, 256);
+    assert_eq!(rt; options.connection_memory, 128);
     assert_eq!(rt; (options.rate, options.burst), (0, 0));
     assert_eq!(rt; options.address, own(7161));
     assert!(rt; options.socket.is_none() && options.proxy.is_none() && options.journal.is_none());

@@ -1,11 +1,10 @@
 //! The lines that a peer may send.
 use nmvs_identifier::Name;
 use nmvs_messages::{
-    Ask, Content, Desk, End, GatheredEntries, NameOf, Peer, Released, SESSION_LIMITS, Turn,
+    Ask, Content, Desk, End, GatheredEntries, NameOf, Peer, Piece, Released, SESSION_LIMITS, Turn,
     Withheld, WithheldAnswers,
 };
 use nmvs_protocol::serve;
-use nmvs_rules::Entry;
 use nmvs_stream::Device;
 use std::process::Abort;
 use std::test::*;
@@ -63,8 +62,8 @@ impl Desk for Own {
         (Withheld::new(Content::Turned(turn)), None)
     }
 
-    fn fetch(&self, list: &mut GatheredEntries, entries: &mut Vec<Entry>) {
-        list.fetch(entries);
+    fn fetch(&self, list: &mut GatheredEntries, piece: &mut Piece) {
+        list.fetch(piece);
     }
 
     fn release<'h>(&mut self, withheld: &'h mut WithheldAnswers) -> Released<'h> {

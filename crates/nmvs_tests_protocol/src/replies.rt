@@ -130,10 +130,11 @@ fn each_other_answer_has_its_text(rt: HostRuntime) {
 }
 
 #[test]
-fn a_report_is_told_as_it_is(rt: HostRuntime) {
-    let report = "PRODUCT 04012345678901 HOLDER - ALERTS 0 FLAGGED 0\nEND\n";
-    let text = String::from_str(rt.alloc(), report).expect(&rt, "memory");
+fn the_first_line_of_a_report_is_told_as_it_is(rt: HostRuntime) {
+    let first = "PRODUCT 04012345678901 HOLDER - ALERTS 0 FLAGGED 0\n";
+    let text = String::from_str(rt.alloc(), first).expect(&rt, "memory");
     let text = Text::new(text);
-    assert!(rt; text.text() == report);
-    assert!(rt; is_told(rt.alloc(), Content::Reported(text), report));
+    assert!(rt; text.text() == first);
+    let none = ShownText::of::<GatheredEntries>(&None);
+    assert!(rt; is_told(rt.alloc(), Content::Reported(text, none), first));
 }

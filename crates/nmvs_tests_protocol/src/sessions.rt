@@ -1,14 +1,15 @@
 //! Sessions over bytes that come and go in pieces.
 ghost use Rattle.std.specs.Prelude.{◌≡◌, []};
-ghost use Rattle.nmvs_messages.specs.Withheld.{content_shown};
+ghost use Rattle.nmvs_messages.specs.Withheld.{content_shown, text_left};
 
 use nmvs_identifier::{Batch, Expiry};
 use nmvs_messages::{
-    Ask, Asked, Basis, Content, Desk, End, GatheredEntries, Limits, Peer, Released, ShownText,
-    Text, Turn, Withheld, WithheldAnswers,
+    Ask, Asked, Basis, Content, Desk, End, Limits, Peer, Piece, Released, ShownText, Text, Turn,
+    Withheld, WithheldAnswers,
 };
-use nmvs_protocol::{PIECE, Session, read_line, serve};
-use nmvs_rules::{Entry, Question, Reply};
+use nmvs_protocol::{Session, read_line, serve};
+use nmvs_record::ReportList;
+use nmvs_rules::{Question, Reply};
 use nmvs_stream::Device;
 use std::alloc::Global;
 use std::cell::Cell;
@@ -40,17 +41,26 @@ struct Shelf<'a> {
 }
 
 impl<'a> Shelf<'a> {
-    /// The answer to an ask, which shows no entries.
-    fn answer(&mut self, ask: &Ask) -> Content
+    /// The answer to an ask, and the lines that follow it: a report of no batch has an end.
+    fn answer(&mut self, ask: &Ask) -> (Content, Option<ReportList>)
+        ensures { content_shown result.0 ≡ text_left (λ l. l) result.1 }
+    {
+        let Asked::Report(..) = ask.asked else {
+            return (self.reply(ask), None);
+        };
+        let Ok(first) = String::from_str(*self.alloc, "HOLDER -\n") else {
+            return (Content::Turned(Turn::Memory), None);
+        };
+        let list = Some(ReportList::new(ask.tag, Vec::new(*self.alloc)));
+        let shown = ShownText::of(&list);
+        (Content::Reported(Text::new(first), shown), list)
+    }
+
+    /// The reply to a question.
+    fn reply(&mut self, ask: &Ask) -> Content
         ensures { content_shown result ≡ [] }
     {
-        if let Asked::Report(..) = ask.asked {
-            return match String::from_str(*self.alloc, "HOLDER -\nEND\n") {
-                Ok(report) => Content::Reported(Text::new(report)),
-                Err(_) => Content::Turned(Turn::Memory),
-            };
-        }
-        let none = ShownText::of::<GatheredEntries>(&None);
+        let none = ShownText::of::<ReportList>(&None);
         if let Asked::Question(_, Question::Upload { batch, expiry, .. }) = &ask.asked {
             self.uploaded = Some((*batch, *expiry));
             return Content::Replied(Reply::Uploaded, none);
@@ -71,7 +81,7 @@ impl<'a> Desk for Shelf<'a> {
     ghost use Rattle.std.specs.Prelude.{◌≡◌};
     ghost use Rattle.nmvs_messages.specs.Withheld.{told_where};
 
-    type List = GatheredEntries;
+    type List = ReportList;
 
     ghost takes = { λ _ _ _ _ _. Unit {0} };
 
@@ -79,17 +89,18 @@ impl<'a> Desk for Shelf<'a> {
 
     ghost moves = { λ old new. new ≡ old };
 
-    fn take(&mut self, _from: &Peer, ask: &Ask) -> (Withheld, Option<GatheredEntries>) {
+    fn take(&mut self, _from: &Peer, ask: &Ask) -> (Withheld, Option<ReportList>) {
         let basis = Basis {
             shard: 0,
             place: self.asked,
         };
         self.asked = self.asked.saturating_add(1);
-        (Withheld::resting_on(Some(basis), self.answer(ask)), None)
+        let (content, list) = self.answer(ask);
+        (Withheld::resting_on(Some(basis), content), list)
     }
 
-    fn fetch(&self, list: &mut GatheredEntries, entries: &mut Vec<Entry>) {
-        list.fetch(entries);
+    fn fetch(&self, list: &mut ReportList, piece: &mut Piece) {
+        list.fetch(piece);
     }
 
     fn release<'h>(&mut self, withheld: &'h mut WithheldAnswers) -> Released<'h> {
@@ -345,7 +356,7 @@ fn a_session_is_fed_in_any_pieces(rt: HostRuntime) {
         };
         let mut end = None;
         for more in input.chunks(piece) {
-            let mut room = Vec::with_capacity(alloc, PIECE).expect(&rt, "memory");
+            let mut room = Piece::new(alloc).expect(&rt, "memory");
             end = session.feed(
                 more,
                 &mut withheld,

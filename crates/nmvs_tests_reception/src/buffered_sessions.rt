@@ -2,10 +2,9 @@
 use nmvs_connections::BufferedSession;
 use nmvs_identifier::{Moment, Name, Pack, ProductCode, Serial};
 use nmvs_messages::{
-    Ask, Content, Desk, End, GatheredEntries, Peer, Released, ShownText, Turn, Withheld,
+    Ask, Content, Desk, End, GatheredEntries, Peer, Piece, Released, ShownText, Turn, Withheld,
     WithheldAnswers,
 };
-use nmvs_protocol::PIECE;
 use nmvs_rules::{Actor, Entry, Put, Question, Reply, Role};
 use std::alloc::{AllocError, Global};
 use std::process::Abort;
@@ -30,8 +29,8 @@ impl Desk for Stranger {
         (Withheld::new(Content::Turned(Turn::Nobody)), None)
     }
 
-    fn fetch(&self, list: &mut GatheredEntries, entries: &mut Vec<Entry>) {
-        list.fetch(entries);
+    fn fetch(&self, list: &mut GatheredEntries, piece: &mut Piece) {
+        list.fetch(piece);
     }
 
     fn release<'h>(&mut self, withheld: &'h mut WithheldAnswers) -> Released<'h> {
@@ -147,8 +146,8 @@ impl Desk for Auditor {
         (Withheld::new(content), list)
     }
 
-    fn fetch(&self, list: &mut GatheredEntries, entries: &mut Vec<Entry>) {
-        list.fetch(entries);
+    fn fetch(&self, list: &mut GatheredEntries, piece: &mut Piece) {
+        list.fetch(piece);
     }
 
     fn release<'h>(&mut self, withheld: &'h mut WithheldAnswers) -> Released<'h> {
@@ -177,14 +176,14 @@ fn verification(rt: &impl Abort) -> Entry {
     }
 }
 
-/// Words one piece more, if entries are left. Returns the number of unsent lines then.
+/// Fetches one piece more, if entries are left. Returns the number of unsent lines then.
 fn lines_after_more(
     rt: &impl Abort,
     session: &mut BufferedSession<GatheredEntries>,
     desk: &Auditor,
 ) -> usize {
     if session.is_listing() {
-        let mut piece = Vec::with_capacity(desk.alloc, PIECE).expect(rt, "memory");
+        let mut piece = Piece::new(desk.alloc).expect(rt, "memory");
         session.more(&mut piece, desk).expect(rt, "memory");
     }
     session

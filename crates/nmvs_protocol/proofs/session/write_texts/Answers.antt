@@ -28,7 +28,7 @@ loop-answer-preserved g c =
       told ++ a ∷ [],
       append_assoc told (a ∷ []) later ∙ ap (λ (r : List Answer). told ++ r) (sym c.in-Some.ensures.first) ∙ c.loop-answer.invariant.1,
       bare_more (taken c.args.sink.now) (taken c.loop-answer.sink) (taken c.write_text.new.sink) told a c.loop-answer.invariant.2 c.in_ok-write_text.ensures.ok,
-      c.is_reply-replied.ensures ∙ sym (ends_push told a),
+      c.is_of_repository-replied.ensures ∙ sym (ends_push told a),
     )
 
 pub loop-answer-smaller : goal.loop-answer-smaller

@@ -8,7 +8,7 @@ use Rattle.nmvs_connections.proofs.buffered_session.BufferedSession.advance.Goal
 pub invariant_of-self : goal.invariant_of-self
 invariant_of-self g c =
     let is = c.self.inside in
-    let listed = once_told is.waiting (text_left g.L.EntryList.left is.list) in
+    let listed = once_told is.waiting (text_left g.L.LineList.left is.list) in
     let unsent : c.args.self.now.unsent ≡ drop is.gone is.replies.bytes.items = sym (ap (λ t. t.unsent) c.self.view_is) in
     let fits : c.args.count ≤ length (drop is.gone is.replies.bytes.items) = subst (λ (l : List ℕ). c.args.count ≤ length l) unsent c.requires in
     let left = length-drop is.gone is.replies.bytes.items in

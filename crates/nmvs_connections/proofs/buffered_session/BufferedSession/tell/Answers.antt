@@ -9,7 +9,7 @@ use Rattle.nmvs_connections.proofs.buffered_session.BufferedSession.tell.Goals a
 pub invariant_of-self : goal.invariant_of-self
 invariant_of-self g c =
     let is = c.self.inside in
-    let shown = text_left g.L.EntryList.left is.list in
+    let shown = text_left g.L.LineList.left is.list in
     let w = c.word_part-worded.ensures in
     let worded = c.word_part-worded.result in
     let old = is.replies.bytes.items in
@@ -22,21 +22,21 @@ invariant_of-self g c =
     let untold : before ++ once_told is.waiting shown ≡ before = ap (λ (t : List ℕ). before ++ t) (told_first is.waiting shown some) ∙ append-nil before in
     let replied = subst (λ (t : List ℕ). Replies is.fed.numbers t is.waiting is.end) untold c.self.invariant.2 in
     let told = replies_worded is.fed.numbers before shown is.first is.waiting c.args.released.now old new worded is.end some replied w in
-    let text : before ++ words_of worded shown w.text ≡ (is.sent.numbers ++ drop is.gone new) ++ text_left g.L.EntryList.left c.kept_list.result =
+    let text : before ++ words_of worded shown w.text ≡ (is.sent.numbers ++ drop is.gone new) ++ text_left g.L.LineList.left c.kept_list.result =
     sym (append_assoc before w.text (cond (is_replied worded) shown []))
     ∙ ap (λ (t : List ℕ). t ++ cond (is_replied worded) shown []) (append_assoc is.sent.numbers (drop is.gone old) w.text ∙ ap (λ (t : List ℕ). is.sent.numbers ++ t) (sym (unsent_more is.gone old new w.text within w.bytes)))
-    ∙ ap (λ (t : List ℕ). (is.sent.numbers ++ drop is.gone new) ++ t) (sym (c.kept_list.ensures ∙ ap (λ (o : Option g.row.L.Denot). cond (is_replied worded) (text_left g.L.EntryList.left o) []) c.take.ensures.value)) in
+    ∙ ap (λ (t : List ℕ). (is.sent.numbers ++ drop is.gone new) ++ t) (sym (c.kept_list.ensures ∙ ap (λ (o : Option g.row.L.Denot). cond (is_replied worded) (text_left g.L.LineList.left o) []) c.take.ensures.value)) in
     let ended = sym c.kept_end-self-inside.ensures in (
       omega (arith, longer, both, within),
       subst (λ (e : Option End). GoesOn e is.session is.fed.numbers) ended (goes_on_told is.end worded is.session is.fed.numbers c.self.invariant.1),
-      subst (λ (e : Option End). Replies is.fed.numbers ((is.sent.numbers ++ drop is.gone new) ++ text_left g.L.EntryList.left c.kept_list.result) 0 e) ended
+      subst (λ (e : Option End). Replies is.fed.numbers ((is.sent.numbers ++ drop is.gone new) ++ text_left g.L.LineList.left c.kept_list.result) 0 e) ended
           (subst (λ (t : List ℕ). Replies is.fed.numbers t 0 (ended_by worded is.end)) text told),
     )
 
 pub returns-clause-tells : goal.returns-clause-tells
 returns-clause-tells g c =
     let is = c.self.inside in
-    let left = g.L.EntryList.left in
+    let left = g.L.LineList.left in
     let shown = text_left left is.list in
     let w = c.word_part-worded.ensures in
     let worded = c.word_part-worded.result in

@@ -70,7 +70,7 @@ loop-tail-preserved g c =
           let k = inv.3 begun is within in
           takes_line (TakesFrom g.D.Desk.takes c.args.from.now) c.in-Some.tail.now c.take_tail-answer.result.0 k (omega (arith, c.if-self.false)) c.in-Some.ensures.whole
           (took.takes _ k.line) (ap (λ (n : ℕ). n + 1) took.counts.0) took.counts.1 took.begun c.push.ensures
-          (λ e. absurd (cc ((took.quit _ k.line).1 e, c.if-quits.false))) (took.shows ∙ none_left g.D.List.EntryList.left c.take_tail-answer.result.1 (sym c.is_some.ensures ∙ c.if-is_some.false)),
+          (λ e. absurd (cc ((took.quit _ k.line).1 e, c.if-quits.false))) (took.shows ∙ none_left g.D.List.LineList.left c.take_tail-answer.result.1 (sym c.is_some.ensures ∙ c.if-is_some.false)),
     )
 
 pub returns-clause-takes : goal.returns-clause-takes
