@@ -1,1 +1,4 @@
+pub mod Digits
 pub mod Turning
+pub mod Writing
+pub mod Naming

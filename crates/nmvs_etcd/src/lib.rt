@@ -3,8 +3,16 @@
 //! One server at a time owns the logs. It appends a block only while it is the owner and the log ends before the block.
 #![tactic(auto)]
 
+mod block;
+mod key;
 mod laws;
 mod outcome;
+mod owner_name;
+mod request;
 
+pub use block::Block;
+pub use key::Log;
 pub use laws::turns;
 pub use outcome::Outcome;
+pub use owner_name::{NameFault, OwnerName};
+pub use request::{append_request, own_request};
