@@ -3,6 +3,7 @@
 //! One server at a time owns the logs. It appends a block only while it is the owner and the log ends before the block.
 #![tactic(auto)]
 
+mod answer;
 mod block;
 mod key;
 mod laws;
@@ -10,6 +11,7 @@ mod outcome;
 mod owner_name;
 mod request;
 
+pub use answer::{append_outcome, own_outcome};
 pub use block::Block;
 pub use key::Log;
 pub use laws::turns;
