@@ -9,6 +9,7 @@ mod key;
 mod laws;
 mod outcome;
 mod owner_name;
+mod read;
 mod request;
 
 pub use answer::{append_outcome, own_outcome};
@@ -17,4 +18,7 @@ pub use key::Log;
 pub use laws::turns;
 pub use outcome::Outcome;
 pub use owner_name::{NameFault, OwnerName};
-pub use request::{append_request, own_request};
+pub use read::{read_blocks, read_end, read_owner};
+pub use request::{
+    BlockRange, append_request, blocks_request, end_request, own_request, owner_request,
+};
