@@ -11,11 +11,13 @@ mod outcome;
 mod owner_name;
 mod read;
 mod request;
+#[cfg(test)]
+mod tests;
 
 pub use answer::{append_outcome, own_outcome};
 pub use block::Block;
 pub use key::Log;
-pub use laws::turns;
+pub use laws::{names, turns};
 pub use outcome::Outcome;
 pub use owner_name::{NameFault, OwnerName};
 pub use read::{read_blocks, read_end, read_owner};
