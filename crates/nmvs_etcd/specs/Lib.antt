@@ -4,5 +4,6 @@ pub mod Keys
 pub mod Names
 pub mod Outcomes
 pub mod Requests
+pub mod Store
 pub mod Turns
 pub mod Written

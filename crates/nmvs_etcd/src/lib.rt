@@ -17,7 +17,7 @@ mod tests;
 pub use answer::{append_outcome, own_outcome};
 pub use block::Block;
 pub use key::Log;
-pub use laws::{names, turns};
+pub use laws::{demands, names, requests, turns};
 pub use outcome::Outcome;
 pub use owner_name::{NameFault, OwnerName};
 pub use read::{read_blocks, read_end, read_owner};
