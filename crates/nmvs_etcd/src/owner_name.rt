@@ -26,7 +26,8 @@ impl From<AllocError> for NameFault {
     }
 }
 
-/// The name by which a server owns the logs: its machine, and 128 bits that it draws each time that it becomes the owner (own).
+/// The name by which a server owns the logs: its machine, and 128 bits (own). The server draws them each time that it becomes the
+/// owner.
 #[derive(Drop)]
 pub struct OwnerName {
     text: String,
