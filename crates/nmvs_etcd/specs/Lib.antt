@@ -1,0 +1,9 @@
+pub mod Answers
+pub mod Blocks
+pub mod Keys
+pub mod Names
+pub mod Outcomes
+pub mod Requests
+pub mod Store
+pub mod Turns
+pub mod Written

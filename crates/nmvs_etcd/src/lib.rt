@@ -1,0 +1,26 @@
+//! Blocks of a log that etcd keeps on several machines: requests to etcd, and the meaning of its answers.
+//!
+//! One server at a time owns the logs. It appends a block only while it is the owner and the log ends before the block.
+#![tactic(auto)]
+
+mod answer;
+mod block;
+mod key;
+mod laws;
+mod outcome;
+mod owner_name;
+mod read;
+mod request;
+#[cfg(test)]
+mod tests;
+
+pub use answer::{append_outcome, own_outcome};
+pub use block::Block;
+pub use key::Log;
+pub use laws::{demands, names, requests, turns};
+pub use outcome::Outcome;
+pub use owner_name::{NameFault, OwnerName};
+pub use read::{read_blocks, read_end, read_owner};
+pub use request::{
+    BlockRange, append_request, blocks_request, end_request, own_request, owner_request,
+};
