@@ -14,7 +14,6 @@ use Rattle.nmvs_messages.specs.declared.answer.Answer.{Answer}
 use Rattle.nmvs_messages.specs.declared.withheld.Withheld.{Withheld}
 use Rattle.nmvs_messages.specs.declared.limits.Limits.{Limits}
 use Rattle.nmvs_protocol.specs.declared.session.Session.{Session as TheSession}
-use Rattle.nmvs_protocol.specs.declared.session.Taking.{Taking}
 use Rattle.nmvs_messages.specs.declared.end.End.{End}
 use Rattle.nmvs_messages.specs.declared.end.End.TheVariants as ends
 use Rattle.nmvs_protocol.specs.Lines.{line_text}

@@ -1,16 +1,12 @@
 -- The release of withheld answers, and their writing: gathered, broken off, and handed on.
-use Rattle.std.proofs.Common.{◌≡◌, ◌≢◌, ◌==◌, ◌+◌, ℕ, Bool, true, false, cond, List, [], ◌∷◌, ◌++◌, All, Option, Some, None, Result, Ok, Err, length, take, drop, map, refl, sym, ap, ◌∙◌, subst, inl, inr, arith}
-use Rattle.std.proofs.lemmas.List.{append-nil, append_assoc, length-append, map-append, take-append-drop, take_at}
+use Rattle.std.proofs.Common.{◌≡◌, ◌≢◌, ◌==◌, ℕ, Bool, true, false, cond, List, [], ◌∷◌, ◌++◌, All, Option, Some, None, Result, Ok, Err, length, map, refl, sym, ap, ◌∙◌, subst, inl, inr, arith}
+use Rattle.std.proofs.lemmas.List.{append-nil, append_assoc, map-append}
 use Rattle.std.proofs.lemmas.List.Elements.{All-append, All-cons, All-nil, All-tail}
 use Rattle.std.proofs.lemmas.Grind.{flat_map-append}
 use Rattle.nmvs_stream.specs.Sink.{Taken, Flushes, FailsToTake}
 use Rattle.std.specs.Prelude.{OnOk, OnErr}
-use Rattle.std.specs.List.{flat_map}
 use Rattle.nmvs_stream.specs.Delivery.{Writes, DeliversPart}
-use Rattle.nmvs_stream.specs.InputLines.{HasNoLf, lines_after, rest_after}
-use Rattle.nmvs_stream.proofs.LinesOfPieces.{lines_after-append, rest_after-append, no_line, line_cut, left_cut}
 use Rattle.nmvs_messages.specs.declared.ask.Line.TheVariants as lines
-use Rattle.nmvs_identifier.specs.Tag.{Tag}
 use Rattle.nmvs_messages.specs.declared.answer.Answer.{Answer}
 use Rattle.nmvs_messages.specs.declared.answer.Content.{Content}
 use Rattle.nmvs_messages.specs.declared.answer.Content.TheVariants as contents

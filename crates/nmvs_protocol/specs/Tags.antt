@@ -1,5 +1,5 @@
 -- Tags before lines, and before their replies (own).
-use Rattle.std.specs.Prelude.{ℕ, List, [], ◌∷◌, ◌++◌, length, take, drop, ◌==◌, ◌+◌, ◌&&◌, Option, Some, None, if◌then◌else◌}
+use Rattle.std.specs.Prelude.{ℕ, List, [], ◌∷◌, length, take, drop, ◌==◌, ◌+◌, ◌&&◌, Option, Some, None, if◌then◌else◌}
 use Rattle.nmvs_identifier.specs.Tag.{Tag, is_tag}
 use Rattle.nmvs_identifier.specs.Texts.{longest_text}
 use Rattle.nmvs_messages.specs.Fields.{fields_in}

@@ -1,6 +1,5 @@
-use Rattle.std.proofs.Common.{◌≡◌, ◌∙◌, ◌+◌, ◌++◌, ◌∷◌, [], List, ℕ, Option, Some, None, length, refl, sym, ap, subst, arith}
+use Rattle.std.proofs.Common.{◌∙◌, ◌+◌, ◌++◌, ◌∷◌, [], List, ℕ, Some, None, length, refl, sym, ap, arith}
 use Rattle.nmvs_messages.specs.declared.end.End.TheVariants as ends
-use Rattle.nmvs_messages.specs.Withheld.{text_left}
 use Rattle.nmvs_stream.specs.InputLines.{lines_after, rest_after}
 use Rattle.nmvs_stream.proofs.LinesOfPieces.{line_cut}
 use Rattle.nmvs_protocol.proofs.SessionTelling.{no_quit_more, none_left}
