@@ -1,5 +1,5 @@
 -- How the bytes of a socket stay those of the codec that carries its lines over HTTP.
-use Rattle.std.proofs.Common.{◌≡◌, ◌≤◌, ℕ, Bool, false, nat_lt, List, [], ◌++◌, length, take, drop, Option, Some, None, refl, sym, ap, subst, ◌∙◌, arith}
+use Rattle.std.proofs.Common.{◌≡◌, ◌≤◌, ℕ, Bool, false, nat_lt, List, ◌++◌, length, take, drop, Some, sym, ap, subst, ◌∙◌, arith}
 use Rattle.std.proofs.lemmas.List.{append-nil, append_assoc, append_cancel_left, drop_all, take-append-drop}
 use Rattle.nmvs_http.specs.Codecs.{AnswersLines}
 use Rattle.nmvs_connections.specs.declared.line_stream.Http.{Http}

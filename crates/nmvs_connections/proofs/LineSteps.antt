@@ -1,5 +1,5 @@
 -- How the lines of a connection stay those that its stream carries, from one step to the next.
-use Rattle.std.proofs.Common.{◌≡◌, ◌≤◌, ◌⊎◌, inl, inr, ℕ, Bool, true, false, cond, List, [], ◌++◌, length, Option, Some, None, take, drop, codes, arith, refl, sym, ap, subst, ◌∙◌}
+use Rattle.std.proofs.Common.{◌≡◌, ◌⊎◌, inl, inr, ℕ, Bool, true, false, List, [], ◌++◌, length, Option, Some, None, take, drop, codes, arith, refl, sym, ap, subst, ◌∙◌}
 use Rattle.std.proofs.lemmas.List.{append-nil, append_assoc, length-append, take-append-drop}
 use Rattle.nmvs_messages.specs.declared.peer.NameOf.{NameOf}
 use Rattle.nmvs_messages.specs.declared.peer.Peer.{Peer}
@@ -7,7 +7,7 @@ use Rattle.nmvs_connections.specs.declared.peer_session.Stage.{Stage}
 use Rattle.nmvs_connections.specs.declared.peer_session.Stage.TheVariants as stages
 use Rattle.nmvs_connections.specs.declared.line_stream.Http.{Http}
 use Rattle.nmvs_connections.specs.Traffic.{Traffic}
-use Rattle.nmvs_connections.specs.LineStreams.{AnswersOver, Behind, EndsIn, IsBehind, LineStreamState, before_of, carried}
+use Rattle.nmvs_connections.specs.LineStreams.{AnswersOver, Behind, EndsIn, IsBehind, before_of}
 use Rattle.nmvs_connections.specs.Peers.{Holds, NamesPeer}
 use Rattle.std.specs.Prelude.{IfSome}
 use Rattle.nmvs_connections.specs.Streams.{Reads, Writes}

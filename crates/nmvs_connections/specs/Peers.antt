@@ -1,5 +1,5 @@
 -- A connection with its peer: whose lines it carries, and which bytes are its header, its lines and its replies (own).
-use Rattle.std.specs.Prelude.{◌≡◌, ◌≢◌, ℕ, List, [], ◌++◌, Option, Some, None, codes}
+use Rattle.std.specs.Prelude.{◌≡◌, ℕ, List, [], ◌++◌, Option, Some, None, codes}
 use Rattle.nmvs_messages.specs.declared.peer.NameOf.{NameOf}
 use Rattle.nmvs_messages.specs.declared.peer.Peer.{Peer}
 use Rattle.nmvs_messages.specs.declared.peer.Peer.TheVariants as peers

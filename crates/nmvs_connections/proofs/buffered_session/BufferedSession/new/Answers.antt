@@ -1,4 +1,4 @@
-use Rattle.std.proofs.Common.{◌≡◌, ◌∙◌, ℕ, List, [], ap, arith}
+use Rattle.std.proofs.Common.{◌≡◌, ◌∙◌, [], ap, arith}
 use Rattle.nmvs_connections.proofs.RepliesSteps.{nothing_fed}
 use Rattle.nmvs_connections.proofs.buffered_session.BufferedSession.new.Goals as goal
 

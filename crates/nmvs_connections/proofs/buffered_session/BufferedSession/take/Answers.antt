@@ -1,4 +1,4 @@
-use Rattle.std.proofs.Common.{◌≡◌, ◌∙◌, ◌++◌, ◌-◌, ℕ, List, [], Option, None, length, map, take, drop, sym, ap, subst, arith}
+use Rattle.std.proofs.Common.{◌≡◌, ◌∙◌, ◌++◌, ◌-◌, ℕ, List, [], Option, None, length, take, drop, sym, ap, subst, arith}
 use Rattle.std.proofs.lemmas.List.{append-nil, length-append}
 use Rattle.nmvs_messages.specs.declared.withheld.Withheld.{Withheld}
 use Rattle.nmvs_messages.specs.Peers.{TakesFrom}

@@ -1,4 +1,4 @@
-use Rattle.std.proofs.Common.{◌≡◌, ◌≤◌, ℕ}
+use Rattle.std.proofs.Common.{◌≡◌, ◌≤◌}
 use Rattle.slab.specs.Slab.{slab_len}
 use Rattle.nmvs_connections.specs.Turns.{EachGoes}
 use Rattle.nmvs_connections.proofs.event_loop.EventLoop.evict.Given as goal

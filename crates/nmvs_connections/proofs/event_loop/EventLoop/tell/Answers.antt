@@ -1,6 +1,5 @@
-use Rattle.std.proofs.Common.{◌≡◌, ◌∙◌, ℕ, None, Some, Option, refl, sym, ap}
+use Rattle.std.proofs.Common.{◌≡◌, ◌∙◌, ℕ, None, Some, refl, sym, ap}
 use Rattle.slab.specs.Slab.{get, with_value}
-use Rattle.nmvs_connections.specs.declared.connection.Connection.{Connection}
 use Rattle.nmvs_connections.proofs.TurnSteps.{TellsOne, each_set, each_still}
 use Rattle.nmvs_connections.proofs.event_loop.EventLoop.tell.Goals as goal
 

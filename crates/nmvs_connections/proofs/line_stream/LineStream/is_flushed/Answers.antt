@@ -1,4 +1,4 @@
-use Rattle.std.proofs.Common.{Option, Some, subst, sym}
+use Rattle.std.proofs.Common.{Option, subst, sym}
 use Rattle.std.specs.Global.{Box}
 use Rattle.nmvs_http.specs.Codecs.{CarriesRequests}
 use Rattle.nmvs_connections.specs.declared.line_stream.Http.{Http}

@@ -1,4 +1,4 @@
-use Rattle.std.proofs.Common.{◌≡◌, ◌∙◌, ◌++◌, ℕ, List, ap, sym, subst}
+use Rattle.std.proofs.Common.{◌∙◌, ◌++◌, ℕ, List, ap, sym, subst}
 use Rattle.std.proofs.lemmas.List.{append_assoc}
 use Rattle.nmvs_connections.specs.Replies.{Replies}
 use Rattle.nmvs_connections.specs.LineStreams.{before_of, carried}

@@ -2,7 +2,7 @@ use Rattle.std.proofs.Common.{◌≡◌, ◌∙◌, ◌==◌, ℕ, List, Option,
 use Rattle.nmvs_messages.specs.declared.end.End.{End}
 use Rattle.nmvs_connections.specs.LineStreams.{before_of, carried}
 use Rattle.nmvs_connections.specs.Replies.{Replies}
-use Rattle.nmvs_connections.proofs.LineSteps.{answers_over, stands_same}
+use Rattle.nmvs_connections.proofs.LineSteps.{answers_over}
 use Rattle.nmvs_connections.proofs.PeerSteps.{empty}
 use Rattle.nmvs_connections.proofs.peer_session.PeerSession.respond.Goals as goal
 

@@ -1,8 +1,8 @@
-use Rattle.std.proofs.Common.{◌≡◌, ◌∙◌, ◌++◌, ◌==◌, ℕ, true, List, [], take, drop, length, refl, sym, ap, subst, rules}
+use Rattle.std.proofs.Common.{◌≡◌, ◌∙◌, ◌++◌, ◌==◌, ℕ, true, List, [], take, length, refl, sym, ap, subst, rules}
 use Rattle.nmvs_connections.specs.LineStreams.{before_of, carried}
 use Rattle.nmvs_connections.specs.declared.peer_session.Stage.TheVariants as stages
 use Rattle.nmvs_connections.proofs.ConnectionLemmas.{kept_same, steps_idle, steps_kept}
-use Rattle.nmvs_connections.proofs.LineSteps.{Stands, stands_over, stands_read, stands_same, stands_taken}
+use Rattle.nmvs_connections.proofs.LineSteps.{Stands, stands_over, stands_read, stands_taken}
 use Rattle.nmvs_connections.proofs.PeerSteps.{empty, kept_rest}
 use Rattle.nmvs_connections.proofs.peer_session.PeerSession.take.Goals as goal
 

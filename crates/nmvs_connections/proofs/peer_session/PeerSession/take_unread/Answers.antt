@@ -1,4 +1,4 @@
-use Rattle.std.proofs.Common.{◌≡◌, ◌∙◌, ◌++◌, ◌≤◌, ◌-◌, ℕ, List, inr, take, drop, length, refl, sym, ap, subst, arith}
+use Rattle.std.proofs.Common.{◌≡◌, ◌∙◌, ◌++◌, ◌≤◌, ◌-◌, ℕ, List, inr, take, length, refl, sym, ap, subst}
 use Rattle.nmvs_connections.specs.LineStreams.{before_of, carried}
 use Rattle.nmvs_connections.specs.declared.peer_session.Stage.TheVariants as stages
 use Rattle.nmvs_connections.proofs.ConnectionLemmas.{kept_same, steps_kept}
