@@ -18,7 +18,7 @@ use std::mem;
 /// The session of one connection: the bytes that it was fed, and the replies to them, the last of which may be unsent.
 /// The caller moves the bytes. Many sessions share a desk, and one list of answers that are withheld.
 ///
-/// A list of lines may follow the last of its answers. They are fetched a piece at a time, once the answer is a reply.
+/// A list of lines may follow the last of its answers. They are fetched a piece at a time, after the text of that answer.
 ///
 /// Contracts see the bytes that it was fed, its sent and unsent replies, the text of the lines that follow them, how it ended,
 /// and which of the withheld answers it waits for.
@@ -32,7 +32,7 @@ pub struct BufferedSession<L: LineList> {
     first: usize,
     /// How many answers it waits for.
     waiting: usize,
-    /// The lines that follow the last answer. They follow the replies once that answer is one.
+    /// The lines that follow the last answer, and are still to be fetched.
     list: Option<L>,
     end: Option<End>,
     fed: Tag,
