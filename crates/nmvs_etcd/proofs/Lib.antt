@@ -5,3 +5,5 @@ pub mod Naming
 pub mod Reading
 pub mod ReadingBack
 pub mod Storing
+pub mod Posting
+pub mod Hearing

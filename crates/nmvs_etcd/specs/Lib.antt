@@ -1,5 +1,7 @@
 pub mod Answers
+pub mod Asks
 pub mod Blocks
+pub mod Exchanges
 pub mod Keys
 pub mod Names
 pub mod Outcomes

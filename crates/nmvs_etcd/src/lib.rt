@@ -4,7 +4,12 @@
 #![tactic(auto)]
 
 mod answer;
+mod ask;
 mod block;
+mod connection;
+mod http;
+#[cfg(test)]
+mod http_tests;
 mod key;
 mod laws;
 mod outcome;
@@ -15,9 +20,12 @@ mod request;
 mod tests;
 
 pub use answer::{append_outcome, own_outcome};
+pub use ask::{ask_append, ask_blocks, ask_end, ask_own, ask_owner};
 pub use block::Block;
+pub use connection::{Broken, Connection};
+pub use http::{Answer, MOST_ANSWER, Procedure, exchange};
 pub use key::Log;
-pub use laws::{demands, names, requests, turns};
+pub use laws::{answers, demands, names, requests, turns};
 pub use outcome::Outcome;
 pub use owner_name::{NameFault, OwnerName};
 pub use read::{read_blocks, read_end, read_owner};
