@@ -14,7 +14,7 @@ use nmvs_inspect::{
 };
 use nmvs_protocol::reply_text;
 use nmvs_record::{Importer, product_line, report};
-use nmvs_rules::{Entry, Reply};
+use nmvs_rules::Reply;
 use nmvs_shard::{HashKey, Shard};
 use nmvs_stream::{Sink, deliver};
 use std::alloc::{AllocError, Global};
@@ -64,7 +64,7 @@ fn none_of(shard: &Shard<Global>, filter: &Filter) -> Option<usize>
     if takes_any(shard, filter) {
         None
     } else {
-        Some(shard.trail().len())
+        Some(shard.len())
     }
 }
 
@@ -89,12 +89,12 @@ fn summary(alloc: Global, importer: &Importer<Shard<Global>>) -> Result<String, 
 fn counts_text(alloc: Global, importer: &Importer<Shard<Global>>) -> Result<String, AllocError>
     ensures { IfOk result (λ text. string_bytes text ≡ answers.counts_text importer.now) }
 {
-    let trail = importer.shard().trail();
-    let (lines, older) = (trail.len(), importer.older());
-    let tagged = tagged_of(trail);
+    let shard = importer.shard();
+    let (lines, older) = (shard.len(), importer.older());
+    let tagged = tagged_of(shard);
     let newer = importer.newer().saturating_sub(tagged);
     let third = third_text(alloc, tagged)?;
-    let repeated = repeated_text(alloc, importer.shard().first_repeated())?;
+    let repeated = repeated_text(alloc, shard.first_repeated())?;
     format!(in alloc; "LAWFUL {lines}\nVERSION 1 {older}\nVERSION 2 {newer}\n{third}{repeated}")
 }
 
@@ -121,12 +121,12 @@ fn third_text(alloc: Global, tagged: usize) -> Result<String, AllocError>
 }
 
 /// How many entries have a tag.
-fn tagged_of(trail: &[Entry]) -> usize
-    ensures { result ≡ answers.tagged_of trail.now }
+fn tagged_of(shard: &Shard<Global>) -> usize
+    ensures { result ≡ answers.tagged_of shard.now }
 {
     let mut count = 0;
-    for entry in trail {
-        if entry.put.tag.is_some() {
+    for place in 0..shard.len() {
+        if shard.entry_at(place).unwrap().put.tag.is_some() {
             count += 1;
         }
     }
@@ -140,10 +140,9 @@ pub(crate) fn codes_named(
 ) -> Result<IndexSet<ProductCode, HashKey>, AllocError>
     ensures { IfOk result (λ codes. codes.keys ≡ answers.codes_named shard.now) }
 {
-    let entries = shard.trail();
     let mut codes = IndexSet::with_hasher(alloc, shard.tables().key());
-    for entry in entries {
-        match codes.insert(entry.put.question.code()) {
+    for place in 0..shard.len() {
+        match codes.insert(shard.entry_at(place).unwrap().put.question.code()) {
             Ok(_) => {}
             Err(_) => return Err(AllocError),
         }

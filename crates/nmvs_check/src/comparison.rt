@@ -90,7 +90,7 @@ fn tell<W: Sink>(
 ) -> Result<bool, AnswerFault>
     ensures { IfOk result (λ goes_on. spec.Tells old.now new.now goes_on (W.taken sink.old) (W.taken sink.new)) }
 {
-    match first_departure(alloc, old.trail(), new.trail(), new.tables().key())? {
+    match first_departure(alloc, old, new)? {
         None => {
             write(&on_text(alloc, old, new)?, sink)?;
             Ok(true)
@@ -108,8 +108,8 @@ fn on_text(alloc: Global, old: &Shard<Global>, new: &Shard<Global>) -> Result<St
     ensures { IfOk result (λ text. string_bytes text ≡ spec.on_text old.now new.now) }
 {
     let products = codes_named(alloc, old)?.len();
-    let entries = old.trail().len();
-    let more = new.trail().len().saturating_sub(entries);
+    let entries = old.len();
+    let more = new.len().saturating_sub(entries);
     format!(in alloc; "GOES ON PRODUCTS {products} ENTRIES {entries} MORE {more}\n")
 }
 

@@ -198,7 +198,7 @@ fn owners_for<'a, H: Histories, B: Allocator>(
 {
     let mut owners = Vec::with_capacity(alloc, locked.len())?;
     for shard in 0..locked.len() {
-        let count = locked[shard].trail().len();
+        let count = locked[shard].len();
         owners.push_reserved(Owners::blank(alloc, count)?);
     }
     Ok(owners)

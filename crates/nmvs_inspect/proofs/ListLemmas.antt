@@ -1,13 +1,29 @@
 -- Lists of entries, entry by entry.
-use Rattle.std.proofs.Common.{◌≡◌, ◌∙◌, ap, sym, ℕ, ◌+◌, ◌<◌, Bool, true, false, cond, List, [], ◌∷◌, ◌++◌, append_assoc, length, take, map, get_or}
-use Rattle.std.specs.List.{flat_map}
-use Rattle.std.specs.Prelude.{filter}
+use Rattle.std.proofs.Common.{◌≡◌, ◌∙◌, ap, sym, ℕ, ◌+◌, ◌<◌, Bool, true, false, ◌||◌, cond, Some, List, [], ◌∷◌, ◌++◌, append_assoc, length, take, map, get_or}
+use Rattle.std.specs.List.{flat_map, list_any}
+use Rattle.std.specs.Prelude.{filter, slice_get}
 use Rattle.std.proofs.lemmas.List.{append-nil, map-append, take_more}
 use Rattle.std.proofs.lemmas.List.Concat.{flat_map-append}
-use Rattle.std.proofs.lemmas.List.Elements.{filter_more}
+use Rattle.std.proofs.lemmas.List.Elements.{filter-append, filter_more}
+use Rattle.std.proofs.lemmas.List.Folds.{list_any-append}
+use Rattle.std.proofs.lemmas.Option.{get_or_from_slice_get, slice_get_within}
 use Rattle.nmvs_rules.specs.declared.entry.Entry.{Entry}
 use Rattle.nmvs_inspect.specs.declared.form.Form.{Form}
 use Rattle.nmvs_inspect.specs.Rows.{Dated, header, entry_text, list_text}
+
+-- the entries up to a place and the one that stands there
+pub take-next : (t : List Entry) (i : ℕ) (e : Entry) → slice_get t i ≡ Some e → take (i + 1) t ≡ take i t ++ e ∷ []
+take-next t i e stands =
+    take_more t i e (slice_get_within t i e stands) ∙ ap (λ (x : Entry). take i t ++ x ∷ []) (get_or_from_slice_get t i e e stands)
+
+-- one more entry that a test takes, or that it does not
+pub filter-next : (p : Entry → Bool) (t : List Entry) (i : ℕ) (e : Entry) → slice_get t i ≡ Some e → filter p (take (i + 1) t) ≡ filter p (take i t) ++ cond (p e) (e ∷ []) []
+filter-next p t i e stands = ap (filter p) (take-next t i e stands) ∙ filter-append p (take i t) (e ∷ [])
+
+-- no entry so far that a test takes, nor the next one
+pub none-next : (p : Entry → Bool) (t : List Entry) (i : ℕ) (e : Entry) → slice_get t i ≡ Some e → p e ≡ false → list_any p (take i t) ≡ false → list_any p (take (i + 1) t) ≡ false
+none-next p t i e stands fails none =
+    ap (list_any p) (take-next t i e stands) ∙ list_any-append p (take i t) (e ∷ []) ∙ (λ j. none j || (fails j || false))
 
 abbrev pub entries_of : List Dated → List Entry
 entries_of ds = map (λ d. d.entry) ds
@@ -25,11 +41,11 @@ untaken-next entry p t i e ds l fails at inv =
     inv ∙ sym (append-nil (filter p (take i t))) ∙ ap (λ (b : Bool). filter p (take i t) ++ cond b (get_or t i e ∷ []) []) (sym fails ∙ ap p at) ∙ sym (filter_more p t i e l)
 
 -- one more element: the list has the entry of each element so far
-pub each-next : {X Y : Type 0} (entry : X → Entry) (at : Y → Entry) (ys : List Y) (i : ℕ) (y : Y) (xs : List X) (x : X) → i < length ys → y ≡ get_or ys i y → entry x ≡ at y
-    → map entry xs ≡ map at (take i ys) → map entry (xs ++ x ∷ []) ≡ map at (take (i + 1) ys)
-each-next entry at ys i y xs x l is e inv =
-    map-append entry xs (x ∷ []) ∙ ap (λ (z : List Entry). z ++ entry x ∷ []) inv ∙ ap (λ (z : Entry). map at (take i ys) ++ z ∷ []) (e ∙ ap at is)
-    ∙ sym (ap (map at) (take_more ys i y l) ∙ map-append at (take i ys) (get_or ys i y ∷ []))
+pub each-next : {X : Type 0} (entry : X → Entry) (es : List Entry) (i : ℕ) (e : Entry) (xs : List X) (x : X) → i < length es → e ≡ get_or es i e → entry x ≡ e
+    → map entry xs ≡ take i es → map entry (xs ++ x ∷ []) ≡ take (i + 1) es
+each-next entry es i e xs x l is same inv =
+    map-append entry xs (x ∷ []) ∙ ap (λ (z : List Entry). z ++ entry x ∷ []) inv ∙ ap (λ (z : Entry). take i es ++ z ∷ []) (same ∙ is)
+    ∙ sym (take_more es i e l)
 
 -- a list with one more entry
 pub list_text-more : (f : Form) (ds : List Dated) (d : Dated) → list_text f (ds ++ d ∷ []) ≡ list_text f ds ++ entry_text f d

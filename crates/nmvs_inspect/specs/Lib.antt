@@ -1,6 +1,7 @@
 pub mod Filter
 pub mod Replies
 pub mod Html
+pub mod Placed
 pub mod Selection
 pub mod Rows
 pub mod Story

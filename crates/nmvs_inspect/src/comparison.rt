@@ -8,8 +8,8 @@ use nmvs_identifier::ProductCode;
 use nmvs_line::entry_line;
 use nmvs_record::entry_line_laws;
 use nmvs_rules::Entry;
-use nmvs_shard::HashKey;
-use std::alloc::{AllocError, Global};
+use nmvs_shard::{HashKey, Shard};
+use std::alloc::{AllocError, Allocator, Global};
 
 /// The first entry of an old trail that a new one does not have in its place.
 #[derive(Clone, Copy)]
@@ -34,29 +34,29 @@ pub(crate) struct Walk {
 /// each product code begin with those of the old one, in order (own).
 ///
 /// The entries about different product codes may stand in any order, as shards are exported one after another. It takes
-/// time and memory in proportion to the trails, and hashes with the key.
+/// time and memory in proportion to the trails, and hashes with the key of the new one.
 ///
 /// # Errors
 ///
 /// There is no memory for the walk.
-pub fn first_departure(
+pub fn first_departure<A: Allocator>(
     alloc: Global,
-    old: &[Entry],
-    new: &[Entry],
-    key: HashKey,
+    old: &Shard<A>,
+    new: &Shard<A>,
 ) -> Result<Option<Departure>, AllocError>
     ensures goes_on { IfOk result (λ r. (r ≡ None) ↔ spec.GoesOn old.now new.now) }
     ensures first { IfOk result (λ r. IfSome r (spec.Departs old.now new.now)) }
 {
-    let mut walk = walk_along(alloc, new, key)?;
-    for (place, entry) in old.iter().enumerate() {
+    let mut walk = walk_along(alloc, new)?;
+    for place in 0..old.len() {
+        let entry = old.entry_at(place).unwrap();
         let code = entry.put.question.code();
         let at = head(&walk, &code);
-        let found = entry_at(new, at);
-        if !is_found(entry, &found) {
+        let found = new.entry_at(at);
+        if !is_found(&entry, &found) {
             return Ok(Some(Departure {
                 number: place + 1,
-                entry: *entry,
+                entry,
                 found,
             }));
         }
@@ -66,16 +66,17 @@ pub fn first_departure(
 }
 
 /// A walk before the first entry.
-fn walk_along(alloc: Global, entries: &[Entry], key: HashKey) -> Result<Walk, AllocError>
-    ensures { IfOk result (λ walk. spec.StandsBefore walk entries.now) }
+fn walk_along<A: Allocator>(alloc: Global, shard: &Shard<A>) -> Result<Walk, AllocError>
+    ensures { IfOk result (λ walk. spec.StandsBefore walk shard.now) }
 {
-    let mut heads = IndexMap::with_hasher(alloc, key);
-    let mut nexts = vec![in alloc; entries.len(); entries.len()]?;
-    let mut left = entries.len();
+    let many = shard.len();
+    let mut heads = IndexMap::with_hasher(alloc, shard.tables().key());
+    let mut nexts = vec![in alloc; many; many]?;
+    let mut left = many;
     while left > 0 {
         left -= 1;
-        let code = entries[left].put.question.code();
-        nexts[left] = put_head(&mut heads, code, left)?.unwrap_or(entries.len());
+        let code = shard.entry_at(left).unwrap().put.question.code();
+        nexts[left] = put_head(&mut heads, code, left)?.unwrap_or(many);
     }
     Ok(Walk { heads, nexts })
 }
@@ -100,13 +101,6 @@ fn head(walk: &Walk, code: &ProductCode) -> usize
     ensures { result ≡ spec.head_of walk.now code.now }
 {
     walk.heads.get(code).copied().unwrap_or(walk.nexts.len())
-}
-
-/// The entry at a place.
-fn entry_at(entries: &[Entry], place: usize) -> Option<Entry>
-    ensures { result ≡ slice_get entries.now place }
-{
-    entries.get(place).copied()
 }
 
 /// Passes the entry about a product code at a place.

@@ -10,6 +10,7 @@ ghost use Rattle.nmvs_inspect.specs.Groups as spec;
 ghost use Rattle.nmvs_inspect.specs.Rows.{row_in};
 
 use crate::filter::kind_of_reply;
+use crate::placed::Placed;
 use crate::replies::cause_text;
 use crate::rows::append_row;
 use crate::selection::select;
@@ -39,12 +40,12 @@ pub(crate) struct Group {
 /// Counts the entries that a filter takes by their parts, and writes a row a group. The rows are in order of first appearance
 /// in the list of these entries, oldest first. So the groups of a day, a week or a month come in order of time.
 ///
-/// It takes memory for a reference to each entry, and for the groups and their rows. A trail that is not in order of time
-/// takes the memory for the references twice.
+/// It takes memory for the place of each entry, and for the groups and their rows. A trail that is not in order of time
+/// takes the memory for the places twice.
 ///
 /// # Errors
 ///
-/// There is no memory for the references, a group or a row, or a write failed.
+/// There is no memory for the places, a group or a row, or a write failed.
 pub fn write_groups<A: Allocator, W: Sink>(
     alloc: Global,
     shard: &Shard<A>,
@@ -78,19 +79,20 @@ pub(crate) fn groups_of<A: Allocator>(
 }
 
 /// The groups of entries, in order of first appearance.
-fn count_all(
+fn count_all<A: Allocator>(
     alloc: Global,
     key: HashKey,
     by: &[By],
-    entries: &[&Entry],
+    entries: &[Placed<'_, A>],
 ) -> Result<Vec<Group>, AllocError>
-    ensures { IfOk result (λ groups. (ds : List spec.Group) × (map (λ d. d.first) ds ≡ map (λ e. e.now) entries.now)
+    ensures { IfOk result (λ groups. (ds : List spec.Group) × (map (λ d. d.first) ds ≡ entries.now)
         × All spec.IsSingle ds × (groups.items ≡ spec.groups_of by.now ds)) }
 {
     let mut keys = IndexSet::with_hasher(alloc, key);
     let mut groups = Vec::new(alloc);
-    for (place, entry) in entries.iter().enumerate() {
-        let found = single(entry);
+    for (place, placed) in entries.iter().enumerate() {
+        let entry = placed.entry();
+        let found = single(&entry);
         count(alloc, &mut keys, &mut groups, by, place, &found)?;
     }
     Ok(groups)

@@ -20,6 +20,7 @@ mod listing;
 mod packs;
 mod page;
 mod period;
+mod placed;
 mod premises;
 mod replies;
 mod reports;

@@ -49,15 +49,15 @@ pub fn write_packs<A: Allocator, W: Sink>(
     ensures { OnOk result ((ps : List (packs.Standing shard.now)) × packs.AreOfBatch code.now batch.now shard.now ps
         × Delivers (W.taken sink.old) (W.taken sink.new) (packs.packs_text form shard.now ps)) }
 {
-    let entries = shard.trail();
     let tables = shard.tables();
     let mut block = Vec::new(alloc);
     append_heads(alloc, &mut block, form)?;
-    for entry in entries {
-        if is_upload_in(code, batch, entry) {
+    for place in 0..shard.len() {
+        let entry = shard.entry_at(place).unwrap();
+        if is_upload_in(code, batch, &entry) {
             let known = tables.facts(&entry.put.question).pack.unwrap();
             let at = mark_time(&known);
-            append_pack(alloc, &mut block, form, at, entry, &known)?;
+            append_pack(alloc, &mut block, form, at, &entry, &known)?;
             write_full(&mut block, sink)?;
         }
     }

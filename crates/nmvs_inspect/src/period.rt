@@ -5,7 +5,6 @@ ghost use Rattle.nmvs_inspect.specs.Period as spec;
 use crate::rows::{date_and_time, moment_text};
 use jiff::civil::DateTime;
 use nmvs_identifier::Moment;
-use nmvs_rules::Entry;
 use nmvs_shard::Shard;
 use std::alloc::{AllocError, Allocator, Global};
 
@@ -24,7 +23,7 @@ pub(crate) struct Period {
 pub fn period_line<A: Allocator>(alloc: Global, shard: &Shard<A>) -> Result<String, AllocError>
     ensures { IfOk result (λ text. spec.IsLineOf (spec.period_of shard.now) (string_bytes text)) }
 {
-    match period_of(shard.trail()) {
+    match period_of(shard) {
         None => Ok(String::new(alloc)),
         Some(period) => line(
             alloc,
@@ -42,11 +41,12 @@ fn line(alloc: Global, first: DateTime, last: DateTime) -> Result<String, AllocE
     format!(in alloc; "From {first} to {last}\n")
 }
 
-fn period_of(entries: &[Entry]) -> Option<Period>
-    ensures { result ≡ spec.period_of entries.now }
+fn period_of<A: Allocator>(shard: &Shard<A>) -> Option<Period>
+    ensures { result ≡ spec.period_of shard.now }
 {
     let mut period = None;
-    for entry in entries {
+    for place in 0..shard.len() {
+        let entry = shard.entry_at(place).unwrap();
         period = Some(with_moment(&period, entry.put.moment));
     }
     period

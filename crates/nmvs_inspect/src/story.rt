@@ -57,9 +57,9 @@ pub fn story_of(pack: &Pack) -> Filter
 fn status_of<A: Allocator>(shard: &Shard<A>, pack: &Pack) -> Reply
     ensures { result ≡ story.status_of shard.now pack.now }
 {
-    match shard.trail() {
-        [] => Reply::NoPack,
-        [first, ..] => shard.reply_to(&Put {
+    match shard.entry_at(0) {
+        None => Reply::NoPack,
+        Some(first) => shard.reply_to(&Put {
             question: Question::Status(*pack),
             ..first.put
         }),

@@ -2,7 +2,7 @@
 ghost use Rattle.std.specs.Prelude.{◌≡◌, ◌≤◌, ◌+◌, ◌*◌, ◌++◌, [], IfOk, length, vec_len, vec_capacity};
 ghost use Rattle.nmvs_line.specs.Export.{ended_line, export_text};
 
-use nmvs_line::{LONGEST_LINE, entry_line};
+use nmvs_line::{EntryLine, LONGEST_LINE, put_entry_line};
 use nmvs_rules::Entry;
 use std::alloc::{AllocError, Global};
 
@@ -53,21 +53,22 @@ pub(crate) fn push_lines(bytes: &mut Vec<u8>, entries: &[Entry])
     ensures len { vec_len bytes.new ≤ vec_len bytes.old + length entries.now * (LONGEST_LINE + 1) }
     ensures capacity { vec_capacity bytes.old ≤ vec_capacity bytes.new }
 {
+    let mut line = EntryLine::new();
     let mut rest = entries;
     while let Some((entry, later)) = rest.split_first() {
-        push_line(bytes, entry);
+        push_line(bytes, &mut line, entry);
         rest = later;
     }
 }
 
-/// Adds the line of an entry, with LF. There is room for it.
-fn push_line(bytes: &mut Vec<u8>, entry: &Entry)
+/// Adds the line of an entry, with LF. There is room for it. It composes the line in place of the one before.
+fn push_line(bytes: &mut Vec<u8>, line: &mut EntryLine, entry: &Entry)
     requires { vec_len bytes.old + (LONGEST_LINE + 1) ≤ vec_capacity bytes.old }
     ensures items { bytes.new.items ≡ bytes.old.items ++ ended_line entry.now }
     ensures len { vec_len bytes.new ≤ vec_len bytes.old + (LONGEST_LINE + 1) }
     ensures capacity { vec_capacity bytes.old ≤ vec_capacity bytes.new }
 {
-    let line = entry_line(entry);
+    put_entry_line(line, entry);
     let _line = bytes.extend_from_slice(line.as_str().as_bytes());
     let _line_feed = bytes.push(b'\n');
 }

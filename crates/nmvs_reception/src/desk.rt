@@ -412,7 +412,7 @@ impl<'a, 'c> Reader<Shard<&'a Global>> for ReportOf<'c> {
     fn read(self, shard: &Shard<&'a Global>) -> Result<(String, Batches, usize), AllocError> {
         let batches = batches(self.alloc, shard.tables(), self.code)?;
         let first = product_line(self.alloc, shard, self.code)?;
-        Ok((first, batches, shard.trail().len()))
+        Ok((first, batches, shard.len()))
     }
 }
 

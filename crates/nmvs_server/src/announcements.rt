@@ -73,7 +73,7 @@ fn append_lengths(
     ensures { OnOk result (string_bytes text.new ≡ string_bytes text.old ++ flat_map specs.length_text shards.now) }
 {
     for shard in shards {
-        let length = shard.trail().len();
+        let length = shard.len();
         text.push_str(&format!(in alloc; " {length}")?)?;
     }
     Ok(())

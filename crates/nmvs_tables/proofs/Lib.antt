@@ -1,6 +1,7 @@
 pub mod BoolLemmas
 pub mod CodesLemmas
 pub mod PacksLemmas
+pub mod PlacesLemmas
 pub mod LinkLemmas
 pub mod OnwardLemmas
 pub mod CursorLemmas

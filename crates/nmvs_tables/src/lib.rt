@@ -1,15 +1,14 @@
 //! The current records of packs, batches and product codes, kept in step with an audit trail.
 //!
 //! The rules of the repository look back over the whole trail. [`Tables`] keeps the results of this, so that no answer has
-//! to look back: maps of packs, batches and product codes in the order of insertion, the list of each code's batches, and
-//! a link for each entry. Each entry is noted once.
+//! to look back: the trail in rows, the places of each pack's entries, maps of batches and product codes in the order of
+//! insertion, the list of each code's batches, and a link for each entry.
 #![tactic(auto)]
 
 mod batches;
 mod codes;
 mod counts;
 mod cursor;
-mod hash_key;
 mod links;
 mod listing;
 mod packs;
@@ -17,6 +16,6 @@ mod tables;
 mod writes;
 
 pub use cursor::{Cursor, cursors_stay};
-pub use hash_key::HashKey;
+pub use nmvs_rows::HashKey;
 pub use packs::PackRecord;
 pub use tables::{Found, Tables};

@@ -1,16 +1,13 @@
 //! The table of packs.
-ghost use Rattle.std.specs.Prelude.{◌≡◌, ◌+◌, ◌<◌, ◌^◌};
-ghost use Rattle.indexmap.specs.IndexMap.{spare};
+ghost use Rattle.std.specs.Prelude.{◌≡◌, ◌+◌, ◌<◌, ◌≤◌, ◌^◌, ◌∷◌, ◌++◌, [], length, vec_len, vec_capacity};
 ghost use Rattle.nmvs_identifier.specs.declared.pack.Pack.{Pack};
 ghost use Rattle.nmvs_rules.specs.Questions.{pack_of};
 ghost use Rattle.nmvs_rules.specs.Trail.{marked_by};
-ghost use Rattle.nmvs_tables.specs.Packs.{row_in, row_named, record_by, row_after, pack_after};
+ghost use Rattle.nmvs_tables.specs.Packs.{AreWithin, changed, known_by, places_at, places_in, row_in, row_by, row_named, record_by, places_after, pack_after};
 
-use crate::HashKey;
-use crate::writes::{find, write};
-use indexmap::IndexMap;
 use nmvs_identifier::Pack;
-use nmvs_rules::{Entry, Known, Mark, OwnStatus, Question};
+use nmvs_rows::Rows;
+use nmvs_rules::{Entry, Known, Question};
 use std::alloc::Allocator;
 
 /// The record of a pack that some entry is about (Article 35).
@@ -21,7 +18,7 @@ pub struct PackRecord {
     pub known: Option<Known>,
 }
 
-/// The record of a pack, and the place of its last entry: some 110 bytes, next to the 38 of the pack itself.
+/// The record of a pack, and the place of its last entry.
 #[derive(Clone, Copy)]
 pub(crate) struct PackRow {
     pub about: u64,
@@ -30,7 +27,30 @@ pub(crate) struct PackRow {
     pub last: u64,
 }
 
-pub(crate) type Packs<A> = IndexMap<Pack, PackRow, HashKey, A>;
+/// The places from which the row of a pack is made: 16 bytes. Each is the number of entries up to one about the pack, which
+/// counts too, and 0 if there is none.
+#[derive(Clone, Copy)]
+pub(crate) struct Places {
+    /// The number of entries about the pack.
+    pub about: u32,
+    /// The last entry about it.
+    pub last: u32,
+    /// Its accepted upload.
+    pub upload: u32,
+    /// The last accepted entry about it, once it is known.
+    pub mark: u32,
+}
+
+/// The places of each pack, by its number among the packs that entries name.
+pub(crate) type Packs<A> = Vec<Places, A>;
+
+/// The places of a pack that no entry is about.
+const NO_PLACES: Places = Places {
+    about: 0,
+    last: 0,
+    upload: 0,
+    mark: 0,
+};
 
 /// The row of a pack that no entry is about.
 const NO_ENTRIES: PackRow = PackRow {
@@ -39,18 +59,60 @@ const NO_ENTRIES: PackRow = PackRow {
     last: 0,
 };
 
-/// The row of a pack.
-pub(crate) fn row_of<A: Allocator>(packs: &Packs<A>, pack: &Pack) -> PackRow
-    ensures { result ≡ row_in packs.now pack.now }
+/// The values known of a pack by the places of its entries.
+fn known_by<A: Allocator>(rows: &Rows<A>, places: &Places) -> Option<Known>
+    ensures { result ≡ known_by rows.now places.now }
 {
-    packs.get(pack).copied().unwrap_or(NO_ENTRIES)
+    if places.upload == 0 {
+        return None;
+    }
+    if places.mark == 0 {
+        return None;
+    }
+    rows.known(places.upload as usize - 1, places.mark as usize - 1)
+}
+
+/// The row that places give.
+fn row_by<A: Allocator>(rows: &Rows<A>, places: &Places) -> PackRow
+    ensures { result ≡ row_by rows.now places.now }
+{
+    PackRow {
+        about: places.about as u64,
+        known: known_by(rows, places),
+        last: places.last as u64,
+    }
+}
+
+/// The places of the pack with this number.
+fn places_at<A: Allocator>(packs: &Packs<A>, number: usize) -> Places
+    ensures { result ≡ places_at packs.now.items number }
+{
+    packs.get(number).copied().unwrap_or(NO_PLACES)
+}
+
+/// The places of a pack.
+fn places_of<A: Allocator>(rows: &Rows<A>, packs: &Packs<A>, pack: &Pack) -> Places
+    ensures { result ≡ places_in rows.now packs.now.items pack.now }
+{
+    places_at(packs, rows.pack_number(pack))
+}
+
+/// The row of a pack.
+pub(crate) fn row_of<A: Allocator>(rows: &Rows<A>, packs: &Packs<A>, pack: &Pack) -> PackRow
+    ensures { result ≡ row_in rows.now packs.now.items pack.now }
+{
+    row_by(rows, &places_of(rows, packs, pack))
 }
 
 /// The record of a pack.
-pub(crate) fn record_of<A: Allocator>(packs: &Packs<A>, pack: &Pack) -> Option<PackRecord>
-    ensures { result ≡ record_by (row_in packs.now pack.now) }
+pub(crate) fn record_of<A: Allocator>(
+    rows: &Rows<A>,
+    packs: &Packs<A>,
+    pack: &Pack,
+) -> Option<PackRecord>
+    ensures { result ≡ record_by (row_in rows.now packs.now.items pack.now) }
 {
-    let row = row_of(packs, pack);
+    let row = row_of(rows, packs, pack);
     if row.about == 0 {
         None
     } else {
@@ -62,72 +124,86 @@ pub(crate) fn record_of<A: Allocator>(packs: &Packs<A>, pack: &Pack) -> Option<P
 }
 
 /// The row of the pack that a question names, or one of no entries.
-pub(crate) fn row_named<A: Allocator>(packs: &Packs<A>, question: &Question) -> PackRow
-    ensures { result ≡ row_named packs.now (pack_of question.now) }
+pub(crate) fn row_named<A: Allocator>(
+    rows: &Rows<A>,
+    packs: &Packs<A>,
+    question: &Question,
+) -> PackRow
+    ensures { result ≡ row_named rows.now packs.now.items (pack_of question.now) }
 {
     match question.pack() {
-        Some(pack) => row_of(packs, &pack),
+        Some(pack) => row_of(rows, packs, &pack),
         None => NO_ENTRIES,
     }
 }
 
-/// The values known of a pack after an accepted entry at a place about it.
-fn marked_by(place: u64, entry: &Entry, known: Option<Known>) -> Option<Known>
-    ensures { result ≡ marked_by place entry.now known }
+/// The places of a pack after an entry about it, up to which `count` entries stand. The pack was known before it or not.
+fn places_after(count: u32, entry: &Entry, is_known: bool, old: &Places) -> Places
+    requires about { old.now.about + 1 < 2 ^ 32 }
+    ensures { result ≡ places_after count entry.now is_known old.now }
 {
-    let mark = Mark {
-        place,
-        moment: entry.put.moment,
-        authorisation: entry.put.actor.authorisation,
-        premises: entry.put.actor.premises,
-    };
-    match (known, entry.put.question) {
-        (Some(known), question) => Some(Known {
-            own: question.own_given(),
-            mark,
-            ..known
-        }),
-        (None, Question::Upload { batch, expiry, .. }) => Some(Known {
-            batch,
-            expiry,
-            own: OwnStatus::Active,
-            mark,
-        }),
-        (None, _) => None,
-    }
-}
-
-/// The row of a pack after an entry at a place about it.
-fn row_after(place: u64, entry: &Entry, old: &PackRow) -> PackRow
-    requires about { old.now.about + 1 < 2 ^ 64 }
-    requires place { place + 1 < 2 ^ 64 }
-    ensures { result ≡ row_after place entry.now old.now }
-{
-    PackRow {
+    let noted = Places {
         about: old.about + 1,
-        known: if entry.is_accepted() {
-            marked_by(place, entry, old.known)
-        } else {
-            old.known
-        },
-        last: place + 1,
+        last: count,
+        ..*old
+    };
+    let is_born = !is_known && matches!(entry.put.question, Question::Upload { .. });
+    if entry.is_accepted() && (is_known || is_born) {
+        Places {
+            upload: if is_born { count } else { old.upload },
+            mark: count,
+            ..noted
+        }
+    } else {
+        noted
     }
 }
 
-/// Notes an entry at a place, and returns the row of its pack before it. Room was made for the pack.
-pub(crate) fn note<A: Allocator>(packs: &mut Packs<A>, place: u64, entry: &Entry) -> PackRow
-    requires room { 0 < spare packs.old }
-    requires about { (p : Pack) → (row_in packs.old p).about + 1 < 2 ^ 64 }
-    requires place { place + 1 < 2 ^ 64 }
-    ensures noted { (p : Pack) →
-        row_in packs.new p ≡ pack_after p place entry.now (row_in packs.old p) }
-    ensures before { result ≡ row_named packs.old (pack_of entry.now.put.question) }
+/// The change that an entry makes to the table of packs.
+#[derive(Clone, Copy)]
+pub(crate) struct Change {
+    /// The row of its pack before it.
+    pub before: PackRow,
+    /// The number of its pack, and the places of the pack after it; None if it is about no pack.
+    pub places: Option<(usize, Places)>,
+}
+
+/// The change that the next entry of the rows makes to the table.
+pub(crate) fn change_by<A: Allocator>(rows: &Rows<A>, packs: &Packs<A>, entry: &Entry) -> Change
+    requires few { length rows.now + 1 < 2 ^ 32 }
+    requires within { AreWithin rows.now packs.now.items }
+    ensures within { AreWithin (rows.now ++ entry.now ∷ []) (changed packs.now.items result.places) }
+    ensures noted { (p : Pack) → row_in (rows.now ++ entry.now ∷ []) (changed packs.now.items result.places) p
+        ≡ pack_after p (length rows.now) entry.now (row_in rows.now packs.now.items p) }
+    ensures before { result.before ≡ row_named rows.now packs.now.items (pack_of entry.now.put.question) }
 {
     let Some(pack) = entry.put.question.pack() else {
-        return NO_ENTRIES;
+        return Change {
+            before: NO_ENTRIES,
+            places: None,
+        };
     };
-    let (index, old) = find(packs, &pack);
-    let old = old.unwrap_or(NO_ENTRIES);
-    write(packs, index, pack, row_after(place, entry, &old));
-    old
+    let number = rows.pack_number(&pack);
+    let old = places_at(packs, number);
+    let before = row_by(rows, &old);
+    let places = places_after(rows.len() as u32 + 1, entry, before.known.is_some(), &old);
+    Change {
+        before,
+        places: Some((number, places)),
+    }
+}
+
+/// Makes the change. Room was made for one more pack.
+pub(crate) fn make<A: Allocator>(packs: &mut Packs<A>, change: &Change)
+    requires { vec_len packs.old < vec_capacity packs.old }
+    ensures { packs.new.items ≡ changed packs.old.items change.now.places }
+{
+    let Some((number, places)) = change.places else {
+        return;
+    };
+    if number < packs.len() {
+        packs[number] = places;
+    } else {
+        packs.push_reserved(places);
+    }
 }

@@ -193,7 +193,7 @@ fn settled_at_last<'a, J: Naming, H: Histories>(
 fn have_lengths(rt: &impl Abort, settled: &Settled<'_, LocalHeap>, lengths: [usize; 2]) {
     assert_eq!(rt; settled.shards.len(), 2);
     for shard in 0..2 {
-        assert_eq!(rt; settled.shards[shard].trail().len(), lengths[shard]);
+        assert_eq!(rt; settled.shards[shard].len(), lengths[shard]);
     }
 }
 

@@ -79,5 +79,5 @@ fn a_supply_with_a_tag_is_put_by_one_of_four(rt: HostRuntime) {
     };
     let settled = play(&rt, &alloc, &stage, &crew);
     assert_eq!(&rt; settled.shards.len(), 1);
-    assert_eq!(&rt; settled.shards[0].trail().len(), 2);
+    assert_eq!(&rt; settled.shards[0].len(), 2);
 }

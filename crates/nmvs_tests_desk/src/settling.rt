@@ -141,7 +141,7 @@ fn have_owners(rt: &impl Abort, settled: &Settled<'_>, owners: [&[Option<Owner>]
         (2, 1, 2)
     );
     for shard in 0..2 {
-        assert_eq!(rt; settled.shards[shard].trail().len(), owners[shard].len());
+        assert_eq!(rt; settled.shards[shard].len(), owners[shard].len());
         assert_eq!(rt; settled.owners[shard].owners(), owners[shard]);
     }
 }

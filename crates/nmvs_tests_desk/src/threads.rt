@@ -18,7 +18,7 @@ use std::thread::Threads;
 fn have_lengths(rt: &impl Abort, settled: &Settled<'_>, lengths: &[usize]) {
     assert_eq!(rt; settled.shards.len(), lengths.len());
     for shard in 0..lengths.len() {
-        assert_eq!(rt; settled.shards[shard].trail().len(), lengths[shard]);
+        assert_eq!(rt; settled.shards[shard].len(), lengths[shard]);
     }
 }
 
@@ -53,7 +53,9 @@ fn replies(
     let code = pack(rt, digits).code;
     let mut replies = Vec::new(alloc);
     assert!(rt; shard < settled.shards.len());
-    for entry in settled.shards[shard].trail() {
+    let shard = &settled.shards[shard];
+    for place in 0..shard.len() {
+        let entry = shard.entry_at(place).unwrap();
         if entry.put.question.code() == code {
             replies.push(entry.reply).expect(rt, "memory");
         }

@@ -14,6 +14,8 @@ mod identifier;
 #[cfg(test)]
 mod rate;
 #[cfg(test)]
+mod rows;
+#[cfg(test)]
 mod rules;
 #[cfg(test)]
 mod stream;

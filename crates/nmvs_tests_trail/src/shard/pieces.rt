@@ -2,7 +2,7 @@
 ghost use Rattle.nmvs_tables.specs.Cursors.{IsCursorOf};
 
 use super::agreement::CODES;
-use super::{ask, at_shard, moment, pack, plain, put};
+use super::{ask, at_shard, moment, pack, plain, put, trail_of};
 use nmvs_identifier::Pack;
 use nmvs_rules::{Entry, Question};
 use nmvs_shard::{Cursor, Shard};
@@ -45,7 +45,7 @@ fn are_shown(
     entries: &[Entry],
 ) -> bool {
     let audit = put(rt, moment(rt, 0), "au1", &Question::Audit(*pack));
-    let shown = plain::shown(shard.trail(), &audit, alloc).expect(rt, "memory");
+    let shown = plain::shown(&trail_of(rt, alloc, shard), &audit, alloc).expect(rt, "memory");
     shown.as_slice() == entries
 }
 

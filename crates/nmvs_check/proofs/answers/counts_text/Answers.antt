@@ -6,5 +6,5 @@ use Rattle.nmvs_check.proofs.answers.counts_text.Goals as goal
 pub returns : goal.returns
 returns c =
     let first : c.first_repeated.result ≡ first_repeated_after [] c.args.importer.now.trail =
-    first_is c.shard-2.result.now c.first_repeated.result c.first_repeated.ensures ∙ ap (first_repeated_after []) c.shard-2.ensures in
+    first_is c.shard-shard.result.now c.first_repeated.result c.first_repeated.ensures ∙ ap (first_repeated_after []) c.shard-shard.ensures in
     search (rules, first)

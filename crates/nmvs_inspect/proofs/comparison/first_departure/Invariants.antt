@@ -3,4 +3,4 @@ use Rattle.nmvs_inspect.specs.Comparison.{HasPassed}
 use Rattle.nmvs_inspect.proofs.comparison.first_departure.Given as goal
 
 abbrev pub invariant-loop-place : goal.invariant-loop-place
-invariant-loop-place l = HasPassed l.walk (take l.place l.old) l.new
+invariant-loop-place g l = HasPassed l.walk (take l.place l.old) l.new

@@ -4,11 +4,11 @@ use Rattle.nmvs_inspect.specs.Comparison.{AreNexts, head, seek}
 use Rattle.nmvs_inspect.proofs.comparison.walk_along.Given as goal
 
 abbrev pub invariant-loop-left : goal.invariant-loop-left
-invariant-loop-left l = record {
-  within : l.left ≤ length l.entries;
-  nexts : AreNexts l.left l.entries l.nexts.items;
-  heads : (c : ProductCode) → unwrap_or (head l.heads c) (length l.entries) ≡ seek c l.entries l.left;
+invariant-loop-left g l = record {
+  within : l.left ≤ length l.shard;
+  nexts : AreNexts l.left l.shard l.nexts.items;
+  heads : (c : ProductCode) → unwrap_or (head l.heads c) (length l.shard) ≡ seek c l.shard l.left;
 }
 
 abbrev pub decreases-loop-left : goal.decreases-loop-left
-decreases-loop-left l = l.left
+decreases-loop-left g l = l.left

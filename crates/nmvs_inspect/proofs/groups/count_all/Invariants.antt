@@ -4,8 +4,8 @@ use Rattle.nmvs_inspect.specs.Groups.{Group, IsSingle, HasPartsOf, HasNumbersUpT
 use Rattle.nmvs_inspect.proofs.groups.count_all.Given as goal
 
 abbrev pub invariant-loop-place : goal.invariant-loop-place
-invariant-loop-place l = record {
-  found : (ds : List Group) × (map (λ d. d.first) ds ≡ map (λ e. e.now) (take l.place l.entries)) × All IsSingle ds × (l.groups.items ≡ groups_of l.by ds);
+invariant-loop-place g l = record {
+  found : (ds : List Group) × (map (λ d. d.first) ds ≡ take l.place l.entries) × All IsSingle ds × (l.groups.items ≡ groups_of l.by ds);
   keys : HasPartsOf l.by l.keys.keys l.groups.items;
   few : HasNumbersUpTo l.place l.groups.items;
 }
