@@ -34,6 +34,7 @@ kind_of key =
     else if bytes_eq key (codes "metrics") then Some Address
     else if bytes_eq key (codes "http") then Some Address
     else if bytes_eq key (codes "shards") then Some Number
+    else if bytes_eq key (codes "expected-packs") then Some Number
     else if bytes_eq key (codes "workers") then Some Number
     else if bytes_eq key (codes "sessions") then Some Number
     else if bytes_eq key (codes "connections") then Some Number

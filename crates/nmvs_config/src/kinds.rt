@@ -39,6 +39,7 @@ pub(crate) fn kind_of(key: &str) -> Option<Kind>
         "admin" | "log-level" | "log-format" => Some(Kind::Text),
         "listen" | "http" | "metrics" => Some(Kind::Address),
         "shards"
+        | "expected-packs"
         | "workers"
         | "sessions"
         | "connections"

@@ -6,6 +6,7 @@ use Rattle.nmvs_operator.specs.declared.options.Options.{Options}
 -- each number of a command line is in its range
 pub record AreInRange (o : Options) : Type 0 where
   pub shards : (1 ≤ o.shards) × (o.shards ≤ 8)
+  pub expected_packs : o.expected_packs ≤ 10000000000
   pub workers : (1 ≤ o.workers) × (o.workers ≤ 8)
   pub sessions : o.sessions ≤ 1000000
   pub connections : (1 ≤ o.connections) × (o.connections ≤ 100000)

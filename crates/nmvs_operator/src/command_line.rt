@@ -1,7 +1,7 @@
 //! The options that a command line may have, and their help.
 use crate::options::{
-    MOST_CONNECTION_MEMORY, MOST_CONNECTIONS, MOST_IDLE, MOST_RATE, MOST_SESSIONS, MOST_SHARDS,
-    MOST_WORKERS,
+    MOST_CONNECTION_MEMORY, MOST_CONNECTIONS, MOST_EXPECTED_PACKS, MOST_IDLE, MOST_RATE,
+    MOST_SESSIONS, MOST_SHARDS, MOST_WORKERS,
 };
 use clap::{Arg, ArgAction, Command, value_parser};
 use nmvs_identifier::LAST_MOMENT;
@@ -41,7 +41,7 @@ enum Value {
 }
 
 /// The options, in the order in which the help shows them.
-static OPTIONS: [Described; 25] = [
+static OPTIONS: [Described; 26] = [
     Described {
         name: "users",
         value: Value::Text("FILE"),
@@ -83,6 +83,12 @@ static OPTIONS: [Described; 25] = [
         value: Value::Number(1, MOST_SHARDS as i64),
         default: Some("8"),
         help: "Parts of the repository that are worked on at once, 1 to 8",
+    },
+    Described {
+        name: "expected-packs",
+        value: Value::Number(0, MOST_EXPECTED_PACKS as i64),
+        default: Some("0"),
+        help: "Packs that a start makes room for, 0 to 10000000000; up to them no table of packs grows while lines are answered",
     },
     Described {
         name: "workers",

@@ -17,6 +17,9 @@ use std::net::{IpAddr, SocketAddr};
 /// The most shards: a repository has at most 8 locks, each of a type of its own.
 pub const MOST_SHARDS: u64 = 8;
 
+/// The most packs that a start makes room for (own).
+pub const MOST_EXPECTED_PACKS: u64 = 10_000_000_000;
+
 /// The most workers: each asks by a window of the directory, which has at most 8.
 pub const MOST_WORKERS: u64 = 8;
 
@@ -51,6 +54,8 @@ pub struct Options {
     pub journal: Option<String>,
     /// How many shards the repository has, 1 to 8.
     pub shards: usize,
+    /// A start makes room for this many packs, in equal parts of the shards, 0 to 10,000,000,000.
+    pub expected_packs: u64,
     /// Worker threads, 1 to 8.
     pub workers: usize,
     /// The server ends after this many sessions for each worker in which a line was served, 0 to 1,000,000; 0 is never.
@@ -139,6 +144,7 @@ fn values_of(alloc: Global, matches: &ArgMatches<'_>) -> Result<Options, OptionF
     ensures { IfOk result AreInRange }
 {
     let shards = within(alloc, matches, "shards", 1, MOST_SHARDS)? as usize;
+    let expected_packs = within(alloc, matches, "expected-packs", 0, MOST_EXPECTED_PACKS)?;
     let workers = within(alloc, matches, "workers", 1, MOST_WORKERS)? as usize;
     let sessions = within(alloc, matches, "sessions", 0, MOST_SESSIONS)?;
     let connections = within(alloc, matches, "connections", 1, MOST_CONNECTIONS)? as usize;
@@ -165,6 +171,7 @@ fn values_of(alloc: Global, matches: &ArgMatches<'_>) -> Result<Options, OptionF
         export: None,
         journal: None,
         shards,
+        expected_packs,
         workers,
         sessions,
         connections,

@@ -31,7 +31,10 @@ fn options_have_defaults(rt: HostRuntime) {
     );
     assert_eq!(rt; (options.moment, options.stdin), (None, false));
     assert_eq!(rt; (options.connections, options.idle), (10_000, 300));
-    assert_eq!(rt; options.connection_memory, 128);
+    assert_eq!(rt;
+        (options.connection_memory, options.expected_packs),
+        (128, 0)
+    );
     assert_eq!(rt; (options.rate, options.burst), (0, 0));
     assert_eq!(rt; options.address, own(7161));
     assert!(rt; options.socket.is_none() && options.proxy.is_none() && options.journal.is_none());
@@ -68,6 +71,7 @@ fn all_options_are_taken_together(rt: HostRuntime) {
         "--import=I",
         "--export=E",
         "--shards=1",
+        "--expected-packs=10000000000",
         "--workers=8",
         "--sessions=1000000",
         "--connections=100000",
@@ -93,7 +97,10 @@ fn all_options_are_taken_together(rt: HostRuntime) {
     );
     assert!(rt; options.stdin);
     assert_eq!(rt; (options.connections, options.idle), (100_000, 86_400));
-    assert_eq!(rt; options.connection_memory, 1_048_576);
+    assert_eq!(rt;
+        (options.connection_memory, options.expected_packs),
+        (1_048_576, 10_000_000_000)
+    );
     assert_eq!(rt; (options.rate, options.burst), (1_000_000, 1));
     assert!(rt; is_path(&options.socket, "S"));
     assert_eq!(rt; options.proxy, Some(NameOf::Authorisation));
@@ -155,6 +162,8 @@ fn other_lines_are_refused(rt: HostRuntime) {
     for word in [
         "--shards=9",
         "--shards=0",
+        "--expected-packs=10000000001",
+        "--expected-packs=-1",
         "--workers=0",
         "--workers=9",
         "--sessions=1000001",
