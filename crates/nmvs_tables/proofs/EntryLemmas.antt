@@ -1,9 +1,11 @@
 -- The entries of a table after a write.
-use Rattle.std.proofs.Common.{◌≡◌, true≢false, ℕ, ◌<◌, Bool, true, false, cond, List, [], ◌∷◌, length, Some, None, position, refl, sym, ap, ◌∙◌}
+use Rattle.std.proofs.Common.{◌≡◌, true≢false, ℕ, ◌<◌, Bool, true, false, cond, List, [], ◌∷◌, length, Some, None, position, slice_get, refl, sym, ap, ◌∙◌}
 use Rattle.std.specs.Cmp.{IsEquivalence}
+use Rattle.std.specs.List.{IsDistinct}
 use Rattle.std.specs.Map.{lookup, keys_of}
 use Rattle.indexmap.specs.IndexMap.{insert_entry, set_value_at}
-use Rattle.indexmap.proofs.MapLemmas.{Found-position, insert_entry-first}
+use Rattle.indexmap.proofs.MapLemmas.{Found-position, index-first, insert_entry-first}
+use Rattle.indexmap.proofs.RemoveLemmas.{own_first}
 
 twice : {X : Type 0} (b : Bool) (x y z : X) → cond b x z ≡ cond b x (cond b y z)
 twice true x y z = refl
@@ -37,6 +39,17 @@ module _ {K X : Type 0} {eq : K → K → Bool} (laws : IsEquivalence eq) (k : K
 -- a write at the index of a key
 pub set_value_at-found : {K X : Type 0} (eq : K → K → Bool) (k : K) (v : X) (es : List (K × X)) (i : ℕ) → Some i ≡ position (eq k) (keys_of es) → set_value_at es i v ≡ insert_entry eq es k v
 set_value_at-found eq k v es i found = sym (insert_entry-first eq k v es i (Found-position (eq k) es i (sym found)).first)
+
+-- a key that equals the one at an index has that index, and its value
+module _ {K X : Type 0} {eq : K → K → Bool} (laws : IsEquivalence eq) (k q : K) (same : eq k q ≡ true) (es : List (K × X)) where
+  alike : eq k ≡ eq q
+  alike = λ j x. laws.congr k q x same j
+
+  pub near-index : (i : ℕ) (v : X) → IsDistinct eq (keys_of es) → slice_get es i ≡ Some (k, v) → Some i ≡ position (eq q) (keys_of es)
+  near-index i v distinct at = sym (index-first (eq k) es i (own_first eq laws es i k v distinct at)) ∙ ap (λ (t : K → Bool). position t (keys_of es)) alike
+
+  pub near-value : lookup (eq k) es ≡ lookup (eq q) es
+  near-value = ap (λ (t : K → Bool). lookup t es) alike
 
 pub index-within : {K X : Type 0} (eq : K → K → Bool) (k : K) (es : List (K × X)) (i : ℕ) → Some i ≡ position (eq k) (keys_of es) → i < length es
 index-within eq k es i found = (Found-position (eq k) es i (sym found)).within

@@ -75,6 +75,11 @@ pub record ArePacksOf (ws : List Places) (t : List Entry) : Type 0 where
 abbrev pub record_by : PackRow → Option PackRecord
 record_by r = if r.about == 0 then None else Some (record { about = r.about; known = r.known })
 
+-- the number of the pack that a question names, among those that the entries name; 0 if it names none
+abbrev pub number_named : List Entry → Option Pack → ℕ
+number_named t None = 0
+number_named t (Some p) = number_in (packs_of t) p
+
 -- the row of the pack that a question names, in a table
 abbrev pub row_named : List Entry → List Places → Option Pack → PackRow
 row_named t ws None = no_entries

@@ -9,7 +9,7 @@ ghost use Rattle.nmvs_tables.specs.Batches.{same_batch, batch_named_in, batch_in
 
 use crate::HashKey;
 use crate::counts::counts_after;
-use crate::writes::{find, write};
+use crate::writes::{find, find_near, write};
 use indexmap::IndexMap;
 use nmvs_identifier::{Batch, ProductCode};
 use nmvs_rules::{BatchLock, BatchRecord, Counts, Entry, Known, OwnStatus, Question};
@@ -31,25 +31,46 @@ pub(crate) fn record_of<A: Allocator>(batches: &Batches<A>, key: &BatchKey) -> O
     batches.get(key).copied()
 }
 
-/// The record of the batch that a recall or withdrawal names, or else that of the known pack.
-pub(crate) fn record_named<A: Allocator>(
+/// The record of a batch, and the index at which the batch likely stands.
+#[derive(Clone, Copy)]
+pub(crate) struct Sought {
+    pub index: usize,
+    pub value: Option<BatchRecord>,
+}
+
+/// Searches for a batch.
+fn seek_key<A: Allocator>(batches: &Batches<A>, key: &BatchKey) -> Sought
+    ensures { result.value ≡ get same_batch batches.now key.now }
+{
+    let (index, value) = find(batches, key);
+    Sought {
+        index: index.unwrap_or(0),
+        value,
+    }
+}
+
+/// Searches for the batch that a recall or withdrawal names, or else for that of the known pack.
+pub(crate) fn seek<A: Allocator>(
     batches: &Batches<A>,
     question: &Question,
     known: &Option<Known>,
-) -> Option<BatchRecord>
-    ensures { result ≡
+) -> Sought
+    ensures { result.value ≡
         batch_named_in batches.now (code_of question.now) (locked_batch question.now) known.now }
 {
     let batch = match (question.locked_batch(), known) {
         (Some(batch), _) => batch,
         (None, Some(known)) => known.batch,
-        (None, None) => return None,
+        (None, None) => return Sought {
+            index: 0,
+            value: None,
+        },
     };
     let key = BatchKey {
         code: question.code(),
         batch,
     };
-    record_of(batches, &key)
+    seek_key(batches, &key)
 }
 
 /// The batch that an accepted question changes, about a pack that is known or not.
@@ -126,40 +147,41 @@ fn record_after(old: &BatchRecord, question: &Question, known: &Option<Known>) -
     }
 }
 
-/// Notes an entry about a pack that was known before it or not. Room was made for its batch. Returns the batch of which the
-/// entry is the first accepted upload, if any.
+/// Notes an entry about a pack that was known before it or not. Room was made for its batch, which likely stands at an index.
+/// Returns the batch of which the entry is the first accepted upload, if any.
 pub(crate) fn note<A: Allocator>(
     batches: &mut Batches<A>,
     entry: &Entry,
-    known: Option<Known>,
+    known: &Option<Known>,
+    likely: usize,
 ) -> Option<BatchKey>
     requires room { 0 < spare batches.old }
-    requires from { (b : BatchKey) → changes_batch b entry.now known ≡ true →
-        ForSome (own_before known) (λ own. 1 ≤ count_in (batch_in batches.old b).counts own) }
+    requires from { (b : BatchKey) → changes_batch b entry.now known.now ≡ true →
+        ForSome (own_before known.now) (λ own. 1 ≤ count_in (batch_in batches.old b).counts own) }
     requires to { (b : BatchKey) → (own : OwnStatus) →
         count_in (batch_in batches.old b).counts own + 1 < 2 ^ 64 }
-    ensures changed { (b : BatchKey) → changes_batch b entry.now known ≡ true →
+    ensures changed { (b : BatchKey) → changes_batch b entry.now known.now ≡ true →
         IsSomeAnd (get same_batch batches.new b) (λ r.
-        NotesBatch entry.now.put.question known (batch_in batches.old b) r) }
-    ensures others { (b : BatchKey) → changes_batch b entry.now known ≡ false →
+        NotesBatch entry.now.put.question known.now (batch_in batches.old b) r) }
+    ensures others { (b : BatchKey) → changes_batch b entry.now known.now ≡ false →
         get same_batch batches.new b ≡ get same_batch batches.old b }
     ensures order { keys batches.new ≡
-        batches_after (keys batches.old) (batch_changed entry.now known) }
-    ensures first { result ≡ first_of (keys batches.old) (batch_changed entry.now known) }
+        batches_after (keys batches.old) (batch_changed entry.now known.now) }
+    ensures first { result ≡ first_of (keys batches.old) (batch_changed entry.now known.now) }
 {
     if !entry.is_accepted() {
         return None;
     }
-    let Some(key) = batch_meant(&entry.put.question, &known) else {
+    let Some(key) = batch_meant(&entry.put.question, known) else {
         return None;
     };
-    let (index, old) = find(batches, &key);
+    let (index, old) = find_near(batches, &key, likely);
     let old = old.unwrap_or(NO_PACKS);
     write(
         batches,
         index,
         key,
-        record_after(&old, &entry.put.question, &known),
+        record_after(&old, &entry.put.question, known),
     );
     index.is_none().then_some(key)
 }

@@ -5,7 +5,7 @@ ghost use Rattle.nmvs_identifier.specs.ProductCode.{ProductCode};
 ghost use Rattle.nmvs_tables.specs.Codes.{code_in, code_noted, code_after};
 
 use crate::HashKey;
-use crate::writes::{find, write};
+use crate::writes::{find, find_near, write};
 use indexmap::IndexMap;
 use nmvs_identifier::{Name, ProductCode};
 use nmvs_rules::{Entry, Question, Reply};
@@ -37,6 +37,24 @@ pub(crate) fn record_of<A: Allocator>(codes: &Codes<A>, code: &ProductCode) -> C
     codes.get(code).copied().unwrap_or(NO_CODE)
 }
 
+/// The record of a product code, and the index at which the product code likely stands.
+#[derive(Clone, Copy)]
+pub(crate) struct Sought {
+    pub index: usize,
+    pub value: CodeRecord,
+}
+
+/// Searches for a product code.
+pub(crate) fn seek<A: Allocator>(codes: &Codes<A>, code: &ProductCode) -> Sought
+    ensures { result.value ≡ code_in codes.now code.now }
+{
+    let (index, value) = find(codes, code);
+    Sought {
+        index: index.unwrap_or(0),
+        value: value.unwrap_or(NO_CODE),
+    }
+}
+
 impl CodeRecord {
     /// The record after an entry that names the product code, or None if the entry leaves it as it is.
     fn changed_by(&self, entry: &Entry) -> Option<CodeRecord>
@@ -65,8 +83,8 @@ impl CodeRecord {
     }
 }
 
-/// Notes an entry. Room was made for its product code.
-pub(crate) fn note<A: Allocator>(codes: &mut Codes<A>, entry: &Entry)
+/// Notes an entry, whose product code likely stands at an index. Room was made for its product code.
+pub(crate) fn note<A: Allocator>(codes: &mut Codes<A>, entry: &Entry, likely: usize)
     requires room { 0 < spare codes.old }
     requires alerts { (c : ProductCode) → (code_in codes.old c).alerts + 1 < 2 ^ 64 }
     requires flagged { (c : ProductCode) → (code_in codes.old c).flagged + 1 < 2 ^ 64 }
@@ -74,7 +92,7 @@ pub(crate) fn note<A: Allocator>(codes: &mut Codes<A>, entry: &Entry)
         code_in codes.new c ≡ code_after c entry.now (code_in codes.old c) }
 {
     let code = entry.put.question.code();
-    let (index, old) = find(codes, &code);
+    let (index, old) = find_near(codes, &code, likely);
     let old = old.unwrap_or(NO_CODE);
     if let Some(record) = old.changed_by(entry) {
         write(codes, index, code, record);

@@ -3,7 +3,8 @@ ghost use Rattle.std.specs.Prelude.{◌≡◌, ◌+◌, ◌<◌, ◌≤◌, ◌^
 ghost use Rattle.nmvs_identifier.specs.declared.pack.Pack.{Pack};
 ghost use Rattle.nmvs_rules.specs.Questions.{pack_of};
 ghost use Rattle.nmvs_rules.specs.Trail.{marked_by};
-ghost use Rattle.nmvs_tables.specs.Packs.{AreWithin, changed, known_by, places_at, places_in, row_in, row_by, row_named, record_by, places_after, pack_after};
+ghost use Rattle.std.specs.Option.{is_some};
+ghost use Rattle.nmvs_tables.specs.Packs.{AreWithin, changed, known_by, number_named, places_at, places_in, row_in, row_by, row_named, record_by, places_after, pack_after};
 
 use nmvs_identifier::Pack;
 use nmvs_rows::Rows;
@@ -123,17 +124,35 @@ pub(crate) fn record_of<A: Allocator>(
     }
 }
 
-/// The row of the pack that a question names, or one of no entries.
-pub(crate) fn row_named<A: Allocator>(
-    rows: &Rows<A>,
-    packs: &Packs<A>,
-    question: &Question,
-) -> PackRow
-    ensures { result ≡ row_named rows.now packs.now.items (pack_of question.now) }
+/// The result of a search for the pack that a question names.
+#[derive(Clone, Copy)]
+pub(crate) struct Sought {
+    /// The number of the pack; 0 if the question names none.
+    pub number: usize,
+    /// The place of its upload, or 0.
+    pub upload: usize,
+    /// The row of the pack, or one of no entries.
+    pub row: PackRow,
+}
+
+/// Searches for the pack that a question names.
+pub(crate) fn seek<A: Allocator>(rows: &Rows<A>, packs: &Packs<A>, question: &Question) -> Sought
+    ensures number { result.number ≡ number_named rows.now (pack_of question.now) }
+    ensures row { result.row ≡ row_named rows.now packs.now.items (pack_of question.now) }
 {
-    match question.pack() {
-        Some(pack) => row_of(rows, packs, &pack),
-        None => NO_ENTRIES,
+    let Some(pack) = question.pack() else {
+        return Sought {
+            number: 0,
+            upload: 0,
+            row: NO_ENTRIES,
+        };
+    };
+    let number = rows.pack_number(&pack);
+    let places = places_at(packs, number);
+    Sought {
+        number,
+        upload: places.upload.saturating_sub(1) as usize,
+        row: row_by(rows, &places),
     }
 }
 
@@ -159,46 +178,37 @@ fn places_after(count: u32, entry: &Entry, is_known: bool, old: &Places) -> Plac
     }
 }
 
-/// The change that an entry makes to the table of packs.
-#[derive(Clone, Copy)]
-pub(crate) struct Change {
-    /// The row of its pack before it.
-    pub before: PackRow,
-    /// The number of its pack, and the places of the pack after it; None if it is about no pack.
-    pub places: Option<(usize, Places)>,
-}
-
-/// The change that the next entry of the rows makes to the table.
-pub(crate) fn change_by<A: Allocator>(rows: &Rows<A>, packs: &Packs<A>, entry: &Entry) -> Change
+/// The change that the next entry of the rows makes to the table: the number of its pack, and the places of the pack after it.
+/// None if it is about no pack. The pack's number was found, and whether the pack is known.
+pub(crate) fn change_by<A: Allocator>(
+    rows: &Rows<A>,
+    packs: &Packs<A>,
+    entry: &Entry,
+    number: usize,
+    is_known: bool,
+) -> Option<(usize, Places)>
     requires few { length rows.now + 1 < 2 ^ 32 }
     requires within { AreWithin rows.now packs.now.items }
-    ensures within { AreWithin (rows.now ++ entry.now ∷ []) (changed packs.now.items result.places) }
-    ensures noted { (p : Pack) → row_in (rows.now ++ entry.now ∷ []) (changed packs.now.items result.places) p
+    requires number { number ≡ number_named rows.now (pack_of entry.now.put.question) }
+    requires known { is_known ≡ is_some (row_named rows.now packs.now.items (pack_of entry.now.put.question)).known }
+    ensures within { AreWithin (rows.now ++ entry.now ∷ []) (changed packs.now.items result) }
+    ensures noted { (p : Pack) → row_in (rows.now ++ entry.now ∷ []) (changed packs.now.items result) p
         ≡ pack_after p (length rows.now) entry.now (row_in rows.now packs.now.items p) }
-    ensures before { result.before ≡ row_named rows.now packs.now.items (pack_of entry.now.put.question) }
 {
-    let Some(pack) = entry.put.question.pack() else {
-        return Change {
-            before: NO_ENTRIES,
-            places: None,
-        };
+    let Some(_pack) = entry.put.question.pack() else {
+        return None;
     };
-    let number = rows.pack_number(&pack);
     let old = places_at(packs, number);
-    let before = row_by(rows, &old);
-    let places = places_after(rows.len() as u32 + 1, entry, before.known.is_some(), &old);
-    Change {
-        before,
-        places: Some((number, places)),
-    }
+    let places = places_after(rows.len() as u32 + 1, entry, is_known, &old);
+    Some((number, places))
 }
 
 /// Makes the change. Room was made for one more pack.
-pub(crate) fn make<A: Allocator>(packs: &mut Packs<A>, change: &Change)
+pub(crate) fn make<A: Allocator>(packs: &mut Packs<A>, change: Option<(usize, Places)>)
     requires { vec_len packs.old < vec_capacity packs.old }
-    ensures { packs.new.items ≡ changed packs.old.items change.now.places }
+    ensures { packs.new.items ≡ changed packs.old.items change }
 {
-    let Some((number, places)) = change.places else {
+    let Some((number, places)) = change else {
         return;
     };
     if number < packs.len() {

@@ -20,6 +20,25 @@ pub(crate) fn find<K: Eq + Hash, V: Copy, S: BuildHasher, A: Allocator>(
     }
 }
 
+/// The index and the value of a key, as `find` gives them. The key is searched for only if it does not stand at the likely
+/// index.
+pub(crate) fn find_near<K: Eq + Hash, V: Copy, S: BuildHasher, A: Allocator>(
+    table: &IndexMap<K, V, S, A>,
+    key: &K,
+    likely: usize,
+) -> (Option<usize>, Option<V>)
+    ensures index { result.0 ≡ index_of K.eq table.now key.now }
+    ensures value { result.1 ≡ get K.eq table.now key.now }
+{
+    if likely < table.len() {
+        let (found, value) = table.get_index(likely).unwrap();
+        if *found == *key {
+            return (Some(likely), Some(*value));
+        }
+    }
+    find(table, key)
+}
+
 /// Gives a key its value. Room was made for it.
 pub(crate) fn insert<K: Eq + Hash + Copy, V: Copy, S: BuildHasher, A: Allocator>(
     table: &mut IndexMap<K, V, S, A>,
