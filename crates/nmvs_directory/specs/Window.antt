@@ -5,6 +5,7 @@ use Rattle.nmvs_identifier.specs.Name.{Name}
 use Rattle.nmvs_directory.specs.Known.{known}
 use Rattle.nmvs_directory.specs.declared.change.Change.{Change}
 use Rattle.nmvs_directory.specs.declared.look.Look.{Look}
+use Rattle.nmvs_directory.specs.declared.window.Looked.{Looked}
 use Rattle.nmvs_directory.specs.declared.look.Look.TheVariants.{Closed}
 
 -- a window that had seen one list of changes looked up a user: it then has a list that begins with the former, by which
@@ -16,3 +17,7 @@ Reads before after user look =
 -- a window that saw nothing and learned of nothing (own)
 abbrev pub IsFresh : List Change → Type 0
 IsFresh seen = seen ≡ []
+
+-- the answer about a user by these changes
+abbrev pub IsLooked : List Change → Looked → Type 0
+IsLooked seen looked = looked.look ≡ known seen looked.user

@@ -67,6 +67,7 @@ fn shows_changes<J: Naming, R: Wait + Abort>(
     tell(rt, registrar, window);
     shows(rt, window, "ph1", Look::Known(pharmacy(rt, "PH-1")));
     shows(rt, window, "zed", Look::Nobody);
+    shows(rt, window, "zed", Look::Nobody);
     suspend(rt, registrar, "ph1");
     shows(rt, window, "ph1", Look::Known(pharmacy(rt, "PH-1")));
     tell(rt, registrar, window);
@@ -247,10 +248,14 @@ fn publish_all<J: Naming, R: Wait + Abort>(
     }
 }
 
-/// Looks again and again, and tells whether the numbers never fell.
-fn look_all<J: Naming>(window: &mut Window<J, Global>, user: &Name) -> bool {
+/// Looks again and again, and tells whether the numbers never fell. It looks up another user in turn, so that the window reads
+/// the published users each time.
+fn look_all<J: Naming>(window: &mut Window<J, Global>, user: &Name, other: &Name) -> bool {
     let mut most = 0;
     for _round in 0..10_000u64 {
+        if window.look(other) != Look::Nobody {
+            return false;
+        }
         match number_of(window.look(user)) {
             Some(number) if most <= number => most = number,
             _ => return false,
@@ -265,8 +270,13 @@ fn look_through_both<J: Naming + Send + Sync, R: Threads + Sync>(
     one: &mut Window<J, Global>,
     other: &mut Window<J, Global>,
     user: &Name,
+    nobody: &Name,
 ) -> (bool, bool) {
-    thread::join(rt, || look_all(one, user), || look_all(other, user))
+    thread::join(
+        rt,
+        || look_all(one, user, nobody),
+        || look_all(other, user, nobody),
+    )
 }
 
 /// Looks through both windows while changes are published. No number falls.
@@ -278,10 +288,11 @@ fn look_while_publishing<J: Naming + Send + Sync, R: Threads + Wait + Abort + Sy
     other: &mut Window<J, Global>,
     user: &Name,
 ) {
+    let nobody = name(rt, "zed");
     let (_published, rise) = thread::join(
         rt,
         || publish_all(rt, alloc, registrar, user),
-        || look_through_both(rt, one, other, user),
+        || look_through_both(rt, one, other, user, &nobody),
     );
     assert!(rt; rise == (true, true));
 }
