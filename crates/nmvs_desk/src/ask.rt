@@ -169,8 +169,32 @@ impl<'a, J: Naming, H: Histories, B: Allocator> Clerk<'a, J, H, B> {
         ensures untagged { put.now.tag ≡ None → printed.now ≡ None → IfOk result (λ r. WasPut r.0) }
         ensures unchanged { OnErr result (self.new ≡ self.old) }
     {
-        make_room(&mut self.receipts, self.keeps)?;
         let shard = repository.shard_of(&put.question.code());
+        self.ask_in(rt, repository, shard, put, printed)
+    }
+
+    /// Asks a question, as `ask`, of a caller that has reckoned the shard of its product code.
+    ///
+    /// # Errors
+    ///
+    /// `AllocError` if a growth was refused.
+    pub fn ask_in<R: Wait>(
+        &mut self,
+        rt: &R,
+        repository: &Repository<'a, H, B>,
+        shard: usize,
+        put: &Put,
+        printed: &Option<Printed>,
+    ) -> Result<(Outcome, Option<Shown<H>>), AllocError>
+        requires shard { shard ≡ shard_of repository.now.shards (code_of put.now.question) }
+        requires below { shard < repository.now.shards }
+        requires named { repository.now.shards ≡ H.shards }
+        ensures answers { let count = repository.now.shards in
+            IfOk result (λ r. Answers count (shard_of count (code_of put.now.question)) put.now printed.now self.old self.new r.0 (entries_left (λ s. s) r.1)) }
+        ensures untagged { put.now.tag ≡ None → printed.now ≡ None → IfOk result (λ r. WasPut r.0) }
+        ensures unchanged { OnErr result (self.new ≡ self.old) }
+    {
+        make_room(&mut self.receipts, self.keeps)?;
         let slot = repository.slot(shard);
         let (outcome, sight) = slot.ask(rt, &mut self.tokens[shard], put, printed)?;
         keep(&mut self.receipts, self.keeps, shard, put, &outcome);
@@ -255,6 +279,21 @@ fn keep<A: Allocator>(
         receipts.clear();
         return;
     }
+    keep_new(receipts, shard, put, outcome);
+}
+
+/// Keeps the receipt of a question that was put in the shard. There is room for it. It stands apart from the path of a clerk
+/// that keeps none, whose frame stays small.
+#[inline(never)]
+fn keep_new<A: Allocator>(
+    receipts: &mut Vec<Receipt, A>,
+    shard: usize,
+    put: &Put,
+    outcome: &Outcome,
+)
+    requires { vec_len receipts.old < vec_capacity receipts.old }
+    ensures { receipts.new.items ≡ receipts_then true receipts.old.items shard put.now outcome.now }
+{
     match outcome {
         Outcome::New(answered) => receipts.push_reserved(Receipt {
             shard,
