@@ -1,5 +1,5 @@
 //! The program's desk.
-ghost use Rattle.std.specs.Prelude.{◌≡◌, ◌⊎◌, ◌++◌, List, codes, true, length, string_bytes, IfSome};
+ghost use Rattle.std.specs.Prelude.{◌≡◌, ◌⊎◌, ◌++◌, List, Some, codes, true, length, string_bytes, IfSome};
 ghost use Rattle.std.specs.Option.{is_some};
 ghost use Rattle.nmvs_messages.specs.declared.answer.Content.TheVariants.{Reported};
 ghost use Rattle.nmvs_messages.specs.declared.answer.Turn.TheVariants as turns;
@@ -173,7 +173,7 @@ impl<'r, 'a, R: Wait + rt::Clock + Log, J: Naming, H: Histories, K: Clock> Clerk
             }
             Asked::Conditional(user, kind, pack, printed) => {
                 let put = put_at(moment, user, actor, kind.naming(*pack), ask.tag);
-                self.ask(&put, &Some(*printed))
+                self.ask_conditional(&put, printed)
             }
             Asked::Report(_, code) => self.report(code, ask.tag),
         }
@@ -190,7 +190,7 @@ impl<'r, 'a, R: Wait + rt::Clock + Log, J: Naming, H: Histories, K: Clock> Clerk
     {
         let (rt, repository) = (self.rt, self.repository);
         let shard = repository.shard_of(&put.question.code());
-        match self.clerk.ask(rt, repository, put, printed) {
+        match self.clerk.ask_in(rt, repository, shard, put, printed) {
             Ok((outcome, list)) => {
                 note_put(rt, &self.metrics, self.alerts, shard, put, &outcome);
                 answer_by(shard, outcome, list)
@@ -199,7 +199,22 @@ impl<'r, 'a, R: Wait + rt::Clock + Log, J: Naming, H: Histories, K: Clock> Clerk
         }
     }
 
+    /// Asks a question as `ask`, if its pack was not uploaded with other values than these printed ones. It stands apart, as
+    /// `report`, from the path of a plain question, whose frame stays small.
+    #[inline(never)]
+    fn ask_conditional(
+        &mut self,
+        put: &Put,
+        printed: &Printed,
+    ) -> (Content, Option<Basis>, Option<Following<Shown<H>>>)
+        ensures answers { AnswersQuestion self.old put.now (Some printed.now) result.0 result.1 self.new }
+        ensures shows { content_shown result.0 ≡ text_left (following_text export_text) result.2 }
+    {
+        self.ask(put, &Some(*printed))
+    }
+
     /// Reports on a product code, to a line with this tag, if it has one. It waits for the code's shard, and nothing is recorded.
+    #[inline(never)]
     fn report(
         &mut self,
         code: &ProductCode,
