@@ -13,6 +13,7 @@ use nmvs_recovery::{FileFault, Paths, Run, Unwaited, export, mark, mark_users};
 use nmvs_shard::Shard;
 use nmvs_stream::{Sink, deliver};
 use std::alloc::Global;
+use std::sync::atomic::Ordering;
 
 /// Marks all of the trail as confirmed, if there is a log of this machine.
 pub(crate) fn mark_all<'r, 'o, R: Host>(
@@ -23,6 +24,9 @@ pub(crate) fn mark_all<'r, 'o, R: Host>(
     let Some(paths) = paths else {
         return Ok(());
     };
+    if config.is_fenced.load(Ordering::SeqCst) {
+        return Err(Fault::File(FileFault::Fenced));
+    }
     match confirmed {
         Ok(count) => {
             config.metrics.note_all_confirmed();
@@ -31,7 +35,6 @@ pub(crate) fn mark_all<'r, 'o, R: Host>(
             }
             mark_end(config, paths, count)
         }
-        Err(Unconfirmed) if is_shared(config) => Err(Fault::File(FileFault::Fenced)),
         Err(Unconfirmed) => Err(Fault::JournalUnwritten(paths.folder)),
     }
 }

@@ -27,6 +27,8 @@ pub(crate) struct Config<'r, 'o, R> {
     pub(crate) alerts: Alerts,
     /// Whether the console is to give no further command.
     pub(crate) interrupt: &'r AtomicBool,
+    /// Whether the log was lost to the server of another machine, or its engine was.
+    pub(crate) is_fenced: AtomicBool,
 }
 
 /// An open server, which its workers share. `J` names its directory of users, `H` the histories of its shards, and its log.
