@@ -10,13 +10,14 @@ use Rattle.std.proofs.lemmas.List.{take_all, length-take-le}
 use Rattle.nmvs_messages.specs.declared.command.Command.TheVariants.{Enrol, Suspend, Remove}
 use Rattle.nmvs_messages.specs.declared.command.CommandFault.{CommandFault}
 use Rattle.nmvs_messages.specs.declared.command.CommandFault.TheVariants as fault
+use Rattle.nmvs_messages.specs.Commands.{fields_fault}
 use Rattle.nmvs_messages.specs.Fields.{fields_in}
 use Rattle.nmvs_messages.specs.PendingLines.{kept_part}
 use Rattle.nmvs_messages.proofs.CommandLemmas.{fields_fault-take}
 use Rattle.nmvs_messages.proofs.FieldLemmas.{line_of_kept}
 use Rattle.nmvs_operator.specs.declared.order.Order.{Order}
 use Rattle.nmvs_operator.specs.declared.order.Order.TheVariants as orders
-use Rattle.nmvs_operator.specs.Orders.{ReadsOrder, order_fields, is_order, order_fault, listing_fault, change_fault, export_fault, alone_fault, first_order_fault}
+use Rattle.nmvs_operator.specs.Orders.{ReadsOrder, order_fields, is_order, order_fault, listing_fault, change_fault, turn_fault, over_fault, export_fault, alone_fault, first_order_fault}
 
 few_fields : (o : Order) → length (order_fields o) < 8
 few_fields (orders.Change (Enrol user actor)) = lit≤ tt
@@ -27,6 +28,8 @@ few_fields (orders.Export path) = lit≤ tt
 few_fields orders.Users = lit≤ tt
 few_fields (orders.Count topic) = lit≤ tt
 few_fields orders.Stop = lit≤ tt
+few_fields orders.TakeOver = lit≤ tt
+few_fields orders.HandOver = lit≤ tt
 few_fields orders.Help = lit≤ tt
 
 -- a line whose fields are read as an order, or have this fault, is read so
@@ -44,10 +47,22 @@ alone_fault-take : (texts : List (List ℕ)) → alone_fault (take 7 texts) ≡ 
 alone_fault-take [] = refl
 alone_fault-take (a ∷ texts) = refl
 
+over_fault-take : (texts : List (List ℕ)) → over_fault (take 7 texts) ≡ over_fault texts
+over_fault-take [] = refl
+over_fault-take (a ∷ []) = refl
+over_fault-take (a ∷ b ∷ texts) = refl
+
+turn_fault-take : (fs : List (List ℕ)) → turn_fault (take 8 fs) ≡ turn_fault fs
+unfolding turn_fault
+turn_fault-take [] = refl
+turn_fault-take (word ∷ texts) = λ i.
+    cond (bytes_eq word (codes "TAKE")) (over_fault-take texts i)
+    (cond (bytes_eq word (codes "HAND")) (over_fault-take texts i) (fields_fault-take (word ∷ texts) i))
+
 change_fault-take : (fs : List (List ℕ)) → change_fault (take 8 fs) ≡ change_fault fs
 unfolding change_fault
 change_fault-take [] = refl
-change_fault-take (word ∷ texts) = λ i. cond (bytes_eq word (codes "RELOAD")) (alone_fault-take texts i) (fields_fault-take (word ∷ texts) i)
+change_fault-take (word ∷ texts) = λ i. cond (bytes_eq word (codes "RELOAD")) (alone_fault-take texts i) (turn_fault-take (word ∷ texts) i)
 
 listing_fault-take : (fs : List (List ℕ)) → listing_fault (take 8 fs) ≡ listing_fault fs
 unfolding listing_fault
@@ -73,6 +88,14 @@ differs xs ys other = by (bytes_eq xs ys) (bytes_eq-Decides xs ys)
     by : (b : Bool) → Decides b (xs ≡ ys) → b ≡ false
     by true d = absurd (other (d.0 refl))
     by false d = refl
+
+-- an order that is not about the turn has the fault of its fields
+pub turn_fault-fields : {B : Type 0} (now : B → List ℕ) (fields : List B) (d : B) → 1 ≤ length fields → now (get_or fields 0 d) ≢ codes "TAKE"
+    → now (get_or fields 0 d) ≢ codes "HAND" → fields_fault (map now fields) ≡ turn_fault (map now fields)
+unfolding turn_fault
+turn_fault-fields now [] d some takes hands = absurd (omega (arith, some))
+turn_fault-fields now (word ∷ texts) d some takes hands =
+    rw (differs (now word) (codes "TAKE") takes, differs (now word) (codes "HAND") hands) refl
 
 -- an order that asks for no lines has the fault of a change
 pub listing_fault-change : {B : Type 0} (now : B → List ℕ) (fields : List B) (d : B) → 1 ≤ length fields → now (get_or fields 0 d) ≢ codes "USERS"

@@ -24,6 +24,8 @@ order_fields (orders.Export path) = codes "EXPORT" ∷ path.now ∷ []
 order_fields orders.Users = codes "USERS" ∷ []
 order_fields (orders.Count topic) = topic_word topic ∷ []
 order_fields orders.Stop = codes "STOP" ∷ []
+order_fields orders.TakeOver = codes "TAKE" ∷ codes "OVER" ∷ []
+order_fields orders.HandOver = codes "HAND" ∷ codes "OVER" ∷ []
 order_fields orders.Help = codes "HELP" ∷ []
 
 -- the line of an order, without LF
@@ -38,6 +40,8 @@ is_order (orders.Export path) = true
 is_order orders.Users = true
 is_order (orders.Count topic) = true
 is_order orders.Stop = true
+is_order orders.TakeOver = true
+is_order orders.HandOver = true
 is_order orders.Help = true
 
 -- the first fault of an export with these texts after its word
@@ -50,12 +54,25 @@ abbrev pub alone_fault : List (List ℕ) → Option CommandFault
 alone_fault [] = None
 alone_fault _ = Some fault.Fields
 
+-- the first fault of these texts after a word that OVER alone follows
+abbrev pub over_fault : List (List ℕ) → Option CommandFault
+over_fault (text ∷ []) = if bytes_eq text (codes "OVER") then None else Some fault.Fields
+over_fault _ = Some fault.Fields
+
+-- the first fault of these fields, of an order about the turn of the server or of one that changes a user
+unfoldable pub turn_fault : List (List ℕ) → Option CommandFault
+turn_fault [] = Some fault.Word
+turn_fault (word ∷ texts) =
+    if bytes_eq word (codes "TAKE") then over_fault texts
+    else if bytes_eq word (codes "HAND") then over_fault texts
+    else fields_fault (word ∷ texts)
+
 -- the first fault of these fields, of an order that changes the users
 unfoldable pub change_fault : List (List ℕ) → Option CommandFault
 change_fault [] = Some fault.Word
 change_fault (word ∷ texts) =
     if bytes_eq word (codes "RELOAD") then alone_fault texts
-    else fields_fault (word ∷ texts)
+    else turn_fault (word ∷ texts)
 
 -- the first fault of these fields, of an order that asks for lines or changes the users
 unfoldable pub listing_fault : List (List ℕ) → Option CommandFault

@@ -2,7 +2,7 @@
 ghost use Rattle.std.specs.Prelude.{◌≡◌, [], ◌∷◌, map, IfOk, OnOk, IsTrue, codes};
 ghost use Rattle.std.specs.Result.{result_err};
 ghost use Rattle.nmvs_messages.specs.Commands.{fields_fault};
-ghost use Rattle.nmvs_operator.specs.Orders.{ReadsOrder, order_fields, is_order, order_fault, listing_fault, change_fault, alone_fault, export_fault};
+ghost use Rattle.nmvs_operator.specs.Orders.{ReadsOrder, order_fields, is_order, order_fault, listing_fault, change_fault, turn_fault, over_fault, alone_fault, export_fault};
 
 use crate::Topic;
 use nmvs_messages::{Command, CommandFault, command_of, fields_of};
@@ -22,6 +22,10 @@ pub enum Order<'l> {
     Count(Topic),
     /// The end of the server.
     Stop,
+    /// To answer in place of the server of another machine.
+    TakeOver,
+    /// To end, so that the server of another machine answers.
+    HandOver,
     /// The list of the orders.
     Help,
 }
@@ -131,8 +135,42 @@ fn read_change<'l>(fields: &[&'l str]) -> Result<Order<'l>, CommandFault>
                 stands_alone(texts)?;
                 Ok(Order::Reload)
             }
+            _ => read_turn(fields),
+        },
+    }
+}
+
+/// The order that has these fields, if it is about the turn of the server, or changes a user.
+#[tactic(auto, unfolding(crate::specs::Orders::turn_fault))]
+fn read_turn<'l>(fields: &[&'l str]) -> Result<Order<'l>, CommandFault>
+    ensures fields { IfOk result (λ order. order_fields order ≡ map (λ f. f.now) fields.now) }
+    ensures valid { IfOk result (λ order. IsTrue (is_order order)) }
+    ensures fault { result_err result ≡ turn_fault (map (λ f. f.now) fields.now) }
+{
+    match fields {
+        [] => Err(CommandFault::Word),
+        [word, texts @ ..] => match *word {
+            "TAKE" => {
+                is_over(texts)?;
+                Ok(Order::TakeOver)
+            }
+            "HAND" => {
+                is_over(texts)?;
+                Ok(Order::HandOver)
+            }
             _ => read_command_fields(fields),
         },
+    }
+}
+
+/// Whether the one text after a word is `OVER`.
+fn is_over(texts: &[&str]) -> Result<(), CommandFault>
+    ensures over { OnOk result (map (λ t. t.now) texts.now ≡ codes "OVER" ∷ []) }
+    ensures fault { result_err result ≡ over_fault (map (λ t. t.now) texts.now) }
+{
+    match texts {
+        ["OVER"] => Ok(()),
+        _ => Err(CommandFault::Fields),
     }
 }
 

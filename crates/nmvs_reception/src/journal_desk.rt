@@ -7,7 +7,7 @@ use nmvs_desk::{Clerk, Shown};
 use nmvs_directory::Naming;
 use nmvs_history::Histories;
 use nmvs_journal::{CommitLog, Confirmed, LogName, Reach, Store};
-use nmvs_messages::{Ask, Desk, Peer, Piece, Released, Withheld, WithheldAnswers};
+use nmvs_messages::{Ask, Asked, Desk, Peer, Piece, Released, Withheld, WithheldAnswers};
 use nmvs_record::Following;
 use std::marker::Model;
 use std::rt;
@@ -112,6 +112,9 @@ impl<
     fn take(&mut self, from: &Peer, ask: &Ask) -> (Withheld, Option<Following<Shown<H>>>) {
         let (answer, basis, list) = self.desk.answer(from, ask);
         self.reach.note(basis);
+        if self.log.is_shared() && matches!(ask.asked, Asked::Report(..)) {
+            self.reach.note_anew();
+        }
         (Withheld::resting_on(basis, answer), list)
     }
 

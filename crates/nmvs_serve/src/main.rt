@@ -17,10 +17,12 @@ use nmvs_operator::{OptionFault, Options, read_options};
 use nmvs_rehearsal::rehearse_on_standard_input;
 use nmvs_server::{Fault, Host, Outcome, outcome_of, start};
 use nmvs_stream::{Console, Device, Sink, Source};
-use std::alloc::Global;
+use std::alloc::{AllocError, Global};
 use std::io::{BufWriter, Eprint, Print};
 use std::process::ExitCode;
 use std::rt::{Clock, Env, Files};
+use std::sync::Arc;
+use std::sync::atomic::AtomicBool;
 use std::{env, fs, io};
 
 fn main(rt: HostRuntime) -> ExitCode {
@@ -44,7 +46,7 @@ fn main(rt: HostRuntime) -> ExitCode {
             let format = options.log_format;
             let rt = EventLog::new(rt, options.log_level, format);
             let outcome = if options.stdin {
-                start(&rt, alloc, &options, &mut console)
+                start(&rt, alloc, &options, &mut console, &AtomicBool::new(false))
             } else {
                 serve(rt, alloc, &options, console)
             };
@@ -66,9 +68,12 @@ fn serve<'o, R: Host + Sync + Copy + Drop, I: Source + Drop, W: Sink + Drop>(
     requires options { AreInRange options.now }
 {
     let path = options.admin.as_deref();
-    match open(rt, alloc, console, path) {
+    let Ok((interrupt, shared)) = interrupt_of(alloc, options) else {
+        return memory_refused();
+    };
+    match open(rt, alloc, console, path, shared) {
         Ok(mut console) => {
-            let outcome = start(&rt, alloc, options, &mut console);
+            let outcome = start(&rt, alloc, options, &mut console, &*interrupt);
             if let Some(path) = path {
                 let _gone = remove_socket(&rt, path);
             }
@@ -78,6 +83,29 @@ fn serve<'o, R: Host + Sync + Copy + Drop, I: Source + Drop, W: Sink + Drop>(
             session: None,
             program: Some(fault_of(fault, path)),
         },
+    }
+}
+
+/// The interrupt of a console, for the server, and for the console if the server is one of several machines.
+fn interrupt_of(
+    alloc: Global,
+    options: &Options,
+) -> Result<(Arc<AtomicBool>, Option<Arc<AtomicBool>>), AllocError> {
+    let Ok(interrupt) = Arc::new(alloc, AtomicBool::new(false)) else {
+        return Err(AllocError);
+    };
+    let shared = match options.engine {
+        Some(_) => Some(Arc::try_clone(&interrupt)?),
+        None => None,
+    };
+    Ok((interrupt, shared))
+}
+
+/// The outcome of a program without memory.
+fn memory_refused<'o>() -> Outcome<'o> {
+    Outcome {
+        session: None,
+        program: Some(Fault::Memory),
     }
 }
 

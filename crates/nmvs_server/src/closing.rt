@@ -9,12 +9,13 @@ use nmvs_desk::{Clerk, Repository, settle};
 use nmvs_directory::Naming;
 use nmvs_history::Histories;
 use nmvs_journal::Unconfirmed;
-use nmvs_recovery::{Paths, Run, Unwaited, export, mark, mark_users};
+use nmvs_recovery::{FileFault, Paths, Run, Unwaited, export, mark, mark_users};
 use nmvs_shard::Shard;
 use nmvs_stream::{Sink, deliver};
 use std::alloc::Global;
+use std::sync::atomic::Ordering;
 
-/// Marks all of the trail as confirmed, if there is a log.
+/// Marks all of the trail as confirmed, if there is a log of this machine.
 pub(crate) fn mark_all<'r, 'o, R: Host>(
     config: &Config<'r, 'o, R>,
     paths: Option<&Paths<'o>>,
@@ -23,13 +24,24 @@ pub(crate) fn mark_all<'r, 'o, R: Host>(
     let Some(paths) = paths else {
         return Ok(());
     };
+    if config.is_fenced.load(Ordering::SeqCst) {
+        return Err(Fault::File(FileFault::Fenced));
+    }
     match confirmed {
         Ok(count) => {
             config.metrics.note_all_confirmed();
+            if is_shared(config) {
+                return Ok(());
+            }
             mark_end(config, paths, count)
         }
         Err(Unconfirmed) => Err(Fault::JournalUnwritten(paths.folder)),
     }
+}
+
+/// Whether an engine keeps the log on several machines. The file of this machine is a copy then, without marks.
+fn is_shared<R>(config: &Config<'_, '_, R>) -> bool {
+    config.run.options.engine.is_some()
 }
 
 /// Marks all of the log, and all changes of the users, as confirmed.

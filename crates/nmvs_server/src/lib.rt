@@ -10,6 +10,7 @@
 
 mod announcements;
 mod closing;
+mod cluster;
 mod confirming;
 mod fault;
 mod launch;

@@ -11,6 +11,7 @@ use nmvs_reception::Alerts;
 use nmvs_recovery::Run;
 use std::alloc::Global;
 use std::sync::Mutex;
+use std::sync::atomic::AtomicBool;
 
 /// The configuration of a server from its start on, with its listeners and counts.
 #[derive(Drop)]
@@ -24,6 +25,10 @@ pub(crate) struct Config<'r, 'o, R> {
     pub(crate) metrics: &'r Metrics,
     /// The users who raise flagged alerts.
     pub(crate) alerts: Alerts,
+    /// Whether the console is to give no further command.
+    pub(crate) interrupt: &'r AtomicBool,
+    /// Whether the log was lost to the server of another machine, or its engine was.
+    pub(crate) is_fenced: AtomicBool,
 }
 
 /// An open server, which its workers share. `J` names its directory of users, `H` the histories of its shards, and its log.

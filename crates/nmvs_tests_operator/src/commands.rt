@@ -25,12 +25,12 @@ const COMMANDS: &[u8] =
 
 /// Commands up to the one that stops the server, and a command after it.
 const STOP: &[u8] =
-    b"EXPORT full\nEXPORT trail.txt\nHELP\nUSERS\nSTATS\nCONNECTIONS\nALERTS\nSUSPEND ph9\nSTOP\nENROL ph9 PHARMACY PH-9 P9\n";
+    b"EXPORT full\nEXPORT trail.txt\nHELP\nUSERS\nSTATS\nCONNECTIONS\nALERTS\nSUSPEND ph9\nTAKE OVER\nHAND OVER\nSTOP\nENROL ph9 PHARMACY PH-9 P9\n";
 
 const HELPED: &[u8] =
     b"FAULT WRITE\nDONE\nENROL user role authorisation premises\nSUSPEND user\nREMOVE user\nRELOAD\nEXPORT file\nUSERS\nSTATS\nCONNECTIONS\n\
-    ALERTS\nSTOP\nHELP\nDONE\nUSER ph9 PHARMACY PH-9 P9 SUSPENDED\nDONE\nCONNECTIONS 2\nSESSIONS 3\nENTRIES 0 5\nENTRIES 1 0\nDONE\n\
-    WORKER 0 2\nDONE\nALERTS ph9 P9 3\nDONE\nFAULT JOURNAL\nDONE\n.";
+    ALERTS\nSTOP\nTAKE OVER\nHAND OVER\nHELP\nDONE\nUSER ph9 PHARMACY PH-9 P9 SUSPENDED\nDONE\nCONNECTIONS 2\nSESSIONS 3\nENTRIES 0 5\nENTRIES 1 0\nDONE\n\
+    WORKER 0 2\nDONE\nALERTS ph9 P9 3\nDONE\nFAULT JOURNAL\nDONE\nFAULT ENGINE\nDONE\n.";
 
 /// A server that keeps this number of changes, has this users file, if any, and writes no file named `full`. One user has
 /// raised three alerts at its premises.
@@ -56,6 +56,8 @@ impl Service for Narrow {
             Deed::Export("full") => return Err(ServiceFault::Write),
             Deed::Export(_) => {}
             Deed::Stop => self.stopped = true,
+            Deed::TakeOver => {}
+            Deed::HandOver => return Err(ServiceFault::Engine),
         }
         Ok(())
     }

@@ -63,6 +63,14 @@ fn faults_of_orders_have_their_texts(rt: HostRuntime) {
             ObeyFault::Undone(ServiceFault::NoFile),
             "there is no users file",
         ),
+        (
+            ObeyFault::Undone(ServiceFault::Engine),
+            "no engine keeps the log on several machines",
+        ),
+        (
+            ObeyFault::Undone(ServiceFault::Standby),
+            "the server follows another",
+        ),
     ] {
         assert!(rt; is_shown(&rt, rt.alloc(), &fault, text), "{text}");
     }
