@@ -10,7 +10,7 @@ use nmvs_desk::{Clerk, Keepers, MOST_CLERKS, Repository, Settled, settle};
 use nmvs_directory::{Directory, Look, Naming, Registrar, Window};
 use nmvs_history::Histories;
 use nmvs_identifier::{Moment, Name};
-use nmvs_rules::{Entry, Put, Question};
+use nmvs_rules::{Put, Question};
 use nmvs_shard::{HashKey, Shard, Shards};
 use std::alloc::{AllocError, Allocator, Global};
 use std::marker::Brand;
@@ -43,8 +43,8 @@ pub fn shards_with<'a, B: Allocator>(
     let mut shards = Shards::new(alloc, count, HashKey::of(1))?;
     for digits in codes {
         let put = put(rt, "mah1", upload(rt, digits));
-        let reply = shards.reply_to(&put);
-        if shards.store(&Entry { put, reply }).is_err() {
+        let decision = shards.decide(&put);
+        if shards.store(&put, &decision).is_err() {
             return Err(AllocError);
         }
     }
