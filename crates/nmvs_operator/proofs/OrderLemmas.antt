@@ -89,6 +89,13 @@ differs xs ys other = by (bytes_eq xs ys) (bytes_eq-Decides xs ys)
     by true d = absurd (other (d.0 refl))
     by false d = refl
 
+-- one text that is not OVER has the fault of its fields
+pub over_fault-other : {B : Type 0} (now : B → List ℕ) (texts : List B) (d : B) → 1 ≤ length texts → length texts < 2
+    → now (get_or texts 0 d) ≢ codes "OVER" → Some fault.Fields ≡ over_fault (map now texts)
+over_fault-other now [] d some one other = absurd (omega (arith, some))
+over_fault-other now (a ∷ b ∷ texts) d some one other = absurd (omega (arith, one))
+over_fault-other now (a ∷ []) d some one other = rw (differs (now a) (codes "OVER") other) refl
+
 -- an order that is not about the turn has the fault of its fields
 pub turn_fault-fields : {B : Type 0} (now : B → List ℕ) (fields : List B) (d : B) → 1 ≤ length fields → now (get_or fields 0 d) ≢ codes "TAKE"
     → now (get_or fields 0 d) ≢ codes "HAND" → fields_fault (map now fields) ≡ turn_fault (map now fields)

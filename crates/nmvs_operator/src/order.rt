@@ -169,8 +169,12 @@ fn is_over(texts: &[&str]) -> Result<(), CommandFault>
     ensures fault { result_err result ≡ over_fault (map (λ t. t.now) texts.now) }
 {
     match texts {
-        ["OVER"] => Ok(()),
-        _ => Err(CommandFault::Fields),
+        [] => Err(CommandFault::Fields),
+        [text] => match *text {
+            "OVER" => Ok(()),
+            _ => Err(CommandFault::Fields),
+        },
+        [_, _, ..] => Err(CommandFault::Fields),
     }
 }
 

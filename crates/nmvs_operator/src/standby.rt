@@ -1,5 +1,6 @@
 //! The operator's orders to a server that follows another.
-ghost use Rattle.nmvs_operator.specs.Standby.{EndsStandby};
+ghost use Rattle.std.specs.Prelude.{◌≡◌, true};
+ghost use Rattle.nmvs_operator.specs.Standby.{Carries, EndsStandby, ObeysOne, is_for_standby};
 
 use crate::commands::{done_text, fault_text, tell};
 use crate::{ObeyFault, Order, ServiceFault, read_order};
@@ -8,11 +9,19 @@ use nmvs_stream::{Console, Failed, Sides, Sink, Source, cut_line};
 
 /// A server that follows another, as its operator's orders see it.
 pub trait Standby {
+    /// The server takes over.
+    ghost takes_over: { Self → Self → Type 0 };
+
+    /// The server ends.
+    ghost stops: { Self → Self → Type 0 };
+
     /// Makes the server take over.
-    fn take_over(&mut self);
+    fn take_over(&mut self)
+        ensures { takes_over self.old self.new };
 
     /// Ends the server.
-    fn stop(&mut self);
+    fn stop(&mut self)
+        ensures { stops self.old self.new };
 }
 
 /// Answers the orders of a console one by one, as they come, and carries out those that are for a server that follows. It ends
@@ -53,14 +62,12 @@ fn obey_part<W: Sink, S: Standby>(
 }
 
 /// Carries out one order, and answers it. Returns whether it stopped the server.
-fn obey_one<W: Sink, S: Standby>(line: &[u8], sink: &mut W, standby: &mut S) -> bool {
+fn obey_one<W: Sink, S: Standby>(line: &[u8], sink: &mut W, standby: &mut S) -> bool
+    ensures { ObeysOne S.takes_over S.stops line.now standby.old (W.taken sink.old) result standby.new (W.taken sink.new) }
+{
     match read_standby(line) {
         Ok(order) => {
-            match order {
-                Order::TakeOver => standby.take_over(),
-                Order::Stop => standby.stop(),
-                _ => {}
-            }
+            carry_out(&order, standby);
             tell(done_text(&order), sink);
             matches!(order, Order::Stop)
         }
@@ -68,6 +75,18 @@ fn obey_one<W: Sink, S: Standby>(line: &[u8], sink: &mut W, standby: &mut S) -> 
             tell(fault_text(fault), sink);
             false
         }
+    }
+}
+
+/// Carries out an order. `HELP` changes nothing.
+fn carry_out<S: Standby>(order: &Order<'_>, standby: &mut S)
+    requires { is_for_standby order.now ≡ true }
+    ensures { Carries S.takes_over S.stops order.now standby.old standby.new }
+{
+    match order {
+        Order::TakeOver => standby.take_over(),
+        Order::Stop => standby.stop(),
+        _ => {}
     }
 }
 
