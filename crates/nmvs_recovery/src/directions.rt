@@ -42,11 +42,15 @@ impl Directions {
     }
 }
 
-/// The operator's side of the orders.
+/// The operator's side of the orders. (No contract tells what an atomic value holds.)
 #[derive(Clone, Copy)]
 pub(crate) struct Director<'d>(pub(crate) &'d Directions);
 
 impl<'d> Standby for Director<'d> {
+    ghost takes_over = { λ old new. Unit {0} };
+
+    ghost stops = { λ old new. Unit {0} };
+
     fn take_over(&mut self) {
         self.0.takes_over.store(true, Ordering::SeqCst);
     }

@@ -90,8 +90,8 @@ impl Service for Narrow {
 
 /// Takes exactly these bytes. (It owns its values: in this toolchain a console may hold no references.)
 #[derive(Drop)]
-struct Awaited {
-    left: &'static [u8],
+pub(crate) struct Awaited {
+    pub(crate) left: &'static [u8],
 }
 
 impl Write for Awaited {
