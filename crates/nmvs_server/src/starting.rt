@@ -18,8 +18,8 @@ use std::thread;
 use std::thread::Threads;
 
 /// Serves one session over the console, or connections at the address or the socket of the options. With connections, the
-/// console gives commands of the registrar and takes their answers, until the server sets the interrupt. If the options say so, the program serves metrics at an
-/// address of their own from the start on.
+/// console gives commands of the registrar and takes their answers, until the server sets the interrupt. If the options say so,
+/// the program serves metrics at an address of their own from the start on.
 pub fn start<'o, R: Host + Sync, T: Sides>(
     rt: &R,
     alloc: Global,
