@@ -15,7 +15,7 @@ use nmvs_config::{ConfigFault, config_path, read_config, with_config};
 use nmvs_log::{EventLog, LogFormat};
 use nmvs_operator::{OptionFault, Options, read_options};
 use nmvs_rehearsal::rehearse_on_standard_input;
-use nmvs_server::{Fault, Host, Outcome, outcome_of, start};
+use nmvs_server::{Beside, Dialer, Fault, Host, Outcome, outcome_of, start};
 use nmvs_stream::{Console, Device, Sink, Source};
 use std::alloc::{AllocError, Global};
 use std::io::{BufWriter, Eprint, Print};
@@ -23,7 +23,7 @@ use std::process::ExitCode;
 use std::rt::{Clock, Env, Files};
 use std::sync::Arc;
 use std::sync::atomic::AtomicBool;
-use std::{env, fs, io};
+use std::{env, fs, io, thread};
 
 fn main(rt: HostRuntime) -> ExitCode {
     let alloc = rt.alloc();
@@ -38,24 +38,39 @@ fn main(rt: HostRuntime) -> ExitCode {
         return ended(&rt, LogFormat::Text, &[outcome_of(end).err()]);
     }
     let mut console = Console::new(Device::new(rt.stdin()), Device::new(output));
-    match options(&rt, words) {
-        Ok(options) => {
-            if options.check {
-                return check_users(&rt, &options);
-            }
-            let format = options.log_format;
-            let rt = EventLog::new(rt, options.log_level, format);
-            let outcome = if options.stdin {
-                start(&rt, alloc, &options, &mut console, &AtomicBool::new(false))
-            } else {
-                serve(rt, alloc, &options, console)
-            };
-            let status = ended(&rt, format, &[outcome.session, outcome.program]);
-            info!(rt; "end");
-            status
+    let options = match options(&rt, words) {
+        Ok(options) if options.check => return check_users(&rt, &options),
+        Ok(options) => options,
+        Err(status) => return status,
+    };
+    let (format, options) = (options.log_format, &options);
+    let rt = EventLog::new(rt, options.log_level, format);
+    let outcome = match options.engine {
+        None if options.stdin => start(&rt, alloc, options, &mut console, Beside { interrupt: &AtomicBool::new(false), dialer: None }),
+        None => serve(rt, alloc, options, console, None),
+        // The runtime itself opens connections, which in this toolchain no thread but one of `main` can have it do.
+        Some(address) => {
+            let (dialer, host) = (&Dialer::new(address), &rt);
+            thread::scope(
+                thread::scope_env(),
+                host,
+                |scope|
+                    requires options { AreInRange options.now }
+                {
+                    let Ok(dialing) = scope.spawn(move || dialer.run(host)) else {
+                        return memory_refused();
+                    };
+                    let outcome = serve(*host, alloc, options, console, Some(dialer));
+                    dialer.end();
+                    dialing.join(host);
+                    outcome
+                },
+            )
         }
-        Err(status) => status,
-    }
+    };
+    let status = ended(&rt, format, &[outcome.session, outcome.program]);
+    info!(rt; "end");
+    status
 }
 
 /// Serves connections, while commands come by the console and by the socket of the options, if they name one.
@@ -64,6 +79,7 @@ fn serve<'o, R: Host + Sync + Copy + Drop, I: Source + Drop, W: Sink + Drop>(
     alloc: Global,
     options: &'o Options,
     console: Console<(I, W)>,
+    dialer: Option<&Dialer>,
 ) -> Outcome<'o>
     requires options { AreInRange options.now }
 {
@@ -73,7 +89,8 @@ fn serve<'o, R: Host + Sync + Copy + Drop, I: Source + Drop, W: Sink + Drop>(
     };
     match open(rt, alloc, console, path, shared) {
         Ok(mut console) => {
-            let outcome = start(&rt, alloc, options, &mut console, &*interrupt);
+            let interrupt = &*interrupt;
+            let outcome = start(&rt, alloc, options, &mut console, Beside { interrupt, dialer });
             if let Some(path) = path {
                 let _gone = remove_socket(&rt, path);
             }

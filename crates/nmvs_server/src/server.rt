@@ -8,10 +8,19 @@ use nmvs_journal::{CommitLog, LogName};
 use nmvs_metrics::Metrics;
 use nmvs_rate::SharedLimiter;
 use nmvs_reception::Alerts;
-use nmvs_recovery::Run;
+use nmvs_recovery::{Dialer, Run};
 use std::alloc::Global;
 use std::sync::Mutex;
 use std::sync::atomic::AtomicBool;
+
+/// What runs beside a server.
+#[derive(Clone, Copy)]
+pub struct Beside<'b> {
+    /// Whether the console is to give no further command.
+    pub interrupt: &'b AtomicBool,
+    /// The dialer of a server among several machines, which a thread runs.
+    pub dialer: Option<&'b Dialer>,
+}
 
 /// The configuration of a server from its start on, with its listeners and counts.
 #[derive(Drop)]

@@ -3,6 +3,7 @@ ghost use Rattle.nmvs_operator.specs.Options.{AreInRange};
 ghost use Rattle.nmvs_stream.specs.Console.{IsFresh};
 
 use crate::launch::serve_run;
+use crate::server::Beside;
 use crate::{Fault, Host, Outcome};
 use log::{Log, error, info};
 use nmvs_metrics::{Metrics, MetricsListener, serve_metrics};
@@ -13,7 +14,6 @@ use std::net::SocketAddr;
 use std::random::RandomSource;
 use std::rt::Clock;
 use std::sync::Wait;
-use std::sync::atomic::AtomicBool;
 use std::thread;
 use std::thread::Threads;
 
@@ -25,7 +25,7 @@ pub fn start<'o, R: Host + Sync, T: Sides>(
     alloc: Global,
     options: &'o Options,
     console: &mut Console<T>,
-    interrupt: &AtomicBool,
+    beside: Beside<'_>,
 ) -> Outcome<'o>
     requires options { AreInRange options.now }
     requires fresh { IsFresh (T.Source.told console.old.source) (T.Sink.taken console.old.sink) }
@@ -36,7 +36,7 @@ pub fn start<'o, R: Host + Sync, T: Sides>(
     };
     let metrics = &metrics;
     let Some(address) = options.metrics else {
-        return serve_run(rt, alloc, options, metrics, console, interrupt);
+        return serve_run(rt, alloc, options, metrics, console, beside);
     };
     let listener = match open_metrics(rt, address) {
         Ok(listener) => listener,
@@ -50,7 +50,7 @@ pub fn start<'o, R: Host + Sync, T: Sides>(
         ||
             requires options { AreInRange options.now }
             requires fresh { IsFresh (T.Source.told console.now.source) (T.Sink.taken console.now.sink) }
-        { serve_run(rt, alloc, options, metrics, console, interrupt) },
+        { serve_run(rt, alloc, options, metrics, console, beside) },
     );
     match served {
         Ok(outcome) => outcome,
