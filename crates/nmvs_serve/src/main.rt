@@ -46,7 +46,16 @@ fn main(rt: HostRuntime) -> ExitCode {
     let (format, options) = (options.log_format, &options);
     let rt = EventLog::new(rt, options.log_level, format);
     let outcome = match options.engine {
-        None if options.stdin => start(&rt, alloc, options, &mut console, Beside { interrupt: &AtomicBool::new(false), dialer: None }),
+        None if options.stdin => start(
+            &rt,
+            alloc,
+            options,
+            &mut console,
+            Beside {
+                interrupt: &AtomicBool::new(false),
+                dialer: None,
+            },
+        ),
         None => serve(rt, alloc, options, console, None),
         // The runtime itself opens connections, which in this toolchain no thread but one of `main` can have it do.
         Some(address) => {
@@ -90,7 +99,13 @@ fn serve<'o, R: Host + Sync + Copy + Drop, I: Source + Drop, W: Sink + Drop>(
     match open(rt, alloc, console, path, shared) {
         Ok(mut console) => {
             let interrupt = &*interrupt;
-            let outcome = start(&rt, alloc, options, &mut console, Beside { interrupt, dialer });
+            let outcome = start(
+                &rt,
+                alloc,
+                options,
+                &mut console,
+                Beside { interrupt, dialer },
+            );
             if let Some(path) = path {
                 let _gone = remove_socket(&rt, path);
             }
