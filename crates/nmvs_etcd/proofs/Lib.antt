@@ -7,3 +7,5 @@ pub mod ReadingBack
 pub mod Storing
 pub mod Posting
 pub mod Hearing
+pub mod Ordering
+pub mod Trimming

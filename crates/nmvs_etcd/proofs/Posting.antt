@@ -1,5 +1,5 @@
 -- A request that is written whole.
-use Rattle.std.proofs.Common.{◌≡◌, ℕ, ◌+◌, ◌^◌, ◌<◌, ◌≤◌, List, [], ◌∷◌, ◌++◌, length, Option, Some, None, OnOk, Result, Ok, Err, codes, refl, sym, ap, ◌∙◌, subst, append_assoc, length-append, arith}
+use Rattle.std.proofs.Common.{◌≡◌, ℕ, ◌^◌, ◌<◌, ◌≤◌, List, [], ◌∷◌, ◌++◌, length, Option, Some, None, OnOk, Result, Ok, Err, codes, refl, sym, ap, ◌∙◌, subst, append_assoc, length-append, arith}
 use Rattle.std.proofs.lemmas.List.{append-nil}
 use Rattle.http1.specs.declared.client.Client.{Client}
 use Rattle.http1.specs.declared.conn.BodySize.{BodySize}
@@ -11,7 +11,7 @@ use Rattle.http1.specs.Client.{after_request, planned_request, request_plan, req
 use Rattle.http1.specs.Conn.{Plan, after_data, data_refusal, data_text, finish_refusal, finish_text, plan_refusal, planned_headers}
 use Rattle.http1.specs.Fields.{Header}
 use Rattle.http1.specs.Head.{is_request_line, request_head, request_text}
-use Rattle.http1.specs.Message.{ReadsRequestMessage, Request}
+use Rattle.http1.specs.Message.{ReadsRequestMessage}
 use Rattle.http1.specs.Output.{GivesOrRefuses}
 use Rattle.http1.proofs.BodyRoundTrip.{MayFollow}
 use Rattle.http1.proofs.MessageRoundTrip.{request_round_trip}

@@ -18,17 +18,24 @@ mod read;
 mod request;
 #[cfg(test)]
 mod tests;
+mod trim;
+#[cfg(test)]
+mod trim_tests;
 
-pub use answer::{append_outcome, own_outcome};
-pub use ask::{ask_append, ask_blocks, ask_end, ask_own, ask_owner};
+pub use answer::{append_outcome, free_outcome, own_outcome, trim_outcome};
+pub use ask::{
+    ask_append, ask_blocks, ask_end, ask_free, ask_own, ask_owner, ask_trim, ask_trimmed, ask_turn,
+};
 pub use block::Block;
 pub use connection::{Broken, Connection};
 pub use http::{Answer, MOST_ANSWER, Procedure, exchange};
 pub use key::Log;
-pub use laws::{answers, demands, names, requests, turns};
+pub use laws::{answers, demands, names, no_owner, requests, trims, turns};
 pub use outcome::Outcome;
-pub use owner_name::{NameFault, OwnerName};
-pub use read::{read_blocks, read_end, read_owner};
+pub use owner_name::{NOBODY, NameFault, OwnerName};
+pub use read::{read_blocks, read_end, read_owner, read_trimmed};
 pub use request::{
-    BlockRange, append_request, blocks_request, end_request, own_request, owner_request,
+    BlockRange, append_request, blocks_request, end_request, free_request, own_request,
+    owner_request, trimmed_request,
 };
+pub use trim::{Trim, trim_request};

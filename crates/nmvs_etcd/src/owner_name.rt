@@ -44,6 +44,9 @@ impl Model for OwnerName {
     ghost invariant = { λ n. IsTrue (is_word (string_bytes n.text)) };
 }
 
+/// The owner's name if no server owns the logs (own).
+pub const NOBODY: &[u8] = b"-";
+
 impl OwnerName {
     /// The name of an owner on this machine, with these drawn bytes.
     ///
@@ -61,6 +64,18 @@ impl OwnerName {
         }
         let digits = hex::encode(alloc, drawn)?;
         let text = format!(in alloc; "{machine}.{digits}")?;
+        Ok(OwnerName { text })
+    }
+
+    /// The same name once more.
+    ///
+    /// # Errors
+    ///
+    /// There is no memory.
+    pub fn copied(&self, alloc: Global) -> Result<OwnerName, AllocError>
+        ensures { IfOk result (λ name. name ≡ self.now) }
+    {
+        let text = format!(in alloc; "{}", self.text())?;
         Ok(OwnerName { text })
     }
 
