@@ -5,7 +5,8 @@
 //!   keeps. [`whole_lines`] is the part of it that a start reads.
 //! - [`mark`] notes how far the log is confirmed.
 //! - [`stand_by`] follows the log of a server of another machine, until this one owns it. A [`Dialer`] opens the connections
-//!   ([`Wire`]) to the engine that keeps the log, and a [`CopiedLog`] copies the log to a file of this machine.
+//!   ([`Wire`]) to the engine that keeps the log, and a [`CopiedLog`] copies the log to a file of this machine. A [`Turn`] ends
+//!   once the server gives it up.
 //! - [`export`] and [`write_export`] write the audit trail of a repository to a file, and [`export_summed`] to any sink.
 //!
 //! It serves nobody, so it names neither connections nor desks.
@@ -31,6 +32,7 @@ mod rehearsal_packs;
 mod run;
 mod slices;
 mod standing_by;
+mod turn;
 mod users;
 mod users_file;
 mod wire;
@@ -49,6 +51,7 @@ pub use paths::Paths;
 pub use preparation::{EngineLog, LogFiles, Ready, TrailLog, UsersLog, prepare, prepare_followed};
 pub use run::{Host, Run};
 pub use standing_by::{Followed, Means, stand_by};
+pub use turn::Turn;
 pub use users::read_users;
 pub use users_file::whole_lines;
 pub use wire::Wire;

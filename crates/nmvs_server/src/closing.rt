@@ -4,7 +4,7 @@ ghost use Rattle.std.specs.Prelude.{◌≡◌, OnOk};
 use crate::announcements::settled_text;
 use crate::server::Config;
 use crate::{Fault, Host};
-use log::{Log, info};
+use log::{Log, info, warn};
 use nmvs_desk::{Clerk, Repository, settle};
 use nmvs_directory::Naming;
 use nmvs_history::Histories;
@@ -15,7 +15,8 @@ use nmvs_stream::{Sink, deliver};
 use std::alloc::Global;
 use std::sync::atomic::Ordering;
 
-/// Marks all of the trail as confirmed, if there is a log of this machine.
+/// Marks all of the trail as confirmed, if there is a log of this machine. If an engine keeps the log, it gives the turn up, should
+/// the operator have ordered so.
 pub(crate) fn mark_all<'r, 'o, R: Host>(
     config: &Config<'r, 'o, R>,
     paths: Option<&Paths<'o>>,
@@ -31,6 +32,7 @@ pub(crate) fn mark_all<'r, 'o, R: Host>(
         Ok(count) => {
             config.metrics.note_all_confirmed();
             if is_shared(config) {
+                end_turn(config);
                 return Ok(());
             }
             mark_end(config, paths, count)
@@ -42,6 +44,24 @@ pub(crate) fn mark_all<'r, 'o, R: Host>(
 /// Whether an engine keeps the log on several machines. The file of this machine is a copy then, without marks.
 fn is_shared<R>(config: &Config<'_, '_, R>) -> bool {
     config.run.options.engine.is_some()
+}
+
+/// Gives the turn up, if the operator hands over. All of the logs is confirmed before. It logs whether it did.
+fn end_turn<R: Host>(config: &Config<'_, '_, R>) {
+    if !config.hands_over.load(Ordering::SeqCst) {
+        return;
+    }
+    let run = &config.run;
+    let mut turn = config.turn.lock(run.rt);
+    let is_given = match &mut *turn {
+        Some(turn) => turn.give_up(*run.alloc),
+        None => false,
+    };
+    if is_given {
+        info!(run.rt; "handed over");
+    } else {
+        warn!(run.rt; "the turn is not given up: another server takes over after the silence");
+    }
 }
 
 /// Marks all of the log, and all changes of the users, as confirmed.

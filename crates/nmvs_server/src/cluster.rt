@@ -5,7 +5,7 @@ use crate::launch::serve_from;
 use crate::server::Beside;
 use crate::{Fault, Host, Outcome};
 use nmvs_metrics::Metrics;
-use nmvs_recovery::{Dialer, Followed, Means, Member, Run, stand_by};
+use nmvs_recovery::{Dialer, Followed, Means, Member, Run, Turn, stand_by};
 use nmvs_stream::{Console, Sides};
 use std::random::RandomSource;
 use std::sync::atomic::AtomicBool;
@@ -24,9 +24,16 @@ pub(crate) fn serve_in_cluster<'r, 'o, R: Host + Sync, T: Sides>(
         return Outcome::of(Fault::Memory);
     };
     match follow(&run, dialer, metrics, console, beside.interrupt) {
-        Ok(Some(followed)) => {
+        Ok(Some((followed, turn))) => {
             metrics.note_standby(false);
-            serve_from(run, metrics, Some(followed), console, beside.interrupt)
+            serve_from(
+                run,
+                metrics,
+                Some(followed),
+                Some(turn),
+                console,
+                beside.interrupt,
+            )
         }
         Ok(None) => Outcome {
             session: None,
@@ -43,7 +50,7 @@ fn follow<'r, 'o, R: Host + Sync, T: Sides>(
     metrics: &'r Metrics,
     console: &mut Console<T>,
     interrupt: &AtomicBool,
-) -> Result<Option<Followed<'r, 'o>>, Fault<'o>> {
+) -> Result<Option<(Followed<'r, 'o>, Turn<'r>)>, Fault<'o>> {
     let mut drawn = [0; 16];
     if run.rt.fill_bytes(&mut drawn).is_err() {
         return Err(Fault::Random);

@@ -8,7 +8,7 @@ use nmvs_journal::{CommitLog, LogName};
 use nmvs_metrics::Metrics;
 use nmvs_rate::SharedLimiter;
 use nmvs_reception::Alerts;
-use nmvs_recovery::{Dialer, Run};
+use nmvs_recovery::{Dialer, Run, Turn};
 use std::alloc::Global;
 use std::sync::Mutex;
 use std::sync::atomic::AtomicBool;
@@ -38,6 +38,10 @@ pub(crate) struct Config<'r, 'o, R> {
     pub(crate) interrupt: &'r AtomicBool,
     /// Whether the log was lost to the server of another machine, or its engine was.
     pub(crate) is_fenced: AtomicBool,
+    /// Whether the server gives its turn up at the end.
+    pub(crate) hands_over: AtomicBool,
+    /// The turn of a server among several machines.
+    pub(crate) turn: Mutex<Option<Turn<'r>>>,
 }
 
 /// An open server, which its workers share. `J` names its directory of users, `H` the histories of its shards, and its log.
