@@ -3,3 +3,4 @@ pub mod Exports
 pub mod KeptLines
 pub mod WholeLines
 pub mod Stores
+pub mod Places

@@ -12,6 +12,7 @@
 //! It serves nobody, so it names neither connections nor desks.
 #![tactic(auto)]
 
+mod copy_place;
 mod dialer;
 mod directions;
 mod export_files;
