@@ -27,9 +27,9 @@ pub struct Beside<'b> {
 pub(crate) struct Config<'r, 'o, R> {
     pub(crate) run: Run<'r, 'o, R>,
     /// The listener that accepts connections. If there is none, the server serves one session over the console.
-    pub(crate) listener: Option<&'r Listener>,
+    pub(crate) listener: Option<Listener>,
     /// The listener that accepts connections over HTTP, if there is one.
-    pub(crate) http: Option<&'r HttpListener>,
+    pub(crate) http: Option<HttpListener>,
     /// The counters of the run.
     pub(crate) metrics: &'r Metrics,
     /// The users who raise flagged alerts.

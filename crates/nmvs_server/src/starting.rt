@@ -20,12 +20,12 @@ use std::thread::Threads;
 /// Serves one session over the console, or connections at the address or the socket of the options. With connections, the
 /// console gives commands of the registrar and takes their answers, until the server sets the interrupt. If the options say so,
 /// the program serves metrics at an address of their own from the start on.
-pub fn start<'o, R: Host + Sync, T: Sides>(
-    rt: &R,
+pub fn start<'r, 'o, R: Host + Sync, T: Sides>(
+    rt: &'r R,
     alloc: Global,
     options: &'o Options,
     console: &mut Console<T>,
-    beside: Beside<'_>,
+    beside: Beside<'r>,
 ) -> Outcome<'o>
     requires options { AreInRange options.now }
     requires fresh { IsFresh (T.Source.told console.old.source) (T.Sink.taken console.old.sink) }
