@@ -1,5 +1,5 @@
 -- The answers that a release makes of withheld ones.
-use Rattle.std.proofs.Common.{◌≡◌, not, ◌||◌, if◌then◌else◌, ℕ, Bool, true, false, List, [], ◌∷◌, map, refl, inl, inr}
+use Rattle.std.proofs.Common.{◌≡◌, not, ◌||◌, if◌then◌else◌, ℕ, Bool, true, false, List, [], ◌∷◌, Option, map, refl, inl, inr}
 use Rattle.nmvs_messages.specs.declared.answer.Answer.{Answer}
 use Rattle.nmvs_messages.specs.declared.answer.Turn.TheVariants as turns
 use Rattle.nmvs_messages.specs.declared.withheld.Withheld.{Withheld}
@@ -11,7 +11,7 @@ released_by f stays [] = tt
 released_by f stays (w ∷ withheld) = (refl, stays w, released_by f stays withheld)
 
 -- the kept entries decide whether a line is turned away, if it may be
-pub told_stays : (kept : List ℕ) (w : Withheld) → StaysOrTurns w (told_where kept w)
+pub told_stays : (kept : Option (List ℕ)) (w : Withheld) → StaysOrTurns w (told_where kept w)
 told_stays kept w = choose (is_kept kept w.basis) (is_of_repository w.answer) refl
   where
     choose : (k r : Bool) → is_of_repository w.answer ≡ r → StaysOrTurns w (if k || not r then w.answer else turned turns.Journal w.answer)

@@ -69,9 +69,9 @@ impl Withheld {
         &self.answer
     }
 
-    /// Turns the line away if its answer rests on more entries than are kept.
-    fn turn_unkept(&mut self, kept: &[usize])
-        ensures { self.new.answer ≡ told_where kept.now self.old }
+    /// Turns the line away if its answer rests on more entries than are kept, or if nobody knows how many are kept.
+    fn turn_unkept(&mut self, kept: Option<&[usize]>)
+        ensures { self.new.answer ≡ told_where (option_copied kept.entry) self.old }
     {
         if !is_basis_kept(self.basis, kept) && is_of_repository(&self.answer) {
             self.answer.content = Content::Turned(Turn::Journal);
@@ -79,13 +79,14 @@ impl Withheld {
     }
 }
 
-/// Whether this number of entries of each shard includes those on which an answer rests.
-fn is_basis_kept(basis: Option<Basis>, kept: &[usize]) -> bool
-    ensures { result ≡ is_kept kept.now basis }
+/// Whether this number of entries of each shard includes those on which an answer rests. No if nobody knows the numbers.
+fn is_basis_kept(basis: Option<Basis>, kept: Option<&[usize]>) -> bool
+    ensures { result ≡ is_kept (option_copied kept.entry) basis }
 {
-    match basis {
-        None => true,
-        Some(Basis { shard, place }) => place < kept.get(shard).copied().unwrap_or(0),
+    match (kept, basis) {
+        (None, _) => false,
+        (Some(_), None) => true,
+        (Some(kept), Some(Basis { shard, place })) => place < kept.get(shard).copied().unwrap_or(0),
     }
 }
 
@@ -178,9 +179,9 @@ impl WithheldAnswers {
     }
 
     /// Releases the answers, if this number of entries of each shard are kept. The line of a reply or a report that rests on
-    /// more is turned away.
-    pub fn release_kept(&mut self, kept: &[usize]) -> Released<'_>
-        ensures { AreReleased (λ withheld said. said ≡ told_where kept.now withheld) self.old result }
+    /// more is turned away. If nobody knows the numbers, the line of each reply and report is.
+    pub fn release_kept(&mut self, kept: Option<&[usize]>) -> Released<'_>
+        ensures { AreReleased (λ withheld said. said ≡ told_where (option_copied kept.entry) withheld) self.old result }
     {
         turn_all_unkept(self.list.as_mut_slice(), kept);
         Released {
@@ -189,8 +190,8 @@ impl WithheldAnswers {
     }
 }
 
-fn turn_all_unkept(list: &mut [Withheld], kept: &[usize])
-    ensures { map answer_of list.new ≡ map (told_where kept.now) list.old }
+fn turn_all_unkept(list: &mut [Withheld], kept: Option<&[usize]>)
+    ensures { map answer_of list.new ≡ map (told_where (option_copied kept.entry)) list.old }
 {
     for withheld in list.iter_mut() {
         withheld.turn_unkept(kept);

@@ -27,7 +27,7 @@ use Rattle.nmvs_messages.specs.declared.answer.Turn.{Turn}
 use Rattle.nmvs_messages.specs.declared.answer.Turn.TheVariants as turns
 use Rattle.nmvs_messages.specs.declared.peer.Peer.{Peer}
 use Rattle.nmvs_messages.specs.declared.withheld.Basis.{Basis}
-use Rattle.nmvs_journal.specs.Told.{IsWithin}
+use Rattle.nmvs_journal.specs.Told.{IsWithin, ReachView}
 use Rattle.nmvs_reception.specs.Desk.{DeskView, Admits, AnswersAdmitted, IsMoment, Knows, LetsGo, LooksUp, Refuses, Replies, RestsOnAll, Says, SeesShard, Serves}
 
 -- the clock gave a moment, the clerk learned the notice, and the directory said this of the user
@@ -146,7 +146,7 @@ reaches old from ask said basis new serves =
     ]
 
 -- withheld answers rest on no more entries than were seen, even if more were seen since
-pub within_more : (reach : List ℕ) (old new : List (List Entry)) → ((i : ℕ) → IsPrefix (row old i) (row new i)) → IsWithin reach old → IsWithin reach new
+pub within_more : (reach : ReachView) (old new : List (List Entry)) → ((i : ℕ) → IsPrefix (row old i) (row new i)) → IsWithin reach old → IsWithin reach new
 within_more reach old new grown within i = omega (arith, within i, prefix_length (row old i) (row new i) (grown i))
 
 -- a release empties the receipts

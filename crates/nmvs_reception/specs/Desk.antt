@@ -79,6 +79,11 @@ pub record Knows (notice : List Change) (old : DeskView) (from : Peer) (ask : As
   pub looks : LooksUp notice old (user_of ask) (looks.Known actor) new
   pub speaks : speaks_for from (user_of ask) actor.authorisation ≡ may
 
+-- whether a line asks for a report
+abbrev pub is_report : Asked → Bool
+is_report (asked.Report user code) = true
+is_report _ = false
+
 -- whether a user with this role may ask this: each may put a question, since a refusal is a reply
 abbrev pub may_ask_this : Asked → Role → Bool
 may_ask_this (asked.Question user q) r = true

@@ -1,5 +1,9 @@
 //! The program's desk with a log that answers wait for.
-ghost use Rattle.std.specs.Prelude.{◌≡◌};
+ghost use Rattle.std.specs.Prelude.{◌≡◌, ◌<◌, ◌&&◌, ◌||◌, List, length, IfSome};
+ghost use Rattle.nmvs_rules.specs.declared.entry.Entry.{Entry};
+ghost use Rattle.nmvs_desk.specs.Settlement.{row};
+ghost use Rattle.nmvs_journal.specs.Told.{IsWithin};
+ghost use Rattle.nmvs_reception.specs.Desk.{is_report};
 
 use crate::{ClerkDesk, Clock};
 use log::Log;
@@ -7,7 +11,7 @@ use nmvs_desk::{Clerk, Shown};
 use nmvs_directory::Naming;
 use nmvs_history::Histories;
 use nmvs_journal::{CommitLog, Confirmed, LogName, Reach, Store};
-use nmvs_messages::{Ask, Desk, Peer, Piece, Released, Withheld, WithheldAnswers};
+use nmvs_messages::{Ask, Asked, Basis, Desk, Peer, Piece, Released, Withheld, WithheldAnswers};
 use nmvs_record::Following;
 use std::marker::Model;
 use std::rt;
@@ -111,7 +115,8 @@ impl<
 
     fn take(&mut self, from: &Peer, ask: &Ask) -> (Withheld, Option<Following<Shown<H>>>) {
         let (answer, basis, list) = self.desk.answer(from, ask);
-        self.reach.note(basis);
+        let waits = waits_anew(self.log.is_shared(), ask);
+        note_answer(&mut self.reach, basis, waits);
         (Withheld::resting_on(basis, answer), list)
     }
 
@@ -123,5 +128,28 @@ impl<
     fn release<'h>(&mut self, withheld: &'h mut WithheldAnswers) -> Released<'h> {
         self.desk
             .release_by(self.log, &mut self.reach, &mut self.confirmed, withheld)
+    }
+}
+
+/// Whether the answer waits for a block of the log that begins after it: a report, if others watch the log. It leaves no entry, so
+/// a server that lost the log would not see it otherwise.
+fn waits_anew(is_shared: bool, ask: &Ask) -> bool
+    ensures { result ≡ (is_shared && is_report ask.now.asked) }
+{
+    match ask.asked {
+        Asked::Report(..) => is_shared,
+        _ => false,
+    }
+}
+
+/// Notes the basis of one more answer, and whether it waits for a block that begins after it.
+fn note_answer(reach: &mut Reach, basis: Option<Basis>, waits: bool)
+    ensures within { (sights : List (List Entry)) → IsWithin reach.old sights
+        → IfSome basis (λ b. b.place < length (row sights b.shard)) → IsWithin reach.new sights }
+    ensures anew { reach.new.is_anew ≡ (waits || reach.old.is_anew) }
+{
+    reach.note(basis);
+    if waits {
+        reach.note_anew();
     }
 }

@@ -78,14 +78,14 @@ impl<'a> Shelf<'a> {
 }
 
 impl<'a> Desk for Shelf<'a> {
-    ghost use Rattle.std.specs.Prelude.{◌≡◌};
+    ghost use Rattle.std.specs.Prelude.{◌≡◌, Some};
     ghost use Rattle.nmvs_messages.specs.Withheld.{told_where};
 
     type List = ReportList;
 
     ghost takes = { λ _ _ _ _ _. Unit {0} };
 
-    ghost releases = { λ shelf _ withheld said. said ≡ told_where shelf.kept withheld };
+    ghost releases = { λ shelf _ withheld said. said ≡ told_where (Some shelf.kept) withheld };
 
     ghost moves = { λ old new. new ≡ old };
 
@@ -104,7 +104,7 @@ impl<'a> Desk for Shelf<'a> {
     }
 
     fn release<'h>(&mut self, withheld: &'h mut WithheldAnswers) -> Released<'h> {
-        withheld.release_kept(&self.kept)
+        withheld.release_kept(Some(&self.kept))
     }
 }
 

@@ -1,4 +1,4 @@
-use Rattle.std.proofs.Common.{◌≡◌, ◌∙◌, ◌<◌, ◌+◌, ◌∷◌, ◌++◌, [], ℕ, suc, List, length, map, take, drop, set, get_or, sym, ap, arith, add-one}
+use Rattle.std.proofs.Common.{◌≡◌, ◌∙◌, ◌<◌, ◌+◌, ◌∷◌, ◌++◌, [], ℕ, suc, List, length, map, take, drop, set, get_or, option_copied, sym, ap, arith, add-one}
 use Rattle.std.proofs.Math.Seq.{drop-cons}
 use Rattle.std.proofs.lemmas.List.{map-append, map_more, take_more_set, drop-set-lt}
 use Rattle.nmvs_messages.specs.declared.answer.Answer.{Answer}
@@ -25,5 +25,5 @@ pub loop-withheld-preserved : goal.loop-withheld-preserved
 loop-withheld-preserved c =
     let loop = c.loop-withheld in
     let here : loop.withheld-index < length loop.list = omega (arith, c.loop-withheld-test.true, loop.auto.list) in
-    turned_more (told_where c.args.kept.now) c.args.list.now loop.list loop.withheld-index c.withheld-item.result c.turn_unkept.new.self
+    turned_more (told_where (option_copied c.args.kept)) c.args.list.now loop.list loop.withheld-index c.withheld-item.result c.turn_unkept.new.self
     here loop.auto.list loop.invariant.0 loop.invariant.1 c.turn_unkept.ensures

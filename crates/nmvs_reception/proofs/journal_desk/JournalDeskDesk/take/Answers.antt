@@ -8,4 +8,4 @@ invariant_of-self g c =
     let said = c.answer-answer.result in
     let serves = c.answer-answer.ensures.serves in
     let grown = within_more c.self.inside.reach old.clerk.sights new.clerk.sights (grows old c.args.from.now c.args.ask.now said.0 said.1 new serves) c.self.invariant in
-    c.note.ensures new.clerk.sights grown (reaches old c.args.from.now c.args.ask.now said.0 said.1 new serves)
+    c.note_answer.ensures.within new.clerk.sights grown (reaches old c.args.from.now c.args.ask.now said.0 said.1 new serves)
