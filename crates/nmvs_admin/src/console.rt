@@ -16,6 +16,7 @@ use std::io;
 use std::io::{ErrorKind, Read, Write};
 use std::net::Net;
 use std::rt::{Clock, Files};
+use std::sync::atomic::AtomicBool;
 use std::sync::{Arc, Mutex, Wait};
 use thiserror::Error;
 
@@ -62,7 +63,8 @@ pub type AdminSides<R, I, W> = (Device<Lines<R, I, W>>, Device<Answers<R, I, W>>
 /// It gives whole lines, each of one side. It cuts a line to its first 201 bytes. The text up to the next flush goes to the
 /// side of the last line, or to standard output if there is none. A connection that does not take all of its answer in 5
 /// seconds is closed, and delays no other. Without a socket the lines end with standard input. With a socket they never end,
-/// and a first SIGINT or SIGTERM that the process blocks is a line `STOP`.
+/// and a first SIGINT or SIGTERM that the process blocks is a line `STOP`. With a socket the interrupt, once it is set, makes one
+/// read fail, and is not set any more.
 ///
 /// # Errors
 ///
@@ -76,6 +78,7 @@ pub fn open<
     alloc: Global,
     standard: Console<(I, W)>,
     path: Option<&str>,
+    interrupt: Option<Arc<AtomicBool>>,
 ) -> Result<Console<AdminSides<R, I, W>>, AdminFault>
     ensures source { IfOk result (λ console. told_of console.source ≡ untouched_source) }
     ensures sink { IfOk result (λ console. taken_of console.sink ≡ untouched_sink) }
@@ -88,7 +91,14 @@ pub fn open<
         None => (None, Signals::none()),
     };
     let Console { source, sink } = standard;
-    let multiplexer = Mutex::new(Multiplexer::new(alloc, source, sink, connections, signals));
+    let multiplexer = Mutex::new(Multiplexer::new(
+        alloc,
+        source,
+        sink,
+        connections,
+        signals,
+        interrupt,
+    ));
     match Arc::new(alloc, Shared { rt, multiplexer }) {
         Ok(shared) => console_of(shared),
         Err(_) => Err(AdminFault::Memory),

@@ -13,10 +13,15 @@ use std::alloc::Global;
 use std::io;
 use std::io::ErrorKind;
 use std::rt::Clock;
-use std::sync::Wait;
+use std::sync::atomic::{AtomicBool, Ordering};
+use std::sync::{Arc, Wait};
+use std::time::Duration;
 
 /// The most sides: standard input, and each connection.
 const MOST_SIDES: usize = MOST_CONNECTIONS + 1;
+
+/// The milliseconds between two looks for an interrupt (own).
+const INTERRUPT_PAUSE: u64 = 100;
 
 /// The command of a signal to end.
 const STOP: &[u8] = b"STOP";
@@ -38,6 +43,8 @@ pub(crate) struct Multiplexer<I, W> {
     is_over: bool,
     connections: Option<Connections>,
     signals: Signals,
+    /// Whether a wait for a line is to end without one, if anybody may say so.
+    interrupt: Option<Arc<AtomicBool>>,
     /// The side that is looked at first for the next line.
     first: usize,
 }
@@ -49,6 +56,7 @@ impl<I: Source, W: Sink> Multiplexer<I, W> {
         output: W,
         connections: Option<Connections>,
         signals: Signals,
+        interrupt: Option<Arc<AtomicBool>>,
     ) -> Multiplexer<I, W> {
         Multiplexer {
             exchange: Exchange::new(alloc),
@@ -58,6 +66,7 @@ impl<I: Source, W: Sink> Multiplexer<I, W> {
             is_over: false,
             connections,
             signals,
+            interrupt,
             first: 0,
         }
     }
@@ -66,7 +75,7 @@ impl<I: Source, W: Sink> Multiplexer<I, W> {
     ///
     /// # Errors
     ///
-    /// The system refuses to report.
+    /// The system refuses to report, or the wait was interrupted.
     pub(crate) fn read<R: Wait + Clock + Log>(
         &mut self,
         rt: &R,
@@ -85,6 +94,9 @@ impl<I: Source, W: Sink> Multiplexer<I, W> {
         for _ in rt.forever() {
             if self.begin_next() || self.begin_stop() {
                 return Ok(());
+            }
+            if self.takes_interrupt() {
+                return Err(io::Error::from(ErrorKind::Interrupted));
             }
             if self.is_over && self.connections.is_none() {
                 self.begin_last();
@@ -119,6 +131,22 @@ impl<I: Source, W: Sink> Multiplexer<I, W> {
             self.exchange.begin(Side::Signal, line, b"\n");
         }
         has_come
+    }
+
+    /// Whether the wait for a line is interrupted. Each interrupt ends one wait.
+    fn takes_interrupt(&self) -> bool {
+        match &self.interrupt {
+            Some(interrupt) => interrupt.swap(false, Ordering::SeqCst),
+            None => false,
+        }
+    }
+
+    /// The longest wait for the sides until the next look for a signal or an interrupt.
+    fn pause(&self) -> Option<Duration> {
+        match &self.interrupt {
+            Some(_) => Some(Duration::from_millis(INTERRUPT_PAUSE)),
+            None => self.signals.pause(),
+        }
     }
 
     /// The next line of a side, if there is one.
@@ -168,9 +196,10 @@ impl<I: Source, W: Sink> Multiplexer<I, W> {
 
     /// Polls the sides. It waits if none has sent anything.
     fn poll<R: Clock>(&mut self, rt: &R) -> io::Result<()> {
+        let pause = self.pause();
         if let Some(connections) = &mut self.connections {
             let has_work = !self.is_over && connections.is_standard_ready();
-            connections.wait(rt, has_work, self.signals.pause())?;
+            connections.wait(rt, has_work, pause)?;
         }
         self.read_standard();
         Ok(())

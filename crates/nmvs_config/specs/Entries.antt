@@ -30,9 +30,12 @@ kind_of key =
     else if bytes_eq key (codes "admin") then Some Text
     else if bytes_eq key (codes "log-level") then Some Text
     else if bytes_eq key (codes "log-format") then Some Text
+    else if bytes_eq key (codes "cluster") then Some Text
+    else if bytes_eq key (codes "machine") then Some Text
     else if bytes_eq key (codes "listen") then Some Address
     else if bytes_eq key (codes "metrics") then Some Address
     else if bytes_eq key (codes "http") then Some Address
+    else if bytes_eq key (codes "engine") then Some Address
     else if bytes_eq key (codes "shards") then Some Number
     else if bytes_eq key (codes "expected-packs") then Some Number
     else if bytes_eq key (codes "workers") then Some Number
@@ -44,6 +47,7 @@ kind_of key =
     else if bytes_eq key (codes "burst") then Some Number
     else if bytes_eq key (codes "port") then Some Number
     else if bytes_eq key (codes "moment") then Some Number
+    else if bytes_eq key (codes "silence") then Some Number
     else if bytes_eq key (codes "stdin") then Some Flag
     else if bytes_eq key (codes "rehearsal") then Some Flag
     else if bytes_eq key (codes "log-users") then Some Flag

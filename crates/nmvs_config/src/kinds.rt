@@ -36,8 +36,8 @@ pub(crate) fn kind_of(key: &str) -> Option<Kind>
 {
     match key {
         "users" | "import" | "export" | "journal" | "bind" | "socket" | "proxy" => Some(Kind::Text),
-        "admin" | "log-level" | "log-format" => Some(Kind::Text),
-        "listen" | "http" | "metrics" => Some(Kind::Address),
+        "admin" | "log-level" | "log-format" | "cluster" | "machine" => Some(Kind::Text),
+        "listen" | "http" | "metrics" | "engine" => Some(Kind::Address),
         "shards"
         | "expected-packs"
         | "workers"
@@ -48,7 +48,8 @@ pub(crate) fn kind_of(key: &str) -> Option<Kind>
         | "rate"
         | "burst"
         | "port"
-        | "moment" => Some(Kind::Number),
+        | "moment"
+        | "silence" => Some(Kind::Number),
         "stdin" | "rehearsal" | "log-users" => Some(Kind::Flag),
         _ => None,
     }

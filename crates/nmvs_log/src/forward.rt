@@ -136,6 +136,14 @@ impl<R: Net> Net for EventLog<R> {
         self.rt.connect(address)
     }
 
+    fn connect_timeout(&self, address: SocketAddr, longest: Duration) -> io::Result<R::Stream> {
+        self.rt.connect_timeout(address, longest)
+    }
+
+    fn unix_pair(&self) -> io::Result<(net::UnixStream, net::UnixStream)> {
+        self.rt.unix_pair()
+    }
+
     fn connect_unix(&self, address: &net::SocketAddr) -> io::Result<net::UnixStream> {
         self.rt.connect_unix(address)
     }

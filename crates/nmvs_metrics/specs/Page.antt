@@ -5,6 +5,7 @@ use Rattle.nmvs_words.specs.Kinds.{kind_word}
 use Rattle.nmvs_words.specs.ReplyKinds.{reply_word}
 use Rattle.nmvs_metrics.specs.declared.snapshot.Answered.{Answered}
 use Rattle.nmvs_metrics.specs.declared.snapshot.Counted.{Counted}
+use Rattle.nmvs_metrics.specs.declared.snapshot.Following.{Following}
 use Rattle.nmvs_metrics.specs.declared.snapshot.Numbered.{Numbered}
 use Rattle.nmvs_metrics.specs.declared.snapshot.Bucket.{Bucket}
 use Rattle.nmvs_metrics.specs.declared.snapshot.Histogram.{Histogram}
@@ -154,10 +155,25 @@ log_lines j =
     ++ (histogram_text (codes "nmvs_journal_sync_seconds") (codes "histogram") (codes "Seconds that a sync of a journal's file took.") j.syncs
     ++ log_health_text j)
 
+-- whether a server among several machines follows another, and how many entries it has read so
+unfoldable pub standby_text : Following → List ℕ
+standby_text f =
+    single (codes "nmvs_standby") (codes "gauge") (codes "Whether the server follows that of another machine, 1 or 0.") (if f.is_standby then 1 else 0)
+    ++ single (codes "nmvs_log_following_entries") (codes "gauge") (codes "Entries of the log that the server has read as one that follows.") f.entries
+
+-- the state of the server among several machines, if it is one of them
+unfoldable pub following_text : Option Following → List ℕ
+following_text None = []
+following_text (Some f) = standby_text f
+
+-- the samples of a log, and the state of the server among several machines
+unfoldable pub some_log_text : LogSnapshot → List ℕ
+some_log_text j = log_lines j ++ following_text j.following
+
 -- the samples of the log, if there is one
 unfoldable pub log_text : Option LogSnapshot → List ℕ
 log_text None = []
-log_text (Some j) = log_lines j
+log_text (Some j) = some_log_text j
 
 -- the sample of a value of a clock or of the system, if it is reported
 unfoldable pub reported : List ℕ → List ℕ → List ℕ → Option ℕ → List ℕ

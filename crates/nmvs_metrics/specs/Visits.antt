@@ -2,21 +2,23 @@
 use Rattle.std.specs.Prelude.{ℕ, List, Bool, ◌||◌, codes, nat_lt, if◌then◌else◌}
 use Rattle.std.specs.Str.{bytes_eq}
 use Rattle.nmvs_metrics.specs.declared.readiness.Readiness.{Readiness}
-use Rattle.nmvs_metrics.specs.declared.readiness.Readiness.TheVariants.{Starting, Listening, LogFailed, LogHangs}
+use Rattle.nmvs_metrics.specs.declared.readiness.Readiness.TheVariants.{Starting, Standby, Listening, LogFailed, LogHangs}
 use Rattle.nmvs_metrics.specs.declared.service.Content.{Content}
 use Rattle.nmvs_metrics.specs.declared.service.Content.TheVariants.{Metrics, Alive, Ready, NoPage, NoMethod}
 
--- the readiness of a server that listens or not, whose log failed or not, and whose write or sync has taken this many
--- nanoseconds: after 5 seconds the log hangs
-abbrev pub readiness : Bool → Bool → ℕ → Readiness
-readiness listens has_failed nanoseconds =
+-- the readiness of a server that listens or not, follows another or not, whose log failed or not, and whose write or sync has
+-- taken this many nanoseconds: after 5 seconds the log hangs
+abbrev pub readiness : Bool → Bool → Bool → ℕ → Readiness
+readiness listens is_standby has_failed nanoseconds =
     if has_failed then LogFailed
+    else (if is_standby then Standby
     else (if nat_lt 5000000000 nanoseconds then LogHangs
-    else (if listens then Listening else Starting))
+    else (if listens then Listening else Starting)))
 
 -- the text of the answer to /readyz
 abbrev pub readiness_text : Readiness → List ℕ
 readiness_text Starting = codes "starting\n"
+readiness_text Standby = codes "standby\n"
 readiness_text Listening = codes "ok\n"
 readiness_text LogFailed = codes "log failed\n"
 readiness_text LogHangs = codes "log hangs\n"
@@ -24,6 +26,7 @@ readiness_text LogHangs = codes "log hangs\n"
 -- the status of the answer to /readyz
 abbrev pub readiness_status : Readiness → ℕ
 readiness_status Starting = 503
+readiness_status Standby = 503
 readiness_status Listening = 200
 readiness_status LogFailed = 503
 readiness_status LogHangs = 503

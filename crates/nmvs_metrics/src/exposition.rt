@@ -3,7 +3,7 @@ ghost use Rattle.std.specs.Prelude.{◌≡◌, ◌++◌, ℕ, List, IfOk, OnOk, 
 ghost use Rattle.std.specs.List.{flat_map};
 ghost use Rattle.nmvs_metrics.specs.Page as specs;
 
-use crate::{Answered, Bucket, Counted, Histogram, LogSnapshot, Numbered, Snapshot};
+use crate::{Answered, Bucket, Counted, Following, Histogram, LogSnapshot, Numbered, Snapshot};
 use itoa::Buffer;
 use std::alloc::{AllocError, Global};
 
@@ -253,9 +253,57 @@ fn append_log(alloc: Global, log: &Option<LogSnapshot>, text: &mut String) -> Re
     ensures { OnOk result (string_bytes text.new ≡ string_bytes text.old ++ specs.log_text log.now) }
 {
     match log {
-        Some(log) => append_log_lines(alloc, log, text),
+        Some(log) => append_some_log(alloc, log, text),
         None => Ok(()),
     }
+}
+
+/// The counts of the log, and the state of the server among several machines.
+#[tactic(auto, using(crate::proofs::Texts::appended), unfolding(crate::specs::Page::some_log_text))]
+fn append_some_log(alloc: Global, log: &LogSnapshot, text: &mut String) -> Result<(), AllocError>
+    ensures { OnOk result (string_bytes text.new ≡ string_bytes text.old ++ specs.some_log_text log.now) }
+{
+    append_log_lines(alloc, log, text)?;
+    append_following(alloc, &log.following, text)?;
+    Ok(())
+}
+
+/// The state of the server among several machines, if it is one of them.
+#[tactic(auto, unfolding(crate::specs::Page::following_text))]
+fn append_following(
+    alloc: Global,
+    following: &Option<Following>,
+    text: &mut String,
+) -> Result<(), AllocError>
+    ensures { OnOk result (string_bytes text.new ≡ string_bytes text.old ++ specs.following_text following.now) }
+{
+    match following {
+        Some(following) => append_standby(alloc, following, text),
+        None => Ok(()),
+    }
+}
+
+/// Whether the server follows another, and how many entries it has read so.
+#[tactic(auto, using(crate::proofs::Texts::appended), unfolding(crate::specs::Page::standby_text))]
+fn append_standby(alloc: Global, following: &Following, text: &mut String) -> Result<(), AllocError>
+    ensures { OnOk result (string_bytes text.new ≡ string_bytes text.old ++ specs.standby_text following.now) }
+{
+    let standby = Family {
+        name: "nmvs_standby",
+        kind: "gauge",
+        help: "Whether the server follows that of another machine, 1 or 0.",
+    };
+    let entries = Family {
+        name: "nmvs_log_following_entries",
+        kind: "gauge",
+        help: "Entries of the log that the server has read as one that follows.",
+    };
+    append(
+        single(alloc, standby, as_number(following.is_standby)),
+        text,
+    )?;
+    append(single(alloc, entries, following.entries), text)?;
+    Ok(())
 }
 
 #[tactic(auto, unfolding(crate::specs::Page::log_lines))]

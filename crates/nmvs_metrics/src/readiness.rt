@@ -12,6 +12,8 @@ const LONGEST_WRITE: u64 = 5_000_000_000;
 pub(crate) enum Readiness {
     /// It does not listen yet.
     Starting,
+    /// It follows the server of another machine.
+    Standby,
     Listening,
     /// No new entry can be answered any more.
     LogFailed,
@@ -19,13 +21,20 @@ pub(crate) enum Readiness {
     LogHangs,
 }
 
-/// The readiness of a server that listens or not, and whose log failed or not. The write or sync of the log that is under way
-/// has taken this many nanoseconds, or 0 if none is.
-pub(crate) fn readiness_of(listens: bool, has_failed: bool, nanoseconds: u64) -> Readiness
-    ensures { result ≡ specs.readiness listens has_failed nanoseconds }
+/// The readiness of a server that listens or not, follows another or not, and whose log failed or not. The write or sync of
+/// the log that is under way has taken this many nanoseconds, or 0 if none is.
+pub(crate) fn readiness_of(
+    listens: bool,
+    is_standby: bool,
+    has_failed: bool,
+    nanoseconds: u64,
+) -> Readiness
+    ensures { result ≡ specs.readiness listens is_standby has_failed nanoseconds }
 {
     if has_failed {
         Readiness::LogFailed
+    } else if is_standby {
+        Readiness::Standby
     } else if nanoseconds > LONGEST_WRITE {
         Readiness::LogHangs
     } else if listens {
@@ -41,6 +50,7 @@ pub(crate) fn text_of(readiness: Readiness) -> &'static str
 {
     match readiness {
         Readiness::Starting => "starting\n",
+        Readiness::Standby => "standby\n",
         Readiness::Listening => "ok\n",
         Readiness::LogFailed => "log failed\n",
         Readiness::LogHangs => "log hangs\n",
@@ -53,7 +63,7 @@ pub(crate) fn status_of(readiness: Readiness) -> StatusCode
 {
     match readiness {
         Readiness::Listening => StatusCode::OK,
-        Readiness::Starting | Readiness::LogFailed | Readiness::LogHangs => {
+        Readiness::Starting | Readiness::Standby | Readiness::LogFailed | Readiness::LogHangs => {
             StatusCode::SERVICE_UNAVAILABLE
         }
     }

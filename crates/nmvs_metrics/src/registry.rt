@@ -6,7 +6,7 @@ use crate::kinds::{
 };
 use crate::readiness::{Readiness, readiness_of};
 use crate::times::{Times, empty};
-use crate::{Answered, Counted, Histogram, LogSnapshot, Numbered, Snapshot, uptime};
+use crate::{Answered, Counted, Following, Histogram, LogSnapshot, Numbered, Snapshot, uptime};
 use nmvs_messages::{Content, Released};
 use nmvs_rules::{Question, Reply};
 use nmvs_words::{QuestionKind, cause_word, refusal_word};
@@ -83,6 +83,12 @@ struct LogCounts {
     has_failed: AtomicBool,
     /// When the write or sync that is under way began, in nanoseconds since the machine runs, or 0 if none is.
     began: AtomicU64,
+    /// Whether the server is one of several machines.
+    is_shared: AtomicBool,
+    /// Whether it follows another.
+    is_standby: AtomicBool,
+    /// How many entries it has read of the log as one that follows.
+    followed: AtomicU64,
 }
 
 impl LogCounts {
@@ -92,6 +98,20 @@ impl LogCounts {
             syncs,
             has_failed: AtomicBool::new(false),
             began: AtomicU64::new(0),
+            is_shared: AtomicBool::new(false),
+            is_standby: AtomicBool::new(false),
+            followed: AtomicU64::new(0),
+        })
+    }
+
+    /// The state of the server among several machines, if it is one of them.
+    fn following(&self) -> Option<Following> {
+        if !self.is_shared.load(Ordering::SeqCst) {
+            return None;
+        }
+        Some(Following {
+            is_standby: self.is_standby.load(Ordering::SeqCst),
+            entries: self.followed.load(Ordering::SeqCst),
         })
     }
 
@@ -181,11 +201,15 @@ impl Metrics {
 
     /// Whether the server is ready, when the machine runs for this long.
     pub(crate) fn readiness(&self, uptime: Duration) -> Readiness {
-        let (has_failed, writing) = match &self.log {
-            Some(log) => (log.has_failed.load(Ordering::SeqCst), log.writing(uptime)),
-            None => (false, 0),
+        let Some(log) = &self.log else {
+            return readiness_of(self.is_ready(), false, false, 0);
         };
-        readiness_of(self.is_ready(), has_failed, writing)
+        readiness_of(
+            self.is_ready(),
+            log.is_standby.load(Ordering::SeqCst),
+            log.has_failed.load(Ordering::SeqCst),
+            log.writing(uptime),
+        )
     }
 
     /// Whether the server listens.
@@ -274,6 +298,21 @@ impl Metrics {
     pub fn note_written(&self) {
         if let Some(log) = &self.log {
             log.began.store(0, Ordering::SeqCst);
+        }
+    }
+
+    /// Notes whether the server, which is one of several machines, follows another.
+    pub fn note_standby(&self, is_standby: bool) {
+        if let Some(log) = &self.log {
+            log.is_shared.store(true, Ordering::SeqCst);
+            log.is_standby.store(is_standby, Ordering::SeqCst);
+        }
+    }
+
+    /// Counts entries of the log that the server reads as one that follows.
+    pub fn note_followed(&self, entries: u64) {
+        if let Some(log) = &self.log {
+            log.followed.fetch_add(entries, Ordering::SeqCst);
         }
     }
 
@@ -615,6 +654,7 @@ impl Metrics {
             syncs,
             has_failed: log.has_failed.load(Ordering::SeqCst),
             writing: log.writing(uptime),
+            following: log.following(),
         };
         self.push_log(&mut snapshot)?;
         Ok(Some(snapshot))

@@ -53,6 +53,17 @@ pub struct LogSnapshot {
     pub has_failed: bool,
     /// How many nanoseconds the write or sync that is under way has taken, or 0 if none is.
     pub writing: u64,
+    /// The state of a server among several machines, if it is one of them.
+    pub following: Option<Following>,
+}
+
+/// The state of a server among several machines.
+#[derive(Clone, Copy)]
+pub struct Following {
+    /// Whether it follows another server.
+    pub is_standby: bool,
+    /// How many entries it has read of the log as one that follows.
+    pub entries: u64,
 }
 
 /// The counts of a server at one moment.

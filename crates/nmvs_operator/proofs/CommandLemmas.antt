@@ -89,6 +89,9 @@ stop_lines counts old (Ok orders.Reload) lines none stop = absurd cc
 stop_lines counts old (Ok (orders.Export p)) lines none stop = absurd cc
 stop_lines counts old (Ok orders.Users) lines none stop = absurd cc
 stop_lines counts old (Ok (orders.Count t)) lines none stop = absurd cc
+stop_lines counts old (Ok orders.TakeOver) lines none stop = absurd cc
+stop_lines counts old (Ok orders.HandOver) lines none stop = absurd cc
+stop_lines counts old (Ok (orders.Trim n)) lines none stop = absurd cc
 stop_lines counts old (Ok orders.Help) lines none stop = absurd cc
 stop_lines counts old (Err f) lines none stop = absurd cc
 
@@ -231,6 +234,9 @@ not_stop (orders.Export path) other = refl
 not_stop orders.Users other = refl
 not_stop (orders.Count topic) other = refl
 not_stop orders.Stop other = absurd (other refl)
+not_stop orders.TakeOver other = refl
+not_stop orders.HandOver other = refl
+not_stop (orders.Trim blocks) other = refl
 not_stop orders.Help other = refl
 
 -- another order than USERS, STATS, CONNECTIONS and ALERTS lists nothing
@@ -242,6 +248,9 @@ no_lines counts office (orders.Export path) users counted = refl
 no_lines counts office orders.Users users counted = absurd (users refl)
 no_lines counts office (orders.Count topic) users counted = absurd (counted topic refl)
 no_lines counts office orders.Stop users counted = refl
+no_lines counts office orders.TakeOver users counted = refl
+no_lines counts office orders.HandOver users counted = refl
+no_lines counts office (orders.Trim blocks) users counted = refl
 no_lines counts office orders.Help users counted = refl
 
 -- of the faults those of a users file alone are listed

@@ -57,6 +57,9 @@ IsKeepFile (deeds.KeepFile file) bytes = file.now ≡ bytes
 IsKeepFile (deeds.Keep command) bytes = ⊥
 IsKeepFile (deeds.Export path) bytes = ⊥
 IsKeepFile deeds.Stop bytes = ⊥
+IsKeepFile deeds.TakeOver bytes = ⊥
+IsKeepFile deeds.HandOver bytes = ⊥
+IsKeepFile (deeds.Trim blocks) bytes = ⊥
 
 -- the server kept the changes of a users file that has no fault, or failed to with this fault
 pub record KeepsFile {S : Type 0} (does : Does S) (old : S) (bytes : List ℕ) (fault : Option ServiceFault) (new : S) : Type 0 where
@@ -70,6 +73,9 @@ abbrev pub Performs : {S : Type 0} → Does S → S → Order → Option Service
 Performs does old (orders.Change command) fault new = does old (deeds.Keep command) fault new
 Performs does old (orders.Export path) fault new = does old (deeds.Export path) fault new
 Performs does old orders.Stop fault new = does old deeds.Stop fault new
+Performs does old orders.TakeOver fault new = does old deeds.TakeOver fault new
+Performs does old orders.HandOver fault new = does old deeds.HandOver fault new
+Performs does old (orders.Trim blocks) fault new = does old (deeds.Trim blocks) fault new
 Performs does old orders.Reload None new = (bytes : List ℕ) × KeepsFile does old bytes None new
 Performs does old orders.Reload (Some fault) new = (new ≡ old) ⊎ ((bytes : List ℕ) × KeepsFile does old bytes (Some fault) new)
 Performs does old orders.Users None new = new ≡ old
@@ -108,6 +114,9 @@ Changes does old (orders.Export path) new = UsersStay old new
 Changes does old orders.Users new = UsersStay old new
 Changes does old (orders.Count topic) new = UsersStay old new
 Changes does old orders.Stop new = UsersStay old new
+Changes does old orders.TakeOver new = UsersStay old new
+Changes does old orders.HandOver new = UsersStay old new
+Changes does old (orders.Trim blocks) new = UsersStay old new
 Changes does old orders.Help new = UsersStay old new
 
 -- an order was carried out
@@ -150,6 +159,9 @@ asks_lines (orders.Export path) = false
 asks_lines orders.Users = true
 asks_lines (orders.Count topic) = true
 asks_lines orders.Stop = false
+asks_lines orders.TakeOver = false
+asks_lines orders.HandOver = false
+asks_lines (orders.Trim blocks) = false
 asks_lines orders.Help = false
 
 -- memory was wanting for the lines that an order asks for, and nothing changed
@@ -182,6 +194,9 @@ Lists counts old (Ok (orders.Change command)) lines = lines ≡ []
 Lists counts old (Ok orders.Reload) lines = lines ≡ []
 Lists counts old (Ok (orders.Export path)) lines = lines ≡ []
 Lists counts old (Ok orders.Stop) lines = lines ≡ []
+Lists counts old (Ok orders.TakeOver) lines = lines ≡ []
+Lists counts old (Ok orders.HandOver) lines = lines ≡ []
+Lists counts old (Ok (orders.Trim blocks)) lines = lines ≡ []
 Lists counts old (Ok orders.Help) lines = lines ≡ []
 Lists counts old (Err obey.Users) lines =
     (bytes : List ℕ) × (0 < length (faults_from 1 bytes)) × (lines ≡ fault_lines (faults_from 1 bytes))
@@ -228,10 +243,13 @@ service_word service.Memory = codes "MEMORY"
 service_word service.Clock = codes "CLOCK"
 service_word service.Read = codes "READ"
 service_word service.NoFile = codes "NOFILE"
+service_word service.Engine = codes "ENGINE"
+service_word service.Standby = codes "STANDBY"
+service_word service.Untrimmed = codes "TRIM"
 
 -- the answer to HELP: the list of the orders, and its last line
 abbrev pub help_text : List ℕ
-help_text = codes "ENROL user role authorisation premises\nSUSPEND user\nREMOVE user\nRELOAD\nEXPORT file\nUSERS\nSTATS\nCONNECTIONS\nALERTS\nSTOP\nHELP\nDONE\n"
+help_text = codes "ENROL user role authorisation premises\nSUSPEND user\nREMOVE user\nRELOAD\nEXPORT file\nUSERS\nSTATS\nCONNECTIONS\nALERTS\nSTOP\nTAKE OVER\nHAND OVER\nTRIM blocks\nHELP\nDONE\n"
 
 -- the last line of the answer to an order; and to HELP the whole answer
 abbrev pub order_text : Result Order ObeyFault → List ℕ

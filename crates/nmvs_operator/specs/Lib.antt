@@ -7,3 +7,5 @@ pub mod UsersFaults
 pub mod Commands
 pub mod Progress
 pub mod Address
+pub mod ClusterNames
+pub mod Standby

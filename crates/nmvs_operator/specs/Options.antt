@@ -11,6 +11,7 @@ pub record AreInRange (o : Options) : Type 0 where
   pub sessions : o.sessions ≤ 1000000
   pub connections : (1 ≤ o.connections) × (o.connections ≤ 100000)
   pub connection_memory : (1 ≤ o.connection_memory) × (o.connection_memory ≤ 1048576)
+  pub silence : (1 ≤ o.silence) × (o.silence ≤ 3600)
   pub idle : o.idle ≤ 86400
   pub rate : o.rate ≤ 1000000
   pub burst : o.burst ≤ 1000000

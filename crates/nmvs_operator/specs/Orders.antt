@@ -1,6 +1,7 @@
 -- The one line of each order of the operator, and the first fault of a line (own).
-use Rattle.std.specs.Prelude.{◌≡◌, ℕ, Bool, true, List, [], ◌∷◌, codes, Option, Some, None, Result, Ok, Err, if◌then◌else◌, IsTrue}
+use Rattle.std.specs.Prelude.{◌≡◌, ◌^◌, ◌&&◌, ℕ, Bool, true, nat_lt, List, [], ◌∷◌, codes, decimal, Option, Some, None, Result, Ok, Err, if◌then◌else◌, IsTrue}
 use Rattle.std.specs.Str.{bytes_eq}
+use Rattle.std.specs.Str.Parse.{digits_value}
 use Rattle.nmvs_messages.specs.Commands.{command_fields, is_command, fields_fault}
 use Rattle.nmvs_messages.specs.Fields.{line_of_fields, line_fault}
 use Rattle.nmvs_messages.specs.declared.command.CommandFault.{CommandFault}
@@ -24,6 +25,9 @@ order_fields (orders.Export path) = codes "EXPORT" ∷ path.now ∷ []
 order_fields orders.Users = codes "USERS" ∷ []
 order_fields (orders.Count topic) = topic_word topic ∷ []
 order_fields orders.Stop = codes "STOP" ∷ []
+order_fields orders.TakeOver = codes "TAKE" ∷ codes "OVER" ∷ []
+order_fields orders.HandOver = codes "HAND" ∷ codes "OVER" ∷ []
+order_fields (orders.Trim blocks) = codes "TRIM" ∷ decimal blocks ∷ []
 order_fields orders.Help = codes "HELP" ∷ []
 
 -- the line of an order, without LF
@@ -38,6 +42,9 @@ is_order (orders.Export path) = true
 is_order orders.Users = true
 is_order (orders.Count topic) = true
 is_order orders.Stop = true
+is_order orders.TakeOver = true
+is_order orders.HandOver = true
+is_order (orders.Trim blocks) = nat_lt blocks (2 ^ 64)
 is_order orders.Help = true
 
 -- the first fault of an export with these texts after its word
@@ -50,12 +57,35 @@ abbrev pub alone_fault : List (List ℕ) → Option CommandFault
 alone_fault [] = None
 alone_fault _ = Some fault.Fields
 
+-- the first fault of these texts after a word that OVER alone follows
+abbrev pub over_fault : List (List ℕ) → Option CommandFault
+over_fault (text ∷ []) = if bytes_eq text (codes "OVER") then None else Some fault.Fields
+over_fault _ = Some fault.Fields
+
+-- whether a text is a number below 2^64 in decimal, without leading zeros
+abbrev pub is_number : List ℕ → Bool
+is_number text = bytes_eq text (decimal (digits_value 10 text)) && nat_lt (digits_value 10 text) (2 ^ 64)
+
+-- the first fault of a trim with these texts after its word
+abbrev pub trim_fault : List (List ℕ) → Option CommandFault
+trim_fault (text ∷ []) = if is_number text then None else Some fault.Fields
+trim_fault _ = Some fault.Fields
+
+-- the first fault of these fields, of an order about several machines or of one that changes a user
+unfoldable pub turn_fault : List (List ℕ) → Option CommandFault
+turn_fault [] = Some fault.Word
+turn_fault (word ∷ texts) =
+    if bytes_eq word (codes "TAKE") then over_fault texts
+    else if bytes_eq word (codes "HAND") then over_fault texts
+    else if bytes_eq word (codes "TRIM") then trim_fault texts
+    else fields_fault (word ∷ texts)
+
 -- the first fault of these fields, of an order that changes the users
 unfoldable pub change_fault : List (List ℕ) → Option CommandFault
 change_fault [] = Some fault.Word
 change_fault (word ∷ texts) =
     if bytes_eq word (codes "RELOAD") then alone_fault texts
-    else fields_fault (word ∷ texts)
+    else turn_fault (word ∷ texts)
 
 -- the first fault of these fields, of an order that asks for lines or changes the users
 unfoldable pub listing_fault : List (List ℕ) → Option CommandFault

@@ -1,7 +1,7 @@
 //! The options that a command line may have, and their help.
 use crate::options::{
     MOST_CONNECTION_MEMORY, MOST_CONNECTIONS, MOST_EXPECTED_PACKS, MOST_IDLE, MOST_RATE,
-    MOST_SESSIONS, MOST_SHARDS, MOST_WORKERS,
+    MOST_SESSIONS, MOST_SHARDS, MOST_SILENCE, MOST_WORKERS,
 };
 use clap::{Arg, ArgAction, Command, value_parser};
 use nmvs_identifier::LAST_MOMENT;
@@ -41,7 +41,7 @@ enum Value {
 }
 
 /// The options, in the order in which the help shows them.
-static OPTIONS: [Described; 26] = [
+static OPTIONS: [Described; 30] = [
     Described {
         name: "users",
         value: Value::Text("FILE"),
@@ -71,6 +71,31 @@ static OPTIONS: [Described; 26] = [
         value: Value::Text("DIR"),
         default: None,
         help: "Folder of the log: an answer goes out once its entry is on the disk there, and each start goes on from it",
+    },
+    Described {
+        name: "engine",
+        value: Value::Text("ADDRESS"),
+        default: None,
+        help: "Address and port of this machine's etcd, which keeps the log on several machines: one server answers, the others \
+        follow; a port alone is one of 127.0.0.1",
+    },
+    Described {
+        name: "cluster",
+        value: Value::Text("NAME"),
+        default: None,
+        help: "Name of the servers that share a log in etcd, 1 to 63 letters, digits and -",
+    },
+    Described {
+        name: "machine",
+        value: Value::Text("NAME"),
+        default: None,
+        help: "Name of this machine in the cluster, 1 to 63 letters, digits and -",
+    },
+    Described {
+        name: "silence",
+        value: Value::Number(1, MOST_SILENCE as i64),
+        default: Some("3"),
+        help: "Seconds of silence of the server that answers, after which one that follows takes over, 1 to 3600",
     },
     Described {
         name: "config",

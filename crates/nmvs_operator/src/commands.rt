@@ -34,7 +34,7 @@ pub(crate) const DONE: &str = "DONE\n";
 
 /// The answer to `HELP`.
 const HELP: &str =
-    "ENROL user role authorisation premises\nSUSPEND user\nREMOVE user\nRELOAD\nEXPORT file\nUSERS\nSTATS\nCONNECTIONS\nALERTS\nSTOP\nHELP\nDONE\n";
+    "ENROL user role authorisation premises\nSUSPEND user\nREMOVE user\nRELOAD\nEXPORT file\nUSERS\nSTATS\nCONNECTIONS\nALERTS\nSTOP\nTAKE OVER\nHAND OVER\nTRIM blocks\nHELP\nDONE\n";
 
 /// Carries out the orders of a console one by one, as they come, and answers each. A change of the users is kept by the
 /// server first, then published at once, and its notice shown as the latest.
@@ -235,6 +235,9 @@ fn perform<S: Service>(order: &Order<'_>, service: &mut S) -> Result<(), Service
         Order::Change(command) => service.perform(&Deed::Keep(*command)),
         Order::Export(path) => service.perform(&Deed::Export(path)),
         Order::Stop => service.perform(&Deed::Stop),
+        Order::TakeOver => service.perform(&Deed::TakeOver),
+        Order::HandOver => service.perform(&Deed::HandOver),
+        Order::Trim(blocks) => service.perform(&Deed::Trim(*blocks)),
         Order::Users | Order::Count(_) | Order::Reload | Order::Help => Ok(()),
     }
 }
@@ -348,7 +351,7 @@ pub(crate) fn tell<W: Sink>(text: &str, sink: &mut W)
 }
 
 /// The answer to an order that was carried out.
-fn done_text(order: &Order<'_>) -> &'static str
+pub(crate) fn done_text(order: &Order<'_>) -> &'static str
     ensures { result.now ≡ text_of_answer (Ok order.now) }
 {
     match order {
@@ -376,6 +379,9 @@ pub(crate) fn fault_text(fault: ObeyFault) -> &'static str
         ObeyFault::Undone(ServiceFault::Clock) => "FAULT CLOCK\n",
         ObeyFault::Undone(ServiceFault::Read) => "FAULT READ\n",
         ObeyFault::Undone(ServiceFault::NoFile) => "FAULT NOFILE\n",
+        ObeyFault::Undone(ServiceFault::Engine) => "FAULT ENGINE\n",
+        ObeyFault::Undone(ServiceFault::Standby) => "FAULT STANDBY\n",
+        ObeyFault::Undone(ServiceFault::Untrimmed) => "FAULT TRIM\n",
         ObeyFault::Memory => "FAULT MEMORY\n",
         ObeyFault::Users => "FAULT USERS\n",
         ObeyFault::Unended => "FAULT UNENDED\n",

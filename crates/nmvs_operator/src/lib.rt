@@ -9,6 +9,7 @@
 #![tactic(auto)]
 
 mod address;
+mod cluster_name;
 mod command_line;
 mod commands;
 mod faults;
@@ -19,6 +20,7 @@ mod order;
 mod reload;
 mod roll;
 mod service;
+mod standby;
 mod users;
 mod users_check;
 
@@ -28,11 +30,12 @@ pub use faults::{LoadFault, ObeyFault};
 pub use figures::{Figure, Topic};
 pub use latest::Latest;
 pub use options::{
-    MOST_CONNECTIONS, MOST_IDLE, MOST_RATE, MOST_SESSIONS, MOST_SHARDS, MOST_WORKERS, NEW_YEAR,
-    OptionFault, Options, read_options,
+    MOST_CONNECTIONS, MOST_IDLE, MOST_RATE, MOST_SESSIONS, MOST_SHARDS, MOST_SILENCE, MOST_WORKERS,
+    NEW_YEAR, OptionFault, Options, read_options,
 };
 pub use order::{Order, read_order};
 pub use roll::{UserCounts, count_users};
 pub use service::{Deed, Service, ServiceFault};
+pub use standby::{Standby, obey_standby, read_standby};
 pub use users::{load_users, read_all, users_trouble};
 pub use users_check::{UsersFault, changes_nothing, users_faults};

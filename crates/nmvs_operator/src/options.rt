@@ -4,6 +4,7 @@ ghost use Rattle.nmvs_identifier.specs.Moment.{last_moment};
 ghost use Rattle.nmvs_operator.specs.Options.{AreInRange};
 
 use crate::address::{address_in, is_path, own_address};
+use crate::cluster_name::is_cluster_name;
 use crate::command_line::command;
 use clap::error::ErrorKind;
 use clap::{ArgMatches, Error};
@@ -38,6 +39,9 @@ pub const MOST_IDLE: u64 = 86_400;
 /// The most lines of a user that are let through in a second, and at once (own).
 pub const MOST_RATE: u64 = 1_000_000;
 
+/// The longest silence of the owner after which a follower takes over, in seconds: an hour (own).
+pub const MOST_SILENCE: u64 = 3_600;
+
 /// 1 January 2026, 00:00:00 UTC, in seconds: the one moment of a rehearsal that names no other (own).
 pub const NEW_YEAR: i64 = 1_767_225_600;
 
@@ -52,6 +56,14 @@ pub struct Options {
     pub export: Option<String>,
     /// Path of the folder of the log.
     pub journal: Option<String>,
+    /// The address of the engine that keeps the log on several machines, if one does.
+    pub engine: Option<SocketAddr>,
+    /// The name of the servers that share a log.
+    pub cluster: Option<String>,
+    /// The name of this machine.
+    pub machine: Option<String>,
+    /// The seconds of silence of the owner after which a follower takes over, 1 to 3,600.
+    pub silence: u64,
     /// How many shards the repository has, 1 to 8.
     pub shards: usize,
     /// A start makes room for this many packs, in equal parts of the shards, 0 to 10,000,000,000.
@@ -162,7 +174,9 @@ fn values_of(alloc: Global, matches: &ArgMatches<'_>) -> Result<Options, OptionF
     let http = http_of(alloc, matches)?;
     let proxy = proxy_of(alloc, matches)?;
     let moment = moment_of(alloc, matches)?;
-    let metrics = metrics_of(alloc, matches)?;
+    let metrics = address_if_given(alloc, matches, "metrics")?;
+    let engine = address_if_given(alloc, matches, "engine")?;
+    let silence = within(alloc, matches, "silence", 1, MOST_SILENCE)?;
     let log_level = level_of(alloc, matches)?;
     let log_format = format_of(alloc, matches)?;
     Ok(Options {
@@ -170,6 +184,10 @@ fn values_of(alloc: Global, matches: &ArgMatches<'_>) -> Result<Options, OptionF
         import: None,
         export: None,
         journal: None,
+        engine,
+        cluster: None,
+        machine: None,
+        silence,
         shards,
         expected_packs,
         workers,
@@ -195,7 +213,7 @@ fn values_of(alloc: Global, matches: &ArgMatches<'_>) -> Result<Options, OptionF
     })
 }
 
-/// Takes the paths that the options name.
+/// Takes the paths and names of the options.
 fn take_paths(
     alloc: Global,
     matches: &ArgMatches<'_>,
@@ -208,13 +226,15 @@ fn take_paths(
     take_path(alloc, matches, "import", &mut options.import)?;
     take_path(alloc, matches, "export", &mut options.export)?;
     take_path(alloc, matches, "journal", &mut options.journal)?;
+    take_path(alloc, matches, "cluster", &mut options.cluster)?;
+    take_path(alloc, matches, "machine", &mut options.machine)?;
     take_socket(alloc, matches, "listen", &mut options.socket)?;
     take_path(alloc, matches, "socket", &mut options.socket)?;
     take_socket(alloc, matches, "http", &mut options.http_socket)?;
     take_path(alloc, matches, "admin", &mut options.admin)
 }
 
-/// Takes the path that an option names, if it is given.
+/// Takes the path or name of an option, if it is given.
 fn take_path(
     alloc: Global,
     matches: &ArgMatches<'_>,
@@ -267,7 +287,65 @@ fn clash_of(matches: &ArgMatches<'_>) -> Option<&'static str> {
             "error: '--metrics <ADDRESS>' is for connections, and can't be used with '--stdin'\n",
         );
     }
+    clash_of_cluster(matches)
+}
+
+/// The text for options of a cluster that lack others or exclude them, if there are such.
+fn clash_of_cluster(matches: &ArgMatches<'_>) -> Option<&'static str> {
+    if !matches.contains_id("engine") {
+        return clash_without_engine(matches);
+    }
+    if !matches.contains_id("cluster") {
+        return Some("error: '--engine <ADDRESS>' needs '--cluster <NAME>'\n");
+    }
+    if !matches.contains_id("machine") {
+        return Some("error: '--engine <ADDRESS>' needs '--machine <NAME>'\n");
+    }
+    if !matches.contains_id("journal") {
+        return Some(
+            "error: '--engine <ADDRESS>' needs '--journal <DIR>', the folder of its copy\n",
+        );
+    }
+    if !matches.contains_id("admin") {
+        return Some("error: '--engine <ADDRESS>' needs '--admin <PATH>', for TAKE OVER\n");
+    }
+    if matches.contains_id("import") {
+        return Some("error: '--import <FILE>' can't be used with '--engine <ADDRESS>'\n");
+    }
+    clash_of_names(matches)
+}
+
+/// The text for an option of a cluster without an engine, if there is one.
+fn clash_without_engine(matches: &ArgMatches<'_>) -> Option<&'static str> {
+    if matches.contains_id("cluster") {
+        return Some("error: '--cluster <NAME>' needs '--engine <ADDRESS>'\n");
+    }
+    if matches.contains_id("machine") {
+        return Some("error: '--machine <NAME>' needs '--engine <ADDRESS>'\n");
+    }
     None
+}
+
+/// The text for a cluster or a machine of another name than one of letters, digits and `-`, if there is such.
+fn clash_of_names(matches: &ArgMatches<'_>) -> Option<&'static str> {
+    if !is_named(matches, "cluster") {
+        return Some(
+            "error: the value of '--cluster <NAME>' is not 1 to 63 letters, digits and -\n",
+        );
+    }
+    if !is_named(matches, "machine") {
+        return Some(
+            "error: the value of '--machine <NAME>' is not 1 to 63 letters, digits and -\n",
+        );
+    }
+    None
+}
+
+/// Whether the value of an option is a name of 1 to 63 letters, digits and `-`.
+fn is_named(matches: &ArgMatches<'_>, option: &str) -> bool {
+    matches
+        .get_str(option)
+        .is_some_and(|text| is_cluster_name(text))
 }
 
 /// The lines of a user at once, by the option or else those of a second.
@@ -317,10 +395,14 @@ fn bound_ip(alloc: Global, matches: &ArgMatches<'_>) -> Result<IpAddr, OptionFau
     ))
 }
 
-/// The address of the metrics, if the option is given.
-fn metrics_of(alloc: Global, matches: &ArgMatches<'_>) -> Result<Option<SocketAddr>, OptionFault> {
-    match matches.get_str("metrics") {
-        Some(text) => Ok(Some(spelled(alloc, text, "metrics")?)),
+/// The address of an option, if it is given.
+fn address_if_given(
+    alloc: Global,
+    matches: &ArgMatches<'_>,
+    name: &str,
+) -> Result<Option<SocketAddr>, OptionFault> {
+    match matches.get_str(name) {
+        Some(text) => Ok(Some(spelled(alloc, text, name)?)),
         None => Ok(None),
     }
 }

@@ -1,10 +1,11 @@
 //! The operator's lines.
-ghost use Rattle.std.specs.Prelude.{◌≡◌, [], ◌∷◌, map, IfOk, OnOk, IsTrue, codes};
+ghost use Rattle.std.specs.Prelude.{◌≡◌, [], ◌∷◌, map, IfOk, OnOk, IfSome, IsTrue, is_some, codes, decimal};
 ghost use Rattle.std.specs.Result.{result_err};
 ghost use Rattle.nmvs_messages.specs.Commands.{fields_fault};
-ghost use Rattle.nmvs_operator.specs.Orders.{ReadsOrder, order_fields, is_order, order_fault, listing_fault, change_fault, alone_fault, export_fault};
+ghost use Rattle.nmvs_operator.specs.Orders.{ReadsOrder, order_fields, is_order, order_fault, listing_fault, change_fault, turn_fault, over_fault, trim_fault, is_number, alone_fault, export_fault};
 
 use crate::Topic;
+use itoa::Buffer;
 use nmvs_messages::{Command, CommandFault, command_of, fields_of};
 
 /// The order that a line of the operator gives (own).
@@ -22,6 +23,12 @@ pub enum Order<'l> {
     Count(Topic),
     /// The end of the server.
     Stop,
+    /// To answer in place of the server of another machine.
+    TakeOver,
+    /// To end, so that the server of another machine answers.
+    HandOver,
+    /// To take from the engine the blocks of the log up to this number.
+    Trim(u64),
     /// The list of the orders.
     Help,
 }
@@ -131,8 +138,78 @@ fn read_change<'l>(fields: &[&'l str]) -> Result<Order<'l>, CommandFault>
                 stands_alone(texts)?;
                 Ok(Order::Reload)
             }
+            _ => read_turn(fields),
+        },
+    }
+}
+
+/// The order that has these fields, if it is about several machines, or changes a user.
+#[tactic(auto, unfolding(crate::specs::Orders::turn_fault))]
+fn read_turn<'l>(fields: &[&'l str]) -> Result<Order<'l>, CommandFault>
+    ensures fields { IfOk result (λ order. order_fields order ≡ map (λ f. f.now) fields.now) }
+    ensures valid { IfOk result (λ order. IsTrue (is_order order)) }
+    ensures fault { result_err result ≡ turn_fault (map (λ f. f.now) fields.now) }
+{
+    match fields {
+        [] => Err(CommandFault::Word),
+        [word, texts @ ..] => match *word {
+            "TAKE" => {
+                is_over(texts)?;
+                Ok(Order::TakeOver)
+            }
+            "HAND" => {
+                is_over(texts)?;
+                Ok(Order::HandOver)
+            }
+            "TRIM" => read_trim(texts),
             _ => read_command_fields(fields),
         },
+    }
+}
+
+/// Whether the one text after a word is `OVER`.
+fn is_over(texts: &[&str]) -> Result<(), CommandFault>
+    ensures over { OnOk result (map (λ t. t.now) texts.now ≡ codes "OVER" ∷ []) }
+    ensures fault { result_err result ≡ over_fault (map (λ t. t.now) texts.now) }
+{
+    match texts {
+        [] => Err(CommandFault::Fields),
+        [text] => match *text {
+            "OVER" => Ok(()),
+            _ => Err(CommandFault::Fields),
+        },
+        [_, _, ..] => Err(CommandFault::Fields),
+    }
+}
+
+/// The order to trim the log that has these texts after its word.
+fn read_trim<'l>(texts: &[&str]) -> Result<Order<'l>, CommandFault>
+    ensures fields { IfOk result (λ order.
+        order_fields order ≡ codes "TRIM" ∷ map (λ t. t.now) texts.now) }
+    ensures valid { IfOk result (λ order. IsTrue (is_order order)) }
+    ensures fault { result_err result ≡ trim_fault (map (λ t. t.now) texts.now) }
+{
+    match texts {
+        [text] => match number_in(text) {
+            Some(blocks) => Ok(Order::Trim(blocks)),
+            None => Err(CommandFault::Fields),
+        },
+        _ => Err(CommandFault::Fields),
+    }
+}
+
+/// The number that a text spells in decimal, without a sign and without leading zeros.
+fn number_in(text: &str) -> Option<u64>
+    ensures digits { IfSome result (λ n. text.now ≡ decimal n) }
+    ensures whether { is_some result ≡ is_number text.now }
+{
+    let Ok(number) = text.parse::<u64>() else {
+        return None;
+    };
+    if Buffer::new().format(number) == text {
+        Some(number)
+    } else {
+        None
     }
 }
 

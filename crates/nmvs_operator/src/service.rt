@@ -23,6 +23,12 @@ pub enum Deed<'l> {
     Export(&'l str),
     /// To end.
     Stop,
+    /// To answer in place of the server of another machine.
+    TakeOver,
+    /// To end, so that the server of another machine answers.
+    HandOver,
+    /// To take from the engine the blocks of the log up to this number.
+    Trim(u64),
 }
 
 /// Why the server did not do what an order asks of it.
@@ -40,6 +46,12 @@ pub enum ServiceFault {
     Read,
     #[error("there is no users file")]
     NoFile,
+    #[error("no engine keeps the log on several machines")]
+    Engine,
+    #[error("the server follows another")]
+    Standby,
+    #[error("the engine confirmed no trim")]
+    Untrimmed,
 }
 
 /// A server, as its operator's orders see it.

@@ -25,15 +25,15 @@ const COMMANDS: &[u8] =
 
 /// Commands up to the one that stops the server, and a command after it.
 const STOP: &[u8] =
-    b"EXPORT full\nEXPORT trail.txt\nHELP\nUSERS\nSTATS\nCONNECTIONS\nALERTS\nSUSPEND ph9\nSTOP\nENROL ph9 PHARMACY PH-9 P9\n";
+    b"EXPORT full\nEXPORT trail.txt\nHELP\nUSERS\nSTATS\nCONNECTIONS\nALERTS\nSUSPEND ph9\nTAKE OVER\nHAND OVER\nTRIM 48000\nTRIM 48001\nSTOP\nENROL ph9 PHARMACY PH-9 P9\n";
 
 const HELPED: &[u8] =
     b"FAULT WRITE\nDONE\nENROL user role authorisation premises\nSUSPEND user\nREMOVE user\nRELOAD\nEXPORT file\nUSERS\nSTATS\nCONNECTIONS\n\
-    ALERTS\nSTOP\nHELP\nDONE\nUSER ph9 PHARMACY PH-9 P9 SUSPENDED\nDONE\nCONNECTIONS 2\nSESSIONS 3\nENTRIES 0 5\nENTRIES 1 0\nDONE\n\
-    WORKER 0 2\nDONE\nALERTS ph9 P9 3\nDONE\nFAULT JOURNAL\nDONE\n.";
+    ALERTS\nSTOP\nTAKE OVER\nHAND OVER\nTRIM blocks\nHELP\nDONE\nUSER ph9 PHARMACY PH-9 P9 SUSPENDED\nDONE\nCONNECTIONS 2\nSESSIONS 3\nENTRIES 0 5\nENTRIES 1 0\nDONE\n\
+    WORKER 0 2\nDONE\nALERTS ph9 P9 3\nDONE\nFAULT JOURNAL\nDONE\nFAULT ENGINE\nDONE\nFAULT TRIM\nDONE\n.";
 
-/// A server that keeps this number of changes, has this users file, if any, and writes no file named `full`. One user has
-/// raised three alerts at its premises.
+/// A server that keeps this number of changes, has this users file, if any, writes no file named `full`, and trims up to block
+/// 48000 alone. One user has raised three alerts at its premises.
 #[derive(Drop)]
 struct Narrow {
     keeps: u64,
@@ -56,6 +56,10 @@ impl Service for Narrow {
             Deed::Export("full") => return Err(ServiceFault::Write),
             Deed::Export(_) => {}
             Deed::Stop => self.stopped = true,
+            Deed::TakeOver => {}
+            Deed::HandOver => return Err(ServiceFault::Engine),
+            Deed::Trim(48_000) => {}
+            Deed::Trim(_) => return Err(ServiceFault::Untrimmed),
         }
         Ok(())
     }
@@ -88,8 +92,8 @@ impl Service for Narrow {
 
 /// Takes exactly these bytes. (It owns its values: in this toolchain a console may hold no references.)
 #[derive(Drop)]
-struct Awaited {
-    left: &'static [u8],
+pub(crate) struct Awaited {
+    pub(crate) left: &'static [u8],
 }
 
 impl Write for Awaited {

@@ -63,6 +63,18 @@ fn faults_of_orders_have_their_texts(rt: HostRuntime) {
             ObeyFault::Undone(ServiceFault::NoFile),
             "there is no users file",
         ),
+        (
+            ObeyFault::Undone(ServiceFault::Engine),
+            "no engine keeps the log on several machines",
+        ),
+        (
+            ObeyFault::Undone(ServiceFault::Standby),
+            "the server follows another",
+        ),
+        (
+            ObeyFault::Undone(ServiceFault::Untrimmed),
+            "the engine confirmed no trim",
+        ),
     ] {
         assert!(rt; is_shown(&rt, rt.alloc(), &fault, text), "{text}");
     }

@@ -14,4 +14,6 @@ mod options;
 #[cfg(test)]
 mod orders;
 #[cfg(test)]
+mod standby;
+#[cfg(test)]
 mod users;

@@ -4,7 +4,7 @@ use nmvs_messages::{
     WithheldAnswers,
 };
 use nmvs_metrics::{
-    Answered, Bucket, ClockReading, Counted, Fault, Histogram, LogSnapshot, Metrics,
+    Answered, Bucket, ClockReading, Counted, Fault, Following, Histogram, LogSnapshot, Metrics,
     MetricsService, Numbered, Snapshot, encode, resident_in,
 };
 use nmvs_protocol::{Session, read_line};
@@ -102,6 +102,12 @@ nmvs_log_failed 1
 # HELP nmvs_log_write_seconds Seconds that the write or sync of the log that is under way has taken, 0 where none is.
 # TYPE nmvs_log_write_seconds gauge
 nmvs_log_write_seconds 7000000002e-9
+# HELP nmvs_standby Whether the server follows that of another machine, 1 or 0.
+# TYPE nmvs_standby gauge
+nmvs_standby 1
+# HELP nmvs_log_following_entries Entries of the log that the server has read as one that follows.
+# TYPE nmvs_log_following_entries gauge
+nmvs_log_following_entries 6
 "#;
 
 fn counted(word: &'static str, count: u64) -> Counted {
@@ -167,6 +173,10 @@ fn log_snapshot(alloc: Global) -> Result<LogSnapshot, AllocError> {
         },
         has_failed: true,
         writing: 7_000_000_002,
+        following: Some(Following {
+            is_standby: true,
+            entries: 6,
+        }),
     })
 }
 
