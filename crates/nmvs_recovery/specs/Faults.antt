@@ -23,6 +23,7 @@ file_fault_text (faults.JournalRefused path) = codes "journal " ++ path.now ++ c
 file_fault_text (faults.ImportDigest path) = codes "the digest of " ++ path.now ++ codes " is not the one in " ++ path.now ++ codes ".sha256"
 file_fault_text (faults.NoDigest path) = path.now ++ codes ".sha256 is no digest of " ++ path.now
 file_fault_text (faults.CannotReadDigest path) = codes "cannot read " ++ path.now ++ codes ".sha256"
+file_fault_text faults.Fenced = codes "another server has taken the log over"
 file_fault_text faults.Memory = codes "out of memory"
 
 -- the exit status of a fault
@@ -34,6 +35,7 @@ file_fault_status (faults.JournalRefused path) = 3
 file_fault_status (faults.ImportDigest path) = 3
 file_fault_status (faults.NoDigest path) = 3
 file_fault_status (faults.CannotWrite path) = 4
+file_fault_status faults.Fenced = 6
 file_fault_status _ = 1
 
 -- the text of the fault of the import of this path, by this finding

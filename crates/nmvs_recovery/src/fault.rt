@@ -33,6 +33,8 @@ pub enum FileFault<'a> {
     NoDigest(&'a str),
     /// The digest next to the import of this path cannot be read.
     CannotReadDigest(&'a str),
+    /// Another server has taken the log over.
+    Fenced,
     /// There was no memory.
     Memory,
 }
@@ -62,6 +64,7 @@ impl<'a> fmt::Display for FileFault<'a> {
             }
             FileFault::NoDigest(path) => write!(f, "{path}.sha256 is no digest of {path}"),
             FileFault::CannotReadDigest(path) => write!(f, "cannot read {path}.sha256"),
+            FileFault::Fenced => f.write_str("another server has taken the log over"),
             FileFault::Memory => f.write_str("out of memory"),
         }
     }
@@ -69,7 +72,7 @@ impl<'a> fmt::Display for FileFault<'a> {
 
 impl<'a> FileFault<'a> {
     /// The exit status of the program. It is 3 if a line of the import, its digest or a journal is refused, and 4 if the export
-    /// is not written. Else it is 1.
+    /// is not written. It is 6 if another server has taken the log over, and else 1.
     pub fn status(&self) -> u8
         ensures { result ≡ file_fault_status self.now }
     {
@@ -79,6 +82,7 @@ impl<'a> FileFault<'a> {
             FileFault::ImportDigest(_) | FileFault::NoDigest(_) => 3,
             FileFault::JournalRefused(_) => 3,
             FileFault::CannotWrite(_) => 4,
+            FileFault::Fenced => 6,
             _ => 1,
         }
     }

@@ -4,17 +4,32 @@ use nmvs_operator::Options;
 use nmvs_shard::HashKey;
 use std::alloc::Global;
 use std::fs::File;
-use std::net::Net;
+use std::net::{Net, TcpStream};
 use std::random::RandomSource;
 use std::rt::{Clock, Files};
 use std::sync::Wait;
 use std::thread::Threads;
 
 /// The calls of the machine that a run uses. Its log informs the operator.
-pub trait Host: Files<File = File> + Clock + Threads + Wait + Net + RandomSource + Eprint + Log {}
+pub trait Host: Files<File = File>
+    + Clock
+    + Threads
+    + Wait
+    + Net<Stream = TcpStream>
+    + RandomSource
+    + Eprint
+    + Log {}
 
-impl<R: Files<File = File> + Clock + Threads + Wait + Net + RandomSource + Eprint + Log> Host
-    for R {}
+impl<
+    R: Files<File = File>
+        + Clock
+        + Threads
+        + Wait
+        + Net<Stream = TcpStream>
+        + RandomSource
+        + Eprint
+        + Log,
+> Host for R {}
 
 /// The runtime, the memory and the options of a run.
 #[derive(Drop)]

@@ -6,22 +6,25 @@ mod report;
 
 ghost use Rattle.std.specs.Prelude.{IfOk};
 ghost use Rattle.nmvs_operator.specs.Options.{AreInRange};
+ghost use Rattle.nmvs_stream.specs.Console.{IsFresh};
 
 use crate::check::{asks_check, check_file, check_users};
 use crate::report::{ended, format_in, refuse_words, say};
-use log::info;
+use log::{Log, info};
 use nmvs_admin::{AdminFault, open, remove_socket};
 use nmvs_config::{ConfigFault, config_path, read_config, with_config};
 use nmvs_log::{EventLog, LogFormat};
 use nmvs_operator::{OptionFault, Options, read_options};
 use nmvs_rehearsal::rehearse_on_standard_input;
-use nmvs_server::{Fault, Host, Outcome, outcome_of, start};
+use nmvs_server::{Beside, Dialer, Fault, Host, Outcome, outcome_of, start};
 use nmvs_stream::{Console, Device, Sink, Source};
-use std::alloc::Global;
+use std::alloc::{AllocError, Global};
 use std::io::{BufWriter, Eprint, Print};
 use std::process::ExitCode;
 use std::rt::{Clock, Env, Files};
-use std::{env, fs, io};
+use std::sync::Arc;
+use std::sync::atomic::AtomicBool;
+use std::{env, fs, io, thread};
 
 fn main(rt: HostRuntime) -> ExitCode {
     let alloc = rt.alloc();
@@ -35,40 +38,106 @@ fn main(rt: HostRuntime) -> ExitCode {
         let end = rehearse_on_standard_input(&rt, alloc, output);
         return ended(&rt, LogFormat::Text, &[outcome_of(end).err()]);
     }
-    let mut console = Console::new(Device::new(rt.stdin()), Device::new(output));
-    match options(&rt, words) {
-        Ok(options) => {
-            if options.check {
-                return check_users(&rt, &options);
-            }
-            let format = options.log_format;
-            let rt = EventLog::new(rt, options.log_level, format);
-            let outcome = if options.stdin {
-                start(&rt, alloc, &options, &mut console)
-            } else {
-                serve(rt, alloc, &options, console)
+    let console = Console::new(Device::new(rt.stdin()), Device::new(output));
+    let options = match options(&rt, words) {
+        Ok(options) => options,
+        Err(status) => return status,
+    };
+    let options = &options;
+    let rt = EventLog::new(rt, options.log_level, options.log_format);
+    let Some(address) = options.engine else {
+        return finish(&rt, options, serve_one(rt, alloc, options, console));
+    };
+    // The runtime itself opens connections, which in this toolchain no thread but one of `main` can have it do.
+    let (dialer, host) = (&Dialer::new(address), &rt);
+    let outcome = thread::scope(
+        thread::scope_env(),
+        host,
+        |scope|
+            requires options { AreInRange options.now }
+        {
+            let Ok(dialing) = scope.spawn(move || dialer.run(host)) else {
+                return memory_refused();
             };
-            let status = ended(&rt, format, &[outcome.session, outcome.program]);
-            info!(rt; "end");
-            status
-        }
-        Err(status) => status,
-    }
+            let outcome = serve(*host, alloc, options, console, Some(dialer));
+            dialing.join(host);
+            outcome
+        },
+    );
+    finish(&rt, options, outcome)
 }
 
-/// Serves connections, while commands come by the console and by the socket of the options, if they name one.
-fn serve<'o, R: Host + Sync + Copy + Drop, I: Source + Drop, W: Sink + Drop>(
+/// Logs the end, and returns the status of the program.
+fn finish<R: Eprint + Clock + Log>(rt: &R, options: &Options, outcome: Outcome<'_>) -> ExitCode {
+    let status = ended(rt, options.log_format, &[outcome.session, outcome.program]);
+    info!(rt; "end");
+    status
+}
+
+/// Serves one session over the console, or connections, by a server that is alone.
+fn serve_one<'o, R: Host + Sync + Copy + Drop, I: Source + Drop, W: Sink + Drop>(
     rt: R,
     alloc: Global,
     options: &'o Options,
     console: Console<(I, W)>,
 ) -> Outcome<'o>
     requires options { AreInRange options.now }
+    requires fresh { IsFresh (I.told console.source) (W.taken console.sink) }
+{
+    if !options.stdin {
+        return serve(rt, alloc, options, console, None);
+    }
+    let mut console = console;
+    let interrupt = &AtomicBool::new(false);
+    let beside = Beside {
+        interrupt,
+        dialer: None,
+    };
+    start(&rt, alloc, options, &mut console, beside)
+}
+
+/// Serves connections, while commands come by the console and by the socket of the options, if they name one. It ends the dialer
+/// at the end.
+fn serve<'o, R: Host + Sync + Copy + Drop, I: Source + Drop, W: Sink + Drop>(
+    rt: R,
+    alloc: Global,
+    options: &'o Options,
+    console: Console<(I, W)>,
+    dialer: Option<&Dialer>,
+) -> Outcome<'o>
+    requires options { AreInRange options.now }
+{
+    let outcome = serve_console(rt, alloc, options, console, dialer);
+    if let Some(dialer) = dialer {
+        dialer.end();
+    }
+    outcome
+}
+
+/// Serves connections, while commands come by the console and by the socket.
+fn serve_console<'o, R: Host + Sync + Copy + Drop, I: Source + Drop, W: Sink + Drop>(
+    rt: R,
+    alloc: Global,
+    options: &'o Options,
+    console: Console<(I, W)>,
+    dialer: Option<&Dialer>,
+) -> Outcome<'o>
+    requires options { AreInRange options.now }
 {
     let path = options.admin.as_deref();
-    match open(rt, alloc, console, path) {
+    let Ok((interrupt, shared)) = interrupt_of(alloc, options) else {
+        return memory_refused();
+    };
+    match open(rt, alloc, console, path, shared) {
         Ok(mut console) => {
-            let outcome = start(&rt, alloc, options, &mut console);
+            let interrupt = &*interrupt;
+            let outcome = start(
+                &rt,
+                alloc,
+                options,
+                &mut console,
+                Beside { interrupt, dialer },
+            );
             if let Some(path) = path {
                 let _gone = remove_socket(&rt, path);
             }
@@ -78,6 +147,29 @@ fn serve<'o, R: Host + Sync + Copy + Drop, I: Source + Drop, W: Sink + Drop>(
             session: None,
             program: Some(fault_of(fault, path)),
         },
+    }
+}
+
+/// The interrupt of a console, for the server, and for the console if the server is one of several machines.
+fn interrupt_of(
+    alloc: Global,
+    options: &Options,
+) -> Result<(Arc<AtomicBool>, Option<Arc<AtomicBool>>), AllocError> {
+    let Ok(interrupt) = Arc::new(alloc, AtomicBool::new(false)) else {
+        return Err(AllocError);
+    };
+    let shared = match options.engine {
+        Some(_) => Some(Arc::try_clone(&interrupt)?),
+        None => None,
+    };
+    Ok((interrupt, shared))
+}
+
+/// The outcome of a program without memory.
+fn memory_refused<'o>() -> Outcome<'o> {
+    Outcome {
+        session: None,
+        program: Some(Fault::Memory),
     }
 }
 
@@ -95,8 +187,8 @@ fn words<R: Env + AllocGlobal>(rt: &R) -> io::Result<Vec<String>> {
     Ok(words)
 }
 
-/// The options of the command line and of the file that it names. If there are none, it prints the fault, or the help if the
-/// words ask for it, and returns the status.
+/// The options of the command line and of the file that it names. If they only ask for a check, it checks. If there are none, it
+/// prints the fault, or the help if the words ask for it. Then it returns the status.
 fn options<R: Files + Print + Eprint + Clock + AllocGlobal>(
     rt: &R,
     words: Vec<String>,
@@ -106,6 +198,7 @@ fn options<R: Files + Print + Eprint + Clock + AllocGlobal>(
     let words = with_file(rt, words)?;
     let format = format_in(&words);
     match read_options(rt.alloc(), &words) {
+        Ok(options) if options.check => Err(check_users(rt, &options)),
         Ok(options) => Ok(options),
         Err(OptionFault::Help(text)) => {
             let _ = print!(rt; "{text}");

@@ -4,17 +4,19 @@ ghost use Rattle.std.specs.Prelude.{◌≡◌, OnOk};
 use crate::announcements::settled_text;
 use crate::server::Config;
 use crate::{Fault, Host};
-use log::{Log, info};
+use log::{Log, info, warn};
 use nmvs_desk::{Clerk, Repository, settle};
 use nmvs_directory::Naming;
 use nmvs_history::Histories;
 use nmvs_journal::Unconfirmed;
-use nmvs_recovery::{Paths, Run, Unwaited, export, mark, mark_users};
+use nmvs_recovery::{FileFault, Paths, Run, Unwaited, export, mark, mark_users};
 use nmvs_shard::Shard;
 use nmvs_stream::{Sink, deliver};
 use std::alloc::Global;
+use std::sync::atomic::Ordering;
 
-/// Marks all of the trail as confirmed, if there is a log.
+/// Marks all of the trail as confirmed, if there is a log of this machine. If an engine keeps the log, it gives the turn up, should
+/// the operator have ordered so.
 pub(crate) fn mark_all<'r, 'o, R: Host>(
     config: &Config<'r, 'o, R>,
     paths: Option<&Paths<'o>>,
@@ -23,12 +25,42 @@ pub(crate) fn mark_all<'r, 'o, R: Host>(
     let Some(paths) = paths else {
         return Ok(());
     };
+    if config.is_fenced.load(Ordering::SeqCst) {
+        return Err(Fault::File(FileFault::Fenced));
+    }
     match confirmed {
         Ok(count) => {
             config.metrics.note_all_confirmed();
+            if is_shared(config) {
+                end_turn(config);
+                return Ok(());
+            }
             mark_end(config, paths, count)
         }
         Err(Unconfirmed) => Err(Fault::JournalUnwritten(paths.folder)),
+    }
+}
+
+/// Whether an engine keeps the log on several machines. The file of this machine is a copy then, without marks.
+fn is_shared<R>(config: &Config<'_, '_, R>) -> bool {
+    config.run.options.engine.is_some()
+}
+
+/// Gives the turn up, if the operator hands over. All of the logs is confirmed before. It logs whether it did.
+fn end_turn<R: Host>(config: &Config<'_, '_, R>) {
+    if !config.hands_over.load(Ordering::SeqCst) {
+        return;
+    }
+    let run = &config.run;
+    let mut turn = config.turn.lock(run.rt);
+    let is_given = match &mut *turn {
+        Some(turn) => turn.give_up(*run.alloc),
+        None => false,
+    };
+    if is_given {
+        info!(run.rt; "handed over");
+    } else {
+        warn!(run.rt; "the turn is not given up: another server takes over after the silence");
     }
 }
 

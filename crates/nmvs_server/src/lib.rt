@@ -10,6 +10,7 @@
 
 mod announcements;
 mod closing;
+mod cluster;
 mod confirming;
 mod fault;
 mod launch;
@@ -23,5 +24,6 @@ mod timed_file;
 mod workers;
 
 pub use fault::{Fault, Outcome, outcome_of};
-pub use nmvs_recovery::Host;
+pub use nmvs_recovery::{Dialer, Host};
+pub use server::Beside;
 pub use starting::start;

@@ -3,6 +3,7 @@ ghost use Rattle.nmvs_operator.specs.Options.{AreInRange};
 ghost use Rattle.nmvs_stream.specs.Console.{IsFresh};
 
 use crate::launch::serve_run;
+use crate::server::Beside;
 use crate::{Fault, Host, Outcome};
 use log::{Log, error, info};
 use nmvs_metrics::{Metrics, MetricsListener, serve_metrics};
@@ -17,13 +18,14 @@ use std::thread;
 use std::thread::Threads;
 
 /// Serves one session over the console, or connections at the address or the socket of the options. With connections, the
-/// console gives commands of the registrar and takes their answers. If the options say so, the program serves metrics at an
-/// address of their own from the start on.
-pub fn start<'o, R: Host + Sync, T: Sides>(
-    rt: &R,
+/// console gives commands of the registrar and takes their answers, until the server sets the interrupt. If the options say so,
+/// the program serves metrics at an address of their own from the start on.
+pub fn start<'r, 'o, R: Host + Sync, T: Sides>(
+    rt: &'r R,
     alloc: Global,
     options: &'o Options,
     console: &mut Console<T>,
+    beside: Beside<'r>,
 ) -> Outcome<'o>
     requires options { AreInRange options.now }
     requires fresh { IsFresh (T.Source.told console.old.source) (T.Sink.taken console.old.sink) }
@@ -34,7 +36,7 @@ pub fn start<'o, R: Host + Sync, T: Sides>(
     };
     let metrics = &metrics;
     let Some(address) = options.metrics else {
-        return serve_run(rt, alloc, options, metrics, console);
+        return serve_run(rt, &alloc, options, metrics, console, beside);
     };
     let listener = match open_metrics(rt, address) {
         Ok(listener) => listener,
@@ -48,7 +50,7 @@ pub fn start<'o, R: Host + Sync, T: Sides>(
         ||
             requires options { AreInRange options.now }
             requires fresh { IsFresh (T.Source.told console.now.source) (T.Sink.taken console.now.sink) }
-        { serve_run(rt, alloc, options, metrics, console) },
+        { serve_run(rt, &alloc, options, metrics, console, beside) },
     );
     match served {
         Ok(outcome) => outcome,

@@ -128,7 +128,7 @@ fn accept<R: Wait + Log, J: Naming, H: Histories + LogName>(
     acceptor: Poller,
 ) {
     let config = server.config;
-    let (run, alloc, http) = (&config.run, *config.run.alloc, config.http);
+    let (run, alloc, http) = (&config.run, *config.run.alloc, config.http.as_ref());
     if accept_loop(run.rt, alloc, &server.pool, server.listener, http, acceptor).is_err() {
         server.pool.stop(run.rt);
     }
@@ -238,7 +238,7 @@ fn tell_place<R: Log, W: Sink>(config: &Config<'_, '_, R>, listener: &Listener, 
 /// Logs and prints the port on which the program listens for HTTP, or the path of its socket. A failed write changes nothing.
 fn tell_http<R: Log, W: Sink>(config: &Config<'_, '_, R>, out: &mut W) {
     let (run, alloc) = (&config.run, *config.run.alloc);
-    let Some(http) = config.http else {
+    let Some(http) = &config.http else {
         return;
     };
     let text = match (http.listener.port(), &run.options.http_socket) {

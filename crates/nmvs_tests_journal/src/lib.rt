@@ -13,6 +13,8 @@ mod recovering_in_threads;
 #[cfg(test)]
 mod stage;
 #[cfg(test)]
+mod stores;
+#[cfg(test)]
 mod users_file;
 #[cfg(test)]
 mod waiting;

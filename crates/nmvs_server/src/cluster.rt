@@ -1,0 +1,71 @@
+//! A server among several machines, one of which answers at a time.
+ghost use Rattle.nmvs_operator.specs.Options.{AreInRange};
+
+use crate::launch::serve_from;
+use crate::server::Beside;
+use crate::{Fault, Host, Outcome};
+use nmvs_metrics::Metrics;
+use nmvs_recovery::{Dialer, Followed, Means, Member, Run, Turn, stand_by};
+use nmvs_stream::{Console, Sides};
+use std::random::RandomSource;
+use std::sync::atomic::AtomicBool;
+
+/// Follows the server that answers, and answers after it.
+pub(crate) fn serve_in_cluster<'r, 'o, R: Host + Sync, T: Sides>(
+    run: Run<'r, 'o, R>,
+    metrics: &'r Metrics,
+    console: &mut Console<T>,
+    beside: Beside<'r>,
+) -> Outcome<'o>
+    requires options { AreInRange run.options.now }
+{
+    // The program runs a dialer for each server among several machines.
+    let Some(dialer) = beside.dialer else {
+        return Outcome::of(Fault::Memory);
+    };
+    match follow(&run, dialer, metrics, console, beside.interrupt) {
+        Ok(Some((followed, turn))) => {
+            metrics.note_standby(false);
+            serve_from(
+                run,
+                metrics,
+                Some(followed),
+                Some(turn),
+                console,
+                beside.interrupt,
+            )
+        }
+        Ok(None) => Outcome {
+            session: None,
+            program: None,
+        },
+        Err(fault) => Outcome::of(fault),
+    }
+}
+
+/// Follows the server that answers until this one owns the log. `None` if the operator ends this one.
+fn follow<'r, 'o, R: Host + Sync, T: Sides>(
+    run: &Run<'r, 'o, R>,
+    dialer: &'r Dialer,
+    metrics: &'r Metrics,
+    console: &mut Console<T>,
+    interrupt: &AtomicBool,
+) -> Result<Option<(Followed<'r, 'o>, Turn<'r>)>, Fault<'o>> {
+    let mut drawn = [0; 16];
+    if run.rt.fill_bytes(&mut drawn).is_err() {
+        return Err(Fault::Random);
+    }
+    let (Some(member), Some(folder)) = (Member::of(run.options, drawn), &run.options.journal) else {
+        return Err(Fault::Memory);
+    };
+    let means = Means {
+        member,
+        metrics,
+        dialer,
+        interrupt,
+    };
+    match stand_by(run, folder, means, console) {
+        Ok(followed) => Ok(followed),
+        Err(fault) => Err(Fault::File(fault)),
+    }
+}
