@@ -6,6 +6,8 @@
     tools/conformance.py --http [--port N]    serves terminals that ask over HTTP
     tools/conformance.py LINES..              puts the lines of these files, as a terminal wrote them, one after another
 
+With --silent SECONDS it answers nothing in this time, and hangs up on what comes: each such line or request has to come again.
+
 Each prints the lines or requests with their replies, and at the end what was not met. It ends with status 1 where one is none of
 the format, or says what no terminal may say. What the packs are changes with the lines, and is as before at the next start.
 """
@@ -18,6 +20,7 @@ import socket
 import subprocess
 import sys
 import threading
+import time
 
 from terminal import Terminal
 
@@ -68,8 +71,19 @@ def each_of(body, text):
 class Verdict:
     """What the lines of a terminal and their replies say of it."""
 
-    def __init__(self):
+    def __init__(self, silent=0):
         self.met, self.well, self.lock = set(), True, threading.Lock()
+        self.silent_until, self.unanswered = time.monotonic() + silent, {}
+
+    def is_silent(self, asked):
+        """Whether what is asked gets no reply, and has to come again."""
+        with self.lock:
+            if time.monotonic() < self.silent_until:
+                self.unanswered[asked] = True
+                print(f"NO REPLY {asked}", flush=True)
+                return True
+            self.unanswered.pop(asked, None)
+            return False
 
     def note(self, line, reply, words=None):
         """Prints a line with its reply, of these words. HELP is for a person: a terminal has no use for its lines."""
@@ -83,8 +97,10 @@ class Verdict:
     def end(self):
         """Prints what was not met: the status."""
         with self.lock:
+            for asked in self.unanswered:
+                print(f"WRONG, it did not come again: {asked}")
             print("NOT MET:", ", ".join(reply for reply in REPLIES if reply not in self.met) or "none")
-            return 0 if self.well else 1
+            return 0 if self.well and not self.unanswered else 1
 
 
 def put(port, lines, verdict):
@@ -105,11 +121,12 @@ def relay(connection, port, verdict):
     try:
         with connection, connection.makefile("rb") as lines:
             for line in lines:
-                if not line.endswith(b"\n"):
+                asked = line[:-1].decode("latin-1")
+                if not line.endswith(b"\n") or verdict.is_silent(asked):
                     return
                 server.connection.sendall(line)
                 reply = server.reply()
-                verdict.note(line[:-1].decode("latin-1"), reply)
+                verdict.note(asked, reply)
                 connection.sendall("".join(f"{text}\n" for text in reply).encode("ascii"))
                 if reply[-1] == "BYE":
                     return
@@ -136,6 +153,9 @@ class Relayed(http.server.BaseHTTPRequestHandler):
 
     def relay(self):
         body = self.rfile.read(int(self.headers["content-length"] or 0))
+        if self.server.verdict.is_silent(f"{self.command} {self.path} {self.headers['idempotency-key'] or ''} {body.decode('latin-1')}"):
+            self.close_connection = True
+            return
         server = http.client.HTTPConnection("127.0.0.1", self.server.behind)
         server.putrequest(self.command, self.path, skip_host=True, skip_accept_encoding=True)
         for name, value in self.headers.items():
@@ -159,11 +179,12 @@ def main():
     reader = argparse.ArgumentParser(description=__doc__, formatter_class=argparse.RawDescriptionHelpFormatter)
     reader.add_argument("--port", type=int, default=0)
     reader.add_argument("--http", action="store_true")
+    reader.add_argument("--silent", type=float, default=0, metavar="SECONDS")
     reader.add_argument("lines", nargs="*", type=pathlib.Path)
     given = reader.parse_args()
     process, port, http_port = start()
     try:
-        verdict = Verdict()
+        verdict = Verdict(given.silent)
         if given.lines:
             # As the terminal wrote them: a line ends with LF alone, so one that ends with CR LF is wrong.
             put(port, [line for path in given.lines for line in path.read_bytes().decode("latin-1").split("\n")[:-1]], verdict)
