@@ -36,7 +36,7 @@ use Rattle.nmvs_messages.specs.declared.peer.Peer.{Peer}
 use Rattle.nmvs_messages.specs.declared.withheld.Basis.{Basis}
 use Rattle.nmvs_messages.specs.declared.withheld.Withheld.{Withheld}
 use Rattle.nmvs_messages.specs.Tags.{tag_text}
-use Rattle.nmvs_record.specs.Report.{product_line, report_lines}
+use Rattle.nmvs_reports.specs.Report.{product_line, report_lines}
 
 -- a desk: its clerk, the number of its repository's shards, and whether its users have a rate; how often its clock was asked,
 -- and the seconds that it gave last

@@ -4,12 +4,12 @@ ghost use Rattle.std.specs.Option.{is_some};
 ghost use Rattle.nmvs_messages.specs.declared.answer.Content.TheVariants.{Reported};
 ghost use Rattle.nmvs_messages.specs.declared.answer.Turn.TheVariants as turns;
 ghost use Rattle.nmvs_messages.specs.Tags.{tag_text};
-ghost use Rattle.nmvs_record.specs.Report.{record_lines};
+ghost use Rattle.nmvs_reports.specs.Report.{record_lines};
 ghost use Rattle.nmvs_messages.specs.Withheld.{content_shown, entries_left, text_left};
 ghost use Rattle.nmvs_rules.specs.declared.entry.Entry.{Entry as TheEntry};
 ghost use Rattle.nmvs_reception.specs.Desk.{may_ask_this, RestsOnAll, Says};
 ghost use Rattle.nmvs_line.specs.Export.{export_text};
-ghost use Rattle.nmvs_record.specs.Following.{following_text};
+ghost use Rattle.nmvs_reports.specs.Following.{following_text};
 
 use crate::{Alerts, Clock};
 use log::Log;
@@ -24,7 +24,7 @@ use nmvs_messages::{
 };
 use nmvs_metrics::WorkerMetrics;
 use nmvs_rate::SharedLimiter;
-use nmvs_record::{Following, ReportList, batches, product_line};
+use nmvs_reports::{Following, ReportList, batches, product_line};
 use nmvs_rules::{Actor, BatchRecord, Printed, Put, Question, Reply, Role, may_report};
 use nmvs_shard::{Answered, Outcome, Shard};
 use std::alloc::{AllocError, Global};
@@ -67,7 +67,7 @@ impl<'r, 'a, R: Wait + rt::Clock + Log, J: Naming, H: Histories, K: Clock> Clerk
     ghost use Rattle.std.specs.Option.{is_some};
     ghost use Rattle.nmvs_desk.specs.Placing.{shard_of};
     ghost use Rattle.nmvs_desk.specs.Settlement.{row};
-    ghost use Rattle.nmvs_record.specs.Report.{product_line, report_batches};
+    ghost use Rattle.nmvs_reports.specs.Report.{product_line, report_batches};
     ghost use Rattle.nmvs_reception.specs.Desk.{Admits, AnswersAdmitted, AnswersQuestion, AnswersReport, Refuses, RestsOnAll, SeesShard, Serves};
 
     /// A desk over a clerk of this repository, the lock of the latest notice, and the limiter of the users' rate, if they have
@@ -419,7 +419,7 @@ impl<'a, 'c> Reader<Shard<&'a Global>> for ReportOf<'c> {
     type Output = Result<(String, Batches, usize), AllocError>;
 
     ghost use Rattle.std.specs.Prelude.{◌≡◌, IfOk, length, string_bytes};
-    ghost use Rattle.nmvs_record.specs.Report.{product_line, report_batches};
+    ghost use Rattle.nmvs_reports.specs.Report.{product_line, report_batches};
 
     ghost tells = { λ r t result. IfOk result (λ made.
         (string_bytes made.0 ≡ product_line t r.code.now) × (made.1.items ≡ report_batches t r.code.now) × (length t ≡ made.2)) };

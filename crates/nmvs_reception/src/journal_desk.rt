@@ -12,7 +12,7 @@ use nmvs_directory::Naming;
 use nmvs_history::Histories;
 use nmvs_journal::{CommitLog, Confirmed, LogName, Reach, Store};
 use nmvs_messages::{Ask, Asked, Basis, Desk, Peer, Piece, Released, Withheld, WithheldAnswers};
-use nmvs_record::Following;
+use nmvs_reports::Following;
 use std::marker::Model;
 use std::rt;
 use std::sync::Wait;

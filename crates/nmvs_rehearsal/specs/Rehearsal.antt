@@ -17,7 +17,7 @@ use Rattle.nmvs_rules.specs.Rules.{reply_of, shown_of, answered}
 use Rattle.nmvs_words.specs.Kinds.{naming_pack}
 use Rattle.nmvs_line.specs.Export.{export_text}
 use Rattle.nmvs_messages.specs.Tags.{tag_text}
-use Rattle.nmvs_record.specs.Report.{product_line, report_lines}
+use Rattle.nmvs_reports.specs.Report.{product_line, report_lines}
 use Rattle.nmvs_messages.specs.declared.ask.Ask.{Ask}
 use Rattle.nmvs_messages.specs.declared.ask.Asked.{Asked}
 use Rattle.nmvs_messages.specs.declared.ask.Asked.TheVariants as asked

@@ -8,7 +8,7 @@ use nmvs_messages::{
     Withheld, WithheldAnswers,
 };
 use nmvs_protocol::{Session, read_line, serve};
-use nmvs_record::ReportList;
+use nmvs_reports::ReportList;
 use nmvs_rules::{Question, Reply};
 use nmvs_stream::Device;
 use std::alloc::Global;

@@ -1,5 +1,5 @@
-//! Tests of the claims that no contract of `nmvs_record` can state. Lines, exports and reports have the right texts, each fault
-//! is reported, and reads and writes may come in pieces. Memory is refused, too.
+//! Tests of the claims that no contract of `nmvs_reader`, `nmvs_record` and `nmvs_reports` can state. Lines, exports and reports have
+//! the right texts, each fault is reported, and reads and writes may come in pieces. Memory is refused, too.
 #![tactic(auto)]
 
 #[cfg(test)]
