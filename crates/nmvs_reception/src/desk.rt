@@ -17,7 +17,7 @@ use nmvs_desk::{Clerk, Reader, Repository, Shown};
 use nmvs_directory::{Look, Naming, Notice};
 use nmvs_history::Histories;
 use nmvs_identifier::{Batch, Moment, Name, ProductCode, Tag};
-use nmvs_journal::{CommitLog, Confirmed, LogName, Reach, Store};
+use nmvs_journal::{CommitLog, Confirmed, LogName, Reach};
 use nmvs_messages::{
     Ask, Asked, Basis, Content, Desk, Peer, Piece, Released, ShownText, Text, Turn, Withheld,
     WithheldAnswers,
@@ -27,6 +27,7 @@ use nmvs_rate::SharedLimiter;
 use nmvs_reports::{Following, ReportList, batches, product_line};
 use nmvs_rules::{Actor, BatchRecord, Printed, Put, Question, Reply, Role, may_report};
 use nmvs_shard::{Answered, Outcome, Shard};
+use nmvs_store::Store;
 use std::alloc::{AllocError, Global};
 use std::marker::Model;
 use std::rt;

@@ -1,5 +1,5 @@
-//! Tests of `nmvs_journal` and `nmvs_recovery`: what a crash leaves of a log, marks, clerks that wait for their entries, the log of
-//! the users, and exports of a repository that is asked meanwhile.
+//! Tests of `nmvs_store`, `nmvs_journal` and `nmvs_recovery`: what a crash leaves of a log, marks, clerks that wait for their
+//! entries, the log of the users, and exports of a repository that is asked meanwhile.
 #![tactic(auto)]
 
 #[cfg(test)]

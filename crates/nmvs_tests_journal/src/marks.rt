@@ -1,6 +1,6 @@
 //! Marks of how far a log was confirmed.
 
-use nmvs_journal::{mark_text, read_mark};
+use nmvs_store::{mark_text, read_mark};
 use std::test::*;
 
 #[test]

@@ -1,8 +1,8 @@
 //! What a crash leaves of a log, read in several threads.
 
 use crate::recovering::{LINE, OTHER, text_of};
-use nmvs_journal::{Recovered, recover, recover_in_threads};
 use nmvs_shard::{HashKey, Shard, Shards};
+use nmvs_store::{Recovered, recover, recover_in_threads};
 use nmvs_stream::Device;
 use std::alloc::Global;
 use std::io;

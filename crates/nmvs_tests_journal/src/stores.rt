@@ -1,6 +1,6 @@
 //! A log that is one store or another.
-use nmvs_journal::{Filed, Store};
 use nmvs_recovery::LogStore;
+use nmvs_store::{Filed, Store};
 use nmvs_trials::{Calls, FakeFile};
 use std::alloc::Global;
 use std::sync::Mutex;
