@@ -1,0 +1,16 @@
+//! The worked rows of the rules, and their tests. These tests alone are proved: those of `tests/` are only run.
+#![tactic(auto)]
+
+#[cfg(test)]
+mod clerks;
+#[cfg(test)]
+mod exports;
+#[cfg(test)]
+mod lines;
+mod rows;
+#[cfg(test)]
+mod users;
+#[cfg(test)]
+mod values;
+
+pub use rows::{Example, NEW_YEAR, ROWS};
