@@ -19,7 +19,7 @@ use std::sync::Wait;
 const MOST_DIFFERING: usize = 10;
 
 /// Publishes the users of the users file, or those of the rehearsal if the options name none.
-pub(crate) fn publish_users<'r, 'o, J: Naming, H: Host>(
+pub fn publish_users<'r, 'o, J: Naming, H: Host>(
     run: &Run<'r, 'o, H>,
     registrar: &mut Registrar<J, &'r H, &'r Global>,
 ) -> Result<Notice<J>, FileFault<'o>> {
@@ -97,7 +97,7 @@ fn tell_no_users<R: Log>(rt: &R, path: &str) {
 }
 
 /// Logs the number of users that are enrolled, and of those that are suspended.
-pub(crate) fn tell_users<'r, J: Naming, H: Host>(
+pub fn tell_users<'r, J: Naming, H: Host>(
     run: &Run<'r, '_, H>,
     registrar: &Registrar<J, &'r H, &'r Global>,
 ) {
@@ -158,7 +158,7 @@ fn publish_rehearsal<'r, 'o, J: Naming, H: Files + Wait>(
 }
 
 /// Publishes the users that the folder of the log keeps, and logs those whose state that changes.
-pub(crate) fn publish_kept<'r, 'o, J: Naming, H: Host>(
+pub fn publish_kept<'r, 'o, J: Naming, H: Host>(
     run: &Run<'r, 'o, H>,
     registrar: &mut Registrar<J, &'r H, &'r Global>,
     paths: &Paths<'o>,

@@ -4,8 +4,8 @@
 //! bottom. `Config` is its configuration, `Recovered` the state that it recovers, and `Server` the state that its workers
 //! share.
 //!
-//! `nmvs_serve` has `main`. `nmvs_recovery` reads the files of a start, and writes exports. `nmvs_operator` has options,
-//! users files and commands.
+//! `nmvs_serve` has `main`. `nmvs_standby` reads the files of a start, or follows another server. `nmvs_exports` writes exports.
+//! `nmvs_operator` has options, users files and commands.
 #![tactic(auto)]
 
 mod announcements;
@@ -24,6 +24,7 @@ mod timed_file;
 mod workers;
 
 pub use fault::{Fault, Outcome, outcome_of};
-pub use nmvs_recovery::{Dialer, Host};
+pub use nmvs_engine::Dialer;
+pub use nmvs_recovery::Host;
 pub use server::Beside;
 pub use starting::start;

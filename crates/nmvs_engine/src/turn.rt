@@ -21,7 +21,7 @@ pub struct Turn<'r> {
 
 impl<'r> Turn<'r> {
     /// The turn of the owner of this name.
-    pub(crate) fn new(connection: Wire<'r>, cluster: String, name: OwnerName) -> Turn<'r>
+    pub fn new(connection: Wire<'r>, cluster: String, name: OwnerName) -> Turn<'r>
         ensures connection { result.connection ≡ connection.entry }
         ensures cluster { result.cluster ≡ cluster }
         ensures name { result.name ≡ name }

@@ -4,7 +4,7 @@ use std::sync::atomic::{AtomicBool, Ordering};
 
 /// The orders of an operator to a server that follows, for the thread that follows.
 #[derive(Drop)]
-pub struct Directions {
+pub(crate) struct Directions {
     takes_over: AtomicBool,
     stops: AtomicBool,
     /// Whether there is more of the log, so that the next poll does not wait.
