@@ -2,7 +2,7 @@
 ghost use Rattle.nmvs_operator.specs.Options.{AreInRange};
 
 use crate::launch::serve_from;
-use crate::server::Beside;
+use crate::starting::Beside;
 use crate::{Fault, Host, Outcome};
 use nmvs_engine::{Dialer, Turn};
 use nmvs_metrics::Metrics;

@@ -1,6 +1,6 @@
 //! The threads of a server: workers, and those that accept connections, write the log and carry out commands.
 ghost use Rattle.std.specs.Prelude.{◌≡◌, ◌*◌, ◌-◌, ◌^◌, min};
-ghost use Rattle.nmvs_server.specs.Bounds.{sessions_of};
+ghost use Rattle.nmvs_service.specs.Bounds.{sessions_of};
 
 use crate::announcements::{http_at, http_on, listening_at, listening_on};
 use crate::confirming::{close_log, write_log};

@@ -3,7 +3,7 @@ use crate::timed_file::LogStore;
 use nmvs_connections::{HttpListener, Listener, WorkerPool};
 use nmvs_desk::Repository;
 use nmvs_directory::{Naming, Notice};
-use nmvs_engine::{Dialer, Turn};
+use nmvs_engine::Turn;
 use nmvs_history::Histories;
 use nmvs_journal::{CommitLog, LogName};
 use nmvs_metrics::Metrics;
@@ -14,35 +14,26 @@ use std::alloc::Global;
 use std::sync::Mutex;
 use std::sync::atomic::AtomicBool;
 
-/// What runs beside a server.
-#[derive(Clone, Copy)]
-pub struct Beside<'b> {
-    /// Whether the console is to give no further command.
-    pub interrupt: &'b AtomicBool,
-    /// The dialer of a server among several machines, which a thread runs.
-    pub dialer: Option<&'b Dialer>,
-}
-
 /// The configuration of a server from its start on, with its listeners and counts.
 #[derive(Drop)]
-pub(crate) struct Config<'r, 'o, R> {
-    pub(crate) run: Run<'r, 'o, R>,
+pub struct Config<'r, 'o, R> {
+    pub run: Run<'r, 'o, R>,
     /// The listener that accepts connections. If there is none, the server serves one session over the console.
-    pub(crate) listener: Option<Listener>,
+    pub listener: Option<Listener>,
     /// The listener that accepts connections over HTTP, if there is one.
-    pub(crate) http: Option<HttpListener>,
+    pub http: Option<HttpListener>,
     /// The counters of the run.
-    pub(crate) metrics: &'r Metrics,
+    pub metrics: &'r Metrics,
     /// The users who raise flagged alerts.
-    pub(crate) alerts: Alerts,
+    pub alerts: Alerts,
     /// Whether the console is to give no further command.
-    pub(crate) interrupt: &'r AtomicBool,
+    pub interrupt: &'r AtomicBool,
     /// Whether the log was lost to the server of another machine, or its engine was.
-    pub(crate) is_fenced: AtomicBool,
+    pub is_fenced: AtomicBool,
     /// Whether the server gives its turn up at the end.
-    pub(crate) hands_over: AtomicBool,
+    pub hands_over: AtomicBool,
     /// The turn of a server among several machines.
-    pub(crate) turn: Mutex<Option<Turn<'r>>>,
+    pub turn: Mutex<Option<Turn<'r>>>,
 }
 
 /// An open server, which its workers share. `J` names its directory of users, `H` the histories of its shards, and its log.

@@ -1,7 +1,7 @@
 //! The lines that a server prints for its operator: where it listens, and the lengths of the trails that it settled.
 ghost use Rattle.std.specs.Prelude.{◌≡◌, ◌++◌, IfOk, OnOk, decimal, string_bytes};
 ghost use Rattle.std.specs.List.{flat_map};
-ghost use Rattle.nmvs_server.specs.Announcements as specs;
+ghost use Rattle.nmvs_service.specs.Announcements as specs;
 
 use nmvs_shard::Shard;
 use std::alloc::{AllocError, Global};

@@ -1,7 +1,7 @@
 use Rattle.std.proofs.Common.{◌≡◌, ◌++◌, take, string_bytes}
 use Rattle.std.specs.List.{flat_map}
-use Rattle.nmvs_server.specs.Announcements.{length_text}
-use Rattle.nmvs_server.proofs.announcements.append_lengths.Given as goal
+use Rattle.nmvs_service.specs.Announcements.{length_text}
+use Rattle.nmvs_service.proofs.announcements.append_lengths.Given as goal
 
 abbrev pub invariant-loop-shard : goal.invariant-loop-shard
 invariant-loop-shard l =

@@ -1,16 +1,16 @@
 //! The end of a server: it marks, exports and settles its trail.
 ghost use Rattle.std.specs.Prelude.{◌≡◌, OnOk};
 
+use crate::Fault;
 use crate::announcements::settled_text;
 use crate::server::Config;
-use crate::{Fault, Host};
 use log::{Log, info, warn};
 use nmvs_desk::{Clerk, Repository, settle};
 use nmvs_directory::Naming;
 use nmvs_exports::{Unwaited, export};
 use nmvs_history::Histories;
 use nmvs_journal::Unconfirmed;
-use nmvs_recovery::{FileFault, Paths, Run, mark, mark_users};
+use nmvs_recovery::{FileFault, Host, Paths, Run, mark, mark_users};
 use nmvs_shard::Shard;
 use nmvs_stream::{Sink, deliver};
 use std::alloc::Global;

@@ -8,18 +8,19 @@ ghost use Rattle.nmvs_messages.specs.Withheld.{AtOnce, Stays};
 ghost use Rattle.nmvs_protocol.specs.Session.{session_limits, Session};
 ghost use Rattle.nmvs_reception.specs.Desk.{DeskView, Takes};
 ghost use Rattle.nmvs_stream.specs.Console.{IsFresh};
-ghost use Rattle.nmvs_server.specs.Faults.{outcome};
+ghost use Rattle.nmvs_service.specs.Faults.{outcome};
 
+use crate::Outcome;
 use crate::closing::export_at_end;
 use crate::fault::outcome_of;
 use crate::server::Config;
-use crate::{Host, Outcome};
 use nmvs_desk::{Clerk, Repository};
 use nmvs_directory::{Naming, Notice};
 use nmvs_history::Histories;
 use nmvs_messages::{End, Peer, SESSION_LIMITS};
 use nmvs_protocol::serve;
 use nmvs_reception::{ClerkDesk, Opened, ProgramClock};
+use nmvs_recovery::Host;
 use nmvs_stream::{Console, Sides};
 use std::sync::Mutex;
 

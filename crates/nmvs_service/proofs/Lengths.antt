@@ -5,7 +5,7 @@ use Rattle.std.proofs.lemmas.List.{append-nil}
 use Rattle.std.proofs.lemmas.List.Concat.{flat_map-append}
 use lib.Seq.{take-suc}
 use Rattle.nmvs_rules.specs.declared.entry.Entry.{Entry}
-use Rattle.nmvs_server.specs.Announcements.{length_text}
+use Rattle.nmvs_service.specs.Announcements.{length_text}
 
 pub lengths-next : (ts : List (List Entry)) (i : ℕ) (d : List Entry) → i < length ts
     → flat_map length_text (take (i + 1) ts) ≡ flat_map length_text (take i ts) ++ length_text (get_or ts i d)

@@ -1,6 +1,6 @@
 //! The faults with which the program ends.
 ghost use Rattle.std.specs.Prelude.{◌≡◌, None, Some};
-ghost use Rattle.nmvs_server.specs.Faults.{fault_text, fault_status, outcome};
+ghost use Rattle.nmvs_service.specs.Faults.{fault_text, fault_status, outcome};
 
 use nmvs_messages::End;
 use nmvs_operator::Options;
@@ -64,7 +64,7 @@ pub struct Outcome<'a> {
 
 impl<'a> Outcome<'a> {
     /// The outcome of this fault, without a fault of the session.
-    pub(crate) fn of(program: Fault<'a>) -> Outcome<'a>
+    pub fn of(program: Fault<'a>) -> Outcome<'a>
         ensures { result ≡ record { session = None; program = Some program.entry } }
     {
         Outcome {
@@ -89,12 +89,12 @@ impl<'a> Fault<'a> {
     }
 
     /// The fault of a server that cannot listen where the options say: at their socket, or else on their port.
-    pub(crate) fn of_listening(options: &'a Options) -> Fault<'a> {
+    pub fn of_listening(options: &'a Options) -> Fault<'a> {
         Fault::of_place(&options.socket, options.address)
     }
 
     /// The fault of a server that cannot listen for HTTP: at the socket of the options, or else on the port of this address.
-    pub(crate) fn of_http(options: &'a Options, address: SocketAddr) -> Fault<'a> {
+    pub fn of_http(options: &'a Options, address: SocketAddr) -> Fault<'a> {
         Fault::of_place(&options.http_socket, address)
     }
 

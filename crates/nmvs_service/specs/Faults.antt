@@ -4,8 +4,8 @@ use Rattle.std.specs.Fmt.{decimal}
 use Rattle.nmvs_messages.specs.declared.end.End.{End}
 use Rattle.nmvs_messages.specs.declared.end.End.TheVariants as ends
 use Rattle.nmvs_recovery.specs.Faults.{file_fault_status, file_fault_text}
-use Rattle.nmvs_server.specs.declared.fault.Fault.{Fault}
-use Rattle.nmvs_server.specs.declared.fault.Fault.TheVariants as faults
+use Rattle.nmvs_service.specs.declared.fault.Fault.{Fault}
+use Rattle.nmvs_service.specs.declared.fault.Fault.TheVariants as faults
 
 -- the result of the program after the session over standard input ended in this way
 abbrev pub outcome : End → Result (Unit {0}) Fault

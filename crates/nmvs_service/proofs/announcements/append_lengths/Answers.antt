@@ -1,9 +1,9 @@
 use Rattle.std.proofs.Common.{◌++◌, ◌∙◌, List, ℕ, take, length, get_or, string_bytes, sym, ap, ap₂, append_assoc}
 use Rattle.std.specs.List.{flat_map}
 use Rattle.std.specs.Prelude.{codes, decimal}
-use Rattle.nmvs_server.specs.Announcements.{length_text}
-use Rattle.nmvs_server.proofs.Lengths.{lengths-next}
-use Rattle.nmvs_server.proofs.announcements.append_lengths.Goals as goal
+use Rattle.nmvs_service.specs.Announcements.{length_text}
+use Rattle.nmvs_service.proofs.Lengths.{lengths-next}
+use Rattle.nmvs_service.proofs.announcements.append_lengths.Goals as goal
 
 pub loop-shard-preserved : goal.loop-shard-preserved
 loop-shard-preserved c =
