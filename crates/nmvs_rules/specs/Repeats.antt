@@ -100,9 +100,13 @@ tells_state reply.NoPack = true
 tells_state (reply.Shown n) = true
 tells_state _ = false
 
--- whether a moment is at most a day after an earlier one
+-- whether at most a day lies between two moments; either may be the earlier one, since a clock can be set back
 abbrev pub is_in_day : ℕ → ℕ → Bool
-is_in_day earlier later = not (nat_lt (earlier + seconds_answered) later)
+is_in_day one other = not (nat_lt (one + seconds_answered) other) && not (nat_lt (other + seconds_answered) one)
+
+-- at most a day lies between two moments
+abbrev pub AreInDay : ℕ → ℕ → Type 0
+AreInDay one other = (one ≤ other + 86400) × (other ≤ one + 86400)
 
 -- the relation of a question to the entry at a place that asked the same
 abbrev pub beside_same : ℕ → Entry → Repeat
@@ -146,8 +150,8 @@ AreNewAfter u (e ∷ es) = (repeat_of u e.put ≡ repeat.New) × AreNewAfter (u 
 abbrev pub AreNew : List Entry → Type 0
 AreNew t = AreNewAfter [] t
 
--- the entry at a place asked the question, by the same user, with the same tag and in the same capacity, at most a day
--- earlier; its reply is this one, and does not give the state of a pack
+-- the entry at a place asked the question, by the same user, with the same tag and in the same capacity, and at most a day
+-- lies between them; its reply is this one, and does not give the state of a pack
 pub record IsRepeated (t : List Entry) (q : Put) (place : ℕ) (reply : Reply) : Type 0 where
   pub entry : Entry
   pub stands : slice_get t place ≡ Some entry
@@ -156,7 +160,7 @@ pub record IsRepeated (t : List Entry) (q : Put) (place : ℕ) (reply : Reply) :
   pub actor : entry.put.actor ≡ q.actor
   pub question : entry.put.question ≡ q.question
   pub same : reply ≡ entry.reply
-  pub day : q.moment ≤ entry.put.moment + 86400
+  pub day : AreInDay entry.put.moment q.moment
   pub lasting : IsFalse (tells_state reply)
 
 -- a question as it was put, without its tag
