@@ -19,7 +19,7 @@ use Rattle.nmvs_rules.specs.Limits.{entries_looked_over}
 use Rattle.nmvs_rules.specs.Questions.{pack_of, names}
 use Rattle.nmvs_rules.specs.Trail.{is_about, about_of}
 use Rattle.nmvs_rules.specs.Rules.{reply_of, IsLawfulAfter, IsLawful}
-use Rattle.nmvs_rules.specs.Repeats.{same_actor, asks_same, answer_of, has_tag, is_in_day, is_tagged, last_tagged, place_up_to, place_tagged, beside, beside_same, repeat_at, repeat_by, repeat_of, reply_by, tells_state, AreInDay, AreNewAfter, AreNew, IsRepeated}
+use Rattle.nmvs_rules.specs.Repeats.{same_actor, asks_same, answer_of, has_tag, is_in_day, is_tagged, last_tagged, place_up_to, place_tagged, beside, beside_same, repeat_at, repeat_by, repeat_of, reply_by, is_changed, in_day_at, was_asked, was_asked_by, tells_state, AreInDay, AreNewAfter, AreNew, IsRepeated}
 use Rattle.nmvs_rules.proofs.PushLemmas.{suffix_len-push}
 use Rattle.nmvs_identifier.specs.Texts.{same_text}
 use Rattle.nmvs_rules.specs.declared.repeat.Repeat.{Repeat}
@@ -353,10 +353,34 @@ repeated-by-rules t q place reply lawful again = again.same ∙ lawful-at [] t p
 pub told-now : (t : List Entry) (q : Put) (said : Reply) → tells_state said ≡ true → answer_of t q ≡ Some said → reply_of t q ≡ said
 told-now t q said state = by (repeat_of t q) refl
   where
+    put : (b : Bool) → cond b None (Some (reply_of t q)) ≡ Some said → reply_of t q ≡ said
+    put true h = cc
+    put false h = cc
+
     by : (r : Repeat) → repeat_of t q ≡ r → reply_by t q r ≡ Some said → reply_of t q ≡ said
-    by repeat.New is h = cc
+    by repeat.New is h = put (is_changed t q) h
     by (repeat.Same place r) is h =
         let again = repeated t q place r is in
         let same : r ≡ said = cc in
         absurd (cc (sym again.lasting ∙ ap tells_state same ∙ state))
     by repeat.Other is h = absurd cc
+
+-- a question whose tag has no entry within its day is new
+pub new-unasked : (t : List Entry) (q : Put) → was_asked t q ≡ false → repeat_of t q ≡ repeat.New
+new-unasked t q = by (pack_of q.question) q.tag
+  where
+    day : (place : ℕ) (e : Entry) → is_in_day e.put.moment q.moment ≡ false → beside q place e ≡ repeat.New
+    day place e h = ap (λ c. cond c (cond (asks_same q e.put) (beside_same place e) repeat.Other) repeat.New) h
+
+    found : (place : ℕ) (o : Option Entry) → option_map_or (λ e. is_in_day e.put.moment q.moment) o false ≡ false → option_map_or (beside q place) o repeat.New ≡ repeat.New
+    found place None h = refl
+    found place (Some e) h = day place e h
+
+    at : (o : Option ℕ) → in_day_at t q o ≡ false → repeat_at t q o ≡ repeat.New
+    at None h = refl
+    at (Some place) h = found place (slice_get t place) h
+
+    by : (o : Option Pack) (r : Option Tag) → was_asked_by t q o r ≡ false → repeat_by t q o r ≡ repeat.New
+    by None r h = refl
+    by (Some p) None h = refl
+    by (Some p) (Some g) h = at (place_tagged t p q.user g) h

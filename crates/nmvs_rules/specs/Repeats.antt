@@ -23,7 +23,7 @@ use Rattle.nmvs_rules.specs.declared.repeat.Repeat.TheVariants as repeat
 use Rattle.nmvs_rules.specs.Limits.{entries_looked_over, seconds_answered}
 use Rattle.nmvs_rules.specs.Questions.{pack_of}
 use Rattle.nmvs_rules.specs.Rules.{reply_of}
-use Rattle.nmvs_rules.specs.Trail.{is_about, about_of}
+use Rattle.nmvs_rules.specs.Trail.{is_about, is_alert, about_of}
 
 -- whether two roles are the same
 abbrev pub same_role : Role → Role → Bool
@@ -131,9 +131,29 @@ repeat_by t q _ _ = repeat.New
 abbrev pub repeat_of : List Entry → Put → Repeat
 repeat_of t q = repeat_by t q (pack_of q.question) q.tag
 
--- the reply that the asker gets: that of the rules if the question is new, that of the entry that it repeats, or none
+-- whether the entry at a place is at most a day from a question
+abbrev pub in_day_at : List Entry → Put → Option ℕ → Bool
+in_day_at t q None = false
+in_day_at t q (Some place) = option_map_or (λ e. is_in_day e.put.moment q.moment) (slice_get t place) false
+
+-- whether a user's tag has an entry within its day, by the pack that the question names and its tag
+abbrev pub was_asked_by : List Entry → Put → Option Pack → Option Tag → Bool
+was_asked_by t q (Some p) (Some g) = in_day_at t q (place_tagged t p q.user g)
+was_asked_by t q _ _ = false
+
+-- whether the user of a question asked about its pack with its tag at most a day away: one of the last 16 entries about the pack
+-- has user and tag
+abbrev pub was_asked : List Entry → Put → Bool
+was_asked t q = was_asked_by t q (pack_of q.question) q.tag
+
+-- whether a question whose tag has an entry within its day would now raise an alert: it may be a late copy, which accuses nobody
+abbrev pub is_changed : List Entry → Put → Bool
+is_changed t q = is_alert (reply_of t q) && was_asked t q
+
+-- the reply that the asker gets: that of the rules if the question is new and no late copy that would raise an alert, that of the
+-- entry that it repeats, or none
 abbrev pub reply_by : List Entry → Put → Repeat → Option Reply
-reply_by t q repeat.New = Some (reply_of t q)
+reply_by t q repeat.New = if is_changed t q then None else Some (reply_of t q)
 reply_by t q (repeat.Same place r) = Some r
 reply_by t q repeat.Other = None
 
