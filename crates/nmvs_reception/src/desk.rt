@@ -360,10 +360,12 @@ fn answer_by<H: Histories>(
         }
         Outcome::Other => (Content::Turned(Turn::Tag), None, None),
         Outcome::Differs => (Content::Turned(Turn::Differs), None, None),
+        Outcome::Changed => (Content::Turned(Turn::Changed), None, None),
     }
 }
 
-/// Counts a question that was put, and notes an alert that is flagged as a potential falsification.
+/// Counts a question that was put, and notes an alert that is flagged as a potential falsification, or printed values that
+/// differ.
 fn note_put<R: Wait + Log>(
     rt: &R,
     metrics: &WorkerMetrics<'_>,
@@ -372,8 +374,10 @@ fn note_put<R: Wait + Log>(
     put: &Put,
     outcome: &Outcome,
 ) {
-    let Outcome::New(answered) = outcome else {
-        return;
+    let answered = match outcome {
+        Outcome::New(answered) => answered,
+        Outcome::Differs => return alerts.note_mismatch(rt, put),
+        Outcome::Again(_) | Outcome::Other | Outcome::Changed => return,
     };
     metrics.note_put(shard, &put.question, &answered.reply);
     if let Reply::Alert {

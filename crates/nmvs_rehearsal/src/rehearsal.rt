@@ -141,6 +141,7 @@ impl<'a> RehearsalDesk<'a> {
             Ok(Outcome::Again(answered)) => replied(answered.reply, None),
             Ok(Outcome::Other) => (Content::Turned(Turn::Tag), None),
             Ok(Outcome::Differs) => (Content::Turned(Turn::Differs), None),
+            Ok(Outcome::Changed) => (Content::Turned(Turn::Changed), None),
             Err(AllocError) => (Content::Turned(Turn::Memory), None),
         }
     }
