@@ -337,8 +337,8 @@ const press = (text, does) => Object.assign(() => does(), { text });
 function take(read) {
   let pack;
   try { pack = read() } catch (fault) { if (!(fault instanceof ScanFault)) throw fault; untaken(fault); return }
-  const isTwin = it => it?.word === doing() && JSON.stringify(it.pack) === JSON.stringify(pack), isHand = isTwin(last) && now() - last.at < 2000;
-  last = { pack, word: doing(), at: now() };
+  const isTwin = it => it?.word === doing() && it.user === $('user').textContent && JSON.stringify(it.pack) === JSON.stringify(pack), isHand = isTwin(last) && now() - last.at < 2000;
+  last = { pack, word: doing(), user: $('user').textContent, at: now() };
   if (isHand || isTwin(turn?.record) || waiting.some(isTwin)) { hinted(() => say('hint.again')); return }
   if (turn?.drop) turn.drop();
   enqueue(newRecord(doing(), pack));
@@ -475,7 +475,7 @@ function showSettings() {
       if (!house().includes(mode)) mode = 'verify';
       showModes(); choose(mode);
     };
-    return make('label', 'tick', choice, make('span', '', `${say(`mode.${word}`)}: ${say(`note.${word}`)}`));
+    return make('label', 'tick', choice, make('span', '', say(`mode.${word}`), make('small', '', say(`note.${word}`))));
   });
   $('houses').replaceChildren(make('legend', '', say('set.modes')), ...houses);
 }
@@ -487,7 +487,7 @@ function speak() {
   for (const it of document.querySelectorAll('[data-label]')) it.setAttribute('aria-label', say(it.dataset.label));
   if (!sessionStorage.user) $('user').textContent = say('nobody');
   if (!$('link').hidden) linked(!away);
-  showModes(); choose(mode); showSettings(); showWaiting(); list(); show(shown, note);
+  showModes(); choose(mode); showSettings(); showWaiting(); showStranger(); list(); show(shown, note);
 }
 
 // ---- Who asks: the user whom the certificate names, or a name that a person types.
@@ -507,12 +507,14 @@ async function isUser(user) {
   else if (['NOBODY', 'USER', 'FIELDS'].includes(said.fault)) delete store['desk.certified'];
   return store['desk.certified'] === user;
 }
+let stranger = '';
+function showStranger() { $('certificate').textContent = stranger && say('who.certificate', { name: stranger }) }
 async function meet() {
   if (sessionStorage.user) setUser(sessionStorage.user);
   const user = await certified();
   if (user && await isUser(user)) { setUser(user); return }
-  $('certificate').hidden = !user;
-  $('certificate').textContent = say('who.certificate', { name: user });
+  stranger = user;
+  showStranger();
   if (!sessionStorage.user) open($('who'), $('name'));
 }
 
