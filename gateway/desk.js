@@ -555,4 +555,5 @@ document.querySelector('.leave').onclick = () => $('hand').close();
 $('hand').onclose = () => { if ($('hand').returnValue === 'yes') take(() => checked({ code: $('h-code').value, serial: $('h-serial').value, batch: $('h-batch').value, expiry: $('h-expiry').value })); $('scan').focus() };
 $('who').onclose = () => { if ($('who').returnValue === 'yes') setUser($('name').value); else if (!sessionStorage.user) open($('who'), $('name')) };
 for (const it of [$('set'), $('sheet')]) it.onclose = () => $('scan').focus();
+navigator.serviceWorker?.register('/desk-worker.js', { scope: '/desk' }).catch(() => {});
 load().then(() => { speak(); adopt(); meet() });

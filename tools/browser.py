@@ -101,9 +101,9 @@ class Browser:
         for kind in ("mousePressed", "mouseReleased"):
             self.call("Input.dispatchMouseEvent", type=kind, button="left", clickCount=1, **place)
 
-    def until(self, expression, wanted):
-        """What an expression gives, once it is this, or after some seconds."""
-        end = time.monotonic() + 8
+    def until(self, expression, wanted, seconds=BOUND):
+        """What an expression gives, once it is this, or after so many seconds."""
+        end = time.monotonic() + seconds
         while (got := self.value(expression)) != wanted and time.monotonic() < end:
             time.sleep(0.02)
         return got
