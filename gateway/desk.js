@@ -120,10 +120,11 @@ function prune() {
 const isUnsent = record => record.handed && !record.said;
 const isBack = record => record.handed && record.said && !record.seen && STOPS.includes(verdictOf(record).kind);
 const isPack = (one, other) => one.code === other.code && one.serial === other.serial;
-// What changed a pack last, or raised an alert, as far as this browser knows.
+// What changed a pack last, may have changed it, or raised an alert, as far as this browser knows.
 function lastOf(pack) {
-  const CHANGES = ['DECOMMISSIONED', 'HANDED_OVER', 'STOLEN', 'ALERT', 'REVERTED'], when = it => it.done ?? it.handed;
-  const those = records().filter(it => isPack(it.pack, pack) && (isUnsent(it) || CHANGES.includes(it.said?.reply) || it.said?.page === 'PERHAPS'));
+  const CHANGES = ['DECOMMISSIONED', 'HANDED_OVER', 'STOLEN', 'ALERT', 'REVERTED', 'PERHAPS'], when = it => it.done ?? it.handed ?? it.at;
+  const open = it => !it.said && (it.handed || (it.stopped && it.tried && LEFT[it.word]));
+  const those = records().filter(it => isPack(it.pack, pack) && (open(it) || CHANGES.includes(it.said?.reply ?? it.said?.page)));
   const last = those.sort((one, other) => when(one) - when(other)).at(-1);
   return last?.said?.reply === 'REVERTED' ? undefined : last;
 }
@@ -170,8 +171,8 @@ const quiet = ({ word, key }) => ({ kind: 'warn', head: say('quiet.head'), then:
 const goes = word => ['supply', 'handover'].includes(word);
 const ready = () => ({ kind: 'idle', head: say('ready.head'), then: say(`ready.${doing()}`) });
 const asking = () => ({ kind: 'idle', head: say('asking.head'), then: say('asking.then') });
-function known(record, last) {
-  const values = { time: clock(last.done ?? last.handed), user: last.user, reply: verdictOf(last).head };
+function known(last) {
+  const values = { time: clock(last.done ?? last.handed ?? last.at), user: last.user, reply: verdictOf(last).head };
   const more = last.word === 'hold' && last.said?.reply === 'DECOMMISSIONED' ? ` ${say('known.held')}` : '';
   return { kind: 'calm', head: say('known.head'), then: say(isUnsent(last) ? 'known.handed' : 'known.then', values) + more };
 }
@@ -232,7 +233,7 @@ function row(record) {
   name.dataset.code = pack.code;
   const text = make('div', '', make('b', '', v.head), document.createElement('br'), make('small', '', name, make('span', 'code', pack.serial), ' ', make('time', '', clock(record.done ?? record.handed ?? record.at)), ' ', make('span', '', say(`mode.${word}`))));
   const actions = [];
-  if (record.stopped && !record.said) actions.push(['act.again', () => { record.stopped = false; record.sure = true; enqueue(record) }]);
+  if (record.stopped && !record.said) actions.push(['act.again', () => again(record)]);
   if (record.stopped && !record.said && goes(word)) actions.push(['act.handed', () => hand(record)]);
   if (v.undo && lastOf(pack)?.key === record.key) actions.push(['act.undo', () => enqueue(newRecord('revert', pack))]);
   const buttons = record.handed ? [] : actions.map(([act, does]) => button(say(act), does, pack.serial));
@@ -281,6 +282,7 @@ function sound(name) {
 // ---- One request. Nothing comes back where no reply of the server did: then it may be carried out or not.
 let away = false;
 async function post(word, { user, key, pack: { code, serial } }, more = {}, signal) {
+  if (signal?.aborted) return null;
   const attempt = new AbortController(), timer = setTimeout(() => attempt.abort(), 15_000);
   signal?.addEventListener('abort', () => attempt.abort());
   try {
@@ -337,12 +339,17 @@ const press = (text, does) => Object.assign(() => does(), { text });
 function take(read) {
   let pack;
   try { pack = read() } catch (fault) { if (!(fault instanceof ScanFault)) throw fault; untaken(fault); return }
-  const isTwin = it => it?.word === doing() && it.user === $('user').textContent && JSON.stringify(it.pack) === JSON.stringify(pack), isHand = isTwin(last) && now() - last.at < 2000;
+  const isTwin = it => it?.word === doing() && it.user === $('user').textContent && JSON.stringify(it.pack) === JSON.stringify(pack);
+  const isHand = isTwin(last) && now() - last.at < 2000;
   last = { pack, word: doing(), user: $('user').textContent, at: now() };
   if (isHand || isTwin(turn?.record) || waiting.some(isTwin)) { hinted(() => say('hint.again')); return }
-  if (turn?.drop) turn.drop();
-  enqueue(newRecord(doing(), pack));
+  makeRoom();
+  const stopped = records().find(it => it.stopped && isTwin(it)); // with its key
+  if (stopped) again(stopped); else enqueue(newRecord(doing(), pack));
 }
+// A question that a person has not answered is dropped for the next pack, unless others wait after it.
+function makeRoom() { if (turn?.drop && !waiting.length) turn.drop() }
+function again(record) { delete record.stopped; record.sure = true; enqueue(record) }
 function untaken(fault) {
   sound('untaken');
   if (turn) { hinted(() => say('hint.untaken', { why: fault.text() })); return }
@@ -350,9 +357,13 @@ function untaken(fault) {
 }
 function enqueue(record) {
   record.tab = TAB;
-  if (turn?.drop) turn.drop();
+  makeRoom();
   if (!turn) { begin(record); return }
-  if (waiting.length >= MOST) { sound('untaken'); hinted(() => say('hint.full')); return }
+  if (waiting.length >= MOST) {
+    if (packs.has(record.key)) { record.stopped = true; keep(record) }
+    last = null; sound('untaken'); hinted(() => say('hint.full'));
+    return;
+  }
   waiting.push(record); keep(record); showWaiting();
 }
 function next() {
@@ -368,7 +379,7 @@ function begin(record) {
   if (record.sure || record.tried) put(record);
   else if (LEAVES.includes(word) && isPast(pack.expiry)) finish(record, { page: 'EXPIRED' });
   else if (word === 'revert' && before && !before.said?.cause && ['supply', 'handover', 'destroy'].includes(before.word)) finish(record, { page: 'UNDO', refusal: before.word === 'destroy' ? 'IS_DESTROYED' : 'WAS_SUPPLIED' });
-  else if (before && (word === 'verify' || TAKES.includes(word) || (word === 'handover' && goes(before.word) && !before.said?.cause))) person(record, () => known(record, before), 'act.ask');
+  else if (before && (word === 'verify' || TAKES.includes(word) || (word === 'handover' && goes(before.word) && !before.said?.cause))) person(record, () => known(before), 'act.ask');
   else if (ASKS.includes(word)) person(record, () => sure(record), 'act.yes');
   else put(record);
 }
@@ -525,7 +536,7 @@ function open(dialog, first) {
   if (dialog !== $('set')) dialog.querySelector('form').reset();
 }
 function separate(event) { event.preventDefault(); $('scan').setRangeText('|', $('scan').selectionStart, $('scan').selectionEnd, 'end') }
-function clear() { $('scan').value = ''; $('scan').focus(); if (turn) turn.no(); else { showPack(null); show(ready) } }
+function clear() { last = null; $('scan').value = ''; $('scan').focus(); if (turn) turn.no(); else { showPack(null); show(ready) } }
 const PRESSED = { F3: () => open($('who'), $('name')), F9: () => open($('hand'), $('h-code')), F10: () => turn?.yes?.(), Escape: clear };
 let typed = 0, caps = false;
 function capsLock(is) { if (is !== caps) { caps = is; show(shown, note) } }
