@@ -58,10 +58,9 @@ fn questions(rt: &impl Abort, digits: &str) -> (Put, Put) {
         batch: Batch::read("B1").expect(rt, "a batch"),
         expiry: Expiry::read("280200").expect(rt, "a date"),
     };
-    (
-        put(rt, "mah1", Role::Holder, upload),
-        put(rt, "ph1", Role::Pharmacy, Question::Verify(pack)),
-    )
+    let verify = Question::Verify(pack);
+    let first = put(rt, "mah1", Role::Holder, upload);
+    (first, put(rt, "ph1", Role::Pharmacy, verify))
 }
 
 /// What a clerk asks: the upload of a pack of each of these product codes, and 999 verifications of it.
@@ -205,9 +204,9 @@ fn is_imported(rt: &impl Abort, alloc: Global, bytes: &[u8]) -> bool {
 #[test]
 fn two_clerks_are_answered_as_one_alone(rt: HostRuntime) {
     let alloc = rt.alloc();
-    let both = [questions(&rt, P), questions(&rt, Q)];
-    let apart = exported_after(&rt, alloc, 2, &[&both[..1], &both[1..]]);
-    let alone = exported_after(&rt, alloc, 1, &[&both]);
+    let (p, q) = (questions(&rt, P), questions(&rt, Q));
+    let apart = exported_after(&rt, alloc, 2, &[&[p], &[q]]);
+    let alone = exported_after(&rt, alloc, 1, &[&[p, q]]);
     assert!(rt; apart == alone && is_imported(&rt, alloc, &apart));
 }
 

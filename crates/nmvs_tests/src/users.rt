@@ -41,14 +41,15 @@ fn changes_are_shown<J: Naming, R: Wait + Abort + Sync>(rt: &R, alloc: Global, d
         authorisation: name(rt, "PH-1"),
         premises: name(rt, "P1"),
     };
+    let known = Look::Known(actor);
     let (mut registrar, mut windows) = directory.open::<J, _, _>(rt, alloc, 2).expect(rt, "memory");
     registrar.changes.enrol(user, actor).expect(rt, "memory");
-    assert!(rt; show(rt, &mut registrar, &mut windows, Look::Known(actor)));
+    assert!(rt; show(rt, &mut registrar, &mut windows, known));
     registrar.changes.suspend(user).expect(rt, "memory");
     assert!(rt; show(rt, &mut registrar, &mut windows, Look::Suspended));
     assert!(rt; show(rt, &mut registrar, &mut windows, Look::Suspended));
     registrar.changes.enrol(user, actor).expect(rt, "memory");
-    assert!(rt; show(rt, &mut registrar, &mut windows, Look::Known(actor)));
+    assert!(rt; show(rt, &mut registrar, &mut windows, known));
     registrar.close();
 }
 
