@@ -197,7 +197,11 @@ fn is_imported(rt: &impl Abort, alloc: Global, bytes: &[u8]) -> bool {
     let shards = Shards::new(alloc, 2, HashKey::of(1)).expect(rt, "memory");
     let imported = import(alloc, shards, &mut Device::new(bytes), 10_000);
     let shards = imported.ok().expect(rt, "an export").into_shards();
-    shards.len() == 2 && shards.iter().all(|shard| shard.len() == 1_000)
+    let mut lengths = [0; 2];
+    for (length, shard) in lengths.iter_mut().zip(&shards) {
+        *length = shard.len();
+    }
+    shards.len() == 2 && lengths == [1_000, 1_000]
 }
 
 /// The first clerk asks of one product code and the second of another, or one clerk of both.
