@@ -498,7 +498,7 @@ function speak() {
   for (const it of document.querySelectorAll('[data-label]')) it.setAttribute('aria-label', say(it.dataset.label));
   if (!sessionStorage.user) $('user').textContent = say('nobody');
   if (!$('link').hidden) linked(!away);
-  showModes(); choose(mode); showSettings(); showWaiting(); showStranger(); list(); show(shown, note);
+  showModes(); choose(mode); showSettings(); showWaiting(); showStranger(); $('packs').replaceChildren(); list(); show(shown, note);
 }
 
 // ---- Who asks: the user whom the certificate names, or a name that a person types.
