@@ -8,7 +8,7 @@
 //!   keeps. [`whole_lines`] is the part of it that a start reads.
 //! - A [`LogStore`] is a log in a file, or elsewhere. [`Progress`] reports how far a long work is.
 //!
-//! It has neither shards under locks nor connections, so it names no desk and no network.
+//! It names neither the desk nor the engine of several machines: exports and the engine's logs stand above it.
 #![tactic(auto)]
 
 mod fault;
@@ -29,9 +29,9 @@ pub use imports::imported;
 pub use kept_lines::{kept_file, kept_text};
 pub use log_files::{OpenFiles, OpenLog, open_files};
 pub use log_store::LogStore;
-pub use marks::{TAIL, mark, mark_users, read_tail, refused};
-pub use paths::Paths;
+pub use marks::{TAIL, mark, mark_users, read_tail};
+pub use paths::{Paths, lock, refused, write_text};
 pub use progress::{Progress, Watched, Whole};
 pub use run::{Host, Run};
 pub use users::{publish_kept, publish_users, read_users, tell_users};
-pub use users_file::{lock_users, make_place, whole_lines};
+pub use users_file::{make_place, whole_lines};

@@ -4,7 +4,7 @@
 //! - [`stand_by`] follows the log of a server of another machine, until this one owns it ([`Followed`]).
 //!   [`prepare_followed`] goes on from that log.
 //!
-//! It serves nobody: a server is made of what it returns.
+//! While it follows, it answers the operator alone. It names no desk: a server is opened with what it returns.
 #![tactic(auto)]
 
 mod directions;
