@@ -394,13 +394,19 @@ function person(record, verdict, yes) {
 }
 async function put(record) {
   const stop = new AbortController();
-  const leave = does => () => { turn = null; stop.abort(); does(record); show(() => verdictOf(record)); next() };
-  const mine = turn = { record, no: press(() => say('act.stop'), leave(it => { it.stopped = true; keep(it) })) };
+  // What a person decides is said to be done once the disk has it.
+  const leave = does => async () => {
+    if (stop.signal.aborted) return;
+    stop.abort();
+    await does(record);
+    turn = null; show(() => verdictOf(record)); next();
+  };
+  const mine = turn = { record, no: press(() => say('act.stop'), leave(it => { it.stopped = true; return keep(it) })) };
   mine.handed = press(() => say('act.handed'), leave(hand));
   if (away) silent(mine); else show(asking);
   for (let pause = 1; turn === mine; pause = Math.min(2 * pause, 60)) {
     const said = await attempt(record, stop.signal);
-    if (turn !== mine) return;
+    if (turn !== mine || stop.signal.aborted) return;
     if (said) { finish(record, said); return }
     silent(mine);
     await Promise.race([new Promise(wake => setTimeout(wake, 1000 * pause * (0.8 + 0.4 * Math.random()))), ended(stop.signal)]);
@@ -426,7 +432,7 @@ function fallBack({ word }) { if (ASKS.includes(word) && doing() === word) choos
 
 // ---- To be sent: packs that were handed over without a reply (Articles 25(1) and 29). Each is sent with its key until a reply comes.
 let timer = 0, pause = 1;
-function hand(record) { record.handed = now(); delete record.stopped; keep(record); later(pause) }
+function hand(record) { record.handed = now(); delete record.stopped; later(pause); return keep(record) }
 function later(seconds) { clearTimeout(timer); timer = setTimeout(sendKept, 1000 * seconds) }
 async function sendKept() {
   await navigator.locks.request('desk.send', { ifAvailable: true }, async lock => {
