@@ -15,41 +15,64 @@ fn name(rt: &impl Abort, text: &str) -> Name {
     Name::read(text).expect(rt, "a name")
 }
 
-/// Publishes what is pending, and lets both windows learn of it. Whether both show this of ph1, and nobody by another name.
-fn show<J: Naming, R: Wait + Abort>(
+fn pharmacy(rt: &impl Abort) -> Actor {
+    Actor {
+        role: Role::Pharmacy,
+        authorisation: name(rt, "PH-1"),
+        premises: name(rt, "P1"),
+    }
+}
+
+fn enrol<J: Naming, R: Wait + Abort>(rt: &R, registrar: &mut Registrar<J, &R, Global>) {
+    let (user, actor) = (name(rt, "ph1"), pharmacy(rt));
+    registrar.changes.enrol(user, actor).expect(rt, "memory");
+}
+
+fn suspend<J: Naming, R: Wait + Abort>(rt: &R, registrar: &mut Registrar<J, &R, Global>) {
+    let user = name(rt, "ph1");
+    registrar.changes.suspend(user).expect(rt, "memory");
+}
+
+/// The window shows this of ph1, and nobody by another name.
+fn shows<J: Naming>(rt: &impl Abort, window: &mut Window<J, Global>, look: Look) {
+    assert!(rt; window.look(&name(rt, "ph1")) == look);
+    assert!(rt; window.look(&name(rt, "zed")) == Look::Nobody);
+}
+
+/// Publishes what is pending, and lets the window learn of it. Then it shows this of ph1.
+fn tells<J: Naming, R: Wait + Abort>(
     rt: &R,
     registrar: &mut Registrar<J, &R, Global>,
-    windows: &mut [Window<J, Global>],
+    window: &mut Window<J, Global>,
     look: Look,
-) -> bool {
-    let (user, other) = (name(rt, "ph1"), name(rt, "zed"));
+) {
     let notice = registrar.publish().expect(rt, "memory");
-    let mut all = true;
-    for window in windows {
-        window.learn(&notice);
-        all = all && window.look(&user) == look && window.look(&other) == Look::Nobody;
-    }
-    all
+    window.learn(&notice);
+    shows(rt, window, look);
+}
+
+/// A publication of no change changes no look.
+fn shows_changes<J: Naming, R: Wait + Abort>(
+    rt: &R,
+    registrar: &mut Registrar<J, &R, Global>,
+    window: &mut Window<J, Global>,
+) {
+    enrol(rt, registrar);
+    tells(rt, registrar, window, Look::Known(pharmacy(rt)));
+    suspend(rt, registrar);
+    tells(rt, registrar, window, Look::Suspended);
+    tells(rt, registrar, window, Look::Suspended);
+    enrol(rt, registrar);
+    tells(rt, registrar, window, Look::Known(pharmacy(rt)));
 }
 
 fn changes_are_shown<J: Naming, R: Wait + Abort + Sync>(rt: &R, alloc: Global, directory: Directory)
     requires { directory_book directory ≡ J.book }
 {
-    let user = name(rt, "ph1");
-    let actor = Actor {
-        role: Role::Pharmacy,
-        authorisation: name(rt, "PH-1"),
-        premises: name(rt, "P1"),
-    };
-    let known = Look::Known(actor);
     let (mut registrar, mut windows) = directory.open::<J, _, _>(rt, alloc, 2).expect(rt, "memory");
-    registrar.changes.enrol(user, actor).expect(rt, "memory");
-    assert!(rt; show(rt, &mut registrar, &mut windows, known));
-    registrar.changes.suspend(user).expect(rt, "memory");
-    assert!(rt; show(rt, &mut registrar, &mut windows, Look::Suspended));
-    assert!(rt; show(rt, &mut registrar, &mut windows, Look::Suspended));
-    registrar.changes.enrol(user, actor).expect(rt, "memory");
-    assert!(rt; show(rt, &mut registrar, &mut windows, known));
+    for window in windows.iter_mut() {
+        shows_changes(rt, &mut registrar, window);
+    }
     registrar.close();
 }
 
