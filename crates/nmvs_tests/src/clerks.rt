@@ -47,18 +47,22 @@ fn put(rt: &impl Abort, user: &str, role: Role, question: Question) -> Put {
     }
 }
 
-/// The upload of the pack SN1 of a product code by its holder, and its verification by a pharmacy.
-fn questions(rt: &impl Abort, digits: &str) -> (Put, Put) {
-    let pack = Pack {
+/// The pack SN1 of a product code.
+fn pack(rt: &impl Abort, digits: &str) -> Pack {
+    Pack {
         code: ProductCode::read(digits).expect(rt, "a code"),
         serial: Serial::read("SN1").expect(rt, "a serial"),
-    };
+    }
+}
+
+/// The upload of that pack by its holder, and its verification by a pharmacy.
+fn questions(rt: &impl Abort, digits: &str) -> (Put, Put) {
     let upload = Question::Upload {
-        pack,
+        pack: pack(rt, digits),
         batch: Batch::read("B1").expect(rt, "a batch"),
         expiry: Expiry::read("280200").expect(rt, "a date"),
     };
-    let verify = Question::Verify(pack);
+    let verify = Question::Verify(pack(rt, digits));
     let first = put(rt, "mah1", Role::Holder, upload);
     (first, put(rt, "ph1", Role::Pharmacy, verify))
 }
