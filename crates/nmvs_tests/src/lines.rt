@@ -57,11 +57,16 @@ fn is_answered(rt: &impl Abort, alloc: Global, row: &Example) -> bool {
     !moments.is_empty() && is_rehearsed(alloc, &moments, &input, &wanted, end)
 }
 
+/// Asks each of these rows.
+fn answer_all(rt: &impl Abort, alloc: Global, rows: &[Example]) {
+    for row in rows {
+        assert!(rt; is_answered(rt, alloc, row), "{}", row.shows);
+    }
+}
+
 #[test]
 fn rows_get_their_replies(rt: HostRuntime) {
-    for row in ROWS {
-        assert!(rt; is_answered(&rt, rt.alloc(), row), "{}", row.shows);
-    }
+    answer_all(&rt, rt.alloc(), ROWS);
 }
 
 #[test]
