@@ -11,21 +11,7 @@
  *
  * The notes are five counts of calls, one a kind, and then for each file its name (120 bytes) and its length when the last
  * sync of it that succeeded began (8 bytes); of a folder 1. The folder itself has the name ".". */
-#define _GNU_SOURCE
-#include <dlfcn.h>
-#include <errno.h>
-#include <fcntl.h>
-#include <limits.h>
-#include <pthread.h>
-#include <stdarg.h>
-#include <stdio.h>
-#include <stdlib.h>
-#include <string.h>
-#include <sys/file.h>
-#include <sys/mman.h>
-#include <sys/stat.h>
-#include <time.h>
-#include <unistd.h>
+#include "c_library.h"
 
 enum kind { WRITE, SYNC, OPEN, LOCK, TRUNCATE, KINDS };
 enum { FILES = 32, NOTES_SIZE = 8 * KINDS + 128 * FILES };

@@ -9,6 +9,7 @@ import subprocess
 import threading
 
 import model
+from preloaded import compile_library
 from terminal import Terminal
 from told import QUIET, told_of
 
@@ -34,8 +35,7 @@ class Disk:
 
     def __init__(self, place, folder):
         self.folder, self.library, self.notes = folder, place / "disk.so", place / "notes"
-        source = TOP / "tools/disk.c"
-        subprocess.run(["cc", "-O2", "-shared", "-fPIC", "-o", self.library, source], check=True)
+        compile_library(TOP / "tools/disk.c", self.library)
 
     def environment(self, call=None, number=0, fault="", delay=0):
         """For a program whose call of this kind and number fails so, and whose syncs take so many microseconds longer."""

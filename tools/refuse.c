@@ -1,18 +1,14 @@
 /* Loaded before a program: refuses its growth number REFUSED_GROWTH, counted from 1, and counts its growths in the first
    eight bytes of the file GROWTHS_FILE. */
-#include <errno.h>
-#include <fcntl.h>
-#include <stdatomic.h>
-#include <stdlib.h>
-#include <sys/mman.h>
+#include "c_library.h"
 
 void *__libc_malloc(size_t);
 void *__libc_calloc(size_t, size_t);
 void *__libc_realloc(void *, size_t);
 void *__libc_memalign(size_t, size_t);
 
-static atomic_long unseen;
-static atomic_long *asked = &unseen;
+static long unseen;
+static long *asked = &unseen;
 static long refused = -1;
 
 __attribute__((constructor)) static void begin(void) {
@@ -24,7 +20,7 @@ __attribute__((constructor)) static void begin(void) {
 }
 
 static int is_refused(void) {
-    if (atomic_fetch_add(asked, 1) + 1 != refused) return 0;
+    if (__atomic_add_fetch(asked, 1, __ATOMIC_SEQ_CST) != refused) return 0;
     errno = ENOMEM;
     return 1;
 }

@@ -77,6 +77,10 @@ def ask_scanned(terminal, user, word, scan, national=None):
     return terminal.ask(line_of(user, word, scan, national))
 
 
+def new_tag():
+    return f"#{secrets.token_hex(8)} "
+
+
 class TaggedTerminal:
     """Sessions one after another, each of which the function connects. Each line gets a tag of its own."""
 
@@ -85,13 +89,17 @@ class TaggedTerminal:
 
     def ask(self, line, patience=60):
         """The lines of the reply to this one, without its tag. Where none comes, or a fault of AGAIN, the line is sent again with
-        the same tag after a pause that grows. ConnectionError: nothing else came for so many seconds."""
-        tag, until, pause = f"#{secrets.token_hex(8)} ", time.monotonic() + patience, 1
+        the same tag after a pause that grows. After CHANGED it is sent with a new tag. ConnectionError: nothing else came for so
+        many seconds."""
+        tag, until, pause = new_tag(), time.monotonic() + patience, 1
         while True:
             try:
                 reply = self.ask_once(tag + line)
                 answers_this = reply[0].startswith(tag)
                 reply = [text.removeprefix(tag) for text in reply]
+                if answers_this and reply[0] == "FAULT CHANGED":
+                    tag = new_tag()
+                    continue
                 if answers_this and reply[0] not in AGAIN:
                     return reply
                 if not answers_this:

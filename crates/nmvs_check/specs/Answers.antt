@@ -15,8 +15,8 @@ use Rattle.nmvs_rules.specs.Repeats.{repeat_of}
 use Rattle.nmvs_rules.specs.Trail.{is_about}
 use Rattle.nmvs_rules.specs.declared.reply.Reply.TheVariants.{Shown}
 use Rattle.nmvs_protocol.specs.Texts.{reply_text}
-use Rattle.nmvs_record.specs.Lines.{Imported, newer}
-use Rattle.nmvs_record.specs.Report.{product_line, report_text}
+use Rattle.nmvs_reader.specs.Lines.{Imported, newer}
+use Rattle.nmvs_reports.specs.Report.{product_line, report_text}
 use Rattle.nmvs_inspect.specs.Filter.{takes}
 use Rattle.nmvs_inspect.specs.Groups.{AreSingle, groups_text}
 use Rattle.nmvs_inspect.specs.Packs.{Standing, AreOfBatch, packs_text}

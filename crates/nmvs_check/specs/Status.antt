@@ -1,7 +1,7 @@
 -- The statuses of the program, which are those of grep: 0 for yes, 1 for no, 2 in trouble (own).
 use Rattle.std.specs.Prelude.{ℕ, Bool, true, false}
 use Rattle.nmvs_record.specs.declared.finding.Finding.TheVariants as found
-use Rattle.nmvs_record.specs.declared.objection.Objection.TheVariants as against
+use Rattle.nmvs_reader.specs.declared.objection.Objection.TheVariants as against
 use Rattle.nmvs_check.specs.declared.inspect_fault.InspectFault.{InspectFault}
 use Rattle.nmvs_check.specs.declared.inspect_fault.InspectFault.TheVariants as inspect
 

@@ -2,7 +2,7 @@
 ghost use Rattle.std.specs.Prelude.{◌≡◌, ◌+◌, ◌<◌, ◌^◌, ◌++◌, IfOk, IfSome, OnOk, string_bytes};
 ghost use Rattle.std.specs.List.{flat_map};
 ghost use Rattle.nmvs_stream.specs.Delivery.{Delivers};
-ghost use Rattle.nmvs_record.specs.Report as told;
+ghost use Rattle.nmvs_reports.specs.Report as told;
 ghost use Rattle.nmvs_check.specs.Answers as answers;
 
 use crate::request::Request;
@@ -13,7 +13,8 @@ use nmvs_inspect::{
     write_page, write_report_rows, write_story,
 };
 use nmvs_protocol::reply_text;
-use nmvs_record::{Importer, product_line, report};
+use nmvs_record::Importer;
+use nmvs_reports::{product_line, report};
 use nmvs_rules::Reply;
 use nmvs_shard::{HashKey, Shard};
 use nmvs_stream::{Sink, deliver};

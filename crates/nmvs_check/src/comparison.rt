@@ -1,7 +1,7 @@
 //! The comparison of two exports.
 ghost use Rattle.std.specs.Prelude.{◌≡◌, ◌≢◌, false, IfOk, IfErr, string_bytes};
 ghost use Rattle.nmvs_record.specs.declared.finding.Finding.{Finding as AFinding};
-ghost use Rattle.nmvs_record.specs.Lines.{Imported};
+ghost use Rattle.nmvs_reader.specs.Lines.{Imported};
 ghost use Rattle.nmvs_record.specs.Import.{Imports, FailsToImport};
 ghost use Rattle.nmvs_check.specs.Comparison as spec;
 

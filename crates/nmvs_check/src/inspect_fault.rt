@@ -1,7 +1,8 @@
 //! The faults of an inspection.
 use nmvs_inspect::AnswerFault;
 use nmvs_protocol::reply_text;
-use nmvs_record::{Finding, Objection};
+use nmvs_reader::Objection;
+use nmvs_record::Finding;
 use nmvs_rules::Reply;
 use std::alloc::{AllocError, Global};
 

@@ -120,6 +120,10 @@ fn page(rt: &HostRuntime, alloc: Global, key: HashKey, path: &str, files: &[Stri
             let _ = eprintln!(rt; "the file {path} is one of the exports");
             ExitCode::from(TROUBLE)
         }
+        Err(PageFault::NoPage) => {
+            let _ = eprintln!(rt; "the file {path} is there, and is no page");
+            ExitCode::from(TROUBLE)
+        }
     }
 }
 

@@ -213,15 +213,11 @@ fn packs<'a>(alloc: Global) -> Result<Command<'a>, AllocError> {
 }
 
 fn page<'a>(alloc: Global) -> Result<Command<'a>, AllocError> {
-    let page = operand(
-        alloc,
-        "page",
-        "PAGE",
-        "The file that the page is written to, as page.html",
-    );
+    let help = "The file that the page is written to, as page.html: a new one, or an earlier page";
+    let output = option(alloc, "output", "PAGE", help);
     Command::new(alloc, "page")
         .about(PAGE)
-        .arg(page)?
+        .arg(output.required(true))?
         .arg(files(alloc))
 }
 
@@ -367,7 +363,7 @@ fn append_paths(alloc: Global, files: &[&str], paths: &mut Vec<String>) -> Resul
 }
 
 fn page_of(alloc: Global, matches: &ArgMatches<'_>) -> Result<Asked, OptionFault> {
-    let Some(path) = matches.get_str("page") else {
+    let Some(path) = matches.get_str("output") else {
         let wanted = "error: a file for the page is wanted\n";
         return Err(OptionFault::Refused(String::from_str(alloc, wanted)?));
     };

@@ -3,7 +3,8 @@ ghost use Rattle.std.specs.Prelude.{◌≡◌};
 ghost use Rattle.nmvs_check.specs.Status as statuses;
 
 use crate::inspect_fault::InspectFault;
-use nmvs_record::{Finding, Objection};
+use nmvs_reader::Objection;
+use nmvs_record::Finding;
 
 /// The status of an answer: 0 if the new export goes on, or all scans are read, and else 1.
 pub(crate) fn status_of_answer(holds: bool) -> u8

@@ -3,8 +3,8 @@ use nmvs_messages::{Piece, READ_SIZE};
 use std::alloc::{AllocError, Global};
 use std::time::Instant;
 
-/// Bytes of room for the replies to one read, without lists and reports: the shortest line, an LF alone, has a reply of
-/// 13 (own).
+/// Bytes of room for the replies of one release, without lists and reports: at most those to one read. The shortest line, an
+/// LF alone, has a reply of 13 bytes (own).
 const ROOM: usize = 13 * READ_SIZE;
 
 /// The time and the buffers with which a worker serves its connections, one after the other.

@@ -27,6 +27,7 @@ cursor_stands old new put printed (outcome.New a) asks begins = λ c here. curso
 cursor_stands old new put printed (outcome.Again a) asks begins = λ c here. absurd cc
 cursor_stands old new put printed outcome.Other asks begins = λ c here. absurd cc
 cursor_stands old new put printed outcome.Differs asks begins = λ c here. absurd cc
+cursor_stands old new put printed outcome.Changed asks begins = λ c here. absurd cc
 
 -- and the entries that the rules show
 pub shows_rules : (old new : List Entry) (put : Put) (printed : Option Printed) (o : Outcome) (r : Option (List Entry)) → Asks old put printed new o → IsPrefix old new → (cursor_of o ≡ None → r ≡ None) → ForSome (cursor_of o) (λ c. r ≡ Some (remaining new c)) → entries_left (λ (s : List Entry). s) r ≡ shown_by old put o
@@ -38,3 +39,4 @@ shows_rules old new put printed (outcome.New a) r asks begins none some = by a.s
 shows_rules old new put printed (outcome.Again a) r asks begins none some = ap (entries_left (λ (s : List Entry). s)) (none refl)
 shows_rules old new put printed outcome.Other r asks begins none some = ap (entries_left (λ (s : List Entry). s)) (none refl)
 shows_rules old new put printed outcome.Differs r asks begins none some = ap (entries_left (λ (s : List Entry). s)) (none refl)
+shows_rules old new put printed outcome.Changed r asks begins none some = ap (entries_left (λ (s : List Entry). s)) (none refl)

@@ -8,19 +8,13 @@ mod ask;
 mod block;
 mod connection;
 mod http;
-#[cfg(test)]
-mod http_tests;
 mod key;
 mod laws;
 mod outcome;
 mod owner_name;
 mod read;
 mod request;
-#[cfg(test)]
-mod tests;
 mod trim;
-#[cfg(test)]
-mod trim_tests;
 
 pub use answer::{append_outcome, free_outcome, own_outcome, trim_outcome};
 pub use ask::{

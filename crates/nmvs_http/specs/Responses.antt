@@ -53,6 +53,7 @@ abbrev pub status_where : Option Problem → List ℕ
 status_where None = codes "200 OK"
 status_where (Some problems.Unprocessable) = codes "422 Unprocessable Content"
 status_where (Some problems.Forbidden) = codes "403 Forbidden"
+status_where (Some problems.Conflict) = codes "409 Conflict"
 status_where (Some problems.PreconditionFailed) = codes "412 Precondition Failed"
 status_where (Some problems.TooManyRequests) = codes "429 Too Many Requests\r\nretry-after: 1"
 status_where (Some problems.Unavailable) = codes "503 Service Unavailable\r\nretry-after: 1"

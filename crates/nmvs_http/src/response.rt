@@ -81,6 +81,8 @@ pub(crate) fn front_of_question(problem: Option<Problem>) -> &'static [u8]
             b"HTTP/1.1 422 Unprocessable Content\r\ncontent-type: application/problem+json\r\ncache-control: no-store\r\n",
         Some(Problem::Forbidden) =>
             b"HTTP/1.1 403 Forbidden\r\ncontent-type: application/problem+json\r\ncache-control: no-store\r\n",
+        Some(Problem::Conflict) =>
+            b"HTTP/1.1 409 Conflict\r\ncontent-type: application/problem+json\r\ncache-control: no-store\r\n",
         Some(Problem::PreconditionFailed) =>
             b"HTTP/1.1 412 Precondition Failed\r\ncontent-type: application/problem+json\r\ncache-control: no-store\r\n",
         Some(Problem::TooManyRequests) =>

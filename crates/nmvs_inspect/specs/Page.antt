@@ -11,7 +11,7 @@ use Rattle.nmvs_tables.specs.Codes.{flagged_alerts_of}
 use Rattle.nmvs_tables.specs.Listing.{code_batches}
 use Rattle.nmvs_words.specs.Words.{lock_word}
 use Rattle.nmvs_words.specs.declared.reply_kind.ReplyKind.TheVariants as kinds
-use Rattle.nmvs_record.specs.Report.{holder_word}
+use Rattle.nmvs_reports.specs.Report.{holder_word}
 use Rattle.nmvs_inspect.specs.declared.by.By.{By}
 use Rattle.nmvs_inspect.specs.declared.by.By.TheVariants as by
 use Rattle.nmvs_inspect.specs.declared.filter.Filter.{Filter}

@@ -12,7 +12,7 @@ use Rattle.nmvs_rules.specs.declared.facts.Counts.{Counts}
 use Rattle.nmvs_rules.specs.Trail.{alerts_of, counts_of, holder_of, lock_of}
 use Rattle.nmvs_tables.specs.Codes.{flagged_alerts_of}
 use Rattle.nmvs_tables.specs.Listing.{code_batches}
-use Rattle.nmvs_record.specs.Report.{holder_word}
+use Rattle.nmvs_reports.specs.Report.{holder_word}
 use Rattle.nmvs_words.specs.Words.{lock_word}
 
 abbrev pub heads : List ℕ

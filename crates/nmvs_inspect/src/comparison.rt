@@ -6,7 +6,7 @@ ghost use Rattle.nmvs_inspect.specs.Comparison as spec;
 use indexmap::IndexMap;
 use nmvs_identifier::ProductCode;
 use nmvs_line::entry_line;
-use nmvs_record::entry_line_laws;
+use nmvs_reader::entry_line_laws;
 use nmvs_rules::Entry;
 use nmvs_shard::{HashKey, Shard};
 use std::alloc::{AllocError, Allocator, Global};

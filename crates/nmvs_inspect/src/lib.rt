@@ -38,7 +38,7 @@ pub use form::Form;
 pub use groups::write_groups;
 pub use listing::write_list;
 pub use packs::write_packs;
-pub use page::write_page;
+pub use page::{HEAD as PAGE_HEAD, write_page};
 pub use period::period_line;
 pub use reports::write_report_rows;
 pub use selection::takes_any;

@@ -24,8 +24,8 @@ use nmvs_stream::{Sink, deliver};
 use nmvs_words::ReplyKind;
 use std::alloc::{AllocError, Allocator, Global};
 
-/// The page up to the verdict. The styles are for a screen of any width, light or dark, and for paper.
-const HEAD: &str = "<!DOCTYPE html>\n<html lang=\"en\"><head><meta charset=\"utf-8\">\n\
+/// The page up to the verdict: with it each page begins. The styles are for a screen of any width, light or dark, and for paper.
+pub const HEAD: &str = "<!DOCTYPE html>\n<html lang=\"en\"><head><meta charset=\"utf-8\">\n\
     <meta name=\"viewport\" content=\"width=device-width, initial-scale=1\">\n\
     <meta http-equiv=\"Content-Security-Policy\" content=\"default-src 'none'; style-src 'unsafe-inline'; script-src 'unsafe-inline'\">\n\
     <title>Export of a medicines verification repository</title>\n<style>\n\

@@ -6,7 +6,7 @@ ghost use Rattle.nmvs_stream.specs.Delivery.{Delivers};
 ghost use Rattle.nmvs_tables.specs.Listing.{code_batches};
 ghost use Rattle.nmvs_tables.specs.Tables.{AreTablesOf};
 ghost use Rattle.nmvs_words.specs.Words.{lock_word as word_of_lock};
-ghost use Rattle.nmvs_record.specs.Report.{holder_word};
+ghost use Rattle.nmvs_reports.specs.Report.{holder_word};
 ghost use Rattle.nmvs_inspect.specs.Reports as reports;
 
 use crate::AnswerFault;

@@ -6,7 +6,7 @@ use Rattle.nmvs_stream.specs.InputLines.{input_lines}
 use Rattle.nmvs_messages.specs.Fields.{is_space}
 use Rattle.nmvs_rules.specs.declared.printed.Printed.{Printed}
 use Rattle.nmvs_json.specs.declared.reply.Problem.{Problem}
-use Rattle.nmvs_json.specs.declared.reply.Problem.TheVariants.{Unprocessable, Forbidden, PreconditionFailed, TooManyRequests, Unavailable, Unknown}
+use Rattle.nmvs_json.specs.declared.reply.Problem.TheVariants.{Unprocessable, Forbidden, Conflict, PreconditionFailed, TooManyRequests, Unavailable, Unknown}
 
 -- a character in a string: a backslash stands before a quotation mark and before a backslash (RFC 8259, section 7)
 abbrev pub escaped : ℕ → List ℕ
@@ -147,6 +147,7 @@ problems =
     ∷ (codes "WORD", Unprocessable) ∷ (codes "USER", Unprocessable) ∷ (codes "CODE", Unprocessable) ∷ (codes "SERIAL", Unprocessable)
     ∷ (codes "BATCH", Unprocessable) ∷ (codes "EXPIRY", Unprocessable) ∷ (codes "TAG", Unprocessable)
     ∷ (codes "NOBODY", Forbidden) ∷ (codes "SUSPENDED", Forbidden) ∷ (codes "ROLE", Forbidden)
+    ∷ (codes "CHANGED", Conflict)
     ∷ (codes "DIFFERS", PreconditionFailed)
     ∷ (codes "RATE", TooManyRequests)
     ∷ (codes "CLOCK", Unavailable) ∷ (codes "CLOSED", Unavailable) ∷ (codes "MEMORY", Unavailable)
@@ -160,6 +161,7 @@ problem_named fault = unwrap_or (named problems fault) Unknown
 unfoldable pub problem_front : Problem → List ℕ
 problem_front Unprocessable = codes "{\"type\":\"about:blank\",\"title\":\"Unprocessable Content\",\"status\":422,\"fault\":"
 problem_front Forbidden = codes "{\"type\":\"about:blank\",\"title\":\"Forbidden\",\"status\":403,\"fault\":"
+problem_front Conflict = codes "{\"type\":\"about:blank\",\"title\":\"Conflict\",\"status\":409,\"fault\":"
 problem_front PreconditionFailed = codes "{\"type\":\"about:blank\",\"title\":\"Precondition Failed\",\"status\":412,\"fault\":"
 problem_front TooManyRequests = codes "{\"type\":\"about:blank\",\"title\":\"Too Many Requests\",\"status\":429,\"fault\":"
 problem_front Unavailable = codes "{\"type\":\"about:blank\",\"title\":\"Service Unavailable\",\"status\":503,\"fault\":"

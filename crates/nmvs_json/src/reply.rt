@@ -18,6 +18,8 @@ pub enum Problem {
     Unprocessable,
     /// The user may not ask this.
     Forbidden,
+    /// The question may be a late copy of one that gave the state of the pack, and that state has changed.
+    Conflict,
     /// The values printed on the pack are not those of its upload.
     PreconditionFailed,
     /// The user asks more than the rate allows.
@@ -126,6 +128,7 @@ const PROBLEMS: &[(&str, Problem)] = &[
     ("NOBODY", Problem::Forbidden),
     ("SUSPENDED", Problem::Forbidden),
     ("ROLE", Problem::Forbidden),
+    ("CHANGED", Problem::Conflict),
     ("DIFFERS", Problem::PreconditionFailed),
     ("RATE", Problem::TooManyRequests),
     ("CLOCK", Problem::Unavailable),
@@ -549,6 +552,9 @@ fn problem_front(problem: Problem) -> &'static [u8]
         }
         Problem::Forbidden => {
             b"{\"type\":\"about:blank\",\"title\":\"Forbidden\",\"status\":403,\"fault\":"
+        }
+        Problem::Conflict => {
+            b"{\"type\":\"about:blank\",\"title\":\"Conflict\",\"status\":409,\"fault\":"
         }
         Problem::PreconditionFailed => {
             b"{\"type\":\"about:blank\",\"title\":\"Precondition Failed\",\"status\":412,\"fault\":"

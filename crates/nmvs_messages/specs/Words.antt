@@ -24,6 +24,7 @@ turn_word turns.Rate = codes "RATE"
 turn_word turns.Journal = codes "JOURNAL"
 turn_word turns.Tag = codes "TAG"
 turn_word turns.Differs = codes "DIFFERS"
+turn_word turns.Changed = codes "CHANGED"
 
 -- the word of the fault of a line
 abbrev pub fault_word : LineFault → List ℕ

@@ -58,6 +58,8 @@ pub enum Turn {
     Tag,
     /// The pack was uploaded with another batch or another expiry date than those printed on it.
     Differs,
+    /// The user got the state of the pack with the tag, and the reply would now be an alert.
+    Changed,
     /// The journal failed, and the entries under the answer are not kept. The operation may stand in the record or not.
     Journal,
 }

@@ -19,6 +19,7 @@ pub fn word_of_turn(turn: Turn) -> &'static str
         Turn::Journal => "JOURNAL",
         Turn::Tag => "TAG",
         Turn::Differs => "DIFFERS",
+        Turn::Changed => "CHANGED",
     }
 }
 

@@ -145,14 +145,14 @@ log_health_text j =
 -- how many entries a log has confirmed, and how many it has not yet
 unfoldable pub log_entries_text : LogSnapshot → List ℕ
 log_entries_text j =
-    numbered (codes "nmvs_journal_confirmed_entries") (codes "gauge") (codes "Entries that the journals have confirmed, by shard.") (codes "shard") j.confirmed.items
-    ++ numbered (codes "nmvs_journal_waiting_entries") (codes "gauge") (codes "Entries that the journals have not confirmed yet, by shard.") (codes "shard") j.waiting.items
+    numbered (codes "nmvs_journal_confirmed_entries") (codes "gauge") (codes "Entries that the log has confirmed, by shard.") (codes "shard") j.confirmed.items
+    ++ numbered (codes "nmvs_journal_waiting_entries") (codes "gauge") (codes "Entries that the log has not confirmed yet, by shard.") (codes "shard") j.waiting.items
 
 -- the samples of a log
 unfoldable pub log_lines : LogSnapshot → List ℕ
 log_lines j =
     log_entries_text j
-    ++ (histogram_text (codes "nmvs_journal_sync_seconds") (codes "histogram") (codes "Seconds that a sync of a journal's file took.") j.syncs
+    ++ (histogram_text (codes "nmvs_journal_sync_seconds") (codes "histogram") (codes "Seconds that a sync of the log took.") j.syncs
     ++ log_health_text j)
 
 -- whether a server among several machines follows another, and how many entries it has read so

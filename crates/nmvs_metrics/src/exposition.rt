@@ -313,7 +313,7 @@ fn append_log_lines(alloc: Global, log: &LogSnapshot, text: &mut String) -> Resu
     let syncs = Family {
         name: "nmvs_journal_sync_seconds",
         kind: "histogram",
-        help: "Seconds that a sync of a journal's file took.",
+        help: "Seconds that a sync of the log took.",
     };
     append_log_entries(alloc, log, text)?;
     append(histogram_text(alloc, syncs, &log.syncs), text)?;
@@ -329,12 +329,12 @@ fn append_log_entries(alloc: Global, log: &LogSnapshot, text: &mut String) -> Re
     let confirmed = Family {
         name: "nmvs_journal_confirmed_entries",
         kind: "gauge",
-        help: "Entries that the journals have confirmed, by shard.",
+        help: "Entries that the log has confirmed, by shard.",
     };
     let waiting = Family {
         name: "nmvs_journal_waiting_entries",
         kind: "gauge",
-        help: "Entries that the journals have not confirmed yet, by shard.",
+        help: "Entries that the log has not confirmed yet, by shard.",
     };
     append(numbered(alloc, confirmed, "shard", &log.confirmed), text)?;
     append(numbered(alloc, waiting, "shard", &log.waiting), text)?;

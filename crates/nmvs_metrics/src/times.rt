@@ -6,8 +6,9 @@ use crate::{Bucket, Histogram};
 use std::alloc::{AllocError, Global};
 use std::sync::atomic::{AtomicU64, Ordering};
 
-/// The longest time of each bucket, in nanoseconds; those of the last bucket are longer (own).
-const BOUNDS: [u64; 11] = [
+/// The longest time of each bucket, in nanoseconds; those of the last bucket are longer (own). Article 35(1)(f) asks for
+/// replies within 300 milliseconds.
+const BOUNDS: [u64; 12] = [
     100_000,
     500_000,
     1_000_000,
@@ -15,6 +16,7 @@ const BOUNDS: [u64; 11] = [
     10_000_000,
     50_000_000,
     100_000_000,
+    300_000_000,
     500_000_000,
     1_000_000_000,
     5_000_000_000,
@@ -22,8 +24,9 @@ const BOUNDS: [u64; 11] = [
 ];
 
 /// The same in seconds, as the page has it, and the bound of the last bucket.
-const SECONDS: [&str; 12] = [
-    "0.0001", "0.0005", "0.001", "0.005", "0.01", "0.05", "0.1", "0.5", "1", "5", "10", "+Inf",
+const SECONDS: [&str; 13] = [
+    "0.0001", "0.0005", "0.001", "0.005", "0.01", "0.05", "0.1", "0.3", "0.5", "1", "5", "10",
+    "+Inf",
 ];
 
 /// The bucket of a time of this many nanoseconds.

@@ -64,6 +64,7 @@ refused notice old from ask turns.Role new is = looked _ _ _ _ _ is.1.looks
 refused notice old from ask turns.Journal new is = absurd is
 refused notice old from ask turns.Tag new is = absurd is
 refused notice old from ask turns.Differs new is = absurd is
+refused notice old from ask turns.Changed new is = absurd is
 
 -- the earlier sight of each shard begins the new one
 abbrev Grows : DeskView → DeskView → Type 0
@@ -128,6 +129,7 @@ said_within new shard trail put printed (outcomes.Again a) shown said basis asks
     subst (Within new) (sym says.1) (subst (λ t. a.place < length t) (sym asks.0) there)
 said_within new shard trail put printed outcomes.Other shown said basis asks says = none_within new basis says.1
 said_within new shard trail put printed outcomes.Differs shown said basis asks says = none_within new basis says.1
+said_within new shard trail put printed outcomes.Changed shown said basis asks says = none_within new basis says.1
 
 admitted_within : (old : DeskView) (tag : Option Tag) (what : Asked) (moment : ℕ) (actor : Actor) (said : Content) (basis : Option Basis) (new : DeskView)
     → AnswersAdmitted old tag what moment actor said basis new → Within new basis

@@ -36,7 +36,7 @@ use Rattle.nmvs_messages.specs.declared.peer.Peer.{Peer}
 use Rattle.nmvs_messages.specs.declared.withheld.Basis.{Basis}
 use Rattle.nmvs_messages.specs.declared.withheld.Withheld.{Withheld}
 use Rattle.nmvs_messages.specs.Tags.{tag_text}
-use Rattle.nmvs_record.specs.Report.{product_line, report_lines}
+use Rattle.nmvs_reports.specs.Report.{product_line, report_lines}
 
 -- a desk: its clerk, the number of its repository's shards, and whether its users have a rate; how often its clock was asked,
 -- and the seconds that it gave last
@@ -110,15 +110,17 @@ Refuses notice old from ask turns.Role new = (actor : Actor) × Knows notice old
 Refuses notice old from ask turns.Journal new = ⊥
 Refuses notice old from ask turns.Tag new = ⊥
 Refuses notice old from ask turns.Differs new = ⊥
+Refuses notice old from ask turns.Changed new = ⊥
 
 -- the answer to an outcome in the shard of this number, and its basis: the reply of the entry that answers the question, with
--- the text of the entries that are shown, on the entries up to that one; or a turn, since the tag is another question's, or the
--- pack was uploaded with other values than those printed on it
+-- the text of the entries that are shown, on the entries up to that one; or a turn, since the tag is another question's, the
+-- pack was uploaded with other values than those printed on it, or a late copy would raise an alert
 abbrev pub Says : ℕ → Outcome → List Entry → Content → Option Basis → Type 0
 Says shard (outcomes.New a) shown said basis = (said ≡ contents.Replied a.reply (export_text shown)) × (basis ≡ Some (record { shard = shard; place = a.place }))
 Says shard (outcomes.Again a) shown said basis = (said ≡ contents.Replied a.reply (export_text shown)) × (basis ≡ Some (record { shard = shard; place = a.place }))
 Says shard outcomes.Other shown said basis = (said ≡ contents.Turned turns.Tag) × (basis ≡ None)
 Says shard outcomes.Differs shown said basis = (said ≡ contents.Turned turns.Differs) × (basis ≡ None)
+Says shard outcomes.Changed shown said basis = (said ≡ contents.Turned turns.Changed) × (basis ≡ None)
 
 -- the clerk asks the question in the shard of this number, once, and the desk gives the outcome, with the entries that the
 -- rules show; nothing else changes

@@ -43,6 +43,18 @@ impl Alerts {
         }
     }
 
+    /// Logs that the batch or the expiry date printed on a pack is not that of its upload (Article 37(c)). No alert is raised.
+    pub(crate) fn note_mismatch<R: Log>(&self, rt: &R, put: &Put) {
+        let code = put.question.code();
+        let code = code.text();
+        if self.logs_users {
+            let (user, premises) = (put.user.text(), put.actor.premises.text());
+            info!(rt; code, user, premises; "printed values differ");
+        } else {
+            info!(rt; code; "printed values differ");
+        }
+    }
+
     /// The users who have raised most, most first, at most this number of them. It waits for the lock, and lets it go before it
     /// sorts.
     ///

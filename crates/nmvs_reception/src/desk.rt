@@ -4,12 +4,12 @@ ghost use Rattle.std.specs.Option.{is_some};
 ghost use Rattle.nmvs_messages.specs.declared.answer.Content.TheVariants.{Reported};
 ghost use Rattle.nmvs_messages.specs.declared.answer.Turn.TheVariants as turns;
 ghost use Rattle.nmvs_messages.specs.Tags.{tag_text};
-ghost use Rattle.nmvs_record.specs.Report.{record_lines};
+ghost use Rattle.nmvs_reports.specs.Report.{record_lines};
 ghost use Rattle.nmvs_messages.specs.Withheld.{content_shown, entries_left, text_left};
 ghost use Rattle.nmvs_rules.specs.declared.entry.Entry.{Entry as TheEntry};
 ghost use Rattle.nmvs_reception.specs.Desk.{may_ask_this, RestsOnAll, Says};
 ghost use Rattle.nmvs_line.specs.Export.{export_text};
-ghost use Rattle.nmvs_record.specs.Following.{following_text};
+ghost use Rattle.nmvs_reports.specs.Following.{following_text};
 
 use crate::{Alerts, Clock};
 use log::Log;
@@ -17,16 +17,17 @@ use nmvs_desk::{Clerk, Reader, Repository, Shown};
 use nmvs_directory::{Look, Naming, Notice};
 use nmvs_history::Histories;
 use nmvs_identifier::{Batch, Moment, Name, ProductCode, Tag};
-use nmvs_journal::{CommitLog, Confirmed, LogName, Reach, Store};
+use nmvs_journal::{CommitLog, Confirmed, LogName, Reach};
 use nmvs_messages::{
     Ask, Asked, Basis, Content, Desk, Peer, Piece, Released, ShownText, Text, Turn, Withheld,
     WithheldAnswers,
 };
 use nmvs_metrics::WorkerMetrics;
 use nmvs_rate::SharedLimiter;
-use nmvs_record::{Following, ReportList, batches, product_line};
+use nmvs_reports::{Following, ReportList, batches, product_line};
 use nmvs_rules::{Actor, BatchRecord, Printed, Put, Question, Reply, Role, may_report};
 use nmvs_shard::{Answered, Outcome, Shard};
+use nmvs_store::Store;
 use std::alloc::{AllocError, Global};
 use std::marker::Model;
 use std::rt;
@@ -67,7 +68,7 @@ impl<'r, 'a, R: Wait + rt::Clock + Log, J: Naming, H: Histories, K: Clock> Clerk
     ghost use Rattle.std.specs.Option.{is_some};
     ghost use Rattle.nmvs_desk.specs.Placing.{shard_of};
     ghost use Rattle.nmvs_desk.specs.Settlement.{row};
-    ghost use Rattle.nmvs_record.specs.Report.{product_line, report_batches};
+    ghost use Rattle.nmvs_reports.specs.Report.{product_line, report_batches};
     ghost use Rattle.nmvs_reception.specs.Desk.{Admits, AnswersAdmitted, AnswersQuestion, AnswersReport, Refuses, RestsOnAll, SeesShard, Serves};
 
     /// A desk over a clerk of this repository, the lock of the latest notice, and the limiter of the users' rate, if they have
@@ -359,10 +360,12 @@ fn answer_by<H: Histories>(
         }
         Outcome::Other => (Content::Turned(Turn::Tag), None, None),
         Outcome::Differs => (Content::Turned(Turn::Differs), None, None),
+        Outcome::Changed => (Content::Turned(Turn::Changed), None, None),
     }
 }
 
-/// Counts a question that was put, and notes an alert that is flagged as a potential falsification.
+/// Counts a question that was put, and notes an alert that is flagged as a potential falsification, or printed values that
+/// differ.
 fn note_put<R: Wait + Log>(
     rt: &R,
     metrics: &WorkerMetrics<'_>,
@@ -371,8 +374,10 @@ fn note_put<R: Wait + Log>(
     put: &Put,
     outcome: &Outcome,
 ) {
-    let Outcome::New(answered) = outcome else {
-        return;
+    let answered = match outcome {
+        Outcome::New(answered) => answered,
+        Outcome::Differs => return alerts.note_mismatch(rt, put),
+        Outcome::Again(_) | Outcome::Other | Outcome::Changed => return,
     };
     metrics.note_put(shard, &put.question, &answered.reply);
     if let Reply::Alert {
@@ -419,7 +424,7 @@ impl<'a, 'c> Reader<Shard<&'a Global>> for ReportOf<'c> {
     type Output = Result<(String, Batches, usize), AllocError>;
 
     ghost use Rattle.std.specs.Prelude.{◌≡◌, IfOk, length, string_bytes};
-    ghost use Rattle.nmvs_record.specs.Report.{product_line, report_batches};
+    ghost use Rattle.nmvs_reports.specs.Report.{product_line, report_batches};
 
     ghost tells = { λ r t result. IfOk result (λ made.
         (string_bytes made.0 ≡ product_line t r.code.now) × (made.1.items ≡ report_batches t r.code.now) × (length t ≡ made.2)) };

@@ -1,3 +1,1 @@
 mod KeptLines
-mod ShardExports
-mod Slicing

@@ -8,7 +8,7 @@ use Rattle.nmvs_digest.specs.declared.digest_fault.DigestFault.TheVariants as di
 use Rattle.nmvs_operator.specs.Users.{users_trouble}
 use Rattle.nmvs_record.specs.declared.finding.Finding.{Finding}
 use Rattle.nmvs_record.specs.declared.finding.Finding.TheVariants as findings
-use Rattle.nmvs_record.specs.declared.objection.Objection.TheVariants as objections
+use Rattle.nmvs_reader.specs.declared.objection.Objection.TheVariants as objections
 
 -- the text of a fault
 abbrev pub file_fault_text : FileFault → List ℕ

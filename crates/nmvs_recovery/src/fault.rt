@@ -5,7 +5,8 @@ ghost use Rattle.nmvs_recovery.specs.Faults.{digest_text, file_fault_status, fil
 use nmvs_digest::DigestFault;
 use nmvs_messages::CommandFault;
 use nmvs_operator::users_trouble;
-use nmvs_record::{Finding, Objection};
+use nmvs_reader::Objection;
+use nmvs_record::Finding;
 use std::fmt;
 
 /// The reason for which a file at the start is not taken, or the export is not written (own).

@@ -13,14 +13,14 @@ const PAUSE: u64 = 2_000;
 
 /// The size of the whole work.
 #[derive(Clone, Copy)]
-pub(crate) enum Whole {
+pub enum Whole {
     Bytes(u64),
     Lines(u64),
 }
 
 /// The place of the reports.
 #[derive(Clone, Copy, PartialEq, Eq)]
-pub(crate) enum Place {
+enum Place {
     /// The log, with a line for each report.
     Log,
     /// A terminal, where one line is written again and again.
@@ -29,7 +29,7 @@ pub(crate) enum Place {
 
 impl Place {
     /// The terminal of standard error, if there is one and the log is a text. Else the log.
-    pub(crate) fn of_log(format: LogFormat) -> Place {
+    fn of_log(format: LogFormat) -> Place {
         if format == LogFormat::Text && libc::isatty(libc::STDERR_FILENO) == 1 {
             Place::Terminal
         } else {
@@ -40,7 +40,7 @@ impl Place {
 
 /// The progress of a work, by one thread or several.
 #[derive(Drop)]
-pub(crate) struct Progress<'p, R> {
+pub struct Progress<'p, R> {
     rt: &'p R,
     /// The word of the work.
     work: &'static str,
@@ -55,18 +55,19 @@ pub(crate) struct Progress<'p, R> {
 }
 
 impl<'p, R: Log + Clock + Eprint> Progress<'p, R> {
-    /// A work that begins now.
-    pub(crate) fn begin(
+    /// A work that begins now. Its reports go to the terminal of standard error, if there is one and the log has this format of a
+    /// text, and else to the log.
+    pub fn begin(
         rt: &'p R,
         work: &'static str,
         whole: Whole,
-        place: Place,
+        format: LogFormat,
     ) -> Progress<'p, R> {
         Progress {
             rt,
             work,
             whole,
-            place,
+            place: Place::of_log(format),
             begun: Instant::now(rt).ok(),
             bytes: AtomicU64::new(0),
             lines: AtomicU64::new(0),
@@ -128,7 +129,7 @@ impl<'p, R: Log + Clock + Eprint> Progress<'p, R> {
     }
 
     /// Ends the work: it logs the number of lines that were done, and the milliseconds.
-    pub(crate) fn end(&self) {
+    pub fn end(&self) {
         let (passed, work) = (self.passed(), self.work);
         let lines = self.lines.load(Ordering::SeqCst);
         if self.place == Place::Terminal && passed >= PAUSE && log_enabled!(self.rt; Level::Info) {
@@ -145,18 +146,15 @@ fn share(done: u64, parts: u64, whole: u64) -> u64 {
 
 /// A file that is read or written from its beginning to its end. It reports its progress, and logs the reason of a failure.
 #[derive(Drop)]
-pub(crate) struct Watched<'w, 'p, R, F> {
+pub struct Watched<'w, 'p, R, F> {
     file: F,
     path: &'w str,
     progress: &'w Progress<'p, R>,
 }
 
 impl<'w, 'p, R, F> Watched<'w, 'p, R, F> {
-    pub(crate) fn new(
-        file: F,
-        path: &'w str,
-        progress: &'w Progress<'p, R>,
-    ) -> Watched<'w, 'p, R, F> {
+    /// This file of this path, whose progress is this.
+    pub fn new(file: F, path: &'w str, progress: &'w Progress<'p, R>) -> Watched<'w, 'p, R, F> {
         Watched {
             file,
             path,

@@ -1,6 +1,6 @@
 //! The users with which a run begins.
 use crate::imports::{MOST_FILE_READS, open};
-use crate::marks::refused;
+use crate::paths::refused;
 use crate::rehearsal_packs::USERS;
 use crate::{FileFault, Host, Paths, Run};
 use log::{Log, error, info, warn};
@@ -19,7 +19,11 @@ use std::sync::Wait;
 const MOST_DIFFERING: usize = 10;
 
 /// Publishes the users of the users file, or those of the rehearsal if the options name none.
-pub(crate) fn publish_users<'r, 'o, J: Naming, H: Host>(
+///
+/// # Errors
+///
+/// The file cannot be read, a line of it is no command, or there is no memory.
+pub fn publish_users<'r, 'o, J: Naming, H: Host>(
     run: &Run<'r, 'o, H>,
     registrar: &mut Registrar<J, &'r H, &'r Global>,
 ) -> Result<Notice<J>, FileFault<'o>> {
@@ -97,7 +101,7 @@ fn tell_no_users<R: Log>(rt: &R, path: &str) {
 }
 
 /// Logs the number of users that are enrolled, and of those that are suspended.
-pub(crate) fn tell_users<'r, J: Naming, H: Host>(
+pub fn tell_users<'r, J: Naming, H: Host>(
     run: &Run<'r, '_, H>,
     registrar: &Registrar<J, &'r H, &'r Global>,
 ) {
@@ -134,15 +138,24 @@ fn tell_differing<'r, J: Naming, H: Host>(
             if now != *standing {
                 differing = differing.saturating_add(1);
                 if differing <= MOST_DIFFERING {
-                    let user = user.text();
-                    warn!(run.rt; user; "a kept command wins over the users file until RELOAD");
+                    tell_winning(run.rt, user.text());
                 }
             }
         }
     }
     if differing > MOST_DIFFERING {
-        warn!(run.rt; users = differing; "kept commands win over the users file until RELOAD");
+        tell_many_winning(run.rt, differing);
     }
+}
+
+/// Logs that a kept command changed this user after the users file.
+fn tell_winning<R: Log>(rt: &R, user: &str) {
+    warn!(rt; user; "a kept command wins over the users file until RELOAD");
+}
+
+/// Logs that kept commands changed this number of users after the users file.
+fn tell_many_winning<R: Log>(rt: &R, users: usize) {
+    warn!(rt; users; "kept commands win over the users file until RELOAD");
 }
 
 /// Publishes the users of the rehearsal.
@@ -157,8 +170,12 @@ fn publish_rehearsal<'r, 'o, J: Naming, H: Files + Wait>(
     }
 }
 
-/// Publishes the users that the folder of the log keeps, and logs those whose state that changes.
-pub(crate) fn publish_kept<'r, 'o, J: Naming, H: Host>(
+/// Publishes the users that the folder of the log keeps. It logs those whose state that changes, and how many users there are.
+///
+/// # Errors
+///
+/// The file of the folder cannot be read, a line of it is no command, or there is no memory.
+pub fn publish_kept<'r, 'o, J: Naming, H: Host>(
     run: &Run<'r, 'o, H>,
     registrar: &mut Registrar<J, &'r H, &'r Global>,
     paths: &Paths<'o>,
@@ -169,6 +186,7 @@ pub(crate) fn publish_kept<'r, 'o, J: Naming, H: Host>(
     match load_file(run, registrar, &paths.users) {
         Ok(notice) => {
             tell_differing(run, registrar, &file);
+            tell_users(run, registrar);
             Ok(notice)
         }
         Err(LoadFault::Memory) => Err(FileFault::Memory),

@@ -10,14 +10,14 @@ use Rattle.nmvs_rules.specs.declared.put.Put.{Put}
 use Rattle.nmvs_rules.specs.declared.question.Question.{Question}
 use Rattle.nmvs_rules.specs.declared.reply.Reply.{Reply}
 use Rattle.nmvs_rules.specs.declared.repeat.Repeat.TheVariants as repeat
-use Rattle.nmvs_rules.specs.Printed.{differs_on}
+use Rattle.nmvs_rules.specs.Printed.{is_withheld}
 use Rattle.nmvs_rules.specs.Questions.{may_report}
-use Rattle.nmvs_rules.specs.Repeats.{repeat_of}
+use Rattle.nmvs_rules.specs.Repeats.{is_changed, repeat_of}
 use Rattle.nmvs_rules.specs.Rules.{reply_of, shown_of, answered}
 use Rattle.nmvs_words.specs.Kinds.{naming_pack}
 use Rattle.nmvs_line.specs.Export.{export_text}
 use Rattle.nmvs_messages.specs.Tags.{tag_text}
-use Rattle.nmvs_record.specs.Report.{product_line, report_lines}
+use Rattle.nmvs_reports.specs.Report.{product_line, report_lines}
 use Rattle.nmvs_messages.specs.declared.ask.Ask.{Ask}
 use Rattle.nmvs_messages.specs.declared.ask.Asked.{Asked}
 use Rattle.nmvs_messages.specs.declared.ask.Asked.TheVariants as asked
@@ -54,11 +54,12 @@ pub record TakesMoment (old : Rehearsal) (moment : ℕ) (new : Rehearsal) : Type
 abbrev pub put_at : ℕ → Name → Actor → Option Tag → Question → Put
 put_at moment user actor tag question = record { moment = moment; user = user; actor = actor; question = question; tag = tag }
 
--- a question is new on the trail, and its pack was not uploaded with other values than those printed on it; it is answered by
--- the rules, with the entries that they show, and the trail grows by that entry
+-- a question is new on the trail, no late copy that would raise an alert, and not held back by the values printed on its pack; it is
+-- answered by the rules, with the entries that they show, and the trail grows by that entry
 pub record Steps (old : List Entry) (put : Put) (printed : Option Printed) (said : Reply) (shown new : List Entry) : Type 0 where
   pub first : repeat_of old put ≡ repeat.New
-  pub matches : differs_on old put.question printed ≡ false
+  pub current : is_changed old put ≡ false
+  pub matches : is_withheld old put printed ≡ false
   pub lawful : said ≡ reply_of old put
   pub shows : shown ≡ shown_of old put
   pub grows : new ≡ old ++ answered put said ∷ []
@@ -83,12 +84,19 @@ pub record AsksOther (moment : ℕ) (old : Rehearsal) (user : Name) (tag : Optio
   pub rostered : IsRostered user actor
   pub other : repeat_of old.trail (put_at moment user actor tag question) ≡ repeat.Other
 
--- the question is new, but its pack was uploaded with other values than those printed on it
+-- the question is new, but the values printed on its pack hold it back
 pub record Differs (moment : ℕ) (old : Rehearsal) (user : Name) (tag : Option Tag) (question : Question) (printed : Option Printed) : Type 0 where
   pub actor : Actor
   pub rostered : IsRostered user actor
   pub first : repeat_of old.trail (put_at moment user actor tag question) ≡ repeat.New
-  pub differs : differs_on old.trail question printed ≡ true
+  pub differs : is_withheld old.trail (put_at moment user actor tag question) printed ≡ true
+
+-- the question is new, but may be a late copy, and its reply would be an alert
+pub record Changed (moment : ℕ) (old : Rehearsal) (user : Name) (tag : Option Tag) (question : Question) : Type 0 where
+  pub actor : Actor
+  pub rostered : IsRostered user actor
+  pub first : repeat_of old.trail (put_at moment user actor tag question) ≡ repeat.New
+  pub changed : is_changed old.trail (put_at moment user actor tag question) ≡ true
 
 -- there is no new entry
 pub record Stays (old new : Rehearsal) : Type 0 where
@@ -100,14 +108,15 @@ abbrev pub GetsReports : Name → Bool → Type 0
 GetsReports user answer = (actor : Actor) × IsRostered user actor × (may_report actor.role ≡ answer)
 
 -- the answers that the desk of the rehearsal may give to a question at this moment: the rules' reply, or that of the entry that
--- it repeats; or a turn without an entry: nobody has the user's name, there was no memory, its tag is that of something else, or
--- the values printed on its pack differ
+-- it repeats; or a turn without an entry: nobody has the user's name, there was no memory, its tag is that of something else, the
+-- values printed on its pack differ, or a late copy would raise an alert
 abbrev pub JudgesQuestion : ℕ → Rehearsal → Name → Option Tag → Question → Option Printed → Content → Rehearsal → Type 0
 JudgesQuestion moment old user g q printed (contents.Replied r text) new = (shown : List Entry) × (text ≡ export_text shown) × Replies moment old new user g q printed r shown
 JudgesQuestion moment old user g q printed (contents.Turned turns.Nobody) new = (post_of user.bytes ≡ None) × Stays old new
 JudgesQuestion moment old user g q printed (contents.Turned turns.Memory) new = IsSome (post_of user.bytes) × Stays old new
 JudgesQuestion moment old user g q printed (contents.Turned turns.Tag) new = AsksOther moment old user g q × Stays old new
 JudgesQuestion moment old user g q printed (contents.Turned turns.Differs) new = Differs moment old user g q printed × Stays old new
+JudgesQuestion moment old user g q printed (contents.Turned turns.Changed) new = Changed moment old user g q × Stays old new
 JudgesQuestion _ _ _ _ _ _ _ _ = ⊥
 
 -- the answers that it may give to a user who asks for a report, on a line with this tag: that of the trail, each line after the

@@ -5,8 +5,8 @@ ghost use Rattle.nmvs_messages.specs.Withheld.{AtOnce, Stays, content_shown, ent
 ghost use Rattle.nmvs_protocol.specs.Session.{session_limits, Session};
 ghost use Rattle.nmvs_line.specs.Export.{export_text};
 ghost use Rattle.nmvs_messages.specs.Tags.{tag_text};
-ghost use Rattle.nmvs_record.specs.Report.{product_line, report_lines};
-ghost use Rattle.nmvs_record.specs.Following.{following_text};
+ghost use Rattle.nmvs_reports.specs.Report.{product_line, report_lines};
+ghost use Rattle.nmvs_reports.specs.Following.{following_text};
 ghost use Rattle.nmvs_rules.specs.Rules.{shown_of};
 ghost use Rattle.nmvs_stream.specs.Console.{IsFresh};
 ghost use Rattle.nmvs_rehearsal.specs.Rehearsal.{Rehearsal, Takes};
@@ -18,7 +18,7 @@ use nmvs_messages::{
     ShownText, Text, Turn, Withheld, WithheldAnswers,
 };
 use nmvs_protocol::serve;
-use nmvs_record::{Following, ReportList, batches, product_line};
+use nmvs_reports::{Following, ReportList, batches, product_line};
 use nmvs_rules::{Printed, Put, Question, Reply, may, may_report};
 use nmvs_shard::{HashKey, Outcome, Shard};
 use nmvs_stream::{Sink, Source};
@@ -141,6 +141,7 @@ impl<'a> RehearsalDesk<'a> {
             Ok(Outcome::Again(answered)) => replied(answered.reply, None),
             Ok(Outcome::Other) => (Content::Turned(Turn::Tag), None),
             Ok(Outcome::Differs) => (Content::Turned(Turn::Differs), None),
+            Ok(Outcome::Changed) => (Content::Turned(Turn::Changed), None),
             Err(AllocError) => (Content::Turned(Turn::Memory), None),
         }
     }

@@ -19,7 +19,7 @@ use Rattle.nmvs_rules.specs.Limits.{entries_looked_over}
 use Rattle.nmvs_rules.specs.Questions.{pack_of, names}
 use Rattle.nmvs_rules.specs.Trail.{is_about, about_of}
 use Rattle.nmvs_rules.specs.Rules.{reply_of, IsLawfulAfter, IsLawful}
-use Rattle.nmvs_rules.specs.Repeats.{same_actor, asks_same, answer_of, has_tag, is_in_day, is_tagged, last_tagged, place_up_to, place_tagged, beside, beside_same, repeat_at, repeat_by, repeat_of, reply_by, tells_state, AreNewAfter, AreNew, IsRepeated}
+use Rattle.nmvs_rules.specs.Repeats.{same_actor, asks_same, answer_of, has_tag, is_in_day, is_tagged, last_tagged, place_up_to, place_tagged, beside, beside_same, repeat_at, repeat_by, repeat_of, reply_by, is_changed, in_day_at, was_asked, was_asked_by, tells_state, AreInDay, AreNewAfter, AreNew, IsRepeated}
 use Rattle.nmvs_rules.proofs.PushLemmas.{suffix_len-push}
 use Rattle.nmvs_identifier.specs.Texts.{same_text}
 use Rattle.nmvs_rules.specs.declared.repeat.Repeat.{Repeat}
@@ -225,12 +225,22 @@ beside-known q place e day lasting h = by (asks_same q e.put) (sym is ∙ h)
     by true h = cc
     by false h = cc
 
-in-day : (earlier later : ℕ) → later ≤ earlier + 86400 → is_in_day earlier later ≡ true
-in-day earlier later h = grind (arith, nat_tests)
+-- the test of a day is the day
+not-over : (one other : ℕ) → other ≤ one + 86400 → not (nat_lt (one + 86400) other) ≡ true
+not-over one other h = grind (arith, nat_tests)
+
+over-not : (one other : ℕ) → not (nat_lt (one + 86400) other) ≡ true → other ≤ one + 86400
+over-not one other h = grind (arith, nat_tests)
+
+in-day : (one other : ℕ) → AreInDay one other → is_in_day one other ≡ true
+in-day one other h = both_true (not-over one other h.1) (not-over other one h.0)
+
+day-in : (one other : ℕ) → is_in_day one other ≡ true → AreInDay one other
+day-in one other h = (over-not other one (second_so (not (nat_lt (one + 86400) other)) _ h), over-not one other (first_so _ _ h))
 
 -- the next entry with a tag comes a day later, or after 16 others about the pack
 pub at-most-once : (u v w : List Entry) (e f : Entry) (p : Pack) (user : Name) (g : Tag) → AreNew (u ++ (e ∷ v) ++ (f ∷ w)) → is_tagged p user g e ≡ true → is_tagged p user g f ≡ true
-    → list_any (is_tagged p user g) v ≡ false → tells_state e.reply ≡ false → f.put.moment ≤ e.put.moment + 86400 → 16 ≤ about_of v p
+    → list_any (is_tagged p user g) v ≡ false → tells_state e.reply ≡ false → AreInDay e.put.moment f.put.moment → 16 ≤ about_of v p
 at-most-once u v w e f p user g new first second last lasting day = late (nat_lt (about_of v p) entries_looked_over) refl
   where
     t : List Entry
@@ -254,7 +264,7 @@ at-most-once u v w e f p user g new first second last lasting day = late (nat_lt
 
 -- a question that is asked again is answered again
 pub answered-again : (u v : List Entry) (e : Entry) (p : Pack) (g : Tag) (moment : ℕ) → pack_of e.put.question ≡ Some p → e.put.tag ≡ Some g
-    → list_any (is_tagged p e.put.user g) v ≡ false → about_of v p < 16 → tells_state e.reply ≡ false → moment ≤ e.put.moment + 86400
+    → list_any (is_tagged p e.put.user g) v ≡ false → about_of v p < 16 → tells_state e.reply ≡ false → AreInDay e.put.moment moment
     → repeat_of (u ++ e ∷ v) (record e.put { moment = moment }) ≡ repeat.Same (length u) e.reply
 answered-again u v e p g moment named tag last few lasting day =
     let t : List Entry = u ++ e ∷ v in
@@ -275,7 +285,7 @@ pub record IsBeside (q : Put) (n : ℕ) (e : Entry) (place : ℕ) (reply : Reply
   pub here : n ≡ place
   pub asks : asks_same q e.put ≡ true
   pub same : reply ≡ e.reply
-  pub day : q.moment ≤ e.put.moment + 86400
+  pub day : AreInDay e.put.moment q.moment
   pub lasting : tells_state reply ≡ false
 
 beside-same : (q : Put) (n : ℕ) (e : Entry) (place : ℕ) (reply : Reply) → beside q n e ≡ repeat.Same place reply → IsBeside q n e place reply
@@ -285,7 +295,7 @@ beside-same q n e place reply h = by (is_in_day e.put.moment q.moment) refl (ask
         → cond d (cond s (cond k repeat.New (repeat.Same n e.reply)) repeat.Other) repeat.New ≡ repeat.Same place reply → IsBeside q n e place reply
     by true day true asks false lasting h =
         let is : reply ≡ e.reply = cc in
-        record { here = cc; asks = asks; same = is; day = grind (arith, nat_tests); lasting = ap tells_state is ∙ lasting }
+        record { here = cc; asks = asks; same = is; day = day-in e.put.moment q.moment day; lasting = ap tells_state is ∙ lasting }
     by true day true asks true lasting h = absurd cc
     by true day false asks k lasting h = absurd cc
     by false day s asks k lasting h = absurd cc
@@ -343,10 +353,34 @@ repeated-by-rules t q place reply lawful again = again.same ∙ lawful-at [] t p
 pub told-now : (t : List Entry) (q : Put) (said : Reply) → tells_state said ≡ true → answer_of t q ≡ Some said → reply_of t q ≡ said
 told-now t q said state = by (repeat_of t q) refl
   where
+    put : (b : Bool) → cond b None (Some (reply_of t q)) ≡ Some said → reply_of t q ≡ said
+    put true h = cc
+    put false h = cc
+
     by : (r : Repeat) → repeat_of t q ≡ r → reply_by t q r ≡ Some said → reply_of t q ≡ said
-    by repeat.New is h = cc
+    by repeat.New is h = put (is_changed t q) h
     by (repeat.Same place r) is h =
         let again = repeated t q place r is in
         let same : r ≡ said = cc in
         absurd (cc (sym again.lasting ∙ ap tells_state same ∙ state))
     by repeat.Other is h = absurd cc
+
+-- a question whose tag has no entry within its day is new
+pub new-unasked : (t : List Entry) (q : Put) → was_asked t q ≡ false → repeat_of t q ≡ repeat.New
+new-unasked t q = by (pack_of q.question) q.tag
+  where
+    day : (place : ℕ) (e : Entry) → is_in_day e.put.moment q.moment ≡ false → beside q place e ≡ repeat.New
+    day place e h = ap (λ c. cond c (cond (asks_same q e.put) (beside_same place e) repeat.Other) repeat.New) h
+
+    found : (place : ℕ) (o : Option Entry) → option_map_or (λ e. is_in_day e.put.moment q.moment) o false ≡ false → option_map_or (beside q place) o repeat.New ≡ repeat.New
+    found place None h = refl
+    found place (Some e) h = day place e h
+
+    at : (o : Option ℕ) → in_day_at t q o ≡ false → repeat_at t q o ≡ repeat.New
+    at None h = refl
+    at (Some place) h = found place (slice_get t place) h
+
+    by : (o : Option Pack) (r : Option Tag) → was_asked_by t q o r ≡ false → repeat_by t q o r ≡ repeat.New
+    by None r h = refl
+    by (Some p) None h = refl
+    by (Some p) (Some g) h = at (place_tagged t p q.user g) h

@@ -9,6 +9,6 @@ reversion_days = 10
 abbrev pub entries_looked_over : ℕ
 entries_looked_over = 16
 
--- the seconds after an entry within which it may answer again (own): a day
+-- the seconds that may lie between a question and an entry that answers it again (own): a day
 abbrev pub seconds_answered : ℕ
 seconds_answered = 86400

@@ -23,7 +23,7 @@ use Rattle.nmvs_rules.specs.declared.repeat.Repeat.TheVariants as repeat
 use Rattle.nmvs_rules.specs.Limits.{entries_looked_over, seconds_answered}
 use Rattle.nmvs_rules.specs.Questions.{pack_of}
 use Rattle.nmvs_rules.specs.Rules.{reply_of}
-use Rattle.nmvs_rules.specs.Trail.{is_about, about_of}
+use Rattle.nmvs_rules.specs.Trail.{is_about, is_alert, about_of}
 
 -- whether two roles are the same
 abbrev pub same_role : Role → Role → Bool
@@ -100,9 +100,13 @@ tells_state reply.NoPack = true
 tells_state (reply.Shown n) = true
 tells_state _ = false
 
--- whether a moment is at most a day after an earlier one
+-- whether at most a day lies between two moments; either may be the earlier one, since a clock can be set back
 abbrev pub is_in_day : ℕ → ℕ → Bool
-is_in_day earlier later = not (nat_lt (earlier + seconds_answered) later)
+is_in_day one other = not (nat_lt (one + seconds_answered) other) && not (nat_lt (other + seconds_answered) one)
+
+-- at most a day lies between two moments
+abbrev pub AreInDay : ℕ → ℕ → Type 0
+AreInDay one other = (one ≤ other + 86400) × (other ≤ one + 86400)
 
 -- the relation of a question to the entry at a place that asked the same
 abbrev pub beside_same : ℕ → Entry → Repeat
@@ -127,9 +131,29 @@ repeat_by t q _ _ = repeat.New
 abbrev pub repeat_of : List Entry → Put → Repeat
 repeat_of t q = repeat_by t q (pack_of q.question) q.tag
 
--- the reply that the asker gets: that of the rules if the question is new, that of the entry that it repeats, or none
+-- whether the entry at a place is at most a day from a question
+abbrev pub in_day_at : List Entry → Put → Option ℕ → Bool
+in_day_at t q None = false
+in_day_at t q (Some place) = option_map_or (λ e. is_in_day e.put.moment q.moment) (slice_get t place) false
+
+-- whether a user's tag has an entry within its day, by the pack that the question names and its tag
+abbrev pub was_asked_by : List Entry → Put → Option Pack → Option Tag → Bool
+was_asked_by t q (Some p) (Some g) = in_day_at t q (place_tagged t p q.user g)
+was_asked_by t q _ _ = false
+
+-- whether the user of a question asked about its pack with its tag at most a day away: one of the last 16 entries about the pack
+-- has user and tag
+abbrev pub was_asked : List Entry → Put → Bool
+was_asked t q = was_asked_by t q (pack_of q.question) q.tag
+
+-- whether a question whose tag has an entry within its day would now raise an alert: it may be a late copy, which accuses nobody
+abbrev pub is_changed : List Entry → Put → Bool
+is_changed t q = is_alert (reply_of t q) && was_asked t q
+
+-- the reply that the asker gets: that of the rules if the question is new and no late copy that would raise an alert, that of the
+-- entry that it repeats, or none
 abbrev pub reply_by : List Entry → Put → Repeat → Option Reply
-reply_by t q repeat.New = Some (reply_of t q)
+reply_by t q repeat.New = if is_changed t q then None else Some (reply_of t q)
 reply_by t q (repeat.Same place r) = Some r
 reply_by t q repeat.Other = None
 
@@ -146,8 +170,8 @@ AreNewAfter u (e ∷ es) = (repeat_of u e.put ≡ repeat.New) × AreNewAfter (u 
 abbrev pub AreNew : List Entry → Type 0
 AreNew t = AreNewAfter [] t
 
--- the entry at a place asked the question, by the same user, with the same tag and in the same capacity, at most a day
--- earlier; its reply is this one, and does not give the state of a pack
+-- the entry at a place asked the question, by the same user, with the same tag and in the same capacity, and at most a day
+-- lies between them; its reply is this one, and does not give the state of a pack
 pub record IsRepeated (t : List Entry) (q : Put) (place : ℕ) (reply : Reply) : Type 0 where
   pub entry : Entry
   pub stands : slice_get t place ≡ Some entry
@@ -156,7 +180,7 @@ pub record IsRepeated (t : List Entry) (q : Put) (place : ℕ) (reply : Reply) :
   pub actor : entry.put.actor ≡ q.actor
   pub question : entry.put.question ≡ q.question
   pub same : reply ≡ entry.reply
-  pub day : q.moment ≤ entry.put.moment + 86400
+  pub day : AreInDay entry.put.moment q.moment
   pub lasting : IsFalse (tells_state reply)
 
 -- a question as it was put, without its tag

@@ -6,7 +6,7 @@ use crate::Reply;
 #[derive(Clone, Copy, Debug, PartialEq, Eq)]
 pub enum Repeat {
     /// The question is put to the rules. It has no tag, or names no pack. Or none of the last 16 entries about its pack is
-    /// of its user with its tag. Or the last such entry is more than a day old, or its reply gives the state of a pack.
+    /// of its user with its tag. Or the last such entry is more than a day apart, or its reply gives the state of a pack.
     New,
     /// Such an entry stands at this place of the trail, and asked the same: its reply answers again.
     Same { place: usize, reply: Reply },

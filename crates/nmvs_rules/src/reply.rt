@@ -1,7 +1,9 @@
 //! Replies to questions.
 ghost use Rattle.std.specs.Prelude.{◌≡◌, IsTrue};
 ghost use Rattle.nmvs_rules.specs.Entries.{is_reply};
+ghost use Rattle.nmvs_rules.specs.Printed.{is_conditional};
 ghost use Rattle.nmvs_rules.specs.Repeats.{tells_state};
+ghost use Rattle.nmvs_rules.specs.Trail.{is_alert};
 
 use crate::{BatchLock, Cause, Onward, OwnStatus, Refusal};
 use nmvs_identifier::{Batch, Expiry};
@@ -51,6 +53,24 @@ impl Reply {
         matches!(
             self,
             Reply::Authentic { .. } | Reply::StatusIs { .. } | Reply::NoPack | Reply::Shown(_)
+        )
+    }
+
+    /// Whether it is an alert (Article 36).
+    pub fn is_alert(&self) -> bool
+        ensures { result ≡ is_alert self.now }
+    {
+        matches!(self, Reply::Alert { .. })
+    }
+
+    /// Whether it is given only if nothing printed on the pack differs (own): it carries an operation out, calls the pack
+    /// authentic, or gives its status. An alert is given whatever is printed (Articles 35(1)(g) and 36(b)), and so is a refusal.
+    pub fn is_conditional(&self) -> bool
+        ensures { result ≡ is_conditional self.now }
+    {
+        !matches!(
+            self,
+            Reply::Alert { .. } | Reply::Refused(_) | Reply::NoPack | Reply::Shown(_)
         )
     }
 

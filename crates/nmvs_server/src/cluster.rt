@@ -2,10 +2,12 @@
 ghost use Rattle.nmvs_operator.specs.Options.{AreInRange};
 
 use crate::launch::serve_from;
-use crate::server::Beside;
+use crate::starting::Beside;
 use crate::{Fault, Host, Outcome};
+use nmvs_engine::{Dialer, Turn};
 use nmvs_metrics::Metrics;
-use nmvs_recovery::{Dialer, Followed, Means, Member, Run, Turn, stand_by};
+use nmvs_recovery::Run;
+use nmvs_standby::{Followed, Means, Member, stand_by};
 use nmvs_stream::{Console, Sides};
 use std::random::RandomSource;
 use std::sync::atomic::AtomicBool;

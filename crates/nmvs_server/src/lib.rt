@@ -1,29 +1,19 @@
-//! The server of the repository: sessions of users over the rules' shards.
+//! The start of the server, from its options on.
 //!
-//! [`start`] does what the options say, by the desks of `nmvs_reception`. `launch` has the phases of a server, from top to
-//! bottom. `Config` is its configuration, `Recovered` the state that it recovers, and `Server` the state that its workers
-//! share.
+//! [`start`] does what the options say. `launch` has the phases of a start, from top to bottom: it listens, recovers the trail
+//! and opens the directory of users. `recovered` makes the state of the files that `nmvs_standby` reads, and `cluster` follows
+//! the server of another machine first. `nmvs_service` serves.
 //!
-//! `nmvs_serve` has `main`. `nmvs_recovery` reads the files of a start, and writes exports. `nmvs_operator` has options,
-//! users files and commands.
+//! `nmvs_serve` has `main`. `nmvs_operator` has options, users files and commands.
 #![tactic(auto)]
 
-mod announcements;
-mod closing;
 mod cluster;
-mod confirming;
-mod fault;
 mod launch;
 mod listening;
 mod recovered;
-mod server;
-mod service;
-mod session;
 mod starting;
-mod timed_file;
-mod workers;
 
-pub use fault::{Fault, Outcome, outcome_of};
-pub use nmvs_recovery::{Dialer, Host};
-pub use server::Beside;
-pub use starting::start;
+pub use nmvs_engine::Dialer;
+pub use nmvs_recovery::Host;
+pub use nmvs_service::{Fault, Outcome, outcome_of};
+pub use starting::{Beside, start};

@@ -3,8 +3,7 @@ ghost use Rattle.nmvs_operator.specs.Options.{AreInRange};
 ghost use Rattle.nmvs_stream.specs.Console.{IsFresh};
 
 use crate::launch::serve_run;
-use crate::server::Beside;
-use crate::{Fault, Host, Outcome};
+use crate::{Dialer, Fault, Host, Outcome};
 use log::{Log, error, info};
 use nmvs_metrics::{Metrics, MetricsListener, serve_metrics};
 use nmvs_operator::{Options, VERSION};
@@ -14,8 +13,18 @@ use std::net::SocketAddr;
 use std::random::RandomSource;
 use std::rt::Clock;
 use std::sync::Wait;
+use std::sync::atomic::AtomicBool;
 use std::thread;
 use std::thread::Threads;
+
+/// What runs beside a server.
+#[derive(Clone, Copy)]
+pub struct Beside<'b> {
+    /// Whether the console is to give no further command.
+    pub interrupt: &'b AtomicBool,
+    /// The dialer of a server among several machines, which a thread runs.
+    pub dialer: Option<&'b Dialer>,
+}
 
 /// Serves one session over the console, or connections at the address or the socket of the options. With connections, the
 /// console gives commands of the registrar and takes their answers, until the server sets the interrupt. If the options say so,

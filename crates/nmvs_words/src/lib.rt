@@ -1,7 +1,7 @@
 //! The words of the formats: one for each role, status, lock, cause, refusal and kind of question.
 //!
-//! Lines, replies, commands and stored entries use the same words, so they stand here once, in code and in specs, each
-//! next to its value. [`QuestionKind`] is a question without the values that it names. `QuestionKind::named("VERIFY")`
+//! Lines, commands and stored entries use the same words, so they stand here, in code and in specs, each next to its value.
+//! The first words of replies stand with their formats, in `nmvs_protocol` and `nmvs_json`. [`QuestionKind`] is a question without the values that it names. `QuestionKind::named("VERIFY")`
 //! finds it by its word, and `word` gives the word back. The other words are functions, as [`role_word`] and
 //! [`role_named`].
 //!

@@ -1,5 +1,5 @@
 //! Laws on questions that are asked again with the same tag (own).
-ghost use Rattle.std.specs.Prelude.{◌≡◌, ◌↔◌, ◌<◌, ◌≤◌, ◌+◌, ℕ, Bool, IsTrue, IsFalse, List, ◌∷◌, ◌++◌, length, Some, None, take};
+ghost use Rattle.std.specs.Prelude.{◌≡◌, ◌↔◌, ◌<◌, ◌≤◌, ℕ, Bool, IsTrue, IsFalse, List, ◌∷◌, ◌++◌, length, Some, None, take};
 ghost use Rattle.std.specs.List.{All, list_any};
 ghost use Rattle.nmvs_identifier.specs.Batch.{Batch};
 ghost use Rattle.nmvs_identifier.specs.Expiry.{Expiry};
@@ -16,25 +16,25 @@ ghost use Rattle.nmvs_rules.specs.Laws.{IsGenuine};
 ghost use Rattle.nmvs_rules.specs.Questions.{pack_of};
 ghost use Rattle.nmvs_rules.specs.Trail.{about_of};
 ghost use Rattle.nmvs_rules.specs.Rules.{reply_of, IsLawful};
-ghost use Rattle.nmvs_rules.specs.Repeats.{answer_of, is_tagged, repeat_of, tells_state, AreNew, IsRepeated, without_tag, without_tags};
+ghost use Rattle.nmvs_rules.specs.Repeats.{answer_of, is_tagged, repeat_of, tells_state, AreInDay, AreNew, IsRepeated, without_tag, without_tags};
 
 /// A question with a tag counts once for a day: it was carried out, refused or answered with an alert, and each question was
-/// looked for before it was put. The next entry about the pack, of that user and with that tag, comes more than a day later,
-/// or after at least 16 others about the pack.
+/// looked for before it was put. The next entry about the pack, of that user and with that tag, is more than a day apart, or
+/// comes after at least 16 others about the pack.
 pub fn once()
     ensures { (u v w : List Entry) (e f : Entry) (p : Pack) (user : Name) (g : Tag) →
         AreNew (u ++ (e ∷ v) ++ (f ∷ w)) → IsTrue (is_tagged p user g e) → IsTrue (is_tagged p user g f) →
         IsFalse (list_any (is_tagged p user g) v) → IsFalse (tells_state e.reply) →
-        f.put.moment ≤ e.put.moment + 86400 → 16 ≤ about_of v p }
+        AreInDay e.put.moment f.put.moment → 16 ≤ about_of v p }
 {}
 
-/// Such a question is answered from its entry if it is asked again with its tag, at most a day later and before 16 others
-/// about the pack.
+/// Such a question is answered from its entry if it is asked again with its tag, at most a day apart and before 16 others
+/// about the pack. The clock may have been set back meanwhile.
 pub fn asked_again()
     ensures { (u v : List Entry) (e : Entry) (p : Pack) (g : Tag) (moment : ℕ) →
         pack_of e.put.question ≡ Some p → e.put.tag ≡ Some g →
         IsFalse (list_any (is_tagged p e.put.user g) v) → about_of v p < 16 → IsFalse (tells_state e.reply) →
-        moment ≤ e.put.moment + 86400 →
+        AreInDay e.put.moment moment →
         repeat_of (u ++ e ∷ v) (record e.put { moment = moment }) ≡ repeat.Same (length u) e.reply }
 {}
 
@@ -49,7 +49,7 @@ pub fn states_are_current()
 {}
 
 /// A repeated reply is that of an earlier entry: the same question of the same user, with the same tag and in the same
-/// capacity, at most a day earlier. It does not give the state of a pack. In a lawful trail it is the reply of the rules
+/// capacity, at most a day apart. It does not give the state of a pack. In a lawful trail it is the reply of the rules
 /// there.
 pub fn repetition()
     ensures entry { (t : List Entry) (q : Put) (place : ℕ) (reply : Reply) →

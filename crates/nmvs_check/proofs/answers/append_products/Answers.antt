@@ -1,6 +1,6 @@
 use Rattle.std.proofs.Common.{◌++◌, ◌∙◌, List, ℕ, take, get_or, string_bytes, sym, ap, ap₂, append_assoc}
 use Rattle.std.specs.List.{flat_map}
-use Rattle.nmvs_record.specs.Report.{product_line}
+use Rattle.nmvs_reports.specs.Report.{product_line}
 use Rattle.nmvs_check.proofs.AnswerLemmas.{lines-next}
 use Rattle.nmvs_check.proofs.answers.append_products.Goals as goal
 

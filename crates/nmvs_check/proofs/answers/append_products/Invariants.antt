@@ -1,6 +1,6 @@
 use Rattle.std.proofs.Common.{◌≡◌, ◌++◌, take, string_bytes}
 use Rattle.std.specs.List.{flat_map}
-use Rattle.nmvs_record.specs.Report.{product_line}
+use Rattle.nmvs_reports.specs.Report.{product_line}
 use Rattle.nmvs_check.proofs.answers.append_products.Given as goal
 
 abbrev pub invariant-loop-code : goal.invariant-loop-code

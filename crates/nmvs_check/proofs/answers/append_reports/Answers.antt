@@ -1,6 +1,6 @@
 use Rattle.std.proofs.Common.{◌++◌, ◌∙◌, List, ℕ, take, get_or, string_bytes, sym, ap, ap₂, append_assoc}
 use Rattle.std.specs.List.{flat_map}
-use Rattle.nmvs_record.specs.Report.{report_text}
+use Rattle.nmvs_reports.specs.Report.{report_text}
 use Rattle.nmvs_check.proofs.AnswerLemmas.{lines-next}
 use Rattle.nmvs_check.proofs.answers.append_reports.Goals as goal
 

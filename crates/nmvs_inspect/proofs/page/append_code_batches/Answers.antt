@@ -1,7 +1,7 @@
 use Rattle.std.proofs.Common.{◌++◌, ◌∙◌, List, ℕ, take, sym, ap, ap₂, append_assoc, arith}
 use Rattle.std.specs.List.{flat_map}
 use Rattle.nmvs_tables.specs.Listing.{code_batches}
-use Rattle.nmvs_record.proofs.ReportLemmas.{none_past}
+use Rattle.nmvs_reports.proofs.ReportLemmas.{none_past}
 use Rattle.nmvs_inspect.proofs.BatchLines.{lines-next}
 use Rattle.nmvs_inspect.specs.Page.{batch_row, record_row}
 use Rattle.nmvs_inspect.proofs.ReportRowLemmas.{row-batch}

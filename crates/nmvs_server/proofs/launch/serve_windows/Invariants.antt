@@ -1,7 +1,7 @@
 use Rattle.std.proofs.Common.{length, vec_len}
 use Rattle.nmvs_desk.specs.Opening.{table_of}
 use Rattle.nmvs_desk.specs.Settlement.{row}
-use Rattle.nmvs_server.specs.LogStart.{book_of}
+use Rattle.nmvs_service.specs.LogStart.{book_of}
 use Rattle.nmvs_server.proofs.launch.serve_windows.Given as goal
 
 -- the histories that were just made

@@ -27,3 +27,23 @@ returns-in-Ok-Again-clause-judges c =
         moments = refl;
       },
     )
+
+pub returns-in-Ok-Differs-clause-judges : goal.returns-in-Ok-Differs-clause-judges
+returns-in-Ok-Differs-clause-judges c =
+    let put = put_at c.args.moment c.args.user.now c.in-Some.actor c.args.tag c.args.question.now in
+    let printed = c.args.printed.now in
+    let asks = subst (λ o. Asks c.self.inside.shard put printed c.ask.new.self o) c.in-Ok-Differs.field-0-is c.in-Ok-Differs.ensures.asks in
+    rw (← c.self.view_is) (
+      record { actor = c.in-Some.actor; rostered = c.in-Some.ensures.known; first = asks.1; differs = asks.2 },
+      record { trail = asks.0; moments = refl },
+    )
+
+pub returns-in-Ok-Changed-clause-judges : goal.returns-in-Ok-Changed-clause-judges
+returns-in-Ok-Changed-clause-judges c =
+    let put = put_at c.args.moment c.args.user.now c.in-Some.actor c.args.tag c.args.question.now in
+    let printed = c.args.printed.now in
+    let asks = subst (λ o. Asks c.self.inside.shard put printed c.ask.new.self o) c.in-Ok-Changed.field-0-is c.in-Ok-Changed.ensures.asks in
+    rw (← c.self.view_is) (
+      record { actor = c.in-Some.actor; rostered = c.in-Some.ensures.known; first = asks.1; changed = asks.2 },
+      record { trail = asks.0; moments = refl },
+    )

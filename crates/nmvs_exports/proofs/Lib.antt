@@ -1,0 +1,2 @@
+mod ShardExports
+mod Slicing

@@ -1,0 +1,19 @@
+//! The worked rows of the rules, and their tests; and callers of a history, whose contracts say what they have seen. These tests
+//! alone are proved: those of `tests/` are only run.
+#![tactic(auto)]
+
+#[cfg(test)]
+mod clerks;
+#[cfg(test)]
+mod exports;
+#[cfg(test)]
+mod history;
+#[cfg(test)]
+mod lines;
+mod rows;
+#[cfg(test)]
+mod users;
+#[cfg(test)]
+mod values;
+
+pub use rows::{Example, NEW_YEAR, ROWS};

@@ -1,5 +1,0 @@
-use Rattle.nmvs_tests_journal.proofs.waiting.kept_until.Given as goal
-
--- the directory that was just made
-abbrev pub ghosts-in_directory : goal.ghosts-in_directory
-ghosts-in_directory g a = record { book = a.directory.opened.seen.book }
