@@ -50,9 +50,15 @@ def version_of(folder, name):
     return (found[1], found[2]) if found else None
 
 
+def part(kind, name, version, why, scope=None):
+    """A component in CycloneDX's form."""
+    more = {key: value for key, value in (("version", version), ("scope", scope)) if value}
+    return {"type": kind, "bom-ref": name, "name": name, "description": why, **more}
+
+
 def component(folder, toolchain, name):
     """A ported crate. Its own version is the toolchain's, and its ancestor is the Rust crate."""
-    it = {"type": "library", "bom-ref": name, "name": name, "version": toolchain, "description": "ported crate of the Rattle toolchain"}
+    it = part("library", name, toolchain, "ported crate of the Rattle toolchain")
     if origin := version_of(folder, name):
         ancestor = {"type": "library", "name": origin[0], "version": origin[1], "purl": f"pkg:cargo/{origin[0]}@{origin[1]}"}
         it["pedigree"] = {"ancestors": [ancestor]}
@@ -63,17 +69,15 @@ def bill(commit, moment):
     """The bill of materials of this commit."""
     folder, toolchain = kit()
     version = re.search(r'VERSION: &str = "([\d.]+)', (TOP / "crates/nmvs_operator/src/command_line.rt").read_text())[1]
-    own = [{"type": "library", "bom-ref": it, "name": it, "version": version, "hashes": []} for it in direct()]
-    for it in own:
-        del it["hashes"]
-    system = [{"type": "application", "bom-ref": it, "name": it, "scope": "optional" if it == "haproxy" else "required", "description": f"for {why}"} for it, why in SYSTEM.items()]
-    compiler = {"type": "application", "bom-ref": "rattle", "name": "rattle", "version": toolchain, "scope": "excluded", "description": "compiler, prover and standard library"}
+    own = [part("library", it, version, "crate of the repository") for it in direct()]
+    system = [part("application", it, None, f"for {why}", "optional" if it == "haproxy" else "required") for it, why in SYSTEM.items()]
+    compiler = part("application", "rattle", toolchain, "compiler, prover and standard library", "excluded")
     return {
         "bomFormat": "CycloneDX",
         "specVersion": "1.5",
         "serialNumber": f"urn:uuid:{uuid.uuid5(uuid.NAMESPACE_URL, commit)}",
         "version": 1,
-        "metadata": {"timestamp": moment, "component": {"type": "application", "bom-ref": "nmvs", "name": "nmvs", "version": version, "description": f"commit {commit}"}},
+        "metadata": {"timestamp": moment, "component": part("application", "nmvs", version, f"commit {commit}")},
         "components": [*own, *(component(folder, toolchain, it) for it in ported()), compiler, *system],
         "dependencies": [{"ref": "nmvs", "dependsOn": [*direct()]}, *({"ref": name, "dependsOn": listed} for name, listed in direct().items())],
     }
