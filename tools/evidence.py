@@ -20,7 +20,8 @@ NAMED = re.compile(rf"Articles?\s+({POINT}(?:(?:, | and |, and | or | to |\s+--\
 DEFINITION = re.compile(r"^(?:abbrev|unfoldable)(?: mutual)? pub (?P<name>[^\s:(]+)|^pub (?:record|data) (?P<other>[^\s:(]+)")
 FUNCTION = re.compile(r"^(?P<indent> *)(?P<pub>pub(?:\(crate\))? )?(?:const )?fn (?P<name>\w+)")
 CLAUSE = re.compile(r"\b(?:ensures|requires)\b")
-WORD = re.compile(r"[A-Za-z_◌][\w◌-]*")
+# A name in a clause, and the module in front of it.
+CITED = re.compile(r"(?<![\w.◌-])(\w+\.)?([A-Za-z_◌][\w◌-]*)")
 
 
 def articles_of(text):
@@ -141,13 +142,40 @@ def tests():
                 yield f"{path.stem}.{found[1]}", place(path), at + 1, True
 
 
+@functools.cache
+def imports_of(file):
+    """The definitions that a file imports: crate, module and name of each, by its name there. A whole module, by its name there with
+    a dot, has no name of a definition."""
+    found, text = {}, (TOP / file).read_text()
+    for crate, module, names in re.findall(r"^(?:ghost |pub )*use Rattle\.(\w+)\.specs\.([\w.]+)\.\{([^}]*)\}", text, re.M):
+        for name in filter(None, map(str.strip, names.split(","))):
+            first, _, other = name.partition(" as ")
+            found[other or first] = (crate, module, first)
+    for crate, module, other in re.findall(r"^(?:ghost |pub )*use Rattle\.(\w+)\.specs\.([\w.]+) as (\w+)", text, re.M):
+        found[other + "."] = (crate, module, None)
+    return found
+
+
+def key(thing):
+    return thing.crate, thing.owner, thing.name
+
+
+def cited_by(thing):
+    """The definitions that a contract or a definition cites by itself, as crate, module and name."""
+    imported, cited = imports_of(thing.file), set()
+    for front, word in CITED.findall(thing.text):
+        if front in imported:
+            cited.add((*imported[front][:2], word))
+        else:
+            cited.add(imported.get(word, (thing.crate, thing.owner, word)))
+    return cited
+
+
 def used_by_contracts(defined, with_contract):
-    """The names of definitions that some contract cites, by itself or through other definitions."""
-    texts = collections.defaultdict(set)
-    for it in defined:
-        texts[it.name].update(WORD.findall(it.text))
-    found, new = set(), {word for it in with_contract for word in WORD.findall(it.text)}
+    """The definitions that some contract cites, by itself or through others."""
+    through = {key(it): cited_by(it) for it in defined}
+    found, new = set(), {it for one in with_contract for it in cited_by(one)} & set(through)
     while new:
         found |= new
-        new = {word for it in new if it in texts for word in texts[it]} - found
-    return found & set(texts)
+        new = {it for one in new for it in through[one]} & set(through) - found
+    return found
