@@ -22,18 +22,12 @@ import sys
 import threading
 import time
 
+from model import REPLIES, kind, worded
 from terminal import Terminal
 
 PROGRAM = pathlib.Path(__file__).resolve().parent.parent / "crates/nmvs_serve/out/nmvs_serve"
-# What a terminal wrote wrong; what its person typed wrong.
+# What a terminal wrote wrong.
 FORM = "LONG RETURN BYTES FIELDS WORD USER JSON KEY SITE PATH METHOD LENGTH BODY TYPE".split()
-TYPED = ("CODE", "SERIAL", "BATCH", "EXPIRY")
-REPLIES = (
-    "UPLOADED", "AUTHENTIC", "STATUS", "NOPACK", "DECOMMISSIONED", "HANDED_OVER", "REVERTED", "LOCKED", "STOLEN", "SHOWN", "PRODUCT",
-    *(f"ALERT {cause}" for cause in "UNKNOWN RECALLED WITHDRAWN HELD SUPPLIED EXPORTED SAMPLED DESTROYED STOLEN".split()),
-    *(f"REFUSED {number}" for number in range(1, 16)),
-    *(f"FAULT {word}" for word in (*TYPED, "DIFFERS")),
-)
 
 
 def start():
@@ -44,19 +38,6 @@ def start():
     if not all(line.startswith("LISTENING ") for line in told):
         sys.exit("the server does not listen")
     return process, *(int(line.split()[-1]) for line in told)
-
-
-def kind(reply):
-    """What of REPLIES a reply is: its first word, behind the tag that it may have, and the next where that says which."""
-    words = reply.split(" ")
-    if words[0].startswith("#"):
-        del words[0]
-    return " ".join(words[:2]) if words[0] in ("ALERT", "REFUSED", "FAULT") else words[0]
-
-
-def worded(said):
-    """The words of a reply over HTTP, as the line has them: its members, in their order."""
-    return f"FAULT {said['fault']}" if "fault" in said else " ".join(map(str, said.values()))
 
 
 def each_of(body, text):
