@@ -5,3 +5,4 @@ mod LineSteps
 mod ConnectionLemmas
 mod TurnSteps
 mod MemorySteps
+mod AccountSteps

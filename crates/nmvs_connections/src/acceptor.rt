@@ -135,12 +135,13 @@ fn accept_all<R: Wait + Log>(
     } = entrance;
     for _ in 0..u64::MAX {
         match listener.accept() {
-            Ok(socket) => {
+            Ok((socket, address)) => {
                 let (number, worker) = (*next, pool.worker_of(*next));
                 if pool.enter(rt, worker) {
                     debug!(rt; connection = number, worker; "connection begins");
                     let accepted = Accepted {
                         number,
+                        address,
                         socket,
                         http,
                     };

@@ -1,15 +1,18 @@
 //! One connection of a worker.
 ghost use Rattle.std.specs.Prelude.{◌≡◌, ◌≤◌, ◌+◌, ◌-◌, ◌^◌, None, Some, IfOk, length, min};
 ghost use Rattle.nmvs_connections.specs.declared.peer_session.Stage.TheVariants as stages;
+ghost use Rattle.nmvs_connections.specs.Memory.{account_of, is_counted};
 ghost use Rattle.nmvs_connections.specs.Peers.{IsConnection};
 ghost use Rattle.nmvs_connections.specs.Turns.{ConnectionSteps, Kept, TellsOwn};
 
 use crate::next::Next;
+use crate::origin::origin_of;
 use crate::peer_session::{PeerSession, Stage};
 use crate::scratch::Scratch;
 use crate::socket::Moved;
 use crate::worker_pool::{Accepted, WorkerPool};
 use mio::Registry;
+use nmvs_identifier::Name;
 use nmvs_messages::{Desk, End, LineList, NameOf, Released, WithheldAnswers};
 use std::alloc::{AllocError, Global};
 use std::io;
@@ -34,6 +37,8 @@ const LINE_TIMEOUT: u64 = 30;
 pub(crate) struct Connection<L: LineList> {
     /// The number of the connection, in the order in which they were accepted.
     pub(crate) number: usize,
+    /// The name of the address that it comes from.
+    origin: Name,
     session: PeerSession<L>,
     /// Whether the peer asked nothing for too long.
     was_idle: bool,
@@ -46,6 +51,8 @@ pub(crate) struct Connection<L: LineList> {
     pub(crate) queued: bool,
     /// The memory of its buffers at the last count, in bytes.
     pub(crate) memory: usize,
+    /// Whether a line or a request of it had not come whole at the last count.
+    unfinished: bool,
 }
 
 impl<L: LineList> Connection<L> {
@@ -63,9 +70,11 @@ impl<L: LineList> Connection<L> {
         ensures { IfOk result (λ connection. connection.session.proxy ≡ proxy) }
     {
         let number = accepted.number;
+        let origin = origin_of(alloc, accepted.address)?;
         let session = PeerSession::new(alloc, accepted, proxy)?;
         Ok(Connection {
             number,
+            origin,
             session,
             was_idle: false,
             moved: now,
@@ -73,6 +82,7 @@ impl<L: LineList> Connection<L> {
             stopped: false,
             queued: false,
             memory: 0,
+            unfinished: false,
         })
     }
 
@@ -90,7 +100,22 @@ impl<L: LineList> Connection<L> {
     {
         let others = all.saturating_sub(self.memory);
         self.memory = self.session.memory();
+        self.unfinished = self.session.has_pending_line();
         others.saturating_add(self.memory)
+    }
+
+    /// The name under which the memory of its buffers is counted: that of the peer's certificate, or else that of its address.
+    pub(crate) fn account(&self) -> Name
+        ensures { result ≡ account_of self.now }
+    {
+        self.session.name().unwrap_or(self.origin)
+    }
+
+    /// Whether it is one of those under this name. If `unfinished`, a line or a request of it has not come whole.
+    pub(crate) fn is_counted(&self, name: &Name, unfinished: bool) -> bool
+        ensures { result ≡ is_counted name.now unfinished self.now }
+    {
+        (self.unfinished || !unfinished) && self.account() == *name
     }
 
     /// Notes that the peer ended or broke the connection.

@@ -1,11 +1,12 @@
 //! The loop of a worker.
-ghost use Rattle.std.specs.Prelude.{◌≡◌, ◌≢◌, ◌≤◌, ◌<◌, ◌-◌, ◌++◌, ◌∷◌, [], ℕ, Some, None, IsSome};
+ghost use Rattle.std.specs.Prelude.{◌≡◌, ◌≢◌, ◌≤◌, ◌<◌, ◌-◌, ◌++◌, ◌∷◌, [], ℕ, Some, None, IsSome, IfOk};
 ghost use Rattle.std.specs.List.{Contains};
 ghost use Rattle.slab.specs.Slab.{get, slab_len};
 ghost use Rattle.nmvs_connections.specs.declared.connection.Connection.{Connection as TheConnection};
-ghost use Rattle.nmvs_connections.specs.Memory.{CountsMemory, IsLargest, TakeAtMost, memory_of};
+ghost use Rattle.nmvs_connections.specs.Memory.{CountsMemory, IsEvictedFirst, IsLargest, TakeAtMost, memory_of};
 ghost use Rattle.nmvs_connections.specs.Turns.{EachGoes, WaitsForRelease, TellsAll, TellsPeer, TellsWhereAsked, TurnOfOne, WorkerTurn};
 
+use crate::accounts::{heaviest, largest_of};
 use crate::connection::Connection;
 use crate::next::Next;
 use crate::scratch::Scratch;
@@ -47,6 +48,7 @@ pub fn serve<R: Wait + Clock + Log, D: Desk>(
 /// The connections of a worker, and whose turns come.
 #[derive(Drop)]
 struct EventLoop<L: LineList> {
+    alloc: Global,
     /// The number of the worker.
     worker: usize,
     connections: Slab<Connection<L>>,
@@ -67,6 +69,7 @@ struct EventLoop<L: LineList> {
 impl<L: LineList> EventLoop<L> {
     fn new(alloc: Global, worker: usize, now: Instant) -> EventLoop<L> {
         EventLoop {
+            alloc,
             worker,
             connections: Slab::new(alloc),
             turns: Vec::new(alloc),
@@ -404,7 +407,8 @@ impl<L: LineList> EventLoop<L> {
         }
     }
 
-    /// Closes connections, at each step the one whose buffers take most memory, until those of all take no more than this.
+    /// Closes connections, at each step the largest of the peer that keeps most, until the buffers of all take no more than this.
+    /// If memory for the counts is refused, it is the largest of all.
     fn evict<R: Wait + Log>(&mut self, rt: &R, pool: &WorkerPool<'_>, most: usize)
         ensures awaiting { self.new.awaiting ≡ self.old.awaiting }
         ensures connections { EachGoes (λ key state state'. state' ≡ state) self.old.connections self.new.connections }
@@ -412,12 +416,34 @@ impl<L: LineList> EventLoop<L> {
         ensures memory { TakeAtMost most self.new.connections self.new.memory }
     {
         while self.memory > most {
-            let Some(key) = self.largest() else {
+            let first = match self.first_evicted() {
+                Ok(first) => first,
+                Err(_) => self.largest(),
+            };
+            let Some(key) = first else {
                 return;
             };
             self.evicted = self.evicted.saturating_add(1);
             pool.metrics(self.worker).note_evicted();
             self.close(rt, pool, key, "evicted");
+        }
+    }
+
+    /// The key of the connection that is closed first for want of memory, if any takes some. It is of the peer that keeps most: the
+    /// largest of its connections on which a line or a request has not come whole, or else the largest of all of them.
+    ///
+    /// # Errors
+    ///
+    /// Memory for the counts was refused.
+    fn first_evicted(&self) -> Result<Option<usize>, AllocError>
+        ensures { IfOk result (λ key. IsEvictedFirst self.now.connections key) }
+    {
+        let Some(name) = heaviest(&self.connections, self.alloc)? else {
+            return Ok(None);
+        };
+        match largest_of(&self.connections, &name, true) {
+            Some(key) => Ok(Some(key)),
+            None => Ok(largest_of(&self.connections, &name, false)),
         }
     }
 

@@ -4,16 +4,19 @@
 //! runs [`accept_loop`]: it accepts connections and hands them to the workers. [`WorkerPool::load`] counts the open ones.
 //! Each worker runs [`serve`]: it reads from its connections in turn, feeds the bytes to the [`BufferedSession`] of each,
 //! and sends the replies. All sessions of a worker share its desk. Behind a gateway a connection begins with a header. It
-//! carries lines of one peer alone, which the header names.
+//! carries lines of one peer alone, which the header names. If the buffers of a worker take too much memory, it closes connections
+//! of the peer that keeps most.
 #![tactic(auto)]
 
 mod acceptor;
+mod accounts;
 mod buffered_session;
 mod connection;
 mod event_loop;
 mod keepalive;
 mod line_stream;
 mod next;
+mod origin;
 mod peer_session;
 mod proxy_header;
 mod scratch;

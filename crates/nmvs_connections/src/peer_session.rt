@@ -5,6 +5,7 @@ ghost use Rattle.nmvs_messages.specs.declared.peer.Peer.TheVariants as peers;
 ghost use Rattle.nmvs_connections.specs.declared.next.Next.{Next as TheNext};
 ghost use Rattle.nmvs_connections.specs.declared.peer_session.Stage.TheVariants as stages;
 ghost use Rattle.nmvs_connections.specs.LineStreams.{EndsIn, before_of, carried};
+ghost use Rattle.nmvs_connections.specs.Memory.{name_of};
 ghost use Rattle.nmvs_connections.specs.Peers.{IsConnection, StaysPeer};
 ghost use Rattle.nmvs_connections.specs.Replies.{Replies};
 ghost use Rattle.nmvs_connections.specs.Turns.{ConnectionSteps, Kept, LinesStep, TellsOwn, WaitsForRelease};
@@ -18,6 +19,7 @@ use crate::socket::{Moved, Socket};
 use crate::worker_pool::{Accepted, WorkerPool};
 use memchr::{memchr, memmem, memrchr};
 use mio::{Registry, Token};
+use nmvs_identifier::Name;
 use nmvs_messages::{
     Desk, End, LineList, NO_LIMITS, NameOf, Peer, READ_SIZE, Released, WithheldAnswers,
 };
@@ -133,6 +135,16 @@ impl<L: LineList> PeerSession<L> {
         ensures { result ≡ self.now.session.ended }
     {
         self.session.end()
+    }
+
+    /// The name of the peer's certificate, if a header named it.
+    pub(crate) fn name(&self) -> Option<Name>
+        ensures { result ≡ name_of self.now.peer }
+    {
+        match self.peer {
+            Some(Peer::User(name) | Peer::Authorisation(name)) => Some(name),
+            Some(Peer::Anyone) | None => None,
+        }
     }
 
     /// Whether one of its lines was served.

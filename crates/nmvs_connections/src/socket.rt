@@ -7,7 +7,7 @@ use mio::net::{TcpListener, TcpStream, UnixListener, UnixStream};
 use mio::{Interest, Registry, Token};
 use std::io;
 use std::io::{ErrorKind, Read, Write};
-use std::net::{Net, Shutdown, SocketAddr};
+use std::net::{IpAddr, Net, Shutdown, SocketAddr};
 use std::os::fd::{AsRawFd, RawFd};
 use std::path::AsPath;
 use std::rt::Files;
@@ -115,18 +115,18 @@ impl Listener {
         }
     }
 
-    /// The next connection, or `WouldBlock` if none waits.
-    pub(crate) fn accept(&self) -> io::Result<Socket> {
+    /// The next connection, and over TCP the address that it comes from; or `WouldBlock` if none waits.
+    pub(crate) fn accept(&self) -> io::Result<(Socket, Option<IpAddr>)> {
         match self {
             Listener::Tcp(listener) => {
-                let (stream, _peer) = listener.accept()?;
+                let (stream, peer) = listener.accept()?;
                 let _slow = stream.set_nodelay(true);
                 keep_alive(&stream);
-                Ok(Socket::Tcp(stream))
+                Ok((Socket::Tcp(stream), Some(peer.ip())))
             }
             Listener::Unix(listener) => {
                 let (stream, _peer) = listener.accept()?;
-                Ok(Socket::Unix(stream))
+                Ok((Socket::Unix(stream), None))
             }
         }
     }

@@ -8,7 +8,7 @@ use nmvs_metrics::{Fault, Metrics, WorkerMetrics};
 use std::alloc::{AllocError, Global};
 use std::hash::RandomState;
 use std::io;
-use std::net::Net;
+use std::net::{IpAddr, Net};
 use std::sync::{Mutex, Wait};
 use std::time::Duration;
 
@@ -94,6 +94,8 @@ pub struct Load {
 pub(crate) struct Accepted {
     /// Its number, in the order in which they were accepted.
     pub(crate) number: usize,
+    /// The address that it comes from, over TCP.
+    pub(crate) address: Option<IpAddr>,
     pub(crate) socket: Socket,
     /// The keys for the fields of its requests, if its lines are carried over HTTP.
     pub(crate) http: Option<RandomState>,
