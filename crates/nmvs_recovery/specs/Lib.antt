@@ -2,3 +2,4 @@ pub mod Faults
 pub mod KeptLines
 pub mod WholeLines
 pub mod Stores
+pub mod Marks

@@ -10,7 +10,7 @@ use nmvs_directory::Naming;
 use nmvs_exports::{Unwaited, export};
 use nmvs_history::Histories;
 use nmvs_journal::Unconfirmed;
-use nmvs_recovery::{FileFault, Host, Paths, Run, mark, mark_users};
+use nmvs_recovery::{FileFault, Host, Paths, Run, mark};
 use nmvs_shard::Shard;
 use nmvs_stream::{Sink, deliver};
 use std::alloc::Global;
@@ -65,14 +65,13 @@ fn end_turn<R: Host>(config: &Config<'_, '_, R>) {
     }
 }
 
-/// Marks all of the log, and all changes of the users, as confirmed.
+/// Marks all of the log as confirmed. (Each change of the users was marked when it was kept.)
 fn mark_end<'r, 'o, R: Host>(
     config: &Config<'r, 'o, R>,
     paths: &Paths<'o>,
     count: usize,
 ) -> Result<(), Fault<'o>> {
-    let marked = mark(&config.run, paths, &paths.mark, count);
-    match marked.and_then(|_| mark_users(&config.run, paths)) {
+    match mark(&config.run, paths, &paths.mark, count) {
         Ok(()) => Ok(()),
         Err(fault) => Err(Fault::File(fault)),
     }
