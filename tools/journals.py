@@ -145,9 +145,14 @@ def log_text(folder):
     return path.read_bytes() if path.exists() else b""
 
 
+def commands_in(text):
+    """The commands of a users file; the line above each tells when it was given."""
+    return [line for line in text.splitlines() if not line.startswith("#")]
+
+
 def kept_commands(folder):
-    """The commands that the users file of a log's folder has; the line above each tells when it was given."""
-    return [line for line in (folder / "users.txt").read_text().splitlines() if not line.startswith("#")]
+    """The commands that the users file of a log's folder has."""
+    return commands_in((folder / "users.txt").read_text())
 
 
 def entries_by_code(folder):

@@ -1,5 +1,5 @@
 //! The configuration of a server, and the state that its workers share.
-use crate::timed_file::LogStore;
+use crate::trail_file::LogStore;
 use nmvs_connections::{HttpListener, Listener, WorkerPool};
 use nmvs_desk::Repository;
 use nmvs_directory::{Naming, Notice};

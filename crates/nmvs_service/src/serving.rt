@@ -10,7 +10,7 @@ use crate::closing::{close, mark_all};
 use crate::server::{Config, Server};
 use crate::service::Running;
 use crate::session::serve_alone;
-use crate::timed_file::LogStore;
+use crate::trail_file::LogStore;
 use crate::workers::{Served, bounds_of, serve_connections};
 use crate::{Fault, Outcome};
 use nmvs_connections::{Listener, Poller, WorkerPool};
