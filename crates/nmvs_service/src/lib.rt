@@ -18,6 +18,7 @@ mod serving;
 mod session;
 mod timed_file;
 mod trail_file;
+mod watching;
 mod workers;
 
 pub use fault::{Fault, Outcome, outcome_of};

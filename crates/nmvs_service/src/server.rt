@@ -1,5 +1,6 @@
 //! The configuration of a server, and the state that its workers share.
 use crate::trail_file::LogStore;
+use crate::watching::Watch;
 use nmvs_connections::{HttpListener, Listener, WorkerPool};
 use nmvs_desk::Repository;
 use nmvs_directory::{Naming, Notice};
@@ -46,6 +47,8 @@ pub(crate) struct Server<'f, 'r, 'o, R, J: Naming, H: Histories + LogName> {
     pub(crate) repository: &'f Repository<'r, H>,
     /// The log that answers wait for, if there is one.
     pub(crate) log: Option<CommitLog<'f, 'r, LogStore<'r>, H, H>>,
+    /// The watch over its file.
+    pub(crate) watch: Watch,
     pub(crate) pool: WorkerPool<'r>,
     /// The lines that each user may still ask, if there is a rate.
     pub(crate) limiter: Option<SharedLimiter<Global>>,

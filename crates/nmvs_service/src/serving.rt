@@ -11,6 +11,7 @@ use crate::server::{Config, Server};
 use crate::service::Running;
 use crate::session::serve_alone;
 use crate::trail_file::LogStore;
+use crate::watching::Watch;
 use crate::workers::{Served, bounds_of, serve_connections};
 use crate::{Fault, Outcome};
 use nmvs_connections::{Listener, Poller, WorkerPool};
@@ -182,6 +183,7 @@ fn serve_by_pool<
         latest,
         repository,
         log,
+        watch: Watch::new(),
         pool,
         limiter: limiter_of(config),
         ready: Mutex::new(false),
