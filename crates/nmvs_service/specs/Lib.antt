@@ -4,4 +4,3 @@ pub mod Bounds
 pub mod KeptUsers
 pub mod Marks
 pub mod LogStart
-pub mod Watched

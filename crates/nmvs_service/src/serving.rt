@@ -26,6 +26,7 @@ use nmvs_reception::{Opened, Opening};
 use nmvs_recovery::{Host, Paths};
 use nmvs_stream::{Console, Sides};
 use std::alloc::{AllocError, Global};
+use std::fs;
 use std::io::ErrorKind;
 use std::sync::Mutex;
 use std::time::Duration;
@@ -145,13 +146,25 @@ fn serve_clerks<
     requires log { IfSome log (λ l. BeginsLog l H.shards H.opening) }
 {
     let (log, paths, users) = open_log(config, repository, log)?;
-    let logs = (log, users);
+    let logs = (log, users, watch_of(config, paths.as_ref()));
     let served = serve_by_pool(
         config, listener, latest, repository, logs, clerks, registrar, console,
     );
     let (clerks, confirmed) = served?;
     mark_all(config, paths.as_ref(), confirmed)?;
     Ok(clerks)
+}
+
+/// The watch over the file of the log. It watches none if there is no log, or if an engine keeps it: the file is a copy then.
+fn watch_of<'o, R: Host>(config: &Config<'_, 'o, R>, paths: Option<&Paths<'o>>) -> Watch {
+    let run = &config.run;
+    match paths {
+        Some(paths) if run.options.engine.is_none() => Watch::over(fs::open(
+            run.rt,
+            &paths.trail,
+        ).ok()),
+        _ => Watch::over(None),
+    }
 }
 
 /// Opens the pool of workers, and serves connections by clerks over these logs of the trail and of the users.
@@ -168,9 +181,10 @@ fn serve_by_pool<
     listener: &'f Listener,
     latest: &'f Mutex<Notice<J>>,
     repository: &'f Repository<'r, H>,
-    (log, users): (
+    (log, users, watch): (
         Option<CommitLog<'f, 'r, LogStore<'r>, H, H>>,
         Option<UsersLog<'r>>,
+        Watch,
     ),
     clerks: Vec<Clerk<'r, J, H>, &'r Global>,
     registrar: &mut Registrar<J, &'r R, &'r Global>,
@@ -183,7 +197,7 @@ fn serve_by_pool<
         latest,
         repository,
         log,
-        watch: Watch::new(),
+        watch,
         pool,
         limiter: limiter_of(config),
         ready: Mutex::new(false),
