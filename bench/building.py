@@ -12,7 +12,7 @@ def build(folder, name, libraries, arguments):
     """Builds bench/NAME.rattle in a folder of its own, runs it once with these arguments, and tells where the program is.
     What its functions pick for proofs alone is in bench/NAME_proofs, a file a function. (The gate takes no file of code
     outside crates/, so these have names of their own.)"""
-    shutil.copytree(ROOT / "crates", folder / "crates", ignore=shutil.ignore_patterns("must-fail", "wrong-bodies"))
+    shutil.copytree(ROOT / "crates", folder / "crates", ignore=shutil.ignore_patterns("wrong-bodies"))
     source = folder / "crates/nmvs_bench/src"
     source.mkdir(parents=True)
     shutil.copy(HERE / f"{name}.rattle", source / "main.rt")

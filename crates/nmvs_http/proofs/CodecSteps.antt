@@ -33,7 +33,7 @@ unsent_less sent items gone count =
     ∙ ap (λ (t : List ℕ). sent ++ t) (take-append-drop count (drop gone items))
 
 -- a codec that was fed nothing
-pub is_new : (c : CodecState) → c.hand ≡ None → c.stream ≡ record { fed = []; requests = []; state = states.Open } → c.given ≡ [] → c.replies ≡ [] → c.gathered ≡ [] → c.sent ++ c.unsent ≡ []
+pub is_new : (c : CodecState) → c.hand ≡ None → c.stream ≡ record { fed = []; requests = []; state = states.Open; held = [] } → c.given ≡ [] → c.replies ≡ [] → c.gathered ≡ [] → c.sent ++ c.unsent ≡ []
     → IsCodec c
 is_new c none fresh given replies gathered told =
     λ _. (

@@ -1,5 +1,5 @@
 -- The requests that a connection's calls were given.
-use Rattle.std.proofs.Common.{◌≡◌, ◌≢◌, ◌⊎◌, ℕ, List, [], ◌∷◌, ◌++◌, map, Option, Some, None, refl, sym, ap, ◌∙◌, inl, inr, subst}
+use Rattle.std.proofs.Common.{◌≡◌, ◌≢◌, ◌⊎◌, ℕ, List, [], ◌∷◌, ◌++◌, map, Option, Some, None, refl, sym, ap, ◌∙◌, inl, inr, subst, true, ◌↔◌}
 use Rattle.std.proofs.Math.Logic.{∥∥₁_map}
 use Rattle.std.proofs.lemmas.List.{append-nil}
 use Rattle.http.specs.declared.request.Request.{Request}
@@ -15,6 +15,7 @@ use Rattle.http_server.specs.declared.state.Refusal.TheVariants.{Truncated, Unre
 use Rattle.http_server.specs.Exchange.{Call, Chain, Calls, ReadsCall, Serves}
 use Rattle.http_server.specs.History.{History, IsServed, Justifies, Stands}
 use Rattle.http_server.specs.Connection.{config_of, history}
+use Rattle.http_server.proofs.StreamLemmas.{ReadsCall-append}
 use Rattle.http_server.proofs.Theorems.{always_served}
 use Rattle.nmvs_http.specs.declared.request_stream.Asked.{Asked as Asking}
 use Rattle.nmvs_http.specs.declared.request_stream.Next.{Next}
@@ -128,3 +129,22 @@ pub stream_read : (c : Connection) → config_of c ≡ request_limits → (histo
     → ∥ ((rest : List ℕ) × ReadsRequests request_limits (stream_state c).fed (stream_state c).requests rest) ∥₁
 stream_read c config sound =
     subst (λ (f : Config). ∥ Requests f (history c) ∥₁) config (∥∥₁_map (always_served c) (requests_read (config_of c) (history c) sound))
+
+-- the requests that a stream begins with stay when more bytes come
+pub reads_more : (config : Config) (stream : List ℕ) (requests : List (Request (List ℕ))) (rest more : List ℕ) → ReadsRequests config stream requests rest
+    → ReadsRequests config (stream ++ more) requests (rest ++ more)
+reads_more config stream [] rest more x = ap (λ (t : List ℕ). t ++ more) x
+reads_more config stream (r ∷ requests) rest more x = (x.0, x.1 ++ more, ReadsCall-append x.2 more, reads_more config x.1 requests rest more x.3)
+
+-- the next item is that of a stream with the same requests and state
+pub next_of_same : (old new old' new' : StreamState) (result : Next) → old'.requests ≡ old.requests → new'.requests ≡ new.requests → new'.state ≡ new.state
+    → IsNext old new result → IsNext old' new' result
+next_of_same old new old' new' nexts.Nothing before after state x = (after ∙ x.0 ∙ sym before, state ∙ x.1)
+next_of_same old new old' new' nexts.Invitation before after state x = (after ∙ x.0 ∙ sym before, state ∙ x.1)
+next_of_same old new old' new' (nexts.Request asked stays) before after state x = (
+  (x.0.0, after ∙ x.0.1 ∙ ap (λ (rs : List (Request (List ℕ))). rs ++ x.0.0 ∷ []) (sym before), x.0.2),
+  subst (λ (s : State). s ≢ Aborted) (sym state) x.1,
+  subst (λ (s : State). stays ≡ true ↔ s ≡ Open) (sym state) x.2,
+)
+next_of_same old new old' new' (nexts.Refused fault) before after state x = (after ∙ x.0 ∙ sym before, (x.1.0, state ∙ x.1.1, x.1.2))
+next_of_same old new old' new' nexts.Lost before after state x = tt

@@ -1,20 +1,30 @@
 -- A stream of requests, as contracts see it (own).
-use Rattle.std.specs.Prelude.{ℕ, List, map}
+use Rattle.std.specs.Prelude.{ℕ, List, [], ◌∷◌, ◌++◌, Option, Some, None, map}
 use Rattle.http.specs.declared.request.Request.{Request}
 use Rattle.http_server.specs.declared.connection.Connection.{Connection}
 use Rattle.http_server.specs.declared.state.Config.{Config}
 use Rattle.http_server.specs.declared.state.State.{State}
 use Rattle.http_server.specs.Connection.{history}
 
--- the bytes of a stream, the requests read from it, and the state of its connection
+-- the bytes of a stream, the requests read from it, the state of its connection, and those last bytes of it that follow its
+-- requests and are held back
 pub record StreamState : Type 0 where
   pub fed : List ℕ
   pub requests : List (Request (List ℕ))
   pub state : State
+  pub held : List ℕ
 
 -- the stream that a connection reads
 abbrev pub stream_state : Connection → StreamState
-stream_state c = record { fed = (history c).received; requests = map (λ call. call.0) (history c).calls; state = (history c).state }
+stream_state c = record { fed = (history c).received; requests = map (λ call. call.0) (history c).calls; state = (history c).state; held = [] }
+
+abbrev pub bytes_of : Option ℕ → List ℕ
+bytes_of None = []
+bytes_of (Some byte) = byte ∷ []
+
+-- a stream, and a byte after it that is held back, if there is one
+abbrev pub with_held : StreamState → Option ℕ → StreamState
+with_held s held = record s { fed = s.fed ++ bytes_of held; held = bytes_of held }
 
 -- the limits of a request: 16 KiB each for its head, its chunk extensions and its trailers, 128 KiB for its body (own)
 abbrev pub request_limits : Config

@@ -6,8 +6,9 @@ ghost use Rattle.nmvs_http.specs.Responses.{composed_text, invitation_text, resp
 
 use crate::asked::Asks;
 use crate::byte_tag::extended;
+use crate::counted_stream::CountedStream;
 use crate::fault::Fault;
-use crate::request_stream::{Asked, Next, RequestStream};
+use crate::request_stream::{Asked, Next};
 use crate::response::{
     front_of_fault, front_of_health, front_of_lines, front_of_question, problem, write_invitation,
     write_refusal, write_response,
@@ -66,9 +67,7 @@ pub(crate) struct Hand {
 pub struct HttpCodec {
     alloc: Global,
     stage: CodecStage,
-    requests: RequestStream,
-    /// The number of bytes fed since the last request.
-    pending: usize,
+    requests: CountedStream,
     hand: Option<Hand>,
     /// The replies to the request in hand.
     gathered: Vec<u8>,
@@ -96,13 +95,12 @@ impl Model for HttpCodec {
 impl HttpCodec {
     /// A codec that was fed nothing. The peer chooses the names of fields, so their maps take secret keys.
     pub fn new(alloc: Global, keys: RandomState) -> HttpCodec
-        ensures { result ≡ record { stage = CodecStage.Open; stream = record { fed = []; requests = []; state = states.Open }; hand = None; given = []; replies = []; gathered = []; sent = []; unsent = [] } }
+        ensures { result ≡ record { stage = CodecStage.Open; stream = record { fed = []; requests = []; state = states.Open; held = [] }; hand = None; given = []; replies = []; gathered = []; sent = []; unsent = [] } }
     {
         HttpCodec {
             alloc,
             stage: CodecStage::Open,
-            requests: RequestStream::new(alloc, keys),
-            pending: 0,
+            requests: CountedStream::new(alloc, keys),
             hand: None,
             gathered: Vec::new(alloc),
             told: WriteBuffer::new(Vec::new(alloc)),
@@ -125,27 +123,29 @@ impl HttpCodec {
         self.hand.is_some()
     }
 
-    /// Whether bytes were fed since the last request.
-    pub fn has_pending_request(&self) -> bool {
-        self.pending != 0
+    /// Whether bytes were fed after the last request, also if they came in one read with it.
+    pub fn has_pending_request(&self) -> bool
+        ensures { self.now.stream.held ≢ [] → result ≡ true }
+    {
+        self.requests.unread() != 0
     }
 
-    /// The memory that it keeps, in bytes: those fed since the last request, and the room of replies and responses.
+    /// The memory that it keeps, in bytes: those fed after the last request, and the room of replies and responses.
     pub fn memory(&self) -> usize
+        ensures unread { length self.now.stream.held ≤ result }
         ensures replies { length self.now.gathered ≤ result }
         ensures unsent { length self.now.unsent ≤ result }
     {
         let room = self.gathered.capacity();
         let room = room.saturating_add(self.told.bytes.capacity());
-        self.pending.saturating_add(room)
+        self.requests.unread().saturating_add(room)
     }
 
     /// Feeds these bytes. Returns the number that it took: all, if there is memory for them.
     pub fn feed(&mut self, more: &[u8]) -> usize
         ensures within { result ≤ length more.now }
-        ensures fed { self.new ≡ record self.old { stream = record self.old.stream { fed = self.old.stream.fed ++ take result more.now } } }
+        ensures fed { self.new ≡ record self.old { stream = record self.old.stream { fed = self.old.stream.fed ++ take result more.now; held = self.new.stream.held } } }
     {
-        self.pending = self.pending.saturating_add(more.len());
         self.requests.feed(more)
     }
 
@@ -179,7 +179,6 @@ impl HttpCodec {
             Next::Refused(fault) => self.stage = tell_refusal(&mut self.told, fault),
             Next::Lost => self.stage = CodecStage::Lost,
             Next::Request(asked, stays) => {
-                self.pending = 0;
                 self.hand = Some(Hand::of(asked, stays));
                 return true;
             }

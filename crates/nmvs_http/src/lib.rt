@@ -5,6 +5,7 @@
 mod asked;
 mod byte_tag;
 mod codec;
+mod counted_stream;
 mod fault;
 mod laws;
 mod reading;

@@ -74,7 +74,7 @@ impl Model for RequestStream {
 impl RequestStream {
     /// An empty stream. The peer chooses the names of fields, so their maps take secret keys.
     pub(crate) fn new(alloc: Global, keys: RandomState) -> RequestStream
-        ensures { result ≡ record { fed = []; requests = []; state = State.Open } }
+        ensures { result ≡ record { fed = []; requests = []; state = State.Open; held = [] } }
     {
         RequestStream {
             alloc,

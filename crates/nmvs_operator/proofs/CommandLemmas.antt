@@ -1,5 +1,5 @@
 -- The operator's orders go on, line by line.
-use Rattle.std.proofs.Common.{◌≡◌, ◌≢◌, ◌∙◌, ◌++◌, ◌∷◌, ◌<◌, ◌==◌, ◌||◌, [], inl, inr, refl, sym, ap, subst, arith, ℕ, true, false, List, length, take, codes, None, Result, Ok, Err}
+use Rattle.std.proofs.Common.{◌≡◌, ◌≢◌, ◌∙◌, ◌++◌, ◌∷◌, ◌<◌, ◌==◌, ◌||◌, [], inl, inr, refl, sym, ap, subst, arith, ℕ, Bool, true, false, List, length, take, codes, None, Result, Ok, Err}
 use Rattle.std.proofs.lemmas.List.{append-nil, append_assoc, length-take}
 use Rattle.std.proofs.lemmas.Bool.{eqb-true}
 use Rattle.std.proofs.lemmas.List.Elements.{All-append, All-cons, All-nil}
@@ -41,8 +41,11 @@ kept_ends does old x (Err obey.Memory) new (inl h) = inl (record {
   latest = h.latest;
 })
 kept_ends does old x (Err obey.Memory) new (inr (inl h)) = inr (inl (record {
-  read = kept_reads_order x (Ok orders.Reload) h.read;
+  all = h.all;
+  read = kept_reads_order x (Ok (orders.Reload h.all)) h.read;
+  file = h.file;
   bytes = h.bytes;
+  takes = h.takes;
   kept = h.kept;
   published = h.published;
   pending = h.pending;
@@ -50,7 +53,7 @@ kept_ends does old x (Err obey.Memory) new (inr (inl h)) = inr (inl (record {
 }))
 kept_ends does old x (Err obey.Memory) new (inr (inr h)) =
     inr (inr (record { order = h.order; read = kept_reads_order x (Ok h.order) h.read; asks = h.asks; stays = h.stays }))
-kept_ends does old x (Err obey.Users) new h = (kept_reads_order x (Ok orders.Reload) h.0, h.1)
+kept_ends does old x (Err obey.Users) new h = ((h.0.0, kept_reads_order x (Ok (orders.Reload h.0.0)) h.0.1), h.1)
 kept_ends does old x (Err obey.Unended) new h = absurd h
 
 -- the kept part of an order is answered as the order is
@@ -81,19 +84,19 @@ one_more {ways = ways} {first = first} {now = now} {start = start} {sink = sink}
 }
 
 -- an order that stopped the server asked for no lines
-stop_lines : {S : Type 0} (counts : Counts S) (old : Office S) (ends : Result Order ObeyFault) (lines : List ℕ) → Lists counts old ends lines → stops ends ≡ true
+stop_lines : {S : Type 0} (counts : Counts S) (old : Office S) (ends : Result Order ObeyFault) (lines : List ℕ) (new : Office S) → Lists counts old ends lines new → stops ends ≡ true
     → saying lines ends ≡ saying [] (Ok orders.Stop)
-stop_lines counts old (Ok orders.Stop) lines none stop = ap (λ (l : List ℕ). saying l (Ok orders.Stop)) none
-stop_lines counts old (Ok (orders.Change c)) lines none stop = absurd cc
-stop_lines counts old (Ok orders.Reload) lines none stop = absurd cc
-stop_lines counts old (Ok (orders.Export p)) lines none stop = absurd cc
-stop_lines counts old (Ok orders.Users) lines none stop = absurd cc
-stop_lines counts old (Ok (orders.Count t)) lines none stop = absurd cc
-stop_lines counts old (Ok orders.TakeOver) lines none stop = absurd cc
-stop_lines counts old (Ok orders.HandOver) lines none stop = absurd cc
-stop_lines counts old (Ok (orders.Trim n)) lines none stop = absurd cc
-stop_lines counts old (Ok orders.Help) lines none stop = absurd cc
-stop_lines counts old (Err f) lines none stop = absurd cc
+stop_lines counts old (Ok orders.Stop) lines new none stop = ap (λ (l : List ℕ). saying l (Ok orders.Stop)) none
+stop_lines counts old (Ok (orders.Change c)) lines new none stop = absurd cc
+stop_lines counts old (Ok (orders.Reload all)) lines new none stop = absurd cc
+stop_lines counts old (Ok (orders.Export p)) lines new none stop = absurd cc
+stop_lines counts old (Ok orders.Users) lines new none stop = absurd cc
+stop_lines counts old (Ok (orders.Count t)) lines new none stop = absurd cc
+stop_lines counts old (Ok orders.TakeOver) lines new none stop = absurd cc
+stop_lines counts old (Ok orders.HandOver) lines new none stop = absurd cc
+stop_lines counts old (Ok (orders.Trim n)) lines new none stop = absurd cc
+stop_lines counts old (Ok orders.Help) lines new none stop = absurd cc
+stop_lines counts old (Err f) lines new none stop = absurd cc
 
 -- one order more, which stops the server; the lines after it are not read
 pub one_stop : {S : Type 0} {ways : Ways S} {first now : Office S} {start sink : Taken} {lines : List (List ℕ)} (new : Office S) (sink' : Taken) (x : List ℕ) (a : Said) (input : List ℕ) (rest : List (List ℕ))
@@ -107,7 +110,7 @@ one_stop {ways = ways} {first = first} {now = now} {start = start} {sink = sink}
     rest = rest;
     these = these;
     before = so_far.said;
-    last = ap (λ (s : Said). so_far.said ++ s ∷ []) (stop_lines ways.counts now a.ends a.lines answers.1 stops);
+    last = ap (λ (s : Said). so_far.said ++ s ∷ []) (stop_lines ways.counts now a.ends a.lines new answers.1 stops);
     goes_on = so_far.goes_on;
     told = told_more start so_far.said sink sink' a so_far.told told;
   };
@@ -229,7 +232,7 @@ tells {old} {new} e tries = subst (λ (t : List ℕ). Tries old new t) e tries
 -- another order than STOP does not stop the server
 pub not_stop : (order : Order) → order ≢ orders.Stop → stops (Ok order) ≡ false
 not_stop (orders.Change command) other = refl
-not_stop orders.Reload other = refl
+not_stop (orders.Reload all) other = refl
 not_stop (orders.Export path) other = refl
 not_stop orders.Users other = refl
 not_stop (orders.Count topic) other = refl
@@ -239,27 +242,27 @@ not_stop orders.HandOver other = refl
 not_stop (orders.Trim blocks) other = refl
 not_stop orders.Help other = refl
 
--- another order than USERS, STATS, CONNECTIONS and ALERTS lists nothing
-pub no_lines : {S : Type 0} (counts : Counts S) (office : Office S) (order : Order) → order ≢ orders.Users → ((topic : Topic) → order ≢ orders.Count topic)
-    → Lists counts office (Ok order) []
-no_lines counts office (orders.Change command) users counted = refl
-no_lines counts office orders.Reload users counted = refl
-no_lines counts office (orders.Export path) users counted = refl
-no_lines counts office orders.Users users counted = absurd (users refl)
-no_lines counts office (orders.Count topic) users counted = absurd (counted topic refl)
-no_lines counts office orders.Stop users counted = refl
-no_lines counts office orders.TakeOver users counted = refl
-no_lines counts office orders.HandOver users counted = refl
-no_lines counts office (orders.Trim blocks) users counted = refl
-no_lines counts office orders.Help users counted = refl
+-- another order than USERS, STATS, CONNECTIONS, ALERTS and RELOAD lists nothing
+pub no_lines : {S : Type 0} (counts : Counts S) (old new : Office S) (order : Order) → order ≢ orders.Users → ((topic : Topic) → order ≢ orders.Count topic)
+    → ((all : Bool) → order ≢ orders.Reload all) → Lists counts old (Ok order) [] new
+no_lines counts old new (orders.Change command) users counted reloaded = refl
+no_lines counts old new (orders.Reload all) users counted reloaded = absurd (reloaded all refl)
+no_lines counts old new (orders.Export path) users counted reloaded = refl
+no_lines counts old new orders.Users users counted reloaded = absurd (users refl)
+no_lines counts old new (orders.Count topic) users counted reloaded = absurd (counted topic refl)
+no_lines counts old new orders.Stop users counted reloaded = refl
+no_lines counts old new orders.TakeOver users counted reloaded = refl
+no_lines counts old new orders.HandOver users counted reloaded = refl
+no_lines counts old new (orders.Trim blocks) users counted reloaded = refl
+no_lines counts old new orders.Help users counted reloaded = refl
 
 -- of the faults those of a users file alone are listed
-pub no_fault_lines : {S : Type 0} (counts : Counts S) (office : Office S) (fault : ObeyFault) → fault ≢ obey.Users → Lists counts office (Err fault) []
-no_fault_lines counts office (obey.Unread fault) other = refl
-no_fault_lines counts office (obey.Undone fault) other = refl
-no_fault_lines counts office obey.Memory other = refl
-no_fault_lines counts office obey.Users other = absurd (other refl)
-no_fault_lines counts office obey.Unended other = refl
+pub no_fault_lines : {S : Type 0} (counts : Counts S) (old new : Office S) (fault : ObeyFault) → fault ≢ obey.Users → Lists counts old (Err fault) [] new
+no_fault_lines counts old new (obey.Unread fault) other = refl
+no_fault_lines counts old new (obey.Undone fault) other = refl
+no_fault_lines counts old new obey.Memory other = refl
+no_fault_lines counts old new obey.Users other = absurd (other refl)
+no_fault_lines counts old new obey.Unended other = refl
 
 -- USERS is answered by the lines of the published users, or there was no memory for them
 pub users_told : {S T E : Type 0} (ways : Ways S) (office : Office S) (line : List ℕ) (before after : Taken) (bytes : T → List ℕ) (text : Result T E)

@@ -2,4 +2,5 @@ mod UsersFile
 mod CommandLemmas
 mod OrderLemmas
 mod UserLines
+mod ReloadLemmas
 mod FaultLemmas

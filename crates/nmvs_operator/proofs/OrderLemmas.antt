@@ -19,13 +19,14 @@ use Rattle.nmvs_messages.proofs.CommandLemmas.{fields_fault-take}
 use Rattle.nmvs_messages.proofs.FieldLemmas.{line_of_kept}
 use Rattle.nmvs_operator.specs.declared.order.Order.{Order}
 use Rattle.nmvs_operator.specs.declared.order.Order.TheVariants as orders
-use Rattle.nmvs_operator.specs.Orders.{ReadsOrder, order_fields, is_order, order_fault, listing_fault, change_fault, turn_fault, over_fault, trim_fault, is_number, export_fault, alone_fault, first_order_fault}
+use Rattle.nmvs_operator.specs.Orders.{ReadsOrder, order_fields, is_order, order_fault, listing_fault, change_fault, reload_fault, turn_fault, over_fault, trim_fault, is_number, export_fault, alone_fault, first_order_fault}
 
 few_fields : (o : Order) → length (order_fields o) < 8
 few_fields (orders.Change (Enrol user actor)) = lit≤ tt
 few_fields (orders.Change (Suspend user)) = lit≤ tt
 few_fields (orders.Change (Remove user)) = lit≤ tt
-few_fields orders.Reload = lit≤ tt
+few_fields (orders.Reload false) = lit≤ tt
+few_fields (orders.Reload true) = lit≤ tt
 few_fields (orders.Export path) = lit≤ tt
 few_fields orders.Users = lit≤ tt
 few_fields (orders.Count topic) = lit≤ tt
@@ -50,6 +51,11 @@ alone_fault-take : (texts : List (List ℕ)) → alone_fault (take 7 texts) ≡ 
 alone_fault-take [] = refl
 alone_fault-take (a ∷ texts) = refl
 
+reload_fault-take : (texts : List (List ℕ)) → reload_fault (take 7 texts) ≡ reload_fault texts
+reload_fault-take [] = refl
+reload_fault-take (a ∷ []) = refl
+reload_fault-take (a ∷ b ∷ texts) = refl
+
 over_fault-take : (texts : List (List ℕ)) → over_fault (take 7 texts) ≡ over_fault texts
 over_fault-take [] = refl
 over_fault-take (a ∷ []) = refl
@@ -71,7 +77,7 @@ turn_fault-take (word ∷ texts) = λ i.
 change_fault-take : (fs : List (List ℕ)) → change_fault (take 8 fs) ≡ change_fault fs
 unfolding change_fault
 change_fault-take [] = refl
-change_fault-take (word ∷ texts) = λ i. cond (bytes_eq word (codes "RELOAD")) (alone_fault-take texts i) (turn_fault-take (word ∷ texts) i)
+change_fault-take (word ∷ texts) = λ i. cond (bytes_eq word (codes "RELOAD")) (reload_fault-take texts i) (turn_fault-take (word ∷ texts) i)
 
 listing_fault-take : (fs : List (List ℕ)) → listing_fault (take 8 fs) ≡ listing_fault fs
 unfolding listing_fault
@@ -132,6 +138,13 @@ pub over_fault-other : {B : Type 0} (now : B → List ℕ) (texts : List B) (d :
 over_fault-other now [] d some one other = absurd (omega (arith, some))
 over_fault-other now (a ∷ b ∷ texts) d some one other = absurd (omega (arith, one))
 over_fault-other now (a ∷ []) d some one other = rw (differs (now a) (codes "OVER") other) refl
+
+-- one text that is not ALL has the fault of its fields
+pub reload_fault-other : {B : Type 0} (now : B → List ℕ) (texts : List B) (d : B) → 1 ≤ length texts → length texts < 2
+    → now (get_or texts 0 d) ≢ codes "ALL" → Some fault.Fields ≡ reload_fault (map now texts)
+reload_fault-other now [] d some one other = absurd (omega (arith, some))
+reload_fault-other now (a ∷ b ∷ texts) d some one other = absurd (omega (arith, one))
+reload_fault-other now (a ∷ []) d some one other = rw (differs (now a) (codes "ALL") other) refl
 
 -- an order that is not about several machines has the fault of its fields
 pub turn_fault-fields : {B : Type 0} (now : B → List ℕ) (fields : List B) (d : B) → 1 ≤ length fields → now (get_or fields 0 d) ≢ codes "TAKE"

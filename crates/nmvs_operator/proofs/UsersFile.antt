@@ -25,7 +25,7 @@ pub record Added (bytes rest : List ℕ) (number : ℕ) (before now : List Chang
   pub changes : Adds commands before now
 
 -- lines of commands, and more of them
-lines_more : (xs ys : List (List ℕ)) (commands more : List Command) → AreLinesOf xs commands → AreLinesOf ys more → AreLinesOf (xs ++ ys) (commands ++ more)
+pub lines_more : (xs ys : List (List ℕ)) (commands more : List Command) → AreLinesOf xs commands → AreLinesOf ys more → AreLinesOf (xs ++ ys) (commands ++ more)
 lines_more xs ys commands more h k = record {
   valid = All-append (λ c. IsTrue (is_command c)) commands more h.valid k.valid;
   these = filter-append says xs ys ∙ (λ i. h.these i ++ k.these i) ∙ sym (map-append command_line commands more);

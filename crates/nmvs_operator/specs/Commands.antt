@@ -12,7 +12,8 @@ use Rattle.nmvs_stream.specs.Sink.{Taken}
 use Rattle.nmvs_stream.specs.Delivery.{Delivers, DeliversPart}
 use Rattle.nmvs_operator.specs.Orders.{ReadsOrder, first_order_fault}
 use Rattle.nmvs_operator.specs.Figures.{figure_lines}
-use Rattle.nmvs_operator.specs.Roll.{user_lines}
+use Rattle.nmvs_operator.specs.Reload.{TakesLines}
+use Rattle.nmvs_operator.specs.Roll.{user_lines, changed_users, changed_line}
 use Rattle.nmvs_operator.specs.Users.{change_of, AddsAll, AddsFirst}
 use Rattle.nmvs_operator.specs.UsersFaults.{faults_from, fault_lines}
 use Rattle.nmvs_operator.specs.declared.faults.ObeyFault.{ObeyFault}
@@ -76,8 +77,8 @@ Performs does old orders.Stop fault new = does old deeds.Stop fault new
 Performs does old orders.TakeOver fault new = does old deeds.TakeOver fault new
 Performs does old orders.HandOver fault new = does old deeds.HandOver fault new
 Performs does old (orders.Trim blocks) fault new = does old (deeds.Trim blocks) fault new
-Performs does old orders.Reload None new = (bytes : List ℕ) × KeepsFile does old bytes None new
-Performs does old orders.Reload (Some fault) new = (new ≡ old) ⊎ ((bytes : List ℕ) × KeepsFile does old bytes (Some fault) new)
+Performs does old (orders.Reload all) None new = (bytes : List ℕ) × KeepsFile does old bytes None new
+Performs does old (orders.Reload all) (Some fault) new = (new ≡ old) ⊎ ((bytes : List ℕ) × KeepsFile does old bytes (Some fault) new)
 Performs does old orders.Users None new = new ≡ old
 Performs does old orders.Users (Some fault) new = ⊥
 Performs does old (orders.Count topic) None new = new ≡ old
@@ -91,14 +92,16 @@ pub record Publishes {S : Type 0} (old : Office S) (command : Command) (new : Of
   pub none_left : new.register.pending ≡ []
   pub told : new.latest ≡ Some new.register.published
 
--- the changes of a users file that the server keeps are published after all that were pending; the latest notice has all
--- that is published
-pub record Reloads {S : Type 0} (does : Does S) (old : Office S) (new : Office S) : Type 0 where
+-- the changes of those lines of a users file that take effect, which the server keeps, are published after all that were
+-- pending; the latest notice has all that is published
+pub record Reloads {S : Type 0} (does : Does S) (all : Bool) (old : Office S) (new : Office S) : Type 0 where
+  pub file : List ℕ
   pub bytes : List ℕ
+  pub takes : TakesLines all old.register.published file bytes
   pub kept : KeepsFile does old.service bytes None new.service
   pub added : List Change
   pub adds : AddsAll bytes old.register.pending added
-  pub all : new.register.published ≡ old.register.published ++ added
+  pub published : new.register.published ≡ old.register.published ++ added
   pub none_left : new.register.pending ≡ []
   pub told : new.latest ≡ Some new.register.published
 
@@ -109,7 +112,7 @@ UsersStay old new = (new.register ≡ old.register) × (new.latest ≡ old.lates
 -- the change of the users and of the latest notice by an order
 abbrev pub Changes : {S : Type 0} → Does S → Office S → Order → Office S → Type 0
 Changes does old (orders.Change command) new = Publishes old command new
-Changes does old orders.Reload new = Reloads does old new
+Changes does old (orders.Reload all) new = Reloads does all old new
 Changes does old (orders.Export path) new = UsersStay old new
 Changes does old orders.Users new = UsersStay old new
 Changes does old (orders.Count topic) new = UsersStay old new
@@ -141,11 +144,14 @@ pub record Lacks {S : Type 0} (does : Does S) (old : Office S) (line : List ℕ)
   pub pending : (new.register.pending ≡ old.register.pending) ⊎ (new.register.pending ≡ old.register.pending ++ change_of command ∷ [])
   pub latest : new.latest ≡ old.latest
 
--- memory was wanting for changes of a users file that the server keeps: nothing was published, and the changes of its
--- first lines are pending
+-- memory was wanting for the changes of those lines of a users file that take effect, which the server keeps: nothing was
+-- published, and the changes of the first of them are pending
 pub record LacksUsers {S : Type 0} (does : Does S) (old : Office S) (line : List ℕ) (new : Office S) : Type 0 where
-  pub read : ReadsOrder line (Ok orders.Reload)
+  pub all : Bool
+  pub read : ReadsOrder line (Ok (orders.Reload all))
+  pub file : List ℕ
   pub bytes : List ℕ
+  pub takes : TakesLines all old.register.published file bytes
   pub kept : KeepsFile does old.service bytes None new.service
   pub published : new.register.published ≡ old.register.published
   pub pending : AddsFirst bytes old.register.pending new.register.pending
@@ -154,7 +160,7 @@ pub record LacksUsers {S : Type 0} (does : Does S) (old : Office S) (line : List
 -- whether an order asks for lines that take memory
 abbrev pub asks_lines : Order → Bool
 asks_lines (orders.Change command) = false
-asks_lines orders.Reload = true
+asks_lines (orders.Reload all) = true
 asks_lines (orders.Export path) = false
 asks_lines orders.Users = true
 asks_lines (orders.Count topic) = true
@@ -177,7 +183,7 @@ abbrev pub Refuses : {S : Type 0} → Does S → Office S → List ℕ → ObeyF
 Refuses does old line (obey.Unread fault) new = (first_order_fault line ≡ Some fault) × (new ≡ old)
 Refuses does old line (obey.Undone fault) new = Fails does old line fault new
 Refuses does old line obey.Memory new = Lacks does old line new ⊎ (LacksUsers does old line new ⊎ LacksLines old line new)
-Refuses does old line obey.Users new = ReadsOrder line (Ok orders.Reload) × (new ≡ old)
+Refuses does old line obey.Users new = ((all : Bool) × ReadsOrder line (Ok (orders.Reload all))) × (new ≡ old)
 Refuses does old line obey.Unended new = ⊥
 
 -- an order ended so: as the order that was carried out, or by a fault
@@ -186,24 +192,25 @@ Ends does old line (Ok order) new = Obeys does old line order new
 Ends does old line (Err fault) new = Refuses does old line fault new
 
 -- the lines of the answer to an order, by its result: the published users, some of the figures that the server may count, the
--- faults of a users file, or none
-abbrev pub Lists : {S : Type 0} → Counts S → Office S → Result Order ObeyFault → List ℕ → Type 0
-Lists counts old (Ok orders.Users) lines = lines ≡ user_lines (users_of old.register.published)
-Lists counts old (Ok (orders.Count topic)) lines = (figures : List Figure) × counts old.service topic figures × (lines ≡ figure_lines figures)
-Lists counts old (Ok (orders.Change command)) lines = lines ≡ []
-Lists counts old (Ok orders.Reload) lines = lines ≡ []
-Lists counts old (Ok (orders.Export path)) lines = lines ≡ []
-Lists counts old (Ok orders.Stop) lines = lines ≡ []
-Lists counts old (Ok orders.TakeOver) lines = lines ≡ []
-Lists counts old (Ok orders.HandOver) lines = lines ≡ []
-Lists counts old (Ok (orders.Trim blocks)) lines = lines ≡ []
-Lists counts old (Ok orders.Help) lines = lines ≡ []
-Lists counts old (Err obey.Users) lines =
+-- number of users whom a reload changed, the faults of a users file, or none
+abbrev pub Lists : {S : Type 0} → Counts S → Office S → Result Order ObeyFault → List ℕ → Office S → Type 0
+Lists counts old (Ok orders.Users) lines new = lines ≡ user_lines (users_of old.register.published)
+Lists counts old (Ok (orders.Count topic)) lines new = (figures : List Figure) × counts old.service topic figures × (lines ≡ figure_lines figures)
+Lists counts old (Ok (orders.Change command)) lines new = lines ≡ []
+Lists counts old (Ok (orders.Reload all)) lines new =
+    lines ≡ changed_line (changed_users old.register.published new.register.published)
+Lists counts old (Ok (orders.Export path)) lines new = lines ≡ []
+Lists counts old (Ok orders.Stop) lines new = lines ≡ []
+Lists counts old (Ok orders.TakeOver) lines new = lines ≡ []
+Lists counts old (Ok orders.HandOver) lines new = lines ≡ []
+Lists counts old (Ok (orders.Trim blocks)) lines new = lines ≡ []
+Lists counts old (Ok orders.Help) lines new = lines ≡ []
+Lists counts old (Err obey.Users) lines new =
     (bytes : List ℕ) × (0 < length (faults_from 1 bytes)) × (lines ≡ fault_lines (faults_from 1 bytes))
-Lists counts old (Err (obey.Unread fault)) lines = lines ≡ []
-Lists counts old (Err (obey.Undone fault)) lines = lines ≡ []
-Lists counts old (Err obey.Memory) lines = lines ≡ []
-Lists counts old (Err obey.Unended) lines = lines ≡ []
+Lists counts old (Err (obey.Unread fault)) lines new = lines ≡ []
+Lists counts old (Err (obey.Undone fault)) lines new = lines ≡ []
+Lists counts old (Err obey.Memory) lines new = lines ≡ []
+Lists counts old (Err obey.Unended) lines new = lines ≡ []
 
 -- the answer to an order: the lines that it asked for, and how it ended
 pub record Said : Type 0 where
@@ -215,7 +222,7 @@ saying lines ends = record { lines = lines; ends = ends }
 
 -- an order ended so, and these are its lines
 abbrev pub AnswersOrder : {S : Type 0} → Ways S → Office S → List ℕ → Said → Office S → Type 0
-AnswersOrder ways old line said new = Ends ways.does old line said.ends new × Lists ways.counts old said.ends said.lines
+AnswersOrder ways old line said new = Ends ways.does old line said.ends new × Lists ways.counts old said.ends said.lines new
 
 -- orders are answered so, one by one in order
 abbrev pub AnswersOrders : {S : Type 0} → Ways S → Office S → List (List ℕ) → List Said → Office S → Type 0
@@ -249,7 +256,7 @@ service_word service.Untrimmed = codes "TRIM"
 
 -- the answer to HELP: the list of the orders, and its last line
 abbrev pub help_text : List ℕ
-help_text = codes "ENROL user role authorisation premises\nSUSPEND user\nREMOVE user\nRELOAD\nEXPORT file\nUSERS\nSTATS\nCONNECTIONS\nALERTS\nSTOP\nTAKE OVER\nHAND OVER\nTRIM blocks\nHELP\nDONE\n"
+help_text = codes "ENROL user role authorisation premises\nSUSPEND user\nREMOVE user\nRELOAD\nRELOAD ALL\nEXPORT file\nUSERS\nSTATS\nCONNECTIONS\nALERTS\nSTOP\nTAKE OVER\nHAND OVER\nTRIM blocks\nHELP\nDONE\n"
 
 -- the last line of the answer to an order; and to HELP the whole answer
 abbrev pub order_text : Result Order ObeyFault → List ℕ

@@ -4,6 +4,7 @@ pub mod Orders
 pub mod Figures
 pub mod Roll
 pub mod UsersFaults
+pub mod Reload
 pub mod Commands
 pub mod Progress
 pub mod Address

@@ -1,5 +1,5 @@
 -- The one line of each order of the operator, and the first fault of a line (own).
-use Rattle.std.specs.Prelude.{◌≡◌, ◌^◌, ◌&&◌, ℕ, Bool, true, nat_lt, List, [], ◌∷◌, codes, decimal, Option, Some, None, Result, Ok, Err, if◌then◌else◌, IsTrue}
+use Rattle.std.specs.Prelude.{◌≡◌, ◌^◌, ◌&&◌, ℕ, Bool, true, false, nat_lt, List, [], ◌∷◌, codes, decimal, Option, Some, None, Result, Ok, Err, if◌then◌else◌, IsTrue}
 use Rattle.std.specs.Str.{bytes_eq}
 use Rattle.std.specs.Str.Parse.{digits_value}
 use Rattle.nmvs_messages.specs.Commands.{command_fields, is_command, fields_fault}
@@ -17,10 +17,15 @@ topic_word Stats = codes "STATS"
 topic_word Connections = codes "CONNECTIONS"
 topic_word Alerts = codes "ALERTS"
 
+-- the fields of a reload, with ALL if it frees suspended users
+abbrev pub reload_fields : Bool → List (List ℕ)
+reload_fields false = codes "RELOAD" ∷ []
+reload_fields true = codes "RELOAD" ∷ codes "ALL" ∷ []
+
 -- the fields of an order
 abbrev pub order_fields : Order → List (List ℕ)
 order_fields (orders.Change command) = command_fields command
-order_fields orders.Reload = codes "RELOAD" ∷ []
+order_fields (orders.Reload all) = reload_fields all
 order_fields (orders.Export path) = codes "EXPORT" ∷ path.now ∷ []
 order_fields orders.Users = codes "USERS" ∷ []
 order_fields (orders.Count topic) = topic_word topic ∷ []
@@ -37,7 +42,7 @@ order_line o = line_of_fields (order_fields o)
 -- whether the texts of an order are in their grammars
 abbrev pub is_order : Order → Bool
 is_order (orders.Change command) = is_command command
-is_order orders.Reload = true
+is_order (orders.Reload all) = true
 is_order (orders.Export path) = true
 is_order orders.Users = true
 is_order (orders.Count topic) = true
@@ -56,6 +61,12 @@ export_fault _ = Some fault.Fields
 abbrev pub alone_fault : List (List ℕ) → Option CommandFault
 alone_fault [] = None
 alone_fault _ = Some fault.Fields
+
+-- the first fault of these texts after a word that ALL alone may follow
+abbrev pub reload_fault : List (List ℕ) → Option CommandFault
+reload_fault [] = None
+reload_fault (text ∷ []) = if bytes_eq text (codes "ALL") then None else Some fault.Fields
+reload_fault _ = Some fault.Fields
 
 -- the first fault of these texts after a word that OVER alone follows
 abbrev pub over_fault : List (List ℕ) → Option CommandFault
@@ -84,7 +95,7 @@ turn_fault (word ∷ texts) =
 unfoldable pub change_fault : List (List ℕ) → Option CommandFault
 change_fault [] = Some fault.Word
 change_fault (word ∷ texts) =
-    if bytes_eq word (codes "RELOAD") then alone_fault texts
+    if bytes_eq word (codes "RELOAD") then reload_fault texts
     else turn_fault (word ∷ texts)
 
 -- the first fault of these fields, of an order that asks for lines or changes the users

@@ -1,5 +1,5 @@
 //! The operator's orders, carried out.
-ghost use Rattle.std.specs.Prelude.{◌≡◌, ◌≢◌, ◌⊎◌, ◌<◌, ◌++◌, ◌∷◌, [], ℕ, List, length, OnOk, OnErr, IfOk, IfErr, IfSome, IfNone, MatchBool, MatchResult, Some, Ok, Err, codes, string_bytes};
+ghost use Rattle.std.specs.Prelude.{◌≡◌, ◌≢◌, ◌⊎◌, ◌<◌, ◌++◌, ◌∷◌, [], ℕ, Bool, List, length, OnOk, OnErr, IfOk, IfErr, IfSome, IfNone, MatchBool, MatchResult, Some, Ok, Err, codes, string_bytes};
 ghost use Rattle.std.specs.Result.{result_err};
 ghost use Rattle.nmvs_directory.specs.Changes.{pending_changes, KeepsEntered, IsFull};
 ghost use Rattle.nmvs_directory.specs.Registrar.{register_of, published, pending};
@@ -34,7 +34,7 @@ pub(crate) const DONE: &str = "DONE\n";
 
 /// The answer to `HELP`.
 const HELP: &str =
-    "ENROL user role authorisation premises\nSUSPEND user\nREMOVE user\nRELOAD\nEXPORT file\nUSERS\nSTATS\nCONNECTIONS\nALERTS\nSTOP\nTAKE OVER\nHAND OVER\nTRIM blocks\nHELP\nDONE\n";
+    "ENROL user role authorisation premises\nSUSPEND user\nREMOVE user\nRELOAD\nRELOAD ALL\nEXPORT file\nUSERS\nSTATS\nCONNECTIONS\nALERTS\nSTOP\nTAKE OVER\nHAND OVER\nTRIM blocks\nHELP\nDONE\n";
 
 /// Carries out the orders of a console one by one, as they come, and answers each. A change of the users is kept by the
 /// server first, then published at once, and its notice shown as the latest.
@@ -166,8 +166,8 @@ fn obey_line<'r, J: Naming, R: Wait, A: Allocator, W: Sink, S: Service>(
                 tell_made(listed_text(alloc, registrar), sink);
                 false
             }
-            Order::Reload => {
-                reload(alloc, sink, registrar, latest, service);
+            Order::Reload { all } => {
+                reload(alloc, all, sink, registrar, latest, service);
                 false
             }
             Order::Count(topic) => {
@@ -201,7 +201,7 @@ fn carry_out<'r, J: Naming, R: Wait, A: Allocator, S: Service>(
     latest: &mut Latest<'_, J, R>,
     service: &mut S,
 ) -> Result<(), ObeyFault>
-    requires other { order.now ≢ Order.Reload }
+    requires other { (all : Bool) → order.now ≢ Order.Reload all }
     ensures answers { (line : List ℕ) → ReadsOrder line (Ok order.now) → MatchResult result
         (λ _. Obeys S.does (office (register_of registrar.old) latest.old service.old) line order.now
         (office (register_of registrar.new) latest.new service.new))
@@ -228,7 +228,7 @@ fn carry_out<'r, J: Naming, R: Wait, A: Allocator, S: Service>(
 
 /// The server does what an order other than `RELOAD` asks of it.
 fn perform<S: Service>(order: &Order<'_>, service: &mut S) -> Result<(), ServiceFault>
-    requires other { order.now ≢ Order.Reload }
+    requires other { (all : Bool) → order.now ≢ Order.Reload all }
     ensures { Performs S.does service.old order.now (result_err result) service.new }
 {
     match order {
@@ -238,7 +238,7 @@ fn perform<S: Service>(order: &Order<'_>, service: &mut S) -> Result<(), Service
         Order::TakeOver => service.perform(&Deed::TakeOver),
         Order::HandOver => service.perform(&Deed::HandOver),
         Order::Trim(blocks) => service.perform(&Deed::Trim(*blocks)),
-        Order::Users | Order::Count(_) | Order::Reload | Order::Help => Ok(()),
+        Order::Users | Order::Count(_) | Order::Reload { .. } | Order::Help => Ok(()),
     }
 }
 

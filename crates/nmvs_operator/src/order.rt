@@ -2,7 +2,7 @@
 ghost use Rattle.std.specs.Prelude.{◌≡◌, [], ◌∷◌, map, IfOk, OnOk, IfSome, IsTrue, is_some, codes, decimal};
 ghost use Rattle.std.specs.Result.{result_err};
 ghost use Rattle.nmvs_messages.specs.Commands.{fields_fault};
-ghost use Rattle.nmvs_operator.specs.Orders.{ReadsOrder, order_fields, is_order, order_fault, listing_fault, change_fault, turn_fault, over_fault, trim_fault, is_number, alone_fault, export_fault};
+ghost use Rattle.nmvs_operator.specs.Orders.{ReadsOrder, order_fields, is_order, order_fault, listing_fault, change_fault, reload_fault, turn_fault, over_fault, trim_fault, is_number, alone_fault, export_fault};
 
 use crate::Topic;
 use itoa::Buffer;
@@ -13,8 +13,8 @@ use nmvs_messages::{Command, CommandFault, command_of, fields_of};
 pub enum Order<'l> {
     /// A change of the users.
     Change(Command),
-    /// The changes of the users file as it is now.
-    Reload,
+    /// The changes of the users file as it is now: with `all` also the enrolments of users who are suspended.
+    Reload { all: bool },
     /// The audit trail as it is now, written to the file of this path.
     Export(&'l str),
     /// The users that were published, and how they stand.
@@ -134,12 +134,26 @@ fn read_change<'l>(fields: &[&'l str]) -> Result<Order<'l>, CommandFault>
     match fields {
         [] => Err(CommandFault::Word),
         [word, texts @ ..] => match *word {
-            "RELOAD" => {
-                stands_alone(texts)?;
-                Ok(Order::Reload)
-            }
+            "RELOAD" => read_reload(texts),
             _ => read_turn(fields),
         },
+    }
+}
+
+/// The order to take the users file anew that has these texts after its word.
+fn read_reload<'l>(texts: &[&str]) -> Result<Order<'l>, CommandFault>
+    ensures fields { IfOk result (λ order.
+        order_fields order ≡ codes "RELOAD" ∷ map (λ t. t.now) texts.now) }
+    ensures valid { IfOk result (λ order. IsTrue (is_order order)) }
+    ensures fault { result_err result ≡ reload_fault (map (λ t. t.now) texts.now) }
+{
+    match texts {
+        [] => Ok(Order::Reload { all: false }),
+        [text] => match *text {
+            "ALL" => Ok(Order::Reload { all: true }),
+            _ => Err(CommandFault::Fields),
+        },
+        [_, _, ..] => Err(CommandFault::Fields),
     }
 }
 

@@ -1,9 +1,11 @@
 //! The users and their states, as lines and as numbers for the operator.
-ghost use Rattle.std.specs.Prelude.{◌≡◌, ◌≤◌, IfOk, cond, length, string_bytes};
+ghost use Rattle.std.specs.Prelude.{◌≡◌, ◌≤◌, ◌+◌, ◌∷◌, List, IfOk, cond, length, map, string_bytes};
+ghost use Rattle.nmvs_identifier.specs.Name.{Name as TheName};
+ghost use Rattle.nmvs_directory.specs.declared.standing.Standing.{Standing as TheStanding};
 ghost use Rattle.std.specs.List.{filter};
 ghost use Rattle.nmvs_directory.specs.Registrar.{published};
 ghost use Rattle.nmvs_directory.specs.Users.{users_of};
-ghost use Rattle.nmvs_operator.specs.Roll.{stands_enrolled, stands_suspended, is_enrolled, is_suspended, enrolled, suspended, user_line as line_of_user, user_lines};
+ghost use Rattle.nmvs_operator.specs.Roll.{stands_enrolled, stands_suspended, is_enrolled, is_suspended, enrolled, suspended, user_line as line_of_user, user_lines, changed_from, one_changed as count_one_changed};
 
 use nmvs_directory::{Naming, Registrar, Standing};
 use nmvs_identifier::Name;
@@ -58,6 +60,70 @@ fn count_one(standing: &Standing) -> UserCounts
         enrolled,
         suspended,
     }
+}
+
+/// The states of the published users, in the order in which they were first named.
+///
+/// # Errors
+///
+/// There is no memory for them.
+pub(crate) fn standings<J: Naming, R: Wait + Drop, A: Allocator>(
+    alloc: Global,
+    registrar: &Registrar<J, R, A>,
+) -> Result<Vec<Standing>, AllocError>
+    ensures { IfOk result (λ states. states.items ≡ map (λ user. user.1) (users_of (published registrar.now))) }
+{
+    let mut states = Vec::new(alloc);
+    for place in 0..registrar.user_count() {
+        match registrar.user(place) {
+            Some(user) => states.push(user.1)?,
+            None => {}
+        }
+    }
+    Ok(states)
+}
+
+/// Counts the published users whose state is another than before. A user whom nobody had named was as if removed.
+pub(crate) fn count_changed<J: Naming, R: Wait + Drop, A: Allocator>(
+    before: &[Standing],
+    registrar: &Registrar<J, R, A>,
+) -> u64
+    ensures { result ≡ changed_from before.now (users_of (published registrar.now)) }
+{
+    let mut changed = 0;
+    let mut rest = before;
+    for place in 0..registrar.user_count() {
+        match registrar.user(place) {
+            Some(user) => {
+                let (one, behind) = next_changed(rest, &user);
+                changed += one;
+                rest = behind;
+            }
+            None => {}
+        }
+    }
+    changed
+}
+
+/// 1 if the user has another state than the first of these, or than a removed user if there is none, else 0; and the other
+/// states.
+fn next_changed<'s>(before: &'s [Standing], user: &(Name, Standing)) -> (u64, &'s [Standing])
+    ensures count { (users : List (TheName × TheStanding)) → changed_from before.now (user.now ∷ users)
+        ≡ result.0 + changed_from result.1.now users }
+    ensures few { result.0 ≤ 1 }
+{
+    match before.split_first() {
+        None => (one_changed(&Standing::Removed, &user.1), before),
+        Some((first, behind)) => (one_changed(first, &user.1), behind),
+    }
+}
+
+/// 1 if the states differ, else 0.
+fn one_changed(before: &Standing, now: &Standing) -> u64
+    ensures count { result ≡ count_one_changed before.now now.now }
+    ensures few { result ≤ 1 }
+{
+    if *before == *now { 0 } else { 1 }
 }
 
 /// The lines of the published users, one for each that is not removed, in the order in which they were first named.

@@ -17,7 +17,7 @@ use thiserror::Error;
 pub enum Deed<'l> {
     /// To keep a change of the users beyond its own end.
     Keep(Command),
-    /// To keep the changes of a users file, which has these bytes, in the same way.
+    /// To keep the changes of these lines of a users file in the same way.
     KeepFile(&'l [u8]),
     /// To write the audit trail as it is now to the file of this path.
     Export(&'l str),

@@ -1,13 +1,15 @@
 -- The steps of the program's desk.
-use Rattle.std.proofs.Common.{◌≡◌, ◌≢◌, ◌<◌, ◌+◌, ◌⊎◌, ◌∙◌, ◌++◌, ◌∷◌, ℕ, ℤ, Bool, true, List, [], Option, Some, None, IfSome, length, refl, sym, ap, subst, inl, inr, arith, length-append}
+use Rattle.std.proofs.Common.{◌≡◌, ◌≢◌, ◌<◌, ◌+◌, ◌⊎◌, ◌∙◌, ◌++◌, ◌∷◌, ℕ, ℤ, Bool, true, false, cond, List, [], Option, Some, None, IfSome, length, refl, sym, ap, subst, inl, inr, arith, length-append}
 use Rattle.std.proofs.lemmas.Bool.Decides.{eqb_tells}
 use mathlib.Core.List.{IsPrefix}
 use Rattle.nmvs_history.proofs.Beginnings.{prefix_self, prefix_trans, prefix_length}
 use Rattle.nmvs_identifier.specs.Name.{Name}
 use Rattle.nmvs_identifier.specs.Tag.{Tag}
+use Rattle.nmvs_identifier.specs.Texts.{same_text}
 use Rattle.nmvs_directory.specs.Window.{Reads}
 use Rattle.nmvs_directory.specs.declared.change.Change.{Change}
 use Rattle.nmvs_directory.specs.declared.look.Look.{Look}
+use Rattle.nmvs_directory.specs.declared.look.Look.TheVariants as looks
 use Rattle.nmvs_rules.specs.declared.actor.Actor.{Actor}
 use Rattle.nmvs_rules.specs.declared.entry.Entry.{Entry}
 use Rattle.nmvs_rules.specs.declared.printed.Printed.{Printed}
@@ -26,9 +28,11 @@ use Rattle.nmvs_messages.specs.declared.answer.Content.{Content}
 use Rattle.nmvs_messages.specs.declared.answer.Turn.{Turn}
 use Rattle.nmvs_messages.specs.declared.answer.Turn.TheVariants as turns
 use Rattle.nmvs_messages.specs.declared.peer.Peer.{Peer}
+use Rattle.nmvs_messages.specs.declared.peer.Peer.TheVariants as peers
+use Rattle.nmvs_messages.specs.Asks.{user_of}
 use Rattle.nmvs_messages.specs.declared.withheld.Basis.{Basis}
 use Rattle.nmvs_journal.specs.Told.{IsWithin, ReachView}
-use Rattle.nmvs_reception.specs.Desk.{DeskView, Admits, AnswersAdmitted, IsMoment, Knows, LetsGo, LooksUp, Refuses, Replies, RestsOnAll, Says, SeesShard, Serves}
+use Rattle.nmvs_reception.specs.Desk.{DeskView, Admits, AnswersAdmitted, IsMoment, Knows, LetsGo, LooksUp, Refuses, Replies, RestsOnAll, Says, SeesShard, Serves, suspended_turn}
 
 -- the clock gave a moment, the clerk learned the notice, and the directory said this of the user
 pub looks_up : (notice : List Change) (old : DeskView) (user : Name) (look : Look) (told new : ClerkView) (times : ℕ) (gave : ℤ) → times ≡ old.asked + 1 → IsMoment gave
@@ -47,6 +51,24 @@ pub over_rate : (notice : List Change) (old : DeskView) (from : Peer) (ask : Ask
 over_rate notice old from ask turn actor new rated (inl is) knows = subst (λ t. Refuses notice old from ask t new) (sym is) (rated, actor, knows)
 over_rate notice old from ask turn actor new rated (inr is) knows = subst (λ t. Refuses notice old from ask t new) (sym is) (rated, actor, knows)
 
+-- a line that names a suspended user is turned away as such, or as one of nobody
+two_turns : (from : Peer) (user : Name) → (suspended_turn from user ≡ turns.Suspended) ⊎ (suspended_turn from user ≡ turns.Nobody)
+two_turns peers.Anyone user = inl refl
+two_turns (peers.User own) user =
+    elim (same_text user own) as (λ b. (cond b turns.Suspended turns.Nobody ≡ turns.Suspended) ⊎ (cond b turns.Suspended turns.Nobody ≡ turns.Nobody)) [
+      | true ↦ inl refl
+      | false ↦ inr refl
+    ]
+two_turns (peers.Authorisation own) user = inr refl
+
+pub refuses_suspended : (notice : List Change) (old : DeskView) (from : Peer) (ask : Ask) (turn : Turn) (new : DeskView) → LooksUp notice old (user_of ask) looks.Suspended new
+    → suspended_turn from (user_of ask) ≡ turn → Refuses notice old from ask turn new
+refuses_suspended notice old from ask turn new found is =
+    elim (two_turns from (user_of ask)) [
+      | inl known ↦ subst (λ t. Refuses notice old from ask t new) (sym known ∙ is) (found, known)
+      | inr nobody ↦ subst (λ t. Refuses notice old from ask t new) (sym nobody ∙ is) (inr (inr (found, nobody)))
+    ]
+
 -- the trails that the clerk has seen stay as the user is looked up
 looked : (notice : List Change) (old : DeskView) (user : Name) (look : Look) (new : DeskView) → LooksUp notice old user look new → new.clerk.sights ≡ old.clerk.sights
 looked notice old user look new is = ap (λ (d : DeskView). d.clerk.sights) is.same ∙ ap (λ (d : DeskView). d.clerk.sights) is.is.same
@@ -55,8 +77,9 @@ looked notice old user look new is = ap (λ (d : DeskView). d.clerk.sights) is.s
 refused : (notice : List Change) (old : DeskView) (from : Peer) (ask : Ask) (turn : Turn) (new : DeskView) → Refuses notice old from ask turn new → new.clerk.sights ≡ old.clerk.sights
 refused notice old from ask turns.Clock new is = ap (λ (d : DeskView). d.clerk.sights) is.same
 refused notice old from ask turns.Nobody new (inl is) = looked _ _ _ _ _ is
-refused notice old from ask turns.Nobody new (inr is) = looked _ _ _ _ _ is.1.looks
-refused notice old from ask turns.Suspended new is = looked _ _ _ _ _ is
+refused notice old from ask turns.Nobody new (inr (inl is)) = looked _ _ _ _ _ is.1.looks
+refused notice old from ask turns.Nobody new (inr (inr is)) = looked _ _ _ _ _ is.0
+refused notice old from ask turns.Suspended new is = looked _ _ _ _ _ is.0
 refused notice old from ask turns.Closed new is = looked _ _ _ _ _ is
 refused notice old from ask turns.Rate new is = looked _ _ _ _ _ is.2.looks
 refused notice old from ask turns.Memory new is = looked _ _ _ _ _ is.2.looks

@@ -1,10 +1,11 @@
 -- The program's desk: the lines that it admits, the answers that it may give, and the entries that it then records (own).
-use Rattle.std.specs.Prelude.{◌≡◌, ◌≢◌, ◌+◌, ◌⊎◌, ℕ, ℤ, pos, ◌≤ℤ◌, Bool, true, false, List, [], Option, Some, None, length}
+use Rattle.std.specs.Prelude.{◌≡◌, ◌≢◌, ◌+◌, ◌⊎◌, ℕ, ℤ, pos, ◌≤ℤ◌, Bool, true, false, if◌then◌else◌, List, [], Option, Some, None, length}
 use mathlib.Core.List.{IsPrefix}
 use Rattle.nmvs_identifier.specs.Moment.{last_moment}
 use Rattle.nmvs_identifier.specs.Name.{Name}
 use Rattle.nmvs_identifier.specs.ProductCode.{ProductCode}
 use Rattle.nmvs_identifier.specs.Tag.{Tag}
+use Rattle.nmvs_identifier.specs.Texts.{same_text}
 use Rattle.nmvs_directory.specs.Window.{Reads}
 use Rattle.nmvs_line.specs.Export.{export_text}
 use Rattle.nmvs_directory.specs.declared.change.Change.{Change}
@@ -33,6 +34,7 @@ use Rattle.nmvs_messages.specs.declared.answer.Content.TheVariants as contents
 use Rattle.nmvs_messages.specs.declared.answer.Turn.{Turn}
 use Rattle.nmvs_messages.specs.declared.answer.Turn.TheVariants as turns
 use Rattle.nmvs_messages.specs.declared.peer.Peer.{Peer}
+use Rattle.nmvs_messages.specs.declared.peer.Peer.TheVariants as peers
 use Rattle.nmvs_messages.specs.declared.withheld.Basis.{Basis}
 use Rattle.nmvs_messages.specs.declared.withheld.Withheld.{Withheld}
 use Rattle.nmvs_messages.specs.Tags.{tag_text}
@@ -79,6 +81,17 @@ pub record Knows (notice : List Change) (old : DeskView) (from : Peer) (ask : As
   pub looks : LooksUp notice old (user_of ask) (looks.Known actor) new
   pub speaks : speaks_for from (user_of ask) actor.authorisation ≡ may
 
+-- the reason to turn away a line of a peer that names a suspended user: the suspension, unless the peer is a certificate that
+-- may be another's; one that names an authorisation may be, since the directory tells none of a suspended user
+abbrev pub suspended_turn : Peer → Name → Turn
+suspended_turn peers.Anyone user = turns.Suspended
+suspended_turn (peers.User own) user = if same_text user own then turns.Suspended else turns.Nobody
+suspended_turn (peers.Authorisation own) user = turns.Nobody
+
+-- the directory says that the user of the line is suspended, and this is the reason for the peer
+abbrev pub FindsSuspended : List Change → DeskView → Peer → Ask → Turn → DeskView → Type 0
+FindsSuspended notice old from ask turn new = LooksUp notice old (user_of ask) looks.Suspended new × (suspended_turn from (user_of ask) ≡ turn)
+
 -- whether a line asks for a report
 abbrev pub is_report : Asked → Bool
 is_report (asked.Report user code) = true
@@ -96,13 +109,15 @@ pub record Admits (notice : List Change) (old : DeskView) (from : Peer) (ask : A
   pub at : pos moment ≡ new.gave
   pub may : may_ask_this ask.asked actor.role ≡ true
 
--- the reason to turn a line away, the first that holds: the clock gives no moment; the directory does not know the user, or not
--- now, or cannot be entered; the peer may not speak for the user; the user's lines are over the rate, or there is no memory to
--- count them; the role gets no report
+-- the reason to turn a line away, the first that holds: the clock gives no moment; the directory does not know the user, or
+-- cannot be entered; the peer may not speak for the user; the user is suspended; the user's lines are over the rate, or there is
+-- no memory to count them; the role gets no report
 abbrev pub Refuses : List Change → DeskView → Peer → Ask → Turn → DeskView → Type 0
 Refuses notice old from ask turns.Clock new = StopsAtClock old new
-Refuses notice old from ask turns.Nobody new = LooksUp notice old (user_of ask) looks.Nobody new ⊎ ((actor : Actor) × Knows notice old from ask false actor new)
-Refuses notice old from ask turns.Suspended new = LooksUp notice old (user_of ask) looks.Suspended new
+Refuses notice old from ask turns.Nobody new =
+    LooksUp notice old (user_of ask) looks.Nobody new
+    ⊎ (((actor : Actor) × Knows notice old from ask false actor new) ⊎ FindsSuspended notice old from ask turns.Nobody new)
+Refuses notice old from ask turns.Suspended new = FindsSuspended notice old from ask turns.Suspended new
 Refuses notice old from ask turns.Closed new = LooksUp notice old (user_of ask) looks.Closed new
 Refuses notice old from ask turns.Rate new = (old.rated ≡ true) × (actor : Actor) × Knows notice old from ask true actor new
 Refuses notice old from ask turns.Memory new = (old.rated ≡ true) × (actor : Actor) × Knows notice old from ask true actor new

@@ -7,7 +7,7 @@ ghost use Rattle.nmvs_messages.specs.Tags.{tag_text};
 ghost use Rattle.nmvs_reports.specs.Report.{record_lines};
 ghost use Rattle.nmvs_messages.specs.Withheld.{content_shown, entries_left, text_left};
 ghost use Rattle.nmvs_rules.specs.declared.entry.Entry.{Entry as TheEntry};
-ghost use Rattle.nmvs_reception.specs.Desk.{may_ask_this, RestsOnAll, Says};
+ghost use Rattle.nmvs_reception.specs.Desk.{may_ask_this, suspended_turn as turn_of_suspended, RestsOnAll, Says};
 ghost use Rattle.nmvs_line.specs.Export.{export_text};
 ghost use Rattle.nmvs_reports.specs.Following.{following_text};
 
@@ -127,8 +127,8 @@ impl<'r, 'a, R: Wait + rt::Clock + Log, J: Naming, H: Histories, K: Clock> Clerk
     }
 
     /// Admits a line, or gives the reason to turn it away. The reasons come in this order. The clock gives no moment. The
-    /// directory does not know the user, who is looked up once, after the clerk has learnt the latest notice. The peer may not
-    /// speak for the user. The line is over the user's rate, or there is no memory to count it; this waits for the limiter's
+    /// directory does not know the user, who is looked up once, after the clerk has learnt the latest notice, or cannot be read.
+    /// The peer may not speak for the user. The user is suspended. The line is over the user's rate, or there is no memory to count it; this waits for the limiter's
     /// lock. The user's role gets no report.
     fn admit(&mut self, notice: &Notice<J>, from: &Peer, ask: &Ask) -> Result<(Moment, Actor), Turn>
         ensures admits { IfOk result (λ r. Admits notice.now self.old from.now ask.now r.0 r.1 self.new) }
@@ -142,7 +142,7 @@ impl<'r, 'a, R: Wait + rt::Clock + Log, J: Naming, H: Histories, K: Clock> Clerk
         let actor = match self.clerk.look(user) {
             Look::Known(actor) => actor,
             Look::Nobody => return Err(Turn::Nobody),
-            Look::Suspended => return Err(Turn::Suspended),
+            Look::Suspended => return Err(suspended_turn(from, user)),
             Look::Closed => return Err(Turn::Closed),
         };
         if !from.speaks_for(user, &actor.authorisation) {
@@ -283,6 +283,24 @@ impl<'r, 'a, R: Wait + rt::Clock + Log, J: Naming, H: Histories, K: Clock> Clerk
         note_confirmed(&self.metrics, &counts);
         self.metrics.note_release();
         released
+    }
+}
+
+/// The turn for a line of this peer that names a user who is suspended: to a certificate of another name the user is nobody. So
+/// it is to each certificate that names an authorisation, since the directory tells none of a suspended user.
+fn suspended_turn(from: &Peer, user: &Name) -> Turn
+    ensures { result ≡ turn_of_suspended from.now user.now }
+{
+    match from {
+        Peer::Anyone => Turn::Suspended,
+        Peer::User(own) => {
+            if user == own {
+                Turn::Suspended
+            } else {
+                Turn::Nobody
+            }
+        }
+        Peer::Authorisation(_) => Turn::Nobody,
     }
 }
 

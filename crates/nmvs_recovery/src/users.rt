@@ -150,12 +150,12 @@ fn tell_differing<'r, J: Naming, H: Host>(
 
 /// Logs that a kept command changed this user after the users file.
 fn tell_winning<R: Log>(rt: &R, user: &str) {
-    warn!(rt; user; "a kept command wins over the users file until RELOAD");
+    warn!(rt; user; "a kept command wins over the users file until RELOAD, a suspension until RELOAD ALL");
 }
 
 /// Logs that kept commands changed this number of users after the users file.
 fn tell_many_winning<R: Log>(rt: &R, users: usize) {
-    warn!(rt; users; "kept commands win over the users file until RELOAD");
+    warn!(rt; users; "kept commands win over the users file until RELOAD, suspensions until RELOAD ALL");
 }
 
 /// Publishes the users of the rehearsal.

@@ -23,7 +23,7 @@ pub(crate) fn serve_in_cluster<'r, 'o, R: Host + Sync, T: Sides>(
 {
     // The program runs a dialer for each server among several machines.
     let Some(dialer) = beside.dialer else {
-        return Outcome::of(Fault::Memory);
+        return Outcome::of(Fault::Impossible("no dialer"));
     };
     match follow(&run, dialer, metrics, console, beside.interrupt) {
         Ok(Some((followed, turn))) => {
@@ -57,8 +57,9 @@ fn follow<'r, 'o, R: Host + Sync, T: Sides>(
     if run.rt.fill_bytes(&mut drawn).is_err() {
         return Err(Fault::Random);
     }
+    // The options have both with each engine.
     let (Some(member), Some(folder)) = (Member::of(run.options, drawn), &run.options.journal) else {
-        return Err(Fault::Memory);
+        return Err(Fault::Impossible("an engine without its options"));
     };
     let means = Means {
         member,

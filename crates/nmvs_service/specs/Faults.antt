@@ -26,6 +26,7 @@ fault_text (faults.CannotListenAt path) = codes "cannot listen at " ++ path.now
 fault_text faults.LostClerk = codes "a clerk was lost"
 fault_text faults.Random = codes "no random bytes"
 fault_text faults.Memory = codes "out of memory"
+fault_text (faults.Impossible state) = codes "impossible: " ++ state.now
 fault_text faults.SessionRead = codes "session read fault"
 fault_text faults.SessionWrite = codes "session write fault"
 fault_text faults.SessionLimit = codes "session limit"

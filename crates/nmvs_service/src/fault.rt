@@ -27,6 +27,8 @@ pub enum Fault<'a> {
     Random,
     /// Memory or a thread was refused.
     Memory,
+    /// A state that the program does not come to, by this name. No contract excludes it.
+    Impossible(&'static str),
     /// A read of the session over standard input failed.
     SessionRead,
     /// A write of the session over standard output failed.
@@ -48,6 +50,7 @@ impl<'a> fmt::Display for Fault<'a> {
             Fault::LostClerk => f.write_str("a clerk was lost"),
             Fault::Random => f.write_str("no random bytes"),
             Fault::Memory => f.write_str("out of memory"),
+            Fault::Impossible(state) => write!(f, "impossible: {state}"),
             Fault::SessionRead => f.write_str("session read fault"),
             Fault::SessionWrite => f.write_str("session write fault"),
             Fault::SessionLimit => f.write_str("session limit"),

@@ -16,4 +16,4 @@ mod users;
 #[cfg(test)]
 mod values;
 
-pub use rows::{Example, NEW_YEAR, ROWS};
+pub use rows::{EVENTS, Example, HANDOVERS, NEW_YEAR, OPERATIONS, RECALLS, VERIFICATIONS};

@@ -1,7 +1,7 @@
 //! The rows through the rehearsal, as lines and their replies.
 ghost use Rattle.std.specs.Prelude.{◌<◌, length};
 
-use crate::rows::{Example, NEW_YEAR, ROWS};
+use crate::rows::{EVENTS, Example, HANDOVERS, NEW_YEAR, OPERATIONS, RECALLS, VERIFICATIONS};
 use nmvs_identifier::Moment;
 use nmvs_messages::End;
 use nmvs_rehearsal::rehearse;
@@ -66,7 +66,11 @@ fn answer_all(rt: &impl Abort, alloc: Global, rows: &[Example]) {
 
 #[test]
 fn rows_get_their_replies(rt: HostRuntime) {
-    answer_all(&rt, rt.alloc(), ROWS);
+    answer_all(&rt, rt.alloc(), VERIFICATIONS);
+    answer_all(&rt, rt.alloc(), OPERATIONS);
+    answer_all(&rt, rt.alloc(), RECALLS);
+    answer_all(&rt, rt.alloc(), EVENTS);
+    answer_all(&rt, rt.alloc(), HANDOVERS);
 }
 
 #[test]

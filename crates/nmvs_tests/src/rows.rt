@@ -13,7 +13,8 @@ pub struct Example {
     pub lines: &'static [(&'static str, &'static str)],
 }
 
-pub const ROWS: &[Example] = &[
+/// What a verification says.
+pub const VERIFICATIONS: &[Example] = &[
     Example {
         shows: "a pack is uploaded and verified",
         moments: &[NEW_YEAR],
@@ -51,6 +52,10 @@ pub const ROWS: &[Example] = &[
             ),
         ],
     },
+];
+
+/// Uploads, supplies and reversions.
+pub const OPERATIONS: &[Example] = &[
     Example {
         shows: "an upload is refused to other holders and other roles",
         moments: &[NEW_YEAR],
@@ -114,6 +119,10 @@ pub const ROWS: &[Example] = &[
             ("ph1 REVERT 09506000134352 SN8", "REVERTED"),
         ],
     },
+];
+
+/// Recalls, and the reports of product codes.
+pub const RECALLS: &[Example] = &[
     Example {
         shows: "a recall binds a held pack",
         moments: &[NEW_YEAR],
@@ -182,6 +191,10 @@ pub const ROWS: &[Example] = &[
             "PRODUCT 04012345678901 HOLDER - ALERTS 0 FLAGGED 0\nEND",
         )],
     },
+];
+
+/// Thefts, clocks, limits and audits.
+pub const EVENTS: &[Example] = &[
     Example {
         shows: "a destroyed pack can be reported stolen",
         moments: &[NEW_YEAR],
@@ -264,6 +277,10 @@ pub const ROWS: &[Example] = &[
             ("au1 AUDIT 09506000134352 SN9", "SHOWN 0"),
         ],
     },
+];
+
+/// Spelling, samples and handovers.
+pub const HANDOVERS: &[Example] = &[
     Example {
         shows: "a line that is not spelt exactly is no question",
         moments: &[NEW_YEAR],

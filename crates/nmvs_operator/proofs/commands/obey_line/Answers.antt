@@ -34,7 +34,7 @@ returns-in-Count g c =
 pub returns-in-Err-carry_out : goal.returns-in-Err-carry_out
 returns-in-Err-carry_out g c = (
   saying [] (Err c.in-Err-carry_out.fault),
-  (c.in-Err-carry_out.ensures.answers c.args.line.now c.in-Ok.ensures, no_fault_lines g.S.Service.counts (office (register_of c.args.registrar.now) c.args.latest.now c.args.service.now) c.in-Err-carry_out.fault c.in-Err-carry_out.ensures.listed),
+  (c.in-Err-carry_out.ensures.answers c.args.line.now c.in-Ok.ensures, no_fault_lines g.S.Service.counts (office (register_of c.args.registrar.now) c.args.latest.now c.args.service.now) (office (register_of c.carry_out.new.registrar) c.carry_out.new.latest c.carry_out.new.service) c.in-Err-carry_out.fault c.in-Err-carry_out.ensures.listed),
   tells c.fault_text-in-Err-carry_out.ensures c.tell-in-Err-carry_out.ensures,
   refl,
 )
@@ -42,7 +42,7 @@ returns-in-Err-carry_out g c = (
 pub returns-in-Stop : goal.returns-in-Stop
 returns-in-Stop g c = (
   saying [] (Ok c.in-Ok.order),
-  (c.in-Ok-carry_out.ensures.answers c.args.line.now c.in-Ok.ensures, no_lines g.S.Service.counts (office (register_of c.args.registrar.now) c.args.latest.now c.args.service.now) c.in-Ok.order (search rules) (search rules)),
+  (c.in-Ok-carry_out.ensures.answers c.args.line.now c.in-Ok.ensures, no_lines g.S.Service.counts (office (register_of c.args.registrar.now) c.args.latest.now c.args.service.now) (office (register_of c.carry_out.new.registrar) c.carry_out.new.latest c.carry_out.new.service) c.in-Ok.order (search rules) (search rules) (search rules)),
   tells c.done_text.ensures c.tell-in-Ok-carry_out.ensures,
   search rules,
 )
@@ -50,7 +50,7 @@ returns-in-Stop g c = (
 pub returns-in_default-matches : goal.returns-in_default-matches
 returns-in_default-matches g c = (
   saying [] (Ok c.in-Ok.order),
-  (c.in-Ok-carry_out.ensures.answers c.args.line.now c.in-Ok.ensures, no_lines g.S.Service.counts (office (register_of c.args.registrar.now) c.args.latest.now c.args.service.now) c.in-Ok.order (search rules) (search rules)),
+  (c.in-Ok-carry_out.ensures.answers c.args.line.now c.in-Ok.ensures, no_lines g.S.Service.counts (office (register_of c.args.registrar.now) c.args.latest.now c.args.service.now) (office (register_of c.carry_out.new.registrar) c.carry_out.new.latest c.carry_out.new.service) c.in-Ok.order (search rules) (search rules) (search rules)),
   tells c.done_text.ensures c.tell-in-Ok-carry_out.ensures,
   sym (not_stop c.in-Ok.order (search rules)),
 )

@@ -8,7 +8,7 @@ use Rattle.nmvs_operator.proofs.reload.reload.Goals as goal
 pub returns-in-Err : goal.returns-in-Err
 returns-in-Err g c line read = (
   saying [] (Err (obey.Undone c.in-Err.fault)),
-  (record { order = orders.Reload; read = read; performs = inl refl; stays = (refl, refl) }, refl),
+  (record { order = orders.Reload c.args.all; read = read; performs = inl refl; stays = (refl, refl) }, refl),
   tells c.fault_text.ensures c.tell.ensures,
   refl,
 )
