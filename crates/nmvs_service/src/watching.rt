@@ -37,7 +37,7 @@ impl Watch {
     /// Ends the watch.
     pub(crate) fn end<R: Wait>(&self, rt: &R) {
         *self.is_over.lock(rt) = true;
-        self.ended.notify_one();
+        self.ended.notify_all();
     }
 
     /// Whether the file went away.
