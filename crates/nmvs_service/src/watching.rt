@@ -37,7 +37,7 @@ impl Watch {
     /// Ends the watch.
     pub(crate) fn end<R: Wait>(&self, rt: &R) {
         *self.is_over.lock(rt) = true;
-        self.ended.notify_one();
+        self.ended.notify_all();
     }
 
     /// Whether the file went away.
@@ -76,8 +76,13 @@ impl Watch {
         unreachable!()
     }
 
+    /// Whether the watch is over.
+    pub(crate) fn is_over<R: Wait>(&self, rt: &R) -> bool {
+        *self.is_over.lock(rt)
+    }
+
     /// Waits for a while. It returns whether the watch is over.
-    fn pauses<R: Wait + Clock>(&self, rt: &R) -> bool {
+    pub(crate) fn pauses<R: Wait + Clock>(&self, rt: &R) -> bool {
         let is_over = self.is_over.lock(rt);
         if *is_over {
             return true;
