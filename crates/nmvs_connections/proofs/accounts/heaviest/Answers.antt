@@ -1,6 +1,11 @@
-use Rattle.std.proofs.Common.{◌≡◌, []}
-use Rattle.nmvs_connections.proofs.AccountSteps.{counted_new_by, counted_still_by, heaviest_last}
+use Rattle.std.proofs.Common.{◌≡◌, ◌∙◌, [], refl}
+use Rattle.nmvs_connections.proofs.AccountSteps.{counted_first, counted_new_by, counted_still_by, heaviest_last}
 use Rattle.nmvs_connections.proofs.accounts.heaviest.Goals as goal
+
+pub loop-key-init : goal.loop-key-init
+loop-key-init g c =
+    let left = c.into_iter-key-iterator.ensures.into_iter_gives ∙ c.iter-key-items.ensures.rest in
+    (tt, tt, rw left (counted_first c.args.connections.now c.new-counts.result (λ name. rw c.new-counts.ensures.empty refl)))
 
 pub loop-key-preserved-then-count-most : goal.loop-key-preserved-then-count-most
 loop-key-preserved-then-count-most g c =
