@@ -1,0 +1,5 @@
+mod Gives
+mod IdentifiersExample
+mod RatesExample
+mod RulesExample
+mod WordsExample
