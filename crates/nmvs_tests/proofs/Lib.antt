@@ -2,4 +2,5 @@ mod Gives
 mod IdentifiersExample
 mod RatesExample
 mod RulesExample
+mod TrailExample
 mod WordsExample
