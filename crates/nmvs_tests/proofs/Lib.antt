@@ -1,5 +1,7 @@
+mod CommandsExample
 mod Gives
 mod IdentifiersExample
+mod LinesExample
 mod RatesExample
 mod RulesExample
 mod TrailExample
