@@ -3,6 +3,7 @@ mod Gives
 mod IdentifiersExample
 mod LinesExample
 mod RatesExample
+mod RecordExample
 mod RulesExample
 mod TrailExample
 mod WordsExample
