@@ -2,8 +2,10 @@ mod CommandsExample
 mod Gives
 mod IdentifiersExample
 mod LinesExample
+mod QuestionsExample
 mod RatesExample
 mod RecordExample
+mod ReplyJsonExample
 mod RulesExample
 mod TrailExample
 mod WordsExample
