@@ -1,4 +1,5 @@
 mod CommandsExample
+mod EtcdExample
 mod Gives
 mod IdentifiersExample
 mod LinesExample
