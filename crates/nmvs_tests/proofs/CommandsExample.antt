@@ -17,7 +17,7 @@ abbrev text : List ℕ → Text
 text t = record { bytes = t }
 
 -- each command has one line, and is read back from it
-enrolment : Command
+abbrev enrolment : Command
 enrolment = Enrol (text (codes "ph9")) (record { role = role.Pharmacy; authorisation = text (codes "PH-9"); premises = text (codes "P9") })
 
 lines : Gives command_line (
@@ -25,11 +25,9 @@ lines : Gives command_line (
     ∷ (Suspend (text (codes "ph9")), codes "SUSPEND ph9")
     ∷ (Remove (text (codes "ph9")), codes "REMOVE ph9")
     ∷ [])
-unfolding enrolment
 lines = refl
 
 names : is_command enrolment ≡ true
-unfolding enrolment
 names = refl
 
 faults : Gives first_command_fault (

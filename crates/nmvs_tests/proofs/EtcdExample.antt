@@ -87,9 +87,6 @@ owner_on machine = owner_name machine (range_with_len 0 16)
 abbrev cut : List ℕ → List ℕ
 cut body = take (length body - 1) body
 
-abbrev unknown : {A : Type 0} → List A → List Outcome
-unknown answers = map (λ _. Unknown) answers
-
 -- the first block, with one line
 abbrev block : List ℕ → List ℕ → Block
 block machine line = record { owner = lent (owner_on machine); before = 0; first = 0; count = 1; lines = lent line }

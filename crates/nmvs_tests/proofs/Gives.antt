@@ -1,4 +1,4 @@
--- A table of inputs, each with the value that a definition gives for it.
+-- Tables of examples: inputs, each with the value that a definition gives for it.
 use Rattle.std.specs.Prelude.{List, map, ◌≡◌}
 
 -- the function gives for the left side of each row its right side

@@ -1,12 +1,11 @@
 -- The reading and writing of lines, and the texts of answers.
-use Rattle.std.proofs.Common.{◌≡◌, ℕ, true, false, List, [], ◌∷◌, ◌++◌, Option, Some, None, refl}
+use Rattle.std.proofs.Common.{◌≡◌, ℕ, true, false, List, [], ◌∷◌, ◌++◌, Some, None, refl}
 use Rattle.std.specs.Prelude.{codes, map, length, replicate, nat_lt}
 use Rattle.std.specs.Fmt.{digits}
 use Rattle.nmvs_identifier.specs.Texts.{Text}
 use Rattle.nmvs_identifier.specs.declared.pack.Pack.{Pack}
 use Rattle.nmvs_rules.specs.declared.reason.Reason.TheVariants as reason
 use Rattle.nmvs_rules.specs.declared.question.Question.TheVariants as question
-use Rattle.nmvs_rules.specs.declared.reply.Reply.{Reply}
 use Rattle.nmvs_rules.specs.declared.reply.Reply.TheVariants as reply
 use Rattle.nmvs_rules.specs.declared.refusal.Refusal.TheVariants as refusal
 use Rattle.nmvs_rules.specs.declared.cause.Cause.TheVariants as cause
@@ -67,7 +66,7 @@ are-lines = refl
 fields : fields_in (codes "ph1 STATUS") ≡ codes "ph1" ∷ codes "STATUS" ∷ []
 fields = refl
 
--- texts without a fault: a line of each kind
+-- texts of each kind without a fault: each is read as the line that has this text
 abbrev texts : List (List ℕ)
 texts =
     codes "mah1 UPLOAD 09506000134352 SN1 B1 280200"

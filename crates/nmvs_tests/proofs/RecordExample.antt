@@ -114,7 +114,7 @@ versions : Gives fault_of (
 unfolding reading line_in digits scan_numeral number_of items members value lex punctuate encode code_unit short_escape content after_number word
 versions = refl
 
--- an unknown version is told before the shape
+-- an unknown version comes before the shape
 version-first : Gives fault_of (
     (codes "[4,1,2,3,4,5,6,7]", Some fault.Version)
     ∷ (codes "[4,1,2,3,4,5,6,7,8]", Some fault.Version)

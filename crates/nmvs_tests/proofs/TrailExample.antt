@@ -99,7 +99,7 @@ put moment u q = record { moment = moment; user = text u.0; actor = u.1; questio
 abbrev after : List Entry → Put → List Entry
 after t q = t ++ answered q (reply_of t q) ∷ []
 
--- ---- rows: who asks what, at the new year or so many days later, and the reply on all rows before
+-- ---- rows: who asks what, at the new year or some days later, and the reply on all rows before
 
 abbrev Row : Type 0
 Row = ℕ × User × Question × Reply
@@ -213,7 +213,7 @@ day-ten-batch = refl
 day-eleven-answered : AreAnswered (uploaded ∷ held ∷ (11, ph1b, Revert sn1, refused refusal.Late) ∷ [])
 day-eleven-answered = refl
 
--- late is told before expired, and other premises before both; this pack expires on 5 January 2026
+-- late comes before expired, and other premises before both; this pack expires on 5 January 2026
 abbrev sn8 : Pack
 sn8 = pack (codes "SN8")
 
