@@ -1,5 +1,6 @@
 //! The worked rows of the rules, and their tests; and callers of a history, whose contracts say what they have seen. These tests
-//! alone are proved: those of `tests/` are only run.
+//! alone are proved: those of `tests/` are only run. In proofs/ stand worked examples of the definitions: an input, and the value
+//! that a definition gives.
 #![tactic(auto)]
 
 #[cfg(test)]

@@ -1,0 +1,12 @@
+mod CommandsExample
+mod EtcdExample
+mod Gives
+mod IdentifiersExample
+mod LinesExample
+mod QuestionsExample
+mod RatesExample
+mod RecordExample
+mod ReplyJsonExample
+mod RulesExample
+mod TrailExample
+mod WordsExample
