@@ -1,0 +1,147 @@
+#!/usr/bin/env python3
+"""The description of HTTP, gateway/openapi.json: where its references lead, and whether a value is in a schema of it.
+
+  tools/description.py   writes gateway/openapi-3.0.json, the same for generators that read OpenAPI 3.0 alone
+"""
+import json
+import pathlib
+import re
+
+GATEWAY = pathlib.Path(__file__).resolve().parent.parent / "gateway"
+OLDER = GATEWAY / "openapi-3.0.json"
+DESCRIPTION = json.loads((GATEWAY / "openapi.json").read_text())
+
+
+def at(reference):
+    """The part of the description that a reference leads to."""
+    found = DESCRIPTION
+    for name in reference.removeprefix("#/").split("/"):
+        found = found[name]
+    return found
+
+
+def whole(part):
+    return at(part["$ref"]) if "$ref" in part else part
+
+
+def has_type(value, name):
+    types = {"object": dict, "array": list, "string": str, "integer": int}
+    return isinstance(value, types[name]) and not isinstance(value, bool)
+
+
+def fits(value, schema):
+    """Whether a value is in a schema, of whose words these are enough."""
+    schema = whole(schema)
+    words = {
+        "type": lambda name: has_type(value, name),
+        "const": lambda only: value == only,
+        "enum": lambda some: value in some,
+        "pattern": lambda pattern: re.search(pattern, value) is not None,
+        "minimum": lambda least: value >= least,
+        "maximum": lambda most: value <= most,
+        "maxLength": lambda most: len(value) <= most,
+        "minItems": lambda least: len(value) >= least,
+        "maxItems": lambda most: len(value) <= most,
+        "required": lambda names: all(name in value for name in names),
+        "properties": lambda those: all(fits(value[name], those[name]) for name in value if name in those),
+        "additionalProperties": lambda _: all(name in schema["properties"] for name in value),
+        "items": lambda each: all(fits(one, each) for one in value),
+        "oneOf": lambda those: sum(fits(value, one) for one in those) == 1,
+        "discriminator": lambda _: True,
+        "description": lambda _: True,
+    }
+    return all(words[word](given) for word, given in schema.items())
+
+
+def examples_of(content):
+    """The examples of a body, by name."""
+    return {name: whole(one)["value"] for name, one in content.get("examples", {}).items()}
+
+
+def contents():
+    """Each body of the description, with its place: of a question, or of a response by its status."""
+    for path, methods in DESCRIPTION["paths"].items():
+        for operation in methods.values():
+            bodies = {"question": operation["requestBody"]} if "requestBody" in operation else {}
+            for name, body in {**bodies, **operation["responses"]}.items():
+                for content in whole(body)["content"].values():
+                    yield path, name, content
+
+
+def words_of(schema):
+    """The replies and faults that a schema has."""
+    schema = whole(schema)
+    named = schema.get("properties", {})
+    own = [named["reply"]["const"]] if "reply" in named else named.get("fault", {}).get("enum", [])
+    return {*own, *(word for one in schema.get("oneOf", []) for word in words_of(one))}
+
+
+def references(part):
+    """The references within a part."""
+    inner = part.values() if isinstance(part, dict) else part if isinstance(part, list) else ()
+    own = [part["$ref"]] if isinstance(part, dict) and isinstance(part.get("$ref"), str) else []
+    return own + [reference for one in inner for reference in references(one)]
+
+
+def older(part):
+    """A part in the words of OpenAPI 3.0, whose schemas are those of JSON Schema's draft 5: no const, and items in each array."""
+    if isinstance(part, list):
+        return [older(one) for one in part]
+    if not isinstance(part, dict):
+        return part
+    made = {name: one if name in ("value", "example") else older(one) for name, one in part.items()}
+    if "const" in made:
+        made["enum"] = [made.pop("const")]
+    if isinstance(made.get("enum"), list):
+        made["type"] = "integer" if isinstance(made["enum"][0], int) else "string"
+    if made.get("type") == "array":
+        made.setdefault("items", {})
+    return made
+
+
+def older_text():
+    """The description in OpenAPI 3.0, which has no word for certificates of clients: the servers' texts and the pages name them."""
+    made = older(DESCRIPTION)
+    made["openapi"] = "3.0.3"
+    del made["security"], made["components"]["securitySchemes"]
+    return json.dumps(made, indent=1) + "\n"
+
+
+def led_nowhere():
+    for reference in references(DESCRIPTION):
+        try:
+            at(reference)
+        except KeyError:
+            yield f"{reference} leads nowhere"
+
+
+def faults(pages):
+    """What is not as it has to be, with the texts of the pages that name its servers."""
+    if missing := list(led_nowhere()):
+        return missing
+    found = [f"no page names {one['url']}" for one in DESCRIPTION["servers"] if one["url"].rpartition("/")[2] not in pages]
+    shown, wanted = set(), set()
+    for path, name, content in contents():
+        examples = examples_of(content)
+        found += [f"{path}: {name} has no example"] * (not examples)
+        found += [f"{path}: the example {one} of {name} is not in its schema" for one, value in examples.items() if not fits(value, content["schema"])]
+        shown.update((path, one) for one in examples)
+        wanted.update((path, word) for word in words_of(content["schema"]))
+    found += [f"{path}: {word} has no example" for path, word in sorted(wanted - shown)]
+    if not OLDER.exists() or OLDER.read_text() != older_text():
+        found.append("gateway/openapi-3.0.json is not what tools/description.py writes")
+    return found + refused()
+
+
+def refused():
+    """What the validator of the field refuses, where it is installed."""
+    try:
+        import openapi_spec_validator as validator
+    except ImportError:
+        return []
+    both = ((validator.OpenAPIV31SpecValidator, DESCRIPTION), (validator.OpenAPIV30SpecValidator, json.loads(OLDER.read_text())))
+    return [f"{which.__name__}: {fault.message[:200]}" for which, one in both for fault in which(one).iter_errors()]
+
+
+if __name__ == "__main__":
+    OLDER.write_text(older_text())
