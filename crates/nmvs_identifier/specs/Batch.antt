@@ -1,4 +1,4 @@
--- A batch or lot number, application identifier 10: 1 to 20 characters of set 82.
+-- A batch or lot number, application identifier 10: 1 to 20 characters of set 82 (Article 4(b)(iv)).
 use Rattle.std.specs.Prelude.{ℕ, Bool, List}
 use Rattle.nmvs_identifier.specs.Characters.{is_set_82_text}
 use Rattle.nmvs_identifier.specs.Texts.{Text}

@@ -1,4 +1,5 @@
--- An expiry date, application identifier 17: YYMMDD, the year 2000 + YY, and DD = 00 for the last day of the month.
+-- An expiry date, application identifier 17: YYMMDD, the year 2000 + YY, and DD = 00 for the last day of the month (Article
+-- 4(b)(v)).
 use Rattle.std.specs.Prelude.{ℕ, Bool, List, length, ◌+◌, ◌&&◌, ◌==◌, nat_le, slice_range, if◌then◌else◌, ℤ, pos}
 use Rattle.std.specs.List.{list_all}
 use Rattle.std.specs.Char.{is_ascii_digit}

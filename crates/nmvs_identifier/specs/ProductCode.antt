@@ -1,4 +1,4 @@
--- A product code, application identifier 01: a GTIN-14.
+-- A product code, application identifier 01: a GTIN-14 (Article 4(b)(i)).
 use Rattle.std.specs.Prelude.{ℕ, Bool, List, [], ◌∷◌, length, ◌+◌, ◌*◌, ◌%◌, ◌&&◌, ◌==◌, if◌then◌else◌}
 use Rattle.std.specs.List.{list_all}
 use Rattle.std.specs.Char.{is_ascii_digit, digit_value}

@@ -156,7 +156,7 @@ pub record IsRevertible (t : List Entry) (p : Pack) (q : Put) : Type 0 where
 
 -- the conditions on an upload of the pack p by the authorisation n
 pub record IsUploadable (t : List Entry) (p : Pack) (n : Name) : Type 0 where
-  -- no pack with this unique identifier was uploaded before (Articles 4 and 33)
+  -- no pack with this unique identifier was uploaded before (Articles 4, 33 and 35(3))
   pub first : IsFalse (list_any (uploads p) t)
   -- the product code was uploaded by nobody, or first by this authorisation (own)
   pub allowed : IsFalse (list_any (uploads_code p.code) t) ⊎ IsHeldBy t p.code n

@@ -48,7 +48,7 @@ abbrev pub names : Pack → Option Pack → Bool
 names p None = false
 names p (Some r) = same_pack p r
 
--- whether a role may decommission for a reason (own, after Articles 22 and 25)
+-- whether a role may decommission for a reason (own, after Articles 19, 22 and 25)
 abbrev pub may_decommission : Role → Reason → Bool
 may_decommission role.Manufacturer reason.Export = true
 may_decommission role.Manufacturer reason.Sample = true
@@ -63,7 +63,8 @@ may_decommission role.Pharmacy reason.Hold = true
 may_decommission role.Pharmacy reason.Supply = true
 may_decommission _ _ = false
 
--- whether a role handles packs: manufacturers, wholesalers and suppliers to the public (own, after Articles 10 to 13)
+-- whether a role handles packs: manufacturers, wholesalers and suppliers to the public (own, after Articles 10 to 13, 16, 19,
+-- 20 and 25)
 abbrev pub is_handler : Role → Bool
 is_handler role.Manufacturer = true
 is_handler role.Wholesaler = true
@@ -80,7 +81,7 @@ abbrev pub is_holder : Role → Bool
 is_holder role.Holder = true
 is_holder _ = false
 
--- whether a role is that of a competent authority, which sees the record of operations (Articles 35 and 39)
+-- whether a role is that of a competent authority, which sees the record of operations (Articles 36(i), 37(f) and 39)
 abbrev pub is_authority : Role → Bool
 is_authority role.Authority = true
 is_authority _ = false

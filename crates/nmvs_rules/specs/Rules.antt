@@ -188,7 +188,7 @@ lock_reply a is_known holder l active =
     else (if not (is_free l) then reply.Refused refusal.Already
     else reply.LockedNow active))
 
--- the reply to an upload: each pack once, and each product code by its holder alone (own)
+-- the reply to an upload: each pack once (Article 35(3)), and each product code by its holder alone (own)
 abbrev pub upload_reply : Actor → Option Name → Option Known → Reply
 upload_reply a holder k =
     if has_other_holder holder a.authorisation then reply.Refused refusal.NotHolder
@@ -235,7 +235,7 @@ shown_to t r (Audit p) = if may_ask r (Audit p) then filter (is_about p) t else 
 shown_to t r _ = []
 
 -- the entries that are shown with the reply: those about the pack of an audit that its role may ask, oldest first, and
--- none with the reply to any other question (Article 35)
+-- none with the reply to any other question (Articles 35(1)(g), 36(i) and 37(f))
 abbrev pub shown_of : List Entry → Put → List Entry
 shown_of t q = shown_to t q.actor.role q.question
 

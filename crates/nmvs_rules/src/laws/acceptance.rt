@@ -15,7 +15,7 @@ ghost use Rattle.nmvs_rules.specs.Rules.{reply_of};
 ghost use Rattle.nmvs_rules.specs.Laws.{IsGenuine, IsRevertible, IsUploadable, IsSuppliable, IsLockable, IsReportable, AsksLock, circulating};
 
 /// An upload is accepted exactly if a holder asks for it, the pack was not uploaded before, and its product code was
-/// uploaded by nobody or first by the same authorisation (Articles 4 and 33; who may upload it is own). On every trail.
+/// uploaded by nobody or first by the same authorisation (Articles 4, 33 and 35(3); who may upload it is own). On every trail.
 pub fn uploading()
     ensures { (t : List Entry) (q : Put) (p : Pack) (b : Batch) (x : Expiry) → q.question ≡ Upload p b x →
         (reply_of t q ≡ reply.Uploaded) ↔

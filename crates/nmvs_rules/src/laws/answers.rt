@@ -67,7 +67,7 @@ pub fn alerts()
 {}
 
 /// Once a product code was uploaded, an upload, a recall, a withdrawal or a theft report of it is accepted only from its
-/// holder: the authorisation that uploaded it first (Article 40; the choice of the holder is own). On every trail.
+/// holder: the authorisation that uploaded it first (Articles 33 and 40; the choice of the holder is own). On every trail.
 pub fn holders()
     ensures uploads { (t : List Entry) (q : Put) (p : Pack) (b : Batch) (x : Expiry) →
         q.question ≡ Upload p b x → IsTrue (list_any (uploads_code p.code) t) →
@@ -81,7 +81,7 @@ pub fn holders()
 {}
 
 /// An audit by a user who may ask it shows the entries about its pack, in their order, and its reply has their number
-/// (Article 35). An audit by any other user shows none, and no other question shows any. On every trail.
+/// (Articles 35, 36(i) and 37(f)). An audit by any other user shows none, and no other question shows any. On every trail.
 pub fn auditing()
     ensures shown { (t : List Entry) (q : Put) (p : Pack) →
         q.question ≡ Audit p → IsTrue (may_ask q.actor.role q.question) →

@@ -15,7 +15,7 @@ ghost use Rattle.nmvs_rules.specs.Rules.{IsLawful};
 ghost use Rattle.nmvs_rules.specs.Operations.{uploads, decommissions, supplies, reverts, binds, goes_on, operates};
 ghost use Rattle.nmvs_rules.specs.Laws.{IsUploadedWith, IsMovedOn, IsBorn};
 
-/// In a lawful trail a pack has one accepted upload if it is known, and none if it is not (Articles 4 and 11). So the
+/// In a lawful trail a pack has one accepted upload if it is known, and none if it is not (Articles 4, 11 and 35(3)). So the
 /// counts of a batch are numbers of packs.
 pub fn one_birth()
     ensures { (t : List Entry) (p : Pack) → IsLawful t →
