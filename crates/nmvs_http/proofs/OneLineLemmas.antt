@@ -12,7 +12,7 @@ use Rattle.json.specs.Find.{as_str, get}
 use Rattle.json.specs.Json.{Json}
 use Rattle.nmvs_identifier.specs.Batch.{is_batch}
 use Rattle.nmvs_identifier.specs.Expiry.{is_expiry}
-use Rattle.nmvs_identifier.proofs.PlainTexts.{is_plain, all_weaker, plain_batch, plain_expiry, plain_name}
+use Rattle.nmvs_identifier.proofs.PlainTexts.{is_plain, all_weaker, plain_batch, plain_expiry, plain_tag}
 use Rattle.nmvs_rules.specs.declared.printed.Printed.{Printed}
 use Rattle.nmvs_words.specs.Kinds.{kind_word}
 use Rattle.nmvs_words.specs.Words.{followed, spaced}
@@ -81,7 +81,7 @@ no_lf_line f (g ∷ fs) graphic =
 
 no_lf_key : (key : Option (List ℕ)) → is_key key ≡ true → HasNoLf (key_text key)
 no_lf_key None e = λ k within is. omega (arith, within)
-no_lf_key (Some key) e = no_lf_both (35 ∷ key) (32 ∷ []) (no_lf_field (35 ∷ key) (plain-graphic key (plain_name key e).2)) no_lf_space
+no_lf_key (Some key) e = no_lf_both (35 ∷ key) (32 ∷ []) (no_lf_field (35 ∷ key) (plain-graphic key (plain_tag key e).2)) no_lf_space
 
 -- a text and LF are one line
 one_line : (x : List ℕ) → HasNoLf x → input_lines (x ++ 10 ∷ []) ≡ x ∷ []

@@ -9,6 +9,7 @@ use Rattle.nmvs_identifier.specs.Characters.{character_set_82, is_in_set_82, is_
 use Rattle.nmvs_identifier.specs.Name.{is_name, begins_alphanumeric, has_name_characters}
 use Rattle.nmvs_identifier.specs.ProductCode.{is_product_code, is_checked}
 use Rattle.nmvs_identifier.specs.Serial.{is_serial}
+use Rattle.nmvs_identifier.specs.Tag.{is_tag, longest_tag}
 use Rattle.nmvs_identifier.specs.Batch.{is_batch}
 use Rattle.nmvs_identifier.specs.Expiry.{is_expiry, has_month, has_day}
 
@@ -56,8 +57,8 @@ name_plain b e =
 at_least_one : (n : ℕ) → nat_le 1 n ≡ true → 1 ≤ n
 at_least_one n e = grind (arith, nat_tests)
 
-not_too_long : (n : ℕ) → nat_le n longest_text ≡ true → n ≤ longest_text
-not_too_long n e = grind (arith, nat_tests)
+at_most : (most n : ℕ) → nat_le n most ≡ true → n ≤ most
+at_most most n e = grind (arith, nat_tests)
 
 -- names, numbers and dates in their grammars are plain
 pub plain_name : (t : List ℕ) → is_name t ≡ true → IsPlain t
@@ -65,7 +66,15 @@ plain_name t e =
     let halves = and_parts (nat_le 1 (length t) && nat_le (length t) longest_text) (has_name_characters t) e in
     let bounds = and_parts (nat_le 1 (length t)) (nat_le (length t) longest_text) halves.0 in
     let characters = and_parts (begins_alphanumeric t) (list_all is_name_character t) halves.1 in
-    (at_least_one (length t) bounds.0, not_too_long (length t) bounds.1, all_weaker is_name_character is_plain name_plain t characters.1)
+    (at_least_one (length t) bounds.0, at_most longest_text (length t) bounds.1, all_weaker is_name_character is_plain name_plain t characters.1)
+
+-- a tag is plain, and has at most 40 characters
+pub plain_tag : (t : List ℕ) → is_tag t ≡ true → (1 ≤ length t) × (length t ≤ longest_tag) × (list_all is_plain t ≡ true)
+plain_tag t e =
+    let halves = and_parts (nat_le 1 (length t) && nat_le (length t) longest_tag) (has_name_characters t) e in
+    let bounds = and_parts (nat_le 1 (length t)) (nat_le (length t) longest_tag) halves.0 in
+    let characters = and_parts (begins_alphanumeric t) (list_all is_name_character t) halves.1 in
+    (at_least_one (length t) bounds.0, at_most longest_tag (length t) bounds.1, all_weaker is_name_character is_plain name_plain t characters.1)
 
 pub plain_code : (t : List ℕ) → is_product_code t ≡ true → IsPlain t
 plain_code t e =
@@ -86,7 +95,7 @@ pub plain_serial : (t : List ℕ) → is_serial t ≡ true → IsPlain t
 plain_serial t e =
     let halves = and_parts (nat_le 1 (length t) && nat_le (length t) longest_text) (list_all is_in_set_82 t) e in
     let bounds = and_parts (nat_le 1 (length t)) (nat_le (length t) longest_text) halves.0 in
-    (at_least_one (length t) bounds.0, not_too_long (length t) bounds.1, all_weaker is_in_set_82 is_plain set_82_plain t halves.1)
+    (at_least_one (length t) bounds.0, at_most longest_text (length t) bounds.1, all_weaker is_in_set_82 is_plain set_82_plain t halves.1)
 
 pub plain_batch : (t : List ℕ) → is_batch t ≡ true → IsPlain t
 plain_batch t e = plain_serial t e

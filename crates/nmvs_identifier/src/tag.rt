@@ -1,19 +1,21 @@
 //! Tags of lines (own).
-ghost use Rattle.std.specs.Prelude.{◌≡◌, ◌<◌, ◌≤◌, ◌↔◌, IsTrue, IsOk, IfOk, IsErrOf, length, false};
-ghost use Rattle.nmvs_identifier.specs.Name.{has_name_characters};
+ghost use Rattle.std.specs.Prelude.{◌≡◌, ◌↔◌, IsTrue, IsSome, IfSome};
 ghost use Rattle.nmvs_identifier.specs.Tag.{is_tag};
-ghost use Rattle.nmvs_identifier.specs.Texts.{longest_text};
 
-use crate::{Name, NameFault};
+use crate::characters::are_in_names;
+use crate::short_text::ShortText;
 use std::marker::Model;
 
-/// The tag of a line, by which a user can send it again: a text with the grammar of a name (own). The `#` in front of it in a
-/// line is no part of it.
+/// The most bytes of a tag (own): a UUID has 36.
+const LONGEST_TAG: usize = 40;
+
+/// The tag of a line, by which a user can send it again: 1 to 40 letters, digits and characters of `._-`, the first a letter or
+/// a digit, so that a UUID is one (own). The `#` in front of it in a line is no part of it.
 ///
 /// Order, equality and hash are those of its text.
 #[derive(Clone, Copy, Debug, PartialEq, Eq, PartialOrd, Ord, Hash)]
 pub struct Tag {
-    name: Name,
+    text: ShortText<LONGEST_TAG>,
 }
 
 impl Model for Tag {
@@ -23,29 +25,26 @@ impl Model for Tag {
 
     ghost Value = { Text };
 
-    ghost view = { λ t. t.name };
+    ghost view = { λ t. t.text };
 
-    ghost invariant = { λ t. IsTrue (is_tag t.name.bytes) };
+    ghost invariant = { λ t. IsTrue (is_tag t.text.bytes) };
 
-    ghost inverse = { λ t. record { name = t } };
+    ghost inverse = { λ t. record { text = t } };
 }
 
 impl Tag {
-    /// Reads a tag.
-    ///
-    /// # Errors
-    ///
-    /// The first fault that applies: no byte at all, more than 20 bytes, a character that may not stand at its place.
-    pub fn read(text: &str) -> Result<Tag, NameFault>
-        ensures accepts { IsOk result ↔ IsTrue (is_tag text.now) }
-        ensures kept { IfOk result (λ tag. tag.bytes ≡ text.now) }
-        ensures empty { IsErrOf result NameFault.Empty ↔ (length text.now ≡ 0) }
-        ensures long { IsErrOf result NameFault.Long ↔ (longest_text < length text.now) }
-        ensures character { IsErrOf result NameFault.Character
-            ↔ ((0 < length text.now) × (length text.now ≤ longest_text) × (has_name_characters text.now ≡ false)) }
+    /// Reads a tag. A text that is none gives `None`.
+    pub fn read(text: &str) -> Option<Tag>
+        ensures accepts { IsSome result ↔ IsTrue (is_tag text.now) }
+        ensures kept { IfSome result (λ tag. tag.bytes ≡ text.now) }
     {
-        let name = Name::read(text)?;
-        Ok(Tag { name })
+        let bytes = text.as_bytes();
+        if bytes.is_empty() || bytes.len() > LONGEST_TAG || !bytes[0].is_ascii_alphanumeric() || !are_in_names(bytes) {
+            return None;
+        }
+        Some(Tag {
+            text: ShortText::from(text),
+        })
     }
 
     /// The characters as read.
@@ -53,13 +52,13 @@ impl Tag {
         ensures text { result.now ≡ self.now.bytes }
         ensures grammar { IsTrue (is_tag self.now.bytes) }
     {
-        self.name.text()
+        self.text.as_str()
     }
 
     /// Proves that the text is in its grammar, and does nothing else.
     pub fn tell_grammar(&self)
         ensures { IsTrue (is_tag self.now.bytes) }
     {
-        let _ = &self.name;
+        let _ = &self.text;
     }
 }

@@ -15,7 +15,7 @@ use Rattle.json.specs.Strict.{keys}
 use Rattle.json.specs.Value.{value_view, members_view}
 use Rattle.json.specs.declared.value.Value.{Value, Object}
 use Rattle.nmvs_identifier.specs.Tag.{is_tag}
-use Rattle.nmvs_identifier.proofs.PlainTexts.{is_plain, plain_name}
+use Rattle.nmvs_identifier.proofs.PlainTexts.{is_plain, plain_tag}
 use Rattle.nmvs_rules.specs.declared.printed.Printed.{Printed}
 use Rattle.nmvs_words.specs.Words.{followed, spaced}
 use Rattle.nmvs_json.specs.Questions.{as_object, count_of, object_in, preceded, value_in}
@@ -35,7 +35,7 @@ no_tag key other = by (is_tag key) refl
   where
     by : (b : Bool) → is_tag key ≡ b → b ≡ false
     by false e = refl
-    by true e = absurd (other (IsUtf8-from_ascii key (IsAscii-from_all key (All-from_recursion _ key (all_small key (plain_name key e).2)))))
+    by true e = absurd (other (IsUtf8-from_ascii key (IsAscii-from_all key (All-from_recursion _ key (all_small key (plain_tag key e).2)))))
 
 -- bytes that are no text are no object
 pub no_object : (body : List ℕ) → (IsUtf8 body → ⊥) → object_in body ≡ None

@@ -74,7 +74,7 @@ fn tag_of(key: &[u8]) -> Option<Tag>
     ensures none { IfNone result (is_tag key.now ≡ false) }
 {
     match str::from_utf8(key) {
-        Ok(key) => Tag::read(key).ok(),
+        Ok(key) => Tag::read(key),
         Err(_) => None,
     }
 }

@@ -8,7 +8,7 @@ use arrayvec::ArrayString;
 use nmvs_identifier::Tag;
 
 /// The most bytes before a line with a tag: `#`, the tag and a space (own).
-pub const LONGEST_TAG_TEXT: usize = 22;
+pub const LONGEST_TAG_TEXT: usize = 42;
 
 /// The bytes before a line with this tag, and before its reply. Without a tag there are none.
 pub fn tag_text(tag: &Option<Tag>) -> ArrayString<LONGEST_TAG_TEXT>

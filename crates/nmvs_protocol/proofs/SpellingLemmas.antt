@@ -31,7 +31,7 @@ use Rattle.nmvs_protocol.specs.Tags.{tag_of, behind_tag}
 use Rattle.nmvs_identifier.specs.Tag.{Tag}
 use Rattle.nmvs_rules.specs.Entries.{is_tag_or_none}
 use Rattle.nmvs_protocol.specs.Lines.{asked_fields, line_tag, fields, line_text, report_word, Grammar, grammars, if_word, pack_grammars, report_grammars, all_read, first_misread, texts_fault, pack_fault, question_fault, ask_fault, asked_fault, fields_fault, byte_fault, asked_line_fault, fault_behind, first_fault, is_asked, is_line, ReadsLine, OneReading, EachIsRead, OneSpelling, ShortLines}
-use Rattle.nmvs_identifier.proofs.PlainTexts.{IsPlain, plain_name, plain_code, plain_serial, plain_batch, plain_expiry}
+use Rattle.nmvs_identifier.proofs.PlainTexts.{IsPlain, plain_name, plain_tag, plain_code, plain_serial, plain_batch, plain_expiry}
 use Rattle.nmvs_words.proofs.PlainWords.{word_plain}
 use Rattle.nmvs_protocol.proofs.QuestionLemmas.{written, same_question}
 use Rattle.nmvs_messages.proofs.PlainLemmas.{IsPlainLine, plain_line, not_long, line_fault-plain}
@@ -259,9 +259,9 @@ one_spelling l m is_l is_m e =
     let rest : line_of_fields (fields l) ≡ line_of_fields (fields m) = sym (behind l) ∙ (λ i. drop (length (tag_text (tag i))) (e i)) ∙ behind m in
     same_line l m tag (sym (plain_text l is_l).fields ∙ ap fields_in rest ∙ (plain_text m is_m).fields)
 
-short_tag : (g : Option Tag) → is_tag_or_none g ≡ true → length (tag_text g) ≤ 22
+short_tag : (g : Option Tag) → is_tag_or_none g ≡ true → length (tag_text g) ≤ 42
 short_tag None e = lit≤ tt
-short_tag (Some g) e = omega (arith, (plain_name g.bytes e).1, length-append g.bytes (32 ∷ []))
+short_tag (Some g) e = omega (arith, (plain_tag g.bytes e).1, length-append g.bytes (32 ∷ []))
 
 line_has_tag : (l : Line) → is_line l ≡ true → is_tag_or_none (line_tag l) ≡ true
 line_has_tag (lines.Ask a) e = (and_parts (is_tag_or_none a.tag) (is_asked a.asked) e).0

@@ -13,7 +13,7 @@ use Rattle.std.specs.Char.{is_ascii_alphanumeric}
 use Rattle.nmvs_identifier.specs.Characters.{is_name_character}
 use Rattle.nmvs_identifier.specs.Name.{is_name, has_name_characters}
 use Rattle.nmvs_identifier.specs.Texts.{longest_text}
-use Rattle.nmvs_identifier.proofs.PlainTexts.{is_plain, plain_name, all_weaker}
+use Rattle.nmvs_identifier.proofs.PlainTexts.{is_plain, plain_tag, all_weaker}
 use Rattle.nmvs_messages.specs.Fields.{fields_in, is_printable, is_space, line_of_fields}
 use Rattle.nmvs_messages.specs.Tags.{tag_text}
 use Rattle.nmvs_protocol.specs.Tags.{tag_named, first_tag, tag_of, behind_tag}
@@ -71,11 +71,11 @@ first_of f (next ∷ fs) some = refl
 pub tag_back : (g : Tag) (y : List ℕ) → is_tag g.bytes ≡ true → tag_of (tag_text (Some g) ++ y) ≡ Some g
 unfolding tag_of
 tag_back g y e =
-    let plain = plain_name g.bytes e in
+    let plain = plain_tag g.bytes e in
     let front : List ℕ = 35 ∷ g.bytes in
-    let room = 20 - length g.bytes in
-    let long : length (tag_text (Some g)) + room ≡ 22 = omega (arith, plain.1, length-append g.bytes (32 ∷ [])) in
-    let window : take 22 (tag_text (Some g) ++ y) ≡ front ++ 32 ∷ take room y =
+    let room = 40 - length g.bytes in
+    let long : length (tag_text (Some g)) + room ≡ 42 = omega (arith, plain.1, length-append g.bytes (32 ∷ [])) in
+    let window : take 42 (tag_text (Some g) ++ y) ≡ front ++ 32 ∷ take room y =
     ap (λ (n : ℕ). take n (tag_text (Some g) ++ y)) (sym long) ∙ take-append-add (tag_text (Some g)) y room ∙ append_assoc front (32 ∷ []) (take room y) in
     let split = slice_split_at is_space front 32 (take room y) (All-from_recursion (λ b. is_space b ≡ false) front (refl, no_space g.bytes plain.2)) refl in
     ap (λ (t : List ℕ). first_tag (fields_in t)) window ∙ ap first_tag split ∙ first_of front (fields_in (take room y)) (some_field (take room y))
@@ -154,6 +154,6 @@ no_text [] other = refl
 no_text (b ∷ bs) other = by (b == 35) (is_tag bs) refl
   where
     by : (c d : Bool) → is_tag bs ≡ d → cond {A = Option Tag} (c && d) (Some (record { bytes = bs })) None ≡ None
-    by c true e = absurd (other (printable-utf8 bs (all_weaker is_plain is_printable plain_printable bs (plain_name bs e).2)))
+    by c true e = absurd (other (printable-utf8 bs (all_weaker is_plain is_printable plain_printable bs (plain_tag bs e).2)))
     by false false e = refl
     by true false e = refl

@@ -1,15 +1,14 @@
 -- Tags before lines, and before their replies (own).
 use Rattle.std.specs.Prelude.{ℕ, List, [], ◌∷◌, length, take, drop, ◌==◌, ◌+◌, ◌&&◌, Option, Some, None, if◌then◌else◌}
-use Rattle.nmvs_identifier.specs.Tag.{Tag, is_tag}
-use Rattle.nmvs_identifier.specs.Texts.{longest_text}
+use Rattle.nmvs_identifier.specs.Tag.{Tag, is_tag, longest_tag}
 use Rattle.nmvs_messages.specs.Fields.{fields_in}
 use Rattle.nmvs_messages.specs.Tags.{tag_text}
 
 -- the most bytes that this has
 abbrev pub longest_tag_text : ℕ
-longest_tag_text = longest_text + 2
+longest_tag_text = longest_tag + 2
 
--- the tag of a field that is # and 1 to 20 characters of a name
+-- the tag of a field that is # and 1 to 40 characters of a name
 abbrev pub tag_named : List ℕ → Option Tag
 tag_named [] = None
 tag_named (b ∷ bs) = if b == 35 && is_tag bs then Some (record { bytes = bs }) else None

@@ -41,7 +41,7 @@ fn tag_named(field: &[u8]) -> Option<Tag>
         return None;
     };
     match str::from_utf8(name) {
-        Ok(name) => Tag::read(name).ok(),
+        Ok(name) => Tag::read(name),
         Err(_) => None,
     }
 }
