@@ -21,7 +21,7 @@ use std::sync::{Arc, Mutex, Wait};
 use thiserror::Error;
 
 /// The reason for which there is no console of an administrator.
-#[derive(Clone, Copy, Debug, PartialEq, Eq, Error)]
+#[derive(Clone, Copy, Debug, Error)]
 pub enum AdminFault {
     #[error("no socket can be made at the path")]
     Socket,

@@ -11,7 +11,7 @@ use std::{fmt, mem};
 const HANDED: usize = LONGEST_LINE + 2;
 
 /// The origin of a line, to which its answer goes.
-#[derive(Clone, Copy, Debug, PartialEq, Eq)]
+#[derive(Clone, Copy)]
 pub(crate) enum Side {
     /// Standard input and output.
     Standard,

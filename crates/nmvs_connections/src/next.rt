@@ -1,7 +1,7 @@
 //! The next step of a connection after its turn.
 
 /// The next step of a connection after its turn.
-#[derive(Clone, Copy, PartialEq, Eq)]
+#[derive(Clone, Copy)]
 pub(crate) enum Next {
     /// Its next turn comes.
     Again,

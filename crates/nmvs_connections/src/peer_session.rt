@@ -33,7 +33,7 @@ use std::sync::Wait;
 const IDLE: &[u8] = b"FAULT IDLE\n";
 
 /// How far a connection has come.
-#[derive(Clone, Copy, PartialEq, Eq)]
+#[derive(Clone, Copy)]
 pub(crate) enum Stage {
     /// Its header is read, if there is one, and then its lines are answered.
     Serving,

@@ -9,7 +9,7 @@ use std::alloc::{AllocError, Allocator, Global};
 use std::marker::Model;
 
 /// The clerk that has the receipt, and the number of the receipt among those in hand, both counted from 0.
-#[derive(Clone, Copy, Debug, PartialEq, Eq)]
+#[derive(Clone, Copy, PartialEq, Eq)]
 pub struct Owner {
     pub clerk: usize,
     pub receipt: usize,

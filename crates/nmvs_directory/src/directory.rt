@@ -12,7 +12,7 @@ use std::sync::Wait;
 use thiserror::Error;
 
 /// The reason why a directory was not opened.
-#[derive(Clone, Copy, Debug, PartialEq, Eq, Error)]
+#[derive(Clone, Copy, Debug, Error)]
 pub enum DirectoryFault {
     #[error("there is no memory for the directory")]
     Memory,

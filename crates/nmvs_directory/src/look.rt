@@ -1,7 +1,7 @@
 use nmvs_rules::Actor;
 
 /// The answer of a window about a user.
-#[derive(Clone, Copy, Debug, PartialEq, Eq)]
+#[derive(Clone, Copy, PartialEq, Eq)]
 pub enum Look {
     /// No change named the user, or the last one that did removed it.
     Nobody,

@@ -5,7 +5,7 @@ use crate::Effect;
 use nmvs_rules::Actor;
 
 /// The standing of a user after the changes that name it.
-#[derive(Clone, Copy, Debug, PartialEq, Eq)]
+#[derive(Clone, Copy, PartialEq, Eq)]
 pub enum Standing {
     /// The last change enrolled it as this actor.
     Enrolled(Actor),

@@ -7,7 +7,7 @@ use std::marker::Model;
 
 /// A national number: 1 to 20 characters of the GS1 character set 82, as a serial number has (GS1 General Specifications,
 /// section 3.8).
-#[derive(Clone, Copy, Debug, PartialEq, Eq)]
+#[derive(Clone, Copy, PartialEq, Eq)]
 pub struct NationalNumber {
     text: Serial,
 }
@@ -48,7 +48,7 @@ impl NationalNumber {
 }
 
 /// The elements of a pack's code (Article 4 of the Regulation).
-#[derive(Clone, Copy, Debug, PartialEq, Eq)]
+#[derive(Clone, Copy, PartialEq, Eq)]
 pub struct Elements {
     pub code: ProductCode,
     pub serial: Serial,

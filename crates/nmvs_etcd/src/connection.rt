@@ -2,7 +2,7 @@
 ghost use Rattle.std.specs.Prelude.{◌≡◌, ◌≤◌, ◌++◌, [], ℕ, List, length, take, IfOk, OnOk};
 
 /// The connection failed. Nothing is known of the bytes that were under way.
-#[derive(Clone, Copy, Debug, PartialEq, Eq)]
+#[derive(Clone, Copy)]
 pub struct Broken;
 
 /// A connection to an engine. Contracts see the bytes that it carried since it was opened.

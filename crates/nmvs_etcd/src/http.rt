@@ -12,7 +12,7 @@ use httparse::spans::EMPTY_HEADER_SPAN;
 use std::alloc::Global;
 
 /// A procedure of the JSON gateway of etcd, version 3 (etcd 3.4, rpc.proto: service KV).
-#[derive(Clone, Copy, Debug, PartialEq, Eq)]
+#[derive(Clone, Copy)]
 pub enum Procedure {
     Transaction,
     Range,

@@ -1,7 +1,7 @@
 //! The meaning of an answer.
 
 /// The meaning of an answer to a demand of a server (own).
-#[derive(Clone, Copy, Debug, PartialEq, Eq)]
+#[derive(Clone, Copy)]
 pub enum Outcome {
     /// The engine carried the demand out, at this try or at an earlier one.
     Confirmed,

@@ -6,7 +6,7 @@ ghost use Rattle.nmvs_gateway.specs.Header.{TypedValue, typed_bytes, IsOnlyValue
 use nmvs_identifier::Name;
 
 /// The reading of the first bytes of a connection.
-#[derive(Clone, Copy, Debug, PartialEq, Eq)]
+#[derive(Clone, Copy, PartialEq, Eq)]
 pub enum Header {
     /// The beginning of a header, and the least number of bytes that are missing.
     Begun { missing: usize },

@@ -27,7 +27,7 @@ use std::marker::Model;
 const LONGEST_REPLIES: usize = 16 * 1024 * 1024;
 
 /// The stage of a codec.
-#[derive(Clone, Copy, Debug, PartialEq, Eq)]
+#[derive(Clone, Copy)]
 pub enum CodecStage {
     /// The codec reads requests.
     Open,
@@ -38,7 +38,7 @@ pub enum CodecStage {
 }
 
 /// The result of a read.
-#[derive(Clone, Copy, Debug, PartialEq, Eq)]
+#[derive(Clone, Copy)]
 pub enum Decoded {
     /// This number of bytes of lines, at the front of the buffer.
     Lines(usize),

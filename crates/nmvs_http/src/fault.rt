@@ -1,7 +1,7 @@
 //! The faults of requests.
 
 /// The fault of a refused request. The session gets no line of it.
-#[derive(Clone, Copy, Debug, PartialEq, Eq)]
+#[derive(Clone, Copy)]
 pub enum Fault {
     /// Its bytes are no request.
     Request,

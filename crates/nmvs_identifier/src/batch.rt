@@ -12,7 +12,7 @@ use std::marker::Model;
 /// The number of a batch: 1 to 20 characters of the GS1 character set 82 (section 7.11; Article 4 of the Regulation).
 ///
 /// Order, equality and hash are those of its text.
-#[derive(Clone, Copy, Debug, PartialEq, Eq, PartialOrd, Ord, Hash)]
+#[derive(Clone, Copy, PartialEq, Eq, PartialOrd, Ord, Hash)]
 pub struct Batch {
     text: ShortText<LONGEST_TEXT>,
 }

@@ -9,7 +9,7 @@ use crate::short_text::{LONGEST_TEXT, ShortText};
 use thiserror::Error;
 
 /// The fault of a text that is no serial number or batch number: the first that applies.
-#[derive(Clone, Copy, Debug, PartialEq, Eq, Error)]
+#[derive(Clone, Copy, Debug, Error)]
 pub enum Set82Fault {
     #[error("the text is empty")]
     Empty,

@@ -10,7 +10,7 @@ ghost use Rattle.std.proofs.Common.{rules};
 use std::cmp::Ordering;
 use std::hash::{Hash, Hasher};
 use std::marker::Model;
-use std::{fmt, str};
+use std::str;
 
 /// The most bytes of a serial number, a batch number or a name (GS1 General Specifications, sections 3.4.1 and 3.5.2; for
 /// names own).
@@ -125,11 +125,5 @@ impl<const CAP: usize> Hash for ShortText<CAP> {
     fn hash<H: Hasher>(&self, state: &mut H) {
         state.write(self.as_bytes());
         state.write_u8(0xff);
-    }
-}
-
-impl<const CAP: usize> fmt::Debug for ShortText<CAP> {
-    fn fmt<W: fmt::Write>(&self, f: &mut fmt::Formatter<W>) -> fmt::Result {
-        fmt::Debug::fmt(&self.as_str(), f)
     }
 }

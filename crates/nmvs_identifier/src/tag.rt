@@ -13,7 +13,7 @@ const LONGEST_TAG: usize = 40;
 /// a digit, so that a UUID is one (own). The `#` in front of it in a line is no part of it.
 ///
 /// Order, equality and hash are those of its text.
-#[derive(Clone, Copy, Debug, PartialEq, Eq, PartialOrd, Ord, Hash)]
+#[derive(Clone, Copy, PartialEq, Eq, PartialOrd, Ord, Hash)]
 pub struct Tag {
     text: ShortText<LONGEST_TAG>,
 }
@@ -39,7 +39,11 @@ impl Tag {
         ensures kept { IfSome result (λ tag. tag.bytes ≡ text.now) }
     {
         let bytes = text.as_bytes();
-        if bytes.is_empty() || bytes.len() > LONGEST_TAG || !bytes[0].is_ascii_alphanumeric() || !are_in_names(bytes) {
+        if bytes.is_empty()
+            || bytes.len() > LONGEST_TAG
+            || !bytes[0].is_ascii_alphanumeric()
+            || !are_in_names(bytes)
+        {
             return None;
         }
         Some(Tag {

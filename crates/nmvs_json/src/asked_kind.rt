@@ -7,7 +7,7 @@ use nmvs_rules::Reason;
 use nmvs_words::{BatchQuestion, PackQuestion, QuestionKind};
 
 /// The kind of a question or report, without its user and its fields.
-#[derive(Clone, Copy, Debug, PartialEq, Eq)]
+#[derive(Clone, Copy)]
 pub enum AskedKind {
     Question(QuestionKind),
     Report,

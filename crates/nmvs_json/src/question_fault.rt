@@ -2,7 +2,7 @@
 use std::alloc::AllocError;
 
 /// The fault of a refused question of JSON: the first of these that holds.
-#[derive(Clone, Copy, Debug, PartialEq, Eq)]
+#[derive(Clone, Copy)]
 pub enum QuestionFault {
     /// The key is no tag.
     Key,

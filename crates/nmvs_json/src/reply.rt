@@ -12,7 +12,7 @@ use nmvs_stream::cut_line;
 use std::alloc::{AllocError, Allocator};
 
 /// The problem of a question without a reply: its faults, grouped by status of HTTP.
-#[derive(Clone, Copy, Debug, PartialEq, Eq)]
+#[derive(Clone, Copy)]
 pub enum Problem {
     /// The line cannot be read, or its tag is that of another question.
     Unprocessable,

@@ -1,5 +1,5 @@
 /// The form of the log (own).
-#[derive(Clone, Copy, Debug, PartialEq, Eq)]
+#[derive(Clone, Copy, PartialEq, Eq)]
 pub enum LogFormat {
     /// Moment, level and words.
     Text,

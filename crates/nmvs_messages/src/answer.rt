@@ -38,7 +38,7 @@ pub enum Content {
 }
 
 /// The reason for which the desk turned a line away. Unless it is `Journal`, no question was put.
-#[derive(Clone, Copy, Debug, PartialEq, Eq)]
+#[derive(Clone, Copy)]
 pub enum Turn {
     /// The clock's seconds are no moment.
     Clock,

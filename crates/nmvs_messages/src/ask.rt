@@ -8,7 +8,7 @@ use nmvs_words::PackQuestion;
 use thiserror::Error;
 
 /// The meaning of a line.
-#[derive(Clone, Copy, Debug, PartialEq, Eq)]
+#[derive(Clone, Copy)]
 pub enum Line {
     /// It asks the desk.
     Ask(Ask),
@@ -23,14 +23,14 @@ pub enum Line {
 }
 
 /// The ask, and the tag by which it can be asked again.
-#[derive(Clone, Copy, Debug, PartialEq, Eq)]
+#[derive(Clone, Copy)]
 pub struct Ask {
     pub tag: Option<Tag>,
     pub asked: Asked,
 }
 
 /// The ask of a user.
-#[derive(Clone, Copy, Debug, PartialEq, Eq)]
+#[derive(Clone, Copy)]
 pub enum Asked {
     /// The question of a user, by name.
     Question(Name, Question),
@@ -54,14 +54,14 @@ impl Ask {
 }
 
 /// A line that cannot be read: its fault, and the tag that it begins with, if there is one.
-#[derive(Clone, Copy, Debug, PartialEq, Eq)]
+#[derive(Clone, Copy)]
 pub struct Unread {
     pub tag: Option<Tag>,
     pub fault: LineFault,
 }
 
 /// The fault of a line that cannot be read.
-#[derive(Clone, Copy, Debug, PartialEq, Eq, Error)]
+#[derive(Clone, Copy, Debug, Error)]
 pub enum LineFault {
     #[error("the line has more than 200 bytes")]
     Long,

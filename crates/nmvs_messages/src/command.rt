@@ -4,7 +4,7 @@ use nmvs_rules::Actor;
 use thiserror::Error;
 
 /// A registrar's command.
-#[derive(Clone, Copy, Debug, PartialEq, Eq)]
+#[derive(Clone, Copy, PartialEq, Eq)]
 pub enum Command {
     /// Lets a user ask in this capacity.
     Enrol(Name, Actor),

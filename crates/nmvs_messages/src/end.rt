@@ -1,5 +1,5 @@
 /// The reason for which a session ended.
-#[derive(Clone, Copy, Debug, PartialEq, Eq)]
+#[derive(Clone, Copy, PartialEq, Eq)]
 pub enum End {
     /// QUIT was answered.
     Quit,

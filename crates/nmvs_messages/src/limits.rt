@@ -13,7 +13,7 @@ pub const MOST_LINES: u64 = 10_000;
 pub const MOST_READS: u64 = 4_000_000;
 
 /// The limits of a session.
-#[derive(Clone, Copy, Debug, PartialEq, Eq)]
+#[derive(Clone, Copy)]
 pub struct Limits {
     /// The most lines that are answered.
     pub lines: u64,

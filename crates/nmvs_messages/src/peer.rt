@@ -5,7 +5,7 @@ ghost use Rattle.nmvs_messages.specs.Peers.{peer_named, speaks_for};
 use nmvs_identifier::Name;
 
 /// The peer at the other end of a connection.
-#[derive(Clone, Copy, Debug, PartialEq, Eq)]
+#[derive(Clone, Copy, PartialEq, Eq)]
 pub enum Peer {
     /// An unknown peer. Its lines are believed.
     Anyone,
@@ -29,7 +29,7 @@ impl Peer {
 }
 
 /// The kind of name that a certificate has.
-#[derive(Clone, Copy, Debug, PartialEq, Eq)]
+#[derive(Clone, Copy, PartialEq, Eq)]
 pub enum NameOf {
     User,
     Authorisation,

@@ -11,7 +11,7 @@ use std::marker::Model;
 const MOST_WITHHELD: usize = 176;
 
 /// The entries on which an answer rests: those of a shard's trail up to this place, counted from 0 (own).
-#[derive(Clone, Copy, Debug, PartialEq, Eq)]
+#[derive(Clone, Copy)]
 pub struct Basis {
     pub shard: usize,
     pub place: usize,

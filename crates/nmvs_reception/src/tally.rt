@@ -9,7 +9,7 @@ use std::hash::{BuildHasherDefault, FoldHasher};
 use std::marker::Model;
 
 /// The premises and the number of flagged alerts of a user.
-#[derive(Clone, Copy, Debug, PartialEq, Eq)]
+#[derive(Clone, Copy, PartialEq, Eq)]
 pub struct Raised {
     /// The premises of the user at the last of them.
     pub premises: Name,

@@ -5,7 +5,7 @@ use crate::Role;
 use nmvs_identifier::Name;
 
 /// The capacity in which a user asks: role, authorisation or entitlement, and premises (Article 13(1)).
-#[derive(Clone, Copy, Debug, PartialEq, Eq)]
+#[derive(Clone, Copy, PartialEq, Eq)]
 pub struct Actor {
     pub role: Role,
     pub authorisation: Name,

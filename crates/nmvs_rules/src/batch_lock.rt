@@ -1,5 +1,5 @@
 /// Whether a batch was recalled or withdrawn (Article 40).
-#[derive(Clone, Copy, Debug, PartialEq, Eq)]
+#[derive(Clone, Copy, PartialEq, Eq)]
 pub enum BatchLock {
     Free,
     Recalled,

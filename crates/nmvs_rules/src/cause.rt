@@ -1,5 +1,5 @@
 /// The reason why authenticity is not confirmed (Article 36).
-#[derive(Clone, Copy, Debug, PartialEq, Eq)]
+#[derive(Clone, Copy, PartialEq, Eq)]
 pub enum Cause {
     /// The repository has no such pack.
     Unknown,

@@ -6,7 +6,7 @@ use crate::{BatchLock, OwnStatus, Printed};
 use nmvs_identifier::{Batch, Expiry, Moment, Name};
 
 /// The last accepted entry about a pack.
-#[derive(Clone, Copy, Debug, PartialEq, Eq)]
+#[derive(Clone, Copy, PartialEq, Eq)]
 pub struct Mark {
     /// The number of entries before it in the trail.
     pub place: u64,
@@ -16,7 +16,7 @@ pub struct Mark {
 }
 
 /// The values known of a pack.
-#[derive(Clone, Copy, Debug, PartialEq, Eq)]
+#[derive(Clone, Copy, PartialEq, Eq)]
 pub struct Known {
     pub batch: Batch,
     pub expiry: Expiry,
@@ -25,7 +25,7 @@ pub struct Known {
 }
 
 /// The number of packs of a batch in each own status.
-#[derive(Clone, Copy, Debug, PartialEq, Eq)]
+#[derive(Clone, Copy, PartialEq, Eq)]
 pub struct Counts {
     pub active: u64,
     pub held: u64,
@@ -37,14 +37,14 @@ pub struct Counts {
 }
 
 /// The record of a batch.
-#[derive(Clone, Copy, Debug, PartialEq, Eq)]
+#[derive(Clone, Copy, PartialEq, Eq)]
 pub struct BatchRecord {
     pub lock: BatchLock,
     pub counts: Counts,
 }
 
 /// The facts that the reply to a question rests on.
-#[derive(Clone, Copy, Debug, PartialEq, Eq)]
+#[derive(Clone, Copy)]
 pub struct Facts {
     /// The pack that the question names, if it is known.
     pub pack: Option<Known>,

@@ -1,5 +1,5 @@
 /// Where a pack may go from here (Article 12; the words are own).
-#[derive(Clone, Copy, Debug, PartialEq, Eq)]
+#[derive(Clone, Copy, PartialEq, Eq)]
 pub enum Onward {
     Stock,
     Supply,

@@ -3,7 +3,7 @@
 use nmvs_identifier::{Batch, Expiry};
 
 /// The batch number and the expiry date that are printed on a pack (Article 4 (b)).
-#[derive(Clone, Copy, Debug, PartialEq, Eq)]
+#[derive(Clone, Copy)]
 pub struct Printed {
     pub batch: Batch,
     pub expiry: Expiry,

@@ -1,5 +1,5 @@
 /// The reason of a decommissioning (Articles 22 and 25).
-#[derive(Clone, Copy, Debug, PartialEq, Eq)]
+#[derive(Clone, Copy, PartialEq, Eq)]
 pub enum Reason {
     /// It is handed over to the public now.
     Supply,

@@ -9,7 +9,7 @@ use crate::{BatchLock, Cause, Onward, OwnStatus, Refusal};
 use nmvs_identifier::{Batch, Expiry};
 
 /// The reply to a question.
-#[derive(Clone, Copy, Debug, PartialEq, Eq)]
+#[derive(Clone, Copy, PartialEq, Eq)]
 pub enum Reply {
     Uploaded,
     Authentic {

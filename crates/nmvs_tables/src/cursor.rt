@@ -5,7 +5,7 @@ use nmvs_identifier::Pack;
 
 /// The entries about a pack that are still to be fetched from a trail. It holds none of them, and they stay the same while the
 /// trail grows.
-#[derive(Clone, Copy, Debug, PartialEq, Eq)]
+#[derive(Clone, Copy)]
 pub struct Cursor {
     pub pack: Pack,
     /// The place of the next one, counted from 0.

@@ -12,7 +12,7 @@ use nmvs_rules::{Entry, Known, Question};
 use std::alloc::Allocator;
 
 /// The record of a pack that some entry is about (Article 35).
-#[derive(Clone, Copy, Debug, PartialEq, Eq)]
+#[derive(Clone, Copy, PartialEq, Eq)]
 pub struct PackRecord {
     /// The number of entries about the pack.
     pub about: u64,

@@ -8,7 +8,7 @@ use nmvs_identifier::{Batch, ProductCode};
 use nmvs_rules::Question;
 
 /// A question about a batch, without the batch.
-#[derive(Clone, Copy, Debug, PartialEq, Eq)]
+#[derive(Clone, Copy)]
 pub enum BatchQuestion {
     Recall,
     Withdraw,

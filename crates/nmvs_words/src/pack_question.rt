@@ -8,7 +8,7 @@ use nmvs_identifier::Pack;
 use nmvs_rules::{Question, Reason};
 
 /// A question about a pack, without the pack.
-#[derive(Clone, Copy, Debug, PartialEq, Eq)]
+#[derive(Clone, Copy)]
 pub enum PackQuestion {
     Verify,
     Status,

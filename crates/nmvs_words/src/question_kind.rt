@@ -6,7 +6,7 @@ use crate::{BatchQuestion, PackQuestion, reason_word};
 use nmvs_rules::{Question, Reason};
 
 /// A question without the values that it names. Each kind has a word, and the variant decides which values follow it.
-#[derive(Clone, Copy, Debug, PartialEq, Eq)]
+#[derive(Clone, Copy)]
 pub enum QuestionKind {
     Upload,
     OfPack(PackQuestion),

@@ -3,7 +3,7 @@ ghost use Rattle.std.specs.Prelude.{◌≡◌};
 ghost use Rattle.nmvs_words.specs.ReplyKinds.{reply_word, reply_named};
 
 /// A reply without its values. Each kind has a word, and decides which values follow it.
-#[derive(Clone, Copy, Debug, PartialEq, Eq)]
+#[derive(Clone, Copy)]
 pub enum ReplyKind {
     Uploaded,
     Authentic,
