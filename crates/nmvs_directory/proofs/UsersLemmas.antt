@@ -17,7 +17,7 @@ use Rattle.nmvs_directory.proofs.KnownLemmas.{last_effect-add}
 
 -- a change has its effect on a user
 effect_of-after : (was : Option Standing) (effect : Effect) → effect_of (standing_after was effect) ≡ effect
-effect_of-after was (Enrol actor) = refl
+effect_of-after was (Enrol enrolment) = refl
 effect_of-after was Remove = refl
 effect_of-after None Suspend = refl
 effect_of-after (Some (Enrolled before)) Suspend = refl

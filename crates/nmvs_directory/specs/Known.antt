@@ -23,7 +23,7 @@ abbrev pub answer : Option Effect → Look
 answer None = Nobody
 answer (Some Remove) = Nobody
 answer (Some Suspend) = Suspended
-answer (Some (Enrol actor)) = Known actor
+answer (Some (Enrol enrolment)) = Known enrolment
 
 -- the answer about a user after these changes, oldest first: the last one that names the user decides (own)
 abbrev pub known : List Change → Name → Look

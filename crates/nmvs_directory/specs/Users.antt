@@ -12,17 +12,17 @@ use Rattle.nmvs_directory.specs.declared.standing.Standing.TheVariants.{Enrolled
 
 -- the standing of a user after a change with this effect, by its standing before, if it was named before
 abbrev pub standing_after : Option Standing → Effect → Standing
-standing_after was (Enrol actor) = Enrolled actor
+standing_after was (Enrol enrolment) = Enrolled enrolment
 standing_after was Remove = Removed
 standing_after None Suspend = Suspended None
-standing_after (Some (Enrolled actor)) Suspend = Suspended (Some actor)
-standing_after (Some (Suspended actor)) Suspend = Suspended actor
+standing_after (Some (Enrolled enrolment)) Suspend = Suspended (Some enrolment)
+standing_after (Some (Suspended enrolment)) Suspend = Suspended enrolment
 standing_after (Some Removed) Suspend = Suspended None
 
 -- the effect of the last change on a user with this standing
 abbrev pub effect_of : Standing → Effect
-effect_of (Enrolled actor) = Enrol actor
-effect_of (Suspended actor) = Suspend
+effect_of (Enrolled enrolment) = Enrol enrolment
+effect_of (Suspended enrolment) = Suspend
 effect_of Removed = Remove
 
 -- the users after one more change: a user that was named before keeps its place, and another goes last

@@ -1,5 +1,5 @@
 use nmvs_identifier::Name;
-use nmvs_rules::Actor;
+use nmvs_rules::Enrolment;
 
 /// A change of the directory: the user, and the effect on it.
 #[derive(Clone, Copy)]
@@ -11,8 +11,8 @@ pub struct Change {
 /// The effect of a change on its user (own).
 #[derive(Clone, Copy)]
 pub enum Effect {
-    /// The user is this actor.
-    Enrol(Actor),
+    /// The user is enrolled so.
+    Enrol(Enrolment),
     /// The user is suspended.
     Suspend,
     /// The user is nobody.

@@ -3,7 +3,7 @@ ghost use Rattle.std.specs.Prelude.{◌≡◌, ◌+◌, ◌<◌, ◌≤◌, ◌+
 
 use crate::{Change, Effect};
 use nmvs_identifier::Name;
-use nmvs_rules::Actor;
+use nmvs_rules::Enrolment;
 use std::alloc::{AllocError, Allocator};
 
 /// The changes of a directory that are not published yet.
@@ -41,21 +41,21 @@ impl<A: Allocator> Changes<A> {
         Ok(())
     }
 
-    /// Adds one pending change: the user is this actor.
+    /// Adds one pending change: the user is enrolled so.
     ///
     /// # Errors
     ///
     /// There is no memory for one more change.
-    pub fn enrol(&mut self, user: Name, actor: Actor) -> Result<(), AllocError>
+    pub fn enrol(&mut self, user: Name, enrolment: Enrolment) -> Result<(), AllocError>
         ensures entered { KeepsEntered self.old self.new }
         ensures ok { OnOk result (pending_changes self.new
-            ≡ pending_changes self.old ++ record { user = user; effect = Effect.Enrol actor } ∷ []) }
+            ≡ pending_changes self.old ++ record { user = user; effect = Effect.Enrol enrolment } ∷ []) }
         ensures err { OnErr result (pending_changes self.new ≡ pending_changes self.old) }
         ensures full { OnErr result (IsFull self.old) }
     {
         self.add(Change {
             user,
-            effect: Effect::Enrol(actor),
+            effect: Effect::Enrol(enrolment),
         })
     }
 

@@ -7,11 +7,11 @@
 //!
 //! ```text
 //! let (mut registrar, mut windows) = directory.open::<J, _, _>(rt, alloc, 2)?;
-//! registrar.changes.enrol(user, actor)?;
+//! registrar.changes.enrol(user, enrolment)?;
 //! let notice = registrar.publish()?;
 //! for window in windows.iter_mut() {
 //!     window.learn(&notice);
-//!     assert_eq!(rt; window.look(&user), Look::Known(actor));
+//!     assert_eq!(rt; window.look(&user), Look::Known(enrolment));
 //! }
 //! ```
 //!

@@ -65,7 +65,7 @@ impl<J: Naming, A: Allocator> Users<J, A> {
             None => Look::Nobody,
             Some(Standing::Removed) => Look::Nobody,
             Some(Standing::Suspended(_)) => Look::Suspended,
-            Some(Standing::Enrolled(actor)) => Look::Known(*actor),
+            Some(Standing::Enrolled(enrolment)) => Look::Known(*enrolment),
         }
     }
 

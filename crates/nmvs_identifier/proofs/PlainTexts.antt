@@ -1,13 +1,16 @@
 -- Texts that the grammars accept are plain.
-use Rattle.std.proofs.Common.{◌≡◌, ◌≤◌, ◌&&◌, ◌==◌, not, ℕ, Bool, true, nat_eq, nat_le, List, [], ◌∷◌, length, refl, ap, ◌∙◌, inl, inr, codes, arith}
-use Rattle.std.specs.List.{list_all, list_any}
+use Rattle.std.proofs.Common.{◌≡◌, ◌≤◌, ◌&&◌, ◌==◌, not, ℕ, Bool, true, nat_eq, nat_le, List, [], ◌∷◌, length, refl, ap, sym, ◌∙◌, inl, inr, codes, arith}
+use Rattle.std.specs.List.{list_all, list_any, join_with_byte}
 use Rattle.std.specs.Char.{is_ascii_graphic, is_ascii_digit, is_ascii_alphanumeric}
 use Rattle.std.proofs.lemmas.Bool.{and_parts, or_cases, eqb-true}
 use Rattle.std.proofs.lemmas.Bool.Decides.{nat_tests}
+use Rattle.std.proofs.lemmas.List.Folds.{list_all-append}
+use Rattle.std.proofs.lemmas.List.Splits.{join_with_byte-slice_split}
 use Rattle.nmvs_identifier.specs.Texts.{longest_text}
 use Rattle.nmvs_identifier.specs.Characters.{character_set_82, is_in_set_82, is_name_character}
 use Rattle.nmvs_identifier.specs.Name.{is_name, begins_alphanumeric, has_name_characters}
 use Rattle.nmvs_identifier.specs.ProductCode.{is_product_code, is_checked}
+use Rattle.nmvs_identifier.specs.Codes.{longest_codes, codes_in, is_company_prefix, is_code_or_prefix, is_codes}
 use Rattle.nmvs_identifier.specs.Serial.{is_serial}
 use Rattle.nmvs_identifier.specs.Tag.{is_tag, longest_tag}
 use Rattle.nmvs_identifier.specs.Batch.{is_batch}
@@ -99,3 +102,33 @@ plain_serial t e =
 
 pub plain_batch : (t : List ℕ) → is_batch t ≡ true → IsPlain t
 plain_batch t e = plain_serial t e
+
+prefix_plain : (t : List ℕ) → is_company_prefix t ≡ true → list_all is_plain t ≡ true
+prefix_plain t e =
+    let digits = and_parts (nat_le 4 (length t) && nat_le (length t) 12) (list_all is_ascii_digit t) e in
+    all_weaker is_ascii_digit is_plain digit_plain t digits.1
+
+code_or_prefix_plain : (t : List ℕ) → is_code_or_prefix t ≡ true → list_all is_plain t ≡ true
+code_or_prefix_plain t e =
+    elim (or_cases (is_product_code t) (is_company_prefix t) e) [
+      | inl code ↦ (plain_code t code).2
+      | inr prefix ↦ prefix_plain t prefix
+    ]
+
+joined_plain : (ts : List (List ℕ)) → list_all is_code_or_prefix ts ≡ true → list_all is_plain (join_with_byte 44 ts) ≡ true
+joined_plain [] e = refl
+joined_plain (t ∷ []) e = code_or_prefix_plain t (and_parts (is_code_or_prefix t) true e).0
+joined_plain (t ∷ u ∷ ts) e =
+    let parts = and_parts (is_code_or_prefix t) (list_all is_code_or_prefix (u ∷ ts)) e in
+    list_all-append is_plain t (44 ∷ join_with_byte 44 (u ∷ ts)) ∙ (λ i. code_or_prefix_plain t parts.0 i && joined_plain (u ∷ ts) parts.1 i)
+
+-- a list of product codes and company prefixes is a text of 1 to 59 plain characters
+pub plain_codes : (t : List ℕ) → is_codes t ≡ true → (1 ≤ length t) × (length t ≤ longest_codes) × (list_all is_plain t ≡ true)
+plain_codes [] e = absurd cc
+plain_codes (b ∷ bs) e =
+    let halves = and_parts (nat_le (length (b ∷ bs)) longest_codes) (list_all is_code_or_prefix (codes_in (b ∷ bs))) e in
+    let short : length (b ∷ bs) ≤ longest_codes = at_most longest_codes (length (b ∷ bs)) halves.0 in (
+      omega arith,
+      short,
+      ap (list_all is_plain) (sym (join_with_byte-slice_split 44 (b ∷ bs))) ∙ joined_plain (codes_in (b ∷ bs)) halves.1,
+    )

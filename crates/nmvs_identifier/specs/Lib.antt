@@ -3,6 +3,7 @@ pub mod Characters
 pub mod Serial
 pub mod Batch
 pub mod ProductCode
+pub mod Codes
 pub mod Expiry
 pub mod Name
 pub mod Tag

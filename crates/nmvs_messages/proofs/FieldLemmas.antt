@@ -70,19 +70,34 @@ cut_at x n within space e =
     (λ i. take n x ++ sym space i ∷ sym rest i) ∙ ap (λ k. take n x ++ get_or x n 0 ∷ drop k x) (add-one n) ∙ ap (λ t. take n x ++ t) (sym (drop-cons x n 0 within)) ∙ take-append-drop n x in
     subst (λ t. IsCut t (take n x) (take (length x - (n + 1)) (drop (n + 1) x))) whole (joined (take n x) (take (length x - (n + 1)) (drop (n + 1) x)) e)
 
--- eight fields are all that are kept, whatever follows them
-pub kept_full : (kept : List (Bor (List ℕ))) (fs gs : List (List ℕ)) → (length kept == 8) ≡ true
-    → take 8 (map (λ g. g.now) kept ++ fs) ≡ take 8 (map (λ g. g.now) kept ++ gs)
+-- ten fields are all that are kept, whatever follows them
+pub kept_full : (kept : List (Bor (List ℕ))) (fs gs : List (List ℕ)) → (length kept == 10) ≡ true
+    → take 10 (map (λ g. g.now) kept ++ fs) ≡ take 10 (map (λ g. g.now) kept ++ gs)
 kept_full kept fs gs full =
-    let many : 8 ≤ length (map (λ g. g.now) kept) = omega (arith, eqb-true (length kept) 8 full, length-map kept (λ (g : Bor (List ℕ)). g.now)) in
-    take-append-le 8 (map (λ g. g.now) kept) fs many ∙ sym (take-append-le 8 (map (λ g. g.now) kept) gs many)
+    let many : 10 ≤ length (map (λ g. g.now) kept) = omega (arith, eqb-true (length kept) 10 full, length-map kept (λ (g : Bor (List ℕ)). g.now)) in
+    take-append-le 10 (map (λ g. g.now) kept) fs many ∙ sym (take-append-le 10 (map (λ g. g.now) kept) gs many)
 
--- a line with less than eight kept fields has exactly these, and is made of them
-pub line_of_kept : (x : List ℕ) (fs : List (List ℕ)) → take 8 (fields_in x) ≡ fs → length fs < 8 → x ≡ line_of_fields fs
+-- a line with less than ten kept fields has exactly these, and is made of them
+pub line_of_kept : (x : List ℕ) (fs : List (List ℕ)) → take 10 (fields_in x) ≡ fs → length fs < 10 → x ≡ line_of_fields fs
 line_of_kept x fs kept few =
-    let counted = length-take 8 (fields_in x) in
+    let counted = length-take 10 (fields_in x) in
     let same = ap length kept in
-    sym (join_with_byte-slice_split 32 x) ∙ ap line_of_fields (sym (take_all 8 (fields_in x) (omega arith)) ∙ kept)
+    sym (join_with_byte-slice_split 32 x) ∙ ap line_of_fields (sym (take_all 10 (fields_in x) (omega arith)) ∙ kept)
+
+-- the texts of a slice of at least two elements, and of at least four
+pub two_first : (ts : List (Bor (List ℕ))) (a b : Bor (List ℕ)) → 2 ≤ length ts
+    → map (λ t. t.now) ts ≡ (get_or ts 0 a).now ∷ (get_or ts 1 b).now ∷ map (λ t. t.now) (take (length ts - 2) (drop 2 ts))
+two_first [] a b least = absurd (omega arith)
+two_first (s ∷ []) a b least = absurd (omega arith)
+two_first (s ∷ t ∷ ts) a b least = ap (λ us. s.now ∷ t.now ∷ map (λ u. u.now) us) (sym (take_all (length (s ∷ t ∷ ts) - 2) ts (omega arith)))
+
+pub four_first : (ts : List (Bor (List ℕ))) (a b c d : Bor (List ℕ)) → 4 ≤ length ts
+    → map (λ t. t.now) ts ≡ (get_or ts 0 a).now ∷ (get_or ts 1 b).now ∷ (get_or ts 2 c).now ∷ (get_or ts 3 d).now ∷ map (λ t. t.now) (take (length ts - 4) (drop 4 ts))
+four_first [] a b c d least = absurd (omega arith)
+four_first (s ∷ []) a b c d least = absurd (omega arith)
+four_first (s ∷ t ∷ ts) a b c d least =
+    let rest : length ts - 2 ≡ length (s ∷ t ∷ ts) - 4 = omega arith in
+    ap (λ us. s.now ∷ t.now ∷ us) (two_first ts c d (omega arith) ∙ ap (λ n. (get_or ts 0 c).now ∷ (get_or ts 1 d).now ∷ map (λ u. u.now) (take n (drop 2 ts))) rest)
 
 -- the texts of slices of one, two, four and five elements
 pub one : (ts : List (Bor (List ℕ))) (a : Bor (List ℕ)) → 1 ≤ length ts → length ts < 2 → map (λ t. t.now) ts ≡ (get_or ts 0 a).now ∷ []

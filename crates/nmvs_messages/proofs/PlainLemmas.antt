@@ -1,5 +1,5 @@
 -- Lines that are made of plain fields.
-use Rattle.std.proofs.Common.{◌≡◌, ◌≤◌, ◌*◌, ◌&&◌, ◌||◌, ◌==◌, not, cond, ℕ, true, false, nat_lt, Option, Some, List, [], ◌∷◌, length, refl, ap, ◌∙◌, lit≤, arith, length-append}
+use Rattle.std.proofs.Common.{◌≡◌, ◌≤◌, ◌+◌, ◌*◌, ◌&&◌, ◌||◌, ◌==◌, not, cond, ℕ, true, false, nat_lt, Option, Some, List, [], ◌∷◌, length, refl, ap, ◌∙◌, lit≤, arith, length-append}
 use Rattle.std.specs.List.{list_all, list_any, AllByRecursion}
 use Rattle.std.proofs.lemmas.Bool.{and_parts}
 use Rattle.std.proofs.lemmas.Bool.Decides.{nat_tests}
@@ -25,24 +25,32 @@ no_space (b ∷ bs) e = let parts = and_parts (is_plain b) (list_all is_plain bs
 all_printable : (t : List ℕ) → list_all is_plain t ≡ true → list_all is_printable t ≡ true
 all_printable t e = all_weaker is_plain is_printable plain_printable t e
 
+-- a text of plain characters
+abbrev pub IsWord : List ℕ → Type 0
+IsWord t = (1 ≤ length t) × (list_all is_plain t ≡ true)
+
+words : (fs : List (List ℕ)) → AllByRecursion IsPlain fs → AllByRecursion IsWord fs
+words [] plain = tt
+words (f ∷ fs) plain = ((plain.0.0, plain.0.2), words fs plain.1)
+
 -- the fields of a line that is made of plain fields
-fields_in-line_of_fields : (fs : List (List ℕ)) → 1 ≤ length fs → AllByRecursion IsPlain fs → fields_in (line_of_fields fs) ≡ fs
+fields_in-line_of_fields : (fs : List (List ℕ)) → 1 ≤ length fs → AllByRecursion IsWord fs → fields_in (line_of_fields fs) ≡ fs
 fields_in-line_of_fields [] some plain = absurd (omega arith)
-fields_in-line_of_fields (f ∷ []) some plain = slice_split_none is_space f (All-from_recursion _ f (no_space f plain.0.2))
+fields_in-line_of_fields (f ∷ []) some plain = slice_split_none is_space f (All-from_recursion _ f (no_space f plain.0.1))
 fields_in-line_of_fields (f ∷ g ∷ fs) some plain =
-    slice_split_at is_space f 32 (line_of_fields (g ∷ fs)) (All-from_recursion _ f (no_space f plain.0.2)) refl
+    slice_split_at is_space f 32 (line_of_fields (g ∷ fs)) (All-from_recursion _ f (no_space f plain.0.1)) refl
     ∙ ap (λ (rest : List (List ℕ)). f ∷ rest) (fields_in-line_of_fields (g ∷ fs) (omega arith) plain.1)
 
-none_empty : (fs : List (List ℕ)) → AllByRecursion IsPlain fs → list_any is_empty fs ≡ false
+none_empty : (fs : List (List ℕ)) → AllByRecursion IsWord fs → list_any is_empty fs ≡ false
 none_empty [] plain = refl
 none_empty (f ∷ fs) plain = λ i. not_empty (length f) plain.0.0 i || none_empty fs plain.1 i
 
-printable-line_of_fields : (fs : List (List ℕ)) → AllByRecursion IsPlain fs → list_all is_printable (line_of_fields fs) ≡ true
+printable-line_of_fields : (fs : List (List ℕ)) → AllByRecursion IsWord fs → list_all is_printable (line_of_fields fs) ≡ true
 printable-line_of_fields [] plain = refl
-printable-line_of_fields (f ∷ []) plain = all_printable f plain.0.2
+printable-line_of_fields (f ∷ []) plain = all_printable f plain.0.1
 printable-line_of_fields (f ∷ g ∷ fs) plain =
     list_all-append is_printable f (32 ∷ line_of_fields (g ∷ fs))
-    ∙ (λ i. all_printable f plain.0.2 i && printable-line_of_fields (g ∷ fs) plain.1 i)
+    ∙ (λ i. all_printable f plain.0.1 i && printable-line_of_fields (g ∷ fs) plain.1 i)
 
 length-line_of_fields : (fs : List (List ℕ)) → AllByRecursion IsPlain fs → length (line_of_fields fs) ≤ 21 * length fs
 length-line_of_fields [] plain = lit≤ tt
@@ -64,11 +72,10 @@ pub record IsPlainLine (fs : List (List ℕ)) : Type 0 where
   pub fields : fields_in (line_of_fields fs) ≡ fs
   pub filled : list_any is_empty (fields_in (line_of_fields fs)) ≡ false
 
--- one to nine plain fields make such a line
-pub plain_line : (fs : List (List ℕ)) → 1 ≤ length fs → length fs ≤ 9 → AllByRecursion IsPlain fs → IsPlainLine fs
-plain_line fs some few plain =
+-- one to nine plain fields make such a line, if one that is longer than 20 bytes makes up for it by the others
+pub word_line : (fs : List (List ℕ)) → 1 ≤ length fs → length fs ≤ 9 → length (line_of_fields fs) ≤ 21 * length fs → AllByRecursion IsWord fs → IsPlainLine fs
+word_line fs some few bound plain =
     let own = fields_in-line_of_fields fs some plain in
-    let bound = length-line_of_fields fs plain in
     record {
       short = omega (arith, few, bound);
       bound = bound;
@@ -76,6 +83,19 @@ plain_line fs some few plain =
       fields = own;
       filled = ap (list_any is_empty) own ∙ none_empty fs plain;
     }
+
+-- one to nine plain fields make such a line
+pub plain_line : (fs : List (List ℕ)) → 1 ≤ length fs → length fs ≤ 9 → AllByRecursion IsPlain fs → IsPlainLine fs
+plain_line fs some few plain = word_line fs some few (length-line_of_fields fs plain) (words fs plain)
+
+-- the bytes of a field and others, with one between each two
+abbrev pub room : List ℕ → List (List ℕ) → ℕ
+room f [] = length f
+room f (g ∷ fs) = length f + 1 + room g fs
+
+pub length-room : (f : List ℕ) (fs : List (List ℕ)) → length (line_of_fields (f ∷ fs)) ≡ room f fs
+length-room f [] = refl
+length-room f (g ∷ fs) = omega (arith, length-append f (32 ∷ line_of_fields (g ∷ fs)), length-room g fs)
 
 -- it has no other fault than that of its fields
 pub line_fault-plain : {F : Type 0} (long bytes empty : F) (of_fields : List (List ℕ) → Option F) (fs : List (List ℕ)) → IsPlainLine fs

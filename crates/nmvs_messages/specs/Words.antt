@@ -25,6 +25,7 @@ turn_word turns.Journal = codes "JOURNAL"
 turn_word turns.Tag = codes "TAG"
 turn_word turns.Differs = codes "DIFFERS"
 turn_word turns.Changed = codes "CHANGED"
+turn_word turns.Product = codes "PRODUCT"
 
 -- the word of the fault of a line
 abbrev pub fault_word : LineFault → List ℕ

@@ -60,6 +60,8 @@ pub enum Turn {
     Differs,
     /// The user got the state of the pack with the tag, and the reply would now be an alert.
     Changed,
+    /// The product is none of those that the user may upload.
+    Product,
     /// The journal failed, and the entries under the answer are not kept. The operation may stand in the record or not.
     Journal,
 }

@@ -1,13 +1,13 @@
 //! The commands of a registrar.
 use nmvs_identifier::Name;
-use nmvs_rules::Actor;
+use nmvs_rules::Enrolment;
 use thiserror::Error;
 
 /// A registrar's command.
 #[derive(Clone, Copy, PartialEq, Eq)]
 pub enum Command {
-    /// Lets a user ask in this capacity.
-    Enrol(Name, Actor),
+    /// Lets a user ask by this enrolment.
+    Enrol(Name, Enrolment),
     /// Suspends a user: its lines are turned away from now on.
     Suspend(Name),
     /// Removes a user: it is unknown from now on.
@@ -33,4 +33,8 @@ pub enum CommandFault {
     Authorisation,
     #[error("the command's premises are no name")]
     Premises,
+    #[error("the command's last day is no date YYMMDD")]
+    Until,
+    #[error("the command's products are no product codes and company prefixes")]
+    Codes,
 }

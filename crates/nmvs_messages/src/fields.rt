@@ -6,10 +6,10 @@ ghost use Rattle.nmvs_messages.specs.Fields.{is_printable, fields_in, fields_beh
 use crate::LONGEST_LINE;
 use arrayvec::ArrayVec;
 
-/// The most fields of a line that are kept. No line has more than seven, so an eighth shows that there are too many.
-pub const KEPT_FIELDS: usize = 8;
+/// The most fields of a line that are kept. No line has more than nine, so a tenth shows that there are too many.
+pub const KEPT_FIELDS: usize = 10;
 
-/// The fields of a line, or the first eight if there are more.
+/// The fields of a line, or the first ten if there are more.
 pub type Fields<'a> = ArrayVec<&'a str, KEPT_FIELDS>;
 
 /// The fields of a line.
@@ -30,7 +30,7 @@ pub fn fields_of<F: Copy>(line: &[u8], long: F, bytes: F, empty: F) -> Result<Fi
     Ok(fields)
 }
 
-/// Puts the fields of a line, or the first eight if there are more, into an empty list.
+/// Puts the fields of a line, or the first ten if there are more, into an empty list.
 ///
 /// # Errors
 ///

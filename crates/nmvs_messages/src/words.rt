@@ -20,6 +20,7 @@ pub fn word_of_turn(turn: Turn) -> &'static str
         Turn::Tag => "TAG",
         Turn::Differs => "DIFFERS",
         Turn::Changed => "CHANGED",
+        Turn::Product => "PRODUCT",
     }
 }
 

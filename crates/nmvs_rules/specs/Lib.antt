@@ -7,6 +7,7 @@ pub mod Rules
 pub mod Facts
 pub mod Printed
 pub mod Repeats
+pub mod Enrolments
 pub mod Operations
 pub mod Laws
 pub mod before_handover

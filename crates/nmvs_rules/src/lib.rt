@@ -5,6 +5,9 @@
 //! in `specs` on every trail that has these facts. An [`Entry`] is a put with its reply, and a trail is a list of them,
 //! oldest first. [`laws`] has the statements that follow from the rules.
 //!
+//! An [`Enrolment`] says until when a user may ask, and what a holder may upload. No reply rests on it: the desk judges it before
+//! a question is put.
+//!
 //! It keeps no trail and finds no facts in one: `nmvs_tables` and `nmvs_shard` do. It knows no texts of lines or
 //! replies.
 //!
@@ -19,6 +22,7 @@ mod batch_lock;
 mod cause;
 mod circulation;
 mod decision;
+mod enrolment;
 mod entry;
 mod facts;
 mod handing_over;
@@ -42,6 +46,7 @@ pub use batch_lock::BatchLock;
 pub use cause::Cause;
 pub use circulation::onward_of;
 pub use decision::decide;
+pub use enrolment::Enrolment;
 pub use entry::Entry;
 pub use facts::{BatchRecord, Counts, Facts, Known, Mark};
 pub use onward::Onward;

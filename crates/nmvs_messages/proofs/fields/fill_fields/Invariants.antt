@@ -5,8 +5,8 @@ use Rattle.nmvs_messages.proofs.fields.fill_fields.Given as goal
 
 abbrev pub invariant-loop-rest : goal.invariant-loop-rest
 invariant-loop-rest g l = record {
-  kept : take 8 (map (λ f. f.now) l.fields.items ++ fields_behind l.rest) ≡ take 8 (fields_in l.line);
-  few : length l.fields.items ≤ 8;
+  kept : take 10 (map (λ f. f.now) l.fields.items ++ fields_behind l.rest) ≡ take 10 (fields_in l.line);
+  few : length l.fields.items ≤ 10;
   filled : list_any is_empty (fields_in l.line) ≡ list_any is_empty (fields_behind l.rest);
   printable : list_all is_printable l.line ≡ are_printable_behind l.rest;
 }

@@ -1,0 +1,10 @@
+use Rattle.std.proofs.Common.{rules, lit<}
+use Rattle.std.proofs.lemmas.Iterator.Search.{all_from_yields_List}
+use Rattle.std.proofs.lemmas.Iterator.Splits.{YieldsList-from_str_split}
+use Rattle.nmvs_identifier.specs.Codes.{is_code_or_prefix}
+use Rattle.nmvs_identifier.proofs.codes.are_codes.Goals as goal
+
+pub returns : goal.returns
+returns c =
+    all_from_yields_List is_code_or_prefix _ _ _ c.all.ensures.ran
+    (YieldsList-from_str_split 44 c.args.text.now (lit< tt) c.split.ensures.text c.split.ensures.has_more c.split.ensures.pattern) (λ x b q k. search rules)
