@@ -215,9 +215,7 @@ module _ (tables : ℕ → HistoryId) (count : ℕ) (tokens : List TokenView) (r
   pub asked : (put : Put) (printed : Option Printed) (o : Outcome) → Becomes count index put printed was now o → IsClerk tables count (set tokens index now) (receipts ++ new_receipts index put o)
   asked put printed (outcome.New a) b = with_receipt a put printed b
   asked put printed (outcome.Again a) b = subst (λ l. IsClerk tables count (set tokens index now) l) (sym (append-nil receipts)) (looked (shown_now put printed (outcome.Again a) b) (no_place put printed (outcome.Again a) b refl))
-  asked put printed outcome.Other b = subst (λ l. IsClerk tables count (set tokens index now) l) (sym (append-nil receipts)) (looked (shown_now put printed outcome.Other b) (no_place put printed outcome.Other b refl))
-  asked put printed outcome.Differs b = subst (λ l. IsClerk tables count (set tokens index now) l) (sym (append-nil receipts)) (looked (shown_now put printed outcome.Differs b) (no_place put printed outcome.Differs b refl))
-  asked put printed outcome.Changed b = subst (λ l. IsClerk tables count (set tokens index now) l) (sym (append-nil receipts)) (looked (shown_now put printed outcome.Changed b) (no_place put printed outcome.Changed b refl))
+  asked put printed (outcome.NotPut why n) b = subst (λ l. IsClerk tables count (set tokens index now) l) (sym (append-nil receipts)) (looked (shown_now put printed (outcome.NotPut why n) b) (no_place put printed (outcome.NotPut why n) b refl))
 
   -- the answer that it receives
   pub answers : (seen : List Change) (keeps : Bool) (put : Put) (printed : Option Printed) (o : Outcome) (entries : List Entry) (b : Becomes count index put printed was now o) → entries ≡ shown_by b.trail put o

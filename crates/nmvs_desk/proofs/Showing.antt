@@ -25,9 +25,7 @@ remaining_kept t u c (v, whole) is = ap (λ x. remaining x c) (sym whole) ∙ re
 pub cursor_stands : (old new : List Entry) (put : Put) (printed : Option Printed) (o : Outcome) → Asks old put printed new o → IsPrefix old new → ForSome (cursor_of o) (IsCursorOf new)
 cursor_stands old new put printed (outcome.New a) asks begins = λ c here. cursor_kept old new c begins (asks.2.cursor c here)
 cursor_stands old new put printed (outcome.Again a) asks begins = λ c here. absurd cc
-cursor_stands old new put printed outcome.Other asks begins = λ c here. absurd cc
-cursor_stands old new put printed outcome.Differs asks begins = λ c here. absurd cc
-cursor_stands old new put printed outcome.Changed asks begins = λ c here. absurd cc
+cursor_stands old new put printed (outcome.NotPut why n) asks begins = λ c here. absurd cc
 
 -- and the entries that the rules show
 pub shows_rules : (old new : List Entry) (put : Put) (printed : Option Printed) (o : Outcome) (r : Option (List Entry)) → Asks old put printed new o → IsPrefix old new → (cursor_of o ≡ None → r ≡ None) → ForSome (cursor_of o) (λ c. r ≡ Some (remaining new c)) → entries_left (λ (s : List Entry). s) r ≡ shown_by old put o
@@ -37,6 +35,4 @@ shows_rules old new put printed (outcome.New a) r asks begins none some = by a.s
     by None is = ap (entries_left (λ (s : List Entry). s)) (none is) ∙ ap (shown_in old) (sym is) ∙ asks.2.shows
     by (Some c) is = ap (entries_left (λ (s : List Entry). s)) (some c is) ∙ remaining_kept old new c begins (asks.2.cursor c is) ∙ ap (shown_in old) (sym is) ∙ asks.2.shows
 shows_rules old new put printed (outcome.Again a) r asks begins none some = ap (entries_left (λ (s : List Entry). s)) (none refl)
-shows_rules old new put printed outcome.Other r asks begins none some = ap (entries_left (λ (s : List Entry). s)) (none refl)
-shows_rules old new put printed outcome.Differs r asks begins none some = ap (entries_left (λ (s : List Entry). s)) (none refl)
-shows_rules old new put printed outcome.Changed r asks begins none some = ap (entries_left (λ (s : List Entry). s)) (none refl)
+shows_rules old new put printed (outcome.NotPut why n) r asks begins none some = ap (entries_left (λ (s : List Entry). s)) (none refl)

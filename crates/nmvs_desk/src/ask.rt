@@ -302,6 +302,6 @@ fn keep_new<A: Allocator>(
                 reply: answered.reply,
             },
         }),
-        Outcome::Again(_) | Outcome::Other | Outcome::Differs | Outcome::Changed => {}
+        Outcome::Again(_) | Outcome::NotPut(..) => {}
     }
 }

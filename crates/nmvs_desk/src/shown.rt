@@ -82,6 +82,6 @@ pub(crate) fn shown_by<H: Histories>(
             let cursor = answered.shown?;
             Some(Shown::new(shard, cursor, sight))
         }
-        Outcome::Again(_) | Outcome::Other | Outcome::Differs | Outcome::Changed => None,
+        Outcome::Again(_) | Outcome::NotPut(..) => None,
     }
 }

@@ -32,7 +32,7 @@ use Rattle.nmvs_messages.specs.declared.peer.Peer.TheVariants as peers
 use Rattle.nmvs_messages.specs.Asks.{user_of}
 use Rattle.nmvs_messages.specs.declared.withheld.Basis.{Basis}
 use Rattle.nmvs_journal.specs.Told.{IsWithin, ReachView}
-use Rattle.nmvs_reception.specs.Desk.{DeskView, Admits, AnswersAdmitted, IsMoment, Knows, LetsGo, LooksUp, Refuses, Replies, RestsOnAll, Says, SeesShard, Serves, suspended_turn}
+use Rattle.nmvs_reception.specs.Desk.{DeskView, Admits, AnswersAdmitted, IsMoment, Knows, LetsGo, LooksUp, Refuses, Replies, RestsOn, Says, SeesShard, Serves, suspended_turn}
 
 -- the clock gave a moment, the clerk learned the notice, and the directory said this of the user
 pub looks_up : (notice : List Change) (old : DeskView) (user : Name) (look : Look) (told new : ClerkView) (times : ℕ) (gave : ℤ) → times ≡ old.asked + 1 → IsMoment gave
@@ -137,7 +137,7 @@ Within new basis = IfSome basis (λ (b : Basis). b.place < length (row new.clerk
 none_within : (new : DeskView) (basis : Option Basis) → basis ≡ None → Within new basis
 none_within new basis e = subst (Within new) (sym e) tt
 
-all_within : (new : DeskView) (shard : ℕ) (basis : Option Basis) → RestsOnAll shard (row new.clerk.sights shard) basis → Within new basis
+all_within : (new : DeskView) (shard : ℕ) (basis : Option Basis) → RestsOn shard (length (row new.clerk.sights shard)) basis → Within new basis
 all_within new shard None r = tt
 all_within new shard (Some b) r = subst (λ i. b.place < length (row new.clerk.sights i)) (sym r.0) (omega (arith, r.1))
 
@@ -150,9 +150,8 @@ said_within new shard trail put printed (outcomes.New a) shown said basis asks s
 said_within new shard trail put printed (outcomes.Again a) shown said basis asks says =
     let there = (stands_for trail put a.place a.reply asks.1.repeat).within in
     subst (Within new) (sym says.1) (subst (λ t. a.place < length t) (sym asks.0) there)
-said_within new shard trail put printed outcomes.Other shown said basis asks says = none_within new basis says.1
-said_within new shard trail put printed outcomes.Differs shown said basis asks says = none_within new basis says.1
-said_within new shard trail put printed outcomes.Changed shown said basis asks says = none_within new basis says.1
+said_within new shard trail put printed (outcomes.NotPut why n) shown said basis asks says =
+    all_within new shard basis (subst (λ (m : ℕ). RestsOn shard m basis) (asks.1 ∙ sym (ap length asks.0)) says.1)
 
 admitted_within : (old : DeskView) (tag : Option Tag) (what : Asked) (moment : ℕ) (actor : Actor) (said : Content) (basis : Option Basis) (new : DeskView)
     → AnswersAdmitted old tag what moment actor said basis new → Within new basis

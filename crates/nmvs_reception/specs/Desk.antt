@@ -18,6 +18,8 @@ use Rattle.nmvs_rules.specs.declared.put.Put.{Put}
 use Rattle.nmvs_rules.specs.declared.role.Role.{Role}
 use Rattle.nmvs_rules.specs.Questions.{code_of, may_report}
 use Rattle.nmvs_words.specs.Kinds.{naming_pack}
+use Rattle.nmvs_shard.specs.declared.shard.NotPut.{NotPut}
+use Rattle.nmvs_shard.specs.declared.shard.NotPut.TheVariants as not_put
 use Rattle.nmvs_shard.specs.declared.shard.Outcome.{Outcome}
 use Rattle.nmvs_shard.specs.declared.shard.Outcome.TheVariants as outcomes
 use Rattle.nmvs_desk.specs.Answers.{Answers, IsShown}
@@ -127,15 +129,24 @@ Refuses notice old from ask turns.Tag new = ⊥
 Refuses notice old from ask turns.Differs new = ⊥
 Refuses notice old from ask turns.Changed new = ⊥
 
+-- the basis of an answer that rests on the first entries of a shard's trail, this number of them
+abbrev pub RestsOn : ℕ → ℕ → Option Basis → Type 0
+RestsOn shard entries None = entries ≡ 0
+RestsOn shard entries (Some basis) = (basis.shard ≡ shard) × (basis.place + 1 ≡ entries)
+
+-- the reason to turn away a question that was not put: the tag is another question's, the pack was uploaded with other values than
+-- those printed on it, or a late copy would raise an alert
+abbrev pub not_put_turn : NotPut → Turn
+not_put_turn not_put.Other = turns.Tag
+not_put_turn not_put.Differs = turns.Differs
+not_put_turn not_put.Changed = turns.Changed
+
 -- the answer to an outcome in the shard of this number, and its basis: the reply of the entry that answers the question, with
--- the text of the entries that are shown, on the entries up to that one; or a turn, since the tag is another question's, the
--- pack was uploaded with other values than those printed on it, or a late copy would raise an alert
+-- the text of the entries that are shown, on the entries up to that one; or a turn, on all entries that were there
 abbrev pub Says : ℕ → Outcome → List Entry → Content → Option Basis → Type 0
 Says shard (outcomes.New a) shown said basis = (said ≡ contents.Replied a.reply (export_text shown)) × (basis ≡ Some (record { shard = shard; place = a.place }))
 Says shard (outcomes.Again a) shown said basis = (said ≡ contents.Replied a.reply (export_text shown)) × (basis ≡ Some (record { shard = shard; place = a.place }))
-Says shard outcomes.Other shown said basis = (said ≡ contents.Turned turns.Tag) × (basis ≡ None)
-Says shard outcomes.Differs shown said basis = (said ≡ contents.Turned turns.Differs) × (basis ≡ None)
-Says shard outcomes.Changed shown said basis = (said ≡ contents.Turned turns.Changed) × (basis ≡ None)
+Says shard (outcomes.NotPut why entries) shown said basis = (said ≡ contents.Turned (not_put_turn why)) × RestsOn shard entries basis
 
 -- the clerk asks the question in the shard of this number, once, and the desk gives the outcome, with the entries that the
 -- rules show; nothing else changes
@@ -156,16 +167,11 @@ pub record SeesShard (old : DeskView) (shard : ℕ) (new : DeskView) : Type 0 wh
   pub others : (i : ℕ) → i ≢ shard → row new.clerk.sights i ≡ row old.clerk.sights i
   pub same : new ≡ record old { clerk = record old.clerk { sights = new.clerk.sights } }
 
--- the basis of an answer that rests on all of a shard's trail
-abbrev pub RestsOnAll : ℕ → List Entry → Option Basis → Type 0
-RestsOnAll shard t None = length t ≡ 0
-RestsOnAll shard t (Some basis) = (basis.shard ≡ shard) × (basis.place + 1 ≡ length t)
-
 -- the report of the product code on the clerk's sight of its shard, each line after the tag of the line that asked, and all of
 -- that sight as its basis
 pub record Reports (new : DeskView) (shard : ℕ) (tag : Option Tag) (code : ProductCode) (said : Content) (basis : Option Basis) : Type 0 where
   pub is : let t = row new.clerk.sights shard in said ≡ contents.Reported (product_line t code) (report_lines (tag_text tag) t code)
-  pub rests : RestsOnAll shard (row new.clerk.sights shard) basis
+  pub rests : RestsOn shard (length (row new.clerk.sights shard)) basis
 
 -- the answers that the desk may give to an admitted question
 abbrev pub AnswersQuestion : DeskView → Put → Option Printed → Content → Option Basis → DeskView → Type 0

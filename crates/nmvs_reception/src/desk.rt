@@ -7,7 +7,7 @@ ghost use Rattle.nmvs_messages.specs.Tags.{tag_text};
 ghost use Rattle.nmvs_reports.specs.Report.{record_lines};
 ghost use Rattle.nmvs_messages.specs.Withheld.{content_shown, entries_left, text_left};
 ghost use Rattle.nmvs_rules.specs.declared.entry.Entry.{Entry as TheEntry};
-ghost use Rattle.nmvs_reception.specs.Desk.{may_ask_this, suspended_turn as turn_of_suspended, RestsOnAll, Says};
+ghost use Rattle.nmvs_reception.specs.Desk.{may_ask_this, not_put_turn as turn_of_not_put, suspended_turn as turn_of_suspended, RestsOn, Says};
 ghost use Rattle.nmvs_line.specs.Export.{export_text};
 ghost use Rattle.nmvs_reports.specs.Following.{following_text};
 
@@ -26,7 +26,7 @@ use nmvs_metrics::WorkerMetrics;
 use nmvs_rate::SharedLimiter;
 use nmvs_reports::{Following, ReportList, batches, product_line};
 use nmvs_rules::{Actor, BatchRecord, Printed, Put, Question, Reply, Role, may_report};
-use nmvs_shard::{Answered, Outcome, Shard};
+use nmvs_shard::{Answered, NotPut, Outcome, Shard};
 use nmvs_store::Store;
 use std::alloc::{AllocError, Global};
 use std::marker::Model;
@@ -69,7 +69,7 @@ impl<'r, 'a, R: Wait + rt::Clock + Log, J: Naming, H: Histories, K: Clock> Clerk
     ghost use Rattle.nmvs_desk.specs.Placing.{shard_of};
     ghost use Rattle.nmvs_desk.specs.Settlement.{row};
     ghost use Rattle.nmvs_reports.specs.Report.{product_line, report_batches};
-    ghost use Rattle.nmvs_reception.specs.Desk.{Admits, AnswersAdmitted, AnswersQuestion, AnswersReport, Refuses, RestsOnAll, SeesShard, Serves};
+    ghost use Rattle.nmvs_reception.specs.Desk.{Admits, AnswersAdmitted, AnswersQuestion, AnswersReport, Refuses, RestsOn, SeesShard, Serves};
 
     /// A desk over a clerk of this repository, the lock of the latest notice, and the limiter of the users' rate, if they have
     /// one. The metrics count its answers, and its flagged alerts are noted.
@@ -242,7 +242,7 @@ impl<'r, 'a, R: Wait + rt::Clock + Log, J: Naming, H: Histories, K: Clock> Clerk
         ensures sees { SeesShard self.old (shard_of self.old.shards code.now) self.new }
         ensures first { IfOk result (λ r. string_bytes r.0 ≡ product_line (row self.new.clerk.sights (shard_of self.old.shards code.now)) code.now) }
         ensures batches { IfOk result (λ r. r.1.items ≡ report_batches (row self.new.clerk.sights (shard_of self.old.shards code.now)) code.now) }
-        ensures rests { IfOk result (λ r. RestsOnAll (shard_of self.old.shards code.now) (row self.new.clerk.sights (shard_of self.old.shards code.now)) r.2) }
+        ensures rests { IfOk result (λ r. RestsOn (shard_of self.old.shards code.now) (length (row self.new.clerk.sights (shard_of self.old.shards code.now))) r.2) }
     {
         let (rt, repository) = (self.rt, self.repository);
         let alloc = *self.clerk.allocator();
@@ -376,9 +376,21 @@ fn answer_by<H: Histories>(
             let content = Content::Replied(reply, ShownText::of(&list));
             (content, Some(Basis { shard, place }), list)
         }
-        Outcome::Other => (Content::Turned(Turn::Tag), None, None),
-        Outcome::Differs => (Content::Turned(Turn::Differs), None, None),
-        Outcome::Changed => (Content::Turned(Turn::Changed), None, None),
+        Outcome::NotPut(why, entries) => {
+            let turn = Content::Turned(not_put_turn(why));
+            (turn, basis_of(shard, entries), None)
+        }
+    }
+}
+
+/// The reason to turn away a question that was not put.
+fn not_put_turn(why: NotPut) -> Turn
+    ensures { result ≡ turn_of_not_put why }
+{
+    match why {
+        NotPut::Other => Turn::Tag,
+        NotPut::Differs => Turn::Differs,
+        NotPut::Changed => Turn::Changed,
     }
 }
 
@@ -394,8 +406,8 @@ fn note_put<R: Wait + Log>(
 ) {
     let answered = match outcome {
         Outcome::New(answered) => answered,
-        Outcome::Differs => return alerts.note_mismatch(rt, put),
-        Outcome::Again(_) | Outcome::Other | Outcome::Changed => return,
+        Outcome::NotPut(NotPut::Differs, _) => return alerts.note_mismatch(rt, put),
+        Outcome::Again(_) | Outcome::NotPut(..) => return,
     };
     metrics.note_put(shard, &put.question, &answered.reply);
     if let Reply::Alert {
@@ -417,9 +429,9 @@ fn note_confirmed(metrics: &WorkerMetrics<'_>, counts: &[usize]) {
     }
 }
 
-/// The basis of an answer that rests on a whole trail with this number of entries.
+/// The basis of an answer that rests on a trail with this number of entries.
 fn basis_of(shard: usize, count: usize) -> Option<Basis>
-    ensures { (t : List TheEntry) → length t ≡ count → RestsOnAll shard t result }
+    ensures { RestsOn shard count result }
 {
     if count == 0 {
         return None;

@@ -20,7 +20,7 @@ use nmvs_messages::{
 use nmvs_protocol::serve;
 use nmvs_reports::{Following, ReportList, batches, product_line};
 use nmvs_rules::{Printed, Put, Question, Reply, may, may_report};
-use nmvs_shard::{HashKey, Outcome, Shard};
+use nmvs_shard::{HashKey, NotPut, Outcome, Shard};
 use nmvs_stream::{Sink, Source};
 use std::alloc::{AllocError, Global};
 use std::marker::Model;
@@ -139,9 +139,9 @@ impl<'a> RehearsalDesk<'a> {
         match self.shard.ask(&put, printed) {
             Ok(Outcome::New(answered)) => replied(answered.reply, list),
             Ok(Outcome::Again(answered)) => replied(answered.reply, None),
-            Ok(Outcome::Other) => (Content::Turned(Turn::Tag), None),
-            Ok(Outcome::Differs) => (Content::Turned(Turn::Differs), None),
-            Ok(Outcome::Changed) => (Content::Turned(Turn::Changed), None),
+            Ok(Outcome::NotPut(NotPut::Other, _)) => (Content::Turned(Turn::Tag), None),
+            Ok(Outcome::NotPut(NotPut::Differs, _)) => (Content::Turned(Turn::Differs), None),
+            Ok(Outcome::NotPut(NotPut::Changed, _)) => (Content::Turned(Turn::Changed), None),
             Err(AllocError) => (Content::Turned(Turn::Memory), None),
         }
     }

@@ -23,6 +23,7 @@ use Rattle.nmvs_rules.proofs.RepeatLaws.{new-unasked}
 use Rattle.nmvs_rules.proofs.VerificationLemmas.{decommissioning-exact, verification-exact}
 use Rattle.nmvs_shard.specs.declared.shard.Answered.{Answered}
 use Rattle.nmvs_shard.specs.declared.shard.Outcome.{Outcome}
+use Rattle.nmvs_shard.specs.declared.shard.NotPut.TheVariants as not_put
 use Rattle.nmvs_shard.specs.declared.shard.Outcome.TheVariants as outcome
 use Rattle.nmvs_shard.specs.Asking.{Asks, IsAlerted}
 
@@ -49,10 +50,10 @@ kept old new q p printed (outcome.New a) is asks may false_one unasked = record 
   recorded = is.2.trail;
 }
 kept old new q p printed (outcome.Again a) is asks may false_one unasked = absurd (cc (sym (new-unasked old q unasked) ∙ is.1.repeat))
-kept old new q p printed outcome.Other is asks may false_one unasked = absurd (cc (sym (new-unasked old q unasked) ∙ is.1))
-kept old new q p printed outcome.Differs is asks may false_one unasked =
-    absurd (cc (sym (unconditional (reply_of old q) (alerts_of old p.code + 1) (alerting old q p asks may false_one)) ∙ first_so _ _ is.2))
-kept old new q p printed outcome.Changed is asks may false_one unasked = absurd (cc (sym unasked ∙ second_so (is_alert (reply_of old q)) _ is.2))
+kept old new q p printed (outcome.NotPut not_put.Other n) is asks may false_one unasked = absurd (cc (sym (new-unasked old q unasked) ∙ is.2))
+kept old new q p printed (outcome.NotPut not_put.Differs n) is asks may false_one unasked =
+    absurd (cc (sym (unconditional (reply_of old q) (alerts_of old p.code + 1) (alerting old q p asks may false_one)) ∙ first_so _ _ is.2.1))
+kept old new q p printed (outcome.NotPut not_put.Changed n) is asks may false_one unasked = absurd (cc (sym unasked ∙ second_so (is_alert (reply_of old q)) _ is.2.1))
 
 no-alert : (a b : Bool) → (a && b) ≡ false → b ≡ true → a ≡ false
 no-alert true true h is = cc
@@ -78,6 +79,4 @@ pub copied : (old new : List Entry) (q : Put) (printed : Option Printed) (o : Ou
 copied old new q printed (outcome.New a) c is asked =
     ap (λ t. alerts_of t c) is.2.trail ∙ adds-none old (answered q a.reply) c (ap is_alert is.2.reply ∙ no-alert _ _ is.1.0 asked)
 copied old new q printed (outcome.Again a) c is asked = ap (λ t. alerts_of t c) is.0
-copied old new q printed outcome.Other c is asked = ap (λ t. alerts_of t c) is.0
-copied old new q printed outcome.Differs c is asked = ap (λ t. alerts_of t c) is.0
-copied old new q printed outcome.Changed c is asked = ap (λ t. alerts_of t c) is.0
+copied old new q printed (outcome.NotPut why n) c is asked = ap (λ t. alerts_of t c) is.0
