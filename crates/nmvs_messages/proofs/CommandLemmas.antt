@@ -217,7 +217,7 @@ few_enrolment user a None (Some products) = lit≤ tt
 few_enrolment user a (Some last) None = lit≤ tt
 few_enrolment user a (Some last) (Some products) = lit≤ tt
 
-few_fields : (c : Command) → length (command_fields c) < 10
+pub few_fields : (c : Command) → length (command_fields c) < 10
 few_fields (Enrol user d) = few_enrolment user d.actor d.until d.codes
 few_fields (Suspend user) = lit≤ tt
 few_fields (Remove user) = lit≤ tt

@@ -6,6 +6,7 @@ use Rattle.nmvs_identifier.specs.Codes.{Codes, is_codes}
 use Rattle.nmvs_identifier.specs.Expiry.{Expiry, is_expiry}
 use Rattle.nmvs_identifier.specs.Name.{is_name}
 use Rattle.nmvs_rules.specs.declared.actor.Actor.{Actor}
+use Rattle.nmvs_rules.specs.declared.enrolment.Enrolment.{Enrolment}
 use Rattle.nmvs_rules.specs.Enrolments.{is_enrolment}
 use Rattle.nmvs_words.specs.Words.{role_word, role_named}
 use Rattle.nmvs_messages.specs.declared.command.Command.{Command}
@@ -31,6 +32,10 @@ terms_fields until products = until_fields until ++ codes_fields products
 -- the fields of an actor
 abbrev pub actor_fields : Actor → List (List ℕ)
 actor_fields a = role_word a.role ∷ a.authorisation.bytes ∷ a.premises.bytes ∷ []
+
+-- the words of an enrolment, as they follow its user in a line
+abbrev pub enrolment_words : Enrolment → List ℕ
+enrolment_words e = line_of_fields (actor_fields e.actor ++ terms_fields e.until e.codes)
 
 -- the fields of a command
 abbrev pub command_fields : Command → List (List ℕ)
