@@ -138,7 +138,7 @@ writing_text nanoseconds =
 -- whether the log failed, as a counter and as a gauge, and for how long it writes
 unfoldable pub log_health_text : LogSnapshot → List ℕ
 log_health_text j =
-    single (codes "nmvs_journal_failures_total") (codes "counter") (codes "Journals whose file failed.") (if j.has_failed then 1 else 0)
+    single (codes "nmvs_journal_failures_total") (codes "counter") (codes "Failures of the file of the log.") (if j.has_failed then 1 else 0)
     ++ (single (codes "nmvs_log_failed") (codes "gauge") (codes "Whether the log failed, 1 or 0.") (if j.has_failed then 1 else 0)
     ++ writing_text j.writing)
 

@@ -349,7 +349,7 @@ fn append_log_health(alloc: Global, log: &LogSnapshot, text: &mut String) -> Res
     let failures = Family {
         name: "nmvs_journal_failures_total",
         kind: "counter",
-        help: "Journals whose file failed.",
+        help: "Failures of the file of the log.",
     };
     let failed = Family {
         name: "nmvs_log_failed",
