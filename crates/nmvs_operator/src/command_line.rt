@@ -11,8 +11,9 @@ const ABOUT: &str =
     "The national medicines verification repository: answers lines of users over connections, and takes commands of its \
     operator on standard input.";
 
-/// The version of the program, and the toolchain that it is proved by (own).
-pub const VERSION: &str = "0.9.0 (proved by rattle logic dac8208d650f15bf)";
+/// The version of the program, and the toolchain that it is built by (own). A program that was built without its proof says the
+/// same: the digests of a release name those that the gate passed.
+pub const VERSION: &str = "0.9.0 (built by rattle logic dac8208d650f15bf)";
 
 const REHEARSAL: &str =
     "Without any option the program is a rehearsal: one session over standard input and output, with an empty \
