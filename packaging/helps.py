@@ -7,7 +7,7 @@ import textwrap
 FILES = {"FILE": "-f", "PATH": "-f", "PAGE": "-f", "DIR": "-d"}
 # The options that a file of options can't have.
 COMMAND_LINE = {"check", "config", "help", "version"}
-PROGRAMS = ("nmvs-check", "nmvs-ctl", "nmvs-qualify", "nmvs-serve")
+PROGRAMS = ("nmvs-check", "nmvs-ctl", "nmvs-qualify", "nmvs-serve", "nmvs-workbook")
 
 
 @dataclasses.dataclass

@@ -8,7 +8,7 @@ import uuid
 
 TOP = pathlib.Path(__file__).resolve().parent.parent
 # What the package needs of the system: by packaging/debian/control.
-SYSTEM = {"python3": "nmvs-ctl and nmvs-qualify", "adduser": "the installation", "libc6": "the programs", "haproxy": "the gateway"}
+SYSTEM = {"python3": "nmvs-ctl, nmvs-qualify and nmvs-workbook", "adduser": "the installation", "libc6": "the programs", "haproxy": "the gateway"}
 
 
 def direct():
