@@ -397,12 +397,12 @@ pub each_is_read : EachIsRead
 each_is_read l e = (refl, first_fault-text l e, e)
 
 -- a text without a tag is read as a line, or with a fault, if its fields are
-pub reads_fields : (x : List ℕ) (fs : List (List ℕ)) (r : Result Line Unread) → tag_of x ≡ None → fs ≡ take 8 (fields_in x) → fields_fault fs ≡ fault_behind None x
+pub reads_fields : (x : List ℕ) (fs : List (List ℕ)) (r : Result Line Unread) → tag_of x ≡ None → fs ≡ take 10 (fields_in x) → fields_fault fs ≡ fault_behind None x
     → IfOk r (λ l. line_tag l ≡ None) → IfOk r (λ l. fields l ≡ fs) → IfOk r (λ l. IsTrue (is_line l))
     → MatchResult r (λ _. fields_fault fs ≡ None) (λ u. (fields_fault fs ≡ Some u.fault) × (u.tag ≡ None)) → ReadsLine x r
 unfolding first_fault
 reads_fields x fs (Ok l) none kept same_fault untagged same valid fault = (
-  line_of_kept x (fields l) (sym (same ∙ kept)) (few_fields l valid) ∙ ap (λ (g : Option Tag). tag_text g ++ line_of_fields (fields l)) (sym untagged),
+  line_of_kept x (fields l) (sym (same ∙ kept)) (omega (arith, few_fields l valid)) ∙ ap (λ (g : Option Tag). tag_text g ++ line_of_fields (fields l)) (sym untagged),
   ap (λ (g : Option Tag). fault_behind g x) none ∙ sym same_fault ∙ fault,
   valid,
 )
@@ -412,9 +412,9 @@ reads_fields x fs (Err u) none kept same_fault untagged same valid fault = (
 )
 
 -- the text after a tag is the text of the ask that its fields are read as
-pub reads_asked : (x : List ℕ) (fs : List (List ℕ)) (r : Result Asked LineFault) → fs ≡ take 8 (fields_in x) → IfOk r (λ a. asked_fields a ≡ fs)
+pub reads_asked : (x : List ℕ) (fs : List (List ℕ)) (r : Result Asked LineFault) → fs ≡ take 10 (fields_in x) → IfOk r (λ a. asked_fields a ≡ fs)
     → IfOk r (λ a. IsTrue (is_asked a)) → IfOk r (λ a. x ≡ line_of_fields (asked_fields a))
-reads_asked x fs (Ok a) kept same valid = line_of_kept x (asked_fields a) (sym (same ∙ kept)) (few_asked_fields a valid)
+reads_asked x fs (Ok a) kept same valid = line_of_kept x (asked_fields a) (sym (same ∙ kept)) (omega (arith, few_asked_fields a valid))
 reads_asked x fs (Err f) kept same valid = tt
 
 -- a line is its tag and the ask that is read after it
@@ -432,36 +432,36 @@ reads_tagged x g y a tag behind text valid fault =
 wrong_count : (gs : List Grammar) (user : List ℕ) (ts : List (List ℕ)) → length ts ≢ length gs → texts_fault gs user ts ≡ Some fault.Fields
 wrong_count gs user ts ne = rw (ne_eqb (length ts) (length gs) ne) refl
 
-texts_fault-take : (gs : List Grammar) (user : List ℕ) (ts : List (List ℕ)) → length gs ≤ 4 → texts_fault gs user (take 6 ts) ≡ texts_fault gs user ts
-texts_fault-take gs user ts few = elim (cases_lt 6 (length ts)) [
-  | inr short ↦ ap (texts_fault gs user) (take_all 6 ts short)
+texts_fault-take : (gs : List Grammar) (user : List ℕ) (ts : List (List ℕ)) → length gs ≤ 4 → texts_fault gs user (take 8 ts) ≡ texts_fault gs user ts
+texts_fault-take gs user ts few = elim (cases_lt 8 (length ts)) [
+  | inr short ↦ ap (texts_fault gs user) (take_all 8 ts short)
   | inl long ↦
-      let kept = length-take 6 ts in
-      wrong_count gs user (take 6 ts) (omega arith) ∙ sym (wrong_count gs user ts (omega arith))
+      let kept = length-take 8 ts in
+      wrong_count gs user (take 8 ts) (omega arith) ∙ sym (wrong_count gs user ts (omega arith))
 ]
 
-pack_fault-take : (user : List ℕ) (ts : List (List ℕ)) → pack_fault user (take 6 ts) ≡ pack_fault user ts
-pack_fault-take user ts = elim (cases_lt 6 (length ts)) [
-  | inr short ↦ ap (pack_fault user) (take_all 6 ts short)
+pack_fault-take : (user : List ℕ) (ts : List (List ℕ)) → pack_fault user (take 8 ts) ≡ pack_fault user ts
+pack_fault-take user ts = elim (cases_lt 8 (length ts)) [
+  | inr short ↦ ap (pack_fault user) (take_all 8 ts short)
   | inl long ↦
-      let kept = length-take 6 ts in
-      pack_fault-other user (take 6 ts) (omega arith) ∙ texts_fault-take pack_grammars user ts (lit≤ tt) ∙ sym (pack_fault-other user ts (omega arith))
+      let kept = length-take 8 ts in
+      pack_fault-other user (take 8 ts) (omega arith) ∙ texts_fault-take pack_grammars user ts (lit≤ tt) ∙ sym (pack_fault-other user ts (omega arith))
 ]
 
-question_fault-take : (user : List ℕ) (kind : Option QuestionKind) (ts : List (List ℕ)) → question_fault user kind (take 6 ts) ≡ question_fault user kind ts
+question_fault-take : (user : List ℕ) (kind : Option QuestionKind) (ts : List (List ℕ)) → question_fault user kind (take 8 ts) ≡ question_fault user kind ts
 question_fault-take user None ts = refl
 question_fault-take user (Some Upload) ts = texts_fault-take (grammars Upload) user ts (lit≤ tt)
 question_fault-take user (Some (OfPack kind)) ts = pack_fault-take user ts
 question_fault-take user (Some (OfBatch kind)) ts = texts_fault-take (grammars (OfBatch kind)) user ts (lit≤ tt)
 
 -- the kept fields of a line have the fault of all its fields
-pub asked_fault-take : (fs : List (List ℕ)) → asked_fault (take 8 fs) ≡ asked_fault fs
+pub asked_fault-take : (fs : List (List ℕ)) → asked_fault (take 10 fs) ≡ asked_fault fs
 asked_fault-take [] = refl
 asked_fault-take (word ∷ []) = refl
 asked_fault-take (user ∷ word ∷ ts) =
     λ i. cond (bytes_eq word report_word) (texts_fault-take report_grammars user ts (lit≤ tt) i) (question_fault-take user (kind_named word) ts i)
 
-pub fields_fault-take : (fs : List (List ℕ)) → fields_fault (take 8 fs) ≡ fields_fault fs
+pub fields_fault-take : (fs : List (List ℕ)) → fields_fault (take 10 fs) ≡ fields_fault fs
 fields_fault-take [] = refl
 fields_fault-take (word ∷ []) = refl
 fields_fault-take (user ∷ word ∷ ts) = asked_fault-take (user ∷ word ∷ ts)

@@ -24,7 +24,7 @@ use Rattle.nmvs_messages.proofs.FieldLemmas.{printable-utf8}
 -- the kept part of a line begins with its tag
 pub tag_kept : (x : List ℕ) → tag_of (kept_part x) ≡ tag_of x
 unfolding tag_of
-tag_kept x = ap (λ (t : List ℕ). first_tag (fields_in t)) (take-take 22 201 x (lit≤ tt))
+tag_kept x = ap (λ (t : List ℕ). first_tag (fields_in t)) (take-take 42 201 x (lit≤ tt))
 
 -- the field of a tag
 named : (f : List ℕ) (g : Tag) → tag_named f ≡ Some g → (f ≡ 35 ∷ g.bytes) × (is_tag g.bytes ≡ true)
@@ -49,11 +49,11 @@ first_named (f ∷ next ∷ fs) g e =
 pub tag_shown : (x : List ℕ) (g : Tag) → tag_of x ≡ Some g → (x ≡ tag_text (Some g) ++ behind_tag g x) × (is_tag g.bytes ≡ true)
 unfolding tag_of
 tag_shown x g e =
-    let front = take 22 x in
+    let front = take 42 x in
     let named = first_named (fields_in front) g e in
-    let whole : x ≡ tag_text (Some g) ++ (named.0 ++ drop 22 x) =
-    sym (take-append-drop 22 x) ∙ ap (λ (t : List ℕ). t ++ drop 22 x) (sym (join_with_byte-slice_split 32 front) ∙ named.2) ∙ append_assoc (tag_text (Some g)) named.0 (drop 22 x) in
-    let rest : behind_tag g x ≡ named.0 ++ drop 22 x = ap (behind_tag g) whole ∙ drop_at (tag_text (Some g)) (named.0 ++ drop 22 x) (length (tag_text (Some g))) refl in
+    let whole : x ≡ tag_text (Some g) ++ (named.0 ++ drop 42 x) =
+    sym (take-append-drop 42 x) ∙ ap (λ (t : List ℕ). t ++ drop 42 x) (sym (join_with_byte-slice_split 32 front) ∙ named.2) ∙ append_assoc (tag_text (Some g)) named.0 (drop 42 x) in
+    let rest : behind_tag g x ≡ named.0 ++ drop 42 x = ap (behind_tag g) whole ∙ drop_at (tag_text (Some g)) (named.0 ++ drop 42 x) (length (tag_text (Some g))) refl in
     (whole ∙ ap (λ (t : List ℕ). tag_text (Some g) ++ t) (sym rest), named.1)
 
 -- the bytes after the text of a tag are those that follow it
@@ -109,17 +109,17 @@ empty_untagged [] none = unmarked [] (λ e. absurd (omega (arith, e)))
 empty_untagged (b ∷ bs) none = absurd (omega (arith, none))
 
 -- a line begins with the tag of its first field
-pub cut_first : (line field behind : List ℕ) (n : ℕ) → n ≡ min 22 (length line) → fields_in (take n line) ≡ field ∷ fields_in behind → tag_of line ≡ tag_named field
+pub cut_first : (line field behind : List ℕ) (n : ℕ) → n ≡ min 42 (length line) → fields_in (take n line) ≡ field ∷ fields_in behind → tag_of line ≡ tag_named field
 unfolding tag_of
 cut_first line field behind n is cut =
-    let window : take 22 line ≡ take n line = sym (take_min 22 line) ∙ ap (λ (k : ℕ). take k line) (sym is) in
+    let window : take 42 line ≡ take n line = sym (take_min 42 line) ∙ ap (λ (k : ℕ). take k line) (sym is) in
     ap (λ (t : List ℕ). first_tag (fields_in t)) window ∙ ap first_tag cut ∙ first_of field (fields_in behind) (some_field behind)
 
 -- a line that begins with one field alone begins with no tag
-pub cut_none : (line : List ℕ) (n : ℕ) → n ≡ min 22 (length line) → fields_in (take n line) ≡ take n line ∷ [] → tag_of line ≡ None
+pub cut_none : (line : List ℕ) (n : ℕ) → n ≡ min 42 (length line) → fields_in (take n line) ≡ take n line ∷ [] → tag_of line ≡ None
 unfolding tag_of
 cut_none line n is one =
-    let window : take 22 line ≡ take n line = sym (take_min 22 line) ∙ ap (λ (k : ℕ). take k line) (sym is) in
+    let window : take 42 line ≡ take n line = sym (take_min 42 line) ∙ ap (λ (k : ℕ). take k line) (sym is) in
     ap (λ (t : List ℕ). first_tag (fields_in t)) window ∙ ap first_tag one
 
 -- after the field of a tag and its space come the bytes that follow the tag
