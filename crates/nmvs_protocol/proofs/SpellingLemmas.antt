@@ -402,7 +402,7 @@ pub reads_fields : (x : List ℕ) (fs : List (List ℕ)) (r : Result Line Unread
     → MatchResult r (λ _. fields_fault fs ≡ None) (λ u. (fields_fault fs ≡ Some u.fault) × (u.tag ≡ None)) → ReadsLine x r
 unfolding first_fault
 reads_fields x fs (Ok l) none kept same_fault untagged same valid fault = (
-  line_of_kept x (fields l) (sym (same ∙ kept)) (few_fields l valid) ∙ ap (λ (g : Option Tag). tag_text g ++ line_of_fields (fields l)) (sym untagged),
+  line_of_kept x (fields l) (sym (same ∙ kept)) (omega (arith, few_fields l valid)) ∙ ap (λ (g : Option Tag). tag_text g ++ line_of_fields (fields l)) (sym untagged),
   ap (λ (g : Option Tag). fault_behind g x) none ∙ sym same_fault ∙ fault,
   valid,
 )
@@ -414,7 +414,7 @@ reads_fields x fs (Err u) none kept same_fault untagged same valid fault = (
 -- the text after a tag is the text of the ask that its fields are read as
 pub reads_asked : (x : List ℕ) (fs : List (List ℕ)) (r : Result Asked LineFault) → fs ≡ take 10 (fields_in x) → IfOk r (λ a. asked_fields a ≡ fs)
     → IfOk r (λ a. IsTrue (is_asked a)) → IfOk r (λ a. x ≡ line_of_fields (asked_fields a))
-reads_asked x fs (Ok a) kept same valid = line_of_kept x (asked_fields a) (sym (same ∙ kept)) (few_asked_fields a valid)
+reads_asked x fs (Ok a) kept same valid = line_of_kept x (asked_fields a) (sym (same ∙ kept)) (omega (arith, few_asked_fields a valid))
 reads_asked x fs (Err f) kept same valid = tt
 
 -- a line is its tag and the ask that is read after it
