@@ -7,11 +7,14 @@
     tools/conformance.py LINES..              puts the lines of these files, as a terminal wrote them, one after another
 
 With --silent SECONDS it answers nothing in this time, and hangs up on what comes: each such line or request has to come again.
+With --sheet FILE the verdict is written too, with what only a person sees of a terminal, to be signed and handed in.
 
 Each prints the lines or requests with their replies, and at the end what was not met. It ends with status 1 where one is none of
 the format, or says what no terminal may say. What the packs are changes with the lines, and is as before at the next start.
 """
 import argparse
+import datetime
+import hashlib
 import http.client
 import http.server
 import json
@@ -28,6 +31,21 @@ from terminal import Terminal
 PROGRAM = pathlib.Path(__file__).resolve().parent.parent / "crates/nmvs_serve/out/nmvs_serve"
 # What a terminal wrote wrong.
 FORM = "LONG RETURN BYTES FIELDS WORD USER JSON KEY SITE PATH METHOD LENGTH BODY TYPE".split()
+
+# What a person tries at the terminal, by docs/TERMINALS.md.
+BY_A_PERSON = (
+    "Each alert is shown with its cause and flag, in words that nobody takes for a good reply.",
+    "Each refusal, and each fault of what a person typed or scanned, is shown with what to do.",
+    "A reply that the terminal does not know is shown as a failure.",
+    "A pack goes out only after the terminal's own DECOMMISSIONED or HANDED_OVER.",
+    "Batch and expiry date go along as printed on the pack, and the expiry date is compared with today.",
+    "A question without a reply comes again with its tag, also after the terminal was switched off; no new pack gets that tag.",
+    "After CHANGED the question comes with a new tag; after RATE and JOURNAL with the same, after a pause.",
+    "Without a reply the person decides. What was handed out is kept on disk, and sent later.",
+    "A scan that is refused asks nothing, and the person sees what was scanned instead.",
+    "The three test codes are read character by character, with the scanner and the keyboard layout of the house.",
+    "The certificate's key is on this terminal alone, and the user named is the one who works.",
+)
 
 
 def start():
@@ -53,7 +71,7 @@ class Verdict:
     """What the lines of a terminal and their replies say of it."""
 
     def __init__(self, silent=0):
-        self.met, self.well, self.lock = set(), True, threading.Lock()
+        self.met, self.asked, self.wrong, self.lock = set(), 0, 0, threading.Lock()
         self.silent_until, self.unanswered = time.monotonic() + silent, {}
 
     def is_silent(self, asked):
@@ -71,7 +89,7 @@ class Verdict:
         told = kind(words or reply[0])
         wrong = told.startswith("NOT") or told in ["HELP", *(f"FAULT {word}" for word in FORM)]
         with self.lock:
-            self.well = self.well and not wrong
+            self.asked, self.wrong = self.asked + 1, self.wrong + wrong
             self.met.add(told)
             print(f"{'WRONG ' if wrong else ''}{line}", *(f"    {text}" for text in reply), sep="\n", flush=True)
 
@@ -80,8 +98,30 @@ class Verdict:
         with self.lock:
             for asked in self.unanswered:
                 print(f"WRONG, it did not come again: {asked}")
-            print("NOT MET:", ", ".join(reply for reply in REPLIES if reply not in self.met) or "none")
-            return 0 if self.well and not self.unanswered else 1
+            print("NOT MET:", self.not_met())
+            return 0 if self.is_well() else 1
+
+    def is_well(self):
+        return not self.wrong and not self.unanswered
+
+    def not_met(self):
+        return ", ".join(reply for reply in REPLIES if reply not in self.met) or "none"
+
+    def sheet(self, how):
+        """The verdict as a vendor hands it in."""
+        version = subprocess.run([PROGRAM, "--version"], capture_output=True, text=True, check=True).stdout.strip()
+        digest = hashlib.sha256(PROGRAM.read_bytes()).hexdigest()
+        line = "_" * 30
+        rows = [
+            "VERDICT ON A TERMINAL\n", f"Terminal and version {line}  Vendor {line}\n",
+            f"{datetime.datetime.now(datetime.timezone.utc):%Y-%m-%dT%H:%M:%SZ}, {how}, by {version}, sha256 {digest}",
+            f"{self.asked} asked, {self.wrong} wrong, {len(self.unanswered)} that did not come again",
+            f"Replies not met: {self.not_met()}", f"Verdict: {'PASSED' if self.is_well() and self.asked else 'FAILED'}\n",
+            "By a person, at the terminal (yes, no, or why it does not apply):\n",
+            *(f"{number:>3}. [      ] {text}" for number, text in enumerate(BY_A_PERSON, 1)),
+            f"\nName {line}  Date ______________  Signature {line}\n",
+        ]
+        return "\n".join(rows)
 
 
 def put(port, lines, verdict):
@@ -156,11 +196,26 @@ class Relayed(http.server.BaseHTTPRequestHandler):
     do_GET = do_HEAD = do_POST = do_PUT = do_DELETE = relay
 
 
+def serve(given, port, http_port, verdict):
+    """Serves terminals over lines or HTTP, until the end of standard input."""
+    if given.http:
+        listener = http.server.ThreadingHTTPServer(("127.0.0.1", given.port), Relayed)
+        listener.behind, listener.verdict = http_port, verdict
+        print(f"LISTENING HTTP {listener.server_port}", flush=True)
+        threading.Thread(target=listener.serve_forever, daemon=True).start()
+    else:
+        listener = socket.create_server(("127.0.0.1", given.port))
+        print(f"LISTENING {listener.getsockname()[1]}", flush=True)
+        threading.Thread(target=accept, args=(listener, port, verdict), daemon=True).start()
+    sys.stdin.read()
+
+
 def main():
     reader = argparse.ArgumentParser(description=__doc__, formatter_class=argparse.RawDescriptionHelpFormatter)
     reader.add_argument("--port", type=int, default=0)
     reader.add_argument("--http", action="store_true")
     reader.add_argument("--silent", type=float, default=0, metavar="SECONDS")
+    reader.add_argument("--sheet", type=pathlib.Path, metavar="FILE")
     reader.add_argument("lines", nargs="*", type=pathlib.Path)
     given = reader.parse_args()
     process, port, http_port = start()
@@ -169,17 +224,11 @@ def main():
         if given.lines:
             # As the terminal wrote them: a line ends with LF alone, so one that ends with CR LF is wrong.
             put(port, [line for path in given.lines for line in path.read_bytes().decode("latin-1").split("\n")[:-1]], verdict)
-            return verdict.end()
-        if given.http:
-            listener = http.server.ThreadingHTTPServer(("127.0.0.1", given.port), Relayed)
-            listener.behind, listener.verdict = http_port, verdict
-            print(f"LISTENING HTTP {listener.server_port}", flush=True)
-            threading.Thread(target=listener.serve_forever, daemon=True).start()
         else:
-            listener = socket.create_server(("127.0.0.1", given.port))
-            print(f"LISTENING {listener.getsockname()[1]}", flush=True)
-            threading.Thread(target=accept, args=(listener, port, verdict), daemon=True).start()
-        sys.stdin.read()
+            serve(given, port, http_port, verdict)
+        if given.sheet:
+            how = "lines of files" if given.lines else "over HTTP" if given.http else "over lines"
+            given.sheet.write_text(verdict.sheet(how + f", silent for {given.silent:g} s" * bool(given.silent)))
         return verdict.end()
     finally:
         process.communicate("STOP\n")
