@@ -146,7 +146,7 @@ problems =
     (codes "LONG", Unprocessable) ∷ (codes "RETURN", Unprocessable) ∷ (codes "BYTES", Unprocessable) ∷ (codes "FIELDS", Unprocessable)
     ∷ (codes "WORD", Unprocessable) ∷ (codes "USER", Unprocessable) ∷ (codes "CODE", Unprocessable) ∷ (codes "SERIAL", Unprocessable)
     ∷ (codes "BATCH", Unprocessable) ∷ (codes "EXPIRY", Unprocessable) ∷ (codes "TAG", Unprocessable)
-    ∷ (codes "NOBODY", Forbidden) ∷ (codes "SUSPENDED", Forbidden) ∷ (codes "ROLE", Forbidden)
+    ∷ (codes "NOBODY", Forbidden) ∷ (codes "SUSPENDED", Forbidden) ∷ (codes "ROLE", Forbidden) ∷ (codes "PRODUCT", Forbidden)
     ∷ (codes "CHANGED", Conflict)
     ∷ (codes "DIFFERS", PreconditionFailed)
     ∷ (codes "RATE", TooManyRequests)

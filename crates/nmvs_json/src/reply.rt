@@ -128,6 +128,7 @@ const PROBLEMS: &[(&str, Problem)] = &[
     ("NOBODY", Problem::Forbidden),
     ("SUSPENDED", Problem::Forbidden),
     ("ROLE", Problem::Forbidden),
+    ("PRODUCT", Problem::Forbidden),
     ("CHANGED", Problem::Conflict),
     ("DIFFERS", Problem::PreconditionFailed),
     ("RATE", Problem::TooManyRequests),

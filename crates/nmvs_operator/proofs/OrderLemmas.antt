@@ -9,22 +9,20 @@ use Rattle.std.proofs.lemmas.Bool.{lt-ltb, ltb-true, and_parts, false_from_ne_tr
 use Rattle.std.proofs.lemmas.Fmt.{decimal_is_IsNumeral, parse-decimal}
 use Rattle.std.proofs.lemmas.Slice.Eq.{bytes_eq-Decides}
 use Rattle.std.proofs.lemmas.List.{take_all, length-take-le}
-use Rattle.nmvs_messages.specs.declared.command.Command.TheVariants.{Enrol, Suspend, Remove}
 use Rattle.nmvs_messages.specs.declared.command.CommandFault.{CommandFault}
 use Rattle.nmvs_messages.specs.declared.command.CommandFault.TheVariants as fault
 use Rattle.nmvs_messages.specs.Commands.{fields_fault}
 use Rattle.nmvs_messages.specs.Fields.{fields_in}
 use Rattle.nmvs_messages.specs.PendingLines.{kept_part}
+use Rattle.nmvs_messages.proofs.CommandLemmas as commands
 use Rattle.nmvs_messages.proofs.CommandLemmas.{fields_fault-take}
 use Rattle.nmvs_messages.proofs.FieldLemmas.{line_of_kept}
 use Rattle.nmvs_operator.specs.declared.order.Order.{Order}
 use Rattle.nmvs_operator.specs.declared.order.Order.TheVariants as orders
 use Rattle.nmvs_operator.specs.Orders.{ReadsOrder, order_fields, is_order, order_fault, listing_fault, change_fault, reload_fault, turn_fault, over_fault, trim_fault, is_number, export_fault, alone_fault, first_order_fault}
 
-few_fields : (o : Order) → length (order_fields o) < 8
-few_fields (orders.Change (Enrol user actor)) = lit≤ tt
-few_fields (orders.Change (Suspend user)) = lit≤ tt
-few_fields (orders.Change (Remove user)) = lit≤ tt
+few_fields : (o : Order) → length (order_fields o) < 10
+few_fields (orders.Change c) = commands.few_fields c
 few_fields (orders.Reload false) = lit≤ tt
 few_fields (orders.Reload true) = lit≤ tt
 few_fields (orders.Export path) = lit≤ tt
@@ -37,36 +35,36 @@ few_fields (orders.Trim blocks) = lit≤ tt
 few_fields orders.Help = lit≤ tt
 
 -- a line whose fields are read as an order, or have this fault, is read so
-pub reads_fields : (x : List ℕ) (fs : List (List ℕ)) (r : Result Order CommandFault) → fs ≡ take 8 (fields_in x)
+pub reads_fields : (x : List ℕ) (fs : List (List ℕ)) (r : Result Order CommandFault) → fs ≡ take 10 (fields_in x)
     → IfOk r (λ o. order_fields o ≡ fs) → IfOk r (λ o. IsTrue (is_order o)) → result_err r ≡ first_order_fault x → ReadsOrder x r
 reads_fields x fs (Ok o) kept same valid none = (line_of_kept x (order_fields o) (sym (same ∙ kept)) (few_fields o), sym none, valid)
 reads_fields x fs (Err f) kept same valid told = sym told
 
-export_fault-take : (texts : List (List ℕ)) → export_fault (take 7 texts) ≡ export_fault texts
+export_fault-take : (texts : List (List ℕ)) → export_fault (take 9 texts) ≡ export_fault texts
 export_fault-take [] = refl
 export_fault-take (a ∷ []) = refl
 export_fault-take (a ∷ b ∷ texts) = refl
 
-alone_fault-take : (texts : List (List ℕ)) → alone_fault (take 7 texts) ≡ alone_fault texts
+alone_fault-take : (texts : List (List ℕ)) → alone_fault (take 9 texts) ≡ alone_fault texts
 alone_fault-take [] = refl
 alone_fault-take (a ∷ texts) = refl
 
-reload_fault-take : (texts : List (List ℕ)) → reload_fault (take 7 texts) ≡ reload_fault texts
+reload_fault-take : (texts : List (List ℕ)) → reload_fault (take 9 texts) ≡ reload_fault texts
 reload_fault-take [] = refl
 reload_fault-take (a ∷ []) = refl
 reload_fault-take (a ∷ b ∷ texts) = refl
 
-over_fault-take : (texts : List (List ℕ)) → over_fault (take 7 texts) ≡ over_fault texts
+over_fault-take : (texts : List (List ℕ)) → over_fault (take 9 texts) ≡ over_fault texts
 over_fault-take [] = refl
 over_fault-take (a ∷ []) = refl
 over_fault-take (a ∷ b ∷ texts) = refl
 
-trim_fault-take : (texts : List (List ℕ)) → trim_fault (take 7 texts) ≡ trim_fault texts
+trim_fault-take : (texts : List (List ℕ)) → trim_fault (take 9 texts) ≡ trim_fault texts
 trim_fault-take [] = refl
 trim_fault-take (a ∷ []) = refl
 trim_fault-take (a ∷ b ∷ texts) = refl
 
-turn_fault-take : (fs : List (List ℕ)) → turn_fault (take 8 fs) ≡ turn_fault fs
+turn_fault-take : (fs : List (List ℕ)) → turn_fault (take 10 fs) ≡ turn_fault fs
 unfolding turn_fault
 turn_fault-take [] = refl
 turn_fault-take (word ∷ texts) = λ i.
@@ -74,12 +72,12 @@ turn_fault-take (word ∷ texts) = λ i.
     (cond (bytes_eq word (codes "HAND")) (over_fault-take texts i)
     (cond (bytes_eq word (codes "TRIM")) (trim_fault-take texts i) (fields_fault-take (word ∷ texts) i)))
 
-change_fault-take : (fs : List (List ℕ)) → change_fault (take 8 fs) ≡ change_fault fs
+change_fault-take : (fs : List (List ℕ)) → change_fault (take 10 fs) ≡ change_fault fs
 unfolding change_fault
 change_fault-take [] = refl
 change_fault-take (word ∷ texts) = λ i. cond (bytes_eq word (codes "RELOAD")) (reload_fault-take texts i) (turn_fault-take (word ∷ texts) i)
 
-listing_fault-take : (fs : List (List ℕ)) → listing_fault (take 8 fs) ≡ listing_fault fs
+listing_fault-take : (fs : List (List ℕ)) → listing_fault (take 10 fs) ≡ listing_fault fs
 unfolding listing_fault
 listing_fault-take [] = refl
 listing_fault-take (word ∷ texts) = λ i.
@@ -89,7 +87,7 @@ listing_fault-take (word ∷ texts) = λ i.
     (cond (bytes_eq word (codes "ALERTS")) (alone_fault-take texts i) (change_fault-take (word ∷ texts) i))))
 
 -- the first eight fields of a line decide their fault
-pub order_fault-take : (fs : List (List ℕ)) → order_fault (take 8 fs) ≡ order_fault fs
+pub order_fault-take : (fs : List (List ℕ)) → order_fault (take 10 fs) ≡ order_fault fs
 order_fault-take [] = refl
 order_fault-take (word ∷ texts) = λ i.
     cond (bytes_eq word (codes "EXPORT")) (export_fault-take texts i)

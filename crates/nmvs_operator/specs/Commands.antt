@@ -241,6 +241,8 @@ command_word commands.Role = codes "ROLE"
 command_word commands.User = codes "NAME"
 command_word commands.Authorisation = codes "NAME"
 command_word commands.Premises = codes "NAME"
+command_word commands.Until = codes "UNTIL"
+command_word commands.Codes = codes "CODES"
 
 -- the word of the fault of a server that failed to carry out an order
 abbrev pub service_word : ServiceFault → List ℕ
@@ -256,7 +258,7 @@ service_word service.Untrimmed = codes "TRIM"
 
 -- the answer to HELP: the list of the orders, and its last line
 abbrev pub help_text : List ℕ
-help_text = codes "ENROL user role authorisation premises\nSUSPEND user\nREMOVE user\nRELOAD\nRELOAD ALL\nEXPORT file\nUSERS\nSTATS\nCONNECTIONS\nALERTS\nSTOP\nTAKE OVER\nHAND OVER\nTRIM blocks\nHELP\nDONE\n"
+help_text = codes "ENROL user role authorisation premises [UNTIL YYMMDD] [CODES code,code]\nSUSPEND user\nREMOVE user\nRELOAD\nRELOAD ALL\nEXPORT file\nUSERS\nSTATS\nCONNECTIONS\nALERTS\nSTOP\nTAKE OVER\nHAND OVER\nTRIM blocks\nHELP\nDONE\n"
 
 -- the last line of the answer to an order; and to HELP the whole answer
 abbrev pub order_text : Result Order ObeyFault → List ℕ

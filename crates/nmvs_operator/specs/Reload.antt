@@ -18,7 +18,7 @@ is_suspension _ = false
 -- is suspended
 abbrev pub takes_effect : Bool → List Change → Command → Bool
 takes_effect true published command = true
-takes_effect false published (Enrol user actor) = not (is_suspension (known published user))
+takes_effect false published (Enrol user enrolment) = not (is_suspension (known published user))
 takes_effect false published (Suspend user) = true
 takes_effect false published (Remove user) = true
 

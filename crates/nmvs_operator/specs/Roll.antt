@@ -2,27 +2,19 @@
 use Rattle.std.specs.Prelude.{ℕ, ◌+◌, cond, List, [], ◌∷◌, Bool, true, false, codes, decimal, map, Option, None, Some}
 use Rattle.std.specs.List.{flat_map}
 use Rattle.nmvs_identifier.specs.Name.{Name}
-use Rattle.nmvs_rules.specs.Repeats.{same_actor}
-use Rattle.nmvs_rules.specs.declared.actor.Actor.{Actor}
-use Rattle.nmvs_words.specs.Words.{role_word, spaced}
+use Rattle.nmvs_messages.specs.Commands.{enrolment_words}
+use Rattle.nmvs_rules.specs.Enrolments.{same_enrolment}
+use Rattle.nmvs_rules.specs.declared.enrolment.Enrolment.{Enrolment}
+use Rattle.nmvs_words.specs.Words.{spaced}
 use Rattle.nmvs_directory.specs.Users.{users_of}
 use Rattle.nmvs_directory.specs.declared.change.Change.{Change}
 use Rattle.nmvs_directory.specs.declared.standing.Standing.{Standing}
 use Rattle.nmvs_directory.specs.declared.standing.Standing.TheVariants.{Enrolled, Suspended, Removed}
 
--- the line of a user of this name that is enrolled as this actor
-abbrev pub enrolled : List ℕ → Actor → List ℕ
-enrolled name actor = spaced (codes "USER" ∷ name ∷ role_word actor.role ∷ actor.authorisation.bytes ∷ actor.premises.bytes ∷ [])
-
--- the line of a user of this name that is suspended, and was enrolled as this actor last
-abbrev pub suspended : List ℕ → Actor → List ℕ
-suspended name actor =
-    spaced (codes "USER" ∷ name ∷ role_word actor.role ∷ actor.authorisation.bytes ∷ actor.premises.bytes ∷ codes "SUSPENDED" ∷ [])
-
 -- the line of a user, with LF: a user who was never enrolled has no role, and a user who was removed has no line
 abbrev pub user_line : Name × Standing → List ℕ
-user_line (name, Enrolled actor) = enrolled name.bytes actor
-user_line (name, Suspended (Some actor)) = suspended name.bytes actor
+user_line (name, Enrolled enrolment) = spaced (codes "USER" ∷ name.bytes ∷ enrolment_words enrolment ∷ [])
+user_line (name, Suspended (Some enrolment)) = spaced (codes "USER" ∷ name.bytes ∷ enrolment_words enrolment ∷ codes "SUSPENDED" ∷ [])
 user_line (name, Suspended None) = spaced (codes "USER" ∷ name.bytes ∷ codes "SUSPENDED" ∷ [])
 user_line (name, Removed) = []
 
@@ -32,14 +24,14 @@ user_lines users = flat_map user_line users
 
 -- whether a user of this state is enrolled
 abbrev pub stands_enrolled : Standing → Bool
-stands_enrolled (Enrolled actor) = true
-stands_enrolled (Suspended actor) = false
+stands_enrolled (Enrolled enrolment) = true
+stands_enrolled (Suspended enrolment) = false
 stands_enrolled Removed = false
 
 -- whether a user of this state is suspended
 abbrev pub stands_suspended : Standing → Bool
-stands_suspended (Enrolled actor) = false
-stands_suspended (Suspended actor) = true
+stands_suspended (Enrolled enrolment) = false
+stands_suspended (Suspended enrolment) = true
 stands_suspended Removed = false
 
 -- whether a user is enrolled
@@ -50,15 +42,15 @@ is_enrolled (name, standing) = stands_enrolled standing
 abbrev pub is_suspended : Name × Standing → Bool
 is_suspended (name, standing) = stands_suspended standing
 
--- whether two users were enrolled as one actor last, or neither was
-abbrev pub same_last : Option Actor → Option Actor → Bool
-same_last (Some a) (Some b) = same_actor a b
+-- whether two users were enrolled alike last, or neither was
+abbrev pub same_last : Option Enrolment → Option Enrolment → Bool
+same_last (Some a) (Some b) = same_enrolment a b
 same_last None None = true
 same_last _ _ = false
 
 -- whether two states are the same
 abbrev pub same_standing : Standing → Standing → Bool
-same_standing (Enrolled a) (Enrolled b) = same_actor a b
+same_standing (Enrolled a) (Enrolled b) = same_enrolment a b
 same_standing (Suspended a) (Suspended b) = same_last a b
 same_standing Removed Removed = true
 same_standing _ _ = false

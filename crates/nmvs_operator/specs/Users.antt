@@ -14,7 +14,7 @@ use Rattle.nmvs_operator.specs.declared.faults.LoadFault.TheVariants as load
 
 -- the change that a command makes
 abbrev pub change_of : Command → Change
-change_of (Enrol user actor) = record { user = user; effect = effects.Enrol actor }
+change_of (Enrol user enrolment) = record { user = user; effect = effects.Enrol enrolment }
 change_of (Suspend user) = record { user = user; effect = effects.Suspend }
 change_of (Remove user) = record { user = user; effect = effects.Remove }
 
@@ -123,3 +123,5 @@ users_trouble commands.Role = codes "its role is none of the five: ROLE"
 users_trouble commands.User = codes "its user is no name: NAME"
 users_trouble commands.Authorisation = codes "its authorisation is no name: NAME"
 users_trouble commands.Premises = codes "its premises are no name: NAME"
+users_trouble commands.Until = codes "its last day is no date YYMMDD: UNTIL"
+users_trouble commands.Codes = codes "its products are no list of product codes and company prefixes: CODES"

@@ -39,7 +39,7 @@ abbrev pub faults_from : ℕ → List ℕ → List (LoadFault × List ℕ)
 faults_from number bytes =
     lines_faults number (input_lines bytes) ++ end_faults (number + length (input_lines bytes)) (unfinished_line bytes)
 
--- the word of the fault of a line, which names a field that is no name
+-- the word of the fault of a line, which names a field that is wrong
 abbrev pub line_word : CommandFault → List ℕ
 line_word commands.Long = codes "LONG"
 line_word commands.Bytes = codes "BYTES"
@@ -49,6 +49,8 @@ line_word commands.Role = codes "ROLE"
 line_word commands.User = codes "USER"
 line_word commands.Authorisation = codes "AUTHORISATION"
 line_word commands.Premises = codes "PREMISES"
+line_word commands.Until = codes "UNTIL"
+line_word commands.Codes = codes "CODES"
 
 -- the line about one fault for the operator: the number of the faulty line, and the word of the fault
 abbrev pub fault_line : LoadFault × List ℕ → List ℕ

@@ -34,7 +34,7 @@ pub(crate) const DONE: &str = "DONE\n";
 
 /// The answer to `HELP`.
 const HELP: &str =
-    "ENROL user role authorisation premises\nSUSPEND user\nREMOVE user\nRELOAD\nRELOAD ALL\nEXPORT file\nUSERS\nSTATS\nCONNECTIONS\nALERTS\nSTOP\nTAKE OVER\nHAND OVER\nTRIM blocks\nHELP\nDONE\n";
+    "ENROL user role authorisation premises [UNTIL YYMMDD] [CODES code,code]\nSUSPEND user\nREMOVE user\nRELOAD\nRELOAD ALL\nEXPORT file\nUSERS\nSTATS\nCONNECTIONS\nALERTS\nSTOP\nTAKE OVER\nHAND OVER\nTRIM blocks\nHELP\nDONE\n";
 
 /// Carries out the orders of a console one by one, as they come, and answers each. A change of the users is kept by the
 /// server first, then published at once, and its notice shown as the latest.
@@ -302,7 +302,7 @@ pub(crate) fn add<A: Allocator>(
     ensures full { OnErr result (IsFull changes.old) }
 {
     match command {
-        Command::Enrol(user, actor) => changes.enrol(user, actor),
+        Command::Enrol(user, enrolment) => changes.enrol(user, enrolment),
         Command::Suspend(user) => changes.suspend(user),
         Command::Remove(user) => changes.remove(user),
     }
@@ -373,6 +373,8 @@ pub(crate) fn fault_text(fault: ObeyFault) -> &'static str
         ObeyFault::Unread(CommandFault::User) => "FAULT NAME\n",
         ObeyFault::Unread(CommandFault::Authorisation) => "FAULT NAME\n",
         ObeyFault::Unread(CommandFault::Premises) => "FAULT NAME\n",
+        ObeyFault::Unread(CommandFault::Until) => "FAULT UNTIL\n",
+        ObeyFault::Unread(CommandFault::Codes) => "FAULT CODES\n",
         ObeyFault::Undone(ServiceFault::Journal) => "FAULT JOURNAL\n",
         ObeyFault::Undone(ServiceFault::Write) => "FAULT WRITE\n",
         ObeyFault::Undone(ServiceFault::Memory) => "FAULT MEMORY\n",

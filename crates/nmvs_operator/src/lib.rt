@@ -34,7 +34,7 @@ pub use options::{
     NEW_YEAR, OptionFault, Options, read_options,
 };
 pub use order::{Order, read_order};
-pub use roll::{UserCounts, count_users};
+pub use roll::{UserCounts, count_users, enrolment_text};
 pub use service::{Deed, Service, ServiceFault};
 pub use standby::{Standby, obey_standby, read_standby};
 pub use users::{load_users, read_all, users_trouble};

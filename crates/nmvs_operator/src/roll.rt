@@ -5,11 +5,13 @@ ghost use Rattle.nmvs_directory.specs.declared.standing.Standing.{Standing as Th
 ghost use Rattle.std.specs.List.{filter};
 ghost use Rattle.nmvs_directory.specs.Registrar.{published};
 ghost use Rattle.nmvs_directory.specs.Users.{users_of};
-ghost use Rattle.nmvs_operator.specs.Roll.{stands_enrolled, stands_suspended, is_enrolled, is_suspended, enrolled, suspended, user_line as line_of_user, user_lines, changed_from, one_changed as count_one_changed};
+ghost use Rattle.nmvs_messages.specs.Commands.{enrolment_words};
+ghost use Rattle.nmvs_operator.specs.Roll.{stands_enrolled, stands_suspended, is_enrolled, is_suspended, user_line as line_of_user, user_lines, changed_from, same_standing, one_changed as count_one_changed};
+ghost use Rattle.nmvs_rules.specs.Enrolments.{same_enrolment, same_if_there};
 
 use nmvs_directory::{Naming, Registrar, Standing};
-use nmvs_identifier::Name;
-use nmvs_rules::Actor;
+use nmvs_identifier::{Codes, Expiry, Name};
+use nmvs_rules::Enrolment;
 use nmvs_words::role_word;
 use std::alloc::{AllocError, Allocator, Global};
 use std::sync::Wait;
@@ -123,7 +125,47 @@ fn one_changed(before: &Standing, now: &Standing) -> u64
     ensures count { result ≡ count_one_changed before.now now.now }
     ensures few { result ≤ 1 }
 {
-    if *before == *now { 0 } else { 1 }
+    if is_same(before, now) { 0 } else { 1 }
+}
+
+fn is_same(before: &Standing, now: &Standing) -> bool
+    ensures { result ≡ same_standing before.now now.now }
+{
+    match (before, now) {
+        (Standing::Enrolled(a), Standing::Enrolled(b)) => is_alike(a, b),
+        (Standing::Suspended(Some(a)), Standing::Suspended(Some(b))) => is_alike(a, b),
+        (Standing::Suspended(None), Standing::Suspended(None)) => true,
+        (Standing::Removed, Standing::Removed) => true,
+        _ => false,
+    }
+}
+
+fn is_alike(one: &Enrolment, other: &Enrolment) -> bool
+    ensures { result ≡ same_enrolment one.now other.now }
+{
+    one.actor == other.actor
+        && is_same_day(&one.until, &other.until)
+        && are_same_codes(&one.codes, &other.codes)
+}
+
+fn is_same_day(one: &Option<Expiry>, other: &Option<Expiry>) -> bool
+    ensures { result ≡ same_if_there one.now other.now }
+{
+    match (one, other) {
+        (Some(one), Some(other)) => *one == *other,
+        (None, None) => true,
+        _ => false,
+    }
+}
+
+fn are_same_codes(one: &Option<Codes>, other: &Option<Codes>) -> bool
+    ensures { result ≡ same_if_there one.now other.now }
+{
+    match (one, other) {
+        (Some(one), Some(other)) => *one == *other,
+        (None, None) => true,
+        _ => false,
+    }
 }
 
 /// The lines of the published users, one for each that is not removed, in the order in which they were first named.
@@ -155,27 +197,44 @@ fn user_line(alloc: Global, name: &Name, standing: &Standing) -> Result<String, 
 {
     let name = name.text();
     match standing {
-        Standing::Enrolled(actor) => enrolled_line(alloc, name, actor),
-        Standing::Suspended(Some(actor)) => suspended_line(alloc, name, actor),
+        Standing::Enrolled(enrolment) => {
+            let words = enrolment_text(alloc, enrolment)?;
+            format!(in alloc; "USER {name} {words}\n")
+        }
+        Standing::Suspended(Some(enrolment)) => {
+            let words = enrolment_text(alloc, enrolment)?;
+            format!(in alloc; "USER {name} {words} SUSPENDED\n")
+        }
         Standing::Suspended(None) => format!(in alloc; "USER {name} SUSPENDED\n"),
         Standing::Removed => Ok(String::new(alloc)),
     }
 }
 
-fn enrolled_line(alloc: Global, name: &str, actor: &Actor) -> Result<String, AllocError>
-    ensures { IfOk result (λ text. string_bytes text ≡ enrolled name.now actor.now) }
+/// The words of an enrolment, as they follow its user in a command.
+///
+/// # Errors
+///
+/// There is no memory for the text.
+pub fn enrolment_text(alloc: Global, enrolment: &Enrolment) -> Result<String, AllocError>
+    ensures { IfOk result (λ text. string_bytes text ≡ enrolment_words enrolment.now) }
 {
+    let actor = &enrolment.actor;
     let role = role_word(actor.role);
     let authorisation = actor.authorisation.text();
     let premises = actor.premises.text();
-    format!(in alloc; "USER {name} {role} {authorisation} {premises}\n")
-}
-
-fn suspended_line(alloc: Global, name: &str, actor: &Actor) -> Result<String, AllocError>
-    ensures { IfOk result (λ text. string_bytes text ≡ suspended name.now actor.now) }
-{
-    let role = role_word(actor.role);
-    let authorisation = actor.authorisation.text();
-    let premises = actor.premises.text();
-    format!(in alloc; "USER {name} {role} {authorisation} {premises} SUSPENDED\n")
+    match (&enrolment.until, &enrolment.codes) {
+        (None, None) => format!(in alloc; "{role} {authorisation} {premises}"),
+        (Some(last), None) => {
+            let last = last.as_str();
+            format!(in alloc; "{role} {authorisation} {premises} UNTIL {last}")
+        }
+        (None, Some(codes)) => {
+            let codes = codes.text();
+            format!(in alloc; "{role} {authorisation} {premises} CODES {codes}")
+        }
+        (Some(last), Some(codes)) => {
+            let (last, codes) = (last.as_str(), codes.text());
+            format!(in alloc; "{role} {authorisation} {premises} UNTIL {last} CODES {codes}")
+        }
+    }
 }

@@ -117,7 +117,7 @@ pub fn changes_nothing(bytes: &[u8]) -> bool
     true
 }
 
-/// The word of the fault of a line, which names a field that is no name.
+/// The word of the fault of a line, which names a field that is wrong.
 fn fault_word(fault: CommandFault) -> &'static str
     ensures { result.now ≡ word_of_fault fault }
 {
@@ -130,5 +130,7 @@ fn fault_word(fault: CommandFault) -> &'static str
         CommandFault::User => "USER",
         CommandFault::Authorisation => "AUTHORISATION",
         CommandFault::Premises => "PREMISES",
+        CommandFault::Until => "UNTIL",
+        CommandFault::Codes => "CODES",
     }
 }

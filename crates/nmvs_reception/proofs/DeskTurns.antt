@@ -1,5 +1,5 @@
 -- The steps of the program's desk.
-use Rattle.std.proofs.Common.{◌≡◌, ◌≢◌, ◌<◌, ◌+◌, ◌⊎◌, ◌∙◌, ◌++◌, ◌∷◌, ℕ, ℤ, Bool, true, false, cond, List, [], Option, Some, None, IfSome, length, refl, sym, ap, subst, inl, inr, arith, length-append}
+use Rattle.std.proofs.Common.{◌≡◌, ◌≢◌, ◌<◌, ◌+◌, ◌⊎◌, ◌∙◌, ◌++◌, ◌∷◌, ℕ, ℤ, Bool, true, false, cond, List, [], Option, Some, None, IfSome, length, pos, refl, sym, ap, subst, inl, inr, arith, length-append}
 use Rattle.std.proofs.lemmas.Bool.Decides.{eqb_tells}
 use mathlib.Core.List.{IsPrefix}
 use Rattle.nmvs_history.proofs.Beginnings.{prefix_self, prefix_trans, prefix_length}
@@ -11,6 +11,7 @@ use Rattle.nmvs_directory.specs.declared.change.Change.{Change}
 use Rattle.nmvs_directory.specs.declared.look.Look.{Look}
 use Rattle.nmvs_directory.specs.declared.look.Look.TheVariants as looks
 use Rattle.nmvs_rules.specs.declared.actor.Actor.{Actor}
+use Rattle.nmvs_rules.specs.declared.enrolment.Enrolment.{Enrolment}
 use Rattle.nmvs_rules.specs.declared.entry.Entry.{Entry}
 use Rattle.nmvs_rules.specs.declared.printed.Printed.{Printed}
 use Rattle.nmvs_rules.specs.declared.put.Put.{Put}
@@ -32,24 +33,29 @@ use Rattle.nmvs_messages.specs.declared.peer.Peer.TheVariants as peers
 use Rattle.nmvs_messages.specs.Asks.{user_of}
 use Rattle.nmvs_messages.specs.declared.withheld.Basis.{Basis}
 use Rattle.nmvs_journal.specs.Told.{IsWithin, ReachView}
-use Rattle.nmvs_reception.specs.Desk.{DeskView, Admits, AnswersAdmitted, IsMoment, Knows, LetsGo, LooksUp, Refuses, Replies, RestsOn, Says, SeesShard, Serves, suspended_turn}
+use Rattle.nmvs_reception.specs.Desk.{DeskView, at_moment, Admits, AnswersAdmitted, IsMoment, Knows, LetsGo, LooksUp, Refuses, Replies, RestsOn, Says, SeesShard, Serves, suspended_turn}
 
 -- the clock gave a moment, the clerk learned the notice, and the directory said this of the user
-pub looks_up : (notice : List Change) (old : DeskView) (user : Name) (look : Look) (told new : ClerkView) (times : ℕ) (gave : ℤ) → times ≡ old.asked + 1 → IsMoment gave
+pub looks_up : (notice : List Change) (old : DeskView) (user : Name) (said look : Look) (moment : ℕ) (told new : ClerkView) (times : ℕ) (gave : ℤ) → times ≡ old.asked + 1 → IsMoment gave
+    → pos moment ≡ gave → at_moment moment said ≡ look
     → told ≡ record old.clerk { seen = told.seen } → IsPrefix old.clerk.seen told.seen → IsPrefix notice told.seen
-    → Reads told.seen new.seen user look → new ≡ record told { seen = new.seen } → LooksUp notice old user look (record old { clerk = new; asked = times; gave = gave })
-looks_up notice old user look told new times gave once moment learns seen latest reads looks = record {
+    → Reads told.seen new.seen user said → new ≡ record told { seen = new.seen } → LooksUp notice old user look (record old { clerk = new; asked = times; gave = gave })
+looks_up notice old user said look moment told new times gave once in_range at stands learns seen latest reads looks = record {
   told = record old { clerk = told; asked = times; gave = gave };
-  is = record { same = λ i. record old { clerk = learns i; asked = once i; gave = gave }; moment = moment; seen = seen; latest = latest };
+  is = record { same = λ i. record old { clerk = learns i; asked = once i; gave = gave }; moment = in_range; seen = seen; latest = latest };
+  said = said;
   reads = reads;
+  moment = moment;
+  at = at;
+  stands = stands;
   same = λ i. record old { clerk = looks i; asked = times; gave = gave };
 }
 
 -- a line is turned away by the rate, or for want of memory
-pub over_rate : (notice : List Change) (old : DeskView) (from : Peer) (ask : Ask) (turn : Turn) (actor : Actor) (new : DeskView) → old.rated ≡ true
-    → (turn ≡ turns.Rate) ⊎ (turn ≡ turns.Memory) → Knows notice old from ask true actor new → Refuses notice old from ask turn new
-over_rate notice old from ask turn actor new rated (inl is) knows = subst (λ t. Refuses notice old from ask t new) (sym is) (rated, actor, knows)
-over_rate notice old from ask turn actor new rated (inr is) knows = subst (λ t. Refuses notice old from ask t new) (sym is) (rated, actor, knows)
+pub over_rate : (notice : List Change) (old : DeskView) (from : Peer) (ask : Ask) (turn : Turn) (enrolment : Enrolment) (new : DeskView) → old.rated ≡ true
+    → (turn ≡ turns.Rate) ⊎ (turn ≡ turns.Memory) → Knows notice old from ask true enrolment new → Refuses notice old from ask turn new
+over_rate notice old from ask turn enrolment new rated (inl is) knows = subst (λ t. Refuses notice old from ask t new) (sym is) (rated, enrolment, knows)
+over_rate notice old from ask turn enrolment new rated (inr is) knows = subst (λ t. Refuses notice old from ask t new) (sym is) (rated, enrolment, knows)
 
 -- a line that names a suspended user is turned away as such, or as one of nobody
 two_turns : (from : Peer) (user : Name) → (suspended_turn from user ≡ turns.Suspended) ⊎ (suspended_turn from user ≡ turns.Nobody)
@@ -84,6 +90,7 @@ refused notice old from ask turns.Closed new is = looked _ _ _ _ _ is
 refused notice old from ask turns.Rate new is = looked _ _ _ _ _ is.2.looks
 refused notice old from ask turns.Memory new is = looked _ _ _ _ _ is.2.looks
 refused notice old from ask turns.Role new is = looked _ _ _ _ _ is.1.looks
+refused notice old from ask turns.Product new is = looked _ _ _ _ _ is.1.looks
 refused notice old from ask turns.Journal new is = absurd is
 refused notice old from ask turns.Tag new is = absurd is
 refused notice old from ask turns.Differs new is = absurd is

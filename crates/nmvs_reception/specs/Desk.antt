@@ -12,10 +12,13 @@ use Rattle.nmvs_directory.specs.declared.change.Change.{Change}
 use Rattle.nmvs_directory.specs.declared.look.Look.{Look}
 use Rattle.nmvs_directory.specs.declared.look.Look.TheVariants as looks
 use Rattle.nmvs_rules.specs.declared.actor.Actor.{Actor}
+use Rattle.nmvs_rules.specs.declared.enrolment.Enrolment.{Enrolment}
 use Rattle.nmvs_rules.specs.declared.entry.Entry.{Entry}
 use Rattle.nmvs_rules.specs.declared.printed.Printed.{Printed}
 use Rattle.nmvs_rules.specs.declared.put.Put.{Put}
+use Rattle.nmvs_rules.specs.declared.question.Question.TheVariants.{Upload}
 use Rattle.nmvs_rules.specs.declared.role.Role.{Role}
+use Rattle.nmvs_rules.specs.Enrolments.{has_ended, may_upload}
 use Rattle.nmvs_rules.specs.Questions.{code_of, may_report}
 use Rattle.nmvs_words.specs.Kinds.{naming_pack}
 use Rattle.nmvs_shard.specs.declared.shard.NotPut.{NotPut}
@@ -71,17 +74,26 @@ pub record IsTold (notice : List Change) (old new : DeskView) : Type 0 where
   pub seen : IsPrefix old.clerk.seen new.clerk.seen
   pub latest : IsPrefix notice new.clerk.seen
 
--- the directory then says this of the user; nothing else changes
+-- the directory's answer at a moment: a user whose enrolment has ended stands as one who is suspended
+abbrev pub at_moment : ℕ → Look → Look
+at_moment moment (looks.Known enrolment) = if has_ended enrolment.until moment then looks.Suspended else looks.Known enrolment
+at_moment moment said = said
+
+-- the directory then says this of the user at the moment that the clock gave; nothing else changes
 pub record LooksUp (notice : List Change) (old : DeskView) (user : Name) (look : Look) (new : DeskView) : Type 0 where
   pub told : DeskView
   pub is : IsTold notice old told
-  pub reads : Reads told.clerk.seen new.clerk.seen user look
+  pub said : Look
+  pub reads : Reads told.clerk.seen new.clerk.seen user said
+  pub moment : ℕ
+  pub at : pos moment ≡ new.gave
+  pub stands : at_moment moment said ≡ look
   pub same : new ≡ with_seen new.clerk.seen told
 
--- the directory knows the user of the line, in this capacity, and the peer may speak for the user, or may not
-pub record Knows (notice : List Change) (old : DeskView) (from : Peer) (ask : Ask) (may : Bool) (actor : Actor) (new : DeskView) : Type 0 where
-  pub looks : LooksUp notice old (user_of ask) (looks.Known actor) new
-  pub speaks : speaks_for from (user_of ask) actor.authorisation ≡ may
+-- the directory knows the user of the line, by this enrolment, and the peer may speak for the user, or may not
+pub record Knows (notice : List Change) (old : DeskView) (from : Peer) (ask : Ask) (may : Bool) (enrolment : Enrolment) (new : DeskView) : Type 0 where
+  pub looks : LooksUp notice old (user_of ask) (looks.Known enrolment) new
+  pub speaks : speaks_for from (user_of ask) enrolment.actor.authorisation ≡ may
 
 -- the reason to turn away a line of a peer that names a suspended user: the suspension, unless the peer is a certificate that
 -- may be another's; one that names an authorisation may be, since the directory tells none of a suspended user
@@ -105,25 +117,36 @@ may_ask_this (asked.Question user q) r = true
 may_ask_this (asked.Conditional user kind p printed) r = true
 may_ask_this (asked.Report user c) r = may_report r
 
+-- whether a user with this enrolment may ask this, since it uploads no product that the enrolment does not name
+abbrev pub may_upload_this : Asked → Enrolment → Bool
+may_upload_this (asked.Question user (Upload p b x)) enrolment = may_upload enrolment.codes p.code
+may_upload_this _ enrolment = true
+
 -- a line is admitted, at the moment that the clock gave, in the capacity that the directory gives its user
 pub record Admits (notice : List Change) (old : DeskView) (from : Peer) (ask : Ask) (moment : ℕ) (actor : Actor) (new : DeskView) : Type 0 where
-  pub knows : Knows notice old from ask true actor new
+  pub enrolment : Enrolment
+  pub knows : Knows notice old from ask true enrolment new
+  pub capacity : actor ≡ enrolment.actor
   pub at : pos moment ≡ new.gave
-  pub may : may_ask_this ask.asked actor.role ≡ true
+  pub may : may_ask_this ask.asked enrolment.actor.role ≡ true
+  pub product : may_upload_this ask.asked enrolment ≡ true
 
 -- the reason to turn a line away, the first that holds: the clock gives no moment; the directory does not know the user, or
--- cannot be entered; the peer may not speak for the user; the user is suspended; the user's lines are over the rate, or there is
--- no memory to count them; the role gets no report
+-- cannot be entered; the peer may not speak for the user; the user is suspended, or its last day is over; the user's lines are
+-- over the rate, or there is no memory to count them; the role gets no report; the product is none that the user may upload
 abbrev pub Refuses : List Change → DeskView → Peer → Ask → Turn → DeskView → Type 0
 Refuses notice old from ask turns.Clock new = StopsAtClock old new
 Refuses notice old from ask turns.Nobody new =
     LooksUp notice old (user_of ask) looks.Nobody new
-    ⊎ (((actor : Actor) × Knows notice old from ask false actor new) ⊎ FindsSuspended notice old from ask turns.Nobody new)
+    ⊎ (((enrolment : Enrolment) × Knows notice old from ask false enrolment new) ⊎ FindsSuspended notice old from ask turns.Nobody new)
 Refuses notice old from ask turns.Suspended new = FindsSuspended notice old from ask turns.Suspended new
 Refuses notice old from ask turns.Closed new = LooksUp notice old (user_of ask) looks.Closed new
-Refuses notice old from ask turns.Rate new = (old.rated ≡ true) × (actor : Actor) × Knows notice old from ask true actor new
-Refuses notice old from ask turns.Memory new = (old.rated ≡ true) × (actor : Actor) × Knows notice old from ask true actor new
-Refuses notice old from ask turns.Role new = (actor : Actor) × Knows notice old from ask true actor new × (may_ask_this ask.asked actor.role ≡ false)
+Refuses notice old from ask turns.Rate new = (old.rated ≡ true) × (enrolment : Enrolment) × Knows notice old from ask true enrolment new
+Refuses notice old from ask turns.Memory new = (old.rated ≡ true) × (enrolment : Enrolment) × Knows notice old from ask true enrolment new
+Refuses notice old from ask turns.Role new =
+    (enrolment : Enrolment) × Knows notice old from ask true enrolment new × (may_ask_this ask.asked enrolment.actor.role ≡ false)
+Refuses notice old from ask turns.Product new =
+    (enrolment : Enrolment) × Knows notice old from ask true enrolment new × (may_upload_this ask.asked enrolment ≡ false)
 Refuses notice old from ask turns.Journal new = ⊥
 Refuses notice old from ask turns.Tag new = ⊥
 Refuses notice old from ask turns.Differs new = ⊥

@@ -7,7 +7,7 @@ ghost use Rattle.nmvs_messages.specs.Tags.{tag_text};
 ghost use Rattle.nmvs_reports.specs.Report.{record_lines};
 ghost use Rattle.nmvs_messages.specs.Withheld.{content_shown, entries_left, text_left};
 ghost use Rattle.nmvs_rules.specs.declared.entry.Entry.{Entry as TheEntry};
-ghost use Rattle.nmvs_reception.specs.Desk.{may_ask_this, not_put_turn as turn_of_not_put, suspended_turn as turn_of_suspended, RestsOn, Says};
+ghost use Rattle.nmvs_reception.specs.Desk.{at_moment, may_ask_this, may_upload_this, not_put_turn as turn_of_not_put, suspended_turn as turn_of_suspended, RestsOn, Says};
 ghost use Rattle.nmvs_line.specs.Export.{export_text};
 ghost use Rattle.nmvs_reports.specs.Following.{following_text};
 
@@ -25,7 +25,7 @@ use nmvs_messages::{
 use nmvs_metrics::WorkerMetrics;
 use nmvs_rate::SharedLimiter;
 use nmvs_reports::{Following, ReportList, batches, product_line};
-use nmvs_rules::{Actor, BatchRecord, Printed, Put, Question, Reply, Role, may_report};
+use nmvs_rules::{Actor, BatchRecord, Enrolment, Printed, Put, Question, Reply, Role, may_report};
 use nmvs_shard::{Answered, NotPut, Outcome, Shard};
 use nmvs_store::Store;
 use std::alloc::{AllocError, Global};
@@ -128,8 +128,9 @@ impl<'r, 'a, R: Wait + rt::Clock + Log, J: Naming, H: Histories, K: Clock> Clerk
 
     /// Admits a line, or gives the reason to turn it away. The reasons come in this order. The clock gives no moment. The
     /// directory does not know the user, who is looked up once, after the clerk has learnt the latest notice, or cannot be read.
-    /// The peer may not speak for the user. The user is suspended. The line is over the user's rate, or there is no memory to count it; this waits for the limiter's
-    /// lock. The user's role gets no report.
+    /// The peer may not speak for the user. The user is suspended, or its last day is over. The line is over the user's rate, or
+    /// there is no memory to count it; this waits for the limiter's lock. The user's role gets no report. The product of an upload
+    /// is none of those that the user may upload.
     fn admit(&mut self, notice: &Notice<J>, from: &Peer, ask: &Ask) -> Result<(Moment, Actor), Turn>
         ensures admits { IfOk result (λ r. Admits notice.now self.old from.now ask.now r.0 r.1 self.new) }
         ensures refuses { IfErr result (λ turn. Refuses notice.now self.old from.now ask.now turn self.new) }
@@ -139,22 +140,25 @@ impl<'r, 'a, R: Wait + rt::Clock + Log, J: Naming, H: Histories, K: Clock> Clerk
         };
         self.clerk.learn(notice);
         let user = ask.user();
-        let actor = match self.clerk.look(user) {
-            Look::Known(actor) => actor,
+        let enrolment = match at_moment(moment, self.clerk.look(user)) {
+            Look::Known(enrolment) => enrolment,
             Look::Nobody => return Err(Turn::Nobody),
             Look::Suspended => return Err(suspended_turn(from, user)),
             Look::Closed => return Err(Turn::Closed),
         };
-        if !from.speaks_for(user, &actor.authorisation) {
+        if !from.speaks_for(user, &enrolment.actor.authorisation) {
             return Err(Turn::Nobody);
         }
         if let Some(turn) = turn_by_rate(self.rt, self.limiter, user) {
             return Err(turn);
         }
-        if !may_ask_this(&ask.asked, actor.role) {
+        if !may_ask_this(&ask.asked, enrolment.actor.role) {
             return Err(Turn::Role);
         }
-        Ok((moment, actor))
+        if !may_upload_this(&ask.asked, &enrolment) {
+            return Err(Turn::Product);
+        }
+        Ok((moment, enrolment.actor))
     }
 
     /// The answer to an admitted line, its basis, and the list of the lines that follow it.
@@ -286,6 +290,16 @@ impl<'r, 'a, R: Wait + rt::Clock + Log, J: Naming, H: Histories, K: Clock> Clerk
     }
 }
 
+/// The directory's answer at a moment: a user whose enrolment has ended stands as one who is suspended.
+fn at_moment(moment: Moment, said: Look) -> Look
+    ensures { result ≡ at_moment moment said }
+{
+    match said {
+        Look::Known(enrolment) if enrolment.has_ended(moment) => Look::Suspended,
+        Look::Known(_) | Look::Nobody | Look::Suspended | Look::Closed => said,
+    }
+}
+
 /// The turn for a line of this peer that names a user who is suspended: to a certificate of another name the user is nobody. So
 /// it is to each certificate that names an authorisation, since the directory tells none of a suspended user.
 fn suspended_turn(from: &Peer, user: &Name) -> Turn
@@ -327,6 +341,16 @@ fn may_ask_this(asked: &Asked, role: Role) -> bool
     match asked {
         Asked::Question(..) | Asked::Conditional(..) => true,
         Asked::Report(..) => may_report(role),
+    }
+}
+
+/// Whether a user with this enrolment may ask this, since it uploads no product that the enrolment does not name.
+fn may_upload_this(asked: &Asked, enrolment: &Enrolment) -> bool
+    ensures { result ≡ may_upload_this asked.now enrolment.now }
+{
+    match asked {
+        Asked::Question(_, Question::Upload { pack, .. }) => enrolment.may_upload(&pack.code),
+        Asked::Question(..) | Asked::Conditional(..) | Asked::Report(..) => true,
     }
 }
 

@@ -1,6 +1,8 @@
 -- Commands, and for whom a peer speaks.
-use Rattle.std.proofs.Common.{◌≡◌, ℕ, Bool, true, false, List, [], ◌∷◌, Some, None, refl}
+use Rattle.std.proofs.Common.{◌≡◌, ℕ, Bool, true, false, List, [], ◌∷◌, Option, Some, None, refl}
 use Rattle.std.specs.Prelude.{codes, replicate}
+use Rattle.nmvs_identifier.specs.Codes.{Codes}
+use Rattle.nmvs_identifier.specs.Expiry.{Expiry}
 use Rattle.nmvs_identifier.specs.Texts.{Text}
 use Rattle.nmvs_rules.specs.declared.role.Role.TheVariants as role
 use Rattle.nmvs_messages.specs.declared.command.Command.{Command}
@@ -17,18 +19,25 @@ abbrev text : List ℕ → Text
 text t = record { bytes = t }
 
 -- each command has one line, and is read back from it
-abbrev enrolment : Command
-enrolment = Enrol (text (codes "ph9")) (record { role = role.Pharmacy; authorisation = text (codes "PH-9"); premises = text (codes "P9") })
+abbrev enrolled : Option Expiry → Option Codes → Command
+enrolled until products = Enrol (text (codes "ph9")) (record {
+  actor = record { role = role.Holder; authorisation = text (codes "PH-9"); premises = text (codes "P9") };
+  until = until;
+  codes = products;
+})
 
 lines : Gives command_line (
-    (enrolment, codes "ENROL ph9 PHARMACY PH-9 P9")
+    (enrolled None None, codes "ENROL ph9 HOLDER PH-9 P9")
+    ∷ (enrolled (Some (text (codes "271231"))) None, codes "ENROL ph9 HOLDER PH-9 P9 UNTIL 271231")
+    ∷ (enrolled None (Some (text (codes "9506000,04012345678901"))), codes "ENROL ph9 HOLDER PH-9 P9 CODES 9506000,04012345678901")
+    ∷ (enrolled (Some (text (codes "271231"))) (Some (text (codes "9506000"))), codes "ENROL ph9 HOLDER PH-9 P9 UNTIL 271231 CODES 9506000")
     ∷ (Suspend (text (codes "ph9")), codes "SUSPEND ph9")
     ∷ (Remove (text (codes "ph9")), codes "REMOVE ph9")
     ∷ [])
 lines = refl
 
-names : is_command enrolment ≡ true
-names = refl
+in-grammars : is_command (enrolled (Some (text (codes "271231"))) (Some (text (codes "9506000,04012345678901")))) ≡ true
+in-grammars = refl
 
 faults : Gives first_command_fault (
     (codes "ENROL ph9 PHARMACY PH-9 P9", None)
@@ -45,6 +54,15 @@ faults : Gives first_command_fault (
     ∷ (codes "ENROL -x PHARMACY P/9 P9", Some fault.User)
     ∷ (codes "ENROL ph9 PHARMACY P/9 -x", Some fault.Authorisation)
     ∷ (codes "ENROL ph9 PHARMACY PH-9 -x", Some fault.Premises)
+    ∷ (codes "ENROL ph9 HOLDER PH-9 P9 UNTIL 271231 CODES 9506000", None)
+    ∷ (codes "ENROL ph9 HOLDER PH-9 P9 UNTIL 270230", Some fault.Until)
+    ∷ (codes "ENROL ph9 HOLDER PH-9 P9 UNTIL", Some fault.Fields)
+    ∷ (codes "ENROL ph9 HOLDER PH-9 P9 CODES 095", Some fault.Codes)
+    ∷ (codes "ENROL ph9 HOLDER PH-9 P9 CODES 09506000134353", Some fault.Codes)
+    ∷ (codes "ENROL ph9 HOLDER PH-9 P9 CODES 9506000,", Some fault.Codes)
+    ∷ (codes "ENROL ph9 HOLDER PH-9 P9 CODES 9506000 0401234", Some fault.Fields)
+    ∷ (codes "ENROL ph9 HOLDER PH-9 P9 CODES 9506000 UNTIL 271231", Some fault.Fields)
+    ∷ (codes "ENROL ph9 HOLDER PH-9 P9 FROM 271231", Some fault.Fields)
     ∷ (codes "SUSPEND ph9\r", Some fault.Bytes)
     ∷ (codes "SUSPEND ph9\u{7f}", Some fault.Bytes)
     ∷ (replicate 201 65, Some fault.Long)

@@ -1,4 +1,5 @@
 mod CommandsExample
+mod EnrolmentExample
 mod EtcdExample
 mod Gives
 mod IdentifiersExample

@@ -244,6 +244,7 @@ turned-away : Gives (λ t. content_text (content.Turned t)) (
     ∷ (turn.Tag, codes "FAULT TAG\n")
     ∷ (turn.Differs, codes "FAULT DIFFERS\n")
     ∷ (turn.Changed, codes "FAULT CHANGED\n")
+    ∷ (turn.Product, codes "FAULT PRODUCT\n")
     ∷ [])
 unfolding content_text
 turned-away = refl

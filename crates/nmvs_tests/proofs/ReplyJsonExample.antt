@@ -61,8 +61,8 @@ unprocessable : map of_fault of_question ≡ map (problem Unprocessable (codes "
 unfolding body_text places_of separated batch_places batch_objects later_members pack_words comparison_member problem_named problem_front bulk_text bodies problem_of lines_after
 unprocessable = refl
 
-forbidden : map of_fault (codes "NOBODY" ∷ codes "SUSPENDED" ∷ codes "ROLE" ∷ [])
-    ≡ map (problem Forbidden (codes "Forbidden\",\"status\":403") (codes "no")) (codes "NOBODY" ∷ codes "SUSPENDED" ∷ codes "ROLE" ∷ [])
+forbidden : map of_fault (codes "NOBODY" ∷ codes "SUSPENDED" ∷ codes "ROLE" ∷ codes "PRODUCT" ∷ [])
+    ≡ map (problem Forbidden (codes "Forbidden\",\"status\":403") (codes "no")) (codes "NOBODY" ∷ codes "SUSPENDED" ∷ codes "ROLE" ∷ codes "PRODUCT" ∷ [])
 unfolding body_text places_of separated batch_places batch_objects later_members pack_words comparison_member problem_named problem_front bulk_text bodies problem_of lines_after
 forbidden = refl
 

@@ -4,7 +4,7 @@ ghost use Rattle.nmvs_directory.specs.Directory.{directory_book};
 
 use nmvs_directory::{Directory, Look, Naming, Registrar, Window};
 use nmvs_identifier::Name;
-use nmvs_rules::{Actor, Role};
+use nmvs_rules::{Actor, Enrolment, Role};
 use std::alloc::Global;
 use std::marker::Brand;
 use std::process::Abort;
@@ -15,17 +15,21 @@ fn name(rt: &impl Abort, text: &str) -> Name {
     Name::read(text).expect(rt, "a name")
 }
 
-fn pharmacy(rt: &impl Abort) -> Actor {
-    Actor {
-        role: Role::Pharmacy,
-        authorisation: name(rt, "PH-1"),
-        premises: name(rt, "P1"),
+fn pharmacy(rt: &impl Abort) -> Enrolment {
+    Enrolment {
+        actor: Actor {
+            role: Role::Pharmacy,
+            authorisation: name(rt, "PH-1"),
+            premises: name(rt, "P1"),
+        },
+        until: None,
+        codes: None,
     }
 }
 
 fn enrol<J: Naming, R: Wait + Abort>(rt: &R, registrar: &mut Registrar<J, &R, Global>) {
-    let (user, actor) = (name(rt, "ph1"), pharmacy(rt));
-    registrar.changes.enrol(user, actor).expect(rt, "memory");
+    let (user, enrolment) = (name(rt, "ph1"), pharmacy(rt));
+    registrar.changes.enrol(user, enrolment).expect(rt, "memory");
 }
 
 fn suspend<J: Naming, R: Wait + Abort>(rt: &R, registrar: &mut Registrar<J, &R, Global>) {

@@ -1,7 +1,7 @@
 //! The values and texts that rows name.
-use nmvs_identifier::{Expiry, ExpiryFault, Moment, Name, ProductCode, ProductCodeFault};
+use nmvs_identifier::{Codes, Expiry, ExpiryFault, Moment, Name, ProductCode, ProductCodeFault};
 use nmvs_messages::{Command, CommandFault, read_command};
-use nmvs_rules::{Actor, Role};
+use nmvs_rules::{Actor, Enrolment, Role};
 use std::process::Abort;
 use std::rt::HostRuntime;
 
@@ -64,9 +64,16 @@ fn commands_are_read(rt: HostRuntime) {
         authorisation: name(&rt, "PH-9"),
         premises: name(&rt, "P9"),
     };
-    let enrol = Command::Enrol(name(&rt, "ph9"), actor);
+    let (until, codes) = (Expiry::read("271231").ok(), Codes::read("9506000"));
+    let enrolment = Enrolment {
+        actor,
+        until,
+        codes,
+    };
+    let enrol = Command::Enrol(name(&rt, "ph9"), enrolment);
     for &(line, wanted) in &[
-        ("ENROL ph9 PHARMACY PH-9 P9", Ok(enrol)),
+        ("ENROL ph9 PHARMACY PH-9 P9 UNTIL 271231 CODES 9506000", Ok(enrol)),
+        ("ENROL ph9 PHARMACY PH-9 P9 CODES 9506000 UNTIL 271231", Err(CommandFault::Fields)),
         ("ENROL ph9 DOCTOR PH-9 P9", Err(CommandFault::Role)),
         ("SUSPEND", Err(CommandFault::Fields)),
         ("enrol x", Err(CommandFault::Word)),
