@@ -103,13 +103,13 @@ few_asked user gs ts few e =
     let count = all_read-length gs ts (and_parts (is_name user) (all_read gs ts) e).1 in
     omega (arith, count, few)
 
-few_asked_fields : (a : Asked) → is_asked a ≡ true → length (asked_fields a) < 10
+few_asked_fields : (a : Asked) → is_asked a ≡ true → length (asked_fields a) < 8
 few_asked_fields (asked.Question user q) e =
     let few = few_asked user.bytes (grammars (kind_of q)) (texts_of q) (few_grammars (kind_of q)) e in omega (arith, few)
 few_asked_fields (asked.Conditional user kind p printed) e = lit≤ tt
 few_asked_fields (asked.Report user c) e = lit≤ tt
 
-few_fields : (l : Line) → is_line l ≡ true → length (fields l) < 10
+few_fields : (l : Line) → is_line l ≡ true → length (fields l) < 8
 few_fields (lines.Ask a) e = few_asked_fields a.asked (and_parts (is_tag_or_none a.tag) (is_asked a.asked) e).1
 few_fields lines.Ping e = lit≤ tt
 few_fields lines.Version e = lit≤ tt
