@@ -8,7 +8,7 @@ import uuid
 
 TOP = pathlib.Path(__file__).resolve().parent.parent
 # What the package needs of the system: by packaging/debian/control.
-SYSTEM = {"python3": "nmvs-ctl, nmvs-qualify and nmvs-workbook", "adduser": "the installation", "libc6": "the programs", "haproxy": "the gateway"}
+SYSTEM = {"python3": "nmvs-ctl, nmvs-qualify and nmvs-workbook", "adduser": "the installation", "libc6": "the programs", "haproxy": "the gateway", "rsync": "back-ups"}
 
 
 def direct():
@@ -70,7 +70,7 @@ def bill(commit, moment):
     folder, toolchain = kit()
     version = re.search(r'VERSION: &str = "([\d.]+)', (TOP / "crates/nmvs_operator/src/command_line.rt").read_text())[1]
     own = [part("library", it, version, "crate of the repository") for it in direct()]
-    system = [part("application", it, None, f"for {why}", "optional" if it == "haproxy" else "required") for it, why in SYSTEM.items()]
+    system = [part("application", it, None, f"for {why}", "optional" if it in ("haproxy", "rsync") else "required") for it, why in SYSTEM.items()]
     compiler = part("application", "rattle", toolchain, "compiler, prover and standard library", "excluded")
     return {
         "bomFormat": "CycloneDX",
