@@ -4,7 +4,7 @@ use Rattle.nmvs_rules.specs.declared.printed.Printed.{Printed}
 use Rattle.nmvs_rules.specs.declared.put.Put.{Put}
 use Rattle.nmvs_shard.specs.declared.shard.Answered.{Answered}
 use Rattle.nmvs_shard.specs.declared.shard.Outcome.TheVariants as outcome
-use Rattle.nmvs_shard.specs.Asking.{Asks}
+use Rattle.nmvs_shard.specs.Asking.{Asks, IsNotPut}
 use Rattle.nmvs_rehearsal.specs.Rehearsal.{put_at, Repeats}
 use Rattle.nmvs_rehearsal.proofs.rehearsal.RehearsalDesk.judge.Goals as goal
 
@@ -28,22 +28,24 @@ returns-in-Ok-Again-clause-judges c =
       },
     )
 
-pub returns-in-Ok-Differs-clause-judges : goal.returns-in-Ok-Differs-clause-judges
-returns-in-Ok-Differs-clause-judges c =
+pub returns-in-Ok-NotPut-Differs-default-clause-judges : goal.returns-in-Ok-NotPut-Differs-default-clause-judges
+returns-in-Ok-NotPut-Differs-default-clause-judges c =
     let put = put_at c.args.moment c.args.user.now c.in-Some.actor c.args.tag c.args.question.now in
     let printed = c.args.printed.now in
-    let asks = subst (λ o. Asks c.self.inside.shard put printed c.ask.new.self o) c.in-Ok-Differs.field-0-is c.in-Ok-Differs.ensures.asks in
+    let asks = subst (λ o. Asks c.self.inside.shard put printed c.ask.new.self o) c.in-Ok-NotPut-Differs-default.field-0-is c.in-Ok-NotPut-Differs-default.ensures.asks in
+    let why = subst (λ w. IsNotPut c.self.inside.shard put printed w) c.in-Ok-NotPut-Differs-default.field-0-0-is asks.2 in
     rw (← c.self.view_is) (
-      record { actor = c.in-Some.actor; rostered = c.in-Some.ensures.known; first = asks.1; differs = asks.2 },
+      record { actor = c.in-Some.actor; rostered = c.in-Some.ensures.known; first = why.0; differs = why.1 },
       record { trail = asks.0; moments = refl },
     )
 
-pub returns-in-Ok-Changed-clause-judges : goal.returns-in-Ok-Changed-clause-judges
-returns-in-Ok-Changed-clause-judges c =
+pub returns-in-Ok-NotPut-Changed-default-clause-judges : goal.returns-in-Ok-NotPut-Changed-default-clause-judges
+returns-in-Ok-NotPut-Changed-default-clause-judges c =
     let put = put_at c.args.moment c.args.user.now c.in-Some.actor c.args.tag c.args.question.now in
     let printed = c.args.printed.now in
-    let asks = subst (λ o. Asks c.self.inside.shard put printed c.ask.new.self o) c.in-Ok-Changed.field-0-is c.in-Ok-Changed.ensures.asks in
+    let asks = subst (λ o. Asks c.self.inside.shard put printed c.ask.new.self o) c.in-Ok-NotPut-Changed-default.field-0-is c.in-Ok-NotPut-Changed-default.ensures.asks in
+    let why = subst (λ w. IsNotPut c.self.inside.shard put printed w) c.in-Ok-NotPut-Changed-default.field-0-0-is asks.2 in
     rw (← c.self.view_is) (
-      record { actor = c.in-Some.actor; rostered = c.in-Some.ensures.known; first = asks.1; changed = asks.2 },
+      record { actor = c.in-Some.actor; rostered = c.in-Some.ensures.known; first = why.0; changed = why.1 },
       record { trail = asks.0; moments = refl },
     )
