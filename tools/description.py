@@ -1,14 +1,16 @@
 #!/usr/bin/env python3
 """The description of HTTP, gateway/openapi.json: where its references lead, and whether a value is in a schema of it.
 
-  tools/description.py   writes gateway/openapi-3.0.json, the same for generators that read OpenAPI 3.0 alone
+  tools/description.py   writes gateway/openapi-3.0.json, the same for generators that read OpenAPI 3.0 alone, and gateway/problems.html,
+                         the page to which the type of a problem leads: a section a fault
 """
+import html
 import json
 import pathlib
 import re
 
 GATEWAY = pathlib.Path(__file__).resolve().parent.parent / "gateway"
-OLDER = GATEWAY / "openapi-3.0.json"
+OLDER, PROBLEMS = GATEWAY / "openapi-3.0.json", GATEWAY / "problems.html"
 DESCRIPTION = json.loads((GATEWAY / "openapi.json").read_text())
 
 
@@ -107,6 +109,18 @@ def older_text():
     return json.dumps(made, indent=1) + "\n"
 
 
+def problems_text():
+    """The page of problems: of each fault, by its word, what it says, what to do, and whether the question may be recorded."""
+    examples = DESCRIPTION["components"]["examples"].values()
+    faults = sorted((one["value"]["fault"], one["value"], one["summary"]) for one in examples if "fault" in one["value"])
+    rows = "".join(
+        f'<h2 id="{word}">{word}</h2>\n<p>Status {it["status"]}, {html.escape(it["title"])}. {html.escape(it["detail"])}</p>\n'
+        f'<p>{html.escape(summary[0].upper() + summary[1:])}. The question is {"recorded or not" if it["recorded"] == "unknown" else "not recorded"}.</p>\n'
+        for word, it, summary in faults
+    )
+    return f'<!doctype html>\n<html lang="en">\n<meta charset="utf-8">\n<title>Problems</title>\n<h1>Problems</h1>\n{rows}</html>\n'
+
+
 def led_nowhere():
     for reference in references(DESCRIPTION):
         try:
@@ -130,6 +144,8 @@ def faults(pages):
     found += [f"{path}: {word} has no example" for path, word in sorted(wanted - shown)]
     if not OLDER.exists() or OLDER.read_text() != older_text():
         found.append("gateway/openapi-3.0.json is not what tools/description.py writes")
+    if not PROBLEMS.exists() or PROBLEMS.read_text() != problems_text():
+        found.append("gateway/problems.html is not what tools/description.py writes")
     return found + refused()
 
 
@@ -145,3 +161,4 @@ def refused():
 
 if __name__ == "__main__":
     OLDER.write_text(older_text())
+    PROBLEMS.write_text(problems_text())

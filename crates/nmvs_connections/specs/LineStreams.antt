@@ -39,6 +39,11 @@ abbrev pub before_of : Option Http → Option (List ℕ)
 before_of None = None
 before_of (Some h) = Some h.before.numbers
 
+-- whether they come directly, and through no gateway, if lines are carried over HTTP
+abbrev pub direct_of : Option Http → Option Bool
+direct_of None = None
+direct_of (Some h) = Some h.codec.stream.direct
+
 -- the bytes read from the socket are those before the first request, those that the codec was fed, and a discarded
 -- rest; the bytes written to it are the sent bytes of the codec
 pub record IsFed (raw : Traffic) (h : Http) : Type 0 where

@@ -1,7 +1,7 @@
 //! The stream of lines of a connection: over its socket, or over HTTP.
-ghost use Rattle.std.specs.Prelude.{◌≡◌, ◌⊎◌, ◌++◌, [], None, IfSome, false};
+ghost use Rattle.std.specs.Prelude.{◌≡◌, ◌⊎◌, ◌++◌, [], None, IfSome, true, false};
 ghost use Rattle.nmvs_http.specs.Codecs.{AnswersLines};
-ghost use Rattle.nmvs_connections.specs.LineStreams.{AnswersOver, CarriesLines, IsFed, before_of, carried, carried_over, moved_of};
+ghost use Rattle.nmvs_connections.specs.LineStreams.{AnswersOver, CarriesLines, IsFed, before_of, carried, carried_over, direct_of, moved_of};
 ghost use Rattle.nmvs_connections.specs.Streams.{Reads, Writes};
 ghost use Rattle.nmvs_connections.specs.Traffic.{Traffic};
 
@@ -64,13 +64,14 @@ impl LineStream {
         self.stream.register(registry, token)
     }
 
-    /// Carries the lines over HTTP from here on, if there are keys for the fields of requests. The result is whether there was
-    /// memory for it.
-    pub(crate) fn begin(&mut self, alloc: Global, keys: Option<RandomState>) -> bool
+    /// Carries the lines over HTTP from here on, if there are keys for the fields of requests. If the socket comes directly, and
+    /// through no gateway, the `Host` of requests is compared. The result is whether there was memory for it.
+    pub(crate) fn begin(&mut self, alloc: Global, keys: Option<RandomState>, direct: bool) -> bool
         requires plain { self.old.http ≡ None }
         requires silent { self.old.raw.sent ≡ [] }
         ensures carried { carried self.new ≡ carried self.old }
         ensures before { IfSome (before_of self.new.http) (λ before. before ≡ (carried self.old).received) }
+        ensures direct { result ≡ true → IfSome (direct_of self.new.http) (λ its. its ≡ direct) }
         ensures none { keys ≡ None → self.new ≡ self.old }
         ensures refused { result ≡ false → self.new ≡ self.old }
     {
@@ -78,7 +79,7 @@ impl LineStream {
             return true;
         };
         let http = Http {
-            codec: HttpCodec::new(alloc, keys),
+            codec: HttpCodec::new(alloc, keys, direct),
             before: self.stream.received(),
             may_have_more: true,
             discards: false,

@@ -264,7 +264,7 @@ impl<L: LineList> PeerSession<L> {
             ProxyHeader::Begun { missing } => missing.min(READ_SIZE),
             ProxyHeader::Whole(peer) => {
                 self.note_silent();
-                if !self.stream.begin(alloc, self.http) {
+                if !self.stream.begin(alloc, self.http, false) {
                     self.stage = Stage::Ending;
                     return Next::Close;
                 }
@@ -504,7 +504,7 @@ fn keys_where_known(proxy: Option<NameOf>, http: Option<RandomState>) -> Option<
     if proxy.is_some() { None } else { http }
 }
 
-/// The lines of a socket, which are carried over HTTP from the start if there are keys.
+/// The lines of a socket, which are carried over HTTP from the start if there are keys. No gateway stands in front of it then.
 fn lines_of(
     alloc: Global,
     socket: Socket,
@@ -515,7 +515,7 @@ fn lines_of(
     ensures none { IfOk result (λ stream. keys ≡ None → before_of stream.http ≡ None) }
 {
     let mut stream = LineStream::new(socket);
-    if !stream.begin(alloc, keys) {
+    if !stream.begin(alloc, keys, true) {
         return Err(AllocError);
     }
     Ok(stream)

@@ -33,16 +33,16 @@ unsent_less sent items gone count =
     ∙ ap (λ (t : List ℕ). sent ++ t) (take-append-drop count (drop gone items))
 
 -- a codec that was fed nothing
-pub is_new : (c : CodecState) → c.hand ≡ None → c.stream ≡ record { fed = []; requests = []; state = states.Open; held = [] } → c.given ≡ [] → c.replies ≡ [] → c.gathered ≡ [] → c.sent ++ c.unsent ≡ []
+pub is_new : (c : CodecState) (direct : Bool) → c.hand ≡ None → c.stream ≡ record { direct = direct; fed = []; requests = []; state = states.Open; held = [] } → c.given ≡ [] → c.replies ≡ [] → c.gathered ≡ [] → c.sent ++ c.unsent ≡ []
     → IsCodec c
-is_new c none fresh given replies gathered told =
+is_new c direct none fresh given replies gathered told =
     λ _. (
       record {
         messages = [];
         told = tt;
         open_still = λ _. tt;
         begun = [];
-        in_hand = subst (λ (h : Option Hand). InHand h [] [] c.stream.requests) (sym none) (refl, ap (λ (s : StreamState). s.requests) fresh);
+        in_hand = subst (λ (h : Option Hand). InHand c.stream.direct h [] [] c.stream.requests) (sym none) (refl, ap (λ (s : StreamState). s.requests) fresh);
         given_is = given;
         replies_is = replies ∙ sym gathered;
         text_is = told;
@@ -54,24 +54,32 @@ is_new c none fresh given replies gathered told =
 pub is_lost : (c : CodecState) → c.stage ≡ stages.Lost → IsCodec c
 is_lost c lost = λ sound. absurd (sound lost)
 
+-- a stream still comes directly, or not
+comes_as : (c : CodecState) (old new : Bool) → new ≡ old → Carries old c → Carries new c
+comes_as c old new same x = subst (λ (direct : Bool). Carries direct c) (sym same) x
+
 -- the requests of the stream stay, whatever its state
-moved : (c : CodecState) (stream : StreamState) → stream.requests ≡ c.stream.requests → Carries c → Carries (record c { stream = stream })
-moved c stream same x = record {
-  messages = x.messages;
-  told = x.told;
-  open_still = x.open_still;
-  begun = x.begun;
-  in_hand = subst (λ (rs : List (Request (List ℕ))). InHand c.hand x.begun (requests_in x.messages) rs) (sym same) x.in_hand;
-  given_is = x.given_is;
-  replies_is = x.replies_is;
-  text_is = x.text_is;
-}
+moved : (c : CodecState) (stream : StreamState) → stream.direct ≡ c.stream.direct → stream.requests ≡ c.stream.requests → Carries c.stream.direct c
+    → Carries stream.direct (record c { stream = stream })
+moved c stream direct same x =
+    comes_as (record c { stream = stream }) c.stream.direct stream.direct direct
+    (record {
+      messages = x.messages;
+      told = x.told;
+      open_still = x.open_still;
+      begun = x.begun;
+      in_hand = subst (λ (rs : List (Request (List ℕ))). InHand c.stream.direct c.hand x.begun (requests_in x.messages) rs) (sym same) x.in_hand;
+      given_is = x.given_is;
+      replies_is = x.replies_is;
+      text_is = x.text_is;
+    })
 
 -- more bytes were fed
-pub is_fed : (c : CodecState) (stream : StreamState) (fed : List ℕ) → stream ≡ record c.stream { fed = fed } → IsCodec c → IsCodec (record c { stream = stream })
-is_fed c stream fed same is =
+pub is_fed : (c : CodecState) (stream : StreamState) (fed held : List ℕ) → stream ≡ record c.stream { fed = fed; held = held } → IsCodec c
+    → IsCodec (record c { stream = stream })
+is_fed c stream fed held same is =
     λ sound. (
-      moved c stream (ap (λ (s : StreamState). s.requests) same) (is sound).0,
+      moved c stream (ap (λ (s : StreamState). s.direct) same) (ap (λ (s : StreamState). s.requests) same) (is sound).0,
       λ aborts. (is sound).1 (sym (ap (λ (s : StreamState). s.state) same) ∙ aborts),
     )
 
@@ -80,38 +88,40 @@ sound_open : (stage : CodecStage) → stage ≡ stages.Open → stage ≢ stages
 sound_open stage opens = λ lost. absurd (cc (opens, lost))
 
 -- no request has come
-pub is_waiting : (c : CodecState) (stream : StreamState) → c.stage ≡ stages.Open → IsNext c.stream stream nexts.Nothing → IsCodec c → IsCodec (record c { stream = stream })
-is_waiting c stream opens next is = λ sound. (moved c stream next.0 (is sound).0, λ aborts. absurd (cc (aborts, next.1)))
+pub is_waiting : (c : CodecState) (stream : StreamState) → c.stage ≡ stages.Open → stream.direct ≡ c.stream.direct → IsNext c.stream stream nexts.Nothing → IsCodec c
+    → IsCodec (record c { stream = stream })
+is_waiting c stream opens direct next is = λ sound. (moved c stream direct next.0 (is sound).0, λ aborts. absurd (cc (aborts, next.1)))
 
 -- a request was taken in hand
-pub is_taken : (c : CodecState) (stream : StreamState) (asked : Asked) (stays : Bool) (h : Hand) → c.stage ≡ stages.Open → c.hand ≡ None → IsNext c.stream stream (nexts.Request asked stays)
+pub is_taken : (c : CodecState) (stream : StreamState) (asked : Asked) (stays : Bool) (h : Hand) → c.stage ≡ stages.Open → c.hand ≡ None → stream.direct ≡ c.stream.direct → IsNext c.stream stream (nexts.Request asked stays)
     → h.asks ≡ asked.asks → h.head_alone ≡ asked.head_alone → h.lines ≡ asked.lines → IsCodec c → IsCodec (record c { stream = stream; hand = Some h })
-is_taken c stream asked stays h opens none next asks_are head_alone lines is =
+is_taken c stream asked stays h opens none direct next asks_are head_alone lines is =
     λ _. let x = (is (sound_open c.stage opens)).0 in
-    let empty : InHand None x.begun (requests_in x.messages) c.stream.requests = subst (λ (o : Option Hand). InHand o x.begun (requests_in x.messages) c.stream.requests) none x.in_hand in (
-      record {
-        messages = x.messages;
-        told = x.told;
-        open_still = x.open_still;
-        begun = x.begun;
-        in_hand = record {
-          request = next.0.0;
-          next = next.0.1 ∙ ap (λ (rs : List (Request (List ℕ))). rs ++ next.0.0 ∷ []) empty.1;
-          asks = asks_are ∙ next.0.2.0;
-          head_alone = head_alone ∙ next.0.2.1;
-          lines = ap (λ (t : List ℕ). t ++ h.lines) empty.0 ∙ lines ∙ next.0.2.2;
-        };
-        given_is = x.given_is;
-        replies_is = x.replies_is;
-        text_is = x.text_is;
-      },
+    let empty : InHand c.stream.direct None x.begun (requests_in x.messages) c.stream.requests = subst (λ (o : Option Hand). InHand c.stream.direct o x.begun (requests_in x.messages) c.stream.requests) none x.in_hand in (
+      comes_as (record c { stream = stream; hand = Some h }) c.stream.direct stream.direct direct
+          (record {
+            messages = x.messages;
+            told = x.told;
+            open_still = x.open_still;
+            begun = x.begun;
+            in_hand = record {
+              request = next.0.0;
+              next = next.0.1 ∙ ap (λ (rs : List (Request (List ℕ))). rs ++ next.0.0 ∷ []) empty.1;
+              asks = asks_are ∙ next.0.2.0;
+              head_alone = head_alone ∙ next.0.2.1;
+              lines = ap (λ (t : List ℕ). t ++ h.lines) empty.0 ∙ lines ∙ next.0.2.2;
+            };
+            given_is = x.given_is;
+            replies_is = x.replies_is;
+            text_is = x.text_is;
+          }),
       next.1,
     )
 
 -- bytes of lines were given of the request in hand
-hand_given : (h h' : Hand) (begun bytes : List ℕ) (earlier requests : List (Request (List ℕ))) → h'.asks ≡ h.asks → h'.head_alone ≡ h.head_alone → h.lines ≡ bytes ++ h'.lines
-    → HasRequest h begun earlier requests → HasRequest h' (begun ++ bytes) earlier requests
-hand_given h h' begun bytes earlier requests asks_are head_alone lines r = record {
+hand_given : (direct : Bool) (h h' : Hand) (begun bytes : List ℕ) (earlier requests : List (Request (List ℕ))) → h'.asks ≡ h.asks → h'.head_alone ≡ h.head_alone → h.lines ≡ bytes ++ h'.lines
+    → HasRequest direct h begun earlier requests → HasRequest direct h' (begun ++ bytes) earlier requests
+hand_given direct h h' begun bytes earlier requests asks_are head_alone lines r = record {
   request = r.request;
   next = r.next;
   asks = asks_are ∙ r.asks;
@@ -123,13 +133,13 @@ pub is_given : (c : CodecState) (h h' : Hand) (given bytes : List ℕ) → c.han
     → IsCodec c → IsCodec (record c { hand = Some h'; given = given })
 is_given c h h' given bytes some asks_are head_alone lines gives is =
     λ sound. let x = (is sound).0 in
-    let held : HasRequest h x.begun (requests_in x.messages) c.stream.requests = subst (λ (o : Option Hand). InHand o x.begun (requests_in x.messages) c.stream.requests) some x.in_hand in (
+    let held : HasRequest c.stream.direct h x.begun (requests_in x.messages) c.stream.requests = subst (λ (o : Option Hand). InHand c.stream.direct o x.begun (requests_in x.messages) c.stream.requests) some x.in_hand in (
       record {
         messages = x.messages;
         told = x.told;
         open_still = x.open_still;
         begun = x.begun ++ bytes;
-        in_hand = hand_given h h' x.begun bytes (requests_in x.messages) c.stream.requests asks_are head_alone lines held;
+        in_hand = hand_given c.stream.direct h h' x.begun bytes (requests_in x.messages) c.stream.requests asks_are head_alone lines held;
         given_is = gives ∙ ap (λ (t : List ℕ). t ++ bytes) x.given_is ∙ append_assoc (lines_in x.messages) x.begun bytes;
         replies_is = x.replies_is;
         text_is = x.text_is;
@@ -160,27 +170,28 @@ text_told sent items items' text before gone within more is =
     ap (λ (t : List ℕ). sent ++ drop gone t) more ∙ told_more sent items text gone within ∙ ap (λ (t : List ℕ). t ++ text) is
 
 -- the sender of a request was invited to send its body
-pub is_invited : (c : CodecState) (stream : StreamState) (stage : CodecStage) (gone : ℕ) (items items' : List ℕ) → c.stage ≡ stages.Open → c.unsent ≡ drop gone items → gone ≤ length items
+pub is_invited : (c : CodecState) (stream : StreamState) (stage : CodecStage) (gone : ℕ) (items items' : List ℕ) → c.stage ≡ stages.Open → c.unsent ≡ drop gone items → gone ≤ length items → stream.direct ≡ c.stream.direct
     → IsNext c.stream stream nexts.Invitation → Tells items items' invitation_text stages.Open stage → IsCodec c → IsCodec (record c { stage = stage; stream = stream; unsent = drop gone items' })
-is_invited c stream stage gone items items' opens unsent within next (inr t) is = is_lost (record c { stage = stage; stream = stream; unsent = drop gone items' }) t.1
-is_invited c stream stage gone items items' opens unsent within next (inl t) is =
+is_invited c stream stage gone items items' opens unsent within direct next (inr t) is = is_lost (record c { stage = stage; stream = stream; unsent = drop gone items' }) t.1
+is_invited c stream stage gone items items' opens unsent within direct next (inl t) is =
     λ _. let x = (is (sound_open c.stage opens)).0 in (
-      record {
-        messages = specs.invitation ∷ x.messages;
-        told = (x.open_still opens, x.told);
-        open_still = λ _. tt;
-        begun = x.begun;
-        in_hand = subst (λ (rs : List (Request (List ℕ))). InHand c.hand x.begun (requests_in x.messages) rs) (sym next.0) x.in_hand;
-        given_is = x.given_is;
-        replies_is = x.replies_is;
-        text_is = text_told c.sent items items' invitation_text (text_of x.messages) gone within t.0 (ap (λ (u : List ℕ). c.sent ++ u) (sym unsent) ∙ x.text_is);
-      },
+      comes_as (record c { stage = stage; stream = stream; unsent = drop gone items' }) c.stream.direct stream.direct direct
+          (record {
+            messages = specs.invitation ∷ x.messages;
+            told = (x.open_still opens, x.told);
+            open_still = λ _. tt;
+            begun = x.begun;
+            in_hand = subst (λ (rs : List (Request (List ℕ))). InHand c.stream.direct c.hand x.begun (requests_in x.messages) rs) (sym next.0) x.in_hand;
+            given_is = x.given_is;
+            replies_is = x.replies_is;
+            text_is = text_told c.sent items items' invitation_text (text_of c.stream.direct x.messages) gone within t.0 (ap (λ (u : List ℕ). c.sent ++ u) (sym unsent) ∙ x.text_is);
+          }),
       λ aborts. absurd (cc (aborts, next.1)),
     )
 
 -- a request was refused
 refused : (c : CodecState) (fault : Fault) (stage : CodecStage) (gone : ℕ) (items items' : List ℕ) → c.stage ≡ stages.Open → c.unsent ≡ drop gone items → gone ≤ length items
-    → Tells items items' (response_text (asks.Refused fault) false false []) stages.Closing stage → c.stream.state ≢ states.Aborted → Carries c → IsCodec (record c { stage = stage; unsent = drop gone items' })
+    → Tells items items' (response_text (asks.Refused fault) false false []) stages.Closing stage → c.stream.state ≢ states.Aborted → Carries c.stream.direct c → IsCodec (record c { stage = stage; unsent = drop gone items' })
 refused c fault stage gone items items' opens unsent within (inr t) sound x = is_lost (record c { stage = stage; unsent = drop gone items' }) t.1
 refused c fault stage gone items items' opens unsent within (inl t) sound x =
     λ _. (
@@ -192,7 +203,7 @@ refused c fault stage gone items items' opens unsent within (inl t) sound x =
         in_hand = x.in_hand;
         given_is = x.given_is;
         replies_is = x.replies_is;
-        text_is = text_told c.sent items items' (response_text (asks.Refused fault) false false []) (text_of x.messages) gone within t.0 (ap (λ (u : List ℕ). c.sent ++ u) (sym unsent) ∙ x.text_is);
+        text_is = text_told c.sent items items' (response_text (asks.Refused fault) false false []) (text_of c.stream.direct x.messages) gone within t.0 (ap (λ (u : List ℕ). c.sent ++ u) (sym unsent) ∙ x.text_is);
       },
       sound,
     )
@@ -202,12 +213,12 @@ pub is_refused : (c : CodecState) (fault : Fault) (stage : CodecStage) (gone : �
 is_refused c fault stage gone items items' opens unsent within t is =
     let x = is (sound_open c.stage opens) in refused c fault stage gone items items' opens unsent within t x.1 x.0
 
-pub is_unreadable : (c : CodecState) (stream : StreamState) (fault : Fault) (stage : CodecStage) (gone : ℕ) (items items' : List ℕ) → c.stage ≡ stages.Open → c.unsent ≡ drop gone items → gone ≤ length items
+pub is_unreadable : (c : CodecState) (stream : StreamState) (fault : Fault) (stage : CodecStage) (gone : ℕ) (items items' : List ℕ) → c.stage ≡ stages.Open → c.unsent ≡ drop gone items → gone ≤ length items → stream.direct ≡ c.stream.direct
     → IsNext c.stream stream (nexts.Refused fault) → Tells items items' (response_text (asks.Refused fault) false false []) stages.Closing stage → IsCodec c
     → IsCodec (record c { stage = stage; stream = stream; unsent = drop gone items' })
-is_unreadable c stream fault stage gone items items' opens unsent within next t is =
+is_unreadable c stream fault stage gone items items' opens unsent within direct next t is =
     refused (record c { stream = stream }) fault stage gone items items' opens unsent within t (λ aborts. let closing = next.1.1 in absurd (cc (aborts, closing)))
-    (moved c stream next.0 (is (sound_open c.stage opens)).0)
+    (moved c stream direct next.0 (is (sound_open c.stage opens)).0)
 
 -- an open codec leaves the connection open
 stays_open : (stays : Bool) (stage : CodecStage) → stage ≡ cond stays stages.Open stages.Closing → stage ≡ stages.Open → stays ≡ true
@@ -221,9 +232,9 @@ pub is_responded : (c : CodecState) (h : Hand) (ended stays : Bool) (stage : Cod
     → (gathered : List ℕ) → gathered ≡ [] → IsCodec c → IsCodec (record c { stage = stage; hand = None; gathered = gathered; unsent = drop gone items' })
 is_responded c h ended stays stage gone items items' opens some unsent within answers whole closes told stands gathered none is =
     λ _. let x = (is (sound_open c.stage opens)).0 in
-    let held : HasRequest h x.begun (requests_in x.messages) c.stream.requests = subst (λ (o : Option Hand). InHand o x.begun (requests_in x.messages) c.stream.requests) some x.in_hand in
+    let held : HasRequest c.stream.direct h x.begun (requests_in x.messages) c.stream.requests = subst (λ (o : Option Hand). InHand c.stream.direct o x.begun (requests_in x.messages) c.stream.requests) some x.in_hand in
     let e : Exchange = record { request = held.request; lines = x.begun; left = h.lines; replies = c.gathered; ended = ended; stays = stays } in
-    let its_own : response_text h.asks h.head_alone stays c.gathered ≡ message_text (specs.response e) = λ i. response_text (held.asks i) (held.head_alone i) stays c.gathered in (
+    let its_own : response_text h.asks h.head_alone stays c.gathered ≡ message_text c.stream.direct (specs.response e) = λ i. response_text (held.asks i) (held.head_alone i) stays c.gathered in (
       record {
         messages = specs.response e ∷ x.messages;
         told = (
@@ -237,7 +248,7 @@ is_responded c h ended stays stage gone items items' opens some unsent within an
         in_hand = (refl, held.next);
         given_is = x.given_is ∙ sym (append-nil (lines_in x.messages ++ x.begun));
         replies_is = x.replies_is ∙ sym (append-nil (replies_in x.messages ++ c.gathered)) ∙ ap (λ (t : List ℕ). (replies_in x.messages ++ c.gathered) ++ t) (sym none);
-        text_is = text_told c.sent items items' (message_text (specs.response e)) (text_of x.messages) gone within (told ∙ ap (λ (t : List ℕ). items ++ t) its_own)
+        text_is = text_told c.sent items items' (message_text c.stream.direct (specs.response e)) (text_of c.stream.direct x.messages) gone within (told ∙ ap (λ (t : List ℕ). items ++ t) its_own)
             (ap (λ (u : List ℕ). c.sent ++ u) (sym unsent) ∙ x.text_is);
       },
       (is (sound_open c.stage opens)).1,
@@ -287,7 +298,7 @@ is_read c None None given bytes was gives more is =
         told = x.told;
         open_still = x.open_still;
         begun = x.begun;
-        in_hand = subst (λ (o : Option Hand). InHand o x.begun (requests_in x.messages) c.stream.requests) was x.in_hand;
+        in_hand = subst (λ (o : Option Hand). InHand c.stream.direct o x.begun (requests_in x.messages) c.stream.requests) was x.in_hand;
         given_is = more ∙ ap (λ (t : List ℕ). c.given ++ t) gives ∙ append-nil c.given ∙ x.given_is;
         replies_is = x.replies_is;
         text_is = x.text_is;

@@ -1,5 +1,5 @@
 -- The requests that a connection's calls were given.
-use Rattle.std.proofs.Common.{◌≡◌, ◌≢◌, ◌⊎◌, ℕ, List, [], ◌∷◌, ◌++◌, map, Option, Some, None, refl, sym, ap, ◌∙◌, inl, inr, subst, true, ◌↔◌}
+use Rattle.std.proofs.Common.{◌≡◌, ◌≢◌, ◌⊎◌, ℕ, Bool, List, [], ◌∷◌, ◌++◌, map, Option, Some, None, refl, sym, ap, ◌∙◌, inl, inr, subst, true, ◌↔◌}
 use Rattle.std.proofs.Math.Logic.{∥∥₁_map}
 use Rattle.std.proofs.lemmas.List.{append-nil}
 use Rattle.http.specs.declared.request.Request.{Request}
@@ -87,47 +87,47 @@ requests_read config h sound x = stands h.state config h x.answered x.text x.int
 
 -- the contract of a reader's service: it takes a request if it has none
 abbrev pub Answers : Reader → Request (List ℕ) → Response → Reader → Type 0
-Answers old request response new = (old.asked ≡ None) × ReadsAsked request new.asked
+Answers old request response new = (old.asked ≡ None) × ReadsAsked old.direct request new.asked
 
 -- the calls of a reader that began with no request: it read none, or one
-abbrev pub ReadsOne : List (Request (List ℕ)) → List (Request (List ℕ)) → Option Asking → Type 0
-ReadsOne old new asked =
-    ((new ≡ old) × (asked ≡ None)) ⊎ ((r : Request (List ℕ)) × (new ≡ old ++ r ∷ []) × ReadsAsked r asked)
+abbrev pub ReadsOne : Bool → List (Request (List ℕ)) → List (Request (List ℕ)) → Option Asking → Type 0
+ReadsOne direct old new asked =
+    ((new ≡ old) × (asked ≡ None)) ⊎ ((r : Request (List ℕ)) × (new ≡ old ++ r ∷ []) × ReadsAsked direct r asked)
 
 chain_one : (before calls : List Call) (old new : Reader) → old.asked ≡ None → Chain Answers old calls new
-    → ReadsOne (requests_of before) (requests_of (before ++ calls)) new.asked
+    → ReadsOne old.direct (requests_of before) (requests_of (before ++ calls)) new.asked
 chain_one before [] old new none x = inl (requests-append before [] ∙ append-nil (requests_of before), ap (λ (r : Reader). r.asked) x ∙ none)
 chain_one before (c ∷ []) old new none x =
-    inr (c.0, requests-append before (c ∷ []), subst (λ (r : Reader). ReadsAsked c.0 r.asked) (sym x.2) x.1.1)
-chain_one before (c ∷ d ∷ calls) old new none x = absurd (subst (λ (a : Option Asking). ReadsAsked c.0 a) x.2.1.0 x.1.1)
+    inr (c.0, requests-append before (c ∷ []), subst (λ (r : Reader). ReadsAsked old.direct c.0 r.asked) (sym x.2) x.1.1)
+chain_one before (c ∷ d ∷ calls) old new none x = absurd (subst (λ (a : Option Asking). ReadsAsked old.direct c.0 a) x.2.1.0 x.1.1)
 
 pub calls_one : (before after : List Call) (old new : Reader) → old.asked ≡ None → Calls Answers old new before after
-    → ReadsOne (requests_of before) (requests_of after) new.asked
+    → ReadsOne old.direct (requests_of before) (requests_of after) new.asked
 calls_one before after old new none x =
-    subst (λ (cs : List Call). ReadsOne (requests_of before) (requests_of cs) new.asked) (sym x.1) (chain_one before x.0 old new none x.2)
+    subst (λ (cs : List Call). ReadsOne old.direct (requests_of before) (requests_of cs) new.asked) (sym x.1) (chain_one before x.0 old new none x.2)
 
-none_read : (old new : List (Request (List ℕ))) (asked : Option Asking) → asked ≡ None → ReadsOne old new asked → new ≡ old
-none_read old new asked none (inl x) = x.0
-none_read old new asked none (inr x) = absurd (subst (λ (a : Option Asking). ReadsAsked x.0 a) none x.2)
+none_read : (direct : Bool) (old new : List (Request (List ℕ))) (asked : Option Asking) → asked ≡ None → ReadsOne direct old new asked → new ≡ old
+none_read direct old new asked none (inl x) = x.0
+none_read direct old new asked none (inr x) = absurd (subst (λ (a : Option Asking). ReadsAsked direct x.0 a) none x.2)
 
-one_read : (old new : List (Request (List ℕ))) (asked : Option Asking) (a : Asking) → asked ≡ Some a → ReadsOne old new asked
-    → (r : Request (List ℕ)) × (new ≡ old ++ r ∷ []) × ReadsAsked r (Some a)
-one_read old new asked a some (inl x) = absurd (cc (x.1, some))
-one_read old new asked a some (inr x) = (x.0, x.1, subst (λ (b : Option Asking). ReadsAsked x.0 b) some x.2)
+one_read : (direct : Bool) (old new : List (Request (List ℕ))) (asked : Option Asking) (a : Asking) → asked ≡ Some a → ReadsOne direct old new asked
+    → (r : Request (List ℕ)) × (new ≡ old ++ r ∷ []) × ReadsAsked direct r (Some a)
+one_read direct old new asked a some (inl x) = absurd (cc (x.1, some))
+one_read direct old new asked a some (inr x) = (x.0, x.1, subst (λ (b : Option Asking). ReadsAsked direct x.0 b) some x.2)
 
 -- the next item of a stream, by the request that was read and the state of the connection
-pub is_next : (result : Next) (asked : Option Asking) (old new : StreamState) → IsNextOf asked new result → ReadsOne old.requests new.requests asked
+pub is_next : (result : Next) (asked : Option Asking) (old new : StreamState) → IsNextOf asked new result → ReadsOne old.direct old.requests new.requests asked
     → IsNext old new result
-is_next nexts.Nothing asked old new x one = (none_read old.requests new.requests asked x.0 one, x.1)
-is_next nexts.Invitation asked old new x one = (none_read old.requests new.requests asked x.0 one, x.1)
-is_next (nexts.Request a stays) asked old new x one = (one_read old.requests new.requests asked a x.0 one, x.1, x.2)
-is_next (nexts.Refused fault) asked old new x one = (none_read old.requests new.requests asked x.0 one, x.1)
+is_next nexts.Nothing asked old new x one = (none_read old.direct old.requests new.requests asked x.0 one, x.1)
+is_next nexts.Invitation asked old new x one = (none_read old.direct old.requests new.requests asked x.0 one, x.1)
+is_next (nexts.Request a stays) asked old new x one = (one_read old.direct old.requests new.requests asked a x.0 one, x.1, x.2)
+is_next (nexts.Refused fault) asked old new x one = (none_read old.direct old.requests new.requests asked x.0 one, x.1)
 is_next nexts.Lost asked old new x one = tt
 
 -- unless memory ran out, a stream is the requests read from it, and a rest
-pub stream_read : (c : Connection) → config_of c ≡ request_limits → (history c).state ≢ Aborted
-    → ∥ ((rest : List ℕ) × ReadsRequests request_limits (stream_state c).fed (stream_state c).requests rest) ∥₁
-stream_read c config sound =
+pub stream_read : (direct : Bool) (c : Connection) → config_of c ≡ request_limits → (history c).state ≢ Aborted
+    → ∥ ((rest : List ℕ) × ReadsRequests request_limits (stream_state direct c).fed (stream_state direct c).requests rest) ∥₁
+stream_read direct c config sound =
     subst (λ (f : Config). ∥ Requests f (history c) ∥₁) config (∥∥₁_map (always_served c) (requests_read (config_of c) (history c) sound))
 
 -- the requests that a stream begins with stay when more bytes come
@@ -137,14 +137,14 @@ reads_more config stream [] rest more x = ap (λ (t : List ℕ). t ++ more) x
 reads_more config stream (r ∷ requests) rest more x = (x.0, x.1 ++ more, ReadsCall-append x.2 more, reads_more config x.1 requests rest more x.3)
 
 -- the next item is that of a stream with the same requests and state
-pub next_of_same : (old new old' new' : StreamState) (result : Next) → old'.requests ≡ old.requests → new'.requests ≡ new.requests → new'.state ≡ new.state
+pub next_of_same : (old new old' new' : StreamState) (result : Next) → old'.direct ≡ old.direct → old'.requests ≡ old.requests → new'.requests ≡ new.requests → new'.state ≡ new.state
     → IsNext old new result → IsNext old' new' result
-next_of_same old new old' new' nexts.Nothing before after state x = (after ∙ x.0 ∙ sym before, state ∙ x.1)
-next_of_same old new old' new' nexts.Invitation before after state x = (after ∙ x.0 ∙ sym before, state ∙ x.1)
-next_of_same old new old' new' (nexts.Request asked stays) before after state x = (
-  (x.0.0, after ∙ x.0.1 ∙ ap (λ (rs : List (Request (List ℕ))). rs ++ x.0.0 ∷ []) (sym before), x.0.2),
+next_of_same old new old' new' nexts.Nothing same before after state x = (after ∙ x.0 ∙ sym before, state ∙ x.1)
+next_of_same old new old' new' nexts.Invitation same before after state x = (after ∙ x.0 ∙ sym before, state ∙ x.1)
+next_of_same old new old' new' (nexts.Request asked stays) same before after state x = (
+  (x.0.0, after ∙ x.0.1 ∙ ap (λ (rs : List (Request (List ℕ))). rs ++ x.0.0 ∷ []) (sym before), subst (λ (direct : Bool). ReadsAsked direct x.0.0 (Some asked)) (sym same) x.0.2),
   subst (λ (s : State). s ≢ Aborted) (sym state) x.1,
   subst (λ (s : State). stays ≡ true ↔ s ≡ Open) (sym state) x.2,
 )
-next_of_same old new old' new' (nexts.Refused fault) before after state x = (after ∙ x.0 ∙ sym before, (x.1.0, state ∙ x.1.1, x.1.2))
-next_of_same old new old' new' nexts.Lost before after state x = tt
+next_of_same old new old' new' (nexts.Refused fault) same before after state x = (after ∙ x.0 ∙ sym before, (x.1.0, state ∙ x.1.1, x.1.2))
+next_of_same old new old' new' nexts.Lost same before after state x = tt

@@ -33,15 +33,16 @@ pub data Message : Type 0 where
   response : Exchange → Message
   refusal : Fault → Message
 
-abbrev pub message_text : Message → List ℕ
-message_text invitation = invitation_text
-message_text (response e) = response_text (asks_of e.request) (wants_head e.request) e.stays e.replies
-message_text (refusal fault) = response_text (asks.Refused fault) false false []
+-- the text of a message over a stream that comes directly or not
+abbrev pub message_text : Bool → Message → List ℕ
+message_text direct invitation = invitation_text
+message_text direct (response e) = response_text (asks_of direct e.request) (wants_head e.request) e.stays e.replies
+message_text direct (refusal fault) = response_text (asks.Refused fault) false false []
 
 -- the text of messages; the list has the last one first
-abbrev pub text_of : List Message → List ℕ
-text_of [] = []
-text_of (m ∷ earlier) = text_of earlier ++ message_text m
+abbrev pub text_of : Bool → List Message → List ℕ
+text_of direct [] = []
+text_of direct (m ∷ earlier) = text_of direct earlier ++ message_text direct m
 
 -- the requests that were responded to, the bytes of lines that were given of them, and the replies to them
 abbrev pub requests_in : List Message → List (Request (List ℕ))
@@ -71,8 +72,8 @@ pub record AnswersLines (given replies : List ℕ) (ended : Bool) : Type 0 where
   pub all : ended ≡ false → rest ≡ []
 
 -- the lines of a request are given whole, unless the session of lines ended in it; the connection closes then
-pub record IsCarried (e : Exchange) : Type 0 where
-  pub lines : e.lines ++ e.left ≡ carried_by e.request
+pub record IsCarried (direct : Bool) (e : Exchange) : Type 0 where
+  pub lines : e.lines ++ e.left ≡ carried_by direct e.request
   pub whole : e.ended ≡ false → e.left ≡ []
   pub closes : e.ended ≡ true → e.stays ≡ false
 
@@ -85,11 +86,11 @@ StaysOpen (refusal fault ∷ earlier) = ⊥
 
 -- each message was written while the connection was open; at each response, the replies so far are the text of the answers to
 -- the lines given so far
-abbrev pub AreTold : List Message → Type 0
-AreTold [] = Unit {0}
-AreTold (response e ∷ earlier) =
-    StaysOpen earlier × IsCarried e × AnswersLines (lines_in earlier ++ e.lines) (replies_in earlier ++ e.replies) e.ended × AreTold earlier
-AreTold (_ ∷ earlier) = StaysOpen earlier × AreTold earlier
+abbrev pub AreTold : Bool → List Message → Type 0
+AreTold direct [] = Unit {0}
+AreTold direct (response e ∷ earlier) =
+    StaysOpen earlier × IsCarried direct e × AnswersLines (lines_in earlier ++ e.lines) (replies_in earlier ++ e.replies) e.ended × AreTold direct earlier
+AreTold direct (_ ∷ earlier) = StaysOpen earlier × AreTold direct earlier
 
 -- a codec: its stage; the bytes of HTTP that it was fed, and the requests read from them; the request in hand; the bytes of
 -- lines that it gave; the replies that it took, and those of them to the request in hand; the bytes that it sent, and the
@@ -105,37 +106,37 @@ pub record CodecState : Type 0 where
   pub unsent : List ℕ
 
 -- these bytes were given of the request in hand, which comes after the requests that have a response
-pub record HasRequest (h : Hand) (given : List ℕ) (earlier requests : List (Request (List ℕ))) : Type 0 where
+pub record HasRequest (direct : Bool) (h : Hand) (given : List ℕ) (earlier requests : List (Request (List ℕ))) : Type 0 where
   pub request : Request (List ℕ)
   pub next : requests ≡ earlier ++ request ∷ []
-  pub asks : h.asks ≡ asks_of request
+  pub asks : h.asks ≡ asks_of direct request
   pub head_alone : h.head_alone ≡ wants_head request
-  pub lines : given ++ h.lines ≡ carried_by request
+  pub lines : given ++ h.lines ≡ carried_by direct request
 
-abbrev pub InHand : Option Hand → List ℕ → List (Request (List ℕ)) → List (Request (List ℕ)) → Type 0
-InHand None given earlier requests = (given ≡ []) × (requests ≡ earlier)
-InHand (Some h) given earlier requests = HasRequest h given earlier requests
+abbrev pub InHand : Bool → Option Hand → List ℕ → List (Request (List ℕ)) → List (Request (List ℕ)) → Type 0
+InHand direct None given earlier requests = (given ≡ []) × (requests ≡ earlier)
+InHand direct (Some h) given earlier requests = HasRequest direct h given earlier requests
 
 -- the sent and unsent bytes are messages, in which each response is to the next request; the given bytes are the lines of these
 -- requests in order, and the taken replies are those of their responses; the rest is of the request in hand
-pub record Carries (c : CodecState) : Type 0 where
+pub record Carries (direct : Bool) (c : CodecState) : Type 0 where
   pub messages : List Message
-  pub told : AreTold messages
+  pub told : AreTold direct messages
   pub open_still : c.stage ≡ stages.Open → StaysOpen messages
   pub begun : List ℕ
-  pub in_hand : InHand c.hand begun (requests_in messages) c.stream.requests
+  pub in_hand : InHand direct c.hand begun (requests_in messages) c.stream.requests
   pub given_is : c.given ≡ lines_in messages ++ begun
   pub replies_is : c.replies ≡ replies_in messages ++ c.gathered
-  pub text_is : c.sent ++ c.unsent ≡ text_of messages
+  pub text_is : c.sent ++ c.unsent ≡ text_of direct messages
 
 -- the invariant of a codec, unless memory ran out
 abbrev pub IsCodec : CodecState → Type 0
-IsCodec c = c.stage ≢ stages.Lost → Carries c × (c.stream.state ≢ states.Aborted)
+IsCodec c = c.stage ≢ stages.Lost → Carries c.stream.direct c × (c.stream.state ≢ states.Aborted)
 
 -- unless memory ran out, a codec carries the requests that its bytes begin with, each of HTTP's grammar
 abbrev pub CarriesRequests : CodecState → Type 0
 CarriesRequests c =
-    c.stage ≢ stages.Lost → Carries c × ∥ ((rest : List ℕ) × ReadsRequests request_limits c.stream.fed c.stream.requests rest) ∥₁
+    c.stage ≢ stages.Lost → Carries c.stream.direct c × ∥ ((rest : List ℕ) × ReadsRequests request_limits c.stream.fed c.stream.requests rest) ∥₁
 
 -- the fed bytes, the replies and the sent bytes are as before; the unsent bytes may have grown
 pub record GoesOn (old new : CodecState) : Type 0 where

@@ -1,5 +1,6 @@
 -- The kind of a request, and the lines that it carries (own).
-use Rattle.std.specs.Prelude.{ℕ, Bool, true, false, not, ◌&&◌, ◌||◌, ◌==◌, List, [], ◌∷◌, length, take, drop, codes, Option, Some, None, option_map, Result, Ok, Err, if◌then◌else◌}
+use Rattle.std.specs.Prelude.{ℕ, Bool, true, false, not, ◌&&◌, ◌||◌, ◌==◌, ◌-◌, List, [], ◌∷◌, length, take, drop, get_or, nat_le, codes, Option, Some, None, option_map, Result, Ok, Err, if◌then◌else◌}
+use Rattle.std.specs.List.{list_all}
 use Rattle.std.specs.Option.{is_some}
 use Rattle.std.specs.Str.{bytes_eq}
 use Rattle.http.specs.declared.request.Request.{Request}
@@ -56,6 +57,27 @@ abbrev pub has_type : List ℕ → Option (List ℕ) → Bool
 has_type name None = false
 has_type name (Some kind) = is_type name kind
 
+-- whether a Host names an address, which no name service leads elsewhere: digits and dots, or brackets (RFC 3986, section 3.2.2)
+abbrev pub is_address_byte : ℕ → Bool
+is_address_byte b = (nat_le 48 b && nat_le b 57) || b == 46 || b == 58
+
+abbrev pub is_address : List ℕ → Bool
+is_address [] = true
+is_address (b ∷ bs) = if b == 91 then true else list_all is_address_byte (b ∷ bs)
+
+-- whether a Host is localhost, with a port or without, which a client takes for itself (RFC 6761, section 6.3)
+abbrev pub ends_host : List ℕ → Bool
+ends_host [] = true
+ends_host (b ∷ _) = b == 58
+
+abbrev pub is_localhost : List ℕ → Bool
+is_localhost host = bytes_eq (lowercase (take 9 host)) (codes "localhost") && ends_host (drop 9 host)
+
+-- whether a Host is a name that may lead elsewhere. A page whose name is led to this server has it (own)
+abbrev pub is_foreign_host : Option (List ℕ) → Bool
+is_foreign_host None = false
+is_foreign_host (Some host) = not (is_address host) && not (is_localhost host)
+
 -- whether the head says where the body ends
 abbrev pub has_length : Request (List ℕ) → Bool
 has_length request = is_some (field_value request (codes "content-length")) || is_some (field_value request (codes "transfer-encoding"))
@@ -105,11 +127,21 @@ abbrev pub reading_of_question : Option Fault → Result (Option Printed × List
 reading_of_question None line = reading_of_line line
 reading_of_question (Some fault) line = refused_for fault
 
+-- a key without the quotation marks of a string (RFC 9651, section 3.3.3), as the draft of the field has it
+abbrev pub is_quoted : List ℕ → Bool
+is_quoted key = nat_le 2 (length key) && get_or key 0 0 == 34 && get_or key (length key - 1) 0 == 34
+
+abbrev pub unquoted : List ℕ → List ℕ
+unquoted key = if is_quoted key then take (length key - 2) (drop 1 key) else key
+
+abbrev pub key_of : Request (List ℕ) → Option (List ℕ)
+key_of request = option_map unquoted (field_value request (codes "idempotency-key"))
+
 -- the scanned values and the line that a request means at the path of this question, or the fault; it has one key at most
 abbrev pub line_of : AskedKind → Request (List ℕ) → Result (Option Printed × List ℕ) QuestionFault
 line_of kind request =
     if is_repeated request (codes "idempotency-key") then Err questions.Key
-    else question_line kind (field_value request (codes "idempotency-key")) (body_of request)
+    else question_line kind (key_of request) (body_of request)
 
 -- a request at the path of this question, or at an unknown path
 abbrev pub reading_at : Option AskedKind → Request (List ℕ) → Reading
@@ -134,22 +166,27 @@ abbrev pub reading_of_bulk : Option Fault → Result (List (Option Printed) × L
 reading_of_bulk None bulk = reading_of_items bulk
 reading_of_bulk (Some fault) bulk = refused_for fault
 
--- the kind of a request, and the bytes of lines that it carries
-unfoldable pub reading_of : Request (List ℕ) → Reading
-reading_of request =
+-- the kind of a request, and the bytes of lines that it carries, by its path
+unfoldable pub reading_by_path : Request (List ℕ) → Reading
+reading_by_path request =
     let path = uri_path (head_of request).uri in
     if bytes_eq path (codes "/v1/lines") then reading_of_lines (fault_of_post (codes "application/vnd.nmvs.lines") request) (body_of request)
     else (if bytes_eq path (codes "/v1/questions") then reading_of_bulk (fault_of_post (codes "application/json") request) (bulk_of request)
     else (if bytes_eq path (codes "/healthz") then record { asks = asks_by_health (head_of request).method; lines = [] }
     else reading_at (asked_at path) request))
 
+-- the kind of a request, and the bytes of lines that it carries. If it comes directly, and through no gateway, its Host is compared
+abbrev pub reading_of : Bool → Request (List ℕ) → Reading
+reading_of direct request =
+    if direct && is_foreign_host (field_value request (codes "host")) then refused_for faults.Host else reading_by_path request
+
 -- the kind of a request
-abbrev pub asks_of : Request (List ℕ) → Asks
-asks_of request = (reading_of request).asks
+abbrev pub asks_of : Bool → Request (List ℕ) → Asks
+asks_of direct request = (reading_of direct request).asks
 
 -- the bytes of lines that it carries
-abbrev pub carried_by : Request (List ℕ) → List ℕ
-carried_by request = (reading_of request).lines
+abbrev pub carried_by : Bool → Request (List ℕ) → List ℕ
+carried_by direct request = (reading_of direct request).lines
 
 -- whether a request wants the head of a response alone (RFC 9110, section 9.3.2)
 abbrev pub wants_head : Request (List ℕ) → Bool

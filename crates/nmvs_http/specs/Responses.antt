@@ -10,7 +10,7 @@ use Rattle.nmvs_http.specs.declared.asked.Asks.TheVariants.{Lines, Question, Que
 use Rattle.nmvs_http.specs.declared.fault.Fault.{Fault}
 use Rattle.nmvs_http.specs.declared.fault.Fault.TheVariants as faults
 
--- the status of a fault (RFC 9110, section 15)
+-- the status of a fault (RFC 9110, section 15), and fields that go with it
 abbrev pub status : Fault → List ℕ
 status faults.Request = codes "400 Bad Request"
 status faults.Key = codes "400 Bad Request"
@@ -25,28 +25,31 @@ status faults.Length = codes "411 Length Required"
 status faults.Body = codes "413 Content Too Large"
 status faults.Target = codes "414 URI Too Long"
 status faults.Type = codes "415 Unsupported Media Type"
+status faults.Host = codes "421 Misdirected Request"
 status faults.Head = codes "431 Request Header Fields Too Large"
 status faults.Coding = codes "501 Not Implemented"
-status faults.Busy = codes "503 Service Unavailable"
+status faults.Busy = codes "503 Service Unavailable\r\nretry-after: 1"
 
--- the problem of a fault, of which nothing is recorded (RFC 9457)
+-- the problem of a fault, of which nothing is recorded (RFC 9457); its type is the section of the page that says what to do, relative to the
+-- server, and fault and recorded are own
 unfoldable pub problem : Fault → List ℕ
-problem faults.Request = codes "{\"type\":\"about:blank\",\"title\":\"Bad Request\",\"status\":400,\"fault\":\"REQUEST\",\"recorded\":\"no\"}\n"
-problem faults.Key = codes "{\"type\":\"about:blank\",\"title\":\"Bad Request\",\"status\":400,\"fault\":\"KEY\",\"recorded\":\"no\"}\n"
-problem faults.Json = codes "{\"type\":\"about:blank\",\"title\":\"Bad Request\",\"status\":400,\"fault\":\"JSON\",\"recorded\":\"no\"}\n"
-problem faults.Fields = codes "{\"type\":\"about:blank\",\"title\":\"Bad Request\",\"status\":400,\"fault\":\"FIELDS\",\"recorded\":\"no\"}\n"
-problem faults.Site = codes "{\"type\":\"about:blank\",\"title\":\"Forbidden\",\"status\":403,\"fault\":\"SITE\",\"recorded\":\"no\"}\n"
-problem faults.Path = codes "{\"type\":\"about:blank\",\"title\":\"Not Found\",\"status\":404,\"fault\":\"PATH\",\"recorded\":\"no\"}\n"
-problem faults.MethodNotPost = codes "{\"type\":\"about:blank\",\"title\":\"Method Not Allowed\",\"status\":405,\"fault\":\"METHOD\",\"recorded\":\"no\"}\n"
-problem faults.MethodNotGet = codes "{\"type\":\"about:blank\",\"title\":\"Method Not Allowed\",\"status\":405,\"fault\":\"METHOD\",\"recorded\":\"no\"}\n"
-problem faults.Timeout = codes "{\"type\":\"about:blank\",\"title\":\"Request Timeout\",\"status\":408,\"fault\":\"TIMEOUT\",\"recorded\":\"no\"}\n"
-problem faults.Length = codes "{\"type\":\"about:blank\",\"title\":\"Length Required\",\"status\":411,\"fault\":\"LENGTH\",\"recorded\":\"no\"}\n"
-problem faults.Body = codes "{\"type\":\"about:blank\",\"title\":\"Content Too Large\",\"status\":413,\"fault\":\"BODY\",\"recorded\":\"no\"}\n"
-problem faults.Target = codes "{\"type\":\"about:blank\",\"title\":\"URI Too Long\",\"status\":414,\"fault\":\"TARGET\",\"recorded\":\"no\"}\n"
-problem faults.Type = codes "{\"type\":\"about:blank\",\"title\":\"Unsupported Media Type\",\"status\":415,\"fault\":\"TYPE\",\"recorded\":\"no\"}\n"
-problem faults.Head = codes "{\"type\":\"about:blank\",\"title\":\"Request Header Fields Too Large\",\"status\":431,\"fault\":\"HEAD\",\"recorded\":\"no\"}\n"
-problem faults.Coding = codes "{\"type\":\"about:blank\",\"title\":\"Not Implemented\",\"status\":501,\"fault\":\"CODING\",\"recorded\":\"no\"}\n"
-problem faults.Busy = codes "{\"type\":\"about:blank\",\"title\":\"Service Unavailable\",\"status\":503,\"fault\":\"BUSY\",\"recorded\":\"no\"}\n"
+problem faults.Request = codes "{\"type\":\"/problems#REQUEST\",\"title\":\"Bad Request\",\"status\":400,\"detail\":\"The bytes are no request of HTTP/1.1.\",\"fault\":\"REQUEST\",\"recorded\":\"no\"}\n"
+problem faults.Key = codes "{\"type\":\"/problems#KEY\",\"title\":\"Bad Request\",\"status\":400,\"detail\":\"A key is 1 to 40 letters, digits, dots, underscores and hyphens, a letter or digit first. A question has one at most.\",\"fault\":\"KEY\",\"recorded\":\"no\"}\n"
+problem faults.Json = codes "{\"type\":\"/problems#JSON\",\"title\":\"Bad Request\",\"status\":400,\"detail\":\"The body is no JSON object, or an object in it has a member twice.\",\"fault\":\"JSON\",\"recorded\":\"no\"}\n"
+problem faults.Fields = codes "{\"type\":\"/problems#FIELDS\",\"title\":\"Bad Request\",\"status\":400,\"detail\":\"A member is missing, unknown or of another type, or a value is empty or has a character outside ! to ~.\",\"fault\":\"FIELDS\",\"recorded\":\"no\"}\n"
+problem faults.Site = codes "{\"type\":\"/problems#SITE\",\"title\":\"Forbidden\",\"status\":403,\"detail\":\"A page of another site sent the request.\",\"fault\":\"SITE\",\"recorded\":\"no\"}\n"
+problem faults.Path = codes "{\"type\":\"/problems#PATH\",\"title\":\"Not Found\",\"status\":404,\"detail\":\"Nothing is at this path.\",\"fault\":\"PATH\",\"recorded\":\"no\"}\n"
+problem faults.MethodNotPost = codes "{\"type\":\"/problems#METHOD\",\"title\":\"Method Not Allowed\",\"status\":405,\"detail\":\"The path takes another method.\",\"fault\":\"METHOD\",\"recorded\":\"no\"}\n"
+problem faults.MethodNotGet = codes "{\"type\":\"/problems#METHOD\",\"title\":\"Method Not Allowed\",\"status\":405,\"detail\":\"The path takes another method.\",\"fault\":\"METHOD\",\"recorded\":\"no\"}\n"
+problem faults.Timeout = codes "{\"type\":\"/problems#TIMEOUT\",\"title\":\"Request Timeout\",\"status\":408,\"detail\":\"The request did not come whole in time.\",\"fault\":\"TIMEOUT\",\"recorded\":\"no\"}\n"
+problem faults.Length = codes "{\"type\":\"/problems#LENGTH\",\"title\":\"Length Required\",\"status\":411,\"detail\":\"Neither a length nor chunks say where the body ends.\",\"fault\":\"LENGTH\",\"recorded\":\"no\"}\n"
+problem faults.Body = codes "{\"type\":\"/problems#BODY\",\"title\":\"Content Too Large\",\"status\":413,\"detail\":\"The body has over 131072 bytes.\",\"fault\":\"BODY\",\"recorded\":\"no\"}\n"
+problem faults.Target = codes "{\"type\":\"/problems#TARGET\",\"title\":\"URI Too Long\",\"status\":414,\"detail\":\"The target has over 16 KiB.\",\"fault\":\"TARGET\",\"recorded\":\"no\"}\n"
+problem faults.Type = codes "{\"type\":\"/problems#TYPE\",\"title\":\"Unsupported Media Type\",\"status\":415,\"detail\":\"The path takes a body of another type.\",\"fault\":\"TYPE\",\"recorded\":\"no\"}\n"
+problem faults.Host = codes "{\"type\":\"/problems#HOST\",\"title\":\"Misdirected Request\",\"status\":421,\"detail\":\"Host names neither an address nor localhost, and no gateway stands in front of the server.\",\"fault\":\"HOST\",\"recorded\":\"no\"}\n"
+problem faults.Head = codes "{\"type\":\"/problems#HEAD\",\"title\":\"Request Header Fields Too Large\",\"status\":431,\"detail\":\"The head has over 16 KiB or over 64 fields.\",\"fault\":\"HEAD\",\"recorded\":\"no\"}\n"
+problem faults.Coding = codes "{\"type\":\"/problems#CODING\",\"title\":\"Not Implemented\",\"status\":501,\"detail\":\"The server decodes no coding of a body but chunks.\",\"fault\":\"CODING\",\"recorded\":\"no\"}\n"
+problem faults.Busy = codes "{\"type\":\"/problems#BUSY\",\"title\":\"Service Unavailable\",\"status\":503,\"detail\":\"The server has no room for one connection more. Connect again.\",\"fault\":\"BUSY\",\"recorded\":\"no\"}\n"
 
 -- the status of the response to one question, by the problem in its text: 200 exactly if there is none
 abbrev pub status_where : Option Problem → List ℕ

@@ -1,22 +1,23 @@
 -- A stream of requests, as contracts see it (own).
-use Rattle.std.specs.Prelude.{ℕ, List, [], ◌∷◌, ◌++◌, Option, Some, None, map}
+use Rattle.std.specs.Prelude.{ℕ, Bool, List, [], ◌∷◌, ◌++◌, Option, Some, None, map}
 use Rattle.http.specs.declared.request.Request.{Request}
 use Rattle.http_server.specs.declared.connection.Connection.{Connection}
 use Rattle.http_server.specs.declared.state.Config.{Config}
 use Rattle.http_server.specs.declared.state.State.{State}
 use Rattle.http_server.specs.Connection.{history}
 
--- the bytes of a stream, the requests read from it, the state of its connection, and those last bytes of it that follow its
--- requests and are held back
+-- whether a stream comes directly, and through no gateway; its bytes, the requests read from it, the state of its connection, and
+-- those last bytes of it that follow its requests and are held back
 pub record StreamState : Type 0 where
+  pub direct : Bool
   pub fed : List ℕ
   pub requests : List (Request (List ℕ))
   pub state : State
   pub held : List ℕ
 
 -- the stream that a connection reads
-abbrev pub stream_state : Connection → StreamState
-stream_state c = record { fed = (history c).received; requests = map (λ call. call.0) (history c).calls; state = (history c).state; held = [] }
+abbrev pub stream_state : Bool → Connection → StreamState
+stream_state direct c = record { direct = direct; fed = (history c).received; requests = map (λ call. call.0) (history c).calls; state = (history c).state; held = [] }
 
 abbrev pub bytes_of : Option ℕ → List ℕ
 bytes_of None = []

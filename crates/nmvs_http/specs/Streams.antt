@@ -1,5 +1,5 @@
 -- The requests that are read from a stream of bytes (own).
-use Rattle.std.specs.Prelude.{◌≡◌, ◌≢◌, ◌↔◌, ◌==◌, ℕ, true, List, [], ◌∷◌, ◌++◌, Option, Some, None, if◌then◌else◌}
+use Rattle.std.specs.Prelude.{◌≡◌, ◌≢◌, ◌↔◌, ◌==◌, ℕ, Bool, true, List, [], ◌∷◌, ◌++◌, Option, Some, None, if◌then◌else◌}
 use Rattle.http.specs.declared.error.Error.{Error}
 use Rattle.http.specs.declared.error.Error.TheVariants.{HeaderName, MaxSizeReached, Uri}
 use Rattle.http.specs.declared.request.Request.{Request}
@@ -27,10 +27,10 @@ ReadsRequests config stream (r ∷ requests) rest =
     (message : Wire.Request) × (after : List ℕ) × ReadsCall config stream message r after × ReadsRequests config after requests rest
 
 -- the record has the kind and the lines of the request, and whether it wants the head alone
-abbrev pub ReadsAsked : Request (List ℕ) → Option Asked → Type 0
-ReadsAsked request None = ⊥
-ReadsAsked request (Some asked) =
-    (asked.asks ≡ asks_of request) × (asked.head_alone ≡ wants_head request) × (asked.lines ≡ carried_by request)
+abbrev pub ReadsAsked : Bool → Request (List ℕ) → Option Asked → Type 0
+ReadsAsked direct request None = ⊥
+ReadsAsked direct request (Some asked) =
+    (asked.asks ≡ asks_of direct request) × (asked.head_alone ≡ wants_head request) × (asked.lines ≡ carried_by direct request)
 
 -- the fault of a part of a head
 abbrev pub part_fault : Error → Fault
@@ -65,7 +65,7 @@ abbrev pub IsNext : StreamState → StreamState → Next → Type 0
 IsNext old new nexts.Nothing = (new.requests ≡ old.requests) × (new.state ≡ states.Open)
 IsNext old new nexts.Invitation = (new.requests ≡ old.requests) × (new.state ≡ states.Open)
 IsNext old new (nexts.Request asked stays) =
-    ((request : Request (List ℕ)) × (new.requests ≡ old.requests ++ request ∷ []) × ReadsAsked request (Some asked)) × (new.state ≢ states.Aborted) × (stays ≡ true ↔ new.state ≡ states.Open)
+    ((request : Request (List ℕ)) × (new.requests ≡ old.requests ++ request ∷ []) × ReadsAsked old.direct request (Some asked)) × (new.state ≢ states.Aborted) × (stays ≡ true ↔ new.state ≡ states.Open)
 IsNext old new (nexts.Refused fault) =
     (new.requests ≡ old.requests) × ((why : Refusal) × (new.state ≡ states.Closing (reasons.Refused why)) × (fault ≡ fault_of why))
 IsNext old new nexts.Lost = Unit {0}

@@ -1,6 +1,7 @@
 //! The kinds of requests.
 ghost use Rattle.std.specs.Prelude.{◌≡◌, codes, option_copied};
 ghost use Rattle.http_header.specs.Token.{lowercase};
+ghost use Rattle.std.specs.List.{list_all};
 ghost use Rattle.std.specs.Str.{bytes_eq};
 ghost use Rattle.nmvs_http.specs.Requests as specs;
 
@@ -38,6 +39,9 @@ const SAME_ORIGIN: &[u8] = b"same-origin";
 
 const NO_SITE: &[u8] = b"none";
 
+/// The name of a client's own machine (RFC 6761, section 6.3).
+const LOCAL: &[u8] = b"localhost";
+
 /// Whether a request wants the head of a response alone.
 pub(crate) fn is_head(request: &Request<Bytes>) -> bool
     ensures { result ≡ specs.wants_head request.now }
@@ -72,6 +76,83 @@ pub(crate) fn fault_of_post(name: &[u8], request: &Request<Bytes>) -> Option<Fau
         return Some(Fault::Length);
     }
     None
+}
+
+/// Whether the `Host` of a request is a name that may lead elsewhere.
+pub(crate) fn has_foreign_host(request: &Request<Bytes>) -> bool
+    ensures { result ≡ specs.is_foreign_host (specs.field_value request.now (codes "host")) }
+{
+    match field(request, "host") {
+        Some(host) => !is_address(host) && !is_localhost(host),
+        None => false,
+    }
+}
+
+/// Whether a `Host` names an address, with a port or without.
+fn is_address(host: &[u8]) -> bool
+    ensures { result ≡ specs.is_address host.now }
+{
+    match host {
+        [b'[', ..] => true,
+        _ => are_of_an_address(host),
+    }
+}
+
+/// Whether all characters stand in an address of four numbers, or before its port.
+fn are_of_an_address(host: &[u8]) -> bool
+    ensures { result ≡ list_all specs.is_address_byte host.now }
+{
+    host.iter().all(|b| is_address_byte(*b))
+}
+
+fn is_address_byte(byte: u8) -> bool
+    ensures { result ≡ specs.is_address_byte byte }
+{
+    byte.is_ascii_digit() || byte == b'.' || byte == b':'
+}
+
+/// Whether a `Host` is `localhost`, with a port or without.
+#[tactic(auto, using(std::proofs::lemmas::List::take_min, std::proofs::lemmas::List::drop_min))]
+fn is_localhost(host: &[u8]) -> bool
+    ensures { result ≡ specs.is_localhost host.now }
+{
+    let count = LOCAL.len().min(host.len());
+    is_same_name(&host[..count], LOCAL) && ends_host(&host[count..])
+}
+
+/// Whether no more of the name of a host follows.
+fn ends_host(rest: &[u8]) -> bool
+    ensures { result ≡ specs.ends_host rest.now }
+{
+    matches!(rest, [] | [b':', ..])
+}
+
+/// The key of a request, if it has one, without quotation marks around it.
+pub(crate) fn key_of(request: &Request<Bytes>) -> Option<&[u8]>
+    ensures { option_copied result ≡ specs.key_of request.now }
+{
+    match field(request, "idempotency-key") {
+        Some(key) => Some(unquoted(key)),
+        None => None,
+    }
+}
+
+/// A key without quotation marks around it.
+fn unquoted(key: &[u8]) -> &[u8]
+    ensures { result.now ≡ specs.unquoted key.now }
+{
+    if is_quoted(key) {
+        &key[1..key.len() - 1]
+    } else {
+        key
+    }
+}
+
+/// Whether a key has quotation marks around it.
+fn is_quoted(key: &[u8]) -> bool
+    ensures { result ≡ specs.is_quoted key.now }
+{
+    key.len() >= 2 && key[0] == b'"' && key[key.len() - 1] == b'"'
 }
 
 /// The first value of a field.

@@ -93,14 +93,15 @@ impl Model for HttpCodec {
 }
 
 impl HttpCodec {
-    /// A codec that was fed nothing. The peer chooses the names of fields, so their maps take secret keys.
-    pub fn new(alloc: Global, keys: RandomState) -> HttpCodec
-        ensures { result ≡ record { stage = CodecStage.Open; stream = record { fed = []; requests = []; state = states.Open; held = [] }; hand = None; given = []; replies = []; gathered = []; sent = []; unsent = [] } }
+    /// A codec that was fed nothing. The peer chooses the names of fields, so their maps take secret keys. If requests come
+    /// directly, and through no gateway that compares their `Host`, the codec compares it.
+    pub fn new(alloc: Global, keys: RandomState, direct: bool) -> HttpCodec
+        ensures { result ≡ record { stage = CodecStage.Open; stream = record { direct = direct; fed = []; requests = []; state = states.Open; held = [] }; hand = None; given = []; replies = []; gathered = []; sent = []; unsent = [] } }
     {
         HttpCodec {
             alloc,
             stage: CodecStage::Open,
-            requests: CountedStream::new(alloc, keys),
+            requests: CountedStream::new(alloc, keys, direct),
             hand: None,
             gathered: Vec::new(alloc),
             told: WriteBuffer::new(Vec::new(alloc)),

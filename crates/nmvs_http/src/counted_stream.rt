@@ -35,11 +35,11 @@ impl Model for CountedStream {
 
 impl CountedStream {
     /// An empty stream. The peer chooses the names of fields, so their maps take secret keys.
-    pub(crate) fn new(alloc: Global, keys: RandomState) -> CountedStream
-        ensures { result ≡ record { fed = []; requests = []; state = states.Open; held = [] } }
+    pub(crate) fn new(alloc: Global, keys: RandomState, direct: bool) -> CountedStream
+        ensures { result ≡ record { direct = direct; fed = []; requests = []; state = states.Open; held = [] } }
     {
         CountedStream {
-            requests: RequestStream::new(alloc, keys),
+            requests: RequestStream::new(alloc, keys, direct),
             held: None,
             recent: 0,
             unread: 0,
@@ -95,6 +95,7 @@ impl CountedStream {
 
     /// Reads the next item.
     pub(crate) fn next(&mut self) -> Next
+        ensures direct { self.new.direct ≡ self.old.direct }
         ensures fed { self.new.fed ≡ self.old.fed }
         ensures next { IsNext self.old self.new result }
     {
@@ -110,6 +111,7 @@ impl CountedStream {
 
     /// Reads the next item of the bytes that are not held back.
     fn next_given(&mut self) -> Next
+        ensures direct { self.new.direct ≡ self.old.direct }
         ensures fed { self.new.fed ≡ self.old.fed }
         ensures next { IsNext self.old self.new result }
     {

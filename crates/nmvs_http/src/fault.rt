@@ -30,6 +30,8 @@ pub enum Fault {
     Target,
     /// Its body has another media type than its path takes.
     Type,
+    /// Its `Host` is a name that may lead elsewhere, and no gateway stands in front of the server to compare it.
+    Host,
     /// Its head is too long, or has too many fields.
     Head,
     /// Its body has a coding that the server does not decode.

@@ -4,7 +4,8 @@ ghost use Rattle.http.specs.Request.{body_of};
 ghost use Rattle.nmvs_http.specs.Requests as specs;
 
 use crate::asked::{
-    Asks, JSON_TYPE, LINES_TYPE, asks_by_health, fault_of_post, field, is_repeated,
+    Asks, JSON_TYPE, LINES_TYPE, asks_by_health, fault_of_post, field, has_foreign_host,
+    is_repeated, key_of,
 };
 use crate::fault::Fault;
 use crate::request_lines::whole_lines;
@@ -20,10 +21,25 @@ pub(crate) struct Reading {
     pub(crate) lines: Bytes,
 }
 
-/// Reads the kind of a request, and the bytes of lines that it carries. It fails only if memory runs out.
-#[tactic(auto, unfolding(crate::specs::Requests::reading_of))]
-pub(crate) fn read_request(alloc: Global, request: &Request<Bytes>) -> Result<Reading, AllocError>
-    ensures { IfOk result (λ reading. reading ≡ specs.reading_of request.now) }
+/// Reads the kind of a request, and the bytes of lines that it carries. If it comes directly, and through no gateway, its `Host`
+/// is compared. It fails only if memory runs out.
+pub(crate) fn read_request(
+    alloc: Global,
+    direct: bool,
+    request: &Request<Bytes>,
+) -> Result<Reading, AllocError>
+    ensures { IfOk result (λ reading. reading ≡ specs.reading_of direct request.now) }
+{
+    if direct && has_foreign_host(request) {
+        return Ok(without_lines(Asks::Refused(Fault::Host)));
+    }
+    read_by_path(alloc, request)
+}
+
+/// Reads the kind of a request, and the bytes of lines that it carries, by its path.
+#[tactic(auto, unfolding(crate::specs::Requests::reading_by_path))]
+fn read_by_path(alloc: Global, request: &Request<Bytes>) -> Result<Reading, AllocError>
+    ensures { IfOk result (λ reading. reading ≡ specs.reading_by_path request.now) }
 {
     match request.uri().path() {
         "/v1/lines" => read_lines(alloc, request),
@@ -98,8 +114,7 @@ fn read_body(
     if is_repeated(request, "idempotency-key") {
         return refused_for(QuestionFault::Key);
     }
-    let key = field(request, "idempotency-key");
-    match question_line(alloc, kind, key, request.body().as_slice()) {
+    match question_line(alloc, kind, key_of(request), request.body().as_slice()) {
         Ok(QuestionLine { scanned, line }) => Ok(Reading {
             asks: Asks::Question(scanned),
             lines: bytes_of(line)?,

@@ -1,5 +1,5 @@
 //! The requests of a stream of bytes.
-ghost use Rattle.std.specs.Prelude.{◌≡◌, ◌≢◌, ◌≤◌, ◌++◌, ℕ, List, [], length, take, Some, IfOk};
+ghost use Rattle.std.specs.Prelude.{◌≡◌, ◌≢◌, ◌≤◌, ◌++◌, ℕ, List, [], length, take, false, Some, IfOk};
 ghost use Rattle.http_server.specs.declared.state.State.TheVariants as states;
 ghost use Rattle.http_server.specs.Connection.{config_of};
 ghost use Rattle.nmvs_http.specs.StreamState.{StreamState, request_limits, stream_state};
@@ -56,6 +56,8 @@ pub(crate) enum Next {
 #[derive(Drop)]
 pub(crate) struct RequestStream {
     alloc: Global,
+    /// Whether the stream comes directly, and through no gateway.
+    direct: bool,
     connection: Connection,
 }
 
@@ -66,18 +68,19 @@ impl Model for RequestStream {
 
     ghost Value = { StreamState };
 
-    ghost view = { λ s. stream_state s.connection };
+    ghost view = { λ s. stream_state s.direct s.connection };
 
     ghost invariant = { λ s. config_of s.connection ≡ request_limits };
 }
 
 impl RequestStream {
     /// An empty stream. The peer chooses the names of fields, so their maps take secret keys.
-    pub(crate) fn new(alloc: Global, keys: RandomState) -> RequestStream
-        ensures { result ≡ record { fed = []; requests = []; state = State.Open; held = [] } }
+    pub(crate) fn new(alloc: Global, keys: RandomState, direct: bool) -> RequestStream
+        ensures { result ≡ record { direct = direct; fed = []; requests = []; state = State.Open; held = [] } }
     {
         RequestStream {
             alloc,
+            direct,
             connection: Connection::new(alloc, keys, config()),
         }
     }
@@ -106,11 +109,13 @@ impl RequestStream {
 
     /// Reads the next item.
     pub(crate) fn next(&mut self) -> Next
+        ensures direct { self.new.direct ≡ self.old.direct }
         ensures fed { self.new.fed ≡ self.old.fed }
         ensures next { IsNext self.old self.new result }
     {
         let mut reader = Reader {
             alloc: self.alloc,
+            direct: self.direct,
             asked: None,
         };
         self.connection.advance(&mut reader);
@@ -139,6 +144,7 @@ fn next_of(asked: Option<Asked>, state: State, waits: bool) -> Next
 #[derive(Drop)]
 pub(crate) struct Reader {
     alloc: Global,
+    direct: bool,
     asked: Option<Asked>,
 }
 
@@ -146,7 +152,7 @@ impl Service for Reader {
     ghost use Rattle.std.specs.Prelude.{◌≡◌, None};
     ghost use Rattle.nmvs_http.specs.Streams.{ReadsAsked};
 
-    ghost answers = { λ old request response new. (old.asked ≡ None) × ReadsAsked request new.asked };
+    ghost answers = { λ old request response new. (old.asked ≡ None) × ReadsAsked old.direct request new.asked };
 
     fn call(
         &mut self,
@@ -156,7 +162,7 @@ impl Service for Reader {
         if self.asked.is_some() {
             return Err(AllocError);
         }
-        let asked = read_asked(self.alloc, request)?;
+        let asked = read_asked(self.alloc, self.direct, request)?;
         response.status = StatusCode::NO_CONTENT;
         self.asked = Some(asked);
         Ok(())
@@ -164,10 +170,10 @@ impl Service for Reader {
 }
 
 /// Reads the kind and lines of a request, and whether it wants the head of the response alone.
-fn read_asked(alloc: Global, request: &Request<Bytes>) -> Result<Asked, AllocError>
-    ensures { IfOk result (λ asked. ReadsAsked request.now (Some asked)) }
+fn read_asked(alloc: Global, direct: bool, request: &Request<Bytes>) -> Result<Asked, AllocError>
+    ensures { IfOk result (λ asked. ReadsAsked direct request.now (Some asked)) }
 {
-    let reading = read_request(alloc, request)?;
+    let reading = read_request(alloc, direct, request)?;
     Ok(Asked {
         asks: reading.asks,
         head_alone: is_head(request),
@@ -187,7 +193,7 @@ fn config() -> Config
 
 /// Discards the bytes that a connection would send.
 fn discard_output(connection: &mut Connection)
-    ensures stream { stream_state connection.new ≡ stream_state connection.old }
+    ensures stream { stream_state false connection.new ≡ stream_state false connection.old }
     ensures config { config_of connection.new ≡ config_of connection.old }
 {
     for _ in 0..u64::MAX {

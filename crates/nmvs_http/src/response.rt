@@ -131,12 +131,14 @@ pub(crate) fn front_of_fault(fault: Fault) -> &'static [u8]
             b"HTTP/1.1 414 URI Too Long\r\ncontent-type: application/problem+json\r\ncache-control: no-store\r\n",
         Fault::Type =>
             b"HTTP/1.1 415 Unsupported Media Type\r\ncontent-type: application/problem+json\r\ncache-control: no-store\r\n",
+        Fault::Host =>
+            b"HTTP/1.1 421 Misdirected Request\r\ncontent-type: application/problem+json\r\ncache-control: no-store\r\n",
         Fault::Head =>
             b"HTTP/1.1 431 Request Header Fields Too Large\r\ncontent-type: application/problem+json\r\ncache-control: no-store\r\n",
         Fault::Coding =>
             b"HTTP/1.1 501 Not Implemented\r\ncontent-type: application/problem+json\r\ncache-control: no-store\r\n",
         Fault::Busy =>
-            b"HTTP/1.1 503 Service Unavailable\r\ncontent-type: application/problem+json\r\ncache-control: no-store\r\n",
+            b"HTTP/1.1 503 Service Unavailable\r\nretry-after: 1\r\ncontent-type: application/problem+json\r\ncache-control: no-store\r\n",
     }
 }
 
@@ -147,35 +149,48 @@ pub(crate) fn problem(fault: Fault) -> &'static [u8]
 {
     match fault {
         Fault::Request =>
-            b"{\"type\":\"about:blank\",\"title\":\"Bad Request\",\"status\":400,\"fault\":\"REQUEST\",\"recorded\":\"no\"}\n",
-        Fault::Key =>
-            b"{\"type\":\"about:blank\",\"title\":\"Bad Request\",\"status\":400,\"fault\":\"KEY\",\"recorded\":\"no\"}\n",
-        Fault::Json =>
-            b"{\"type\":\"about:blank\",\"title\":\"Bad Request\",\"status\":400,\"fault\":\"JSON\",\"recorded\":\"no\"}\n",
-        Fault::Fields =>
-            b"{\"type\":\"about:blank\",\"title\":\"Bad Request\",\"status\":400,\"fault\":\"FIELDS\",\"recorded\":\"no\"}\n",
-        Fault::Site =>
-            b"{\"type\":\"about:blank\",\"title\":\"Forbidden\",\"status\":403,\"fault\":\"SITE\",\"recorded\":\"no\"}\n",
-        Fault::Path =>
-            b"{\"type\":\"about:blank\",\"title\":\"Not Found\",\"status\":404,\"fault\":\"PATH\",\"recorded\":\"no\"}\n",
+            b"{\"type\":\"/problems#REQUEST\",\"title\":\"Bad Request\",\"status\":400,\
+            \"detail\":\"The bytes are no request of HTTP/1.1.\",\"fault\":\"REQUEST\",\"recorded\":\"no\"}\n",
+        Fault::Key => b"{\"type\":\"/problems#KEY\",\"title\":\"Bad Request\",\"status\":400,\
+            \"detail\":\"A key is 1 to 40 letters, digits, dots, underscores and hyphens, a letter or digit first. A question has one at most.\",\"fault\":\"KEY\",\"recorded\":\"no\"}\n",
+        Fault::Json => b"{\"type\":\"/problems#JSON\",\"title\":\"Bad Request\",\"status\":400,\
+            \"detail\":\"The body is no JSON object, or an object in it has a member twice.\",\"fault\":\"JSON\",\"recorded\":\"no\"}\n",
+        Fault::Fields => b"{\"type\":\"/problems#FIELDS\",\"title\":\"Bad Request\",\"status\":400,\
+            \"detail\":\"A member is missing, unknown or of another type, or a value is empty or has a character outside ! to ~.\",\"fault\":\"FIELDS\",\"recorded\":\"no\"}\n",
+        Fault::Site => b"{\"type\":\"/problems#SITE\",\"title\":\"Forbidden\",\"status\":403,\
+            \"detail\":\"A page of another site sent the request.\",\"fault\":\"SITE\",\"recorded\":\"no\"}\n",
+        Fault::Path => b"{\"type\":\"/problems#PATH\",\"title\":\"Not Found\",\"status\":404,\
+            \"detail\":\"Nothing is at this path.\",\"fault\":\"PATH\",\"recorded\":\"no\"}\n",
         Fault::MethodNotPost | Fault::MethodNotGet =>
-            b"{\"type\":\"about:blank\",\"title\":\"Method Not Allowed\",\"status\":405,\"fault\":\"METHOD\",\"recorded\":\"no\"}\n",
+            b"{\"type\":\"/problems#METHOD\",\"title\":\"Method Not Allowed\",\"status\":405,\
+            \"detail\":\"The path takes another method.\",\"fault\":\"METHOD\",\"recorded\":\"no\"}\n",
         Fault::Timeout =>
-            b"{\"type\":\"about:blank\",\"title\":\"Request Timeout\",\"status\":408,\"fault\":\"TIMEOUT\",\"recorded\":\"no\"}\n",
+            b"{\"type\":\"/problems#TIMEOUT\",\"title\":\"Request Timeout\",\"status\":408,\
+            \"detail\":\"The request did not come whole in time.\",\"fault\":\"TIMEOUT\",\"recorded\":\"no\"}\n",
         Fault::Length =>
-            b"{\"type\":\"about:blank\",\"title\":\"Length Required\",\"status\":411,\"fault\":\"LENGTH\",\"recorded\":\"no\"}\n",
+            b"{\"type\":\"/problems#LENGTH\",\"title\":\"Length Required\",\"status\":411,\
+            \"detail\":\"Neither a length nor chunks say where the body ends.\",\"fault\":\"LENGTH\",\"recorded\":\"no\"}\n",
         Fault::Body =>
-            b"{\"type\":\"about:blank\",\"title\":\"Content Too Large\",\"status\":413,\"fault\":\"BODY\",\"recorded\":\"no\"}\n",
+            b"{\"type\":\"/problems#BODY\",\"title\":\"Content Too Large\",\"status\":413,\
+            \"detail\":\"The body has over 131072 bytes.\",\"fault\":\"BODY\",\"recorded\":\"no\"}\n",
         Fault::Target =>
-            b"{\"type\":\"about:blank\",\"title\":\"URI Too Long\",\"status\":414,\"fault\":\"TARGET\",\"recorded\":\"no\"}\n",
+            b"{\"type\":\"/problems#TARGET\",\"title\":\"URI Too Long\",\"status\":414,\
+            \"detail\":\"The target has over 16 KiB.\",\"fault\":\"TARGET\",\"recorded\":\"no\"}\n",
         Fault::Type =>
-            b"{\"type\":\"about:blank\",\"title\":\"Unsupported Media Type\",\"status\":415,\"fault\":\"TYPE\",\"recorded\":\"no\"}\n",
+            b"{\"type\":\"/problems#TYPE\",\"title\":\"Unsupported Media Type\",\"status\":415,\
+            \"detail\":\"The path takes a body of another type.\",\"fault\":\"TYPE\",\"recorded\":\"no\"}\n",
+        Fault::Host =>
+            b"{\"type\":\"/problems#HOST\",\"title\":\"Misdirected Request\",\"status\":421,\
+            \"detail\":\"Host names neither an address nor localhost, and no gateway stands in front of the server.\",\"fault\":\"HOST\",\"recorded\":\"no\"}\n",
         Fault::Head =>
-            b"{\"type\":\"about:blank\",\"title\":\"Request Header Fields Too Large\",\"status\":431,\"fault\":\"HEAD\",\"recorded\":\"no\"}\n",
+            b"{\"type\":\"/problems#HEAD\",\"title\":\"Request Header Fields Too Large\",\"status\":431,\
+            \"detail\":\"The head has over 16 KiB or over 64 fields.\",\"fault\":\"HEAD\",\"recorded\":\"no\"}\n",
         Fault::Coding =>
-            b"{\"type\":\"about:blank\",\"title\":\"Not Implemented\",\"status\":501,\"fault\":\"CODING\",\"recorded\":\"no\"}\n",
+            b"{\"type\":\"/problems#CODING\",\"title\":\"Not Implemented\",\"status\":501,\
+            \"detail\":\"The server decodes no coding of a body but chunks.\",\"fault\":\"CODING\",\"recorded\":\"no\"}\n",
         Fault::Busy =>
-            b"{\"type\":\"about:blank\",\"title\":\"Service Unavailable\",\"status\":503,\"fault\":\"BUSY\",\"recorded\":\"no\"}\n",
+            b"{\"type\":\"/problems#BUSY\",\"title\":\"Service Unavailable\",\"status\":503,\
+            \"detail\":\"The server has no room for one connection more. Connect again.\",\"fault\":\"BUSY\",\"recorded\":\"no\"}\n",
     }
 }
 

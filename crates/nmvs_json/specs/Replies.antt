@@ -157,23 +157,65 @@ problems =
 unfoldable pub problem_named : List ℕ → Problem
 problem_named fault = unwrap_or (named problems fault) Unknown
 
--- a problem up to its fault, and after it (RFC 9457, section 3; `fault` and `recorded` are own)
+-- the texts of faults, for a person (own)
+abbrev pub details : List (List ℕ × List ℕ)
+details =
+    (codes "LONG", codes "The line of the question has over 200 bytes. Shorten its values.")
+    ∷ (codes "USER", codes "The user is no name. Send the name that is enrolled.")
+    ∷ (codes "CODE", codes "The code is no product code. Scan again, or type its 14 digits.")
+    ∷ (codes "SERIAL", codes "The serial is no serial number. Scan again, or type the print.")
+    ∷ (codes "BATCH", codes "The batch is no batch number. Scan again, or type the print.")
+    ∷ (codes "EXPIRY", codes "The expiry is no date of the form YYMMDD. Scan again, or type the print.")
+    ∷ (codes "TAG", codes "The key is that of another question. Ask with a new key.")
+    ∷ (codes "NOBODY", codes "The user is not enrolled, or the certificate names somebody else.")
+    ∷ (codes "SUSPENDED", codes "The user is suspended, or its last day is over.")
+    ∷ (codes "ROLE", codes "The role of the user gets no report.")
+    ∷ (codes "PRODUCT", codes "The authorisation of the user may not upload this code.")
+    ∷ (codes "CHANGED", codes "The key was answered before, and the state of the pack has changed. Ask with a new key.")
+    ∷ (codes "DIFFERS", codes "The pack was uploaded with another batch or expiry date. Compare the scan with the print.")
+    ∷ (codes "RATE", codes "The user is over the rate. Ask again after a second.")
+    ∷ (codes "CLOCK", codes "The clock of the server gives no moment. Ask again.")
+    ∷ (codes "CLOSED", codes "The server cannot read the list of users. Ask again.")
+    ∷ (codes "MEMORY", codes "The server has no memory for the question. Ask again.")
+    ∷ (codes "JOURNAL", codes "The log may not have the question. Ask again with the same key.")
+    ∷ (codes "ENDED", codes "The session ended before the reply. Ask again with the same key.")
+    ∷ []
+
+unfoldable pub detail_named : List ℕ → Option (List ℕ)
+detail_named fault = named details fault
+
+-- the text of a fault; no question of JSON has one that is not in the table
+abbrev pub detail_of : List ℕ → List ℕ
+detail_of fault = unwrap_or (detail_named fault) (codes "The line of the question cannot be read.")
+
+-- the title and the status of a problem, and whether the question may be recorded (RFC 9457, section 3; `fault` and `recorded` are own)
 unfoldable pub problem_front : Problem → List ℕ
-problem_front Unprocessable = codes "{\"type\":\"about:blank\",\"title\":\"Unprocessable Content\",\"status\":422,\"fault\":"
-problem_front Forbidden = codes "{\"type\":\"about:blank\",\"title\":\"Forbidden\",\"status\":403,\"fault\":"
-problem_front Conflict = codes "{\"type\":\"about:blank\",\"title\":\"Conflict\",\"status\":409,\"fault\":"
-problem_front PreconditionFailed = codes "{\"type\":\"about:blank\",\"title\":\"Precondition Failed\",\"status\":412,\"fault\":"
-problem_front TooManyRequests = codes "{\"type\":\"about:blank\",\"title\":\"Too Many Requests\",\"status\":429,\"fault\":"
-problem_front Unavailable = codes "{\"type\":\"about:blank\",\"title\":\"Service Unavailable\",\"status\":503,\"fault\":"
-problem_front Unknown = codes "{\"type\":\"about:blank\",\"title\":\"Service Unavailable\",\"status\":503,\"fault\":"
+problem_front Unprocessable = codes ",\"title\":\"Unprocessable Content\",\"status\":422,\"detail\":"
+problem_front Forbidden = codes ",\"title\":\"Forbidden\",\"status\":403,\"detail\":"
+problem_front Conflict = codes ",\"title\":\"Conflict\",\"status\":409,\"detail\":"
+problem_front PreconditionFailed = codes ",\"title\":\"Precondition Failed\",\"status\":412,\"detail\":"
+problem_front TooManyRequests = codes ",\"title\":\"Too Many Requests\",\"status\":429,\"detail\":"
+problem_front Unavailable = codes ",\"title\":\"Service Unavailable\",\"status\":503,\"detail\":"
+problem_front Unknown = codes ",\"title\":\"Service Unavailable\",\"status\":503,\"detail\":"
 
 abbrev pub problem_end : Problem → List ℕ
 problem_end Unknown = codes ",\"recorded\":\"unknown\"}\n"
 problem_end _ = codes ",\"recorded\":\"no\"}\n"
 
+-- the type of a problem: the section of the page that says what to do, a reference relative to the server (RFC 9457, section 3.1.1)
+unfoldable pub type_text : List ℕ → List ℕ
+type_text fault = codes "{\"type\":\"/problems#" ++ (flat_map escaped fault ++ codes "\"")
+
+-- a problem after its type, up to its text for a person, and after that
+unfoldable pub said_text : Problem → List ℕ → List ℕ
+said_text problem fault = problem_front problem ++ quoted (detail_of fault)
+
+unfoldable pub fault_text : Problem → List ℕ → List ℕ
+fault_text problem fault = codes ",\"fault\":" ++ (quoted fault ++ problem_end problem)
+
 -- the object of the problem of a fault
 abbrev pub problem_object : List ℕ → List ℕ
-problem_object fault = problem_front (problem_named fault) ++ (quoted fault ++ problem_end (problem_named fault))
+problem_object fault = type_text fault ++ (said_text (problem_named fault) fault ++ fault_text (problem_named fault) fault)
 
 -- the fault of a line without a reply: the words after FAULT, or ENDED if the line does not begin with FAULT
 abbrev pub fault_of : List ℕ → List ℕ

@@ -1,5 +1,6 @@
 //! The JSON of replies.
 ghost use Rattle.std.specs.Prelude.{◌≡◌, ◌++◌, [], codes, drop, map, option_map, IfOk, OnOk};
+ghost use Rattle.std.specs.List.{flat_map};
 ghost use Rattle.std.specs.Option.{option_copied};
 ghost use Rattle.nmvs_stream.specs.InputLines.{input_lines};
 ghost use Rattle.nmvs_json.specs.Places.{place_of};
@@ -135,6 +136,83 @@ const PROBLEMS: &[(&str, Problem)] = &[
     ("CLOCK", Problem::Unavailable),
     ("CLOSED", Problem::Unavailable),
     ("MEMORY", Problem::Unavailable),
+];
+
+/// The texts of faults, for a person (own).
+const DETAILS: &[(&str, &str)] = &[
+    (
+        "LONG",
+        "The line of the question has over 200 bytes. Shorten its values.",
+    ),
+    (
+        "USER",
+        "The user is no name. Send the name that is enrolled.",
+    ),
+    (
+        "CODE",
+        "The code is no product code. Scan again, or type its 14 digits.",
+    ),
+    (
+        "SERIAL",
+        "The serial is no serial number. Scan again, or type the print.",
+    ),
+    (
+        "BATCH",
+        "The batch is no batch number. Scan again, or type the print.",
+    ),
+    (
+        "EXPIRY",
+        "The expiry is no date of the form YYMMDD. Scan again, or type the print.",
+    ),
+    (
+        "TAG",
+        "The key is that of another question. Ask with a new key.",
+    ),
+    (
+        "NOBODY",
+        "The user is not enrolled, or the certificate names somebody else.",
+    ),
+    (
+        "SUSPENDED",
+        "The user is suspended, or its last day is over.",
+    ),
+    ("ROLE", "The role of the user gets no report."),
+    (
+        "PRODUCT",
+        "The authorisation of the user may not upload this code.",
+    ),
+    (
+        "CHANGED",
+        "The key was answered before, and the state of the pack has changed. Ask with a new key.",
+    ),
+    (
+        "DIFFERS",
+        "The pack was uploaded with another batch or expiry date. Compare the scan with the print.",
+    ),
+    (
+        "RATE",
+        "The user is over the rate. Ask again after a second.",
+    ),
+    (
+        "CLOCK",
+        "The clock of the server gives no moment. Ask again.",
+    ),
+    (
+        "CLOSED",
+        "The server cannot read the list of users. Ask again.",
+    ),
+    (
+        "MEMORY",
+        "The server has no memory for the question. Ask again.",
+    ),
+    (
+        "JOURNAL",
+        "The log may not have the question. Ask again with the same key.",
+    ),
+    (
+        "ENDED",
+        "The session ended before the reply. Ask again with the same key.",
+    ),
 ];
 
 /// The problem of a session's answer to one question, if it is no reply, and the body of the response. The body compares the
@@ -275,6 +353,24 @@ fn problem_named(fault: &[u8]) -> Problem
     ensures { result ≡ specs.problem_named fault.now }
 {
     named(PROBLEMS, fault).unwrap_or(Problem::Unknown)
+}
+
+/// The text of a fault in the table.
+#[tactic(auto, unfolding(crate::specs::Replies::detail_named))]
+fn detail_named(fault: &[u8]) -> Option<&'static str>
+    ensures { option_map (λ detail. detail.now) result ≡ specs.detail_named fault.now }
+{
+    named(DETAILS, fault)
+}
+
+/// The text of a fault.
+fn detail_of(fault: &[u8]) -> &'static str
+    ensures { result.now ≡ specs.detail_of fault.now }
+{
+    match detail_named(fault) {
+        Some(detail) => detail,
+        None => "The line of the question cannot be read.",
+    }
 }
 
 /// The fault of a line without a reply.
@@ -515,10 +611,18 @@ fn push_string<A: Allocator>(body: &mut Vec<u8, A>, text: &[u8]) -> Result<(), A
     ensures { OnOk result (body.new.items ≡ body.old.items ++ specs.quoted text.now) }
 {
     body.extend_from_slice(b"\"")?;
+    push_text(body, text)?;
+    body.extend_from_slice(b"\"")
+}
+
+/// Puts the characters of a string at the end of a body.
+fn push_text<A: Allocator>(body: &mut Vec<u8, A>, text: &[u8]) -> Result<(), AllocError>
+    ensures { OnOk result (body.new.items ≡ body.old.items ++ flat_map specs.escaped text.now) }
+{
     for byte in text {
         push_escaped(body, *byte)?;
     }
-    body.extend_from_slice(b"\"")
+    Ok(())
 }
 
 fn push_escaped<A: Allocator>(body: &mut Vec<u8, A>, byte: u8) -> Result<(), AllocError>
@@ -536,35 +640,68 @@ fn push_problem<A: Allocator>(body: &mut Vec<u8, A>, fault: &[u8]) -> Result<Pro
     ensures body { OnOk result (body.new.items ≡ body.old.items ++ specs.problem_object fault.now) }
 {
     let problem = problem_named(fault);
-    body.extend_from_slice(problem_front(problem))?;
-    push_string(body, fault)?;
-    body.extend_from_slice(problem_end(problem))?;
+    push_type(body, fault)?;
+    push_said(body, problem, fault)?;
+    push_fault(body, problem, fault)?;
     Ok(problem)
 }
 
-/// A problem up to its fault (RFC 9457).
+/// Puts the beginning of a problem, with its type, at the end of a body.
+#[tactic(auto, unfolding(crate::specs::Replies::type_text))]
+fn push_type<A: Allocator>(body: &mut Vec<u8, A>, fault: &[u8]) -> Result<(), AllocError>
+    ensures { OnOk result (body.new.items ≡ body.old.items ++ specs.type_text fault.now) }
+{
+    body.extend_from_slice(b"{\"type\":\"/problems#")?;
+    push_text(body, fault)?;
+    body.extend_from_slice(b"\"")
+}
+
+/// Puts the title, the status and the text of a problem at the end of a body.
+#[tactic(auto, unfolding(crate::specs::Replies::said_text))]
+fn push_said<A: Allocator>(
+    body: &mut Vec<u8, A>,
+    problem: Problem,
+    fault: &[u8],
+) -> Result<(), AllocError>
+    ensures { OnOk result (body.new.items ≡ body.old.items ++ specs.said_text problem fault.now) }
+{
+    body.extend_from_slice(problem_front(problem))?;
+    push_string(body, detail_of(fault).as_bytes())
+}
+
+/// Puts the fault of a problem, and whether something is recorded, at the end of a body.
+#[tactic(auto, unfolding(crate::specs::Replies::fault_text))]
+fn push_fault<A: Allocator>(
+    body: &mut Vec<u8, A>,
+    problem: Problem,
+    fault: &[u8],
+) -> Result<(), AllocError>
+    ensures { OnOk result (body.new.items ≡ body.old.items ++ specs.fault_text problem fault.now) }
+{
+    body.extend_from_slice(b",\"fault\":")?;
+    push_string(body, fault)?;
+    body.extend_from_slice(problem_end(problem))
+}
+
+/// The title and the status of a problem (RFC 9457).
 #[tactic(auto, unfolding(crate::specs::Replies::problem_front))]
 fn problem_front(problem: Problem) -> &'static [u8]
     ensures { result.now ≡ specs.problem_front problem }
 {
     match problem {
         Problem::Unprocessable => {
-            b"{\"type\":\"about:blank\",\"title\":\"Unprocessable Content\",\"status\":422,\"fault\":"
+            b",\"title\":\"Unprocessable Content\",\"status\":422,\"detail\":"
         }
-        Problem::Forbidden => {
-            b"{\"type\":\"about:blank\",\"title\":\"Forbidden\",\"status\":403,\"fault\":"
-        }
-        Problem::Conflict => {
-            b"{\"type\":\"about:blank\",\"title\":\"Conflict\",\"status\":409,\"fault\":"
-        }
+        Problem::Forbidden => { b",\"title\":\"Forbidden\",\"status\":403,\"detail\":" }
+        Problem::Conflict => { b",\"title\":\"Conflict\",\"status\":409,\"detail\":" }
         Problem::PreconditionFailed => {
-            b"{\"type\":\"about:blank\",\"title\":\"Precondition Failed\",\"status\":412,\"fault\":"
+            b",\"title\":\"Precondition Failed\",\"status\":412,\"detail\":"
         }
         Problem::TooManyRequests => {
-            b"{\"type\":\"about:blank\",\"title\":\"Too Many Requests\",\"status\":429,\"fault\":"
+            b",\"title\":\"Too Many Requests\",\"status\":429,\"detail\":"
         }
         Problem::Unavailable | Problem::Unknown => {
-            b"{\"type\":\"about:blank\",\"title\":\"Service Unavailable\",\"status\":503,\"fault\":"
+            b",\"title\":\"Service Unavailable\",\"status\":503,\"detail\":"
         }
     }
 }

@@ -12,8 +12,8 @@ invariant_of-self c =
       is_refused (record { stage = is.stage; stream = is.requests; hand = is.hand; given = is.given.numbers; replies = is.replies.numbers; gathered = is.gathered.items; sent = is.sent.numbers; unsent = drop is.gone is.told.bytes.items }) c.args.fault t.result is.gone is.told.bytes.items t.new.told.bytes.items opens refl c.self.invariant.0 t.ensures c.self.invariant.1,
     )
 
-pub returns-then-eq-clause-goes_on : goal.returns-then-eq-clause-goes_on
-returns-then-eq-clause-goes_on c =
+pub returns-then-self-eq0-clause-goes_on : goal.returns-then-self-eq0-clause-goes_on
+returns-then-self-eq0-clause-goes_on c =
     let is = c.self.inside in
     let view = c.self.view_is in
     let t = c.tell_refusal-self-inside in

@@ -17,8 +17,8 @@ invariant_of-self c =
           answers (c.may_respond.ensures may) c.stays_behind-stays.ensures c.as_slice-replies.ensures.value t.ensures sound c.new.ensures.items c.self.invariant.1,
     )
 
-pub returns-then-ne-2-clause-goes_on : goal.returns-then-ne-2-clause-goes_on
-returns-then-ne-2-clause-goes_on c =
+pub returns-then-self-ne2-clause-goes_on : goal.returns-then-self-ne2-clause-goes_on
+returns-then-self-ne2-clause-goes_on c =
     let is = c.self.inside in
     let view = c.self.view_is in
     let t = c.tell_response-self-inside in

@@ -9,7 +9,7 @@ invariant_of-self-in-Invitation c =
     let opens : is.stage ≡ stages.Open = search rules in
     let t = c.tell_invitation-self-inside in (
       tells_within is.gone is.told.bytes.items t.new.told.bytes.items _ _ _ c.self.invariant.0 t.ensures,
-      is_invited (record { stage = is.stage; stream = is.requests; hand = is.hand; given = is.given.numbers; replies = is.replies.numbers; gathered = is.gathered.items; sent = is.sent.numbers; unsent = drop is.gone is.told.bytes.items }) c.next.new.self t.result is.gone is.told.bytes.items t.new.told.bytes.items opens refl c.self.invariant.0 c.in-Invitation.ensures.next t.ensures c.self.invariant.1,
+      is_invited (record { stage = is.stage; stream = is.requests; hand = is.hand; given = is.given.numbers; replies = is.replies.numbers; gathered = is.gathered.items; sent = is.sent.numbers; unsent = drop is.gone is.told.bytes.items }) c.next.new.self t.result is.gone is.told.bytes.items t.new.told.bytes.items opens refl c.self.invariant.0 c.in-Invitation.ensures.direct c.in-Invitation.ensures.next t.ensures c.self.invariant.1,
     )
 
 pub invariant_of-self-in-Refused : goal.invariant_of-self-in-Refused
@@ -18,7 +18,7 @@ invariant_of-self-in-Refused c =
     let opens : is.stage ≡ stages.Open = search rules in
     let t = c.tell_refusal-self-inside in (
       tells_within is.gone is.told.bytes.items t.new.told.bytes.items _ _ _ c.self.invariant.0 t.ensures,
-      is_unreadable (record { stage = is.stage; stream = is.requests; hand = is.hand; given = is.given.numbers; replies = is.replies.numbers; gathered = is.gathered.items; sent = is.sent.numbers; unsent = drop is.gone is.told.bytes.items }) c.next.new.self c.in-Refused.fault t.result is.gone is.told.bytes.items t.new.told.bytes.items opens refl c.self.invariant.0 c.in-Refused.ensures.next t.ensures c.self.invariant.1,
+      is_unreadable (record { stage = is.stage; stream = is.requests; hand = is.hand; given = is.given.numbers; replies = is.replies.numbers; gathered = is.gathered.items; sent = is.sent.numbers; unsent = drop is.gone is.told.bytes.items }) c.next.new.self c.in-Refused.fault t.result is.gone is.told.bytes.items t.new.told.bytes.items opens refl c.self.invariant.0 c.in-Refused.ensures.direct c.in-Refused.ensures.next t.ensures c.self.invariant.1,
     )
 
 pub invariant_of-self-in-Request : goal.invariant_of-self-in-Request
@@ -28,7 +28,7 @@ invariant_of-self-in-Request c =
     let none : is.hand ≡ None = search rules in
     let h = c.of.ensures in (
       c.self.invariant.0,
-      is_taken (record { stage = is.stage; stream = is.requests; hand = is.hand; given = is.given.numbers; replies = is.replies.numbers; gathered = is.gathered.items; sent = is.sent.numbers; unsent = drop is.gone is.told.bytes.items }) c.next.new.self c.in-Request.asked c.in-Request.stays c.of.result opens none c.in-Request.ensures.next (ap (λ t. t.asks) h) (ap (λ t. t.head_alone) h) (ap (λ t. t.lines) h) c.self.invariant.1,
+      is_taken (record { stage = is.stage; stream = is.requests; hand = is.hand; given = is.given.numbers; replies = is.replies.numbers; gathered = is.gathered.items; sent = is.sent.numbers; unsent = drop is.gone is.told.bytes.items }) c.next.new.self c.in-Request.asked c.in-Request.stays c.of.result opens none c.in-Request.ensures.direct c.in-Request.ensures.next (ap (λ t. t.asks) h) (ap (λ t. t.head_alone) h) (ap (λ t. t.lines) h) c.self.invariant.1,
     )
 
 pub returns-in-Refused-clause-goes_on : goal.returns-in-Refused-clause-goes_on

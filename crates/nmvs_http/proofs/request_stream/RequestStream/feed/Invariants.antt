@@ -5,7 +5,7 @@ use Rattle.nmvs_http.proofs.request_stream.RequestStream.feed.Given as goal
 
 abbrev pub invariant-loop-rest : goal.invariant-loop-rest
 invariant-loop-rest l =
-    (taken : List ℕ) × (taken ++ l.rest ≡ l.more) × (stream_state l.self-inside.connection ≡ record l.fn.self { fed = l.fn.self.fed ++ taken })
+    (taken : List ℕ) × (taken ++ l.rest ≡ l.more) × (stream_state l.self-inside.direct l.self-inside.connection ≡ record l.fn.self { fed = l.fn.self.fed ++ taken })
     × (config_of l.self-inside.connection ≡ request_limits)
 
 abbrev pub decreases-loop-rest : goal.decreases-loop-rest

@@ -8,4 +8,4 @@ use Rattle.nmvs_http.proofs.request_stream.RequestStream.note_read.Goals as goal
 pub returns : goal.returns
 returns c =
     subst (λ (s : StreamState). s.state ≢ states.Aborted → ∥ ((rest : List ℕ) × ReadsRequests request_limits s.fed s.requests rest) ∥₁)
-    c.self.view_is (stream_read c.self.inside.connection c.self.invariant)
+    c.self.view_is (stream_read c.self.inside.direct c.self.inside.connection c.self.invariant)

@@ -9,16 +9,16 @@ use Rattle.http_uri.specs.Uri.{uri_path}
 use Rattle.nmvs_json.specs.declared.asked_kind.AskedKind.{AskedKind}
 use Rattle.nmvs_json.specs.Questions.{asked_at}
 use Rattle.nmvs_http.specs.declared.reading.Reading.{Reading}
-use Rattle.nmvs_http.specs.Requests.{asks_by_health, bulk_of, fault_of_post, reading_at, reading_of, reading_of_bulk, reading_of_lines}
-use Rattle.nmvs_http.proofs.reading.read_request.Goals as goal
+use Rattle.nmvs_http.specs.Requests.{asks_by_health, bulk_of, fault_of_post, reading_at, reading_by_path, reading_of_bulk, reading_of_lines}
+use Rattle.nmvs_http.proofs.reading.read_by_path.Goals as goal
 
 differ : (xs ys : List ℕ) → xs ≢ ys → bytes_eq xs ys ≡ false
 differ xs ys other = false_from_ne_true (bytes_eq xs ys) (λ e. other ((bytes_eq-Decides xs ys).0 e))
 
 -- a request at a path other than those of lines and of health
 other_path : (request : Request (List ℕ)) (kind : Option AskedKind) (path : List ℕ) → path ≡ uri_path (head_of request).uri → path ≢ codes "/v1/lines" → path ≢ codes "/v1/questions" → path ≢ codes "/healthz" → kind ≡ asked_at path
-    → reading_at kind request ≡ reading_of request
-unfolding reading_of
+    → reading_at kind request ≡ reading_by_path request
+unfolding reading_by_path
 other_path request kind path same lines bulk health at =
     let p = uri_path (head_of request).uri in
     let not_lines : bytes_eq p (codes "/v1/lines") ≡ false = differ p (codes "/v1/lines") (λ e. lines (same ∙ e)) in
