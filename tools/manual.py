@@ -17,6 +17,8 @@ STYLE = (
     "body{font:11pt/1.45 sans-serif;max-width:54em;margin:auto;padding:1em}table{border-collapse:collapse}pre,code{font-family:monospace}"
     "pre{background:#f3f3f3;padding:.6em;overflow-x:auto}td,th{border:1px solid #999;padding:.2em .5em;text-align:left;vertical-align:top}"
     "img{max-width:100%}article{break-before:page}h1{border-bottom:2px solid}"
+    "@page{size:A4;margin:18mm 15mm;@bottom-center{content:counter(page)}}@media print{body{font-size:9pt;max-width:none;padding:0}"
+    "pre{white-space:pre-wrap;overflow-wrap:anywhere}table{font-size:8pt}h2,h3{break-after:avoid}}"
 )
 
 
