@@ -29,7 +29,10 @@ fn pharmacy(rt: &impl Abort) -> Enrolment {
 
 fn enrol<J: Naming, R: Wait + Abort>(rt: &R, registrar: &mut Registrar<J, &R, Global>) {
     let (user, enrolment) = (name(rt, "ph1"), pharmacy(rt));
-    registrar.changes.enrol(user, enrolment).expect(rt, "memory");
+    registrar
+        .changes
+        .enrol(user, enrolment)
+        .expect(rt, "memory");
 }
 
 fn suspend<J: Naming, R: Wait + Abort>(rt: &R, registrar: &mut Registrar<J, &R, Global>) {

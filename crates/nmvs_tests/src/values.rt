@@ -72,8 +72,14 @@ fn commands_are_read(rt: HostRuntime) {
     };
     let enrol = Command::Enrol(name(&rt, "ph9"), enrolment);
     for &(line, wanted) in &[
-        ("ENROL ph9 PHARMACY PH-9 P9 UNTIL 271231 CODES 9506000", Ok(enrol)),
-        ("ENROL ph9 PHARMACY PH-9 P9 CODES 9506000 UNTIL 271231", Err(CommandFault::Fields)),
+        (
+            "ENROL ph9 PHARMACY PH-9 P9 UNTIL 271231 CODES 9506000",
+            Ok(enrol),
+        ),
+        (
+            "ENROL ph9 PHARMACY PH-9 P9 CODES 9506000 UNTIL 271231",
+            Err(CommandFault::Fields),
+        ),
         ("ENROL ph9 DOCTOR PH-9 P9", Err(CommandFault::Role)),
         ("SUSPEND", Err(CommandFault::Fields)),
         ("enrol x", Err(CommandFault::Word)),
