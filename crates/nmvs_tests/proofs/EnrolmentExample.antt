@@ -1,4 +1,5 @@
 -- Which products a holder may upload, and when an enrolment has ended.
+use Rattle.jiff_core.specs.Calendar.{days_from_civil, day_count, days_of_years, days_of_months}
 use Rattle.std.proofs.Common.{◌≡◌, ℕ, Bool, true, false, List, [], ◌∷◌, Option, Some, None, refl}
 use Rattle.std.specs.Prelude.{codes}
 use Rattle.nmvs_identifier.specs.Codes.{is_codes}
@@ -54,6 +55,7 @@ days : Gives ended (
     ∷ ((codes "271200", 1_830_297_599), false)
     ∷ ((codes "271200", 1_830_297_600), true)
     ∷ [])
+unfolding days_from_civil day_count days_of_years days_of_months
 days = refl
 
 no-last-day : has_ended None 4_102_444_799 ≡ false

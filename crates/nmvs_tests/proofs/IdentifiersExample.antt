@@ -157,7 +157,10 @@ tags-read : Gives is_tag (
     (codes "a17", true)
     ∷ (codes "#x", false)
     ∷ (codes "", false)
-    ∷ (codes "a.b_c-d.e_f-g.h_i-j.k", false)
+    ∷ (codes "a.b_c-d.e_f-g.h_i-j.k", true)
+    ∷ (codes "8e03978e-40d5-43dd-bc93-6894a57f9324", true)
+    ∷ (codes "a123456789b123456789c123456789d123456789", true)
+    ∷ (codes "a123456789b123456789c123456789d123456789e", false)
     ∷ [])
 tags-read = refl
 

@@ -175,7 +175,7 @@ no_tags =
     ∷ codes "# ph1 VERIFY 09506000134352 SN1"
     ∷ codes "#-x ph1 VERIFY 09506000134352 SN1"
     ∷ codes "#a17\t ph1 VERIFY 09506000134352 SN1"
-    ∷ codes "#a.b_c-d.e_f-g.h_i-j.k QUIT"
+    ∷ codes "#a123456789b123456789c123456789d123456789e QUIT"
     ∷ codes "a17 ph1 VERIFY 09506000134352 SN1"
     ∷ []
 

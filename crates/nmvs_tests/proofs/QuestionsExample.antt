@@ -75,7 +75,7 @@ no-keys : Gives (λ key. with_key key (codes "/v1/report", [])) (
     (codes "", Some (Err fault.Key))
     ∷ (codes "-a", Some (Err fault.Key))
     ∷ (codes "a b", Some (Err fault.Key))
-    ∷ (codes "123456789012345678901", Some (Err fault.Key))
+    ∷ (codes "12345678901234567890123456789012345678901", Some (Err fault.Key))
     ∷ [])
 unfolding chars encode is_utf8 items members value lex punctuate code_unit short_escape content after_number word kind_named question_line fields_of subject_of subject_count condition_texts scanned_of printed_in pack_in
 no-keys = refl
