@@ -2,7 +2,7 @@
 ghost use Rattle.std.specs.Prelude.{◌≡◌, ◌≤◌, ◌+◌, ◌-◌, ◌^◌, None, Some, IfOk, length, min};
 ghost use Rattle.nmvs_connections.specs.declared.peer_session.Stage.TheVariants as stages;
 ghost use Rattle.nmvs_connections.specs.Memory.{account_of, is_counted};
-ghost use Rattle.nmvs_connections.specs.Peers.{IsConnection};
+ghost use Rattle.nmvs_connections.specs.Peers.{IsConnection, IsLater, Rests};
 ghost use Rattle.nmvs_connections.specs.Turns.{ConnectionSteps, Kept, TellsOwn};
 
 use crate::next::Next;
@@ -67,11 +67,12 @@ impl<L: LineList> Connection<L> {
         proxy: Option<NameOf>,
         now: Instant,
     ) -> Result<Connection<L>, AllocError>
-        ensures { IfOk result (λ connection. connection.session.proxy ≡ proxy) }
+        ensures { IfOk result (λ connection. IsConnection connection.session × (connection.session.proxy ≡ proxy)) }
     {
         let number = accepted.number;
         let origin = origin_of(alloc, accepted.address)?;
         let session = PeerSession::new(alloc, accepted, proxy)?;
+        session.note_bytes();
         Ok(Connection {
             number,
             origin,
@@ -87,7 +88,9 @@ impl<L: LineList> Connection<L> {
     }
 
     /// Registers the connection with a poll, under the key.
-    pub(crate) fn register(&mut self, registry: &Registry, key: usize) -> io::Result<()> {
+    pub(crate) fn register(&mut self, registry: &Registry, key: usize) -> io::Result<()>
+        ensures { self.new.session ≡ self.old.session }
+    {
         self.session.register(registry, key)
     }
 
@@ -118,8 +121,17 @@ impl<L: LineList> Connection<L> {
         (self.unfinished || !unfinished) && self.account() == *name
     }
 
+    /// Notes that its bytes are those of a header, of lines and of replies.
+    pub(crate) fn note_bytes(&self)
+        ensures { IsConnection self.now.session }
+    {
+        self.session.note_bytes();
+    }
+
     /// Notes that the peer ended or broke the connection.
-    pub(crate) fn on_peer_closed(&mut self) {
+    pub(crate) fn on_peer_closed(&mut self)
+        ensures { self.new.session ≡ self.old.session }
+    {
         self.peer_closed = true;
     }
 
@@ -146,7 +158,9 @@ impl<L: LineList> Connection<L> {
     }
 
     /// Ends the session after the lines that were read.
-    pub(crate) fn stop(&mut self) {
+    pub(crate) fn stop(&mut self)
+        ensures { self.new.session ≡ self.old.session }
+    {
         self.stopped = true;
     }
 
@@ -179,7 +193,7 @@ impl<L: LineList> Connection<L> {
     fn send_piece<D: Desk<List = L>>(&mut self, scratch: &mut Scratch, desk: &D) -> Next
         requires told { self.old.session.session.waiting ≡ 0 }
         ensures kept { Kept self.old.session.session self.new.session.session }
-        ensures peer { self.new.session.peer ≡ self.old.session.peer }
+        ensures rests { Rests self.old.session self.new.session }
     {
         if self.session.more(scratch, desk).is_err() {
             return Next::Close;
@@ -192,7 +206,7 @@ impl<L: LineList> Connection<L> {
     }
 
     /// Takes the lines of one read, or a step towards the end.
-    #[tactic(auto, using(crate::proofs::ConnectionLemmas::steps_idle, crate::proofs::ConnectionLemmas::steps_awaiting))]
+    #[tactic(auto, using(crate::proofs::ConnectionLemmas::steps_idle, crate::proofs::ConnectionLemmas::steps_resting))]
     fn step<R: Wait, D: Desk<List = L>>(
         &mut self,
         rt: &R,
@@ -201,7 +215,6 @@ impl<L: LineList> Connection<L> {
         withheld: &mut WithheldAnswers,
         desk: &mut D,
     ) -> Next
-        requires { IsConnection self.old.session }
         ensures { ConnectionSteps D.takes desk.old desk.new withheld.old withheld.new result self.old.session self.new.session }
     {
         match self.session.stage() {
@@ -234,7 +247,8 @@ impl<L: LineList> Connection<L> {
         requires awaited { self.old.session.peer ≡ None }
         requires proxy { self.old.session.proxy ≡ Some name_of }
         requires serving { self.old.session.stage ≡ stages.Serving }
-        ensures { self.new.session.session ≡ self.old.session.session }
+        ensures session { self.new.session.session ≡ self.old.session.session }
+        ensures later { IsLater self.old.session self.new.session }
     {
         if self.stopped {
             return Next::Close;
@@ -251,7 +265,7 @@ impl<L: LineList> Connection<L> {
     fn shutdown_write(&mut self, now: Instant) -> Next
         requires { self.old.session.stage ≡ stages.Ending }
         ensures session { self.new.session.session ≡ self.old.session.session }
-        ensures peer { self.new.session.peer ≡ self.old.session.peer }
+        ensures rests { Rests self.old.session self.new.session }
     {
         self.moved = now;
         if self.was_idle {
@@ -274,8 +288,7 @@ impl<L: LineList> Connection<L> {
     /// Sends as many of the unsent bytes as the system takes.
     fn send(&mut self, now: Instant) -> Next
         ensures kept { Kept self.old.session.session self.new.session.session }
-        ensures peer { self.new.session.peer ≡ self.old.session.peer }
-        ensures is { IsConnection self.old.session }
+        ensures rests { Rests self.old.session self.new.session }
     {
         if self.session.is_sent() {
             return Next::Again;
@@ -293,7 +306,7 @@ impl<L: LineList> Connection<L> {
     /// Turns its part of the released answers into replies, and sends them. More may be there to be read at once.
     pub(crate) fn tell(&mut self, scratch: &mut Scratch, released: &Released<'_>) -> Next
         ensures tells { TellsOwn released.now self.old.session.session self.new.session.session }
-        ensures peer { self.new.session.peer ≡ self.old.session.peer }
+        ensures rests { Rests self.old.session self.new.session }
     {
         self.session.tell(scratch, released);
         match self.send(scratch.now) {
@@ -313,7 +326,9 @@ impl<L: LineList> Connection<L> {
     }
 
     /// The next step of the connection by the time that has passed.
-    pub(crate) fn check_timeouts(&mut self, now: Instant, idle: Option<Duration>) -> Next {
+    pub(crate) fn check_timeouts(&mut self, now: Instant, idle: Option<Duration>) -> Next
+        ensures { Rests self.old.session self.new.session }
+    {
         let age = now.duration_since(self.moved);
         let stage = self.session.stage();
         if stage == Stage::Lingering {

@@ -1,10 +1,11 @@
 //! The loop of a worker.
-ghost use Rattle.std.specs.Prelude.{◌≡◌, ◌≢◌, ◌≤◌, ◌<◌, ◌-◌, ◌++◌, ◌∷◌, [], ℕ, Some, None, IsSome, IfOk};
+ghost use Rattle.std.specs.Prelude.{◌≡◌, ◌≢◌, ◌≤◌, ◌<◌, ◌-◌, ◌++◌, ◌∷◌, [], ℕ, Option, Some, None, IsSome, IfOk};
 ghost use Rattle.std.specs.List.{Contains};
 ghost use Rattle.slab.specs.Slab.{get, slab_len};
 ghost use Rattle.nmvs_connections.specs.declared.connection.Connection.{Connection as TheConnection};
 ghost use Rattle.nmvs_connections.specs.Memory.{CountsMemory, IsEvictedFirst, IsLargest, TakeAtMost, memory_of};
-ghost use Rattle.nmvs_connections.specs.Turns.{EachGoes, WaitsForRelease, TellsAll, TellsPeer, TellsWhereAsked, TurnOfOne, WorkerTurn};
+ghost use Rattle.nmvs_messages.specs.declared.peer.NameOf.{NameOf as TheNameOf};
+ghost use Rattle.nmvs_connections.specs.Turns.{AllBehind, EachGoes, StayBehind, WaitsForRelease, TellsAll, TellsPeer, TellsWhereAsked, TurnOfOne, WorkerTurn};
 
 use crate::accounts::{heaviest, largest_of};
 use crate::connection::Connection;
@@ -67,7 +68,9 @@ struct EventLoop<L: LineList> {
 }
 
 impl<L: LineList> EventLoop<L> {
-    fn new(alloc: Global, worker: usize, now: Instant) -> EventLoop<L> {
+    fn new(alloc: Global, worker: usize, now: Instant) -> EventLoop<L>
+        ensures { (proxy : Option TheNameOf) → AllBehind proxy result.connections }
+    {
         EventLoop {
             alloc,
             worker,
@@ -90,7 +93,9 @@ impl<L: LineList> EventLoop<L> {
         poller: &mut Poller,
         scratch: &mut Scratch,
         desk: &mut D,
-    ) -> io::Result<()> {
+    ) -> io::Result<()>
+        requires { AllBehind pool.now.proxy self.old.connections }
+    {
         let mut withheld = WithheldAnswers::new();
         for _ in 0..u64::MAX {
             poller.poll.poll(&mut poller.events, self.poll_timeout())?;
@@ -122,7 +127,9 @@ impl<L: LineList> EventLoop<L> {
     }
 
     /// Notes the system's reports. The result is whether the worker was woken.
-    fn note_all(&mut self, events: &Events) -> bool {
+    fn note_all(&mut self, events: &Events) -> bool
+        ensures { StayBehind self.old.connections self.new.connections }
+    {
         let mut woken = false;
         for event in events {
             if event.token() == WAKE {
@@ -134,7 +141,9 @@ impl<L: LineList> EventLoop<L> {
         woken
     }
 
-    fn note(&mut self, event: &Event) {
+    fn note(&mut self, event: &Event)
+        ensures { StayBehind self.old.connections self.new.connections }
+    {
         let key = event.token().0;
         if let Some(connection) = self.connections.get_mut(key) {
             if event.is_read_closed() || event.is_error() {
@@ -145,7 +154,9 @@ impl<L: LineList> EventLoop<L> {
     }
 
     /// Queues a connection for its turn, if it is not queued yet.
-    fn queue(&mut self, key: usize) {
+    fn queue(&mut self, key: usize)
+        ensures { StayBehind self.old.connections self.new.connections }
+    {
         let Some(connection) = self.connections.get_mut(key) else {
             return;
         };
@@ -162,7 +173,9 @@ impl<L: LineList> EventLoop<L> {
         pool: &WorkerPool<'_>,
         registry: &Registry,
         scratch: &Scratch,
-    ) {
+    )
+        ensures { AllBehind pool.now.proxy self.old.connections → AllBehind pool.now.proxy self.new.connections }
+    {
         for _ in 0..u64::MAX {
             let Some(accepted) = pool.next_accepted(rt, self.worker) else {
                 return;
@@ -179,7 +192,9 @@ impl<L: LineList> EventLoop<L> {
         registry: &Registry,
         accepted: Accepted,
         scratch: &Scratch,
-    ) -> io::Result<()> {
+    ) -> io::Result<()>
+        ensures { AllBehind pool.now.proxy self.old.connections → AllBehind pool.now.proxy self.new.connections }
+    {
         let most = self.connections.len().saturating_add(1);
         self.turns.reserve(most)?;
         self.later.reserve(most)?;
@@ -193,28 +208,32 @@ impl<L: LineList> EventLoop<L> {
     }
 
     /// Checks whether the service ends.
-    fn check_shutdown<R: Wait + Log>(&mut self, rt: &R, pool: &WorkerPool<'_>) {
+    fn check_shutdown<R: Wait + Log>(&mut self, rt: &R, pool: &WorkerPool<'_>)
+        ensures { StayBehind self.old.connections self.new.connections }
+    {
         if !pool.is_closing(rt) {
             return;
         }
         self.closing = true;
         let stopped = pool.is_stopped(rt);
         for key in 0..self.connections.capacity() {
-            let is_served = match self.connections.get_mut(key) {
-                Some(connection) => {
-                    if stopped {
-                        connection.stop();
-                    }
-                    stopped || connection.is_served()
-                }
-                None => continue,
-            };
-            if is_served {
-                self.queue(key);
-            } else {
-                self.remove(rt, pool, key);
+            match self.is_served(key, stopped) {
+                Some(true) => self.queue(key),
+                Some(false) => self.remove(rt, pool, key),
+                None => {}
             }
         }
+    }
+
+    /// Whether a connection is served to its end: one in which a line was served, or each one if the service was stopped.
+    fn is_served(&mut self, key: usize, stopped: bool) -> Option<bool>
+        ensures { StayBehind self.old.connections self.new.connections }
+    {
+        let connection = self.connections.get_mut(key)?;
+        if stopped {
+            connection.stop();
+        }
+        Some(stopped || connection.is_served())
     }
 
     /// Gives each queued connection its turn, and at most one of them a report. Their answers are released together, unless the
@@ -227,9 +246,11 @@ impl<L: LineList> EventLoop<L> {
         withheld: &mut WithheldAnswers,
         desk: &mut D,
     )
-        requires { withheld.old ≡ [] }
+        requires none_withheld { withheld.old ≡ [] }
+        requires behind { AllBehind pool.now.proxy self.old.connections }
         ensures none_withheld { withheld.new ≡ [] }
-        ensures turn { WorkerTurn D.takes D.releases D.moves desk.old desk.new self.old.connections self.new.connections }
+        ensures behind { AllBehind pool.now.proxy self.new.connections }
+        ensures turn { WorkerTurn pool.now.proxy D.takes D.releases D.moves desk.old desk.new self.old.connections self.new.connections }
     {
         scratch.reported = false;
         let mut first = 0;
@@ -270,6 +291,7 @@ impl<L: LineList> EventLoop<L> {
         };
         connection.queued = false;
         let next = connection.take_turn(rt, pool, scratch, withheld, desk);
+        connection.note_bytes();
         self.dispatch(rt, pool, key, next);
         next == Next::ReleaseNow
     }
@@ -342,6 +364,7 @@ impl<L: LineList> EventLoop<L> {
             return;
         };
         let next = connection.tell(scratch, released);
+        connection.note_bytes();
         self.go_on(rt, pool, key, next);
     }
 
@@ -522,18 +545,16 @@ impl<L: LineList> EventLoop<L> {
     }
 
     /// Looks for connections that waited too long, if a tick has passed.
-    fn check_timeouts<R: Wait + Log>(&mut self, rt: &R, pool: &WorkerPool<'_>, now: Instant) {
+    fn check_timeouts<R: Wait + Log>(&mut self, rt: &R, pool: &WorkerPool<'_>, now: Instant)
+        ensures { StayBehind self.old.connections self.new.connections }
+    {
         if now.duration_since(self.looked).as_secs() < TICK {
             return;
         }
         self.looked = now;
         self.log_evicted(rt);
         for key in 0..self.connections.capacity() {
-            let next = match self.connections.get_mut(key) {
-                Some(connection) => connection.check_timeouts(now, pool.idle()),
-                None => Next::WaitIo,
-            };
-            match next {
+            match self.next_by_time(key, now, pool.idle()) {
                 Next::Again => {
                     pool.metrics(self.worker).note_fault(Fault::Idle);
                     self.queue(key);
@@ -542,5 +563,17 @@ impl<L: LineList> EventLoop<L> {
                 Next::WaitIo | Next::WaitRelease | Next::ReleaseNow => {}
             }
         }
+    }
+
+    /// The next step of a connection by the time that has passed.
+    fn next_by_time(&mut self, key: usize, now: Instant, idle: Option<Duration>) -> Next
+        ensures { StayBehind self.old.connections self.new.connections }
+    {
+        let Some(connection) = self.connections.get_mut(key) else {
+            return Next::WaitIo;
+        };
+        let next = connection.check_timeouts(now, idle);
+        connection.note_bytes();
+        next
     }
 }

@@ -6,7 +6,7 @@ ghost use Rattle.nmvs_connections.specs.declared.next.Next.{Next as TheNext};
 ghost use Rattle.nmvs_connections.specs.declared.peer_session.Stage.TheVariants as stages;
 ghost use Rattle.nmvs_connections.specs.LineStreams.{EndsIn, before_of, carried};
 ghost use Rattle.nmvs_connections.specs.Memory.{name_of};
-ghost use Rattle.nmvs_connections.specs.Peers.{IsConnection, StaysPeer};
+ghost use Rattle.nmvs_connections.specs.Peers.{IsConnection, IsLater, Rests};
 ghost use Rattle.nmvs_connections.specs.Replies.{Replies};
 ghost use Rattle.nmvs_connections.specs.Turns.{ConnectionSteps, Kept, LinesStep, TellsOwn, WaitsForRelease};
 
@@ -189,16 +189,21 @@ impl<L: LineList> PeerSession<L> {
     }
 
     /// Whether all replies that were worded are sent.
-    pub(crate) fn is_sent(&self) -> bool
+    pub(crate) fn is_sent(&self) -> bool {
+        self.session.unsent().is_empty() && self.stream.is_flushed()
+    }
+
+    /// Notes that its bytes are those of a header, of lines and of replies.
+    pub(crate) fn note_bytes(&self)
         ensures { IsConnection self.now }
     {
-        self.session.unsent().is_empty() && self.stream.is_flushed()
+        let _unread = &self.unread;
     }
 
     /// Sends as many of the unsent bytes as the system takes.
     pub(crate) fn send(&mut self) -> Moved
         ensures kept { Kept self.old.session self.new.session }
-        ensures peer { self.new.peer ≡ self.old.peer }
+        ensures rests { Rests self.old self.new }
     {
         if self.stage == Stage::Lingering {
             return Moved::Over;
@@ -220,7 +225,7 @@ impl<L: LineList> PeerSession<L> {
     fn send_replies(&mut self) -> Moved
         requires { self.old.stage ≢ stages.Lingering }
         ensures kept { Kept self.old.session self.new.session }
-        ensures peer { self.new.peer ≡ self.old.peer }
+        ensures rests { Rests self.old self.new }
         ensures stage { self.new.stage ≡ self.old.stage }
     {
         let moved = self.stream.write(self.session.unsent());
@@ -258,7 +263,8 @@ impl<L: LineList> PeerSession<L> {
         requires proxy { self.old.proxy ≡ Some name_of }
         requires serving { self.old.stage ≡ stages.Serving }
         requires room { READ_SIZE ≤ length buffer.old }
-        ensures { self.new.session ≡ self.old.session }
+        ensures session { self.new.session ≡ self.old.session }
+        ensures later { IsLater self.old self.new }
     {
         let missing = match read_proxy_header(self.unread.as_slice(), name_of) {
             ProxyHeader::Begun { missing } => missing.min(READ_SIZE),
@@ -342,7 +348,7 @@ impl<L: LineList> PeerSession<L> {
     fn pause(&mut self) -> Next
         requires { self.old.stage ≡ stages.Serving }
         ensures session { self.new.session ≡ self.old.session }
-        ensures peer { self.new.peer ≡ self.old.peer }
+        ensures rests { Rests self.old self.new }
     {
         self.respond();
         if self.stream.is_over() {
@@ -388,7 +394,7 @@ impl<L: LineList> PeerSession<L> {
     /// Turns its part of the released answers into replies. If the session has ended, no more lines are answered.
     pub(crate) fn tell(&mut self, scratch: &mut Scratch, released: &Released<'_>)
         ensures tells { TellsOwn released.now self.old.session self.new.session }
-        ensures peer { self.new.peer ≡ self.old.peer }
+        ensures rests { Rests self.old self.new }
     {
         // If memory for the room is refused, the replies ask for their own.
         let _refused = scratch.make_room();
@@ -412,7 +418,7 @@ impl<L: LineList> PeerSession<L> {
     ) -> Result<(), AllocError>
         requires told { self.old.session.waiting ≡ 0 }
         ensures kept { Kept self.old.session self.new.session }
-        ensures peer { self.new.peer ≡ self.old.peer }
+        ensures rests { Rests self.old self.new }
     {
         // If memory for the room is refused, the lines ask for their own.
         let _refused = scratch.make_room();
@@ -430,7 +436,7 @@ impl<L: LineList> PeerSession<L> {
     /// Answers no more lines.
     pub(crate) fn stop_serving(&mut self)
         ensures session { self.new.session ≡ self.old.session }
-        ensures peer { self.new.peer ≡ self.old.peer }
+        ensures rests { Rests self.old self.new }
     {
         if self.stage == Stage::Serving {
             self.stage = Stage::Ending;
@@ -442,7 +448,7 @@ impl<L: LineList> PeerSession<L> {
     pub(crate) fn shutdown_write(&mut self)
         requires { self.old.stage ≡ stages.Ending }
         ensures session { self.new.session ≡ self.old.session }
-        ensures peer { self.new.peer ≡ self.old.peer }
+        ensures rests { Rests self.old self.new }
     {
         self.stream.shutdown_write();
         self.stage = Stage::Lingering;
@@ -451,7 +457,7 @@ impl<L: LineList> PeerSession<L> {
     /// Answers no more lines: the peer asked nothing for too long. A request that has not come whole is refused as late.
     pub(crate) fn stop_idle(&mut self)
         ensures session { self.new.session ≡ self.old.session }
-        ensures peer { self.new.peer ≡ self.old.peer }
+        ensures rests { Rests self.old self.new }
     {
         self.stream.refuse_late();
         self.stop_serving();
@@ -461,7 +467,7 @@ impl<L: LineList> PeerSession<L> {
     pub(crate) fn shutdown_idle(&mut self)
         requires { self.old.stage ≡ stages.Ending }
         ensures session { self.new.session ≡ self.old.session }
-        ensures peer { self.new.peer ≡ self.old.peer }
+        ensures rests { Rests self.old self.new }
     {
         if self.stream.is_http() {
             self.shutdown_write();
@@ -476,7 +482,7 @@ impl<L: LineList> PeerSession<L> {
     pub(crate) fn linger(&mut self, buffer: &mut [u8]) -> Next
         requires { self.old.stage ≡ stages.Lingering }
         ensures session { self.new.session ≡ self.old.session }
-        ensures peer { self.new.peer ≡ self.old.peer }
+        ensures later { IsLater self.old self.new }
     {
         match self.stream.discard(buffer) {
             Moved::Bytes(_) => Next::Again,
