@@ -844,6 +844,8 @@ nobody = record {
   stage = stages.Serving;
   stream = record { received = []; sent = [] };
   session = record { fed = []; sent = []; unsent = []; listed = []; ended = None; first = 0; waiting = 0; awaited = [] };
+  unread = [];
+  pending = [];
 }
 
 -- nobody has a turn

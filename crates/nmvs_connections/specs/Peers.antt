@@ -1,5 +1,5 @@
 -- A connection with its peer: whose lines it carries, and which bytes are its header, its lines and its replies (own).
-use Rattle.std.specs.Prelude.{◌≡◌, ◌≢◌, ℕ, List, [], ◌++◌, Option, Some, None, codes}
+use Rattle.std.specs.Prelude.{◌≡◌, ◌≢◌, ◌+◌, ℕ, List, [], ◌++◌, length, Option, Some, None, codes}
 use Rattle.nmvs_messages.specs.declared.peer.NameOf.{NameOf}
 use Rattle.nmvs_messages.specs.declared.peer.Peer.{Peer}
 use Rattle.nmvs_messages.specs.declared.peer.Peer.TheVariants as peers
@@ -11,13 +11,20 @@ use Rattle.nmvs_connections.specs.Replies.{SessionState}
 use Rattle.nmvs_connections.specs.Traffic.{Traffic}
 
 -- a connection: whether a gateway's header names a user or an authorisation, if it begins with one; its peer, once it is known;
--- its stage; its bytes; and its session
+-- its stage; its bytes; its session; the bytes that were read and not taken, and over HTTP those of a request that has not come whole
 pub record PeerState : Type 0 where
   pub proxy : Option NameOf
   pub peer : Option Peer
   pub stage : Stage
   pub stream : Traffic
   pub session : SessionState
+  pub unread : List ℕ
+  pub pending : List ℕ
+
+-- the number of bytes that a connection keeps: those that were read and not taken, those of a request that has not come whole,
+-- and the unsent replies
+abbrev pub kept_bytes : PeerState → ℕ
+kept_bytes c = length c.unread + (length c.pending + length c.session.unsent)
 
 -- these bytes are the header that names the peer; if none is expected, the peer is anyone. Before the peer is known, there
 -- is no header, and the session was fed nothing

@@ -1,8 +1,8 @@
 //! One connection of a worker.
-ghost use Rattle.std.specs.Prelude.{◌≡◌, ◌≤◌, ◌+◌, ◌-◌, ◌^◌, None, Some, IfOk, length, min};
+ghost use Rattle.std.specs.Prelude.{◌≡◌, ◌≤◌, ◌+◌, ◌-◌, ◌^◌, None, Some, IfOk, min};
 ghost use Rattle.nmvs_connections.specs.declared.peer_session.Stage.TheVariants as stages;
 ghost use Rattle.nmvs_connections.specs.Memory.{account_of, is_counted};
-ghost use Rattle.nmvs_connections.specs.Peers.{IsConnection, IsLater, Rests};
+ghost use Rattle.nmvs_connections.specs.Peers.{IsConnection, IsLater, Rests, kept_bytes};
 ghost use Rattle.nmvs_connections.specs.Turns.{ConnectionSteps, Kept, TellsOwn};
 
 use crate::next::Next;
@@ -98,7 +98,7 @@ impl<L: LineList> Connection<L> {
     /// before.
     pub(crate) fn count_memory(&mut self, all: usize) -> usize
         ensures session { self.new.session ≡ self.old.session }
-        ensures own { length self.new.session.session.unsent ≤ self.new.memory }
+        ensures own { min (kept_bytes self.new.session) (2 ^ 64 - 1) ≤ self.new.memory }
         ensures all { result ≡ min ((all - self.old.memory) + self.new.memory) (2 ^ 64 - 1) }
     {
         let others = all.saturating_sub(self.memory);

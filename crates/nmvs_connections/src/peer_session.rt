@@ -1,12 +1,12 @@
 //! The session of the peer of a connection, over its bytes.
-ghost use Rattle.std.specs.Prelude.{◌≡◌, ◌≢◌, ◌≤◌, ◌++◌, [], if◌then◌else◌, List, ℕ, Some, None, IfOk, IfSome, IsSome, is_some, length, take, true};
+ghost use Rattle.std.specs.Prelude.{◌≡◌, ◌≢◌, ◌≤◌, ◌-◌, ◌^◌, ◌++◌, [], if◌then◌else◌, List, ℕ, Some, None, IfOk, IfSome, IsSome, is_some, length, min, take, true};
 ghost use Rattle.nmvs_messages.specs.Peers.{TakesFrom};
 ghost use Rattle.nmvs_messages.specs.declared.peer.Peer.TheVariants as peers;
 ghost use Rattle.nmvs_connections.specs.declared.next.Next.{Next as TheNext};
 ghost use Rattle.nmvs_connections.specs.declared.peer_session.Stage.TheVariants as stages;
 ghost use Rattle.nmvs_connections.specs.LineStreams.{EndsIn, before_of, carried};
 ghost use Rattle.nmvs_connections.specs.Memory.{name_of};
-ghost use Rattle.nmvs_connections.specs.Peers.{IsConnection, IsLater, Rests};
+ghost use Rattle.nmvs_connections.specs.Peers.{IsConnection, IsLater, Rests, kept_bytes};
 ghost use Rattle.nmvs_connections.specs.Replies.{Replies};
 ghost use Rattle.nmvs_connections.specs.Turns.{ConnectionSteps, Kept, LinesStep, TellsOwn, WaitsForRelease};
 
@@ -66,12 +66,12 @@ pub(crate) struct PeerSession<L: LineList> {
 }
 
 impl<L: LineList> Model for PeerSession<L> {
-    ghost use Rattle.nmvs_connections.specs.LineStreams.{Behind, before_of, carried};
+    ghost use Rattle.nmvs_connections.specs.LineStreams.{Behind, before_of, carried, pending_of};
     ghost use Rattle.nmvs_connections.specs.Peers.{PeerState, Holds};
 
     ghost Value = { PeerState };
 
-    ghost view = { λ p. record { proxy = p.proxy; peer = p.peer; stage = p.stage; stream = carried p.stream; session = p.session } };
+    ghost view = { λ p. record { proxy = p.proxy; peer = p.peer; stage = p.stage; stream = carried p.stream; session = p.session; unread = p.unread.items; pending = pending_of p.stream.http } };
 
     ghost invariant = { λ p. Holds p.proxy p.peer p.stage (carried p.stream).received (carried p.stream).sent p.session.fed p.session.sent p.unread.items
         × Behind (before_of p.stream.http) p.peer (carried p.stream).received p.session.fed p.unread.items p.stage };
@@ -175,7 +175,7 @@ impl<L: LineList> PeerSession<L> {
     /// The memory of its buffers, in bytes: of unsent replies, of the list that follows them, and of bytes that were read and not
     /// taken.
     pub(crate) fn memory(&self) -> usize
-        ensures { length self.now.session.unsent ≤ result }
+        ensures { min (kept_bytes self.now) (2 ^ 64 - 1) ≤ result }
     {
         let read = self.unread.capacity().saturating_add(self.stream.memory());
         self.session.memory().saturating_add(read)
@@ -237,7 +237,9 @@ impl<L: LineList> PeerSession<L> {
 
     /// Responds to the request in hand, if all its lines are answered.
     fn respond(&mut self)
-        ensures { self.new ≡ self.old }
+        ensures session { self.new.session ≡ self.old.session }
+        ensures rests { Rests self.old self.new }
+        ensures stage { self.new.stage ≡ self.old.stage }
     {
         if !is_answered(&self.session) {
             return;
