@@ -25,11 +25,14 @@ use Rattle.nmvs_protocol.specs.Texts.{last_showing, text as text_of}
 use Rattle.nmvs_stream.specs.InputLines.{input_lines}
 use Rattle.nmvs_connections.specs.declared.next.Next.{Next}
 use Rattle.nmvs_connections.specs.declared.connection.Connection.{Connection}
+use Rattle.nmvs_connections.specs.declared.event_loop.EventLoop.{EventLoop}
 use Rattle.nmvs_connections.specs.Peers.{PeerState, IsConnection, IsLater, IsNamed, NamesPeer, StaysPeer}
 use Rattle.nmvs_connections.specs.declared.peer_session.Stage.TheVariants as stages
 use Rattle.nmvs_connections.specs.Replies.{SessionState, LacksMemory, StaysOrLacks, replied}
-use Rattle.nmvs_connections.specs.Turns.{Taking, Round, held_of, TakesBy, TakesAll, GoesRound, GoesRounds, lines_to, answers_to, takings_in, lines_in, answers_in, Answered, EachGoes, TookUnder, AllBehind, StayBehind, WorkerTurn, Kept, WaitsForRelease, LinesTaken, ConnectionSteps, TellsOwn, TellsPeer, TellsWhereAsked, TellsAll, HasTurn, StepsOrStays, TurnOfOne}
+use Rattle.nmvs_connections.specs.Turns.{Taking, Round, held_of, TakesBy, TakesAll, GoesRound, GoesRounds, lines_to, answers_to, takings_in, lines_in, answers_in, Answered, EachGoes, TookUnder, AllBehind, StayBehind, Stays, OnlyCloses, WorkerTurn, Kept, WaitsForRelease, LinesTaken, ConnectionSteps, TellsOwn, TellsPeer, TellsWhereAsked, TellsAll, HasTurn, StepsOrStays, TurnOfOne}
+use Rattle.nmvs_connections.specs.Memory.{memory_in}
 use Rattle.nmvs_connections.proofs.ConnectionLemmas.{later_then, rests_later}
+use Rattle.nmvs_connections.proofs.MemorySteps.{counted_set}
 
 -- the withheld answers of more takings
 pub held_of-append : (xs ys : List Taking) → held_of (xs ++ ys) ≡ held_of xs ++ held_of ys
@@ -764,16 +767,6 @@ each_set {L} R s key connection connection' was own others =
     let present : IsSome (get s key) = subst (λ (o : Option (Connection L)). IsSome o) was some in
     each_written R s (with_value s key connection') key connection connection' (sym was) (Updates-with_value s key connection' present) own others
 
--- a connection changed, and is behind the gateway still
-pub behind_moved : {L : Type 0} (s : Slab (Connection L)) (key : ℕ) (connection connection' : Connection L) → Some connection ≡ get s key → IsConnection connection'.session → connection'.session.proxy ≡ connection.session.proxy
-    → StayBehind s (with_value s key connection')
-behind_moved s key connection connection' was is proxy =
-    let R = λ (other : ℕ) (a b : PeerState). (IsConnection a → IsConnection b × (b.proxy ≡ a.proxy)) in
-    behind_still R s (with_value s key connection') (each_set R s key connection connection' was (λ _. (is, proxy)) (λ other a apart stands. (stands, refl))) (λ other a b goes. goes)
-
-pub behind_set : {L : Type 0} (s : Slab (Connection L)) (key : ℕ) (connection connection' : Connection L) → Some connection ≡ get s key → connection'.session ≡ connection.session → StayBehind s (with_value s key connection')
-behind_set s key connection connection' was same = behind_same s (with_value s key connection') (each_set (λ other a b. b ≡ a) s key connection connection' was same (λ other a apart. refl))
-
 -- a connection is closed
 pub each_removed : {L : Type 0} (s t : Slab (Connection L)) (key : ℕ) → Updates s t key None → EachGoes (λ other a b. b ≡ a) s t
 each_removed s t key removes = λ other found there. elim (eqb_tells other key) [
@@ -786,6 +779,55 @@ each_removed s t key removes = λ other found there. elim (eqb_tells other key) 
 -- a step that changes no connection, after another
 pub each_still : {L : Type 0} (R : ℕ → PeerState → PeerState → Type 0) (s t u : Slab (Connection L)) → EachGoes R s t → EachGoes (λ other a b. b ≡ a) t u → EachGoes R s u
 each_still R s t u first still = each_then _ _ _ s t u first still (λ other a b c goes same. subst (λ (d : PeerState). R other a d) (sym same) goes)
+
+-- one step of a worker after another
+pub stays_then : {L : Type 0} (a b c : EventLoop L) → Stays a b → Stays b c → Stays a c
+stays_then a b c first second = (λ proxy all. second.0 proxy (first.0 proxy all), λ counted. second.1 (first.1 counted))
+
+pub closes_then : {L : Type 0} (a b c : EventLoop L) → OnlyCloses a b → OnlyCloses b c → OnlyCloses a c
+closes_then a b c first second =
+    (second.0 ∙ first.0, each_still (λ key x y. y ≡ x) a.connections b.connections c.connections first.1 second.1, λ counted. second.2 (first.2 counted))
+
+pub stays_closed : {L : Type 0} (a b : EventLoop L) → OnlyCloses a b → Stays a b
+stays_closed a b closes = (behind_same a.connections b.connections closes.1, closes.2)
+
+-- no connection is touched
+pub stays_same : {L : Type 0} (a b : EventLoop L) → b.connections ≡ a.connections → b.memory ≡ a.memory → Stays a b
+stays_same {L} a b same all = (
+  λ proxy behind. subst (λ (s : Slab (Connection L)). AllBehind proxy s) (sym same) behind,
+  λ counted. all ∙ counted ∙ ap (λ (s : Slab (Connection L)). memory_in s.slots) (sym same),
+)
+
+pub closes_none : {L : Type 0} (a b : EventLoop L) → b.awaiting ≡ a.awaiting → b.connections ≡ a.connections → b.memory ≡ a.memory → OnlyCloses a b
+closes_none {L} a b awaiting same all = (
+  awaiting,
+  subst (λ (s : Slab (Connection L)). EachGoes (λ key x y. y ≡ x) a.connections s) (sym same) (each_stays (λ key x y. y ≡ x) a.connections (λ key x. refl)),
+  (stays_same a b same all).1,
+)
+
+-- one connection was written
+pub stays_set : {L : Type 0} (a b : EventLoop L) (key : ℕ) (connection connection' : Connection L) → Some connection ≡ get a.connections key → b.connections ≡ with_value a.connections key connection' → b.memory ≡ a.memory
+    → connection'.memory ≡ connection.memory → IsConnection connection'.session → connection'.session.proxy ≡ connection.session.proxy → Stays a b
+stays_set {L} a b key connection connection' was writes all memory is proxy =
+    let R = λ (other : ℕ) (x y : PeerState). (IsConnection x → IsConnection y × (y.proxy ≡ x.proxy)) in
+    let behind = behind_still R a.connections (with_value a.connections key connection')
+    (each_set R a.connections key connection connection' was (λ _. (is, proxy)) (λ other x apart stands. (stands, refl))) (λ other x y goes. goes) in (
+      λ gateway before. subst (λ (s : Slab (Connection L)). AllBehind gateway s) (sym writes) (behind gateway before),
+      λ counted. all ∙ counted_set a.connections key connection connection' a.memory was memory counted ∙ ap (λ (s : Slab (Connection L)). memory_in s.slots) (sym writes),
+    )
+
+pub closes_set : {L : Type 0} (a b : EventLoop L) (key : ℕ) (connection connection' : Connection L) → Some connection ≡ get a.connections key → b.connections ≡ with_value a.connections key connection' → b.memory ≡ a.memory
+    → b.awaiting ≡ a.awaiting → connection'.memory ≡ connection.memory → connection'.session ≡ connection.session → OnlyCloses a b
+closes_set {L} a b key connection connection' was writes all awaiting memory same = (
+  awaiting,
+  subst (λ (s : Slab (Connection L)). EachGoes (λ other x y. y ≡ x) a.connections s) (sym writes)
+      (each_set (λ other x y. y ≡ x) a.connections key connection connection' was same (λ other x apart. refl)),
+  λ counted. all ∙ counted_set a.connections key connection connection' a.memory was memory counted ∙ ap (λ (s : Slab (Connection L)). memory_in s.slots) (sym writes),
+)
+
+pub stays_written : {L : Type 0} (a b : EventLoop L) (key : ℕ) (connection connection' : Connection L) → Some connection ≡ get a.connections key → b.connections ≡ with_value a.connections key connection' → b.memory ≡ a.memory
+    → b.awaiting ≡ a.awaiting → connection'.memory ≡ connection.memory → connection'.session ≡ connection.session → Stays a b
+stays_written a b key connection connection' was writes all awaiting memory same = stays_closed a b (closes_set a b key connection connection' was writes all awaiting memory same)
 
 -- the turn of one connection, which is then noted as waiting or not
 pub turn_of_one : {D L : Type 0} (takes : D → Peer → Ask → Withheld → D → Type 0) (key : ℕ) (old new : D) (withheld withheld' : List Withheld) (awaiting awaiting' : List ℕ) (next : Next)

@@ -13,8 +13,10 @@ use Rattle.nmvs_protocol.specs.Progress.{LastShows}
 use Rattle.nmvs_protocol.specs.Session.{TakesLines, ReleasesAll, session_text}
 use Rattle.nmvs_stream.specs.InputLines.{input_lines}
 use Rattle.nmvs_connections.specs.declared.connection.Connection.{Connection}
+use Rattle.nmvs_connections.specs.declared.event_loop.EventLoop.{EventLoop}
 use Rattle.nmvs_connections.specs.declared.next.Next.{Next}
 use Rattle.nmvs_connections.specs.declared.next.Next.TheVariants as nexts
+use Rattle.nmvs_connections.specs.Memory.{IsCounted}
 use Rattle.nmvs_connections.specs.Peers.{PeerState, IsConnection, IsLater, IsNamed, StaysPeer}
 use Rattle.nmvs_connections.specs.Replies.{SessionState, TellsPart, LacksMemory, replied}
 
@@ -115,6 +117,14 @@ AllBehind {L} proxy connections = (key : ℕ) (connection : Connection L) → ge
 
 abbrev pub StayBehind : {L : Type 0} → Slab (Connection L) → Slab (Connection L) → Type 0
 StayBehind old new = (proxy : Option NameOf) → AllBehind proxy old → AllBehind proxy new
+
+-- what holds between two turns: each connection is behind the gateway, and what is counted is the sum of what they take
+abbrev pub Stays : {L : Type 0} → EventLoop L → EventLoop L → Type 0
+Stays old new = StayBehind old.connections new.connections × (IsCounted old → IsCounted new)
+
+-- connections may have been closed, and no other has changed; what is counted is still the sum of what they take
+abbrev pub OnlyCloses : {L : Type 0} → EventLoop L → EventLoop L → Type 0
+OnlyCloses old new = (new.awaiting ≡ old.awaiting) × EachGoes (λ key state state'. state' ≡ state) old.connections new.connections × (IsCounted old → IsCounted new)
 
 -- a turn of a worker: rounds take the desk from old to new, each line as one of its own connection's peer, whether that is there
 -- still or not; behind a gateway nobody is anyone; and each connection that is there, and waited for no answer, is answered in

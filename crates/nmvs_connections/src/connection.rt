@@ -1,7 +1,7 @@
 //! One connection of a worker.
-ghost use Rattle.std.specs.Prelude.{◌≡◌, ◌≤◌, ◌+◌, ◌-◌, ◌^◌, None, Some, IfOk, min};
+ghost use Rattle.std.specs.Prelude.{◌≡◌, ◌-◌, None, Some, IfOk};
 ghost use Rattle.nmvs_connections.specs.declared.peer_session.Stage.TheVariants as stages;
-ghost use Rattle.nmvs_connections.specs.Memory.{account_of, is_counted};
+ghost use Rattle.nmvs_connections.specs.Memory.{CountsMemory, account_of, is_counted};
 ghost use Rattle.nmvs_connections.specs.Peers.{IsConnection, IsLater, Rests, kept_bytes};
 ghost use Rattle.nmvs_connections.specs.Turns.{ConnectionSteps, Kept, TellsOwn};
 
@@ -67,7 +67,7 @@ impl<L: LineList> Connection<L> {
         proxy: Option<NameOf>,
         now: Instant,
     ) -> Result<Connection<L>, AllocError>
-        ensures { IfOk result (λ connection. IsConnection connection.session × (connection.session.proxy ≡ proxy)) }
+        ensures { IfOk result (λ connection. IsConnection connection.session × (connection.session.proxy ≡ proxy) × (connection.memory ≡ 0)) }
     {
         let number = accepted.number;
         let origin = origin_of(alloc, accepted.address)?;
@@ -89,7 +89,7 @@ impl<L: LineList> Connection<L> {
 
     /// Registers the connection with a poll, under the key.
     pub(crate) fn register(&mut self, registry: &Registry, key: usize) -> io::Result<()>
-        ensures { self.new.session ≡ self.old.session }
+        ensures { (self.new.session ≡ self.old.session) × (self.new.memory ≡ self.old.memory) }
     {
         self.session.register(registry, key)
     }
@@ -98,13 +98,12 @@ impl<L: LineList> Connection<L> {
     /// before.
     pub(crate) fn count_memory(&mut self, all: usize) -> usize
         ensures session { self.new.session ≡ self.old.session }
-        ensures own { min (kept_bytes self.new.session) (2 ^ 64 - 1) ≤ self.new.memory }
-        ensures all { result ≡ min ((all - self.old.memory) + self.new.memory) (2 ^ 64 - 1) }
+        ensures all { CountsMemory (kept_bytes self.new.session) (all - self.old.memory) self.new.memory result }
     {
         let others = all.saturating_sub(self.memory);
-        self.memory = self.session.memory();
+        self.memory = self.session.memory().min(usize::MAX - others);
         self.unfinished = self.session.has_pending_line();
-        others.saturating_add(self.memory)
+        others + self.memory
     }
 
     /// The name under which the memory of its buffers is counted: that of the peer's certificate, or else that of its address.
@@ -130,7 +129,7 @@ impl<L: LineList> Connection<L> {
 
     /// Notes that the peer ended or broke the connection.
     pub(crate) fn on_peer_closed(&mut self)
-        ensures { self.new.session ≡ self.old.session }
+        ensures { (self.new.session ≡ self.old.session) × (self.new.memory ≡ self.old.memory) }
     {
         self.peer_closed = true;
     }
@@ -159,7 +158,7 @@ impl<L: LineList> Connection<L> {
 
     /// Ends the session after the lines that were read.
     pub(crate) fn stop(&mut self)
-        ensures { self.new.session ≡ self.old.session }
+        ensures { (self.new.session ≡ self.old.session) × (self.new.memory ≡ self.old.memory) }
     {
         self.stopped = true;
     }
@@ -173,7 +172,8 @@ impl<L: LineList> Connection<L> {
         withheld: &mut WithheldAnswers,
         desk: &mut D,
     ) -> Next
-        ensures { ConnectionSteps D.takes desk.old desk.new withheld.old withheld.new result self.old.session self.new.session }
+        ensures memory { self.new.memory ≡ self.old.memory }
+        ensures steps { ConnectionSteps D.takes desk.old desk.new withheld.old withheld.new result self.old.session self.new.session }
     {
         match self.send(scratch.now) {
             Next::Again => {}
@@ -194,6 +194,7 @@ impl<L: LineList> Connection<L> {
         requires told { self.old.session.session.waiting ≡ 0 }
         ensures kept { Kept self.old.session.session self.new.session.session }
         ensures rests { Rests self.old.session self.new.session }
+        ensures memory { self.new.memory ≡ self.old.memory }
     {
         if self.session.more(scratch, desk).is_err() {
             return Next::Close;
@@ -215,7 +216,8 @@ impl<L: LineList> Connection<L> {
         withheld: &mut WithheldAnswers,
         desk: &mut D,
     ) -> Next
-        ensures { ConnectionSteps D.takes desk.old desk.new withheld.old withheld.new result self.old.session self.new.session }
+        ensures steps { ConnectionSteps D.takes desk.old desk.new withheld.old withheld.new result self.old.session self.new.session }
+        ensures memory { self.new.memory ≡ self.old.memory }
     {
         match self.session.stage() {
             Stage::Serving => {}
@@ -249,6 +251,7 @@ impl<L: LineList> Connection<L> {
         requires serving { self.old.session.stage ≡ stages.Serving }
         ensures session { self.new.session.session ≡ self.old.session.session }
         ensures later { IsLater self.old.session self.new.session }
+        ensures memory { self.new.memory ≡ self.old.memory }
     {
         if self.stopped {
             return Next::Close;
@@ -266,6 +269,7 @@ impl<L: LineList> Connection<L> {
         requires { self.old.session.stage ≡ stages.Ending }
         ensures session { self.new.session.session ≡ self.old.session.session }
         ensures rests { Rests self.old.session self.new.session }
+        ensures memory { self.new.memory ≡ self.old.memory }
     {
         self.moved = now;
         if self.was_idle {
@@ -278,7 +282,8 @@ impl<L: LineList> Connection<L> {
 
     /// Notes that bytes were moved now, if they were.
     fn note_moved(&mut self, moved: bool, now: Instant)
-        ensures { self.new.session ≡ self.old.session }
+        ensures session { self.new.session ≡ self.old.session }
+        ensures memory { self.new.memory ≡ self.old.memory }
     {
         if moved {
             self.moved = now;
@@ -289,6 +294,7 @@ impl<L: LineList> Connection<L> {
     fn send(&mut self, now: Instant) -> Next
         ensures kept { Kept self.old.session.session self.new.session.session }
         ensures rests { Rests self.old.session self.new.session }
+        ensures memory { self.new.memory ≡ self.old.memory }
     {
         if self.session.is_sent() {
             return Next::Again;
@@ -307,6 +313,7 @@ impl<L: LineList> Connection<L> {
     pub(crate) fn tell(&mut self, scratch: &mut Scratch, released: &Released<'_>) -> Next
         ensures tells { TellsOwn released.now self.old.session.session self.new.session.session }
         ensures rests { Rests self.old.session self.new.session }
+        ensures memory { self.new.memory ≡ self.old.memory }
     {
         self.session.tell(scratch, released);
         match self.send(scratch.now) {
@@ -327,7 +334,8 @@ impl<L: LineList> Connection<L> {
 
     /// The next step of the connection by the time that has passed.
     pub(crate) fn check_timeouts(&mut self, now: Instant, idle: Option<Duration>) -> Next
-        ensures { Rests self.old.session self.new.session }
+        ensures rests { Rests self.old.session self.new.session }
+        ensures memory { self.new.memory ≡ self.old.memory }
     {
         let age = now.duration_since(self.moved);
         let stage = self.session.stage();

@@ -1,11 +1,12 @@
 //! The loop of a worker.
-ghost use Rattle.std.specs.Prelude.{◌≡◌, ◌≢◌, ◌≤◌, ◌<◌, ◌-◌, ◌++◌, ◌∷◌, [], ℕ, Option, Some, None, IsSome, IfOk};
+ghost use Rattle.std.specs.Prelude.{◌≡◌, ◌≢◌, ◌≤◌, ◌<◌, ◌-◌, ◌^◌, ◌⊎◌, ◌++◌, ◌∷◌, [], ℕ, Option, Some, None, IsSome, IfOk};
 ghost use Rattle.std.specs.List.{Contains};
 ghost use Rattle.slab.specs.Slab.{get, slab_len};
 ghost use Rattle.nmvs_connections.specs.declared.connection.Connection.{Connection as TheConnection};
-ghost use Rattle.nmvs_connections.specs.Memory.{CountsMemory, IsEvictedFirst, IsLargest, TakeAtMost, memory_of};
+ghost use Rattle.nmvs_connections.specs.Memory.{IsCounted, IsEvictedFirst, IsLargest, TakeAtMost};
 ghost use Rattle.nmvs_messages.specs.declared.peer.NameOf.{NameOf as TheNameOf};
-ghost use Rattle.nmvs_connections.specs.Turns.{AllBehind, EachGoes, StayBehind, WaitsForRelease, TellsAll, TellsPeer, TellsWhereAsked, TurnOfOne, WorkerTurn};
+ghost use Rattle.nmvs_connections.specs.Peers.{kept_bytes};
+ghost use Rattle.nmvs_connections.specs.Turns.{AllBehind, EachGoes, OnlyCloses, Stays, WaitsForRelease, TellsAll, TellsPeer, TellsWhereAsked, TurnOfOne, WorkerTurn};
 
 use crate::accounts::{heaviest, largest_of};
 use crate::connection::Connection;
@@ -69,7 +70,8 @@ struct EventLoop<L: LineList> {
 
 impl<L: LineList> EventLoop<L> {
     fn new(alloc: Global, worker: usize, now: Instant) -> EventLoop<L>
-        ensures { (proxy : Option TheNameOf) → AllBehind proxy result.connections }
+        ensures behind { (proxy : Option TheNameOf) → AllBehind proxy result.connections }
+        ensures counted { IsCounted result }
     {
         EventLoop {
             alloc,
@@ -94,7 +96,8 @@ impl<L: LineList> EventLoop<L> {
         scratch: &mut Scratch,
         desk: &mut D,
     ) -> io::Result<()>
-        requires { AllBehind pool.now.proxy self.old.connections }
+        requires behind { AllBehind pool.now.proxy self.old.connections }
+        requires counted { IsCounted self.old }
     {
         let mut withheld = WithheldAnswers::new();
         for _ in 0..u64::MAX {
@@ -128,7 +131,7 @@ impl<L: LineList> EventLoop<L> {
 
     /// Notes the system's reports. The result is whether the worker was woken.
     fn note_all(&mut self, events: &Events) -> bool
-        ensures { StayBehind self.old.connections self.new.connections }
+        ensures { Stays self.old self.new }
     {
         let mut woken = false;
         for event in events {
@@ -142,7 +145,7 @@ impl<L: LineList> EventLoop<L> {
     }
 
     fn note(&mut self, event: &Event)
-        ensures { StayBehind self.old.connections self.new.connections }
+        ensures { Stays self.old self.new }
     {
         let key = event.token().0;
         if let Some(connection) = self.connections.get_mut(key) {
@@ -155,7 +158,7 @@ impl<L: LineList> EventLoop<L> {
 
     /// Queues a connection for its turn, if it is not queued yet.
     fn queue(&mut self, key: usize)
-        ensures { StayBehind self.old.connections self.new.connections }
+        ensures { Stays self.old self.new }
     {
         let Some(connection) = self.connections.get_mut(key) else {
             return;
@@ -174,7 +177,8 @@ impl<L: LineList> EventLoop<L> {
         registry: &Registry,
         scratch: &Scratch,
     )
-        ensures { AllBehind pool.now.proxy self.old.connections → AllBehind pool.now.proxy self.new.connections }
+        ensures behind { AllBehind pool.now.proxy self.old.connections → AllBehind pool.now.proxy self.new.connections }
+        ensures counted { IsCounted self.old → IsCounted self.new }
     {
         for _ in 0..u64::MAX {
             let Some(accepted) = pool.next_accepted(rt, self.worker) else {
@@ -193,7 +197,8 @@ impl<L: LineList> EventLoop<L> {
         accepted: Accepted,
         scratch: &Scratch,
     ) -> io::Result<()>
-        ensures { AllBehind pool.now.proxy self.old.connections → AllBehind pool.now.proxy self.new.connections }
+        ensures behind { AllBehind pool.now.proxy self.old.connections → AllBehind pool.now.proxy self.new.connections }
+        ensures counted { IsCounted self.old → IsCounted self.new }
     {
         let most = self.connections.len().saturating_add(1);
         self.turns.reserve(most)?;
@@ -209,7 +214,7 @@ impl<L: LineList> EventLoop<L> {
 
     /// Checks whether the service ends.
     fn check_shutdown<R: Wait + Log>(&mut self, rt: &R, pool: &WorkerPool<'_>)
-        ensures { StayBehind self.old.connections self.new.connections }
+        ensures { Stays self.old self.new }
     {
         if !pool.is_closing(rt) {
             return;
@@ -227,7 +232,7 @@ impl<L: LineList> EventLoop<L> {
 
     /// Whether a connection is served to its end: one in which a line was served, or each one if the service was stopped.
     fn is_served(&mut self, key: usize, stopped: bool) -> Option<bool>
-        ensures { StayBehind self.old.connections self.new.connections }
+        ensures { Stays self.old self.new }
     {
         let connection = self.connections.get_mut(key)?;
         if stopped {
@@ -250,6 +255,7 @@ impl<L: LineList> EventLoop<L> {
         requires behind { AllBehind pool.now.proxy self.old.connections }
         ensures none_withheld { withheld.new ≡ [] }
         ensures behind { AllBehind pool.now.proxy self.new.connections }
+        ensures counted { IsCounted self.old → IsCounted self.new }
         ensures turn { WorkerTurn pool.now.proxy D.takes D.releases D.moves desk.old desk.new self.old.connections self.new.connections }
     {
         scratch.reported = false;
@@ -284,7 +290,8 @@ impl<L: LineList> EventLoop<L> {
         withheld: &mut WithheldAnswers,
         desk: &mut D,
     ) -> bool
-        ensures { TurnOfOne D.takes key desk.old desk.new withheld.old withheld.new self.old.awaiting.items self.new.awaiting.items self.old.connections self.new.connections }
+        ensures counted { IsCounted self.old → IsCounted self.new }
+        ensures turn { TurnOfOne D.takes key desk.old desk.new withheld.old withheld.new self.old.awaiting.items self.new.awaiting.items self.old.connections self.new.connections }
     {
         let Some(connection) = self.connections.get_mut(key) else {
             return false;
@@ -301,6 +308,7 @@ impl<L: LineList> EventLoop<L> {
         ensures asks { WaitsForRelease next → (connection : TheConnection L) → get self.new.connections key ≡ Some connection → Contains self.new.awaiting.items key }
         ensures still { (other : ℕ) → Contains self.old.awaiting.items other → Contains self.new.awaiting.items other }
         ensures connections { EachGoes (λ key state state'. state' ≡ state) self.old.connections self.new.connections }
+        ensures counted { IsCounted self.old → IsCounted self.new }
     {
         match next {
             Next::WaitRelease | Next::ReleaseNow => self.note_awaiting(rt, pool, key),
@@ -320,6 +328,7 @@ impl<L: LineList> EventLoop<L> {
     )
         ensures none_withheld { withheld.new ≡ [] }
         ensures none_asks { self.new.awaiting.items ≡ [] }
+        ensures counted { IsCounted self.old → IsCounted self.new }
         ensures tells { TellsAll D.releases D.moves desk.old desk.new withheld.old self.old.awaiting.items self.old.connections self.new.connections }
     {
         if withheld.len() == 0 {
@@ -341,6 +350,7 @@ impl<L: LineList> EventLoop<L> {
         released: &Released<'_>,
     )
         ensures none_asks { self.new.awaiting.items ≡ [] }
+        ensures counted { IsCounted self.old → IsCounted self.new }
         ensures tells { EachGoes (TellsWhereAsked released.now self.old.awaiting.items) self.old.connections self.new.connections }
     {
         while let Some(key) = self.awaiting.pop() {
@@ -358,6 +368,7 @@ impl<L: LineList> EventLoop<L> {
         released: &Released<'_>,
     )
         ensures awaiting { self.new.awaiting ≡ self.old.awaiting }
+        ensures counted { IsCounted self.old → IsCounted self.new }
         ensures tells { EachGoes (λ other state state'. (other ≡ key → TellsPeer released.now state state') × (other ≢ key → state' ≡ state)) self.old.connections self.new.connections }
     {
         let Some(connection) = self.connections.get_mut(key) else {
@@ -371,8 +382,7 @@ impl<L: LineList> EventLoop<L> {
     /// Takes the next step of a connection that waits for no release. If the buffers of all connections take too much memory
     /// then, some connections are closed.
     fn go_on<R: Wait + Log>(&mut self, rt: &R, pool: &WorkerPool<'_>, key: usize, next: Next)
-        ensures awaiting { self.new.awaiting ≡ self.old.awaiting }
-        ensures connections { EachGoes (λ key state state'. state' ≡ state) self.old.connections self.new.connections }
+        ensures closes { OnlyCloses self.old self.new }
         ensures memory { TakeAtMost pool.now.memory self.new.connections self.new.memory }
     {
         self.count_memory(key);
@@ -382,9 +392,8 @@ impl<L: LineList> EventLoop<L> {
 
     /// Counts the memory of the buffers of a connection anew.
     fn count_memory(&mut self, key: usize)
-        ensures awaiting { self.new.awaiting ≡ self.old.awaiting }
-        ensures connections { EachGoes (λ key state state'. state' ≡ state) self.old.connections self.new.connections }
-        ensures memory { CountsMemory (get self.old.connections key) (get self.new.connections key) self.old.memory self.new.memory }
+        ensures closes { OnlyCloses self.old self.new }
+        ensures own { (connection : TheConnection L) → get self.new.connections key ≡ Some connection → (kept_bytes connection.session ≤ connection.memory) ⊎ (self.new.memory ≡ 2 ^ 64 - 1) }
     {
         if let Some(connection) = self.connections.get_mut(key) {
             self.memory = connection.count_memory(self.memory);
@@ -399,8 +408,7 @@ impl<L: LineList> EventLoop<L> {
         key: usize,
         next: Next,
     )
-        ensures awaiting { self.new.awaiting ≡ self.old.awaiting }
-        ensures connections { EachGoes (λ key state state'. state' ≡ state) self.old.connections self.new.connections }
+        ensures closes { OnlyCloses self.old self.new }
     {
         match next {
             Next::Again => self.queue_later(key),
@@ -414,6 +422,7 @@ impl<L: LineList> EventLoop<L> {
         ensures asks { (connection : TheConnection L) → get self.new.connections key ≡ Some connection → self.new.awaiting.items ≡ self.old.awaiting.items ++ key ∷ [] }
         ensures still { (other : ℕ) → Contains self.old.awaiting.items other → Contains self.new.awaiting.items other }
         ensures connections { EachGoes (λ key state state'. state' ≡ state) self.old.connections self.new.connections }
+        ensures counted { IsCounted self.old → IsCounted self.new }
     {
         // Room was made when the connection was admitted.
         if self.awaiting.push(key).is_err() {
@@ -422,8 +431,7 @@ impl<L: LineList> EventLoop<L> {
     }
 
     fn queue_later(&mut self, key: usize)
-        ensures awaiting { self.new.awaiting ≡ self.old.awaiting }
-        ensures connections { EachGoes (λ key state state'. state' ≡ state) self.old.connections self.new.connections }
+        ensures closes { OnlyCloses self.old self.new }
     {
         if let Some(connection) = self.connections.get_mut(key) {
             connection.queued = self.later.push(key).is_ok();
@@ -433,8 +441,7 @@ impl<L: LineList> EventLoop<L> {
     /// Closes connections, at each step the largest of the peer that keeps most, until the buffers of all take no more than this.
     /// If memory for the counts is refused, it is the largest of all.
     fn evict<R: Wait + Log>(&mut self, rt: &R, pool: &WorkerPool<'_>, most: usize)
-        ensures awaiting { self.new.awaiting ≡ self.old.awaiting }
-        ensures connections { EachGoes (λ key state state'. state' ≡ state) self.old.connections self.new.connections }
+        ensures closes { OnlyCloses self.old self.new }
         ensures within { self.old.memory ≤ most → self.new ≡ self.old }
         ensures memory { TakeAtMost most self.new.connections self.new.memory }
     {
@@ -487,36 +494,22 @@ impl<L: LineList> EventLoop<L> {
 
     /// Closes a connection at its end.
     fn remove<R: Wait + Log>(&mut self, rt: &R, pool: &WorkerPool<'_>, key: usize)
-        ensures awaiting { self.new.awaiting ≡ self.old.awaiting }
         ensures gone { get self.new.connections key ≡ None }
-        ensures connections { EachGoes (λ key state state'. state' ≡ state) self.old.connections self.new.connections }
+        ensures closes { OnlyCloses self.old self.new }
     {
         self.close(rt, pool, key, self.reason(key));
     }
 
     /// Closes a connection, and logs this reason.
     fn close<R: Wait + Log>(&mut self, rt: &R, pool: &WorkerPool<'_>, key: usize, reason: &str)
-        ensures awaiting { self.new.awaiting ≡ self.old.awaiting }
         ensures gone { get self.new.connections key ≡ None }
-        ensures connections { EachGoes (λ key state state'. state' ≡ state) self.old.connections self.new.connections }
-        ensures memory { self.new.memory ≡ self.old.memory - memory_of (get self.old.connections key) }
+        ensures closes { OnlyCloses self.old self.new }
         ensures one { IsSome (get self.old.connections key) → slab_len self.new.connections < slab_len self.old.connections }
     {
         self.log_end(rt, key, reason);
-        let memory = self.memory_of(key);
-        if self.connections.try_remove(key).is_some() {
-            self.memory = self.memory.saturating_sub(memory);
+        if let Some(connection) = self.connections.try_remove(key) {
+            self.memory = self.memory.saturating_sub(connection.memory);
             pool.leave(rt, self.worker);
-        }
-    }
-
-    /// The memory of the buffers of a connection at the last count, or 0 if there is none.
-    fn memory_of(&self, key: usize) -> usize
-        ensures { result ≡ memory_of (get self.now.connections key) }
-    {
-        match self.connections.get(key) {
-            Some(connection) => connection.memory,
-            None => 0,
         }
     }
 
@@ -546,7 +539,7 @@ impl<L: LineList> EventLoop<L> {
 
     /// Looks for connections that waited too long, if a tick has passed.
     fn check_timeouts<R: Wait + Log>(&mut self, rt: &R, pool: &WorkerPool<'_>, now: Instant)
-        ensures { StayBehind self.old.connections self.new.connections }
+        ensures { Stays self.old self.new }
     {
         if now.duration_since(self.looked).as_secs() < TICK {
             return;
@@ -567,7 +560,7 @@ impl<L: LineList> EventLoop<L> {
 
     /// The next step of a connection by the time that has passed.
     fn next_by_time(&mut self, key: usize, now: Instant, idle: Option<Duration>) -> Next
-        ensures { StayBehind self.old.connections self.new.connections }
+        ensures { Stays self.old self.new }
     {
         let Some(connection) = self.connections.get_mut(key) else {
             return Next::WaitIo;
