@@ -1,5 +1,5 @@
 -- The fields of a question of JSON are those of one line.
-use Rattle.std.proofs.Common.{◌≡◌, ◌≢◌, ◌+◌, ◌==◌, not, ℕ, zero, suc, Bool, true, false, List, [], ◌∷◌, ◌++◌, length, get_or, Option, Some, None, Result, Ok, Err, codes, cond, refl, sym, ap, ◌∙◌, subst, arith, append_assoc}
+use Rattle.std.proofs.Common.{◌≡◌, ◌≢◌, ◌+◌, ◌==◌, ◌&&◌, ◌||◌, not, ℕ, zero, suc, Bool, true, false, List, [], ◌∷◌, ◌++◌, length, get_or, Option, Some, None, Result, Ok, Err, codes, cond, refl, sym, ap, ◌∙◌, subst, arith, append_assoc}
 use Rattle.std.specs.Prelude.{IsSomeAnd, option_and_then, option_map}
 use Rattle.std.specs.Char.{is_ascii_graphic}
 use Rattle.std.specs.List.{list_all, AllByRecursion}
@@ -26,7 +26,7 @@ use Rattle.nmvs_json.specs.declared.asked_kind.AskedKind.{AskedKind}
 use Rattle.nmvs_json.specs.declared.asked_kind.AskedKind.TheVariants.{Question, Report}
 use Rattle.nmvs_json.specs.declared.question_fault.QuestionFault.{QuestionFault}
 use Rattle.nmvs_json.specs.declared.question_fault.QuestionFault.TheVariants as fault
-use Rattle.nmvs_json.specs.Questions.{as_field, as_user, condition_texts, count_of, fields_of, has_condition, has_scan, has_scanned, is_field, is_key, is_matching, key_text, line_of, line_of_object, name_texts, names_of, object_in, pack_texts, printed_in, printed_of, printed_texts, question_line, scan_printed, scan_values, scanned_in, scanned_of, string_of, subject_count, subject_of, text_of, texts_of, user_of, with_scanned, within, word_of}
+use Rattle.nmvs_json.specs.Questions.{as_field, as_user, condition_texts, count_of, fields_of, has_condition, has_scan, has_scanned, is_field, is_key, is_matching, is_misread, key_text, line_of, line_of_object, name_texts, names_of, object_in, pack_texts, printed_in, printed_of, printed_texts, question_line, said_in, scan_printed, scan_values, scanned_in, scanned_of, shown_texts, string_of, subject_count, subject_of, text_of, texts_of, user_of, with_scanned, within, word_of, values_in}
 use Rattle.nmvs_json.specs.Scans.{pack_in}
 use Rattle.nmvs_json.proofs.ScanLemmas.{printed_plain, texts_plain}
 use Rattle.nmvs_http.specs.OneLine.{IsAskedByOneLine, IsOneLine, fields_behind, key_tag}
@@ -149,12 +149,16 @@ printed_graphic : (kind : AskedKind) (j : Json) (scanned : Option Printed) → s
 unfolding scanned_of
 printed_graphic kind j scanned e = by (has_scanned kind j) (get (codes "scanned") j) e
   where
-    its : (v : Json) (o : Option Printed) → printed_in v ≡ o → option_map Some o ≡ Some scanned → AllByRecursion IsGraphic (printed_texts scanned)
-    its v None p e = absurd (cc e)
-    its v (Some printed) p e = subst (λ (s : Option Printed). AllByRecursion IsGraphic (printed_texts s)) (same_Some (Some printed) scanned e) (in_graphic v printed p)
-
     none : None ≡ scanned → AllByRecursion IsGraphic (printed_texts scanned)
     none same = subst (λ (s : Option Printed). AllByRecursion IsGraphic (printed_texts s)) same (refl, (refl, tt))
+
+    read : (v : Json) (o : Option Printed) → printed_in v ≡ o → o ≡ scanned → AllByRecursion IsGraphic (printed_texts scanned)
+    read v None p e = none e
+    read v (Some printed) p e = subst (λ (s : Option Printed). AllByRecursion IsGraphic (printed_texts s)) e (in_graphic v printed p)
+
+    its : (v : Json) (o : Option (List (List ℕ))) → option_map (λ _. printed_in v) o ≡ Some scanned → AllByRecursion IsGraphic (printed_texts scanned)
+    its v None e = absurd (cc e)
+    its v (Some ts) e = read v (printed_in v) refl (same_Some (printed_in v) scanned e)
 
     on : (b : Bool) (o : Option (List ℕ)) → Some (cond b (option_and_then (λ scan. scan_printed (pack_in scan)) o) None) ≡ Some scanned → AllByRecursion IsGraphic (printed_texts scanned)
     on false o e = none (same_Some None scanned e)
@@ -162,19 +166,39 @@ printed_graphic kind j scanned e = by (has_scanned kind j) (get (codes "scanned"
     on true (Some scan) e =
         subst (λ (s : Option Printed). AllByRecursion IsGraphic (printed_texts s)) (same_Some (scan_printed (pack_in scan)) scanned e) (all_graphic (printed_texts (scan_printed (pack_in scan))) (printed_plain scan))
 
-    by : (b : Bool) (r : Option Json) → cond b (option_map Some (option_and_then printed_in r)) (Some (scan_values kind j)) ≡ Some scanned → AllByRecursion IsGraphic (printed_texts scanned)
+    by : (b : Bool) (r : Option Json) → cond b (option_and_then values_in r) (Some (scan_values kind j)) ≡ Some scanned → AllByRecursion IsGraphic (printed_texts scanned)
     by true None e = absurd (cc e)
-    by true (Some v) e = its v (printed_in v) refl e
+    by true (Some v) e = its v (said_in v) e
     by false r e = on (has_scan kind j) (string_of (codes "scan") j) e
+
+-- misread texts are such fields
+said_graphic : (v : Json) (ts : List (List ℕ)) → said_in v ≡ Some ts → AllByRecursion IsGraphic ts
+said_graphic v ts e = by (count_of v == 2) e
+  where
+    by : (b : Bool) → cond b (texts_of (codes "batch" ∷ codes "expiry" ∷ []) v) None ≡ Some ts → AllByRecursion IsGraphic ts
+    by false e = absurd (cc e)
+    by true e = texts_graphic (codes "batch" ∷ codes "expiry" ∷ []) v ts e
+
+shown_graphic : (kind : AskedKind) (j : Json) (scanned : Option Printed) (ts : List (List ℕ)) → AllByRecursion IsGraphic (printed_texts scanned) → shown_texts kind j scanned ≡ Some ts → AllByRecursion IsGraphic ts
+shown_graphic kind j scanned ts printed e = by (is_misread kind j scanned) (get (codes "scanned") j) e
+  where
+    by : (b : Bool) (r : Option Json) → cond b (option_and_then said_in r) (Some (printed_texts scanned)) ≡ Some ts → AllByRecursion IsGraphic ts
+    by true None e = absurd (cc e)
+    by true (Some v) e = said_graphic v ts e
+    by false r e = subst (λ (us : List (List ℕ)). AllByRecursion IsGraphic us) (same_Some (printed_texts scanned) ts e) printed
 
 condition_graphic : (kind : AskedKind) (j : Json) (scanned : Option Printed) (ts : List (List ℕ)) → AllByRecursion IsGraphic (printed_texts scanned) → condition_texts kind j scanned ≡ Some ts → AllByRecursion IsGraphic ts
 unfolding condition_texts
-condition_graphic kind j scanned ts printed e = by (has_condition kind j) (is_matching (string_of (codes "if_scanned") j)) e
+condition_graphic kind j scanned ts printed e =
+    by (has_condition kind j && not (is_matching (string_of (codes "if_scanned") j))) (has_condition kind j || is_misread kind j scanned) (shown_texts kind j scanned)
+    (λ us same. shown_graphic kind j scanned us printed same) e
   where
-    by : (has matching : Bool) → cond has (cond matching (Some (codes "IF" ∷ printed_texts scanned)) None) (Some []) ≡ Some ts → AllByRecursion IsGraphic ts
-    by false matching e = subst (λ (us : List (List ℕ)). AllByRecursion IsGraphic us) (same_Some [] ts e) tt
-    by true false e = absurd (cc e)
-    by true true e = subst (λ (us : List (List ℕ)). AllByRecursion IsGraphic us) (same_Some (codes "IF" ∷ printed_texts scanned) ts e) (refl, printed)
+    by : (refuses asks : Bool) (o : Option (List (List ℕ))) → ((us : List (List ℕ)) → o ≡ Some us → AllByRecursion IsGraphic us)
+        → cond refuses None (cond asks (option_map (λ us. codes "IF" ∷ us) o) (Some [])) ≡ Some ts → AllByRecursion IsGraphic ts
+    by true asks o all e = absurd (cc e)
+    by false false o all e = subst (λ (us : List (List ℕ)). AllByRecursion IsGraphic us) (same_Some [] ts e) tt
+    by false true None all e = absurd (cc e)
+    by false true (Some us) all e = subst (λ (vs : List (List ℕ)). AllByRecursion IsGraphic vs) (same_Some (codes "IF" ∷ us) ts e) (refl, all us refl)
 
 subject_graphic : (kind : AskedKind) (j : Json) (ts : List (List ℕ)) → subject_of kind j ≡ Some ts → AllByRecursion IsGraphic ts
 unfolding subject_of

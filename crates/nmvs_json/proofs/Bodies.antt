@@ -103,12 +103,13 @@ condition_put line mid new (Some ns) (Some cs) e f =
     ∙ f
 
 -- a condition
-pub if_put : (has matching : Bool) (line mid new : List ℕ) (ts : List (List ℕ)) → has ≡ true → matching ≡ true → mid ≡ line ++ codes " IF" → new ≡ mid ++ preceded ts
-    → option_map (λ us. line ++ preceded us) (cond has (cond matching (Some (codes "IF" ∷ ts)) None) (Some [])) ≡ Some new
-if_put false matching line mid new ts there is front end = absurd (cc there)
-if_put true false line mid new ts there is front end = absurd (cc is)
-if_put true true line mid new ts there is front end =
-    ap Some (sym (append_assoc line (codes " IF") (preceded ts)) ∙ ap (λ (x : List ℕ). x ++ preceded ts) (sym front) ∙ sym end)
+pub if_put : (refuses asks : Bool) (line mid new : List ℕ) (o : Option (List (List ℕ))) → refuses ≡ false → asks ≡ true → mid ≡ line ++ codes " IF" → option_map (λ ts. mid ++ preceded ts) o ≡ Some new
+    → option_map (λ us. line ++ preceded us) (cond refuses None (cond asks (option_map (λ ts. codes "IF" ∷ ts) o) (Some []))) ≡ Some new
+if_put true asks line mid new o goes there front e = absurd (cc goes)
+if_put false false line mid new o goes there front e = absurd (cc there)
+if_put false true line mid new None goes there front e = absurd (cc e)
+if_put false true line mid new (Some ts) goes there front e =
+    ap Some (sym (append_assoc line (codes " IF") (preceded ts)) ∙ ap (λ (x : List ℕ). x ++ preceded ts) (sym front)) ∙ e
 
 -- the texts after the word of a line, by its scanned values
 pub subject_put : (line mid new : List ℕ) (names : Option (List (List ℕ))) (values : Option (Option Printed)) (scanned : Option Printed) (condition : Option Printed → Option (List (List ℕ)))

@@ -2,7 +2,7 @@
 use Rattle.std.specs.Prelude.{ℕ, ◌+◌, Bool, true, false, not, ◌&&◌, ◌||◌, ◌==◌, if◌then◌else◌, List, [], ◌∷◌, ◌++◌, length, take, drop, codes, Option, Some, None, option_map, option_and_then, Result, Ok, Err}
 use Rattle.std.specs.Char.{is_ascii_graphic}
 use Rattle.std.specs.List.{list_all}
-use Rattle.std.specs.Option.{is_some, unwrap_or}
+use Rattle.std.specs.Option.{is_none, is_some, unwrap_or}
 use Rattle.std.specs.Str.{bytes_eq, is_utf8}
 use Rattle.json.specs.Find.{as_str, get}
 use Rattle.json.specs.Json as json
@@ -191,6 +191,17 @@ printed_in j =
     then option_and_then (λ batch. option_map (λ expiry. printed_of batch expiry) (within is_expiry (string_of (codes "expiry") j))) (within is_batch (string_of (codes "batch") j))
     else None
 
+-- the texts in such an object, which a person may have misread
+abbrev pub said_in : Json → Option (List (List ℕ))
+said_in j = if count_of j == 2 then texts_of (codes "batch" ∷ codes "expiry" ∷ []) j else None
+
+abbrev pub said_of : Json → Option (List (List ℕ))
+said_of j = option_and_then said_in (get (codes "scanned") j)
+
+-- the printed values of an object with such texts: none if one of them is misread
+abbrev pub values_in : Json → Option (Option Printed)
+values_in j = option_map (λ _. printed_in j) (said_in j)
+
 -- those of a scan, if it can be read
 abbrev pub scan_printed : Option Elements → Option Printed
 scan_printed None = None
@@ -199,10 +210,13 @@ scan_printed (Some pack) = Some (printed_of pack.batch.bytes pack.expiry.bytes)
 abbrev pub scan_values : AskedKind → Json → Option Printed
 scan_values kind j = if has_scan kind j then option_and_then (λ scan. scan_printed (pack_in scan)) (string_of (codes "scan") j) else None
 
--- the scanned values of a question, if it has some: those of the member scanned, which has to say them, or those of its scan
+-- the scanned values of a question, if it has some: those of the member scanned, which has to have texts, or those of its scan
 unfoldable pub scanned_of : AskedKind → Json → Option (Option Printed)
-scanned_of kind j =
-    if has_scanned kind j then option_map Some (option_and_then printed_in (get (codes "scanned") j)) else Some (scan_values kind j)
+scanned_of kind j = if has_scanned kind j then option_and_then values_in (get (codes "scanned") j) else Some (scan_values kind j)
+
+-- whether a text of the member scanned is misread
+abbrev pub is_misread : AskedKind → Json → Option Printed → Bool
+is_misread kind j scanned = has_scanned kind j && is_none scanned
 
 -- the texts of scanned values; a scan that cannot be read has - in their places as well
 abbrev pub printed_texts : Option Printed → List (List ℕ)
@@ -214,11 +228,15 @@ abbrev pub is_matching : Option (List ℕ) → Bool
 is_matching None = false
 is_matching (Some t) = bytes_eq t (codes "matches")
 
--- the texts of the condition of a question with these scanned values: none if it has no condition
+-- the texts after IF: those of the scanned values; misread texts as they are, so that the line has their fault
+abbrev pub shown_texts : AskedKind → Json → Option Printed → Option (List (List ℕ))
+shown_texts kind j scanned = if is_misread kind j scanned then said_of j else Some (printed_texts scanned)
+
+-- the texts of the condition of a question with these scanned values: none if it has no condition and nothing is misread
 unfoldable pub condition_texts : AskedKind → Json → Option Printed → Option (List (List ℕ))
 condition_texts kind j scanned =
-    if has_condition kind j then (if is_matching (string_of (codes "if_scanned") j) then Some (codes "IF" ∷ printed_texts scanned) else None)
-    else Some []
+    if has_condition kind j && not (is_matching (string_of (codes "if_scanned") j)) then None
+    else (if has_condition kind j || is_misread kind j scanned then option_map (λ ts. codes "IF" ∷ ts) (shown_texts kind j scanned) else Some [])
 
 -- the texts after the word of a line, and the number of members that say them
 unfoldable pub subject_of : AskedKind → Json → Option (List (List ℕ))

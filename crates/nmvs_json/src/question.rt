@@ -2,7 +2,7 @@
 ghost use Rattle.std.specs.Prelude.{◌≡◌, ◌≢◌, ◌≤◌, ◌++◌, ◌∷◌, [], codes, true, false, Ok, Err, Some, None, IfOk, IfErr, OnOk, IfSome, IfNone, map, option_and_then, option_map, string_bytes};
 ghost use Rattle.std.specs.Char.{is_ascii_graphic};
 ghost use Rattle.std.specs.List.{list_all};
-ghost use Rattle.std.specs.Option.{option_copied};
+ghost use Rattle.std.specs.Option.{is_some, option_copied};
 ghost use Rattle.json.specs.Find.{get};
 ghost use Rattle.json.specs.Value.{value_view};
 ghost use Rattle.nmvs_identifier.specs.Batch.{is_batch};
@@ -21,6 +21,9 @@ use std::alloc::{AllocError, Global};
 
 /// The text of the line in place of each value of a scan that cannot be read (own). It is no product code.
 const UNREAD: &str = "-";
+
+/// The names of the members that say the values printed on a pack.
+const PRINTED: &[&str] = &["batch", "expiry"];
 
 /// The line of a question, with its LF, and the scanned values of the question if it has some.
 #[derive(Drop)]
@@ -279,20 +282,31 @@ fn scanned_of(
     if !has_scanned(kind, object) {
         return Ok(read);
     }
-    match printed_of(object) {
-        Some(printed) => Ok(Some(printed)),
+    match object.get("scanned") {
+        Some(scanned) => values_in(scanned),
         None => Err(QuestionFault::Fields),
     }
 }
 
-/// The printed values in the member `scanned`, if it says them.
-fn printed_of(object: &Value<'_>) -> Option<Printed>
-    ensures { result ≡ option_and_then specs.printed_in (get (codes "scanned") (value_view object.now)) }
+/// The printed values of an object that has texts for them: none if one of them is misread.
+fn values_in(scanned: &Value<'_>) -> Result<Option<Printed>, QuestionFault>
+    ensures values { IfOk result (λ values. specs.values_in (value_view scanned.now) ≡ Some values) }
+    ensures fault { IfErr result (λ fault. (fault ≡ QuestionFault.Fields) × (specs.values_in (value_view scanned.now) ≡ None)) }
 {
-    match object.get("scanned") {
-        Some(scanned) => printed_in(scanned),
-        None => None,
+    if has_said(scanned) {
+        Ok(printed_in(scanned))
+    } else {
+        Err(QuestionFault::Fields)
     }
+}
+
+/// Whether an object has a batch and an expiry date as texts, and nothing else.
+fn has_said(scanned: &Value<'_>) -> bool
+    ensures { result ≡ is_some (specs.said_in (value_view scanned.now)) }
+{
+    count_of(scanned) == 2
+        && text_of(scanned, "batch").is_some()
+        && text_of(scanned, "expiry").is_some()
 }
 
 /// The printed values in an object.
@@ -331,6 +345,7 @@ fn expiry_of(object: &Value<'_>) -> Option<Expiry>
 }
 
 /// Appends the condition of a question with these scanned values, with a space before each text, or nothing without a condition.
+/// Misread texts make one, so that the line has their fault.
 #[tactic(auto, unfolding(crate::specs::Questions::condition_texts))]
 fn push_condition(
     line: &mut String,
@@ -341,15 +356,50 @@ fn push_condition(
     ensures texts { OnOk result (option_map (λ texts. string_bytes line.old ++ specs.preceded texts) (specs.condition_texts kind (value_view object.now) scanned.now) ≡ Some (string_bytes line.new)) }
     ensures fault { IfErr result (λ fault. fault ≢ QuestionFault.Memory → (fault ≡ QuestionFault.Fields) × (specs.condition_texts kind (value_view object.now) scanned.now ≡ None)) }
 {
-    if !has_condition(kind, object) {
-        return Ok(());
-    }
-    if !is_matching(object) {
+    if has_condition(kind, object) && !is_matching(object) {
         return Err(QuestionFault::Fields);
     }
+    if !has_condition(kind, object) && !is_misread(kind, object, scanned) {
+        return Ok(());
+    }
     line.push_str(" IF")?;
+    push_shown(line, kind, object, scanned)?;
+    Ok(())
+}
+
+/// Whether a text of the member `scanned` is misread.
+fn is_misread(kind: AskedKind, object: &Value<'_>, scanned: &Option<Printed>) -> bool
+    ensures { result ≡ specs.is_misread kind (value_view object.now) scanned.now }
+{
+    has_scanned(kind, object) && scanned.is_none()
+}
+
+/// Appends the texts after `IF`, with a space before each: those of the scanned values, or misread texts as they are.
+fn push_shown(
+    line: &mut String,
+    kind: AskedKind,
+    object: &Value<'_>,
+    scanned: &Option<Printed>,
+) -> Result<(), QuestionFault>
+    ensures texts { OnOk result (option_map (λ texts. string_bytes line.old ++ specs.preceded texts) (specs.shown_texts kind (value_view object.now) scanned.now) ≡ Some (string_bytes line.new)) }
+    ensures fault { IfErr result (λ fault. fault ≢ QuestionFault.Memory → (fault ≡ QuestionFault.Fields) × (specs.shown_texts kind (value_view object.now) scanned.now ≡ None)) }
+{
+    if is_misread(kind, object, scanned) {
+        return push_said(line, object);
+    }
     push_printed(line, scanned)?;
     Ok(())
+}
+
+/// Appends the texts of the member `scanned`, with a space before each.
+fn push_said(line: &mut String, object: &Value<'_>) -> Result<(), QuestionFault>
+    ensures texts { OnOk result (option_map (λ texts. string_bytes line.old ++ specs.preceded texts) (specs.said_of (value_view object.now)) ≡ Some (string_bytes line.new)) }
+    ensures fault { IfErr result (λ fault. fault ≢ QuestionFault.Memory → (fault ≡ QuestionFault.Fields) × (specs.said_of (value_view object.now) ≡ None)) }
+{
+    match object.get("scanned") {
+        Some(scanned) if count_of(scanned) == 2 => push_texts(line, PRINTED, scanned),
+        _ => Err(QuestionFault::Fields),
+    }
 }
 
 /// Whether the condition of a question is that the printed values match.

@@ -147,6 +147,16 @@ scans-misplaced : Gives line_at (
 unfolding chars encode is_utf8 items members value lex punctuate code_unit short_escape content after_number word kind_named question_line fields_of subject_of subject_count condition_texts scanned_of printed_in pack_in
 scans-misplaced = refl
 
+-- misread values end the line, which then has their fault
+misread : Gives supply (
+    (codes "{\"user\":\"ph1\",\"code\":\"1\",\"serial\":\"2\",\"scanned\":{\"batch\":\"B1\",\"expiry\":\"281300\"}}", Some (Ok (codes "ph1 SUPPLY 1 2 IF B1 281300\n")))
+    ∷ (codes "{\"user\":\"ph1\",\"code\":\"1\",\"serial\":\"2\",\"scanned\":{\"expiry\":\"280200\",\"batch\":\"B#1\"}}", Some (Ok (codes "ph1 SUPPLY 1 2 IF B#1 280200\n")))
+    ∷ (codes "{\"user\":\"ph1\",\"code\":\"1\",\"serial\":\"2\",\"if_scanned\":\"matches\",\"scanned\":{\"batch\":\"B1\",\"expiry\":\"2\"}}", Some (Ok (codes "ph1 SUPPLY 1 2 IF B1 2\n")))
+    ∷ (codes "{\"user\":\"ph1\",\"code\":\"1\",\"serial\":\"2\",\"scanned\":{\"batch\":\"B1\",\"expiry\":\"280200\"}}", Some (Ok (codes "ph1 SUPPLY 1 2\n")))
+    ∷ [])
+unfolding chars encode is_utf8 items members value lex punctuate code_unit short_escape content after_number word kind_named question_line fields_of subject_of subject_count condition_texts scanned_of printed_in pack_in
+misread = refl
+
 -- a condition ends the line
 conditions : Gives supply (
     (codes "{\"user\":\"ph1\",\"scan\":\"]d201095060001343521728020010B1\\u001d21SN1\",\"if_scanned\":\"matches\"}", Some (Ok (codes "ph1 SUPPLY 09506000134352 SN1 IF B1 280200\n")))
@@ -160,8 +170,8 @@ no-conditions : Gives supply (
     (codes "{\"user\":\"ph1\",\"scan\":\"]d201095060001343521728020010B1\\u001d21SN1\",\"if_scanned\":\"matches\",\"scanned\":{\"batch\":\"B1\",\"expiry\":\"280200\"}}", Some (Err fault.Fields))
     ∷ (codes "{\"user\":\"ph1\",\"code\":\"1\",\"serial\":\"2\",\"if_scanned\":\"matches\"}", Some (Err fault.Fields))
     ∷ (codes "{\"user\":\"ph1\",\"code\":\"1\",\"serial\":\"2\",\"if_scanned\":\"matches\",\"scanned\":{\"batch\":\"B1\"}}", Some (Err fault.Fields))
-    ∷ (codes "{\"user\":\"ph1\",\"code\":\"1\",\"serial\":\"2\",\"if_scanned\":\"matches\",\"scanned\":{\"batch\":\"B#1\",\"expiry\":\"280200\"}}", Some (Err fault.Fields))
-    ∷ (codes "{\"user\":\"ph1\",\"code\":\"1\",\"serial\":\"2\",\"if_scanned\":\"matches\",\"scanned\":{\"batch\":\"B1\",\"expiry\":\"281300\"}}", Some (Err fault.Fields))
+    ∷ (codes "{\"user\":\"ph1\",\"code\":\"1\",\"serial\":\"2\",\"if_scanned\":\"matches\",\"scanned\":{\"batch\":\"\",\"expiry\":\"280200\"}}", Some (Err fault.Fields))
+    ∷ (codes "{\"user\":\"ph1\",\"code\":\"1\",\"serial\":\"2\",\"scanned\":{\"batch\":\"B 1\",\"expiry\":\"280200\"}}", Some (Err fault.Fields))
     ∷ (codes "{\"user\":\"ph1\",\"code\":\"1\",\"serial\":\"2\",\"scanned\":{\"batch\":\"B1\"}}", Some (Err fault.Fields))
     ∷ (codes "{\"user\":\"ph1\",\"code\":\"1\",\"serial\":\"2\",\"if_scanned\":\"differs\",\"scanned\":{\"batch\":\"B1\",\"expiry\":\"280200\"}}", Some (Err fault.Fields))
     ∷ [])
@@ -183,6 +193,7 @@ values : Gives values_at (
     (codes "{\"user\":\"ph1\",\"code\":\"1\",\"serial\":\"2\"}", Some None)
     ∷ (codes "{\"user\":\"ph1\",\"scan\":\"]d201095060001343521728020010B1\\u001d21SN1\"}", Some (printed (codes "B1") (codes "280200")))
     ∷ (codes "{\"user\":\"ph1\",\"scan\":\"\"}", Some None)
+    ∷ (codes "{\"user\":\"ph1\",\"code\":\"1\",\"serial\":\"2\",\"scanned\":{\"batch\":\"B1\",\"expiry\":\"281300\"}}", Some None)
     ∷ [])
 unfolding chars encode is_utf8 items members value lex punctuate code_unit short_escape content after_number word kind_named question_line fields_of subject_of subject_count condition_texts scanned_of printed_in pack_in
 values = refl
