@@ -31,7 +31,7 @@ pub(crate) fn serve_in_cluster<'r, 'o, R: Host + Sync, T: Sides>(
             serve_from(
                 run,
                 metrics,
-                Some(followed),
+                &mut Some(followed),
                 Some(turn),
                 console,
                 beside.interrupt,
