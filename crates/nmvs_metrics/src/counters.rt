@@ -25,6 +25,13 @@ impl Counters {
         }
     }
 
+    /// Counts one less at this place.
+    pub(crate) fn subtract_one(&self, place: usize) {
+        if let Some(counter) = self.list.get(place) {
+            counter.fetch_sub(1, Ordering::SeqCst);
+        }
+    }
+
     /// Sets the count at this place.
     pub(crate) fn set(&self, place: usize, count: u64) {
         if let Some(counter) = self.list.get(place) {

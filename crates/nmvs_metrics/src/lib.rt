@@ -23,6 +23,4 @@ pub use kinds::Fault;
 pub use listener::{MetricsListener, serve_metrics};
 pub use registry::{Metrics, UserState, WorkerMetrics};
 pub use service::{MetricsService, resident_in};
-pub use snapshot::{
-    Answered, Bucket, Counted, Following, Histogram, LogSnapshot, Numbered, Snapshot,
-};
+pub use snapshot::{Bucket, Histogram, Label, Sample, Values};

@@ -1,23 +1,60 @@
-//! The counters of a running server.
+//! What a running server counts: the families of its page, and the counters under them.
 use crate::counters::Counters;
 use crate::kinds::{
     CAUSES, FAULTS, Fault, QUESTIONS, REFUSALS, REPLIES, kind_of_reply, place_of_cause,
-    place_of_fault, place_of_question, place_of_refusal, place_of_reply, word_of,
+    place_of_fault, place_of_question, place_of_refusal, place_of_reply,
 };
 use crate::readiness::{Readiness, readiness_of};
-use crate::times::{Times, empty};
-use crate::{Answered, Counted, Following, Histogram, LogSnapshot, Numbered, Snapshot, uptime};
+use crate::times::Times;
+use crate::uptime;
 use nmvs_messages::{Content, Released};
 use nmvs_rules::{Question, Reply};
-use nmvs_words::{QuestionKind, cause_word, refusal_word};
+use nmvs_words::QuestionKind;
 use std::alloc::{AllocError, Global};
-use std::sync::atomic::{AtomicBool, AtomicU64, Ordering};
+use std::sync::atomic::{AtomicU64, Ordering};
 use std::time::Duration;
 
-/// Where the rows of a worker's counters begin: questions by their kind and the kind of their reply.
+// Where the server's counters stand.
+
+/// 1 if it listens.
+const READY: usize = 0;
+
+/// 1 if it ends.
+const ENDS: usize = READY + 1;
+
+const SESSIONS: usize = ENDS + 1;
+
+const ENROLLED: usize = SESSIONS + 1;
+
+const SUSPENDED: usize = ENROLLED + 1;
+
+/// The start of the metrics, in seconds since 1970, or 0 if no clock gave it.
+const STARTED: usize = SUSPENDED + 1;
+
+const CLOCK_STEPS: usize = STARTED + 1;
+
+/// 1 if the log failed.
+const FAILED: usize = CLOCK_STEPS + 1;
+
+/// When the write or sync of the log that is under way began, in nanoseconds since the machine runs, or 0 if none is.
+const WRITE_BEGAN: usize = FAILED + 1;
+
+/// 1 if the server is one of several machines.
+const SHARED: usize = WRITE_BEGAN + 1;
+
+/// 1 if it follows another.
+const STANDBY: usize = SHARED + 1;
+
+/// How many entries it has read of the log as one that follows.
+const FOLLOWED: usize = STANDBY + 1;
+
+const SERVER_COUNTERS: usize = FOLLOWED + 1;
+
+// Where a worker's counters stand.
+
+/// Questions, by their kind and the kind of their reply.
 const ANSWERED: usize = 0;
 
-/// Refusals, in the order of their numbers.
 const REFUSED: usize = ANSWERED + QUESTIONS.len() * REPLIES.len();
 
 /// Alerts that were flagged, by cause.
@@ -29,21 +66,261 @@ const REPORTS: usize = FAULTED + FAULTS.len();
 
 const ACCEPTED: usize = REPORTS + 1;
 
-const ENDED: usize = ACCEPTED + 1;
+const OPEN: usize = ACCEPTED + 1;
 
-const EVICTED: usize = ENDED + 1;
+const EVICTED: usize = OPEN + 1;
 
 /// How many bytes the buffers of the worker's connections take.
 const MEMORY: usize = EVICTED + 1;
 
 /// How many entries of each shard were confirmed when the worker last released answers that waited for them.
-const CONFIRMED: usize = MEMORY + 1;
+pub(crate) const CONFIRMED: usize = MEMORY + 1;
+
+/// The samples of one name on the page.
+#[derive(Clone, Copy)]
+pub(crate) struct Family {
+    pub(crate) name: &'static str,
+    pub(crate) kind: &'static str,
+    pub(crate) help: &'static str,
+    /// The names of its labels. The second is empty if there is one, and both are if there is none.
+    pub(crate) labels: (&'static str, &'static str),
+    pub(crate) source: Source,
+}
+
+/// Where the values of a family come from.
+#[derive(Clone, Copy)]
+pub(crate) enum Source {
+    /// The server's counter at this place.
+    Server(usize),
+    /// The same, if it is not 0.
+    Given(usize),
+    /// The same, if the server has a log.
+    Log(usize),
+    /// The same, if the server is one of several machines.
+    Shared(usize),
+    /// The time since the nanosecond in this counter of the server, or 0 if the counter is 0, if the server has a log.
+    Since(usize),
+    /// The memory of the process, if the system reports it.
+    Resident,
+    /// The server's counters from this place on, each with its word.
+    States(usize, &'static [&'static str]),
+    /// The workers' counters at this place together.
+    Total(usize),
+    /// Those from this place on, each with its word.
+    Words(usize, &'static [&'static str]),
+    /// The same with two words, without those at 0.
+    Pairs(usize, &'static [&'static str], &'static [&'static str]),
+    /// Each worker's counter at this place.
+    Workers(usize),
+    Shards(PerShard),
+    /// The times from a line to the release of its reply.
+    Replies,
+    /// The times of the syncs of the log, if the server has one.
+    Syncs,
+}
+
+/// A count of each shard.
+#[derive(Clone, Copy)]
+pub(crate) enum PerShard {
+    Entries,
+    Packs,
+    /// The entries that the log has confirmed, if the server has one.
+    Confirmed,
+    /// Those that it has not, if the server has one.
+    Waiting,
+}
+
+/// The families, in the order in which the page has them.
+pub(crate) const FAMILIES: &[Family] = &[
+    Family {
+        name: "nmvs_ready",
+        kind: "gauge",
+        help: "Whether the server listens, 1 or 0.",
+        labels: ("", ""),
+        source: Source::Server(READY),
+    },
+    Family {
+        name: "nmvs_clock_steps_total",
+        kind: "counter",
+        help: "Steps of the system's clock by more than 2 seconds.",
+        labels: ("", ""),
+        source: Source::Server(CLOCK_STEPS),
+    },
+    Family {
+        name: "process_start_time_seconds",
+        kind: "gauge",
+        help: "Start time of the process since 1970 in seconds.",
+        labels: ("", ""),
+        source: Source::Given(STARTED),
+    },
+    Family {
+        name: "process_resident_memory_bytes",
+        kind: "gauge",
+        help: "Resident memory size in bytes.",
+        labels: ("", ""),
+        source: Source::Resident,
+    },
+    Family {
+        name: "nmvs_questions_total",
+        kind: "counter",
+        help: "Questions that the repository answered, by kind and reply.",
+        labels: ("question", "reply"),
+        source: Source::Pairs(ANSWERED, &QUESTIONS, &REPLIES),
+    },
+    Family {
+        name: "nmvs_refusals_total",
+        kind: "counter",
+        help: "Questions that the repository refused, by the word of the refusal.",
+        labels: ("refusal", ""),
+        source: Source::Words(REFUSED, &REFUSALS),
+    },
+    Family {
+        name: "nmvs_alerts_flagged_total",
+        kind: "counter",
+        help: "Alerts that were flagged as potential falsifications, by their cause.",
+        labels: ("cause", ""),
+        source: Source::Words(FLAGGED, &CAUSES),
+    },
+    Family {
+        name: "nmvs_reports_total",
+        kind: "counter",
+        help: "Reports on product codes.",
+        labels: ("", ""),
+        source: Source::Total(REPORTS),
+    },
+    Family {
+        name: "nmvs_reply_seconds",
+        kind: "histogram",
+        help: "Seconds from a line to the release of its reply, or more.",
+        labels: ("", ""),
+        source: Source::Replies,
+    },
+    Family {
+        name: "nmvs_faults_total",
+        kind: "counter",
+        help: "Lines and connections that were answered with a fault, by its word.",
+        labels: ("fault", ""),
+        source: Source::Words(FAULTED, &FAULTS),
+    },
+    Family {
+        name: "nmvs_connections_open",
+        kind: "gauge",
+        help: "Connections that are open, by worker.",
+        labels: ("worker", ""),
+        source: Source::Workers(OPEN),
+    },
+    Family {
+        name: "nmvs_connections_total",
+        kind: "counter",
+        help: "Connections that were accepted, by worker.",
+        labels: ("worker", ""),
+        source: Source::Workers(ACCEPTED),
+    },
+    Family {
+        name: "nmvs_sessions_total",
+        kind: "counter",
+        help: "Sessions that have begun in which a line is served.",
+        labels: ("", ""),
+        source: Source::Server(SESSIONS),
+    },
+    Family {
+        name: "nmvs_connections_memory_bytes",
+        kind: "gauge",
+        help: "Memory of the buffers of connections, by worker.",
+        labels: ("worker", ""),
+        source: Source::Workers(MEMORY),
+    },
+    Family {
+        name: "nmvs_connections_evicted_total",
+        kind: "counter",
+        help: "Connections that were closed because the buffers of all took too much memory.",
+        labels: ("", ""),
+        source: Source::Total(EVICTED),
+    },
+    Family {
+        name: "nmvs_users",
+        kind: "gauge",
+        help: "Users, by state.",
+        labels: ("state", ""),
+        source: Source::States(ENROLLED, &["enrolled", "suspended"]),
+    },
+    Family {
+        name: "nmvs_entries",
+        kind: "gauge",
+        help: "Entries of the audit trail, by shard.",
+        labels: ("shard", ""),
+        source: Source::Shards(PerShard::Entries),
+    },
+    Family {
+        name: "nmvs_packs",
+        kind: "gauge",
+        help: "Packs that the repository knows, by shard.",
+        labels: ("shard", ""),
+        source: Source::Shards(PerShard::Packs),
+    },
+    Family {
+        name: "nmvs_journal_confirmed_entries",
+        kind: "gauge",
+        help: "Entries that the log has confirmed, by shard.",
+        labels: ("shard", ""),
+        source: Source::Shards(PerShard::Confirmed),
+    },
+    Family {
+        name: "nmvs_journal_waiting_entries",
+        kind: "gauge",
+        help: "Entries that the log has not confirmed yet, by shard.",
+        labels: ("shard", ""),
+        source: Source::Shards(PerShard::Waiting),
+    },
+    Family {
+        name: "nmvs_journal_sync_seconds",
+        kind: "histogram",
+        help: "Seconds that a sync of the log took.",
+        labels: ("", ""),
+        source: Source::Syncs,
+    },
+    Family {
+        name: "nmvs_journal_failures_total",
+        kind: "counter",
+        help: "Failures of the file of the log.",
+        labels: ("", ""),
+        source: Source::Log(FAILED),
+    },
+    Family {
+        name: "nmvs_log_failed",
+        kind: "gauge",
+        help: "Whether the log failed, 1 or 0.",
+        labels: ("", ""),
+        source: Source::Log(FAILED),
+    },
+    Family {
+        name: "nmvs_log_write_seconds",
+        kind: "gauge",
+        help: "Seconds that the write or sync of the log that is under way has taken, 0 where none is.",
+        labels: ("", ""),
+        source: Source::Since(WRITE_BEGAN),
+    },
+    Family {
+        name: "nmvs_standby",
+        kind: "gauge",
+        help: "Whether the server follows that of another machine, 1 or 0.",
+        labels: ("", ""),
+        source: Source::Shared(STANDBY),
+    },
+    Family {
+        name: "nmvs_log_following_entries",
+        kind: "gauge",
+        help: "Entries of the log that the server has read as one that follows.",
+        labels: ("", ""),
+        source: Source::Shared(FOLLOWED),
+    },
+];
 
 /// The counters of one worker. No other worker writes to them; the thread that accepts counts connections here too.
 #[derive(Drop)]
-struct WorkerCounts {
-    rows: Counters,
-    replies: Times,
+pub(crate) struct WorkerCounts {
+    pub(crate) rows: Counters,
+    pub(crate) replies: Times,
     /// How many lines the worker's desk has taken since its last release.
     taken: AtomicU64,
     /// When it took the first of them, in nanoseconds since the machine runs.
@@ -76,54 +353,6 @@ fn workers_counts(
     Ok(counts)
 }
 
-/// The counters of the log, and its state.
-#[derive(Drop)]
-struct LogCounts {
-    syncs: Times,
-    has_failed: AtomicBool,
-    /// When the write or sync that is under way began, in nanoseconds since the machine runs, or 0 if none is.
-    began: AtomicU64,
-    /// Whether the server is one of several machines.
-    is_shared: AtomicBool,
-    /// Whether it follows another.
-    is_standby: AtomicBool,
-    /// How many entries it has read of the log as one that follows.
-    followed: AtomicU64,
-}
-
-impl LogCounts {
-    fn new(alloc: Global) -> Result<LogCounts, AllocError> {
-        let syncs = Times::new(alloc)?;
-        Ok(LogCounts {
-            syncs,
-            has_failed: AtomicBool::new(false),
-            began: AtomicU64::new(0),
-            is_shared: AtomicBool::new(false),
-            is_standby: AtomicBool::new(false),
-            followed: AtomicU64::new(0),
-        })
-    }
-
-    /// The state of the server among several machines, if it is one of them.
-    fn following(&self) -> Option<Following> {
-        if !self.is_shared.load(Ordering::SeqCst) {
-            return None;
-        }
-        Some(Following {
-            is_standby: self.is_standby.load(Ordering::SeqCst),
-            entries: self.followed.load(Ordering::SeqCst),
-        })
-    }
-
-    /// How many nanoseconds the write or sync that is under way has taken, when the machine runs for this long.
-    fn writing(&self, uptime: Duration) -> u64 {
-        match self.began.load(Ordering::SeqCst) {
-            0 => 0,
-            began => nanoseconds_of(uptime).saturating_sub(began),
-        }
-    }
-}
-
 /// The state of a user, by which the metrics count.
 #[derive(Clone, Copy)]
 pub enum UserState {
@@ -135,19 +364,13 @@ pub enum UserState {
 /// beyond 64 bits begins again at 0.
 #[derive(Drop)]
 pub struct Metrics {
-    is_ready: AtomicBool,
-    has_ended: AtomicBool,
-    workers: Vec<WorkerCounts>,
-    entries: Counters,
-    packs: Counters,
-    shards: usize,
-    sessions: AtomicU64,
-    enrolled: AtomicU64,
-    suspended: AtomicU64,
-    /// The start of the metrics, in seconds since 1970, or 0 if no clock gave it.
-    started: AtomicU64,
-    clock_steps: AtomicU64,
-    log: Option<LogCounts>,
+    pub(crate) server: Counters,
+    pub(crate) workers: Vec<WorkerCounts>,
+    pub(crate) entries: Counters,
+    pub(crate) packs: Counters,
+    pub(crate) shards: usize,
+    pub(crate) syncs: Times,
+    pub(crate) has_log: bool,
 }
 
 impl Metrics {
@@ -162,27 +385,19 @@ impl Metrics {
         shards: usize,
         has_log: bool,
     ) -> Result<Metrics, AllocError> {
+        let server = Counters::new(alloc, SERVER_COUNTERS)?;
         let entries = Counters::new(alloc, shards)?;
         let packs = Counters::new(alloc, shards)?;
+        let syncs = Times::new(alloc)?;
         let workers = workers_counts(alloc, workers, shards)?;
-        let log = if has_log {
-            Some(LogCounts::new(alloc)?)
-        } else {
-            None
-        };
         Ok(Metrics {
-            is_ready: AtomicBool::new(false),
-            has_ended: AtomicBool::new(false),
+            server,
             workers,
             entries,
             packs,
             shards,
-            sessions: AtomicU64::new(0),
-            enrolled: AtomicU64::new(0),
-            suspended: AtomicU64::new(0),
-            started: AtomicU64::new(0),
-            clock_steps: AtomicU64::new(0),
-            log,
+            syncs,
+            has_log,
         })
     }
 
@@ -196,35 +411,48 @@ impl Metrics {
 
     /// Notes that the server listens.
     pub fn note_ready(&self) {
-        self.is_ready.store(true, Ordering::SeqCst);
+        self.server.set(READY, 1);
     }
 
     /// Whether the server is ready, when the machine runs for this long.
     pub(crate) fn readiness(&self, uptime: Duration) -> Readiness {
-        let Some(log) = &self.log else {
-            return readiness_of(self.is_ready(), false, false, 0);
-        };
+        if !self.has_log {
+            return readiness_of(self.holds(READY), false, false, 0);
+        }
         readiness_of(
-            self.is_ready(),
-            log.is_standby.load(Ordering::SeqCst),
-            log.has_failed.load(Ordering::SeqCst),
-            log.writing(uptime),
+            self.holds(READY),
+            self.holds(STANDBY),
+            self.holds(FAILED),
+            self.since(WRITE_BEGAN, uptime),
         )
-    }
-
-    /// Whether the server listens.
-    fn is_ready(&self) -> bool {
-        self.is_ready.load(Ordering::SeqCst)
     }
 
     /// Notes that the server ends.
     pub fn note_end(&self) {
-        self.has_ended.store(true, Ordering::SeqCst);
+        self.server.set(ENDS, 1);
     }
 
     /// Whether the server ends.
     pub(crate) fn has_ended(&self) -> bool {
-        self.has_ended.load(Ordering::SeqCst)
+        self.holds(ENDS)
+    }
+
+    /// Whether the server's counter at this place is not 0.
+    pub(crate) fn holds(&self, place: usize) -> bool {
+        self.server.at(place) != 0
+    }
+
+    /// Whether the server is one of several machines.
+    pub(crate) fn is_shared(&self) -> bool {
+        self.has_log && self.holds(SHARED)
+    }
+
+    /// How many nanoseconds the machine has run since the server's counter at this place, or 0 if that is 0.
+    pub(crate) fn since(&self, place: usize, uptime: Duration) -> u64 {
+        match self.server.at(place) {
+            0 => 0,
+            began => nanoseconds_of(uptime).saturating_sub(began),
+        }
     }
 
     /// Notes how many entries and packs the shard of this number is opened with.
@@ -243,84 +471,72 @@ impl Metrics {
 
     /// Notes how many users are enrolled, and how many suspended.
     pub fn note_users(&self, enrolled: u64, suspended: u64) {
-        self.enrolled.store(enrolled, Ordering::SeqCst);
-        self.suspended.store(suspended, Ordering::SeqCst);
+        self.server.set(ENROLLED, enrolled);
+        self.server.set(SUSPENDED, suspended);
     }
 
     /// Notes the states of a user before and after a change. An unknown user has none.
     pub fn note_user(&self, before: Option<UserState>, after: Option<UserState>) {
         if let Some(state) = before {
-            self.users_in(state).fetch_sub(1, Ordering::SeqCst);
+            self.server.subtract_one(place_of_state(state));
         }
         if let Some(state) = after {
-            self.users_in(state).fetch_add(1, Ordering::SeqCst);
-        }
-    }
-
-    fn users_in(&self, state: UserState) -> &AtomicU64 {
-        match state {
-            UserState::Enrolled => &self.enrolled,
-            UserState::Suspended => &self.suspended,
+            self.server.add(place_of_state(state), 1);
         }
     }
 
     /// Notes the start of the metrics: the time since 1970-01-01 00:00:00 UTC.
     pub(crate) fn note_start(&self, since_1970: Duration) {
-        self.started.store(since_1970.as_secs(), Ordering::SeqCst);
+        self.server.set(STARTED, since_1970.as_secs());
     }
 
     /// Counts a step of the system's clock.
     pub(crate) fn note_clock_step(&self) {
-        self.clock_steps.fetch_add(1, Ordering::SeqCst);
+        self.server.add(CLOCK_STEPS, 1);
     }
 
     /// Counts a session in which a line is to be served.
     pub fn note_session(&self) {
-        self.sessions.fetch_add(1, Ordering::SeqCst);
+        self.server.add(SESSIONS, 1);
     }
 
     /// Notes that a sync of the log succeeded and took this time.
     pub fn note_sync(&self, time: Duration) {
-        if let Some(log) = &self.log {
-            log.syncs.add(nanoseconds_of(time), 1);
-        }
+        self.syncs.add(nanoseconds_of(time), 1);
     }
 
     /// Notes that a write or sync of the log begins, when the machine runs for this long.
     pub fn note_write(&self, uptime: Duration) {
-        if let Some(log) = &self.log {
-            let began = nanoseconds_of(uptime).max(1);
-            log.began.store(began, Ordering::SeqCst);
-        }
+        self.server.set(WRITE_BEGAN, nanoseconds_of(uptime).max(1));
     }
 
     /// Notes that no write or sync of the log is under way any more.
     pub fn note_written(&self) {
-        if let Some(log) = &self.log {
-            log.began.store(0, Ordering::SeqCst);
-        }
+        self.server.set(WRITE_BEGAN, 0);
     }
 
     /// Notes whether the server, which is one of several machines, follows another.
     pub fn note_standby(&self, is_standby: bool) {
-        if let Some(log) = &self.log {
-            log.is_shared.store(true, Ordering::SeqCst);
-            log.is_standby.store(is_standby, Ordering::SeqCst);
-        }
+        self.server.set(SHARED, 1);
+        self.server.set(STANDBY, u64::from(is_standby));
     }
 
     /// Counts entries of the log that the server reads as one that follows.
     pub fn note_followed(&self, entries: u64) {
-        if let Some(log) = &self.log {
-            log.followed.fetch_add(entries, Ordering::SeqCst);
-        }
+        self.server.add(FOLLOWED, entries);
     }
 
     /// Notes that the log failed, which it does for good.
     pub fn note_failure(&self) {
-        if let Some(log) = &self.log {
-            log.has_failed.store(true, Ordering::SeqCst);
-        }
+        self.server.set(FAILED, 1);
+    }
+}
+
+/// The place of the server's counter of users in this state.
+fn place_of_state(state: UserState) -> usize {
+    match state {
+        UserState::Enrolled => ENROLLED,
+        UserState::Suspended => SUSPENDED,
     }
 }
 
@@ -406,11 +622,14 @@ impl<'p> WorkerMetrics<'p> {
     /// Counts a connection that was accepted for the worker.
     pub fn note_accepted(&self) {
         self.add(ACCEPTED);
+        self.add(OPEN);
     }
 
     /// Counts a connection of the worker that ended.
     pub fn note_ended(&self) {
-        self.add(ENDED);
+        if let Some(counts) = self.counts {
+            counts.rows.subtract_one(OPEN);
+        }
     }
 
     /// Counts a connection of the worker that was closed because the buffers of all took too much memory.
@@ -446,231 +665,5 @@ impl<'p> WorkerMetrics<'p> {
             Reply::Refused(refusal) => self.add(REFUSED + place_of_refusal(*refusal)),
             _ => {}
         }
-    }
-}
-
-impl Metrics {
-    /// The counts of this moment, when the machine runs for this long. They have the bytes of memory of the process, if the
-    /// system reports them.
-    ///
-    /// # Errors
-    ///
-    /// There is no memory for the lists.
-    pub fn snapshot(
-        &self,
-        alloc: Global,
-        resident: Option<u64>,
-        uptime: Duration,
-    ) -> Result<Snapshot, AllocError> {
-        let log = self.log_snapshot(alloc, uptime)?;
-        let replies = self.replies(alloc)?;
-        let mut snapshot = Snapshot {
-            ready: self.is_ready(),
-            answered: Vec::new(alloc),
-            refusals: Vec::new(alloc),
-            alerts: Vec::new(alloc),
-            reports: self.total(REPORTS),
-            faults: Vec::new(alloc),
-            replies,
-            open: Vec::new(alloc),
-            accepted: Vec::new(alloc),
-            sessions: self.sessions.load(Ordering::SeqCst),
-            evicted: self.total(EVICTED),
-            memory: Vec::new(alloc),
-            users: Vec::new(alloc),
-            entries: Vec::new(alloc),
-            packs: Vec::new(alloc),
-            log,
-            clock_steps: self.clock_steps.load(Ordering::SeqCst),
-            started: self.started(),
-            resident,
-        };
-        self.push_all(&mut snapshot)?;
-        Ok(snapshot)
-    }
-
-    /// Adds all counts but those of the log.
-    fn push_all(&self, snapshot: &mut Snapshot) -> Result<(), AllocError> {
-        self.push_answered(&mut snapshot.answered)?;
-        self.push_refusals(&mut snapshot.refusals)?;
-        self.push_alerts(&mut snapshot.alerts)?;
-        self.push_faults(&mut snapshot.faults)?;
-        self.push_open(&mut snapshot.open)?;
-        self.push_workers(&mut snapshot.accepted, ACCEPTED)?;
-        self.push_workers(&mut snapshot.memory, MEMORY)?;
-        self.push_users(&mut snapshot.users)?;
-        self.push_shards(&mut snapshot.entries, &self.entries)?;
-        self.push_shards(&mut snapshot.packs, &self.packs)
-    }
-
-    /// The counts of all workers at this place together.
-    fn total(&self, place: usize) -> u64 {
-        let mut total = 0u64;
-        for counts in &self.workers {
-            total = total.wrapping_add(counts.rows.at(place));
-        }
-        total
-    }
-
-    /// The replies that all workers have released.
-    fn replies(&self, alloc: Global) -> Result<Histogram, AllocError> {
-        let mut histogram = empty(alloc)?;
-        for counts in &self.workers {
-            counts.replies.add_to(&mut histogram);
-        }
-        Ok(histogram)
-    }
-
-    /// Adds the counts of questions by their kind and the kind of their reply, without those at 0.
-    fn push_answered(&self, answered: &mut Vec<Answered>) -> Result<(), AllocError> {
-        for question in QUESTIONS {
-            for reply in REPLIES {
-                let place = place_of_question(question) * REPLIES.len() + place_of_reply(reply);
-                let count = self.total(ANSWERED + place);
-                if count > 0 {
-                    answered.push(Answered {
-                        question,
-                        reply,
-                        count,
-                    })?;
-                }
-            }
-        }
-        Ok(())
-    }
-
-    fn push_refusals(&self, refusals: &mut Vec<Counted>) -> Result<(), AllocError> {
-        for refusal in REFUSALS {
-            refusals.push(Counted {
-                word: refusal_word(refusal),
-                count: self.total(REFUSED + place_of_refusal(refusal)),
-            })?;
-        }
-        Ok(())
-    }
-
-    fn push_alerts(&self, alerts: &mut Vec<Counted>) -> Result<(), AllocError> {
-        for cause in CAUSES {
-            alerts.push(Counted {
-                word: cause_word(cause),
-                count: self.total(FLAGGED + place_of_cause(cause)),
-            })?;
-        }
-        Ok(())
-    }
-
-    fn push_faults(&self, faults: &mut Vec<Counted>) -> Result<(), AllocError> {
-        for fault in FAULTS {
-            faults.push(Counted {
-                word: word_of(fault),
-                count: self.total(FAULTED + place_of_fault(fault)),
-            })?;
-        }
-        Ok(())
-    }
-
-    /// Adds how many connections of each worker are open. If one ends meanwhile, it is as if it had ended before.
-    fn push_open(&self, open: &mut Vec<Numbered>) -> Result<(), AllocError> {
-        let mut number = 0u64;
-        for counts in &self.workers {
-            let accepted = counts.rows.at(ACCEPTED);
-            open.push(Numbered {
-                number,
-                value: accepted.saturating_sub(counts.rows.at(ENDED)),
-            })?;
-            number = number.saturating_add(1);
-        }
-        Ok(())
-    }
-
-    /// Adds the count of each worker at this place.
-    fn push_workers(&self, numbers: &mut Vec<Numbered>, place: usize) -> Result<(), AllocError> {
-        let mut number = 0u64;
-        for counts in &self.workers {
-            numbers.push(Numbered {
-                number,
-                value: counts.rows.at(place),
-            })?;
-            number = number.saturating_add(1);
-        }
-        Ok(())
-    }
-
-    fn push_users(&self, users: &mut Vec<Counted>) -> Result<(), AllocError> {
-        for (word, state) in [("enrolled", &self.enrolled), ("suspended", &self.suspended)] {
-            users.push(Counted {
-                word,
-                count: state.load(Ordering::SeqCst),
-            })?;
-        }
-        Ok(())
-    }
-
-    /// The start of the metrics, in seconds since 1970, if a clock gave it.
-    fn started(&self) -> Option<u64> {
-        match self.started.load(Ordering::SeqCst) {
-            0 => None,
-            seconds => Some(seconds),
-        }
-    }
-
-    /// Adds the count of each shard.
-    fn push_shards(
-        &self,
-        numbers: &mut Vec<Numbered>,
-        counters: &Counters,
-    ) -> Result<(), AllocError> {
-        for shard in 0..self.shards {
-            numbers.push(Numbered {
-                number: shard as u64,
-                value: counters.at(shard),
-            })?;
-        }
-        Ok(())
-    }
-
-    /// The number of confirmed entries of a shard: the most that a worker knows of.
-    fn confirmed(&self, shard: usize) -> u64 {
-        let mut confirmed = 0u64;
-        for counts in &self.workers {
-            confirmed = confirmed.max(counts.rows.at(CONFIRMED.saturating_add(shard)));
-        }
-        confirmed
-    }
-
-    fn log_snapshot(
-        &self,
-        alloc: Global,
-        uptime: Duration,
-    ) -> Result<Option<LogSnapshot>, AllocError> {
-        let Some(log) = &self.log else {
-            return Ok(None);
-        };
-        let mut syncs = empty(alloc)?;
-        log.syncs.add_to(&mut syncs);
-        let mut snapshot = LogSnapshot {
-            confirmed: Vec::new(alloc),
-            waiting: Vec::new(alloc),
-            syncs,
-            has_failed: log.has_failed.load(Ordering::SeqCst),
-            writing: log.writing(uptime),
-            following: log.following(),
-        };
-        self.push_log(&mut snapshot)?;
-        Ok(Some(snapshot))
-    }
-
-    /// Adds how many entries of each shard the log has confirmed, and how many it has not.
-    fn push_log(&self, snapshot: &mut LogSnapshot) -> Result<(), AllocError> {
-        for shard in 0..self.shards {
-            let (number, kept) = (shard as u64, self.confirmed(shard));
-            let value = self.entries.at(shard).saturating_sub(kept);
-            snapshot.confirmed.push(Numbered {
-                number,
-                value: kept,
-            })?;
-            snapshot.waiting.push(Numbered { number, value })?;
-        }
-        Ok(())
     }
 }

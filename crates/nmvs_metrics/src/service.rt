@@ -107,8 +107,8 @@ impl<'p, 'm> MetricsService<'p, 'm> {
     /// The page of the metrics as they are now.
     fn page(&self) -> Result<String, AllocError> {
         let resident = self.memory.and_then(|file| resident(file));
-        let snapshot = self.metrics.snapshot(self.alloc, resident, self.uptime)?;
-        encode(self.alloc, &snapshot)
+        let values = self.metrics.snapshot(self.alloc, resident, self.uptime)?;
+        encode(self.alloc, &values)
     }
 }
 

@@ -1,26 +1,37 @@
 //! The counts of a server at one moment.
-use nmvs_words::{QuestionKind, ReplyKind};
+use crate::Metrics;
+use crate::registry::{CONFIRMED, FAMILIES, PerShard, Source};
+use crate::times::empty;
+use std::alloc::{AllocError, Global};
+use std::time::Duration;
 
-/// How many questions of a kind had a reply of a kind.
-#[derive(Clone, Copy)]
-pub struct Answered {
-    pub question: QuestionKind,
-    pub reply: ReplyKind,
-    pub count: u64,
+/// The values of a family at one moment.
+#[derive(Drop)]
+pub enum Values {
+    /// One number, without a label.
+    One(u64),
+    /// A time of this number of nanoseconds, without a label.
+    Time(u64),
+    /// Numbers, each with a label.
+    Labelled(Vec<Sample>),
+    Histogram(Histogram),
 }
 
-/// The count of refusals, alerts or faults that have this word.
+/// A number with its label.
 #[derive(Clone, Copy)]
-pub struct Counted {
-    pub word: &'static str,
-    pub count: u64,
-}
-
-/// A count of the worker or the shard of this number.
-#[derive(Clone, Copy)]
-pub struct Numbered {
-    pub number: u64,
+pub struct Sample {
+    pub label: Label,
     pub value: u64,
+}
+
+/// The value of a label.
+#[derive(Clone, Copy)]
+pub enum Label {
+    Word(&'static str),
+    /// The number of a worker or a shard.
+    Number(u64),
+    /// Those of two labels.
+    Words(&'static str, &'static str),
 }
 
 /// The count of times that are no longer than this bound, and longer than that of the bucket before.
@@ -40,71 +51,194 @@ pub struct Histogram {
     pub nanoseconds: u64,
 }
 
-/// The counts of a server's log, and its state.
-#[derive(Drop)]
-pub struct LogSnapshot {
-    /// How many entries of each shard are confirmed.
-    pub confirmed: Vec<Numbered>,
-    /// How many entries of each shard are not confirmed yet.
-    pub waiting: Vec<Numbered>,
-    /// The syncs that succeeded.
-    pub syncs: Histogram,
-    /// Whether it failed.
-    pub has_failed: bool,
-    /// How many nanoseconds the write or sync that is under way has taken, or 0 if none is.
-    pub writing: u64,
-    /// The state of a server among several machines, if it is one of them.
-    pub following: Option<Following>,
-}
+impl Metrics {
+    /// The values of each family at this moment, when the machine runs for this long, in the order of the page. A family that the
+    /// server does not have has none. The process has these bytes of memory, if the system reports them.
+    ///
+    /// # Errors
+    ///
+    /// There is no memory for the lists.
+    pub fn snapshot(
+        &self,
+        alloc: Global,
+        resident: Option<u64>,
+        uptime: Duration,
+    ) -> Result<Vec<Option<Values>>, AllocError> {
+        let mut values = Vec::with_capacity(alloc, FAMILIES.len())?;
+        for family in FAMILIES {
+            values.push(self.values_of(alloc, family.source, resident, uptime)?)?;
+        }
+        Ok(values)
+    }
 
-/// The state of a server among several machines.
-#[derive(Clone, Copy)]
-pub struct Following {
-    /// Whether it follows another server.
-    pub is_standby: bool,
-    /// How many entries it has read of the log as one that follows.
-    pub entries: u64,
-}
+    /// The values of a family.
+    fn values_of(
+        &self,
+        alloc: Global,
+        source: Source,
+        resident: Option<u64>,
+        uptime: Duration,
+    ) -> Result<Option<Values>, AllocError> {
+        if !self.has(source) {
+            return Ok(None);
+        }
+        let samples = match source {
+            Source::Server(place)
+            | Source::Given(place)
+            | Source::Log(place)
+            | Source::Shared(place) => return Ok(Some(Values::One(self.server.at(place)))),
+            Source::Since(place) => return Ok(Some(Values::Time(self.since(place, uptime)))),
+            Source::Total(place) => return Ok(Some(Values::One(self.total(place)))),
+            Source::Resident => return Ok(resident.map(|bytes| Values::One(bytes))),
+            Source::Replies => return self.replies(alloc),
+            Source::Syncs => return self.sync_times(alloc),
+            Source::States(place, words) => self.states(alloc, place, words),
+            Source::Words(place, words) => self.words(alloc, place, words),
+            Source::Pairs(place, words, others) => self.pairs(alloc, place, words, others),
+            Source::Workers(place) => self.by_worker(alloc, place),
+            Source::Shards(count) => self.by_shard(alloc, count),
+        };
+        Ok(Some(Values::Labelled(samples?)))
+    }
 
-/// The counts of a server at one moment.
-#[derive(Drop)]
-pub struct Snapshot {
-    /// Whether it listens.
-    pub ready: bool,
-    /// The questions by their kind and the kind of their reply, without those that have not come.
-    pub answered: Vec<Answered>,
-    /// The refusals, by their words.
-    pub refusals: Vec<Counted>,
-    /// The alerts that were flagged, by the words of their causes.
-    pub alerts: Vec<Counted>,
-    /// How many reports were given.
-    pub reports: u64,
-    /// The lines that were answered with a fault, by its word.
-    pub faults: Vec<Counted>,
-    /// The lines whose replies were released, by the time from the first of them to their release.
-    pub replies: Histogram,
-    /// How many connections of each worker are open.
-    pub open: Vec<Numbered>,
-    /// How many connections were accepted for each worker.
-    pub accepted: Vec<Numbered>,
-    /// How many sessions have begun in which a line is served.
-    pub sessions: u64,
-    /// How many connections were closed because the buffers of all took too much memory.
-    pub evicted: u64,
-    /// How many bytes the buffers of each worker's connections take.
-    pub memory: Vec<Numbered>,
-    /// The number of users, by state.
-    pub users: Vec<Counted>,
-    /// How many entries the trail of each shard has.
-    pub entries: Vec<Numbered>,
-    /// How many packs each shard has.
-    pub packs: Vec<Numbered>,
-    /// The counts of the log, if there is one.
-    pub log: Option<LogSnapshot>,
-    /// How often the system's clock was set.
-    pub clock_steps: u64,
-    /// The start of the metrics, in seconds since 1970-01-01 00:00:00 UTC, if a clock gave it.
-    pub started: Option<u64>,
-    /// How many bytes of memory the process has, if the system reports it.
-    pub resident: Option<u64>,
+    /// Whether the server has values of this source.
+    fn has(&self, source: Source) -> bool {
+        match source {
+            Source::Given(place) => self.holds(place),
+            Source::Shared(_) => self.is_shared(),
+            Source::Log(_)
+            | Source::Since(_)
+            | Source::Syncs
+            | Source::Shards(PerShard::Confirmed | PerShard::Waiting) => self.has_log,
+            _ => true,
+        }
+    }
+
+    /// The replies that all workers have released.
+    fn replies(&self, alloc: Global) -> Result<Option<Values>, AllocError> {
+        let mut histogram = empty(alloc)?;
+        for counts in &self.workers {
+            counts.replies.add_to(&mut histogram);
+        }
+        Ok(Some(Values::Histogram(histogram)))
+    }
+
+    /// The syncs of the log.
+    fn sync_times(&self, alloc: Global) -> Result<Option<Values>, AllocError> {
+        let mut histogram = empty(alloc)?;
+        self.syncs.add_to(&mut histogram);
+        Ok(Some(Values::Histogram(histogram)))
+    }
+
+    /// The server's counters from this place on, each with its word.
+    fn states(
+        &self,
+        alloc: Global,
+        first: usize,
+        words: &[&'static str],
+    ) -> Result<Vec<Sample>, AllocError> {
+        let mut samples = Vec::new(alloc);
+        let mut place = first;
+        for word in words {
+            let label = Label::Word(*word);
+            let value = self.server.at(place);
+            samples.push(Sample { label, value })?;
+            place = place.saturating_add(1);
+        }
+        Ok(samples)
+    }
+
+    /// The workers' counters from this place on together, each with its word.
+    fn words(
+        &self,
+        alloc: Global,
+        first: usize,
+        words: &[&'static str],
+    ) -> Result<Vec<Sample>, AllocError> {
+        let mut samples = Vec::new(alloc);
+        let mut place = first;
+        for word in words {
+            let label = Label::Word(*word);
+            let value = self.total(place);
+            samples.push(Sample { label, value })?;
+            place = place.saturating_add(1);
+        }
+        Ok(samples)
+    }
+
+    /// The same with two words, without those at 0.
+    fn pairs(
+        &self,
+        alloc: Global,
+        first: usize,
+        words: &[&'static str],
+        others: &[&'static str],
+    ) -> Result<Vec<Sample>, AllocError> {
+        let mut samples = Vec::new(alloc);
+        let mut place = first;
+        for word in words {
+            for other in others {
+                let label = Label::Words(*word, *other);
+                let value = self.total(place);
+                if value > 0 {
+                    samples.push(Sample { label, value })?;
+                }
+                place = place.saturating_add(1);
+            }
+        }
+        Ok(samples)
+    }
+
+    /// Each worker's counter at this place.
+    fn by_worker(&self, alloc: Global, place: usize) -> Result<Vec<Sample>, AllocError> {
+        let mut samples = Vec::new(alloc);
+        let mut number = 0u64;
+        for counts in &self.workers {
+            let label = Label::Number(number);
+            let value = counts.rows.at(place);
+            samples.push(Sample { label, value })?;
+            number = number.saturating_add(1);
+        }
+        Ok(samples)
+    }
+
+    fn by_shard(&self, alloc: Global, count: PerShard) -> Result<Vec<Sample>, AllocError> {
+        let mut samples = Vec::new(alloc);
+        for shard in 0..self.shards {
+            let label = Label::Number(shard as u64);
+            let value = self.of_shard(shard, count);
+            samples.push(Sample { label, value })?;
+        }
+        Ok(samples)
+    }
+
+    fn of_shard(&self, shard: usize, count: PerShard) -> u64 {
+        match count {
+            PerShard::Entries => self.entries.at(shard),
+            PerShard::Packs => self.packs.at(shard),
+            PerShard::Confirmed => self.confirmed(shard),
+            PerShard::Waiting => {
+                let confirmed = self.confirmed(shard);
+                self.entries.at(shard).saturating_sub(confirmed)
+            }
+        }
+    }
+
+    /// The number of confirmed entries of a shard: the most that a worker knows of.
+    fn confirmed(&self, shard: usize) -> u64 {
+        let mut confirmed = 0u64;
+        for counts in &self.workers {
+            confirmed = confirmed.max(counts.rows.at(CONFIRMED.saturating_add(shard)));
+        }
+        confirmed
+    }
+
+    /// The counts of all workers at this place together.
+    fn total(&self, place: usize) -> u64 {
+        let mut total = 0u64;
+        for counts in &self.workers {
+            total = total.wrapping_add(counts.rows.at(place));
+        }
+        total
+    }
 }
