@@ -1,6 +1,7 @@
 -- The text of a response (RFC 9112, section 4).
 use Rattle.std.specs.Prelude.{ℕ, Bool, true, false, List, [], ◌++◌, length, codes, Option, Some, None, if◌then◌else◌}
 use Rattle.std.specs.Fmt.{decimal}
+use Rattle.nmvs_stream.specs.InputLines.{input_lines}
 use Rattle.nmvs_json.specs.declared.reply.Problem.{Problem}
 use Rattle.nmvs_json.specs.declared.reply.Problem.TheVariants as problems
 use Rattle.nmvs_json.specs.Replies.{problem_of}
@@ -67,11 +68,17 @@ abbrev pub type_where : Option Problem → List ℕ
 type_where None = codes "application/json"
 type_where (Some problem) = codes "application/problem+json"
 
+-- the status of the response to a bulk: it has the time after which to ask again (RFC 9110, section 10.2.3) if the response to one of its
+-- questions would have it
+abbrev pub bulk_status : Bool → List ℕ
+bulk_status true = codes "200 OK\r\nretry-after: 1"
+bulk_status false = codes "200 OK"
+
 -- the status of the response: 200 to lines and to a bulk, exactly if they are not refused
 abbrev pub status_of : Asks → List ℕ → List ℕ
 status_of Lines replies = codes "200 OK"
 status_of (Question scanned) replies = status_where (problem_of replies)
-status_of (Questions scanned) replies = codes "200 OK"
+status_of (Questions scanned) replies = bulk_status (json.has_passing scanned (input_lines replies))
 status_of Health replies = codes "200 OK"
 status_of (Refused fault) replies = status fault
 

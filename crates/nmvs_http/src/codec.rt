@@ -10,7 +10,7 @@ use crate::counted_stream::CountedStream;
 use crate::fault::Fault;
 use crate::request_stream::{Asked, Next};
 use crate::response::{
-    front_of_fault, front_of_health, front_of_lines, front_of_question, problem, write_invitation,
+    front_of_bulk, front_of_fault, front_of_health, front_of_lines, front_of_question, problem, write_invitation,
     write_refusal, write_response,
 };
 use crate::write_buffer::WriteBuffer;
@@ -424,9 +424,9 @@ fn tell_bulk(
     ensures { Tells told.old.bytes.items told.new.bytes.items (response_text (Asks.Questions scanned.now) head_alone stays replies.now) (if stays then CodecStage.Open else CodecStage.Closing) result }
 {
     match bulk_body(alloc, scanned, replies) {
-        Ok(body) => tell_body(
+        Ok((passing, body)) => tell_body(
             told,
-            front_of_question(None),
+            front_of_bulk(passing),
             head_alone,
             stays,
             body.as_slice(),

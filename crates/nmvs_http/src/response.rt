@@ -1,5 +1,5 @@
 //! The texts of responses.
-ghost use Rattle.std.specs.Prelude.{◌≡◌, ◌++◌, [], false, if◌then◌else◌, OnOk, OnErr};
+ghost use Rattle.std.specs.Prelude.{◌≡◌, ◌++◌, [], codes, false, if◌then◌else◌, OnOk, OnErr};
 ghost use Rattle.nmvs_stream.specs.Delivery.{Writes, DeliversPart};
 ghost use Rattle.nmvs_http.specs.Responses as specs;
 
@@ -70,7 +70,19 @@ pub(crate) fn front_of_health() -> &'static [u8]
     b"HTTP/1.1 200 OK\r\ncontent-type: text/plain; charset=utf-8\r\ncache-control: no-store\r\n"
 }
 
-/// The first lines of the response to one question, by its problem if there is one. Those of a bulk are those without a problem.
+/// The first lines of the response to a bulk, by whether one of its answers is a problem that passes.
+#[tactic(auto, unfolding(crate::specs::Responses::front_of))]
+pub(crate) fn front_of_bulk(passing: bool) -> &'static [u8]
+    ensures { result.now ≡ specs.front_of (specs.bulk_status passing) (codes "application/json") }
+{
+    if passing {
+        b"HTTP/1.1 200 OK\r\nretry-after: 1\r\ncontent-type: application/json\r\ncache-control: no-store\r\n"
+    } else {
+        front_of_question(None)
+    }
+}
+
+/// The first lines of the response to one question, by its problem if there is one.
 #[tactic(auto, unfolding(crate::specs::Responses::front_of))]
 pub(crate) fn front_of_question(problem: Option<Problem>) -> &'static [u8]
     ensures { result.now ≡ specs.front_of (specs.status_where problem) (specs.type_where problem) }
