@@ -16,7 +16,7 @@ use crate::response::{
 use crate::write_buffer::WriteBuffer;
 use boxcar::tag::Tag;
 use bytes::Bytes;
-use nmvs_json::{bulk_body, response_of};
+use nmvs_json::{Refusal, bulk_body, refusal_body, response_of};
 use nmvs_rules::Printed;
 use nmvs_stream::Failed;
 use std::alloc::Global;
@@ -384,6 +384,7 @@ fn tell_response(
         Asks::Refused(fault) => {
             tell_body(told, front_of_fault(*fault), alone, stays, problem(*fault))
         }
+        Asks::Malformed(refusal) => tell_malformed(alloc, told, *refusal, alone, stays),
     }
 }
 
@@ -427,6 +428,28 @@ fn tell_bulk(
         Ok((passing, body)) => tell_body(
             told,
             front_of_bulk(passing),
+            head_alone,
+            stays,
+            body.as_slice(),
+        ),
+        Err(_) => CodecStage::Lost,
+    }
+}
+
+/// Responds to a request that is refused for its key or its body of JSON. Returns the next stage of the codec.
+fn tell_malformed(
+    alloc: Global,
+    told: &mut WriteBuffer,
+    refusal: Refusal,
+    head_alone: bool,
+    stays: bool,
+) -> CodecStage
+    ensures { Tells told.old.bytes.items told.new.bytes.items (response_text (Asks.Malformed refusal) head_alone stays []) (if stays then CodecStage.Open else CodecStage.Closing) result }
+{
+    match refusal_body(alloc, refusal) {
+        Ok(body) => tell_body(
+            told,
+            front_of_fault(Fault::Request),
             head_alone,
             stays,
             body.as_slice(),

@@ -123,7 +123,7 @@ pub(crate) fn front_of_fault(fault: Fault) -> &'static [u8]
     ensures { result.now ≡ specs.front_text (Asks.Refused fault) [] }
 {
     match fault {
-        Fault::Request | Fault::Key | Fault::Json | Fault::Fields =>
+        Fault::Request =>
             b"HTTP/1.1 400 Bad Request\r\ncontent-type: application/problem+json\r\ncache-control: no-store\r\n",
         Fault::Site =>
             b"HTTP/1.1 403 Forbidden\r\ncontent-type: application/problem+json\r\ncache-control: no-store\r\n",
@@ -163,12 +163,6 @@ pub(crate) fn problem(fault: Fault) -> &'static [u8]
         Fault::Request =>
             b"{\"type\":\"/problems#REQUEST\",\"title\":\"Bad Request\",\"status\":400,\
             \"detail\":\"The bytes are no request of HTTP/1.1.\",\"fault\":\"REQUEST\",\"recorded\":\"no\"}\n",
-        Fault::Key => b"{\"type\":\"/problems#KEY\",\"title\":\"Bad Request\",\"status\":400,\
-            \"detail\":\"A key is 1 to 40 letters, digits, dots, underscores and hyphens, a letter or digit first. A question has one at most.\",\"fault\":\"KEY\",\"recorded\":\"no\"}\n",
-        Fault::Json => b"{\"type\":\"/problems#JSON\",\"title\":\"Bad Request\",\"status\":400,\
-            \"detail\":\"The body is no JSON object, or an object in it has a member twice.\",\"fault\":\"JSON\",\"recorded\":\"no\"}\n",
-        Fault::Fields => b"{\"type\":\"/problems#FIELDS\",\"title\":\"Bad Request\",\"status\":400,\
-            \"detail\":\"A member is missing, unknown or of another type, or a value is empty or has a character outside ! to ~.\",\"fault\":\"FIELDS\",\"recorded\":\"no\"}\n",
         Fault::Site => b"{\"type\":\"/problems#SITE\",\"title\":\"Forbidden\",\"status\":403,\
             \"detail\":\"A page of another site sent the request.\",\"fault\":\"SITE\",\"recorded\":\"no\"}\n",
         Fault::Path => b"{\"type\":\"/problems#PATH\",\"title\":\"Not Found\",\"status\":404,\

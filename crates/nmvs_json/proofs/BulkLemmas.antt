@@ -11,20 +11,21 @@ use Rattle.nmvs_rules.specs.declared.printed.Printed.{Printed}
 use Rattle.nmvs_words.specs.Words.{spaced}
 use Rattle.nmvs_json.specs.declared.question_fault.QuestionFault.{QuestionFault}
 use Rattle.nmvs_json.specs.declared.question_fault.QuestionFault.TheVariants as fault
-use Rattle.nmvs_json.specs.Bulks.{appended, as_values, item_fields, item_key, item_line, item_line_with, line_and, others_of, values_of}
+use Rattle.nmvs_json.specs.declared.refusal.Refusal.{Refusal}
+use Rattle.nmvs_json.specs.Bulks.{appended, as_values, item_fields, item_key, item_line, item_line_with, line_and, numbered, others_of, values_of, wrong_in}
 use Rattle.nmvs_json.specs.Questions.{is_key, key_text, line_of}
 use Rattle.nmvs_json.specs.Replies.{bodies, body_where, first_line, first_word, has_passing, passes, places_of, problem_where}
 
 -- one line more
-pub line_more : (lines new : List ℕ) (r rest : Result (List ℕ) QuestionFault) → appended lines r ≡ Ok new → line_and (Ok new) rest ≡ line_and (Ok lines) (line_and r rest)
-line_more lines new (Err f) rest e = absurd (cc e)
-line_more lines new (Ok line) (Err f) e = refl
-line_more lines new (Ok line) (Ok later) e =
+pub line_more : (n : ℕ) (j : Json) (lines new : List ℕ) (r : Result (List ℕ) QuestionFault) (rest : Result (List ℕ) Refusal) → appended lines r ≡ Ok new → line_and (Ok new) rest ≡ line_and (Ok lines) (line_and (numbered n j r) rest)
+line_more n j lines new (Err f) rest e = absurd (cc e)
+line_more n j lines new (Ok line) (Err f) e = refl
+line_more n j lines new (Ok line) (Ok later) e =
     let same : lines ++ line ≡ new = cc e in ap Ok (ap (λ (t : List ℕ). t ++ later) (sym same) ∙ append_assoc lines line later)
 
 -- the fault of a line
-pub line_faulty : (lines : List ℕ) (r rest : Result (List ℕ) QuestionFault) (f : QuestionFault) → r ≡ Err f → line_and (Ok lines) (line_and r rest) ≡ Err f
-line_faulty lines r rest f e = ap (λ (s : Result (List ℕ) QuestionFault). line_and (Ok lines) (line_and s rest)) e
+pub line_faulty : (n : ℕ) (j : Json) (lines : List ℕ) (r : Result (List ℕ) QuestionFault) (rest : Result (List ℕ) Refusal) (f : QuestionFault) → r ≡ Err f → line_and (Ok lines) (line_and (numbered n j r) rest) ≡ Err (record { fault = f; item = Some n; member = wrong_in f j })
+line_faulty n j lines r rest f e = ap (λ (s : Result (List ℕ) QuestionFault). line_and (Ok lines) (line_and (numbered n j s) rest)) e
 
 -- all lines
 pub lines_all : (lines : List ℕ) → line_and (Ok lines) (Ok []) ≡ Ok lines
