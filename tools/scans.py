@@ -23,6 +23,13 @@ def line_of(user, word, scan, national=None):
     return " ".join((user, word, pack.code, pack.serial, *condition, pack.batch, pack.expiry))
 
 
+def members_of(user, scan, national=None):
+    """The members of a question over HTTP that the user asks about the pack whose code was scanned. Its reply compares batch and expiry.
+    ValueError: the scan was refused, and the question must not be asked. Its text is for the person who scanned."""
+    pack = read_scan(scan, national)
+    return {"user": user, "code": pack.code, "serial": pack.serial, "scanned": {"batch": pack.batch, "expiry": pack.expiry}}
+
+
 def read_scan(scan, national=None):
     """The pack whose code these bytes are, where its national number is asked for by 710 to 716, or by nothing.
     ValueError: the first fault, with its text for the person who scanned."""
