@@ -10,8 +10,8 @@ use crate::counted_stream::CountedStream;
 use crate::fault::Fault;
 use crate::request_stream::{Asked, Next};
 use crate::response::{
-    front_of_bulk, front_of_fault, front_of_health, front_of_lines, front_of_question, problem, write_invitation,
-    write_refusal, write_response,
+    front_of_bulk, front_of_fault, front_of_health, front_of_lines, front_of_question, problem,
+    write_invitation, write_refusal, write_response,
 };
 use crate::write_buffer::WriteBuffer;
 use boxcar::tag::Tag;

@@ -115,11 +115,14 @@ fn front_of(fault: QuestionFault) -> &'static [u8]
     ensures { result.now ≡ specs.front_of fault }
 {
     match fault {
-        QuestionFault::Key => b"{\"type\":\"/problems#KEY\",\"title\":\"Bad Request\",\"status\":400,\
+        QuestionFault::Key =>
+            b"{\"type\":\"/problems#KEY\",\"title\":\"Bad Request\",\"status\":400,\
             \"detail\":\"A key is 1 to 40 letters, digits, dots, underscores and hyphens, a letter or digit first. A question has one at most.\",\"fault\":\"KEY\",\"recorded\":\"no\"",
-        QuestionFault::Json => b"{\"type\":\"/problems#JSON\",\"title\":\"Bad Request\",\"status\":400,\
+        QuestionFault::Json =>
+            b"{\"type\":\"/problems#JSON\",\"title\":\"Bad Request\",\"status\":400,\
             \"detail\":\"The body is no JSON object, or an object in it has a member twice.\",\"fault\":\"JSON\",\"recorded\":\"no\"",
-        QuestionFault::Fields => b"{\"type\":\"/problems#FIELDS\",\"title\":\"Bad Request\",\"status\":400,\
+        QuestionFault::Fields =>
+            b"{\"type\":\"/problems#FIELDS\",\"title\":\"Bad Request\",\"status\":400,\
             \"detail\":\"A member is missing, unknown or of another type, or a value is empty or has a character outside ! to ~.\",\"fault\":\"FIELDS\",\"recorded\":\"no\"",
         QuestionFault::Memory => b"",
     }
@@ -138,7 +141,10 @@ fn push_item<A: Allocator>(body: &mut Vec<u8, A>, item: Option<usize>) -> Result
 }
 
 /// Puts the name of a member at the end of a problem.
-fn push_member<A: Allocator>(body: &mut Vec<u8, A>, member: Option<Member>) -> Result<(), AllocError>
+fn push_member<A: Allocator>(
+    body: &mut Vec<u8, A>,
+    member: Option<Member>,
+) -> Result<(), AllocError>
     ensures { OnOk result (body.new.items ≡ body.old.items ++ specs.member_text member) }
 {
     let Some(member) = member else {
