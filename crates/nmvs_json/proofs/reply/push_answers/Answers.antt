@@ -15,7 +15,7 @@ loop-its-preserved g c =
     let same : body_where (places_of (first_word c.first_line.result.0.now)) its c.first_line.result.0.now (input_lines []) ≡ body_where (places_of (first_word (first_line lines))) its (first_line lines) [] =
     λ i. body_where (places_of (first_word (line i))) its (line i) (no_lines i) in (
       text_put _ c.extend_from_slice.new.self.items _ c.loop-its.comma.now _ _ _ _ c.in_ok-extend_from_slice.ensures.items
-          (c.in_ok-push_answer.ensures.body ∙ ap (λ (t : List ℕ). c.extend_from_slice.new.self.items ++ t) same)
+          (c.in_ok-problem.ensures.body ∙ ap (λ (t : List ℕ). c.extend_from_slice.new.self.items ++ t) same)
           (body_more c.loop-its.left.now c.in-Some.others.now its lines (input_lines c.first_line.result.1.now) some c.first_line.ensures.later) c.loop-its.invariant.0,
       passing_more c.loop-its.left.now c.in-Some.others.now its lines (input_lines c.first_line.result.1.now) c.loop-its.passing _ _ some c.first_line.ensures.later (search rules) c.loop-its.invariant.1,
     )
