@@ -1,5 +1,5 @@
 -- A bulk of questions is their lines, and its response the bodies of their answers.
-use Rattle.std.proofs.Common.{◌≡◌, ℕ, Bool, true, false, List, [], ◌∷◌, ◌++◌, drop, map, Option, Some, None, Result, Ok, Err, codes, cond, refl, sym, ap, ◌∙◌, subst, append_assoc}
+use Rattle.std.proofs.Common.{◌≡◌, ◌+◌, ℕ, Bool, true, false, List, [], ◌∷◌, ◌++◌, drop, map, Option, Some, None, Result, Ok, Err, codes, cond, refl, sym, ap, ◌∙◌, subst, append_assoc}
 use Rattle.std.specs.Prelude.{IsSomeAnd, option_and_then}
 use Rattle.std.specs.List.{AllByRecursion}
 use Rattle.json.specs.Json.{Json}
@@ -13,7 +13,8 @@ use Rattle.nmvs_protocol.specs.Texts.{text}
 use Rattle.nmvs_json.specs.declared.asked_kind.AskedKind.{AskedKind}
 use Rattle.nmvs_json.specs.declared.question_fault.QuestionFault.{QuestionFault}
 use Rattle.nmvs_json.specs.declared.question_fault.QuestionFault.TheVariants as fault
-use Rattle.nmvs_json.specs.Bulks.{bulk_lines, item_fields, item_key, item_kind, item_line, item_line_with, item_lines, item_scanned, items_in, line_and, lines_of_items, lines_of_object, others_of}
+use Rattle.nmvs_json.specs.declared.refusal.Refusal.{Refusal}
+use Rattle.nmvs_json.specs.Bulks.{bulk_lines, item_fields, item_key, item_kind, item_line, item_line_with, item_lines, item_scanned, items_in, line_and, numbered, lines_of_items, lines_of_object, others_of}
 use Rattle.nmvs_json.specs.Questions.{fields_of, is_key, key_text, line_of, object_in, with_scanned}
 use Rattle.nmvs_json.specs.Replies.{bodies, body_text, body_where, bulk_text, first_line, first_word, places_of, separated}
 use Rattle.nmvs_http.specs.BulkLaws.{AreLinesOf, IsAnsweredByBodies, IsAskedByLines, IsLineText}
@@ -56,14 +57,14 @@ item_is j bytes e = by (item_key j) refl e
 
 -- the lines of items, one after the other
 abbrev HaveLines : List Json → Type 0
-HaveLines js = (bytes : List ℕ) → item_lines js ≡ Ok bytes → AreLinesOf js (input_lines bytes)
+HaveLines js = (n : ℕ) (bytes : List ℕ) → item_lines n js ≡ Ok bytes → AreLinesOf js (input_lines bytes)
 
-lines_are : (js : List Json) (bytes : List ℕ) → item_lines js ≡ Ok bytes → AreLinesOf js (input_lines bytes)
+lines_are : (js : List Json) (n : ℕ) (bytes : List ℕ) → item_lines n js ≡ Ok bytes → AreLinesOf js (input_lines bytes)
 unfolding lines_after
-lines_are [] bytes e = let none : [] ≡ bytes = cc e in subst (λ (t : List ℕ). AreLinesOf [] (input_lines t)) none tt
-lines_are (j ∷ js) bytes e = by (lines_are js) (item_line j) refl (item_lines js) refl e
+lines_are [] n bytes e = let none : [] ≡ bytes = cc e in subst (λ (t : List ℕ). AreLinesOf [] (input_lines t)) none tt
+lines_are (j ∷ js) n bytes e = by (lines_are js) (item_line j) refl (item_lines (n + 1) js) refl e
   where
-    by : HaveLines js → (r : Result (List ℕ) QuestionFault) → item_line j ≡ r → (s : Result (List ℕ) QuestionFault) → item_lines js ≡ s → line_and r s ≡ Ok bytes → AreLinesOf (j ∷ js) (input_lines bytes)
+    by : HaveLines js → (r : Result (List ℕ) QuestionFault) → item_line j ≡ r → (s : Result (List ℕ) Refusal) → item_lines (n + 1) js ≡ s → line_and (numbered n j r) s ≡ Ok bytes → AreLinesOf (j ∷ js) (input_lines bytes)
     by have (Err f) p s q e = absurd (cc e)
     by have (Ok x) p (Err f) q e = absurd (cc e)
     by have (Ok x) p (Ok later) q e =
@@ -73,21 +74,21 @@ lines_are (j ∷ js) bytes e = by (lines_are js) (item_line j) refl (item_lines 
         let cut : input_lines (x ++ later) ≡ l.line ∷ input_lines later = one_more x l.line later l.whole (record { line = l.line; no_lf = l.no_lf; whole = l.whole }) refl in
         subst (λ (t : List ℕ). AreLinesOf (j ∷ js) (input_lines t)) same
         (subst (λ (ls : List (List ℕ)). AreLinesOf (j ∷ js) ls) (sym cut)
-        (record { key = item.key; fields = item.fields; key_is = item.key_is; fields_are = item.fields_are; tagged = l.tagged; behind = l.behind }, have later q))
+        (record { key = item.key; fields = item.fields; key_is = item.key_is; fields_are = item.fields_are; tagged = l.tagged; behind = l.behind }, have (n + 1) later q))
 
 pub asked_by_lines : IsAskedByLines
 unfolding bulk_lines
 asked_by_lines body bulk e = by (object_in body) e
   where
-    told : (js : List Json) (r : Result (List ℕ) QuestionFault) → item_lines js ≡ r → with_scanned (map item_scanned js) r ≡ Ok bulk → (bulk.0 ≡ map item_scanned js) × AreLinesOf js (input_lines bulk.1)
+    told : (js : List Json) (r : Result (List ℕ) Refusal) → item_lines 0 js ≡ r → with_scanned (map item_scanned js) r ≡ Ok bulk → (bulk.0 ≡ map item_scanned js) × AreLinesOf js (input_lines bulk.1)
     told js (Err f) p e = absurd (cc e)
     told js (Ok lines) p e =
         let same : (map item_scanned js, lines) ≡ bulk = cc e in
-        (sym (ap (λ (b : List (Option Printed) × List ℕ). b.0) same), subst (λ (b : List (Option Printed) × List ℕ). AreLinesOf js (input_lines b.1)) same (lines_are js lines p))
+        (sym (ap (λ (b : List (Option Printed) × List ℕ). b.0) same), subst (λ (b : List (Option Printed) × List ℕ). AreLinesOf js (input_lines b.1)) same (lines_are js 0 lines p))
 
     on : (o : Option (List Json)) → lines_of_items o ≡ Ok bulk → IsSomeAnd o (λ items. (bulk.0 ≡ map item_scanned items) × AreLinesOf items (input_lines bulk.1))
     on None e = absurd (cc e)
-    on (Some js) e = told js (item_lines js) refl e
+    on (Some js) e = told js (item_lines 0 js) refl e
 
     by : (o : Option Json) → lines_of_object o ≡ Ok bulk → IsSomeAnd (option_and_then items_in o) (λ items. (bulk.0 ≡ map item_scanned items) × AreLinesOf items (input_lines bulk.1))
     by None e = absurd (cc e)

@@ -1,21 +1,20 @@
 -- The text of a response (RFC 9112, section 4).
 use Rattle.std.specs.Prelude.{ℕ, Bool, true, false, List, [], ◌++◌, length, codes, Option, Some, None, if◌then◌else◌}
 use Rattle.std.specs.Fmt.{decimal}
+use Rattle.nmvs_stream.specs.InputLines.{input_lines}
 use Rattle.nmvs_json.specs.declared.reply.Problem.{Problem}
 use Rattle.nmvs_json.specs.declared.reply.Problem.TheVariants as problems
+use Rattle.nmvs_json.specs.Refusals.{refusal_text}
 use Rattle.nmvs_json.specs.Replies.{problem_of}
 use Rattle.nmvs_json.specs.Replies as json
 use Rattle.nmvs_http.specs.declared.asked.Asks.{Asks}
-use Rattle.nmvs_http.specs.declared.asked.Asks.TheVariants.{Lines, Question, Questions, Health, Refused}
+use Rattle.nmvs_http.specs.declared.asked.Asks.TheVariants.{Lines, Question, Questions, Health, Refused, Malformed}
 use Rattle.nmvs_http.specs.declared.fault.Fault.{Fault}
 use Rattle.nmvs_http.specs.declared.fault.Fault.TheVariants as faults
 
 -- the status of a fault (RFC 9110, section 15), and fields that go with it
 abbrev pub status : Fault → List ℕ
 status faults.Request = codes "400 Bad Request"
-status faults.Key = codes "400 Bad Request"
-status faults.Json = codes "400 Bad Request"
-status faults.Fields = codes "400 Bad Request"
 status faults.Site = codes "403 Forbidden"
 status faults.Path = codes "404 Not Found"
 status faults.MethodNotPost = codes "405 Method Not Allowed\r\nallow: POST"
@@ -34,9 +33,6 @@ status faults.Busy = codes "503 Service Unavailable\r\nretry-after: 1"
 -- server, and fault and recorded are own
 unfoldable pub problem : Fault → List ℕ
 problem faults.Request = codes "{\"type\":\"/problems#REQUEST\",\"title\":\"Bad Request\",\"status\":400,\"detail\":\"The bytes are no request of HTTP/1.1.\",\"fault\":\"REQUEST\",\"recorded\":\"no\"}\n"
-problem faults.Key = codes "{\"type\":\"/problems#KEY\",\"title\":\"Bad Request\",\"status\":400,\"detail\":\"A key is 1 to 40 letters, digits, dots, underscores and hyphens, a letter or digit first. A question has one at most.\",\"fault\":\"KEY\",\"recorded\":\"no\"}\n"
-problem faults.Json = codes "{\"type\":\"/problems#JSON\",\"title\":\"Bad Request\",\"status\":400,\"detail\":\"The body is no JSON object, or an object in it has a member twice.\",\"fault\":\"JSON\",\"recorded\":\"no\"}\n"
-problem faults.Fields = codes "{\"type\":\"/problems#FIELDS\",\"title\":\"Bad Request\",\"status\":400,\"detail\":\"A member is missing, unknown or of another type, or a value is empty or has a character outside ! to ~.\",\"fault\":\"FIELDS\",\"recorded\":\"no\"}\n"
 problem faults.Site = codes "{\"type\":\"/problems#SITE\",\"title\":\"Forbidden\",\"status\":403,\"detail\":\"A page of another site sent the request.\",\"fault\":\"SITE\",\"recorded\":\"no\"}\n"
 problem faults.Path = codes "{\"type\":\"/problems#PATH\",\"title\":\"Not Found\",\"status\":404,\"detail\":\"Nothing is at this path.\",\"fault\":\"PATH\",\"recorded\":\"no\"}\n"
 problem faults.MethodNotPost = codes "{\"type\":\"/problems#METHOD\",\"title\":\"Method Not Allowed\",\"status\":405,\"detail\":\"The path takes another method.\",\"fault\":\"METHOD\",\"recorded\":\"no\"}\n"
@@ -67,13 +63,20 @@ abbrev pub type_where : Option Problem → List ℕ
 type_where None = codes "application/json"
 type_where (Some problem) = codes "application/problem+json"
 
+-- the status of the response to a bulk: it has the time after which to ask again (RFC 9110, section 10.2.3) if the response to one of its
+-- questions would have it
+abbrev pub bulk_status : Bool → List ℕ
+bulk_status true = codes "200 OK\r\nretry-after: 1"
+bulk_status false = codes "200 OK"
+
 -- the status of the response: 200 to lines and to a bulk, exactly if they are not refused
 abbrev pub status_of : Asks → List ℕ → List ℕ
 status_of Lines replies = codes "200 OK"
 status_of (Question scanned) replies = status_where (problem_of replies)
-status_of (Questions scanned) replies = codes "200 OK"
+status_of (Questions scanned) replies = bulk_status (json.has_passing scanned (input_lines replies))
 status_of Health replies = codes "200 OK"
 status_of (Refused fault) replies = status fault
+status_of (Malformed refusal) replies = codes "400 Bad Request"
 
 -- the type of its body
 abbrev pub type_of : Asks → List ℕ → List ℕ
@@ -82,6 +85,7 @@ type_of (Question scanned) replies = type_where (problem_of replies)
 type_of (Questions scanned) replies = codes "application/json"
 type_of Health replies = codes "text/plain; charset=utf-8"
 type_of (Refused fault) replies = codes "application/problem+json"
+type_of (Malformed refusal) replies = codes "application/problem+json"
 
 -- its body: the replies to lines, word for word; the reply to one question, or those to a bulk, as JSON
 abbrev pub body_text : Asks → List ℕ → List ℕ
@@ -90,6 +94,7 @@ body_text (Question scanned) replies = json.body_text scanned replies
 body_text (Questions scanned) replies = json.bulk_text scanned replies
 body_text Health replies = codes "ok\n"
 body_text (Refused fault) replies = problem fault
+body_text (Malformed refusal) replies = refusal_text refusal
 
 -- first lines of this status and type
 unfoldable pub front_of : List ℕ → List ℕ → List ℕ

@@ -8,7 +8,7 @@ ghost use Rattle.nmvs_http.specs.Requests as specs;
 use crate::fault::Fault;
 use bytes::Bytes;
 use http::Request;
-use nmvs_json::BulkScanned;
+use nmvs_json::{BulkScanned, Refusal};
 use nmvs_rules::Printed;
 
 /// The kind of a request.
@@ -24,6 +24,8 @@ pub enum Asks {
     Health,
     /// Is refused for this fault.
     Refused(Fault),
+    /// Is refused for its key or for its body of JSON. It has a second key, or is a bulk, whose questions have their own.
+    Malformed(Refusal),
 }
 
 /// The media type of a body of lines (own, a vendor type of RFC 6838, section 3.2). A page of another site cannot send it

@@ -10,13 +10,13 @@ use crate::counted_stream::CountedStream;
 use crate::fault::Fault;
 use crate::request_stream::{Asked, Next};
 use crate::response::{
-    front_of_fault, front_of_health, front_of_lines, front_of_question, problem, write_invitation,
-    write_refusal, write_response,
+    front_of_bulk, front_of_fault, front_of_health, front_of_lines, front_of_question, problem,
+    write_invitation, write_refusal, write_response,
 };
 use crate::write_buffer::WriteBuffer;
 use boxcar::tag::Tag;
 use bytes::Bytes;
-use nmvs_json::{bulk_body, response_of};
+use nmvs_json::{Refusal, bulk_body, refusal_body, response_of};
 use nmvs_rules::Printed;
 use nmvs_stream::Failed;
 use std::alloc::Global;
@@ -384,6 +384,7 @@ fn tell_response(
         Asks::Refused(fault) => {
             tell_body(told, front_of_fault(*fault), alone, stays, problem(*fault))
         }
+        Asks::Malformed(refusal) => tell_malformed(alloc, told, *refusal, alone, stays),
     }
 }
 
@@ -424,9 +425,31 @@ fn tell_bulk(
     ensures { Tells told.old.bytes.items told.new.bytes.items (response_text (Asks.Questions scanned.now) head_alone stays replies.now) (if stays then CodecStage.Open else CodecStage.Closing) result }
 {
     match bulk_body(alloc, scanned, replies) {
+        Ok((passing, body)) => tell_body(
+            told,
+            front_of_bulk(passing),
+            head_alone,
+            stays,
+            body.as_slice(),
+        ),
+        Err(_) => CodecStage::Lost,
+    }
+}
+
+/// Responds to a request that is refused for its key or its body of JSON. Returns the next stage of the codec.
+fn tell_malformed(
+    alloc: Global,
+    told: &mut WriteBuffer,
+    refusal: Refusal,
+    head_alone: bool,
+    stays: bool,
+) -> CodecStage
+    ensures { Tells told.old.bytes.items told.new.bytes.items (response_text (Asks.Malformed refusal) head_alone stays []) (if stays then CodecStage.Open else CodecStage.Closing) result }
+{
+    match refusal_body(alloc, refusal) {
         Ok(body) => tell_body(
             told,
-            front_of_question(None),
+            front_of_fault(Fault::Request),
             head_alone,
             stays,
             body.as_slice(),

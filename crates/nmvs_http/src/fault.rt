@@ -5,13 +5,6 @@
 pub enum Fault {
     /// Its bytes are no request.
     Request,
-    /// Its key is no tag, or that of one of its questions is none. It has a second key, or is a bulk, whose questions have their own.
-    Key,
-    /// Its body is no JSON object, or an object in it has a member twice.
-    Json,
-    /// The members of its body are not those of the question, or a value cannot be a field of the line. A bulk has no questions, or
-    /// too many.
-    Fields,
     /// A page of another site sent it.
     Site,
     /// Nothing is at its path.

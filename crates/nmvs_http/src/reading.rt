@@ -11,7 +11,9 @@ use crate::fault::Fault;
 use crate::request_lines::whole_lines;
 use bytes::Bytes;
 use http::Request;
-use nmvs_json::{AskedKind, BulkLines, QuestionFault, QuestionLine, bulk_lines, question_line};
+use nmvs_json::{
+    AskedKind, BulkLines, QuestionFault, QuestionLine, Refusal, bulk_lines, question_line,
+};
 use std::alloc::{AllocError, Global};
 
 /// The kind of a request, and the bytes of lines that it carries.
@@ -112,14 +114,14 @@ fn read_body(
     ensures { IfOk result (λ reading. reading ≡ specs.reading_of_line (specs.line_of kind request.now)) }
 {
     if is_repeated(request, "idempotency-key") {
-        return refused_for(QuestionFault::Key);
+        return malformed(Refusal::whole(QuestionFault::Key));
     }
     match question_line(alloc, kind, key_of(request), request.body().as_slice()) {
         Ok(QuestionLine { scanned, line }) => Ok(Reading {
             asks: Asks::Question(scanned),
             lines: bytes_of(line)?,
         }),
-        Err(fault) => refused_for(fault),
+        Err(refusal) => malformed(refusal),
     }
 }
 
@@ -138,7 +140,7 @@ fn read_items(alloc: Global, request: &Request<Bytes>) -> Result<Reading, AllocE
     ensures { IfOk result (λ reading. reading ≡ specs.reading_of_items (specs.bulk_of request.now)) }
 {
     if field(request, "idempotency-key").is_some() {
-        return refused_for(QuestionFault::Key);
+        return malformed(Refusal::whole(QuestionFault::Key));
     }
     match bulk_lines(alloc, request.body().as_slice()) {
         Ok(BulkLines { scanned, lines }) => {
@@ -148,22 +150,21 @@ fn read_items(alloc: Global, request: &Request<Bytes>) -> Result<Reading, AllocE
                 lines,
             })
         }
-        Err(fault) => refused_for(fault),
+        Err(refusal) => malformed(refusal),
     }
 }
 
-/// A request that is refused for a fault of its questions.
-fn refused_for(fault: QuestionFault) -> Result<Reading, AllocError>
-    ensures refused { IfOk result (λ reading. reading ≡ specs.refused_for (specs.fault_of_question fault)) }
-    ensures memory { IfOk result (λ reading. fault ≢ QuestionFault.Memory) }
+/// A request that is refused for its key or for its body of JSON.
+fn malformed(refusal: Refusal) -> Result<Reading, AllocError>
+    ensures refused { IfOk result (λ reading. reading ≡ specs.malformed refusal) }
+    ensures memory { IfOk result (λ reading. refusal.fault ≢ QuestionFault.Memory) }
 {
-    let fault = match fault {
-        QuestionFault::Key => Fault::Key,
-        QuestionFault::Json => Fault::Json,
-        QuestionFault::Fields => Fault::Fields,
-        QuestionFault::Memory => return Err(AllocError),
-    };
-    Ok(without_lines(Asks::Refused(fault)))
+    match refusal.fault {
+        QuestionFault::Memory => Err(AllocError),
+        QuestionFault::Key | QuestionFault::Json | QuestionFault::Fields => {
+            Ok(without_lines(Asks::Malformed(refusal)))
+        }
+    }
 }
 
 /// The bytes of a text.

@@ -1,5 +1,5 @@
 //! The texts of responses.
-ghost use Rattle.std.specs.Prelude.{◌≡◌, ◌++◌, [], false, if◌then◌else◌, OnOk, OnErr};
+ghost use Rattle.std.specs.Prelude.{◌≡◌, ◌++◌, [], codes, false, if◌then◌else◌, OnOk, OnErr};
 ghost use Rattle.nmvs_stream.specs.Delivery.{Writes, DeliversPart};
 ghost use Rattle.nmvs_http.specs.Responses as specs;
 
@@ -70,7 +70,19 @@ pub(crate) fn front_of_health() -> &'static [u8]
     b"HTTP/1.1 200 OK\r\ncontent-type: text/plain; charset=utf-8\r\ncache-control: no-store\r\n"
 }
 
-/// The first lines of the response to one question, by its problem if there is one. Those of a bulk are those without a problem.
+/// The first lines of the response to a bulk, by whether one of its answers is a problem that passes.
+#[tactic(auto, unfolding(crate::specs::Responses::front_of))]
+pub(crate) fn front_of_bulk(passing: bool) -> &'static [u8]
+    ensures { result.now ≡ specs.front_of (specs.bulk_status passing) (codes "application/json") }
+{
+    if passing {
+        b"HTTP/1.1 200 OK\r\nretry-after: 1\r\ncontent-type: application/json\r\ncache-control: no-store\r\n"
+    } else {
+        front_of_question(None)
+    }
+}
+
+/// The first lines of the response to one question, by its problem if there is one.
 #[tactic(auto, unfolding(crate::specs::Responses::front_of))]
 pub(crate) fn front_of_question(problem: Option<Problem>) -> &'static [u8]
     ensures { result.now ≡ specs.front_of (specs.status_where problem) (specs.type_where problem) }
@@ -111,7 +123,7 @@ pub(crate) fn front_of_fault(fault: Fault) -> &'static [u8]
     ensures { result.now ≡ specs.front_text (Asks.Refused fault) [] }
 {
     match fault {
-        Fault::Request | Fault::Key | Fault::Json | Fault::Fields =>
+        Fault::Request =>
             b"HTTP/1.1 400 Bad Request\r\ncontent-type: application/problem+json\r\ncache-control: no-store\r\n",
         Fault::Site =>
             b"HTTP/1.1 403 Forbidden\r\ncontent-type: application/problem+json\r\ncache-control: no-store\r\n",
@@ -151,12 +163,6 @@ pub(crate) fn problem(fault: Fault) -> &'static [u8]
         Fault::Request =>
             b"{\"type\":\"/problems#REQUEST\",\"title\":\"Bad Request\",\"status\":400,\
             \"detail\":\"The bytes are no request of HTTP/1.1.\",\"fault\":\"REQUEST\",\"recorded\":\"no\"}\n",
-        Fault::Key => b"{\"type\":\"/problems#KEY\",\"title\":\"Bad Request\",\"status\":400,\
-            \"detail\":\"A key is 1 to 40 letters, digits, dots, underscores and hyphens, a letter or digit first. A question has one at most.\",\"fault\":\"KEY\",\"recorded\":\"no\"}\n",
-        Fault::Json => b"{\"type\":\"/problems#JSON\",\"title\":\"Bad Request\",\"status\":400,\
-            \"detail\":\"The body is no JSON object, or an object in it has a member twice.\",\"fault\":\"JSON\",\"recorded\":\"no\"}\n",
-        Fault::Fields => b"{\"type\":\"/problems#FIELDS\",\"title\":\"Bad Request\",\"status\":400,\
-            \"detail\":\"A member is missing, unknown or of another type, or a value is empty or has a character outside ! to ~.\",\"fault\":\"FIELDS\",\"recorded\":\"no\"}\n",
         Fault::Site => b"{\"type\":\"/problems#SITE\",\"title\":\"Forbidden\",\"status\":403,\
             \"detail\":\"A page of another site sent the request.\",\"fault\":\"SITE\",\"recorded\":\"no\"}\n",
         Fault::Path => b"{\"type\":\"/problems#PATH\",\"title\":\"Not Found\",\"status\":404,\

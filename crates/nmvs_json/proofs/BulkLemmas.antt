@@ -1,5 +1,5 @@
 -- The lines of items, and the bodies of answers.
-use Rattle.std.proofs.Common.{◌≡◌, ℕ, Bool, true, cond, List, [], ◌∷◌, ◌++◌, drop, map, Option, Some, None, Result, Ok, Err, Vec, refl, sym, ap, ◌∙◌, append_assoc}
+use Rattle.std.proofs.Common.{◌≡◌, ◌||◌, ℕ, Bool, true, false, cond, List, [], ◌∷◌, ◌++◌, drop, map, Option, Some, None, Result, Ok, Err, Vec, refl, sym, ap, ◌∙◌, append_assoc}
 use Rattle.std.specs.Prelude.{OnOk, option_map}
 use Rattle.std.proofs.lemmas.List.{append-nil}
 use Rattle.std.proofs.lemmas.Option.{same_Some}
@@ -11,20 +11,21 @@ use Rattle.nmvs_rules.specs.declared.printed.Printed.{Printed}
 use Rattle.nmvs_words.specs.Words.{spaced}
 use Rattle.nmvs_json.specs.declared.question_fault.QuestionFault.{QuestionFault}
 use Rattle.nmvs_json.specs.declared.question_fault.QuestionFault.TheVariants as fault
-use Rattle.nmvs_json.specs.Bulks.{appended, as_values, item_fields, item_key, item_line, item_line_with, line_and, others_of, values_of}
+use Rattle.nmvs_json.specs.declared.refusal.Refusal.{Refusal}
+use Rattle.nmvs_json.specs.Bulks.{appended, as_values, item_fields, item_key, item_line, item_line_with, line_and, numbered, others_of, values_of, wrong_in}
 use Rattle.nmvs_json.specs.Questions.{is_key, key_text, line_of}
-use Rattle.nmvs_json.specs.Replies.{bodies, body_where, first_line, first_word, places_of}
+use Rattle.nmvs_json.specs.Replies.{bodies, body_where, first_line, first_word, has_passing, passes, places_of, problem_where}
 
 -- one line more
-pub line_more : (lines new : List ℕ) (r rest : Result (List ℕ) QuestionFault) → appended lines r ≡ Ok new → line_and (Ok new) rest ≡ line_and (Ok lines) (line_and r rest)
-line_more lines new (Err f) rest e = absurd (cc e)
-line_more lines new (Ok line) (Err f) e = refl
-line_more lines new (Ok line) (Ok later) e =
+pub line_more : (n : ℕ) (j : Json) (lines new : List ℕ) (r : Result (List ℕ) QuestionFault) (rest : Result (List ℕ) Refusal) → appended lines r ≡ Ok new → line_and (Ok new) rest ≡ line_and (Ok lines) (line_and (numbered n j r) rest)
+line_more n j lines new (Err f) rest e = absurd (cc e)
+line_more n j lines new (Ok line) (Err f) e = refl
+line_more n j lines new (Ok line) (Ok later) e =
     let same : lines ++ line ≡ new = cc e in ap Ok (ap (λ (t : List ℕ). t ++ later) (sym same) ∙ append_assoc lines line later)
 
 -- the fault of a line
-pub line_faulty : (lines : List ℕ) (r rest : Result (List ℕ) QuestionFault) (f : QuestionFault) → r ≡ Err f → line_and (Ok lines) (line_and r rest) ≡ Err f
-line_faulty lines r rest f e = ap (λ (s : Result (List ℕ) QuestionFault). line_and (Ok lines) (line_and s rest)) e
+pub line_faulty : (n : ℕ) (j : Json) (lines : List ℕ) (r : Result (List ℕ) QuestionFault) (rest : Result (List ℕ) Refusal) (f : QuestionFault) → r ≡ Err f → line_and (Ok lines) (line_and (numbered n j r) rest) ≡ Err (record { fault = f; item = Some n; member = wrong_in f j })
+line_faulty n j lines r rest f e = ap (λ (s : Result (List ℕ) QuestionFault). line_and (Ok lines) (line_and (numbered n j s) rest)) e
 
 -- all lines
 pub lines_all : (lines : List ℕ) → line_and (Ok lines) (Ok []) ≡ Ok lines
@@ -54,6 +55,14 @@ values_back (j ∷ js) = ap (λ (later : List Json). j ∷ later) (values_back j
 pub array_values : {A : Type 0} (v : Vec (Value A) A) → as_values (value_view (Array v)) ≡ Some (map value_view v.items)
 array_values v = ap as_values (view-Array v) ∙ ap Some (values_back (map value_view v.items))
 
+or_more : (a b c : Bool) → ((a || b) || c) ≡ (a || (b || c))
+or_more true b c = refl
+or_more false b c = refl
+
+or_none : (a : Bool) → a ≡ (a || false)
+or_none true = refl
+or_none false = refl
+
 -- one body more, or none
 pub body_more : (all others : List (Option Printed)) (scanned : Option Printed) (lines after : List (List ℕ)) → all ≡ scanned ∷ others → after ≡ drop 1 lines
     → bodies all lines ≡ body_where (places_of (first_word (first_line lines))) scanned (first_line lines) [] ∷ bodies others after
@@ -65,3 +74,18 @@ body_more all others scanned lines after some is =
 pub no_bodies : (all : List (Option Printed)) (lines : List (List ℕ)) → all ≡ [] → bodies all lines ≡ []
 unfolding bodies
 no_bodies all lines none = ap (λ (ss : List (Option Printed)). bodies ss lines) none
+
+-- one answer more, or none
+pub passing_more : (all others : List (Option Printed)) (scanned : Option Printed) (lines after : List (List ℕ)) (old new whole : Bool) → all ≡ scanned ∷ others → after ≡ drop 1 lines
+    → new ≡ (old || passes (problem_where (places_of (first_word (first_line lines))) (first_line lines))) → (old || has_passing all lines) ≡ whole → (new || has_passing others after) ≡ whole
+unfolding has_passing
+passing_more all others scanned lines after old new whole some is next e =
+    let its = passes (problem_where (places_of (first_word (first_line lines))) (first_line lines)) in
+    let more : has_passing all lines ≡ (its || has_passing others after) =
+    ap (λ (ss : List (Option Printed)). has_passing ss lines) some ∙ ap (λ (ls : List (List ℕ)). its || has_passing others ls) (sym is) in
+    ap (λ (b : Bool). b || has_passing others after) next ∙ or_more old its (has_passing others after) ∙ ap (λ (b : Bool). old || b) (sym more) ∙ e
+
+pub no_passing : (all : List (Option Printed)) (lines : List (List ℕ)) (found whole : Bool) → all ≡ [] → (found || has_passing all lines) ≡ whole → found ≡ whole
+unfolding has_passing
+no_passing all lines found whole none e =
+    or_none found ∙ ap (λ (ss : List (Option Printed)). found || has_passing ss lines) (sym none) ∙ e

@@ -1,5 +1,5 @@
 -- The lines that a bulk of questions means (own).
-use Rattle.std.specs.Prelude.{ℕ, ◌&&◌, List, [], ◌∷◌, ◌++◌, length, map, nat_le, nat_lt, codes, Option, Some, None, option_and_then, option_map, ◌==◌, Result, Ok, Err, if◌then◌else◌}
+use Rattle.std.specs.Prelude.{ℕ, ◌+◌, ◌&&◌, List, [], ◌∷◌, ◌++◌, length, map, nat_le, nat_lt, codes, Option, Some, None, option_and_then, option_map, ◌==◌, Result, Ok, Err, if◌then◌else◌}
 use Rattle.json.specs.Find.{as_str, get}
 use Rattle.json.specs.Json as json
 use Rattle.json.specs.Json.{Json, Items}
@@ -7,7 +7,11 @@ use Rattle.nmvs_rules.specs.declared.printed.Printed.{Printed}
 use Rattle.nmvs_json.specs.declared.asked_kind.AskedKind.{AskedKind}
 use Rattle.nmvs_json.specs.declared.question_fault.QuestionFault.{QuestionFault}
 use Rattle.nmvs_json.specs.declared.question_fault.QuestionFault.TheVariants as fault
-use Rattle.nmvs_json.specs.Questions.{count_of, fields_of, has_list, is_key, kind_named, line_of, object_in, scanned_in, text_of, with_scanned}
+use Rattle.nmvs_json.specs.declared.refusal.Member.{Member}
+use Rattle.nmvs_json.specs.declared.refusal.Member.TheVariants as members
+use Rattle.nmvs_json.specs.declared.refusal.Refusal.{Refusal}
+use Rattle.nmvs_json.specs.Questions.{count_of, fields_of, has_list, is_key, kind_named, line_of, object_in, scanned_in, text_of, with_scanned, wrong_member}
+use Rattle.nmvs_json.specs.Refusals.{whole}
 
 -- the kind that an item asks: one whose answer is no list
 abbrev pub without_list : AskedKind → Option AskedKind
@@ -15,6 +19,11 @@ without_list kind = if has_list kind then None else Some kind
 
 abbrev pub item_kind : Json → Option AskedKind
 item_kind j = option_and_then without_list (option_and_then kind_named (text_of (codes "ask") j))
+
+-- the first wrong member of an item, by the kind that it asks
+abbrev pub wrong_asked : Option AskedKind → Json → Option Member
+wrong_asked None j = Some members.Ask
+wrong_asked (Some kind) j = wrong_member kind j
 
 -- the fields of the line that an item means, if its members are those of its kind and this number of others
 abbrev pub item_fields : ℕ → Json → Option (List (List ℕ))
@@ -47,16 +56,26 @@ abbrev pub appended : List ℕ → Result (List ℕ) QuestionFault → Result (L
 appended lines (Err f) = Err f
 appended lines (Ok line) = Ok (lines ++ line)
 
--- a line and the lines after it, or the first fault
-abbrev pub line_and : Result (List ℕ) QuestionFault → Result (List ℕ) QuestionFault → Result (List ℕ) QuestionFault
+-- the first wrong member of an item with this fault
+abbrev pub wrong_in : QuestionFault → Json → Option Member
+wrong_in fault.Key j = Some members.Key
+wrong_in _ j = wrong_asked (item_kind j) j
+
+-- the line of the item of this number, or its refusal
+abbrev pub numbered : ℕ → Json → Result (List ℕ) QuestionFault → Result (List ℕ) Refusal
+numbered n j (Err f) = Err (record { fault = f; item = Some n; member = wrong_in f j })
+numbered n j (Ok line) = Ok line
+
+-- a line and the lines after it, or the first refusal
+abbrev pub line_and : Result (List ℕ) Refusal → Result (List ℕ) Refusal → Result (List ℕ) Refusal
 line_and (Err f) lines = Err f
 line_and (Ok line) (Err f) = Err f
 line_and (Ok line) (Ok lines) = Ok (line ++ lines)
 
--- the lines of items, in order
-abbrev pub item_lines : List Json → Result (List ℕ) QuestionFault
-item_lines [] = Ok []
-item_lines (j ∷ js) = line_and (item_line j) (item_lines js)
+-- the lines of items, in order; they are counted from this number on
+abbrev pub item_lines : ℕ → List Json → Result (List ℕ) Refusal
+item_lines n [] = Ok []
+item_lines n (j ∷ js) = line_and (numbered n j (item_line j)) (item_lines (n + 1) js)
 
 -- the values in an array
 abbrev pub values_of : Items → List Json
@@ -83,15 +102,15 @@ items_in j = if count_of j == 1 then option_and_then within_most (option_and_the
 unfoldable pub item_scanned : Json → Option Printed
 item_scanned j = option_and_then (λ kind. scanned_in kind j) (item_kind j)
 
-abbrev pub lines_of_items : Option (List Json) → Result (List (Option Printed) × List ℕ) QuestionFault
-lines_of_items None = Err fault.Fields
-lines_of_items (Some js) = with_scanned (map item_scanned js) (item_lines js)
+abbrev pub lines_of_items : Option (List Json) → Result (List (Option Printed) × List ℕ) Refusal
+lines_of_items None = Err (record { fault = fault.Fields; item = None; member = Some members.Questions })
+lines_of_items (Some js) = with_scanned (map item_scanned js) (item_lines 0 js)
 
-abbrev pub lines_of_object : Option Json → Result (List (Option Printed) × List ℕ) QuestionFault
-lines_of_object None = Err fault.Json
+abbrev pub lines_of_object : Option Json → Result (List (Option Printed) × List ℕ) Refusal
+lines_of_object None = Err (whole fault.Json)
 lines_of_object (Some j) = lines_of_items (items_in j)
 
--- the scanned values of each question in the body of a bulk, and their lines in order, each with its LF; or the first fault, for
--- which none of them is asked
-unfoldable pub bulk_lines : List ℕ → Result (List (Option Printed) × List ℕ) QuestionFault
+-- the scanned values of each question in the body of a bulk, and their lines in order, each with its LF; or the refusal
+-- for the first fault, for which none of them is asked
+unfoldable pub bulk_lines : List ℕ → Result (List (Option Printed) × List ℕ) Refusal
 bulk_lines body = lines_of_object (object_in body)

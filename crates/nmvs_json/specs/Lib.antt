@@ -1,3 +1,4 @@
+pub mod Refusals
 pub mod Scans
 pub mod Questions
 pub mod Bulks

@@ -1,8 +1,8 @@
 -- The line that a question of JSON means (own).
-use Rattle.std.specs.Prelude.{ℕ, ◌+◌, Bool, true, false, not, ◌&&◌, ◌||◌, ◌==◌, if◌then◌else◌, List, [], ◌∷◌, ◌++◌, length, take, drop, codes, Option, Some, None, option_map, option_and_then, Result, Ok, Err}
+use Rattle.std.specs.Prelude.{ℕ, ◌+◌, Bool, true, false, not, ◌&&◌, ◌||◌, ◌==◌, if◌then◌else◌, List, [], ◌∷◌, ◌++◌, length, take, drop, map, find, codes, Option, Some, None, option_map, option_and_then, Result, Ok, Err}
 use Rattle.std.specs.Char.{is_ascii_graphic}
 use Rattle.std.specs.List.{list_all}
-use Rattle.std.specs.Option.{is_none, is_some, unwrap_or}
+use Rattle.std.specs.Option.{is_none, is_some, option_or, unwrap_or}
 use Rattle.std.specs.Str.{bytes_eq, is_utf8}
 use Rattle.json.specs.Find.{as_str, get}
 use Rattle.json.specs.Json as json
@@ -23,6 +23,10 @@ use Rattle.nmvs_json.specs.declared.asked_kind.AskedKind.{AskedKind}
 use Rattle.nmvs_json.specs.declared.asked_kind.AskedKind.TheVariants.{Question, Report}
 use Rattle.nmvs_json.specs.declared.question_fault.QuestionFault.{QuestionFault}
 use Rattle.nmvs_json.specs.declared.question_fault.QuestionFault.TheVariants as fault
+use Rattle.nmvs_json.specs.declared.refusal.Member.{Member}
+use Rattle.nmvs_json.specs.declared.refusal.Member.TheVariants as members
+use Rattle.nmvs_json.specs.declared.refusal.Refusal.{Refusal}
+use Rattle.nmvs_json.specs.Refusals.{member_name, whole}
 use Rattle.nmvs_json.specs.Replies.{named}
 use Rattle.nmvs_json.specs.Scans.{pack_in}
 
@@ -60,11 +64,14 @@ word_of (Question kind) = kind_word kind
 word_of Report = codes "REPORT"
 
 -- the members after the user, in the order of the line
+abbrev pub members_of : AskedKind → List Member
+members_of (Question Upload) = members.Code ∷ members.Serial ∷ members.Batch ∷ members.Expiry ∷ []
+members_of (Question (OfPack _)) = members.Code ∷ members.Serial ∷ []
+members_of (Question (OfBatch _)) = members.Code ∷ members.Batch ∷ []
+members_of Report = members.Code ∷ []
+
 abbrev pub names_of : AskedKind → List (List ℕ)
-names_of (Question Upload) = codes "code" ∷ codes "serial" ∷ codes "batch" ∷ codes "expiry" ∷ []
-names_of (Question (OfPack _)) = codes "code" ∷ codes "serial" ∷ []
-names_of (Question (OfBatch _)) = codes "code" ∷ codes "batch" ∷ []
-names_of Report = codes "code" ∷ []
+names_of kind = map member_name (members_of kind)
 
 -- whether a kind asks about a pack
 abbrev pub is_of_pack : AskedKind → Bool
@@ -165,7 +172,7 @@ name_texts kind j =
     if has_scan kind j then option_map (λ scan. pack_texts (pack_in scan)) (string_of (codes "scan") j) else texts_of (names_of kind) j
 
 abbrev pub name_count : AskedKind → Json → ℕ
-name_count kind j = if has_scan kind j then 1 else length (names_of kind)
+name_count kind j = if has_scan kind j then 1 else length (members_of kind)
 
 -- whether the values printed on a pack stand in the member scanned, as they may in a question about a pack without a scan
 abbrev pub has_scanned : AskedKind → Json → Bool
@@ -261,6 +268,26 @@ fields_of others kind j =
     then option_and_then (λ user. option_map (λ texts. user ∷ word_of kind ∷ texts) (subject_of kind j)) (user_of j)
     else None
 
+-- whether the texts of the member scanned are missing, though it is there; whether there is another condition than that they match
+abbrev pub is_untold : AskedKind → Json → Bool
+is_untold kind j = has_scanned kind j && is_none (said_of j)
+
+abbrev pub has_other_condition : AskedKind → Json → Bool
+has_other_condition kind j = has_condition kind j && not (is_matching (string_of (codes "if_scanned") j))
+
+-- the first member that is wrong, of those that name the pack, the batch or the product; and of those after them
+abbrev pub wrong_name : AskedKind → Json → Option Member
+wrong_name kind j =
+    if has_scan kind j then (if is_none (string_of (codes "scan") j) then Some members.Scan else None)
+    else find (λ member. is_none (text_of (member_name member) j)) (members_of kind)
+
+abbrev pub wrong_condition : AskedKind → Json → Option Member
+wrong_condition kind j = if is_untold kind j then Some members.Scanned else (if has_other_condition kind j then Some members.IfScanned else None)
+
+-- the first member that is wrong in the object of a refused question; there is none if another member is too many
+unfoldable pub wrong_member : AskedKind → Json → Option Member
+wrong_member kind j = if is_none (user_of j) then Some members.User else option_or (wrong_name kind j) (wrong_condition kind j)
+
 -- whether a key is a tag; there may be none
 abbrev pub is_key : Option (List ℕ) → Bool
 is_key None = true
@@ -276,8 +303,13 @@ abbrev pub line_of : Option (List ℕ) → Option (List (List ℕ)) → Result (
 line_of key None = Err fault.Fields
 line_of key (Some fields) = Ok (key_text key ++ spaced fields)
 
--- lines and the scanned values of their questions, or the fault
-abbrev pub with_scanned : {S : Type 0} → S → Result (List ℕ) QuestionFault → Result (S × List ℕ) QuestionFault
+-- the line of a question, or its refusal for this member
+abbrev pub placed : Option Member → Result (List ℕ) QuestionFault → Result (List ℕ) Refusal
+placed member (Err f) = Err (record { fault = f; item = None; member = member })
+placed member (Ok line) = Ok line
+
+-- lines and the scanned values of their questions, or the refusal
+abbrev pub with_scanned : {S : Type 0} → S → Result (List ℕ) Refusal → Result (S × List ℕ) Refusal
 with_scanned scanned (Err f) = Err f
 with_scanned scanned (Ok lines) = Ok (scanned, lines)
 
@@ -285,12 +317,12 @@ with_scanned scanned (Ok lines) = Ok (scanned, lines)
 abbrev pub scanned_in : AskedKind → Json → Option Printed
 scanned_in kind j = unwrap_or (scanned_of kind j) None
 
--- the scanned values and the line of a question with this key and this object as its body, or its fault; the one other member is the
+-- the scanned values and the line of a question with this key and this object as its body, or its refusal; the one other member is the
 -- user
-abbrev pub line_of_object : AskedKind → Option (List ℕ) → Option Json → Result (Option Printed × List ℕ) QuestionFault
-line_of_object kind key None = Err fault.Json
-line_of_object kind key (Some j) = with_scanned (scanned_in kind j) (line_of key (fields_of 1 kind j))
+abbrev pub line_of_object : AskedKind → Option (List ℕ) → Option Json → Result (Option Printed × List ℕ) Refusal
+line_of_object kind key None = Err (whole fault.Json)
+line_of_object kind key (Some j) = with_scanned (scanned_in kind j) (placed (wrong_member kind j) (line_of key (fields_of 1 kind j)))
 
--- the scanned values and the line, with its LF, of a question with this key and this body, or its first fault
-unfoldable pub question_line : AskedKind → Option (List ℕ) → List ℕ → Result (Option Printed × List ℕ) QuestionFault
-question_line kind key body = if is_key key then line_of_object kind key (object_in body) else Err fault.Key
+-- the scanned values and the line, with its LF, of a question with this key and this body, or its refusal for the first fault
+unfoldable pub question_line : AskedKind → Option (List ℕ) → List ℕ → Result (Option Printed × List ℕ) Refusal
+question_line kind key body = if is_key key then line_of_object kind key (object_in body) else Err (whole fault.Key)

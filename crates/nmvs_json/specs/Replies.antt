@@ -1,5 +1,5 @@
 -- The JSON of a reply (RFC 8259), or the problem if there is none (RFC 9457). Names and statuses are our own choice.
-use Rattle.std.specs.Prelude.{ℕ, Bool, false, List, [], ◌∷◌, ◌++◌, ◌==◌, ◌||◌, codes, drop, find, Option, Some, None, option_map, unwrap_or, if◌then◌else◌}
+use Rattle.std.specs.Prelude.{ℕ, Bool, true, false, List, [], ◌∷◌, ◌++◌, ◌==◌, ◌||◌, codes, drop, find, Option, Some, None, option_map, unwrap_or, if◌then◌else◌}
 use Rattle.std.specs.List.{after_first, before_first, flat_map}
 use Rattle.std.specs.Str.{bytes_eq}
 use Rattle.nmvs_stream.specs.InputLines.{input_lines}
@@ -248,6 +248,17 @@ unfoldable pub bodies : List (Option Printed) → List (List ℕ) → List (List
 bodies [] lines = []
 bodies (scanned ∷ others) lines =
     body_where (places_of (first_word (first_line lines))) scanned (first_line lines) [] ∷ bodies others (drop 1 lines)
+
+-- whether a problem passes: nothing is recorded, and the same question may have a reply after a second
+abbrev pub passes : Option Problem → Bool
+passes (Some TooManyRequests) = true
+passes (Some Unavailable) = true
+passes _ = false
+
+-- whether one of the answers that have these bodies is such a problem
+unfoldable pub has_passing : List (Option Printed) → List (List ℕ) → Bool
+has_passing [] lines = false
+has_passing (scanned ∷ others) lines = passes (problem_where (places_of (first_word (first_line lines))) (first_line lines)) || has_passing others (drop 1 lines)
 
 -- the body for the scanned values of each question of a bulk, and the text that a session of lines wrote to its lines
 unfoldable pub bulk_text : List (Option Printed) → List ℕ → List ℕ

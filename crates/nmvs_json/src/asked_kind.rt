@@ -1,7 +1,8 @@
 //! The kinds of questions, their names and their paths.
-ghost use Rattle.std.specs.Prelude.{◌≡◌, map};
+ghost use Rattle.std.specs.Prelude.{◌≡◌};
 ghost use Rattle.nmvs_json.specs.Questions as specs;
 
+use crate::refusal::Member;
 use crate::table::named;
 use nmvs_rules::Reason;
 use nmvs_words::{BatchQuestion, PackQuestion, QuestionKind};
@@ -118,14 +119,16 @@ impl AskedKind {
     }
 
     /// The members after the user, in the order in which the line has their texts.
-    pub(crate) fn names(self) -> &'static [&'static str]
-        ensures { map (λ n. n.now) result.now ≡ specs.names_of self }
+    pub(crate) fn members(self) -> &'static [Member]
+        ensures { result.now ≡ specs.members_of self }
     {
         match self {
-            AskedKind::Question(QuestionKind::Upload) => &["code", "serial", "batch", "expiry"],
-            AskedKind::Question(QuestionKind::OfPack(_)) => &["code", "serial"],
-            AskedKind::Question(QuestionKind::OfBatch(_)) => &["code", "batch"],
-            AskedKind::Report => &["code"],
+            AskedKind::Question(QuestionKind::Upload) => {
+                &[Member::Code, Member::Serial, Member::Batch, Member::Expiry]
+            }
+            AskedKind::Question(QuestionKind::OfPack(_)) => &[Member::Code, Member::Serial],
+            AskedKind::Question(QuestionKind::OfBatch(_)) => &[Member::Code, Member::Batch],
+            AskedKind::Report => &[Member::Code],
         }
     }
 }

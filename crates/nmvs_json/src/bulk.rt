@@ -5,8 +5,8 @@ ghost use Rattle.std.specs.Option.{option_copied};
 ghost use Rattle.json.specs.Value.{value_view};
 ghost use Rattle.nmvs_json.specs.Bulks as specs;
 
-use crate::question::{count_of, object_in, push_fields, push_key, text_of};
-use crate::{AskedKind, QuestionFault};
+use crate::question::{count_of, object_in, push_fields, push_key, text_of, wrong_member};
+use crate::{AskedKind, Member, QuestionFault, Refusal};
 use json::{Scratch, Value};
 use nmvs_rules::Printed;
 use std::alloc::{AllocError, Global};
@@ -65,16 +65,22 @@ pub struct BulkLines {
 ///
 /// # Errors
 ///
-/// The first fault that holds. `Key` and `Fields` may be those of one question. `Memory`: there is no memory.
+/// The refusal for the first fault that holds. `Memory`: there is no memory.
 #[tactic(auto, unfolding(crate::specs::Bulks::bulk_lines))]
-pub fn bulk_lines(alloc: Global, body: &[u8]) -> Result<BulkLines, QuestionFault>
+pub fn bulk_lines(alloc: Global, body: &[u8]) -> Result<BulkLines, Refusal>
     ensures lines { IfOk result (λ bulk. specs.bulk_lines body.now ≡ Ok (bulk.scanned, string_bytes bulk.lines)) }
-    ensures fault { IfErr result (λ fault. fault ≢ QuestionFault.Memory → specs.bulk_lines body.now ≡ Err fault) }
+    ensures refusal { IfErr result (λ refusal. refusal.fault ≢ QuestionFault.Memory → specs.bulk_lines body.now ≡ Err refusal) }
 {
     let mut scratch = Scratch::new(alloc);
     let object = object_in(alloc, body, &mut scratch)?;
-    let items = items_in(&object).ok_or(QuestionFault::Fields)?;
-    lines_of(alloc, items)
+    match items_in(&object) {
+        Some(items) => lines_of(alloc, items),
+        None => Err(Refusal {
+            fault: QuestionFault::Fields,
+            item: None,
+            member: Some(Member::Questions),
+        }),
+    }
 }
 
 /// The items of a bulk.
@@ -102,20 +108,49 @@ fn values_of<'v, 't>(value: &'v Value<'t>) -> Option<&'v [Value<'t>]>
 }
 
 /// The lines of items, and the scanned values of each.
-fn lines_of(alloc: Global, items: &[Value<'_>]) -> Result<BulkLines, QuestionFault>
-    ensures lines { IfOk result (λ bulk. specs.item_lines (map (λ v. value_view v) items.now) ≡ Ok (string_bytes bulk.lines)) }
+fn lines_of(alloc: Global, items: &[Value<'_>]) -> Result<BulkLines, Refusal>
+    ensures lines { IfOk result (λ bulk. specs.item_lines 0 (map (λ v. value_view v) items.now) ≡ Ok (string_bytes bulk.lines)) }
     ensures scanned { IfOk result (λ bulk. bulk.scanned ≡ map specs.item_scanned (map (λ v. value_view v) items.now)) }
-    ensures fault { IfErr result (λ fault. fault ≢ QuestionFault.Memory → specs.item_lines (map (λ v. value_view v) items.now) ≡ Err fault) }
+    ensures refusal { IfErr result (λ refusal. refusal.fault ≢ QuestionFault.Memory → specs.item_lines 0 (map (λ v. value_view v) items.now) ≡ Err refusal) }
 {
     let mut lines = String::new(alloc);
     let mut scanned = BulkScanned::with_capacity(alloc, items.len())?;
+    let mut number: usize = 0;
     let mut rest = items;
     while let [item, later @ ..] = rest {
-        let its = push_item(&mut lines, item)?;
+        let its = match push_item(&mut lines, item) {
+            Ok(its) => its,
+            Err(fault) => return Err(refused(number, item, fault)),
+        };
         scanned.push(its)?;
+        number += 1;
         rest = later;
     }
     Ok(BulkLines { scanned, lines })
+}
+
+/// The refusal of the item of this number, which has this fault.
+fn refused(number: usize, item: &Value<'_>, fault: QuestionFault) -> Refusal
+    ensures { result ≡ record { fault = fault; item = Some number; member = specs.wrong_in fault (value_view item.now) } }
+{
+    Refusal {
+        fault,
+        item: Some(number),
+        member: wrong_in(item, fault),
+    }
+}
+
+/// The first wrong member of an item with this fault.
+fn wrong_in(item: &Value<'_>, fault: QuestionFault) -> Option<Member>
+    ensures { result ≡ specs.wrong_in fault (value_view item.now) }
+{
+    if let QuestionFault::Key = fault {
+        return Some(Member::Key);
+    }
+    match item_kind(item) {
+        Some(kind) => wrong_member(kind, item),
+        None => Some(Member::Ask),
+    }
 }
 
 /// Appends the line of an item. Returns its scanned values.

@@ -6,6 +6,7 @@ mod bulk;
 mod laws;
 mod question;
 mod question_fault;
+mod refusal;
 mod reply;
 mod table;
 
@@ -14,4 +15,5 @@ pub use bulk::{BulkLines, BulkScanned, bulk_lines};
 pub use laws::no_word_is_left_out;
 pub use question::{QuestionLine, question_line};
 pub use question_fault::QuestionFault;
+pub use refusal::{Member, Refusal, refusal_body};
 pub use reply::{Problem, bulk_body, response_of};

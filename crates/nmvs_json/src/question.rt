@@ -1,8 +1,8 @@
 //! The line that a question of JSON means.
-ghost use Rattle.std.specs.Prelude.{◌≡◌, ◌≢◌, ◌≤◌, ◌++◌, ◌∷◌, [], codes, true, false, Ok, Err, Some, None, IfOk, IfErr, OnOk, IfSome, IfNone, map, option_and_then, option_map, string_bytes};
+ghost use Rattle.std.specs.Prelude.{◌≡◌, ◌≢◌, ◌≤◌, ◌++◌, ◌∷◌, [], codes, true, false, Ok, Err, Some, None, IfOk, IfErr, OnOk, IfSome, IfNone, find, map, option_and_then, option_map, string_bytes};
 ghost use Rattle.std.specs.Char.{is_ascii_graphic};
 ghost use Rattle.std.specs.List.{list_all};
-ghost use Rattle.std.specs.Option.{is_some, option_copied};
+ghost use Rattle.std.specs.Option.{is_none, is_some, option_copied};
 ghost use Rattle.json.specs.Find.{get};
 ghost use Rattle.json.specs.Value.{value_view};
 ghost use Rattle.nmvs_identifier.specs.Batch.{is_batch};
@@ -11,8 +11,9 @@ ghost use Rattle.nmvs_identifier.specs.Tag.{is_tag};
 ghost use Rattle.nmvs_words.specs.Words.{spaced};
 ghost use Rattle.nmvs_json.specs.Scans as scans;
 ghost use Rattle.nmvs_json.specs.Questions as specs;
+ghost use Rattle.nmvs_json.specs.Refusals.{member_name};
 
-use crate::{AskedKind, QuestionFault};
+use crate::{AskedKind, Member, QuestionFault, Refusal};
 use json::{Error, Scratch, Value};
 use nmvs_elements::{Elements, read_scan};
 use nmvs_identifier::{Batch, Expiry, Tag};
@@ -22,8 +23,8 @@ use std::alloc::{AllocError, Global};
 /// The text of the line in place of each value of a scan that cannot be read (own). It is no product code.
 const UNREAD: &str = "-";
 
-/// The names of the members that say the values printed on a pack.
-const PRINTED: &[&str] = &["batch", "expiry"];
+/// The members that say the values printed on a pack.
+const PRINTED: &[Member] = &[Member::Batch, Member::Expiry];
 
 /// The line of a question, with its LF, and the scanned values of the question if it has some.
 #[derive(Drop)]
@@ -36,23 +37,29 @@ pub struct QuestionLine {
 ///
 /// # Errors
 ///
-/// The first fault that holds. `Memory`: there is no memory.
+/// The refusal for the first fault that holds. `Memory`: there is no memory.
 #[tactic(auto, unfolding(crate::specs::Questions::question_line))]
 pub fn question_line(
     alloc: Global,
     kind: AskedKind,
     key: Option<&[u8]>,
     body: &[u8],
-) -> Result<QuestionLine, QuestionFault>
+) -> Result<QuestionLine, Refusal>
     ensures line { IfOk result (λ question. specs.question_line kind (option_copied key.entry) body.now ≡ Ok (question.scanned, string_bytes question.line)) }
-    ensures fault { IfErr result (λ fault. fault ≢ QuestionFault.Memory → specs.question_line kind (option_copied key.entry) body.now ≡ Err fault) }
+    ensures refusal { IfErr result (λ refusal. refusal.fault ≢ QuestionFault.Memory → specs.question_line kind (option_copied key.entry) body.now ≡ Err refusal) }
 {
     let mut line = String::new(alloc);
     push_key(&mut line, key)?;
     let mut scratch = Scratch::new(alloc);
     let object = object_in(alloc, body, &mut scratch)?;
-    let scanned = push_fields(&mut line, kind, 1, &object)?;
-    Ok(QuestionLine { scanned, line })
+    match push_fields(&mut line, kind, 1, &object) {
+        Ok(scanned) => Ok(QuestionLine { scanned, line }),
+        Err(fault) => Err(Refusal {
+            fault,
+            item: None,
+            member: wrong_member(kind, &object),
+        }),
+    }
 }
 
 /// Appends the tag that a key is, as it stands before a line, or nothing without a key.
@@ -162,7 +169,7 @@ fn name_count(kind: AskedKind, object: &Value<'_>) -> usize
     if has_scan(kind, object) {
         1
     } else {
-        kind.names().len()
+        kind.members().len()
     }
 }
 
@@ -218,7 +225,7 @@ fn push_names(
     if has_scan(kind, object) {
         return push_scan(line, object);
     }
-    push_texts(line, kind.names(), object)?;
+    push_texts(line, kind.members(), object)?;
     Ok(None)
 }
 
@@ -432,19 +439,85 @@ fn push_both(line: &mut String, first: &str, second: &str) -> Result<(), AllocEr
     line.push_str(second)
 }
 
-/// Appends the texts of the members of these names, with a space before each.
-fn push_texts(line: &mut String, names: &[&str], object: &Value<'_>) -> Result<(), QuestionFault>
-    ensures texts { OnOk result (option_map (λ texts. string_bytes line.old ++ specs.preceded texts) (specs.texts_of (map (λ n. n.now) names.now) (value_view object.now)) ≡ Some (string_bytes line.new)) }
-    ensures fault { IfErr result (λ fault. fault ≢ QuestionFault.Memory → (fault ≡ QuestionFault.Fields) × (specs.texts_of (map (λ n. n.now) names.now) (value_view object.now) ≡ None)) }
+/// Appends the texts of these members, with a space before each.
+fn push_texts(
+    line: &mut String,
+    members: &[Member],
+    object: &Value<'_>,
+) -> Result<(), QuestionFault>
+    ensures texts { OnOk result (option_map (λ texts. string_bytes line.old ++ specs.preceded texts) (specs.texts_of (map member_name members.now) (value_view object.now)) ≡ Some (string_bytes line.new)) }
+    ensures fault { IfErr result (λ fault. fault ≢ QuestionFault.Memory → (fault ≡ QuestionFault.Fields) × (specs.texts_of (map member_name members.now) (value_view object.now) ≡ None)) }
 {
-    let mut rest = names;
-    while let [name, later @ ..] = rest {
-        let text = text_of(object, name).ok_or(QuestionFault::Fields)?;
+    let mut rest = members;
+    while let [member, later @ ..] = rest {
+        let text = text_of(object, member.name()).ok_or(QuestionFault::Fields)?;
         line.push_str(" ")?;
         line.push_str(text)?;
         rest = later;
     }
     Ok(())
+}
+
+/// The first member that is wrong in the object of a refused question. There is none if another member is too many.
+#[tactic(auto, unfolding(crate::specs::Questions::wrong_member))]
+pub(crate) fn wrong_member(kind: AskedKind, object: &Value<'_>) -> Option<Member>
+    ensures { result ≡ specs.wrong_member kind (value_view object.now) }
+{
+    if user_of(object).is_none() {
+        return Some(Member::User);
+    }
+    match wrong_name(kind, object) {
+        Some(member) => Some(member),
+        None => wrong_condition(kind, object),
+    }
+}
+
+/// The first member that is wrong of those that name the pack, the batch or the product.
+fn wrong_name(kind: AskedKind, object: &Value<'_>) -> Option<Member>
+    ensures { result ≡ specs.wrong_name kind (value_view object.now) }
+{
+    if !has_scan(kind, object) {
+        return without_text(kind.members(), object);
+    }
+    match string_of(object, "scan") {
+        Some(_) => None,
+        None => Some(Member::Scan),
+    }
+}
+
+/// The first of these members that has no text.
+fn without_text(members: &[Member], object: &Value<'_>) -> Option<Member>
+    ensures { result ≡ find (λ member. is_none (specs.text_of (member_name member) (value_view object.now))) members.now }
+{
+    for member in members {
+        if text_of(object, member.name()).is_none() {
+            return Some(*member);
+        }
+    }
+    None
+}
+
+/// The first member that is wrong of those that say the scanned values and the condition.
+fn wrong_condition(kind: AskedKind, object: &Value<'_>) -> Option<Member>
+    ensures { result ≡ specs.wrong_condition kind (value_view object.now) }
+{
+    if has_scanned(kind, object) && !is_said(object) {
+        Some(Member::Scanned)
+    } else if has_condition(kind, object) && !is_matching(object) {
+        Some(Member::IfScanned)
+    } else {
+        None
+    }
+}
+
+/// Whether the member `scanned` has its texts.
+fn is_said(object: &Value<'_>) -> bool
+    ensures { result ≡ is_some (specs.said_of (value_view object.now)) }
+{
+    match object.get("scanned") {
+        Some(scanned) => has_said(scanned),
+        None => false,
+    }
 }
 
 /// The number of members of an object.

@@ -236,8 +236,8 @@ pub fn response_of<A: Allocator>(
     Ok((problem, body))
 }
 
-/// The body of the response to a bulk, by the scanned values of each question: the bodies of their answers, each a line of a
-/// session's text.
+/// Whether one of the answers to a bulk is a problem that passes, and the body of the response, by the scanned values of each
+/// question: the bodies of their answers, each a line of a session's text.
 ///
 /// # Errors
 ///
@@ -247,8 +247,9 @@ pub fn bulk_body<A: Allocator>(
     alloc: A,
     scanned: &[Option<Printed>],
     text: &[u8],
-) -> Result<Vec<u8, A>, AllocError>
-    ensures { IfOk result (λ body. body.items ≡ specs.bulk_text scanned.now text.now) }
+) -> Result<(bool, Vec<u8, A>), AllocError>
+    ensures passing { IfOk result (λ response. response.0 ≡ specs.has_passing scanned.now (input_lines text.now)) }
+    ensures body { IfOk result (λ response. response.1.items ≡ specs.bulk_text scanned.now text.now) }
 {
     let room = scanned
         .len()
@@ -256,31 +257,45 @@ pub fn bulk_body<A: Allocator>(
         .saturating_add(text.len());
     let mut body = Vec::with_capacity(alloc, room)?;
     body.extend_from_slice(b"{\"replies\":[")?;
-    push_answers(&mut body, scanned, text)?;
+    let passing = push_answers(&mut body, scanned, text)?;
     body.extend_from_slice(b"]}\n")?;
-    Ok(body)
+    Ok((passing, body))
 }
 
 /// Puts the bodies of answers at the end of a body, by the scanned values of each question, with a comma between each two.
+/// Returns whether one of them is a problem that passes.
 fn push_answers<A: Allocator>(
     body: &mut Vec<u8, A>,
     scanned: &[Option<Printed>],
     text: &[u8],
-) -> Result<(), AllocError>
-    ensures { OnOk result (body.new.items ≡ body.old.items ++ specs.separated [] (specs.bodies scanned.now (input_lines text.now))) }
+) -> Result<bool, AllocError>
+    ensures passing { IfOk result (λ passing. passing ≡ specs.has_passing scanned.now (input_lines text.now)) }
+    ensures body { OnOk result (body.new.items ≡ body.old.items ++ specs.separated [] (specs.bodies scanned.now (input_lines text.now))) }
 {
+    let mut passing = false;
     let mut comma: &[u8] = b"";
     let mut rest = text;
     let mut left = scanned;
     while let Some((its, others)) = left.split_first() {
         let (line, later) = first_line(rest);
         body.extend_from_slice(comma)?;
-        push_answer(body, its, line, b"")?;
+        let problem = push_answer(body, its, line, b"")?;
+        passing = passing || passes(problem);
         comma = b",";
         rest = later;
         left = others;
     }
-    Ok(())
+    Ok(passing)
+}
+
+/// Whether a problem passes: nothing is recorded, and the same question may have a reply after a second.
+fn passes(problem: Option<Problem>) -> bool
+    ensures { result ≡ specs.passes problem }
+{
+    matches!(
+        problem,
+        Some(Problem::TooManyRequests | Problem::Unavailable)
+    )
 }
 
 /// Puts the body of an answer to one question at the end of a body, by the question's scanned values, the first line without the

@@ -10,17 +10,20 @@ use Rattle.json.specs.Word.{after_number, word}
 use Rattle.nmvs_rules.specs.declared.printed.Printed.{Printed}
 use Rattle.nmvs_json.specs.declared.question_fault.QuestionFault.{QuestionFault}
 use Rattle.nmvs_json.specs.declared.question_fault.QuestionFault.TheVariants as fault
+use Rattle.nmvs_json.specs.declared.refusal.Member.{Member}
+use Rattle.nmvs_json.specs.declared.refusal.Member.TheVariants as member
+use Rattle.nmvs_json.specs.declared.refusal.Refusal.{Refusal}
 use Rattle.nmvs_json.specs.Bulks.{bulk_lines, item_line, item_scanned}
-use Rattle.nmvs_json.specs.Questions.{asked_at, kind_named, question_line, fields_of, subject_of, subject_count, condition_texts, scanned_of, printed_in}
+use Rattle.nmvs_json.specs.Questions.{asked_at, kind_named, question_line, fields_of, subject_of, subject_count, condition_texts, scanned_of, printed_in, wrong_member}
 use Rattle.nmvs_json.specs.Scans.{pack_in}
 use Rattle.nmvs_tests.proofs.Gives.{Gives}
 
 abbrev Read : Type 0
-Read = Result (Option Printed × List ℕ) QuestionFault
+Read = Result (Option Printed × List ℕ) Refusal
 
 abbrev line_in : Read → Result (List ℕ) QuestionFault
 line_in (Ok question) = Ok question.1
-line_in (Err f) = Err f
+line_in (Err refusal) = Err refusal.fault
 
 -- the line of a question at this path with this body, and no key
 abbrev line_at : List ℕ × List ℕ → Option (Result (List ℕ) QuestionFault)
@@ -198,13 +201,34 @@ values : Gives values_at (
 unfolding chars encode is_utf8 items members value lex punctuate code_unit short_escape content after_number word kind_named question_line fields_of subject_of subject_count condition_texts scanned_of printed_in pack_in
 values = refl
 
+-- a refusal names the first member that is missing or wrong, and none if one is too many
+abbrev place_in : {T : Type 0} → Result T Refusal → Option (Option ℕ × Option Member)
+place_in (Ok read) = None
+place_in (Err refusal) = Some (refusal.item, refusal.member)
+
+abbrev place_at : List ℕ → Option (Option ℕ × Option Member)
+place_at body = option_and_then (λ kind. place_in (question_line kind None body)) (asked_at (codes "/v1/supply"))
+
+places : Gives place_at (
+    (codes "{\"user\":\"ph1\",\"code\":\"1\",\"serail\":\"2\"}", Some (None, Some member.Serial))
+    ∷ (codes "{\"user\":\"ph1\",\"serial\":\"\",\"code\":7}", Some (None, Some member.Code))
+    ∷ (codes "{\"code\":\"\",\"serial\":\"2\",\"user\":\"#t\"}", Some (None, Some member.User))
+    ∷ (codes "{\"user\":\"ph1\",\"scan\":7}", Some (None, Some member.Scan))
+    ∷ (codes "{\"user\":\"ph1\",\"code\":\"1\",\"serial\":\"2\",\"scanned\":{\"batch\":\"B1\"}}", Some (None, Some member.Scanned))
+    ∷ (codes "{\"user\":\"ph1\",\"if_scanned\":\"differs\",\"scan\":\"\"}", Some (None, Some member.IfScanned))
+    ∷ (codes "{\"user\":\"ph1\",\"code\":\"1\",\"serial\":\"2\",\"batch\":\"B1\"}", Some (None, None))
+    ∷ (codes "{", Some (None, None))
+    ∷ [])
+unfolding chars encode is_utf8 items members value lex punctuate code_unit short_escape content after_number word kind_named question_line fields_of subject_of subject_count condition_texts scanned_of printed_in wrong_member pack_in
+places = refl
+
 -- ---- bulks
 
 abbrev bulk : List ℕ → List ℕ
 bulk questions = codes "{\"questions\":[" ++ (questions ++ codes "]}")
 
 abbrev Bulk : Type 0
-Bulk = Result (List (Option Printed) × List ℕ) QuestionFault
+Bulk = Result (List (Option Printed) × List ℕ) Refusal
 
 bulk-of-one : bulk_lines (bulk (codes "{\"ask\":\"verify\",\"user\":\"ph1\",\"code\":\"09506000134352\",\"serial\":\"SN1\"}"))
     ≡ Ok (None ∷ [], codes "ph1 VERIFY 09506000134352 SN1\n")
@@ -229,7 +253,7 @@ bulk-with-values = refl
 -- a bulk is refused whole: a good question stands before each of these
 abbrev fault_of : Bulk → Option QuestionFault
 fault_of (Ok read) = None
-fault_of (Err f) = Some f
+fault_of (Err refusal) = Some refusal.fault
 
 abbrev after_good : List ℕ → Option QuestionFault
 after_good item = fault_of (bulk_lines (bulk (codes "{\"ask\":\"verify\",\"user\":\"ph1\",\"code\":\"1\",\"serial\":\"2\"}," ++ item)))
@@ -248,6 +272,16 @@ bad-items : Gives after_good (
     ∷ [])
 unfolding chars encode is_utf8 items members value lex punctuate code_unit short_escape content after_number word kind_named bulk_lines item_line item_scanned fields_of subject_of subject_count condition_texts scanned_of printed_in pack_in
 bad-items = refl
+
+-- that of a bulk names the first item with a fault too, counted from 0
+bulk-places : Gives (λ items. place_in (bulk_lines (bulk items))) (
+    (codes "{\"ask\":\"verify\",\"user\":\"ph1\",\"code\":\"1\",\"serial\":2},{}", Some (Some 0, Some member.Serial))
+    ∷ (codes "{\"ask\":\"verify\",\"user\":\"ph1\",\"code\":\"1\",\"serial\":\"2\"},{\"ask\":\"VERIFY\",\"user\":\"ph1\",\"code\":\"1\",\"serial\":\"2\"},{}", Some (Some 1, Some member.Ask))
+    ∷ (codes "{\"ask\":\"verify\",\"user\":\"ph1\",\"code\":\"1\",\"serial\":\"2\"},{\"ask\":\"verify\",\"user\":\"ph1\",\"code\":\"1\",\"serial\":\"2\",\"key\":7}", Some (Some 1, Some member.Key))
+    ∷ (codes "", Some (None, Some member.Questions))
+    ∷ [])
+unfolding chars encode is_utf8 items members value lex punctuate code_unit short_escape content after_number word kind_named bulk_lines item_line item_scanned fields_of subject_of subject_count condition_texts scanned_of printed_in wrong_member pack_in
+bulk-places = refl
 
 no-bulks : Gives (λ body. fault_of (bulk_lines body)) (
     (codes "", Some fault.Json)

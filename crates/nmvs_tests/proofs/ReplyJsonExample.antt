@@ -1,11 +1,14 @@
 -- The JSON of replies; the texts are written by hand, from the tables of docs/PROTOCOL.md.
-use Rattle.std.proofs.Common.{◌≡◌, ℕ, List, [], ◌∷◌, ◌++◌, Option, Some, None, refl}
+use Rattle.std.proofs.Common.{◌≡◌, ℕ, true, false, List, [], ◌∷◌, ◌++◌, Option, Some, None, refl}
 use Rattle.std.specs.Prelude.{codes, map}
 use Rattle.nmvs_rules.specs.declared.printed.Printed.{Printed}
-use Rattle.nmvs_stream.specs.InputLines.{lines_after}
+use Rattle.nmvs_stream.specs.InputLines.{input_lines, lines_after}
 use Rattle.nmvs_json.specs.declared.reply.Problem.{Problem}
 use Rattle.nmvs_json.specs.declared.reply.Problem.TheVariants.{Unprocessable, Forbidden, Conflict, PreconditionFailed, TooManyRequests, Unavailable, Unknown}
-use Rattle.nmvs_json.specs.Replies.{body_text, places_of, separated, batch_places, batch_objects, later_members, pack_words, comparison_member, detail_named, detail_of, problem_named, problem_front, type_text, said_text, fault_text, bulk_text, bodies, problem_of}
+use Rattle.nmvs_json.specs.Replies.{body_text, places_of, separated, batch_places, batch_objects, later_members, pack_words, comparison_member, detail_named, detail_of, problem_named, problem_front, type_text, said_text, fault_text, bulk_text, bodies, has_passing, problem_of}
+use Rattle.nmvs_json.specs.declared.question_fault.QuestionFault.TheVariants as fault
+use Rattle.nmvs_json.specs.declared.refusal.Member.TheVariants as member
+use Rattle.nmvs_json.specs.Refusals.{front_of, refusal_text}
 use Rattle.nmvs_tests.proofs.Gives.{Gives}
 
 replies : Gives (body_text None) (
@@ -107,6 +110,26 @@ bulk-ended : bulk_text (None ∷ None ∷ []) (codes "STOLEN\n")
     ≡ codes "{\"replies\":[{\"reply\":\"STOLEN\"}\n,{\"type\":\"/problems#ENDED\",\"title\":\"Service Unavailable\",\"status\":503,\"detail\":\"The session ended before the reply. Ask again with the same key.\",\"fault\":\"ENDED\",\"recorded\":\"unknown\"}\n]}\n"
 unfolding body_text places_of separated batch_places batch_objects later_members pack_words comparison_member detail_named problem_named problem_front type_text said_text fault_text bulk_text bodies problem_of lines_after
 bulk-ended = refl
+
+-- a bulk may be asked again after a second if one of its questions may, and if that has an answer
+passing : Gives (λ text. has_passing (None ∷ None ∷ []) (input_lines text)) (
+    (codes "UPLOADED\n#a17 FAULT RATE\n", true)
+    ∷ (codes "FAULT RATE\nUPLOADED\n", true)
+    ∷ (codes "FAULT CLOCK\nFAULT CODE\n", true)
+    ∷ (codes "FAULT JOURNAL\nFAULT DIFFERS\n", false)
+    ∷ (codes "UPLOADED\nNOPACK\nFAULT RATE\n", false)
+    ∷ (codes "UPLOADED\n", false)
+    ∷ [])
+unfolding places_of problem_named has_passing lines_after
+passing = refl
+
+-- the problem of a refused body names the item and the member that it has
+refusals : Gives refusal_text (
+    (record { fault = fault.Fields; item = Some 17; member = Some member.Serial }, codes "{\"type\":\"/problems#FIELDS\",\"title\":\"Bad Request\",\"status\":400,\"detail\":\"A member is missing, unknown or of another type, or a value is empty or has a character outside ! to ~.\",\"fault\":\"FIELDS\",\"recorded\":\"no\",\"item\":17,\"member\":\"serial\"}\n")
+    ∷ (record { fault = fault.Json; item = None; member = None }, codes "{\"type\":\"/problems#JSON\",\"title\":\"Bad Request\",\"status\":400,\"detail\":\"The body is no JSON object, or an object in it has a member twice.\",\"fault\":\"JSON\",\"recorded\":\"no\"}\n")
+    ∷ [])
+unfolding front_of refusal_text
+refusals = refl
 
 -- scanned values are compared with the batch and the expiry date of a reply
 abbrev printed : List ℕ → List ℕ → Option Printed

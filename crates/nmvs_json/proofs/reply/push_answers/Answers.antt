@@ -2,7 +2,7 @@ use Rattle.std.proofs.Common.{rules, ◌≡◌, ◌∙◌, ◌++◌, ◌∷◌, 
 use Rattle.std.proofs.lemmas.List.{nil_from_length}
 use Rattle.nmvs_stream.specs.InputLines.{input_lines}
 use Rattle.nmvs_json.specs.Replies.{body_where, first_line, first_word, places_of}
-use Rattle.nmvs_json.proofs.BulkLemmas.{body_more, no_bodies}
+use Rattle.nmvs_json.proofs.BulkLemmas.{body_more, no_bodies, no_passing, passing_more}
 use Rattle.nmvs_json.proofs.ReplyLemmas.{no_lines, text_put, texts_put}
 use Rattle.nmvs_json.proofs.reply.push_answers.Goals as goal
 
@@ -13,12 +13,19 @@ loop-its-preserved g c =
     let line = c.first_line.ensures.line in
     let lines = input_lines c.loop-its.rest.now in
     let same : body_where (places_of (first_word c.first_line.result.0.now)) its c.first_line.result.0.now (input_lines []) ≡ body_where (places_of (first_word (first_line lines))) its (first_line lines) [] =
-    λ i. body_where (places_of (first_word (line i))) its (line i) (no_lines i) in
-    text_put _ c.extend_from_slice.new.self.items _ c.loop-its.comma.now _ _ _ _ c.in_ok-extend_from_slice.ensures.items
-    (c.in_ok-push_answer.ensures.body ∙ ap (λ (t : List ℕ). c.extend_from_slice.new.self.items ++ t) same)
-    (body_more c.loop-its.left.now c.in-Some.others.now its lines (input_lines c.first_line.result.1.now) some c.first_line.ensures.later) c.loop-its.invariant
+    λ i. body_where (places_of (first_word (line i))) its (line i) (no_lines i) in (
+      text_put _ c.extend_from_slice.new.self.items _ c.loop-its.comma.now _ _ _ _ c.in_ok-extend_from_slice.ensures.items
+          (c.in_ok-problem.ensures.body ∙ ap (λ (t : List ℕ). c.extend_from_slice.new.self.items ++ t) same)
+          (body_more c.loop-its.left.now c.in-Some.others.now its lines (input_lines c.first_line.result.1.now) some c.first_line.ensures.later) c.loop-its.invariant.0,
+      passing_more c.loop-its.left.now c.in-Some.others.now its lines (input_lines c.first_line.result.1.now) c.loop-its.passing _ _ some c.first_line.ensures.later (search rules) c.loop-its.invariant.1,
+    )
 
-pub returns : goal.returns
-returns g c =
+pub returns-clause-passing : goal.returns-clause-passing
+returns-clause-passing g c =
     let none : c.loop-its.left.now ≡ [] = nil_from_length c.loop-its.left.now c.in_default.ensures.cases in
-    texts_put _ c.loop-its.comma.now _ _ (no_bodies c.loop-its.left.now (input_lines c.loop-its.rest.now) none) c.loop-its.invariant
+    no_passing c.loop-its.left.now (input_lines c.loop-its.rest.now) _ _ none c.loop-its.invariant.1
+
+pub returns-clause-body : goal.returns-clause-body
+returns-clause-body g c =
+    let none : c.loop-its.left.now ≡ [] = nil_from_length c.loop-its.left.now c.in_default.ensures.cases in
+    texts_put _ c.loop-its.comma.now _ _ (no_bodies c.loop-its.left.now (input_lines c.loop-its.rest.now) none) c.loop-its.invariant.0
