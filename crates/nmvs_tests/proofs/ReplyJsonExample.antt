@@ -1,6 +1,7 @@
 -- The JSON of replies; the texts are written by hand, from the tables of docs/PROTOCOL.md.
 use Rattle.std.proofs.Common.{◌≡◌, ℕ, true, false, List, [], ◌∷◌, ◌++◌, Option, Some, None, refl}
 use Rattle.std.specs.Prelude.{codes, map}
+use Rattle.std.specs.Fmt.{digits}
 use Rattle.nmvs_rules.specs.declared.printed.Printed.{Printed}
 use Rattle.nmvs_stream.specs.InputLines.{input_lines, lines_after}
 use Rattle.nmvs_json.specs.declared.reply.Problem.{Problem}
@@ -128,7 +129,7 @@ refusals : Gives refusal_text (
     (record { fault = fault.Fields; item = Some 17; member = Some member.Serial }, codes "{\"type\":\"/problems#FIELDS\",\"title\":\"Bad Request\",\"status\":400,\"detail\":\"A member is missing, unknown or of another type, or a value is empty or has a character outside ! to ~.\",\"fault\":\"FIELDS\",\"recorded\":\"no\",\"item\":17,\"member\":\"serial\"}\n")
     ∷ (record { fault = fault.Json; item = None; member = None }, codes "{\"type\":\"/problems#JSON\",\"title\":\"Bad Request\",\"status\":400,\"detail\":\"The body is no JSON object, or an object in it has a member twice.\",\"fault\":\"JSON\",\"recorded\":\"no\"}\n")
     ∷ [])
-unfolding front_of refusal_text
+unfolding digits front_of refusal_text
 refusals = refl
 
 -- scanned values are compared with the batch and the expiry date of a reply
