@@ -1,4 +1,4 @@
-use Rattle.std.proofs.Common.{◌∙◌, ap, refl}
+use Rattle.std.proofs.Common.{◌∙◌, ap}
 use Rattle.nmvs_connections.proofs.ConnectionLemmas.{kept_same, kept_twice, later_then, rests_later, steps_kept, steps_later}
 use Rattle.nmvs_connections.proofs.connection.Connection.take_turn.Goals as goal
 
