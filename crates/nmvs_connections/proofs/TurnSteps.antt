@@ -1,17 +1,22 @@
 -- How a worker's turn goes on, from one connection's turn to the next and from release to release.
-use Rattle.std.proofs.Common.{◌≡◌, ◌≢◌, ◌≤◌, ◌<◌, ◌==◌, ◌+◌, ◌⊎◌, inl, inr, ℕ, zero, suc, List, [], ◌∷◌, ◌++◌, Option, Some, None, IsSome, cond, length, map, take, drop, All, refl, sym, ap, subst, ◌∙◌, arith, rules}
+use Rattle.std.proofs.Common.{◌≡◌, ◌≢◌, ◌≤◌, ◌<◌, ◌==◌, ◌+◌, ◌⊎◌, inl, inr, ℕ, zero, suc, List, [], ◌∷◌, ◌++◌, Option, Some, None, IsSome, Result, Ok, Err, IfOk, OnErr, cond, length, map, take, drop, All, refl, sym, ap, subst, ◌∙◌, arith, rules}
 use Rattle.std.specs.List.{Contains}
 use Rattle.std.proofs.lemmas.Bool.Decides.{eqb_tells, leb_tells}
 use Rattle.std.proofs.lemmas.Grind.{flat_map-append}
 use Rattle.std.proofs.lemmas.List.{append-nil, append_assoc, length-append, length-drop, drop-append-le, drop-drop, drop_at, take-append-le, take_at}
-use Rattle.std.proofs.lemmas.List.Elements.{All-append, All-cons, All-nil, All-tail, Contains-push_cases}
+use Rattle.std.proofs.lemmas.List.Elements.{All-append, All-cons, All-nil, Contains-push_cases}
 use Rattle.slab.specs.Slab.{Slab, Updates, get, with_value}
 use Rattle.slab.proofs.SlabLemmas.{Updates-with_value}
 use Rattle.nmvs_messages.specs.declared.ask.Ask.{Ask}
 use Rattle.nmvs_messages.specs.declared.answer.Answer.{Answer}
 use Rattle.nmvs_messages.specs.declared.end.End.{End}
+use Rattle.nmvs_identifier.specs.Name.{Name}
+use Rattle.nmvs_messages.specs.declared.peer.NameOf.{NameOf}
+use Rattle.nmvs_messages.specs.declared.peer.NameOf.TheVariants as names
 use Rattle.nmvs_messages.specs.declared.peer.Peer.{Peer}
+use Rattle.nmvs_messages.specs.declared.peer.Peer.TheVariants as peers
 use Rattle.nmvs_messages.specs.declared.withheld.Withheld.{Withheld}
+use Rattle.nmvs_messages.specs.Peers.{peer_named}
 use Rattle.nmvs_messages.specs.Withheld.{answer_of, AreReleased}
 use Rattle.nmvs_protocol.specs.Session.{ReleasesAll, session_text}
 use Rattle.nmvs_protocol.specs.Progress.{LastShows}
@@ -20,10 +25,12 @@ use Rattle.nmvs_protocol.specs.Texts.{last_showing, text as text_of}
 use Rattle.nmvs_stream.specs.InputLines.{input_lines}
 use Rattle.nmvs_connections.specs.declared.next.Next.{Next}
 use Rattle.nmvs_connections.specs.declared.connection.Connection.{Connection}
-use Rattle.nmvs_connections.specs.Peers.{PeerState, IsConnection, StaysPeer}
+use Rattle.nmvs_connections.specs.declared.event_loop.EventLoop.{EventLoop}
+use Rattle.nmvs_connections.specs.Peers.{PeerState, IsConnection, IsLater, IsNamed, NamesPeer, StaysPeer}
 use Rattle.nmvs_connections.specs.declared.peer_session.Stage.TheVariants as stages
 use Rattle.nmvs_connections.specs.Replies.{SessionState, LacksMemory, StaysOrLacks, replied}
-use Rattle.nmvs_connections.specs.Turns.{Taking, Round, held_of, TakesBy, TakesAll, IsOwn, GoesRound, GoesRounds, lines_to, answers_to, lines_in, answers_in, Answered, EachGoes, WorkerTurn, Kept, WaitsForRelease, LinesTaken, ConnectionSteps, TellsOwn, TellsPeer, TellsWhereAsked, TellsAll, StepsOrStays, TurnOfOne}
+use Rattle.nmvs_connections.specs.Turns.{Taking, Round, held_of, TakesBy, TakesAll, GoesRound, GoesRounds, lines_to, answers_to, takings_in, lines_in, answers_in, Answered, EachGoes, TookUnder, AllBehind, StayBehind, Stays, OnlyCloses, WorkerTurn, Kept, WaitsForRelease, LinesTaken, ConnectionSteps, TellsOwn, TellsPeer, TellsWhereAsked, TellsAll, HasTurn, StepsOrStays, TurnOfOne}
+use Rattle.nmvs_connections.proofs.ConnectionLemmas.{later_then, rests_later}
 
 -- the withheld answers of more takings
 pub held_of-append : (xs ys : List Taking) → held_of (xs ++ ys) ≡ held_of xs ++ held_of ys
@@ -47,10 +54,13 @@ answers_to-append key (t ∷ xs) ys said =
     ∙ sym (append_assoc own (answers_to key xs rest) (answers_to key ys (drop (length (held_of xs)) rest)))
     ∙ ap (λ (l : List Answer). (own ++ answers_to key xs rest) ++ answers_to key ys l) gone
 
-lines_in-append : (key : ℕ) (xs ys : List Round) → lines_in key (xs ++ ys) ≡ lines_in key xs ++ lines_in key ys
-lines_in-append key [] ys = refl
-lines_in-append key (r ∷ xs) ys =
-    ap (λ (l : List (List ℕ)). lines_to key r.takings ++ l) (lines_in-append key xs ys) ∙ sym (append_assoc (lines_to key r.takings) (lines_in key xs) (lines_in key ys))
+takings_in-append : (xs ys : List Round) → takings_in (xs ++ ys) ≡ takings_in xs ++ takings_in ys
+takings_in-append [] ys = refl
+takings_in-append (r ∷ xs) ys = ap (λ (l : List Taking). r.takings ++ l) (takings_in-append xs ys) ∙ sym (append_assoc r.takings (takings_in xs) (takings_in ys))
+
+-- all that was taken, with one round more
+takings_more : (xs : List Round) (r : Round) → takings_in (xs ++ r ∷ []) ≡ takings_in xs ++ r.takings
+takings_more xs r = takings_in-append xs (r ∷ []) ∙ ap (λ (l : List Taking). takings_in xs ++ l) (append-nil r.takings)
 
 answers_in-append : (key : ℕ) (xs ys : List Round) → answers_in key (xs ++ ys) ≡ answers_in key xs ++ answers_in key ys
 answers_in-append key [] ys = refl
@@ -60,8 +70,8 @@ answers_in-append key (r ∷ xs) ys =
 
 -- one taking more
 takes_more : {D : Type 0} (takes : D → Peer → Ask → Withheld → D → Type 0) (old mid new : D) (takings : List Taking) (t : Taking)
-    → TakesAll takes old takings mid → TakesBy takes t.connection.peer mid t.lines t.held new → TakesAll takes old (takings ++ t ∷ []) new
-takes_more {D} takes old mid new [] t a l = (new, subst (λ (d : D). TakesBy takes t.connection.peer d t.lines t.held new) a l, refl)
+    → TakesAll takes old takings mid → TakesBy takes t.peer mid t.lines t.held new → TakesAll takes old (takings ++ t ∷ []) new
+takes_more {D} takes old mid new [] t a l = (new, subst (λ (d : D). TakesBy takes t.peer d t.lines t.held new) a l, refl)
 takes_more takes old mid new (s ∷ takings) t a l = (a.0, a.1, takes_more takes a.0 mid new takings t a.2 l)
 
 -- one round more
@@ -234,7 +244,7 @@ stands_released : (key : ℕ) (rounds : List Round) (r : Round) (awaiting : List
     → Stands key (rounds ++ r ∷ []) [] [] a c
 stands_released key rounds r awaiting a b c text untold fed replies part told s how =
     let own = answers_to key r.takings r.said in
-    let lines_more = lines_in-append key rounds (r ∷ []) ∙ ap (λ (l : List (List ℕ)). lines_in key rounds ++ l) (append-nil (lines_to key r.takings)) in
+    let lines_more = ap (λ (l : List Taking). lines_to key l) (takings_more rounds r) ∙ lines_to-append key (takings_in rounds) r.takings in
     let answers_more = answers_in-append key rounds (r ∷ []) ∙ ap (λ (l : List Answer). answers_in key rounds ++ l) (append-nil own) in
     let whole = ap (λ (l : List Answer). session_text l) answers_more ∙ both_told (answers_in key rounds) own s.text s.untold text untold s.text_is part in
     let lines = ap (λ (f : List ℕ). input_lines f) fed ∙ s.lines ∙ append_assoc (input_lines a.fed) (lines_in key rounds) (lines_to key r.takings)
@@ -364,61 +374,182 @@ each_then R S T s t u r q both = λ key connection there.
 pub each_stays : {L : Type 0} (R : ℕ → PeerState → PeerState → Type 0) (s : Slab (Connection L)) → ((key : ℕ) (a : PeerState) → R key a a) → EachGoes R s s
 each_stays R s same = λ key connection there. (connection, there, same key connection.session)
 
--- the lines that were taken stay those of their own connection's peer, if each peer stays
-own_still : {L : Type 0} (s t : Slab (Connection L)) (taking : Taking) → EachGoes (λ key a b. StaysPeer a b) s t → IsOwn s taking → IsOwn t taking
-own_still s t taking each own = (
-  own.0,
-  λ found there.
-      let before = each taking.key found there in
-      λ peer known. before.2 peer (own.1 before.0 before.1 peer known),
-)
-
-all_own : {L : Type 0} (s t : Slab (Connection L)) (takings : List Taking) → EachGoes (λ key a b. StaysPeer a b) s t → All (IsOwn s) takings → All (IsOwn t) takings
-all_own s t [] each own = All-nil (IsOwn t)
-all_own s t (taking ∷ more) each own =
-    All-cons (IsOwn t) taking more (own_still s t taking each (own 0 taking (omega arith))) (all_own s t more each (All-tail (IsOwn s) taking more own))
-
-all_own_in : {L : Type 0} (s t : Slab (Connection L)) (rounds : List Round) → EachGoes (λ key a b. StaysPeer a b) s t → All (λ (r : Round). All (IsOwn s) r.takings) rounds → All (λ (r : Round). All (IsOwn t) r.takings) rounds
-all_own_in s t [] each own = All-nil (λ (r : Round). All (IsOwn t) r.takings)
-all_own_in s t (round ∷ more) each own =
-    All-cons (λ (r : Round). All (IsOwn t) r.takings) round more (all_own s t round.takings each (own 0 round (omega arith)))
-    (all_own_in s t more each (All-tail (λ (r : Round). All (IsOwn s) r.takings) round more own))
-
--- each connection's step, weakened
-each_more : {L : Type 0} (R S : ℕ → PeerState → PeerState → Type 0) (s t : Slab (Connection L)) → EachGoes R s t → ((key : ℕ) (a b : PeerState) → R key a b → S key a b) → EachGoes S s t
-each_more R S s t each more = λ key found there. let before = each key found there in (before.0, before.1, more key before.0.session found.session before.2)
-
--- a connection that turned its part into replies, or did nothing, has its peer still
-tells_stays : (said : List Answer) (awaiting : List ℕ) (key : ℕ) (a b : PeerState) → TellsWhereAsked said awaiting key a b → StaysPeer a b
-tells_stays said awaiting key a b t = λ peer known. elim t [ inl told ↦ told.1 ∙ known | inr silent ↦ ap (λ (c : PeerState). c.peer) silent.0 ∙ known ]
-
 -- the step of its session
 tells_state : (said : List Answer) (awaiting : List ℕ) (key : ℕ) (a b : PeerState) → TellsWhereAsked said awaiting key a b → TellsOwn said a.session b.session ⊎ ((b.session ≡ a.session) × (Contains awaiting key → ⊥))
 tells_state said awaiting key a b t = elim t [ inl told ↦ inl told.0 | inr silent ↦ inr (ap (λ (c : PeerState). c.session) silent.0, silent.1) ]
 
+-- a connection is there, or none is
+none_of : {A : Type 0} (now : Option A) → ((a : A) → now ≡ Some a → ⊥) → now ≡ None
+none_of None never = refl
+none_of (Some a) never = absurd (never a refl)
+
+is_same : {A : Type 0} (a b : A) → Some a ≡ Some b → a ≡ b
+is_same a b same = cc
+
+no_value : {A : Type 0} (a : A) → None ≡ Some a → ⊥
+no_value a both = absurd (cc both)
+
+-- no connection comes
+none_comes : {L : Type 0} (R : ℕ → PeerState → PeerState → Type 0) (s t : Slab (Connection L)) (key : ℕ) → EachGoes R s t → get s key ≡ None → get t key ≡ None
+none_comes R s t key each none = none_of (get t key) (λ found there. let before = each key found there in no_value before.0 (sym none ∙ before.1))
+
+-- of one more taking
+own_more : (key : ℕ) (takings : List Taking) (t : Taking) (last last' : PeerState) → ((peer : Peer) → last.peer ≡ Some peer → last'.peer ≡ Some peer) → (t.key ≡ key → StaysPeer t.peer last'.peer)
+    → All (λ (u : Taking). u.key ≡ key → StaysPeer u.peer last.peer) takings → All (λ (u : Taking). u.key ≡ key → StaysPeer u.peer last'.peer) (takings ++ t ∷ [])
+own_more key takings t last last' stays own owns =
+    let Own = λ (u : Taking). u.key ≡ key → StaysPeer u.peer last'.peer in
+    All-append Own takings (t ∷ []) (λ k d within same peer known. stays peer (owns k d within same peer known)) (All-cons Own t [] own (All-nil Own))
+
+lines_more : (key : ℕ) (takings : List Taking) (t : Taking) (lines : List (List ℕ)) → lines_to key (t ∷ []) ≡ lines → lines_to key (takings ++ t ∷ []) ≡ lines_to key takings ++ lines
+lines_more key takings t lines is = lines_to-append key takings (t ∷ []) ∙ ap (λ (l : List (List ℕ)). lines_to key takings ++ l) is
+
+-- the first state of a connection that is there
+took_first : {L : Type 0} (key : ℕ) (now : Option (Connection L)) → ((connection : Connection L) → now ≡ Some connection → IsConnection connection.session) → TookUnder key [] now now
+took_first key None holds = (refl, refl)
+took_first {L} key (Some connection) holds = record {
+  last = connection.session;
+  is = holds connection refl;
+  later = rests_later connection.session connection.session (refl, refl, refl);
+  lines = sym (append-nil (input_lines connection.session.session.fed));
+  own = All-nil (λ (t : Taking). t.key ≡ key → StaysPeer t.peer connection.session.peer);
+  still = λ found there. ap (λ (c : Connection L). c.session) (sym (is_same connection found there));
+}
+
+-- another one had its turn
+took_other : {L : Type 0} (key : ℕ) (takings : List Taking) (t : Taking) (was mid now : Option (Connection L)) → (t.key ≡ key → ⊥)
+    → ((found : Connection L) → now ≡ Some found → (connection : Connection L) × (mid ≡ Some connection) × (found.session ≡ connection.session)) → (mid ≡ None → now ≡ None)
+    → TookUnder key takings was mid → TookUnder key (takings ++ t ∷ []) was now
+took_other key takings t None mid now other goes gone took = (lines_more key takings t [] (no_lines key t other) ∙ append-nil (lines_to key takings) ∙ took.0, gone took.1)
+took_other key takings t (Some connection) mid now other goes gone took = record {
+  last = took.last;
+  is = took.is;
+  later = took.later;
+  lines = took.lines ∙ ap (λ (l : List (List ℕ)). input_lines connection.session.session.fed ++ l) (sym (lines_more key takings t [] (no_lines key t other) ∙ append-nil (lines_to key takings)));
+  own = own_more key takings t took.last took.last (λ peer known. known) (λ same. absurd (other same)) took.own;
+  still = λ found there. let before = goes found there in before.2 ∙ took.still before.0 before.1;
+}
+
+-- it had its turn itself
+took_own : {L : Type 0} (key : ℕ) (takings : List Taking) (t : Taking) (was mid now : Option (Connection L)) (before after : PeerState) → t.key ≡ key → t.peer ≡ before.peer → (before.peer ≡ None → t.lines ≡ [])
+    → HasTurn mid before after t.lines → ((found : Connection L) → now ≡ Some found → found.session ≡ after) → (mid ≡ None → now ≡ None)
+    → TookUnder key takings was mid → TookUnder key (takings ++ t ∷ []) was now
+took_own {L} key takings t None mid now before after own peer_is silent turn left gone took =
+    let none : t.lines ≡ [] = silent (subst (λ (m : Option (Connection L)). HasTurn m before after t.lines) took.1 turn) in
+    (lines_more key takings t [] (own_lines key t own ∙ none) ∙ append-nil (lines_to key takings) ∙ took.0, gone took.1)
+took_own {L} key takings t (Some first) None now before after own peer_is silent turn left gone took = record {
+  last = took.last;
+  is = took.is;
+  later = took.later;
+  lines = took.lines ∙ ap (λ (l : List (List ℕ)). input_lines first.session.session.fed ++ l) (sym (lines_more key takings t [] (own_lines key t own ∙ silent turn) ∙ append-nil (lines_to key takings)));
+  own = own_more key takings t took.last took.last (λ peer known. known) (λ same peer known. absurd (no_value peer (sym turn ∙ sym peer_is ∙ known))) took.own;
+  still = λ found there. absurd (no_value found (sym (gone refl) ∙ there));
+}
+took_own {L} key takings t (Some first) (Some connection) now before after own peer_is silent turn left gone took =
+    let same : before ≡ took.last = turn.0 ∙ took.still connection refl in record {
+      last = after;
+      is = turn.1;
+      later = later_then first.session took.last after took.later (subst (λ (c : PeerState). IsLater c after) same turn.2);
+      lines = turn.3 ∙ ap (λ (c : PeerState). input_lines c.session.fed ++ t.lines) same ∙ ap (λ (l : List (List ℕ)). l ++ t.lines) took.lines
+          ∙ append_assoc (input_lines first.session.session.fed) (lines_to key takings) t.lines
+          ∙ ap (λ (l : List (List ℕ)). input_lines first.session.session.fed ++ l) (sym (lines_more key takings t t.lines (own_lines key t own)));
+      own = own_more key takings t took.last after (λ peer known. turn.2.peer peer (ap (λ (c : PeerState). c.peer) same ∙ known)) (λ _ peer known. turn.2.peer peer (sym peer_is ∙ known)) took.own;
+      still = left;
+    }
+
+-- the released answers were told
+took_told : {L : Type 0} (key : ℕ) (takings : List Taking) (said : List Answer) (awaiting : List ℕ) (was mid now : Option (Connection L))
+    → ((found : Connection L) → now ≡ Some found → (connection : Connection L) × (mid ≡ Some connection) × TellsWhereAsked said awaiting key connection.session found.session) → (mid ≡ None → now ≡ None)
+    → TookUnder key takings was mid → TookUnder key takings was now
+took_told key takings said awaiting None mid now goes gone took = (took.0, gone took.1)
+took_told key takings said awaiting (Some first) mid None goes gone took =
+    record { last = took.last; is = took.is; later = took.later; lines = took.lines; own = took.own; still = λ found there. absurd (no_value found there) }
+took_told {L} key takings said awaiting (Some first) mid (Some found) goes gone took =
+    let before = goes found refl in
+    let same : before.0.session ≡ took.last = took.still before.0 before.1 in
+    let still = λ (other : Connection L) (there : Some found ≡ Some other). ap (λ (c : Connection L). c.session) (sym (is_same found other there)) in
+    elim before.2 [
+      | inl told ↦ record {
+        last = found.session;
+        is = told.1;
+        later = later_then first.session took.last found.session took.later (subst (λ (c : PeerState). IsLater c found.session) same told.2);
+        lines = ap (λ (f : List ℕ). input_lines f) told.0.fed ∙ ap (λ (c : PeerState). input_lines c.session.fed) same ∙ took.lines;
+        own = λ k d within own peer known. told.2.peer peer (ap (λ (c : PeerState). c.peer) same ∙ took.own k d within own peer known);
+        still = still;
+      }
+      | inr silent ↦ record {
+        last = took.last;
+        is = took.is;
+        later = took.later;
+        lines = took.lines;
+        own = took.own;
+        still = λ other there. still other there ∙ silent.0 ∙ same;
+      }
+    ]
+
+-- all connections are behind the gateway still
+pub behind_still : {L : Type 0} (R : ℕ → PeerState → PeerState → Type 0) (s t : Slab (Connection L)) → EachGoes R s t → ((key : ℕ) (a b : PeerState) → R key a b → IsConnection a → IsConnection b × (b.proxy ≡ a.proxy)) → StayBehind s t
+behind_still R s t each goes = λ proxy all key found there.
+    let before = each key found there in
+    let was = all key before.0 before.1 in
+    let is = goes key before.0.session found.session before.2 was.0 in (is.0, is.1 ∙ was.1)
+
+pub as_before : (a b : PeerState) → b ≡ a → IsConnection a → IsConnection b × (b.proxy ≡ a.proxy)
+as_before a b same is = (subst (λ (c : PeerState). IsConnection c) (sym same) is, ap (λ (c : PeerState). c.proxy) same)
+
+pub behind_same : {L : Type 0} (s t : Slab (Connection L)) → EachGoes (λ key a b. b ≡ a) s t → StayBehind s t
+behind_same s t each = behind_still (λ key a b. b ≡ a) s t each (λ key a b same. as_before a b same)
+
+behind_told : {L : Type 0} (said : List Answer) (awaiting : List ℕ) (s t : Slab (Connection L)) → EachGoes (TellsWhereAsked said awaiting) s t → StayBehind s t
+behind_told said awaiting s t each = behind_still (TellsWhereAsked said awaiting) s t each (λ key a b tells is. elim tells [
+  | inl told ↦ (told.1, told.2.proxy)
+  | inr silent ↦ (subst (λ (c : PeerState). IsConnection c) (sym silent.0) is, ap (λ (c : PeerState). c.proxy) silent.0)
+])
+
+-- behind a gateway nobody is anyone
+not_anyone : (name_of : NameOf) (name : Name) → peers.Anyone ≡ peer_named name_of name → ⊥
+not_anyone names.User name same = absurd (cc same)
+not_anyone names.Authorisation name same = absurd (cc same)
+
+named_peer : (proxy : Option NameOf) (peer : Option Peer) (header fed : List ℕ) → NamesPeer proxy peer header fed → IsNamed proxy peer
+named_peer None peer header fed named = tt
+named_peer (Some name_of) None header fed named = λ anyone. no_value peers.Anyone anyone
+named_peer (Some name_of) (Some peer) header fed named = λ anyone. not_anyone name_of named.0 (sym (is_same peer peers.Anyone anyone) ∙ named.2)
+
+named_turn : {L : Type 0} (proxy : Option NameOf) (now : Option (Connection L)) (before after : PeerState) (lines : List (List ℕ)) → ((connection : Connection L) → now ≡ Some connection → IsConnection connection.session × (connection.session.proxy ≡ proxy))
+    → HasTurn now before after lines → IsNamed proxy before.peer
+named_turn None now before after lines all turn = tt
+named_turn (Some name_of) None before after lines all turn = λ anyone. no_value peers.Anyone (sym turn ∙ anyone)
+named_turn (Some name_of) (Some connection) before after lines all turn =
+    let is = all connection refl in
+    let holds = is.0.1 in
+    subst (λ (c : PeerState). IsNamed (Some name_of) c.peer) (sym turn.0)
+    (subst (λ (p : Option NameOf). IsNamed p connection.session.peer) is.1 (named_peer connection.session.proxy connection.session.peer holds.header connection.session.session.fed holds.named))
+
 -- a turn that is not over: after some rounds, with answers since then that are withheld
-pub record OpenTurn {D L : Type 0} (takes : D → Peer → Ask → Withheld → D → Type 0) (releases : D → D → Withheld → Answer → Type 0) (moves : D → D → Type 0) (old new : D) (withheld : List Withheld) (awaiting : List ℕ) (connections connections' : Slab (Connection L)) : Type 0 where
+pub record OpenTurn {D L : Type 0} (proxy : Option NameOf) (takes : D → Peer → Ask → Withheld → D → Type 0) (releases : D → D → Withheld → Answer → Type 0) (moves : D → D → Type 0) (old new : D) (withheld : List Withheld) (awaiting : List ℕ) (connections connections' : Slab (Connection L)) : Type 0 where
   pub rounds : List Round
   pub takings : List Taking
   pub mid : D
   pub gone : GoesRounds takes releases moves old rounds mid
   pub taken : TakesAll takes mid takings new
   pub holds : withheld ≡ held_of takings
-  pub own : All (λ (r : Round). All (IsOwn connections') r.takings) rounds
-  pub own_taken : All (IsOwn connections') takings
+  pub took : (key : ℕ) → TookUnder key (takings_in rounds ++ takings) (get connections key) (get connections' key)
+  pub named : All (λ (t : Taking). IsNamed proxy t.peer) (takings_in rounds ++ takings)
+  pub behind : AllBehind proxy connections'
   pub each : EachGoes (λ key a b. a.session.waiting ≡ 0 → Stands key rounds takings awaiting a.session b.session) connections connections'
 
-pub open_first : {D L : Type 0} (takes : D → Peer → Ask → Withheld → D → Type 0) (releases : D → D → Withheld → Answer → Type 0) (moves : D → D → Type 0) (desk : D) (withheld : List Withheld) (awaiting : List ℕ) (connections : Slab (Connection L))
-    → withheld ≡ [] → OpenTurn takes releases moves desk desk withheld awaiting connections connections
-open_first takes releases moves desk withheld awaiting connections none = record {
+pub open_first : {D L : Type 0} (proxy : Option NameOf) (takes : D → Peer → Ask → Withheld → D → Type 0) (releases : D → D → Withheld → Answer → Type 0) (moves : D → D → Type 0) (desk : D) (withheld : List Withheld) (awaiting : List ℕ) (connections : Slab (Connection L))
+    → withheld ≡ [] → AllBehind proxy connections → OpenTurn proxy takes releases moves desk desk withheld awaiting connections connections
+open_first proxy takes releases moves desk withheld awaiting connections none behind = record {
   rounds = [];
   takings = [];
   mid = desk;
   gone = refl;
   taken = refl;
   holds = none;
-  own = All-nil (λ (r : Round). All (IsOwn connections) r.takings);
-  own_taken = All-nil (IsOwn connections);
+  took = λ key. took_first key (get connections key) (λ connection there. (behind key connection there).0);
+  named = All-nil (λ (t : Taking). IsNamed proxy t.peer);
+  behind = behind;
   each = each_stays _ connections (λ key a told. stands_first key awaiting a.session told);
 }
 
@@ -442,76 +573,112 @@ stands_behind key rounds takings t awaiting awaiting' first a b c begins still g
       ]
 ]
 
+-- what was taken under each key, after the turn of one
+took_turn : {D L : Type 0} (other : ℕ) (all : List Taking) (key : ℕ) (old new : D) (takes : D → Peer → Ask → Withheld → D → Type 0) (withheld withheld' : List Withheld) (awaiting awaiting' : List ℕ) (s t u : Slab (Connection L))
+    → (n : TurnOfOne takes key old new withheld withheld' awaiting awaiting' t u) → TookUnder other all (get s other) (get t other)
+    → TookUnder other (all ++ record { key = key; peer = n.before.peer; lines = n.lines; held = n.held } ∷ []) (get s other) (get u other)
+took_turn {D} {L} other all key old new takes withheld withheld' awaiting awaiting' s t u n took =
+    let taking : Taking = record { key = key; peer = n.before.peer; lines = n.lines; held = n.held } in
+    let gone = none_comes _ t u other n.each in
+    elim (eqb_tells key other) [
+      | inl is ↦
+          took_own other all taking (get s other) (get t other) (get u other) n.before n.after is.1 refl (λ none. (subst (λ (p : Option Peer). TakesBy takes p old n.lines n.held new) none n.desk).0)
+          (subst (λ (k : ℕ). HasTurn (get t k) n.before n.after n.lines) is.1 n.turn) (λ found there. n.left found (ap (λ (k : ℕ). get u k) is.1 ∙ there)) gone took
+      | inr apart ↦
+          took_other other all taking (get s other) (get t other) (get u other) apart.1
+          (λ found there. let before = n.each other found there in (before.0, before.1, before.2.0 (λ same. apart.1 (sym same)))) gone took
+    ]
+
+behind_turn : {D L : Type 0} (proxy : Option NameOf) (takes : D → Peer → Ask → Withheld → D → Type 0) (key : ℕ) (old new : D) (withheld withheld' : List Withheld) (awaiting awaiting' : List ℕ) (t u : Slab (Connection L))
+    → TurnOfOne takes key old new withheld withheld' awaiting awaiting' t u → AllBehind proxy t → AllBehind proxy u
+behind_turn {D} {L} proxy takes key old new withheld withheld' awaiting awaiting' t u n all = λ other found there.
+    let before = n.each other found there in
+    let was = all other before.0 before.1 in
+    elim (eqb_tells other key) [
+      | inr apart ↦
+          let same = before.2.0 apart.1 in
+          (subst (λ (c : PeerState). IsConnection c) (sym same) was.0, ap (λ (c : PeerState). c.proxy) same ∙ was.1)
+      | inl is ↦
+          let here : get t key ≡ Some before.0 = ap (λ (k : ℕ). get t k) (sym is.1) ∙ before.1 in
+          let turn = subst (λ (m : Option (Connection L)). HasTurn m n.before n.after n.lines) here n.turn in
+          let same = n.left found (ap (λ (k : ℕ). get u k) (sym is.1) ∙ there) in
+          (subst (λ (c : PeerState). IsConnection c) (sym same) turn.1, ap (λ (c : PeerState). c.proxy) same ∙ turn.2.proxy ∙ ap (λ (c : PeerState). c.proxy) turn.0 ∙ was.1)
+    ]
+
 -- the turn of one connection
-pub open_taken : {D L : Type 0} (takes : D → Peer → Ask → Withheld → D → Type 0) (releases : D → D → Withheld → Answer → Type 0) (moves : D → D → Type 0) (key : ℕ) (old new next : D)
+pub open_taken : {D L : Type 0} (proxy : Option NameOf) (takes : D → Peer → Ask → Withheld → D → Type 0) (releases : D → D → Withheld → Answer → Type 0) (moves : D → D → Type 0) (key : ℕ) (old new next : D)
     (withheld withheld' : List Withheld) (awaiting awaiting' : List ℕ) (s t u : Slab (Connection L))
-    → OpenTurn takes releases moves old new withheld awaiting s t → TurnOfOne takes key new next withheld withheld' awaiting awaiting' t u
-    → OpenTurn takes releases moves old next withheld' awaiting' s u
-open_taken takes releases moves key old new next withheld withheld' awaiting awaiting' s t u o n =
-    let taking : Taking = record { key = key; connection = n.connection; lines = n.lines; held = n.held } in
-    let stays : EachGoes (λ key a b. StaysPeer a b) t u = each_more _ _ t u n.each (λ other a b goes. goes.2) in
-    let own : IsOwn u taking = (
-      n.is,
-      λ found there.
-          let before = n.each key found there in
-          λ peer known. before.2.2 peer (ap (λ (c : PeerState). c.peer) (n.own before.0 before.1) ∙ known),
-    ) in record {
+    → OpenTurn proxy takes releases moves old new withheld awaiting s t → TurnOfOne takes key new next withheld withheld' awaiting awaiting' t u
+    → OpenTurn proxy takes releases moves old next withheld' awaiting' s u
+open_taken {D} {L} proxy takes releases moves key old new next withheld withheld' awaiting awaiting' s t u o n =
+    let taking : Taking = record { key = key; peer = n.before.peer; lines = n.lines; held = n.held } in
+    let all = takings_in o.rounds ++ o.takings in
+    let behind : all ++ taking ∷ [] ≡ takings_in o.rounds ++ (o.takings ++ taking ∷ []) = append_assoc (takings_in o.rounds) o.takings (taking ∷ []) in
+    let Named = λ (t : Taking). IsNamed proxy t.peer in record {
       rounds = o.rounds;
       takings = o.takings ++ taking ∷ [];
       mid = o.mid;
       gone = o.gone;
       taken = takes_more takes o.mid new next o.takings taking o.taken n.desk;
       holds = n.behind ∙ ap (λ (l : List Withheld). l ++ n.held) o.holds ∙ sym (held_of-append o.takings (taking ∷ []) ∙ ap (λ (l : List Withheld). held_of o.takings ++ l) (append-nil n.held));
-      own = all_own_in t u o.rounds stays o.own;
-      own_taken = All-append (IsOwn u) o.takings (taking ∷ []) (all_own t u o.takings stays o.own_taken) (All-cons (IsOwn u) taking [] own (All-nil (IsOwn u)));
+      took = λ other. subst (λ (l : List Taking). TookUnder other l (get s other) (get u other)) behind (took_turn other all key new next takes withheld withheld' awaiting awaiting' s t u n (o.took other));
+      named = subst (λ (l : List Taking). All Named l) behind
+          (All-append Named all (taking ∷ []) o.named (All-cons Named taking [] (named_turn proxy (get t key) n.before n.after n.lines (o.behind key) n.turn) (All-nil Named)));
+      behind = behind_turn proxy takes key new next withheld withheld' awaiting awaiting' t u n o.behind;
       each = each_then _ _ _ s t u o.each n.each (λ other a b c stood goes told. stands_behind other o.rounds o.takings taking awaiting awaiting' (length withheld) a.session b.session c.session (ap (λ (l : List Withheld). length l) o.holds) (n.still other)
           (λ apart. ap (λ (x : PeerState). x.session) (goes.0 apart), goes.1) (stood told));
     }
 
--- the lines that were taken in one round more
-own_round : {L : Type 0} (rounds : List Round) (r : Round) (u : Slab (Connection L)) → All (λ (r : Round). All (IsOwn u) r.takings) rounds → All (IsOwn u) r.takings → All (λ (r : Round). All (IsOwn u) r.takings) (rounds ++ r ∷ [])
-own_round rounds r u before own =
-    let Own = λ (r : Round). All (IsOwn u) r.takings in All-append Own rounds (r ∷ []) before (All-cons Own r [] own (All-nil Own))
+-- what was taken before a release
+abbrev released_round : List Taking → List Answer → Round
+released_round takings said = record { takings = takings; said = said }
 
 -- a release
-pub open_told : {D L : Type 0} (takes : D → Peer → Ask → Withheld → D → Type 0) (releases : D → D → Withheld → Answer → Type 0) (moves : D → D → Type 0) (old new next : D)
+pub open_told : {D L : Type 0} (proxy : Option NameOf) (takes : D → Peer → Ask → Withheld → D → Type 0) (releases : D → D → Withheld → Answer → Type 0) (moves : D → D → Type 0) (old new next : D)
     (withheld withheld' : List Withheld) (awaiting awaiting' : List ℕ) (s t u : Slab (Connection L))
-    → OpenTurn takes releases moves old new withheld awaiting s t → TellsAll releases moves new next withheld awaiting t u → withheld' ≡ [] → awaiting' ≡ []
-    → OpenTurn takes releases moves old next withheld' awaiting' s u
-open_told takes releases moves old new next withheld withheld' awaiting awaiting' s t u o n none silent =
-    let r : Round = record { takings = o.takings; said = n.said } in
+    → OpenTurn proxy takes releases moves old new withheld awaiting s t → TellsAll releases moves new next withheld awaiting t u → withheld' ≡ [] → awaiting' ≡ []
+    → OpenTurn proxy takes releases moves old next withheld' awaiting' s u
+open_told proxy takes releases moves old new next withheld withheld' awaiting awaiting' s t u o n none silent =
+    let r = released_round o.takings n.said in
     let released = subst (λ (l : List Withheld). ReleasesAll releases moves new l n.said next) o.holds n.released in
     let one = all_length releases moves new next (held_of o.takings) n.said released in
     let each_released = all_released releases moves new next (held_of o.takings) n.said released in
-    let stays : EachGoes (λ key a b. StaysPeer a b) t u = each_more _ _ t u n.each (λ other a b goes. tells_stays n.said awaiting other a b goes) in record {
+    let all : takings_in o.rounds ++ o.takings ≡ takings_in (o.rounds ++ r ∷ []) ++ [] = sym (append-nil (takings_in (o.rounds ++ r ∷ [])) ∙ takings_more o.rounds r) in record {
       rounds = o.rounds ++ r ∷ [];
       takings = [];
       mid = next;
       gone = rounds_more takes releases moves old o.mid next o.rounds r o.gone (record { asked = new; taken = o.taken; released = released });
       taken = refl;
       holds = none;
-      own = own_round o.rounds r u (all_own_in t u o.rounds stays o.own) (all_own t u o.takings stays o.own_taken);
-      own_taken = All-nil (IsOwn u);
+      took = λ other. subst (λ (l : List Taking). TookUnder other l (get s other) (get u other)) all
+          (took_told other (takings_in o.rounds ++ o.takings) n.said awaiting (get s other) (get t other) (get u other) (n.each other) (none_comes _ t u other n.each) (o.took other));
+      named = subst (λ (l : List Taking). All (λ (t : Taking). IsNamed proxy t.peer) l) all o.named;
+      behind = behind_told n.said awaiting t u n.each proxy o.behind;
       each = subst (λ (l : List ℕ). EachGoes (λ key a b. a.session.waiting ≡ 0 → Stands key (o.rounds ++ r ∷ []) [] l a.session b.session) s u) (sym silent)
           (each_then _ _ _ s t u o.each n.each (λ other a b c stood goes told. stands_told (releases new next) other o.rounds r awaiting a.session b.session c.session one each_released (tells_state n.said awaiting other b c goes) (stood told)));
     }
 
--- a turn is over after its last release
-pub open_last : {D L : Type 0} (takes : D → Peer → Ask → Withheld → D → Type 0) (releases : D → D → Withheld → Answer → Type 0) (moves : D → D → Type 0) (old new next : D)
-    (withheld : List Withheld) (awaiting : List ℕ) (s t u : Slab (Connection L))
-    → OpenTurn takes releases moves old new withheld awaiting s t → TellsAll releases moves new next withheld awaiting t u
-    → WorkerTurn takes releases moves old next s u
-open_last takes releases moves old new next withheld awaiting s t u o n =
-    let r : Round = record { takings = o.takings; said = n.said } in
-    let released = subst (λ (l : List Withheld). ReleasesAll releases moves new l n.said next) o.holds n.released in
-    let one = all_length releases moves new next (held_of o.takings) n.said released in
-    let each_released = all_released releases moves new next (held_of o.takings) n.said released in
-    let stays : EachGoes (λ key a b. StaysPeer a b) t u = each_more _ _ t u n.each (λ other a b goes. tells_stays n.said awaiting other a b goes) in record {
+-- a turn is over once nothing is withheld
+pub open_last : {D L : Type 0} (proxy : Option NameOf) (takes : D → Peer → Ask → Withheld → D → Type 0) (releases : D → D → Withheld → Answer → Type 0) (moves : D → D → Type 0) (old new : D) (s t : Slab (Connection L))
+    → OpenTurn proxy takes releases moves old new [] [] s t → WorkerTurn proxy takes releases moves old new s t
+open_last proxy takes releases moves old new s t o =
+    let r = released_round o.takings [] in
+    let released = subst (λ (l : List Withheld). ReleasesAll releases moves new l [] new) o.holds (refl, refl) in
+    let each_released = all_released releases moves new new (held_of o.takings) [] released in
+    let all = sym (takings_more o.rounds r) in record {
       rounds = o.rounds ++ r ∷ [];
-      own = own_round o.rounds r u (all_own_in t u o.rounds stays o.own) (all_own t u o.takings stays o.own_taken);
-      desk = rounds_more takes releases moves old o.mid next o.rounds r o.gone (record { asked = new; taken = o.taken; released = released });
-      each = each_then _ _ _ s t u o.each n.each (λ other a b c stood goes told. stands_last other (o.rounds ++ r ∷ []) a.session c.session
-          (stands_told (releases new next) other o.rounds r awaiting a.session b.session c.session one each_released (tells_state n.said awaiting other b c goes) (stood told)));
+      desk = rounds_more takes releases moves old o.mid new o.rounds r o.gone (record { asked = new; taken = o.taken; released = released });
+      took = λ key. subst (λ (l : List Taking). TookUnder key l (get s key) (get t key)) all (o.took key);
+      named = subst (λ (l : List Taking). All (λ (u : Taking). IsNamed proxy u.peer) l) all o.named;
+      each = λ key found there.
+          let before = o.each key found there in (
+            before.0,
+            before.1,
+            λ told.
+                stands_last key (o.rounds ++ r ∷ []) before.0.session.session found.session.session
+                (stands_told (releases new new) key o.rounds r [] before.0.session.session found.session.session found.session.session (ap (λ (l : List Withheld). length l) o.holds) each_released
+                (inr (refl, λ asked. absurd (omega (arith, asked.1)))) (before.2 told)),
+          );
     }
 
 -- a connection that is given the released answers twice does nothing the second time
@@ -552,7 +719,7 @@ told_one : (said : List Answer) (awaiting left left' : List ℕ) (key other : �
     → TellsOne said key other b c → ToldSoFar said awaiting left' other a c
 told_one said awaiting left left' key other a b c popped told step = elim (eqb_tells other key) [
   | inl same ↦ elim told [
-    | inl before ↦ let after = step.0 same.1 in inl (told_again said a.session b.session c.session before.0 after.0, after.1 ∙ before.1)
+    | inl before ↦ let after = step.0 same.1 in inl (told_again said a.session b.session c.session before.0 after.0, after.1, later_then a b c before.2 after.2)
     | inr silent ↦ inl (subst (λ (d : PeerState). TellsPeer said d c) silent.0 (step.0 same.1))
   ]
   | inr apart ↦ elim told [
@@ -614,34 +781,72 @@ each_removed s t key removes = λ other found there. elim (eqb_tells other key) 
 pub each_still : {L : Type 0} (R : ℕ → PeerState → PeerState → Type 0) (s t u : Slab (Connection L)) → EachGoes R s t → EachGoes (λ other a b. b ≡ a) t u → EachGoes R s u
 each_still R s t u first still = each_then _ _ _ s t u first still (λ other a b c goes same. subst (λ (d : PeerState). R other a d) (sym same) goes)
 
+-- one step of a worker after another
+pub stays_then : {L : Type 0} (a b c : EventLoop L) → Stays a b → Stays b c → Stays a c
+stays_then a b c first second = (λ proxy all. second.0 proxy (first.0 proxy all), λ counted. second.1 (first.1 counted))
+
+pub closes_then : {L : Type 0} (a b c : EventLoop L) → OnlyCloses a b → OnlyCloses b c → OnlyCloses a c
+closes_then a b c first second =
+    (second.0 ∙ first.0, each_still (λ key x y. y ≡ x) a.connections b.connections c.connections first.1 second.1, λ counted. second.2 (first.2 counted))
+
+pub stays_closed : {L : Type 0} (a b : EventLoop L) → OnlyCloses a b → Stays a b
+stays_closed a b closes = (behind_same a.connections b.connections closes.1, closes.2)
+
+-- one connection was written
+pub behind_set : {L : Type 0} (s : Slab (Connection L)) (key : ℕ) (connection connection' : Connection L) → Some connection ≡ get s key
+    → (IsConnection connection.session → IsConnection connection'.session × (connection'.session.proxy ≡ connection.session.proxy)) → StayBehind s (with_value s key connection')
+behind_set s key connection connection' was own =
+    behind_still (λ other a b. IsConnection a → IsConnection b × (b.proxy ≡ a.proxy)) s (with_value s key connection')
+    (each_set _ s key connection connection' was own (λ other a apart stands. (stands, refl))) (λ other a b goes. goes)
+
+-- a connection came, or room for it was refused
+pub behind_inserted : {L E : Type 0} (proxy : Option NameOf) (s t : Slab (Connection L)) (result : Result ℕ E) (connection : Connection L) → IfOk result (λ key. Updates s t key (Some connection)) → OnErr result (t ≡ record s { capacity = t.capacity })
+    → IsConnection connection.session → connection.session.proxy ≡ proxy → AllBehind proxy s → AllBehind proxy t
+behind_inserted {L} proxy s t (Ok key) connection comes same is own all = λ other found there. elim (eqb_tells other key) [
+  | inl at ↦
+      let here : connection ≡ found = is_same connection found (sym comes.changed ∙ ap (λ (k : ℕ). get t k) (sym at.1) ∙ there) in
+      (subst (λ (c : Connection L). IsConnection c.session) here is, ap (λ (c : Connection L). c.session.proxy) (sym here) ∙ own)
+  | inr apart ↦ all other found (sym (comes.others other apart.1) ∙ there)
+]
+behind_inserted {L} proxy s t (Err e) connection comes same is own all = λ other found there. all other found (ap (λ (u : Slab (Connection L)). get u other) (sym same) ∙ there)
+
 -- the turn of one connection, which is then noted as waiting or not
 pub turn_of_one : {D L : Type 0} (takes : D → Peer → Ask → Withheld → D → Type 0) (key : ℕ) (old new : D) (withheld withheld' : List Withheld) (awaiting awaiting' : List ℕ) (next : Next)
     (connections connections' : Slab (Connection L)) (connection connection' : Connection L) → Some connection ≡ get connections key
-    → ConnectionSteps takes old new withheld withheld' next connection.session connection'.session
+    → ConnectionSteps takes old new withheld withheld' next connection.session connection'.session → IsConnection connection'.session
     → EachGoes (λ other a b. b ≡ a) (with_value connections key connection') connections' → ((other : ℕ) → Contains awaiting other → Contains awaiting' other)
     → (WaitsForRelease next → (found : Connection L) → get connections' key ≡ Some found → Contains awaiting' key) → TurnOfOne takes key old new withheld withheld' awaiting awaiting' connections connections'
-turn_of_one {L = L} takes key old new withheld withheld' awaiting awaiting' next connections connections' connection connection' was steps dispatched still asks =
+turn_of_one {L = L} takes key old new withheld withheld' awaiting awaiting' next connections connections' connection connection' was steps is dispatched still asks =
     let step = steps.step in
     let Own : PeerState → PeerState → Type 0 = λ a b. ((Kept a.session b.session × (step.lines ≡ []) × (step.held ≡ [])) ⊎ (WaitsForRelease next × LinesTaken step.lines step.held (length withheld) a.session b.session)) in
     let goes : Own connection.session connection'.session = elim steps.waits [
       | inl kept ↦ inl kept
       | inr waits ↦ elim step.goes [ inl kept ↦ inl kept | inr took ↦ inr (waits, took) ]
-    ] in record {
-      connection = connection.session;
-      is = steps.is;
-      own = λ found there.
-          let both : Some connection ≡ Some found = was ∙ there in
-          let same : connection ≡ found = cc in
-          ap (λ (c : Connection L). c.session) (sym same);
+    ] in
+    let before = input_lines connection.session.session.fed in
+    let lines : input_lines connection'.session.session.fed ≡ before ++ step.lines = elim goes [
+      | inl kept ↦ ap (λ (f : List ℕ). input_lines f) kept.0.fed ∙ sym (ap (λ (l : List (List ℕ)). before ++ l) kept.1 ∙ append-nil before)
+      | inr took ↦ took.1.lines_are
+    ] in
+    let some : IsSome (Some connection) = search rules in
+    let present : IsSome (get connections key) = subst (λ (o : Option (Connection L)). IsSome o) was some in record {
+      before = connection.session;
+      after = connection'.session;
       lines = step.lines;
       held = step.held;
+      turn = subst (λ (m : Option (Connection L)). HasTurn m connection.session connection'.session step.lines) was (refl, is, steps.later, lines);
+      left = λ found there.
+          let second = dispatched key found there in
+          let updates = Updates-with_value connections key connection' present in
+          let own = is_same connection' second.0 (sym updates.changed ∙ second.1) in
+          second.2 ∙ ap (λ (c : Connection L). c.session) (sym own);
       behind = step.behind;
       desk = step.desk;
       still = still;
       each = λ other found there.
           let second = dispatched other found there in
-          let first = each_set (λ k a b. (k ≢ key → b ≡ a) × (k ≡ key → Own a b) × StaysPeer a b) connections key connection connection' was
-          (λ apart. absurd (apart refl), λ same. goes, steps.stays) (λ k a apart. (λ _. refl, λ same. absurd (apart same), λ peer known. known)) other second.0 second.1 in (
+          let first = each_set (λ k a b. (k ≢ key → b ≡ a) × (k ≡ key → Own a b)) connections key connection connection' was
+          (λ apart. absurd (apart refl), λ same. goes) (λ k a apart. (λ _. refl, λ same. absurd (apart same))) other second.0 second.1 in (
             first.0,
             first.1,
             (
@@ -650,7 +855,6 @@ turn_of_one {L = L} takes key old new withheld withheld' awaiting awaiting' next
                 | inl kept ↦ inl kept
                 | inr took ↦ inr (asks took.0 found (ap (λ (k : ℕ). get connections' k) (sym same) ∙ there), took.1)
               ]),
-              λ peer known. ap (λ (d : PeerState). d.peer) second.2 ∙ first.2.2 peer known,
             ),
           );
     }
@@ -663,33 +867,27 @@ nobody = record {
   stage = stages.Serving;
   stream = record { received = []; sent = [] };
   session = record { fed = []; sent = []; unsent = []; listed = []; ended = None; first = 0; waiting = 0; awaited = [] };
+  unread = [];
+  pending = [];
 }
-
-nobody_is : IsConnection nobody
-nobody_is = ([], record { header = []; rest = []; received_is = refl; named = (refl, refl); left = λ _. refl; notice = []; sent_is = refl; ended = refl })
 
 -- nobody has a turn
 pub turn_of_none : {D L : Type 0} (takes : D → Peer → Ask → Withheld → D → Type 0) (key : ℕ) (desk : D) (withheld : List Withheld) (awaiting : List ℕ) (connections : Slab (Connection L))
     → None ≡ get connections key → TurnOfOne takes key desk desk withheld withheld awaiting awaiting connections connections
-turn_of_none takes key desk withheld awaiting connections none = record {
-  connection = nobody;
-  is = nobody_is;
-  own = λ found there. let both : None ≡ Some found = none ∙ there in absurd (cc);
+turn_of_none {D} {L} takes key desk withheld awaiting connections none = record {
+  before = nobody;
+  after = nobody;
   lines = [];
   held = [];
+  turn = subst (λ (m : Option (Connection L)). HasTurn m nobody nobody []) none refl;
+  left = λ found there. absurd (no_value found (none ∙ there));
   behind = sym (append-nil withheld);
   desk = (refl, refl, refl);
   still = λ other asks. asks;
   each = λ other found there. (
     found,
     there,
-    (
-      λ apart. refl,
-      λ same.
-          let both : None ≡ Some found = none ∙ ap (λ (k : ℕ). get connections k) (sym same) ∙ there in
-          absurd (cc),
-      λ peer known. known,
-    ),
+    (λ apart. refl, λ same. absurd (no_value found (none ∙ ap (λ (k : ℕ). get connections k) (sym same) ∙ there))),
   );
 }
 

@@ -6,3 +6,4 @@ pub mod ProxyHeader
 pub mod Peers
 pub mod Memory
 pub mod Turns
+pub mod Pools

@@ -44,6 +44,11 @@ abbrev pub direct_of : Option Http → Option Bool
 direct_of None = None
 direct_of (Some h) = Some h.codec.stream.direct
 
+-- the bytes of a request that has not come whole
+abbrev pub pending_of : Option Http → List ℕ
+pending_of None = []
+pending_of (Some h) = h.codec.stream.held
+
 -- the bytes read from the socket are those before the first request, those that the codec was fed, and a discarded
 -- rest; the bytes written to it are the sent bytes of the codec
 pub record IsFed (raw : Traffic) (h : Http) : Type 0 where

@@ -7,16 +7,25 @@ use Rattle.nmvs_identifier.specs.Texts.{same_text}
 use Rattle.nmvs_messages.specs.declared.peer.Peer.{Peer}
 use Rattle.nmvs_messages.specs.declared.peer.Peer.TheVariants as peers
 use Rattle.nmvs_connections.specs.declared.connection.Connection.{Connection}
+use Rattle.nmvs_connections.specs.declared.event_loop.EventLoop.{EventLoop}
 
 -- the memory of a connection at its last count; 0 if there is no connection
 abbrev pub memory_of : {L : Type 0} → Option (Connection L) → ℕ
 memory_of None = 0
 memory_of (Some connection) = connection.memory
 
--- the memory of all, after that of one connection was counted anew; it stays if there is no connection
-abbrev pub CountsMemory : {L : Type 0} → Option (Connection L) → Option (Connection L) → ℕ → ℕ → Type 0
-CountsMemory None new all all' = all' ≡ all
-CountsMemory (Some connection) new all all' = all' ≡ min ((all - connection.memory) + memory_of new) (2 ^ 64 - 1)
+-- the memory of all connections at their last counts
+abbrev pub memory_in : {L : Type 0} → List (Option (Connection L)) → ℕ
+memory_in [] = 0
+memory_in (slot ∷ more) = memory_of slot + memory_in more
+
+-- what a worker counts is the sum of what its connections take
+abbrev pub IsCounted : {L : Type 0} → EventLoop L → Type 0
+IsCounted worker = worker.memory ≡ memory_in worker.connections.slots
+
+-- what one connection keeps is counted whole, beside what was counted of the others; or no more can be counted
+abbrev pub CountsMemory : (kept others memory all : ℕ) → Type 0
+CountsMemory kept others memory all = (all ≡ others + memory) × ((kept ≤ memory) ⊎ (all ≡ 2 ^ 64 - 1))
 
 -- no connection takes more than this
 abbrev pub NoneTakesMore : {L : Type 0} → Slab (Connection L) → ℕ → Type 0

@@ -1,5 +1,5 @@
 -- A connection with its peer: whose lines it carries, and which bytes are its header, its lines and its replies (own).
-use Rattle.std.specs.Prelude.{◌≡◌, ℕ, List, [], ◌++◌, Option, Some, None, codes}
+use Rattle.std.specs.Prelude.{◌≡◌, ◌≢◌, ◌+◌, ℕ, List, [], ◌++◌, length, Option, Some, None, codes}
 use Rattle.nmvs_messages.specs.declared.peer.NameOf.{NameOf}
 use Rattle.nmvs_messages.specs.declared.peer.Peer.{Peer}
 use Rattle.nmvs_messages.specs.declared.peer.Peer.TheVariants as peers
@@ -11,13 +11,20 @@ use Rattle.nmvs_connections.specs.Replies.{SessionState}
 use Rattle.nmvs_connections.specs.Traffic.{Traffic}
 
 -- a connection: whether a gateway's header names a user or an authorisation, if it begins with one; its peer, once it is known;
--- its stage; its bytes; and its session
+-- its stage; its bytes; its session; the bytes that were read and not taken, and over HTTP those of a request that has not come whole
 pub record PeerState : Type 0 where
   pub proxy : Option NameOf
   pub peer : Option Peer
   pub stage : Stage
   pub stream : Traffic
   pub session : SessionState
+  pub unread : List ℕ
+  pub pending : List ℕ
+
+-- the number of bytes that a connection keeps: those that were read and not taken, those of a request that has not come whole,
+-- and the unsent replies
+abbrev pub kept_bytes : PeerState → ℕ
+kept_bytes c = length c.unread + (length c.pending + length c.session.unsent)
 
 -- these bytes are the header that names the peer; if none is expected, the peer is anyone. Before the peer is known, there
 -- is no header, and the session was fed nothing
@@ -53,5 +60,21 @@ abbrev pub IsConnection : PeerState → Type 0
 IsConnection c = (unread : List ℕ) × Holds c.proxy c.peer c.stage c.stream.received c.stream.sent c.session.fed c.session.sent unread
 
 -- a peer that was known stays
-abbrev pub StaysPeer : PeerState → PeerState → Type 0
-StaysPeer old new = (peer : Peer) → old.peer ≡ Some peer → new.peer ≡ Some peer
+abbrev pub StaysPeer : Option Peer → Option Peer → Type 0
+StaysPeer old new = (peer : Peer) → old ≡ Some peer → new ≡ Some peer
+
+-- behind a gateway nobody is anyone
+abbrev pub IsNamed : Option NameOf → Option Peer → Type 0
+IsNamed None peer = Unit {0}
+IsNamed (Some name_of) peer = peer ≢ Some peers.Anyone
+
+-- the same peer behind the same gateway, or none, and no byte more was received
+abbrev pub Rests : PeerState → PeerState → Type 0
+Rests old new = (new.proxy ≡ old.proxy) × (new.peer ≡ old.peer) × (new.stream.received ≡ old.stream.received)
+
+-- a connection later: behind the same gateway, or none; its peer stays, once it is known; and what it received is followed by more
+pub record IsLater (old new : PeerState) : Type 0 where
+  pub proxy : new.proxy ≡ old.proxy
+  pub peer : StaysPeer old.peer new.peer
+  pub more : List ℕ
+  pub received : new.stream.received ≡ old.stream.received ++ more

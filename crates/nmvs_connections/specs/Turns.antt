@@ -4,6 +4,7 @@ use Rattle.std.specs.List.{Contains}
 use Rattle.slab.specs.Slab.{Slab, get}
 use Rattle.nmvs_messages.specs.declared.ask.Ask.{Ask}
 use Rattle.nmvs_messages.specs.declared.answer.Answer.{Answer}
+use Rattle.nmvs_messages.specs.declared.peer.NameOf.{NameOf}
 use Rattle.nmvs_messages.specs.declared.peer.Peer.{Peer}
 use Rattle.nmvs_messages.specs.declared.withheld.Withheld.{Withheld}
 use Rattle.nmvs_messages.specs.Peers.{TakesFrom}
@@ -12,16 +13,17 @@ use Rattle.nmvs_protocol.specs.Progress.{LastShows}
 use Rattle.nmvs_protocol.specs.Session.{TakesLines, ReleasesAll, session_text}
 use Rattle.nmvs_stream.specs.InputLines.{input_lines}
 use Rattle.nmvs_connections.specs.declared.connection.Connection.{Connection}
+use Rattle.nmvs_connections.specs.declared.event_loop.EventLoop.{EventLoop}
 use Rattle.nmvs_connections.specs.declared.next.Next.{Next}
 use Rattle.nmvs_connections.specs.declared.next.Next.TheVariants as nexts
-use Rattle.nmvs_connections.specs.Peers.{PeerState, IsConnection, StaysPeer}
+use Rattle.nmvs_connections.specs.Memory.{IsCounted}
+use Rattle.nmvs_connections.specs.Peers.{PeerState, IsConnection, IsLater, IsNamed, StaysPeer}
 use Rattle.nmvs_connections.specs.Replies.{SessionState, TellsPart, LacksMemory, replied}
 
--- lines of the connection under this key that were taken together; the connection as it was when its turn came; the
--- withheld answers to the lines
+-- lines of the connection under this key that were taken together; its peer, if that is known; the withheld answers to the lines
 pub record Taking : Type 0 where
   pub key : ℕ
-  pub connection : PeerState
+  pub peer : Option Peer
   pub lines : List (List ℕ)
   pub held : List Withheld
 
@@ -35,10 +37,10 @@ abbrev pub TakesBy : {D : Type 0} → (D → Peer → Ask → Withheld → D →
 TakesBy takes None old lines held new = (lines ≡ []) × (held ≡ []) × (new ≡ old)
 TakesBy takes (Some peer) old lines held new = TakesLines (TakesFrom takes peer) old lines held new
 
--- the desk goes from old to new by exactly the takes of these lines, each as one of its own connection's peer
+-- the desk goes from old to new by exactly the takes of these lines, each as one of this peer
 abbrev pub TakesAll : {D : Type 0} → (D → Peer → Ask → Withheld → D → Type 0) → D → List Taking → D → Type 0
 TakesAll takes old [] new = new ≡ old
-TakesAll {D} takes old (t ∷ more) new = (mid : D) × TakesBy takes t.connection.peer old t.lines t.held mid × TakesAll takes mid more new
+TakesAll {D} takes old (t ∷ more) new = (mid : D) × TakesBy takes t.peer old t.lines t.held mid × TakesAll takes mid more new
 
 -- the lines that were taken between two releases, and the answers that the second one released
 pub record Round : Type 0 where
@@ -66,10 +68,13 @@ abbrev pub answers_to : ℕ → List Taking → List Answer → List Answer
 answers_to key [] said = []
 answers_to key (t ∷ more) said = (if t.key == key then take (length t.held) said else []) ++ answers_to key more (drop (length t.held) said)
 
--- the lines of one connection in these rounds
+-- all that was taken in these rounds, in order, and the lines of one connection among it
+abbrev pub takings_in : List Round → List Taking
+takings_in [] = []
+takings_in (r ∷ more) = r.takings ++ takings_in more
+
 abbrev pub lines_in : ℕ → List Round → List (List ℕ)
-lines_in key [] = []
-lines_in key (r ∷ more) = lines_to key r.takings ++ lines_in key more
+lines_in key rounds = lines_to key (takings_in rounds)
 
 -- the answers to them
 abbrev pub answers_in : ℕ → List Round → List Answer
@@ -91,17 +96,44 @@ pub record Answered (key : ℕ) (rounds : List Round) (old new : SessionState) :
 abbrev pub EachGoes : {L : Type 0} → (ℕ → PeerState → PeerState → Type 0) → Slab (Connection L) → Slab (Connection L) → Type 0
 EachGoes {L} goes old new = (key : ℕ) (connection' : Connection L) → get new key ≡ Some connection' → (connection : Connection L) × (get old key ≡ Some connection) × goes key connection.session connection'.session
 
--- the lines are of a connection whose header names its peer; and if the connection is still there, it has that peer still
-abbrev pub IsOwn : {L : Type 0} → Slab (Connection L) → Taking → Type 0
-IsOwn {L} connections t =
-    IsConnection t.connection × ((connection : Connection L) → get connections t.key ≡ Some connection → StaysPeer t.connection connection.session)
+-- a connection as it was at first, and as it was last, whether it is there still or not. It took each line that it received
+-- once, in order, as a line of the peer that its header names
+pub record Took {L : Type 0} (key : ℕ) (takings : List Taking) (first : PeerState) (now : Option (Connection L)) : Type 0 where
+  pub last : PeerState
+  pub is : IsConnection last
+  pub later : IsLater first last
+  pub lines : input_lines last.session.fed ≡ input_lines first.session.fed ++ lines_to key takings
+  pub own : All (λ (t : Taking). t.key ≡ key → StaysPeer t.peer last.peer) takings
+  pub still : (connection : Connection L) → now ≡ Some connection → connection.session ≡ last
 
--- a turn of a worker: rounds take the desk from old to new, each line as one of its own connection's peer; and each connection
--- that waited for no answer is answered in them, whatever others are served between its lines
-pub record WorkerTurn {D L : Type 0} (takes : D → Peer → Ask → Withheld → D → Type 0) (releases : D → D → Withheld → Answer → Type 0) (moves : D → D → Type 0) (old new : D) (connections connections' : Slab (Connection L)) : Type 0 where
+-- what was taken under a key is of the connection that was there at first; if there was none, no line was taken, and none came
+abbrev pub TookUnder : {L : Type 0} → ℕ → List Taking → Option (Connection L) → Option (Connection L) → Type 0
+TookUnder key takings None now = (lines_to key takings ≡ []) × (now ≡ None)
+TookUnder key takings (Some connection) now = Took key takings connection.session now
+
+-- each connection is behind this gateway, or none, and its bytes are so
+abbrev pub AllBehind : {L : Type 0} → Option NameOf → Slab (Connection L) → Type 0
+AllBehind {L} proxy connections = (key : ℕ) (connection : Connection L) → get connections key ≡ Some connection → IsConnection connection.session × (connection.session.proxy ≡ proxy)
+
+abbrev pub StayBehind : {L : Type 0} → Slab (Connection L) → Slab (Connection L) → Type 0
+StayBehind old new = (proxy : Option NameOf) → AllBehind proxy old → AllBehind proxy new
+
+-- what holds between two turns: each connection is behind the gateway, and what is counted is the sum of what they take
+abbrev pub Stays : {L : Type 0} → EventLoop L → EventLoop L → Type 0
+Stays old new = StayBehind old.connections new.connections × (IsCounted old → IsCounted new)
+
+-- connections may have been closed, and no other has changed; what is counted is still the sum of what they take
+abbrev pub OnlyCloses : {L : Type 0} → EventLoop L → EventLoop L → Type 0
+OnlyCloses old new = (new.awaiting ≡ old.awaiting) × EachGoes (λ key state state'. state' ≡ state) old.connections new.connections × (IsCounted old → IsCounted new)
+
+-- a turn of a worker: rounds take the desk from old to new, each line as one of its own connection's peer, whether that is there
+-- still or not; behind a gateway nobody is anyone; and each connection that is there, and waited for no answer, is answered in
+-- them, whatever others are served between its lines
+pub record WorkerTurn {D L : Type 0} (proxy : Option NameOf) (takes : D → Peer → Ask → Withheld → D → Type 0) (releases : D → D → Withheld → Answer → Type 0) (moves : D → D → Type 0) (old new : D) (connections connections' : Slab (Connection L)) : Type 0 where
   pub rounds : List Round
   pub desk : GoesRounds takes releases moves old rounds new
-  pub own : All (λ (r : Round). All (IsOwn connections') r.takings) rounds
+  pub took : (key : ℕ) → TookUnder key (takings_in rounds) (get connections key) (get connections' key)
+  pub named : All (λ (t : Taking). IsNamed proxy t.peer) (takings_in rounds)
   pub each : EachGoes (λ key state state'. state.session.waiting ≡ 0 → Answered key rounds state.session state'.session) connections connections'
 
 -- entries may have been fetched, and replies sent, and nothing else
@@ -143,8 +175,7 @@ pub record LinesStep {D : Type 0} (takes : D → Peer → Ask → Withheld → D
 pub record ConnectionSteps {D : Type 0} (takes : D → Peer → Ask → Withheld → D → Type 0) (old new : D) (withheld withheld' : List Withheld) (next : Next) (state state' : PeerState) : Type 0 where
   pub step : LinesStep takes state.peer old new withheld withheld' state.session state'.session
   pub waits : Kept state.session state'.session × (step.lines ≡ []) × (step.held ≡ []) ⊎ WaitsForRelease next
-  pub stays : StaysPeer state state'
-  pub is : IsConnection state
+  pub later : IsLater state state'
 
 -- the connection turned its part of the released answers into replies
 pub record TellsOwn (released : List Answer) (old new : SessionState) : Type 0 where
@@ -156,7 +187,7 @@ pub record TellsOwn (released : List Answer) (old new : SessionState) : Type 0 w
 
 -- and its peer stays
 abbrev pub TellsPeer : List Answer → PeerState → PeerState → Type 0
-TellsPeer released old new = TellsOwn released old.session new.session × (new.peer ≡ old.peer)
+TellsPeer released old new = TellsOwn released old.session new.session × IsConnection new × IsLater old new
 
 -- each connection that waited turned its part of the released answers into replies, once; no other did anything
 abbrev pub TellsWhereAsked : List Answer → List ℕ → ℕ → PeerState → PeerState → Type 0
@@ -173,16 +204,23 @@ pub record TellsAll {D L : Type 0} (releases : D → D → Withheld → Answer �
 abbrev pub StepsOrStays : List ℕ → ℕ → List (List ℕ) → List Withheld → ℕ → SessionState → SessionState → Type 0
 StepsOrStays awaiting key lines held first old new = (Kept old new × (lines ≡ []) × (held ≡ [])) ⊎ (Contains awaiting key × LinesTaken lines held first old new)
 
+-- a connection that is there has its turn, and goes from before to after; under a key without a connection nobody has one
+abbrev pub HasTurn : {L : Type 0} → Option (Connection L) → (before after : PeerState) → List (List ℕ) → Type 0
+HasTurn None before after lines = before.peer ≡ None
+HasTurn (Some connection) before after lines =
+    (before ≡ connection.session) × IsConnection after × IsLater before after × (input_lines after.session.fed ≡ input_lines before.session.fed ++ lines)
+
 -- the turn of the connection under this key: the desk takes its lines, as those of its peer, and appends their answers to the
 -- withheld ones; if there are any, the connection waits for their release; no other connection has changed
 pub record TurnOfOne {D L : Type 0} (takes : D → Peer → Ask → Withheld → D → Type 0) (key : ℕ) (old new : D) (withheld withheld' : List Withheld) (awaiting awaiting' : List ℕ) (connections connections' : Slab (Connection L)) : Type 0 where
-  pub connection : PeerState
-  pub is : IsConnection connection
-  pub own : (found : Connection L) → get connections key ≡ Some found → found.session ≡ connection
+  pub before : PeerState
+  pub after : PeerState
   pub lines : List (List ℕ)
   pub held : List Withheld
+  pub turn : HasTurn (get connections key) before after lines
+  pub left : (connection : Connection L) → get connections' key ≡ Some connection → connection.session ≡ after
   pub behind : withheld' ≡ withheld ++ held
-  pub desk : TakesBy takes connection.peer old lines held new
+  pub desk : TakesBy takes before.peer old lines held new
   pub still : (other : ℕ) → Contains awaiting other → Contains awaiting' other
   pub each : EachGoes (λ other state state'.
-      (other ≢ key → state' ≡ state) × (other ≡ key → StepsOrStays awaiting' key lines held (length withheld) state.session state'.session) × StaysPeer state state') connections connections'
+      (other ≢ key → state' ≡ state) × (other ≡ key → StepsOrStays awaiting' key lines held (length withheld) state.session state'.session)) connections connections'

@@ -1,8 +1,8 @@
 //! One connection of a worker.
-ghost use Rattle.std.specs.Prelude.{◌≡◌, ◌≤◌, ◌+◌, ◌-◌, ◌^◌, None, Some, IfOk, length, min};
+ghost use Rattle.std.specs.Prelude.{◌≡◌, ◌-◌, None, Some, IfOk};
 ghost use Rattle.nmvs_connections.specs.declared.peer_session.Stage.TheVariants as stages;
-ghost use Rattle.nmvs_connections.specs.Memory.{account_of, is_counted};
-ghost use Rattle.nmvs_connections.specs.Peers.{IsConnection};
+ghost use Rattle.nmvs_connections.specs.Memory.{CountsMemory, account_of, is_counted};
+ghost use Rattle.nmvs_connections.specs.Peers.{IsConnection, IsLater, Rests, kept_bytes};
 ghost use Rattle.nmvs_connections.specs.Turns.{ConnectionSteps, Kept, TellsOwn};
 
 use crate::next::Next;
@@ -67,11 +67,12 @@ impl<L: LineList> Connection<L> {
         proxy: Option<NameOf>,
         now: Instant,
     ) -> Result<Connection<L>, AllocError>
-        ensures { IfOk result (λ connection. connection.session.proxy ≡ proxy) }
+        ensures { IfOk result (λ connection. IsConnection connection.session × (connection.session.proxy ≡ proxy) × (connection.memory ≡ 0)) }
     {
         let number = accepted.number;
         let origin = origin_of(alloc, accepted.address)?;
         let session = PeerSession::new(alloc, accepted, proxy)?;
+        session.note_bytes();
         Ok(Connection {
             number,
             origin,
@@ -87,7 +88,9 @@ impl<L: LineList> Connection<L> {
     }
 
     /// Registers the connection with a poll, under the key.
-    pub(crate) fn register(&mut self, registry: &Registry, key: usize) -> io::Result<()> {
+    pub(crate) fn register(&mut self, registry: &Registry, key: usize) -> io::Result<()>
+        ensures { (self.new.session ≡ self.old.session) × (self.new.memory ≡ self.old.memory) }
+    {
         self.session.register(registry, key)
     }
 
@@ -95,13 +98,12 @@ impl<L: LineList> Connection<L> {
     /// before.
     pub(crate) fn count_memory(&mut self, all: usize) -> usize
         ensures session { self.new.session ≡ self.old.session }
-        ensures own { length self.new.session.session.unsent ≤ self.new.memory }
-        ensures all { result ≡ min ((all - self.old.memory) + self.new.memory) (2 ^ 64 - 1) }
+        ensures all { CountsMemory (kept_bytes self.new.session) (all - self.old.memory) self.new.memory result }
     {
         let others = all.saturating_sub(self.memory);
-        self.memory = self.session.memory();
+        self.memory = self.session.memory().min(usize::MAX - others);
         self.unfinished = self.session.has_pending_line();
-        others.saturating_add(self.memory)
+        others + self.memory
     }
 
     /// The name under which the memory of its buffers is counted: that of the peer's certificate, or else that of its address.
@@ -118,14 +120,23 @@ impl<L: LineList> Connection<L> {
         (self.unfinished || !unfinished) && self.account() == *name
     }
 
-    /// Notes that the peer ended or broke the connection.
-    pub(crate) fn on_peer_closed(&mut self) {
-        self.peer_closed = true;
+    /// Notes that its bytes are those of a header, of lines and of replies.
+    pub(crate) fn note_bytes(&self)
+        ensures { IsConnection self.now.session }
+    {
+        self.session.note_bytes();
     }
 
-    /// Whether one of its lines was served.
+    /// Notes if the peer ended or broke the connection.
+    pub(crate) fn note_closed(&mut self, closed: bool)
+        ensures { (self.new.session ≡ self.old.session) × (self.new.memory ≡ self.old.memory) }
+    {
+        self.peer_closed = self.peer_closed || closed;
+    }
+
+    /// Whether it is served to its end: one of its lines was served, or the service was stopped.
     pub(crate) fn is_served(&self) -> bool {
-        self.session.is_served()
+        self.stopped || self.session.is_served()
     }
 
     /// The reason that the log gives if the connection ends now.
@@ -145,9 +156,11 @@ impl<L: LineList> Connection<L> {
         }
     }
 
-    /// Ends the session after the lines that were read.
-    pub(crate) fn stop(&mut self) {
-        self.stopped = true;
+    /// Notes if the session ends after the lines that were read.
+    pub(crate) fn note_stopped(&mut self, stopped: bool)
+        ensures { (self.new.session ≡ self.old.session) × (self.new.memory ≡ self.old.memory) }
+    {
+        self.stopped = self.stopped || stopped;
     }
 
     /// Sends the unsent bytes. Then it sends a piece of a list, takes the lines of one read, or a step towards the end.
@@ -159,7 +172,8 @@ impl<L: LineList> Connection<L> {
         withheld: &mut WithheldAnswers,
         desk: &mut D,
     ) -> Next
-        ensures { ConnectionSteps D.takes desk.old desk.new withheld.old withheld.new result self.old.session self.new.session }
+        ensures memory { self.new.memory ≡ self.old.memory }
+        ensures steps { ConnectionSteps D.takes desk.old desk.new withheld.old withheld.new result self.old.session self.new.session }
     {
         match self.send(scratch.now) {
             Next::Again => {}
@@ -179,7 +193,8 @@ impl<L: LineList> Connection<L> {
     fn send_piece<D: Desk<List = L>>(&mut self, scratch: &mut Scratch, desk: &D) -> Next
         requires told { self.old.session.session.waiting ≡ 0 }
         ensures kept { Kept self.old.session.session self.new.session.session }
-        ensures peer { self.new.session.peer ≡ self.old.session.peer }
+        ensures rests { Rests self.old.session self.new.session }
+        ensures memory { self.new.memory ≡ self.old.memory }
     {
         if self.session.more(scratch, desk).is_err() {
             return Next::Close;
@@ -192,7 +207,7 @@ impl<L: LineList> Connection<L> {
     }
 
     /// Takes the lines of one read, or a step towards the end.
-    #[tactic(auto, using(crate::proofs::ConnectionLemmas::steps_idle, crate::proofs::ConnectionLemmas::steps_awaiting))]
+    #[tactic(auto, using(crate::proofs::ConnectionLemmas::steps_idle, crate::proofs::ConnectionLemmas::steps_resting))]
     fn step<R: Wait, D: Desk<List = L>>(
         &mut self,
         rt: &R,
@@ -201,8 +216,8 @@ impl<L: LineList> Connection<L> {
         withheld: &mut WithheldAnswers,
         desk: &mut D,
     ) -> Next
-        requires { IsConnection self.old.session }
-        ensures { ConnectionSteps D.takes desk.old desk.new withheld.old withheld.new result self.old.session self.new.session }
+        ensures steps { ConnectionSteps D.takes desk.old desk.new withheld.old withheld.new result self.old.session self.new.session }
+        ensures memory { self.new.memory ≡ self.old.memory }
     {
         match self.session.stage() {
             Stage::Serving => {}
@@ -234,7 +249,9 @@ impl<L: LineList> Connection<L> {
         requires awaited { self.old.session.peer ≡ None }
         requires proxy { self.old.session.proxy ≡ Some name_of }
         requires serving { self.old.session.stage ≡ stages.Serving }
-        ensures { self.new.session.session ≡ self.old.session.session }
+        ensures session { self.new.session.session ≡ self.old.session.session }
+        ensures later { IsLater self.old.session self.new.session }
+        ensures memory { self.new.memory ≡ self.old.memory }
     {
         if self.stopped {
             return Next::Close;
@@ -251,7 +268,8 @@ impl<L: LineList> Connection<L> {
     fn shutdown_write(&mut self, now: Instant) -> Next
         requires { self.old.session.stage ≡ stages.Ending }
         ensures session { self.new.session.session ≡ self.old.session.session }
-        ensures peer { self.new.session.peer ≡ self.old.session.peer }
+        ensures rests { Rests self.old.session self.new.session }
+        ensures memory { self.new.memory ≡ self.old.memory }
     {
         self.moved = now;
         if self.was_idle {
@@ -264,7 +282,8 @@ impl<L: LineList> Connection<L> {
 
     /// Notes that bytes were moved now, if they were.
     fn note_moved(&mut self, moved: bool, now: Instant)
-        ensures { self.new.session ≡ self.old.session }
+        ensures session { self.new.session ≡ self.old.session }
+        ensures memory { self.new.memory ≡ self.old.memory }
     {
         if moved {
             self.moved = now;
@@ -274,8 +293,8 @@ impl<L: LineList> Connection<L> {
     /// Sends as many of the unsent bytes as the system takes.
     fn send(&mut self, now: Instant) -> Next
         ensures kept { Kept self.old.session.session self.new.session.session }
-        ensures peer { self.new.session.peer ≡ self.old.session.peer }
-        ensures is { IsConnection self.old.session }
+        ensures rests { Rests self.old.session self.new.session }
+        ensures memory { self.new.memory ≡ self.old.memory }
     {
         if self.session.is_sent() {
             return Next::Again;
@@ -293,7 +312,8 @@ impl<L: LineList> Connection<L> {
     /// Turns its part of the released answers into replies, and sends them. More may be there to be read at once.
     pub(crate) fn tell(&mut self, scratch: &mut Scratch, released: &Released<'_>) -> Next
         ensures tells { TellsOwn released.now self.old.session.session self.new.session.session }
-        ensures peer { self.new.session.peer ≡ self.old.session.peer }
+        ensures rests { Rests self.old.session self.new.session }
+        ensures memory { self.new.memory ≡ self.old.memory }
     {
         self.session.tell(scratch, released);
         match self.send(scratch.now) {
@@ -313,7 +333,10 @@ impl<L: LineList> Connection<L> {
     }
 
     /// The next step of the connection by the time that has passed.
-    pub(crate) fn check_timeouts(&mut self, now: Instant, idle: Option<Duration>) -> Next {
+    pub(crate) fn check_timeouts(&mut self, now: Instant, idle: Option<Duration>) -> Next
+        ensures rests { Rests self.old.session self.new.session }
+        ensures memory { self.new.memory ≡ self.old.memory }
+    {
         let age = now.duration_since(self.moved);
         let stage = self.session.stage();
         if stage == Stage::Lingering {

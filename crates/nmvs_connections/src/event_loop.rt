@@ -1,10 +1,12 @@
 //! The loop of a worker.
-ghost use Rattle.std.specs.Prelude.{◌≡◌, ◌≢◌, ◌≤◌, ◌<◌, ◌-◌, ◌++◌, ◌∷◌, [], ℕ, Some, None, IsSome, IfOk};
+ghost use Rattle.std.specs.Prelude.{◌≡◌, ◌≢◌, ◌≤◌, ◌<◌, ◌-◌, ◌^◌, ◌⊎◌, ◌++◌, ◌∷◌, [], ℕ, Option, Some, None, IsSome, IfOk};
 ghost use Rattle.std.specs.List.{Contains};
 ghost use Rattle.slab.specs.Slab.{get, slab_len};
 ghost use Rattle.nmvs_connections.specs.declared.connection.Connection.{Connection as TheConnection};
-ghost use Rattle.nmvs_connections.specs.Memory.{CountsMemory, IsEvictedFirst, IsLargest, TakeAtMost, memory_of};
-ghost use Rattle.nmvs_connections.specs.Turns.{EachGoes, WaitsForRelease, TellsAll, TellsPeer, TellsWhereAsked, TurnOfOne, WorkerTurn};
+ghost use Rattle.nmvs_connections.specs.Memory.{IsCounted, IsEvictedFirst, IsLargest, TakeAtMost};
+ghost use Rattle.nmvs_messages.specs.declared.peer.NameOf.{NameOf as TheNameOf};
+ghost use Rattle.nmvs_connections.specs.Peers.{kept_bytes};
+ghost use Rattle.nmvs_connections.specs.Turns.{AllBehind, EachGoes, OnlyCloses, Stays, WaitsForRelease, TellsAll, TellsPeer, TellsWhereAsked, TurnOfOne, WorkerTurn};
 
 use crate::accounts::{heaviest, largest_of};
 use crate::connection::Connection;
@@ -67,7 +69,10 @@ struct EventLoop<L: LineList> {
 }
 
 impl<L: LineList> EventLoop<L> {
-    fn new(alloc: Global, worker: usize, now: Instant) -> EventLoop<L> {
+    fn new(alloc: Global, worker: usize, now: Instant) -> EventLoop<L>
+        ensures behind { (proxy : Option TheNameOf) → AllBehind proxy result.connections }
+        ensures counted { IsCounted result }
+    {
         EventLoop {
             alloc,
             worker,
@@ -90,15 +95,15 @@ impl<L: LineList> EventLoop<L> {
         poller: &mut Poller,
         scratch: &mut Scratch,
         desk: &mut D,
-    ) -> io::Result<()> {
+    ) -> io::Result<()>
+        requires behind { AllBehind pool.now.proxy self.old.connections }
+        requires counted { IsCounted self.old }
+    {
         let mut withheld = WithheldAnswers::new();
         for _ in 0..u64::MAX {
             poller.poll.poll(&mut poller.events, self.poll_timeout())?;
             scratch.now = Instant::now(rt)?;
-            if self.note_all(&poller.events) {
-                self.check_shutdown(rt, pool);
-                self.admit_all(rt, pool, poller.poll.registry(), scratch);
-            }
+            self.note_reports(rt, pool, poller, scratch);
             self.take_turns(rt, pool, scratch, &mut withheld, desk);
             pool.metrics(self.worker).note_memory(self.memory);
             self.check_timeouts(rt, pool, scratch.now);
@@ -121,31 +126,55 @@ impl<L: LineList> EventLoop<L> {
         }
     }
 
+    /// Notes the system's reports. If the worker was woken, checks whether the service ends, and admits new connections.
+    fn note_reports<R: Wait + Log>(
+        &mut self,
+        rt: &R,
+        pool: &WorkerPool<'_>,
+        poller: &Poller,
+        scratch: &Scratch,
+    )
+        ensures behind { AllBehind pool.now.proxy self.old.connections → AllBehind pool.now.proxy self.new.connections }
+        ensures counted { IsCounted self.old → IsCounted self.new }
+    {
+        if !self.note_all(&poller.events) {
+            return;
+        }
+        self.check_shutdown(rt, pool);
+        self.admit_all(rt, pool, poller.poll.registry(), scratch);
+    }
+
     /// Notes the system's reports. The result is whether the worker was woken.
-    fn note_all(&mut self, events: &Events) -> bool {
+    fn note_all(&mut self, events: &Events) -> bool
+        ensures { Stays self.old self.new }
+    {
         let mut woken = false;
         for event in events {
-            if event.token() == WAKE {
-                woken = true;
-            } else {
-                self.note(event);
-            }
+            woken = self.note(event) || woken;
         }
         woken
     }
 
-    fn note(&mut self, event: &Event) {
-        let key = event.token().0;
-        if let Some(connection) = self.connections.get_mut(key) {
-            if event.is_read_closed() || event.is_error() {
-                connection.on_peer_closed();
-            }
+    /// Notes a report of the system. The result is whether it wakes the worker.
+    fn note(&mut self, event: &Event) -> bool
+        ensures { Stays self.old self.new }
+    {
+        let token = event.token();
+        if token == WAKE {
+            return true;
         }
-        self.queue(key);
+        let Some(connection) = self.connections.get_mut(token.0) else {
+            return false;
+        };
+        connection.note_closed(event.is_read_closed() || event.is_error());
+        self.queue(token.0);
+        false
     }
 
     /// Queues a connection for its turn, if it is not queued yet.
-    fn queue(&mut self, key: usize) {
+    fn queue(&mut self, key: usize)
+        ensures { Stays self.old self.new }
+    {
         let Some(connection) = self.connections.get_mut(key) else {
             return;
         };
@@ -162,12 +191,19 @@ impl<L: LineList> EventLoop<L> {
         pool: &WorkerPool<'_>,
         registry: &Registry,
         scratch: &Scratch,
-    ) {
+    )
+        ensures behind { AllBehind pool.now.proxy self.old.connections → AllBehind pool.now.proxy self.new.connections }
+        ensures counted { IsCounted self.old → IsCounted self.new }
+    {
         for _ in 0..u64::MAX {
             let Some(accepted) = pool.next_accepted(rt, self.worker) else {
                 return;
             };
-            if self.closing || self.admit(pool, registry, accepted, scratch).is_err() {
+            if self.closing {
+                pool.leave(rt, self.worker);
+                continue;
+            }
+            if self.admit(pool, registry, accepted, scratch).is_err() {
                 pool.leave(rt, self.worker);
             }
         }
@@ -179,7 +215,10 @@ impl<L: LineList> EventLoop<L> {
         registry: &Registry,
         accepted: Accepted,
         scratch: &Scratch,
-    ) -> io::Result<()> {
+    ) -> io::Result<()>
+        ensures behind { AllBehind pool.now.proxy self.old.connections → AllBehind pool.now.proxy self.new.connections }
+        ensures counted { IsCounted self.old → IsCounted self.new }
+    {
         let most = self.connections.len().saturating_add(1);
         self.turns.reserve(most)?;
         self.later.reserve(most)?;
@@ -193,27 +232,32 @@ impl<L: LineList> EventLoop<L> {
     }
 
     /// Checks whether the service ends.
-    fn check_shutdown<R: Wait + Log>(&mut self, rt: &R, pool: &WorkerPool<'_>) {
+    fn check_shutdown<R: Wait + Log>(&mut self, rt: &R, pool: &WorkerPool<'_>)
+        ensures { Stays self.old self.new }
+    {
         if !pool.is_closing(rt) {
             return;
         }
         self.closing = true;
         let stopped = pool.is_stopped(rt);
         for key in 0..self.connections.capacity() {
-            let is_served = match self.connections.get_mut(key) {
-                Some(connection) => {
-                    if stopped {
-                        connection.stop();
-                    }
-                    stopped || connection.is_served()
-                }
-                None => continue,
-            };
-            if is_served {
-                self.queue(key);
-            } else {
-                self.remove(rt, pool, key);
-            }
+            self.end(rt, pool, key, stopped);
+        }
+    }
+
+    /// Queues a connection that is served to its end, and closes any other one. If the service was stopped, the connection ends
+    /// after the lines that were read.
+    fn end<R: Wait + Log>(&mut self, rt: &R, pool: &WorkerPool<'_>, key: usize, stopped: bool)
+        ensures { Stays self.old self.new }
+    {
+        let Some(connection) = self.connections.get_mut(key) else {
+            return;
+        };
+        connection.note_stopped(stopped);
+        if connection.is_served() {
+            self.queue(key);
+        } else {
+            self.remove(rt, pool, key);
         }
     }
 
@@ -227,9 +271,12 @@ impl<L: LineList> EventLoop<L> {
         withheld: &mut WithheldAnswers,
         desk: &mut D,
     )
-        requires { withheld.old ≡ [] }
+        requires none_withheld { withheld.old ≡ [] }
+        requires behind { AllBehind pool.now.proxy self.old.connections }
         ensures none_withheld { withheld.new ≡ [] }
-        ensures turn { WorkerTurn D.takes D.releases D.moves desk.old desk.new self.old.connections self.new.connections }
+        ensures behind { AllBehind pool.now.proxy self.new.connections }
+        ensures counted { IsCounted self.old → IsCounted self.new }
+        ensures turn { WorkerTurn pool.now.proxy D.takes D.releases D.moves desk.old desk.new self.old.connections self.new.connections }
     {
         scratch.reported = false;
         let mut first = 0;
@@ -263,13 +310,15 @@ impl<L: LineList> EventLoop<L> {
         withheld: &mut WithheldAnswers,
         desk: &mut D,
     ) -> bool
-        ensures { TurnOfOne D.takes key desk.old desk.new withheld.old withheld.new self.old.awaiting.items self.new.awaiting.items self.old.connections self.new.connections }
+        ensures counted { IsCounted self.old → IsCounted self.new }
+        ensures turn { TurnOfOne D.takes key desk.old desk.new withheld.old withheld.new self.old.awaiting.items self.new.awaiting.items self.old.connections self.new.connections }
     {
         let Some(connection) = self.connections.get_mut(key) else {
             return false;
         };
         connection.queued = false;
         let next = connection.take_turn(rt, pool, scratch, withheld, desk);
+        connection.note_bytes();
         self.dispatch(rt, pool, key, next);
         next == Next::ReleaseNow
     }
@@ -279,6 +328,7 @@ impl<L: LineList> EventLoop<L> {
         ensures asks { WaitsForRelease next → (connection : TheConnection L) → get self.new.connections key ≡ Some connection → Contains self.new.awaiting.items key }
         ensures still { (other : ℕ) → Contains self.old.awaiting.items other → Contains self.new.awaiting.items other }
         ensures connections { EachGoes (λ key state state'. state' ≡ state) self.old.connections self.new.connections }
+        ensures counted { IsCounted self.old → IsCounted self.new }
     {
         match next {
             Next::WaitRelease | Next::ReleaseNow => self.note_awaiting(rt, pool, key),
@@ -298,6 +348,7 @@ impl<L: LineList> EventLoop<L> {
     )
         ensures none_withheld { withheld.new ≡ [] }
         ensures none_asks { self.new.awaiting.items ≡ [] }
+        ensures counted { IsCounted self.old → IsCounted self.new }
         ensures tells { TellsAll D.releases D.moves desk.old desk.new withheld.old self.old.awaiting.items self.old.connections self.new.connections }
     {
         if withheld.len() == 0 {
@@ -319,6 +370,7 @@ impl<L: LineList> EventLoop<L> {
         released: &Released<'_>,
     )
         ensures none_asks { self.new.awaiting.items ≡ [] }
+        ensures counted { IsCounted self.old → IsCounted self.new }
         ensures tells { EachGoes (TellsWhereAsked released.now self.old.awaiting.items) self.old.connections self.new.connections }
     {
         while let Some(key) = self.awaiting.pop() {
@@ -336,20 +388,21 @@ impl<L: LineList> EventLoop<L> {
         released: &Released<'_>,
     )
         ensures awaiting { self.new.awaiting ≡ self.old.awaiting }
+        ensures counted { IsCounted self.old → IsCounted self.new }
         ensures tells { EachGoes (λ other state state'. (other ≡ key → TellsPeer released.now state state') × (other ≢ key → state' ≡ state)) self.old.connections self.new.connections }
     {
         let Some(connection) = self.connections.get_mut(key) else {
             return;
         };
         let next = connection.tell(scratch, released);
+        connection.note_bytes();
         self.go_on(rt, pool, key, next);
     }
 
     /// Takes the next step of a connection that waits for no release. If the buffers of all connections take too much memory
     /// then, some connections are closed.
     fn go_on<R: Wait + Log>(&mut self, rt: &R, pool: &WorkerPool<'_>, key: usize, next: Next)
-        ensures awaiting { self.new.awaiting ≡ self.old.awaiting }
-        ensures connections { EachGoes (λ key state state'. state' ≡ state) self.old.connections self.new.connections }
+        ensures closes { OnlyCloses self.old self.new }
         ensures memory { TakeAtMost pool.now.memory self.new.connections self.new.memory }
     {
         self.count_memory(key);
@@ -359,9 +412,8 @@ impl<L: LineList> EventLoop<L> {
 
     /// Counts the memory of the buffers of a connection anew.
     fn count_memory(&mut self, key: usize)
-        ensures awaiting { self.new.awaiting ≡ self.old.awaiting }
-        ensures connections { EachGoes (λ key state state'. state' ≡ state) self.old.connections self.new.connections }
-        ensures memory { CountsMemory (get self.old.connections key) (get self.new.connections key) self.old.memory self.new.memory }
+        ensures closes { OnlyCloses self.old self.new }
+        ensures own { (connection : TheConnection L) → get self.new.connections key ≡ Some connection → (kept_bytes connection.session ≤ connection.memory) ⊎ (self.new.memory ≡ 2 ^ 64 - 1) }
     {
         if let Some(connection) = self.connections.get_mut(key) {
             self.memory = connection.count_memory(self.memory);
@@ -376,8 +428,7 @@ impl<L: LineList> EventLoop<L> {
         key: usize,
         next: Next,
     )
-        ensures awaiting { self.new.awaiting ≡ self.old.awaiting }
-        ensures connections { EachGoes (λ key state state'. state' ≡ state) self.old.connections self.new.connections }
+        ensures closes { OnlyCloses self.old self.new }
     {
         match next {
             Next::Again => self.queue_later(key),
@@ -391,6 +442,7 @@ impl<L: LineList> EventLoop<L> {
         ensures asks { (connection : TheConnection L) → get self.new.connections key ≡ Some connection → self.new.awaiting.items ≡ self.old.awaiting.items ++ key ∷ [] }
         ensures still { (other : ℕ) → Contains self.old.awaiting.items other → Contains self.new.awaiting.items other }
         ensures connections { EachGoes (λ key state state'. state' ≡ state) self.old.connections self.new.connections }
+        ensures counted { IsCounted self.old → IsCounted self.new }
     {
         // Room was made when the connection was admitted.
         if self.awaiting.push(key).is_err() {
@@ -399,8 +451,7 @@ impl<L: LineList> EventLoop<L> {
     }
 
     fn queue_later(&mut self, key: usize)
-        ensures awaiting { self.new.awaiting ≡ self.old.awaiting }
-        ensures connections { EachGoes (λ key state state'. state' ≡ state) self.old.connections self.new.connections }
+        ensures closes { OnlyCloses self.old self.new }
     {
         if let Some(connection) = self.connections.get_mut(key) {
             connection.queued = self.later.push(key).is_ok();
@@ -410,8 +461,7 @@ impl<L: LineList> EventLoop<L> {
     /// Closes connections, at each step the largest of the peer that keeps most, until the buffers of all take no more than this.
     /// If memory for the counts is refused, it is the largest of all.
     fn evict<R: Wait + Log>(&mut self, rt: &R, pool: &WorkerPool<'_>, most: usize)
-        ensures awaiting { self.new.awaiting ≡ self.old.awaiting }
-        ensures connections { EachGoes (λ key state state'. state' ≡ state) self.old.connections self.new.connections }
+        ensures closes { OnlyCloses self.old self.new }
         ensures within { self.old.memory ≤ most → self.new ≡ self.old }
         ensures memory { TakeAtMost most self.new.connections self.new.memory }
     {
@@ -464,36 +514,22 @@ impl<L: LineList> EventLoop<L> {
 
     /// Closes a connection at its end.
     fn remove<R: Wait + Log>(&mut self, rt: &R, pool: &WorkerPool<'_>, key: usize)
-        ensures awaiting { self.new.awaiting ≡ self.old.awaiting }
         ensures gone { get self.new.connections key ≡ None }
-        ensures connections { EachGoes (λ key state state'. state' ≡ state) self.old.connections self.new.connections }
+        ensures closes { OnlyCloses self.old self.new }
     {
         self.close(rt, pool, key, self.reason(key));
     }
 
     /// Closes a connection, and logs this reason.
     fn close<R: Wait + Log>(&mut self, rt: &R, pool: &WorkerPool<'_>, key: usize, reason: &str)
-        ensures awaiting { self.new.awaiting ≡ self.old.awaiting }
         ensures gone { get self.new.connections key ≡ None }
-        ensures connections { EachGoes (λ key state state'. state' ≡ state) self.old.connections self.new.connections }
-        ensures memory { self.new.memory ≡ self.old.memory - memory_of (get self.old.connections key) }
+        ensures closes { OnlyCloses self.old self.new }
         ensures one { IsSome (get self.old.connections key) → slab_len self.new.connections < slab_len self.old.connections }
     {
         self.log_end(rt, key, reason);
-        let memory = self.memory_of(key);
-        if self.connections.try_remove(key).is_some() {
-            self.memory = self.memory.saturating_sub(memory);
+        if let Some(connection) = self.connections.try_remove(key) {
+            self.memory = self.memory.saturating_sub(connection.memory);
             pool.leave(rt, self.worker);
-        }
-    }
-
-    /// The memory of the buffers of a connection at the last count, or 0 if there is none.
-    fn memory_of(&self, key: usize) -> usize
-        ensures { result ≡ memory_of (get self.now.connections key) }
-    {
-        match self.connections.get(key) {
-            Some(connection) => connection.memory,
-            None => 0,
         }
     }
 
@@ -513,7 +549,9 @@ impl<L: LineList> EventLoop<L> {
     }
 
     /// Logs that connections were closed for their memory, if some were.
-    fn log_evicted<R: Log>(&mut self, rt: &R) {
+    fn log_evicted<R: Log>(&mut self, rt: &R)
+        ensures { Stays self.old self.new }
+    {
         if self.evicted == 0 {
             return;
         }
@@ -522,25 +560,48 @@ impl<L: LineList> EventLoop<L> {
     }
 
     /// Looks for connections that waited too long, if a tick has passed.
-    fn check_timeouts<R: Wait + Log>(&mut self, rt: &R, pool: &WorkerPool<'_>, now: Instant) {
+    fn check_timeouts<R: Wait + Log>(&mut self, rt: &R, pool: &WorkerPool<'_>, now: Instant)
+        ensures { Stays self.old self.new }
+    {
         if now.duration_since(self.looked).as_secs() < TICK {
             return;
         }
         self.looked = now;
         self.log_evicted(rt);
         for key in 0..self.connections.capacity() {
-            let next = match self.connections.get_mut(key) {
-                Some(connection) => connection.check_timeouts(now, pool.idle()),
-                None => Next::WaitIo,
-            };
-            match next {
-                Next::Again => {
-                    pool.metrics(self.worker).note_fault(Fault::Idle);
-                    self.queue(key);
-                }
-                Next::Close => self.remove(rt, pool, key),
-                Next::WaitIo | Next::WaitRelease | Next::ReleaseNow => {}
-            }
+            self.check_timeout(rt, pool, key, now);
         }
+    }
+
+    /// Queues or closes a connection that waited too long.
+    fn check_timeout<R: Wait + Log>(
+        &mut self,
+        rt: &R,
+        pool: &WorkerPool<'_>,
+        key: usize,
+        now: Instant,
+    )
+        ensures { Stays self.old self.new }
+    {
+        match self.next_by_time(key, now, pool.idle()) {
+            Next::Again => {
+                pool.metrics(self.worker).note_fault(Fault::Idle);
+                self.queue(key);
+            }
+            Next::Close => self.remove(rt, pool, key),
+            Next::WaitIo | Next::WaitRelease | Next::ReleaseNow => {}
+        }
+    }
+
+    /// The next step of a connection by the time that has passed.
+    fn next_by_time(&mut self, key: usize, now: Instant, idle: Option<Duration>) -> Next
+        ensures { Stays self.old self.new }
+    {
+        let Some(connection) = self.connections.get_mut(key) else {
+            return Next::WaitIo;
+        };
+        let next = connection.check_timeouts(now, idle);
+        connection.note_bytes();
+        next
     }
 }

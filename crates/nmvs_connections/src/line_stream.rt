@@ -1,7 +1,7 @@
 //! The stream of lines of a connection: over its socket, or over HTTP.
-ghost use Rattle.std.specs.Prelude.{◌≡◌, ◌⊎◌, ◌++◌, [], None, IfSome, true, false};
+ghost use Rattle.std.specs.Prelude.{◌≡◌, ◌≤◌, ◌⊎◌, ◌++◌, [], None, IfSome, true, false, length};
 ghost use Rattle.nmvs_http.specs.Codecs.{AnswersLines};
-ghost use Rattle.nmvs_connections.specs.LineStreams.{AnswersOver, CarriesLines, IsFed, before_of, carried, carried_over, direct_of, moved_of};
+ghost use Rattle.nmvs_connections.specs.LineStreams.{AnswersOver, CarriesLines, IsFed, before_of, carried, carried_over, direct_of, moved_of, pending_of};
 ghost use Rattle.nmvs_connections.specs.Streams.{Reads, Writes};
 ghost use Rattle.nmvs_connections.specs.Traffic.{Traffic};
 
@@ -174,7 +174,9 @@ impl LineStream {
     }
 
     /// The memory of requests and responses, in bytes.
-    pub(crate) fn memory(&self) -> usize {
+    pub(crate) fn memory(&self) -> usize
+        ensures { length (pending_of self.now.http) ≤ result }
+    {
         match &self.http {
             None => 0,
             Some(http) => http.codec.memory(),

@@ -1,12 +1,12 @@
 //! The session of the peer of a connection, over its bytes.
-ghost use Rattle.std.specs.Prelude.{◌≡◌, ◌≢◌, ◌≤◌, ◌++◌, [], if◌then◌else◌, List, ℕ, Some, None, IfOk, IfSome, IsSome, is_some, length, take, true};
+ghost use Rattle.std.specs.Prelude.{◌≡◌, ◌≢◌, ◌≤◌, ◌-◌, ◌^◌, ◌++◌, [], if◌then◌else◌, List, ℕ, Some, None, IfOk, IfSome, IsSome, is_some, length, min, take, true};
 ghost use Rattle.nmvs_messages.specs.Peers.{TakesFrom};
 ghost use Rattle.nmvs_messages.specs.declared.peer.Peer.TheVariants as peers;
 ghost use Rattle.nmvs_connections.specs.declared.next.Next.{Next as TheNext};
 ghost use Rattle.nmvs_connections.specs.declared.peer_session.Stage.TheVariants as stages;
 ghost use Rattle.nmvs_connections.specs.LineStreams.{EndsIn, before_of, carried};
 ghost use Rattle.nmvs_connections.specs.Memory.{name_of};
-ghost use Rattle.nmvs_connections.specs.Peers.{IsConnection, StaysPeer};
+ghost use Rattle.nmvs_connections.specs.Peers.{IsConnection, IsLater, Rests, kept_bytes};
 ghost use Rattle.nmvs_connections.specs.Replies.{Replies};
 ghost use Rattle.nmvs_connections.specs.Turns.{ConnectionSteps, Kept, LinesStep, TellsOwn, WaitsForRelease};
 
@@ -66,12 +66,12 @@ pub(crate) struct PeerSession<L: LineList> {
 }
 
 impl<L: LineList> Model for PeerSession<L> {
-    ghost use Rattle.nmvs_connections.specs.LineStreams.{Behind, before_of, carried};
+    ghost use Rattle.nmvs_connections.specs.LineStreams.{Behind, before_of, carried, pending_of};
     ghost use Rattle.nmvs_connections.specs.Peers.{PeerState, Holds};
 
     ghost Value = { PeerState };
 
-    ghost view = { λ p. record { proxy = p.proxy; peer = p.peer; stage = p.stage; stream = carried p.stream; session = p.session } };
+    ghost view = { λ p. record { proxy = p.proxy; peer = p.peer; stage = p.stage; stream = carried p.stream; session = p.session; unread = p.unread.items; pending = pending_of p.stream.http } };
 
     ghost invariant = { λ p. Holds p.proxy p.peer p.stage (carried p.stream).received (carried p.stream).sent p.session.fed p.session.sent p.unread.items
         × Behind (before_of p.stream.http) p.peer (carried p.stream).received p.session.fed p.unread.items p.stage };
@@ -175,7 +175,7 @@ impl<L: LineList> PeerSession<L> {
     /// The memory of its buffers, in bytes: of unsent replies, of the list that follows them, and of bytes that were read and not
     /// taken.
     pub(crate) fn memory(&self) -> usize
-        ensures { length self.now.session.unsent ≤ result }
+        ensures { min (kept_bytes self.now) (2 ^ 64 - 1) ≤ result }
     {
         let read = self.unread.capacity().saturating_add(self.stream.memory());
         self.session.memory().saturating_add(read)
@@ -189,16 +189,21 @@ impl<L: LineList> PeerSession<L> {
     }
 
     /// Whether all replies that were worded are sent.
-    pub(crate) fn is_sent(&self) -> bool
+    pub(crate) fn is_sent(&self) -> bool {
+        self.session.unsent().is_empty() && self.stream.is_flushed()
+    }
+
+    /// Notes that its bytes are those of a header, of lines and of replies.
+    pub(crate) fn note_bytes(&self)
         ensures { IsConnection self.now }
     {
-        self.session.unsent().is_empty() && self.stream.is_flushed()
+        let _unread = &self.unread;
     }
 
     /// Sends as many of the unsent bytes as the system takes.
     pub(crate) fn send(&mut self) -> Moved
         ensures kept { Kept self.old.session self.new.session }
-        ensures peer { self.new.peer ≡ self.old.peer }
+        ensures rests { Rests self.old self.new }
     {
         if self.stage == Stage::Lingering {
             return Moved::Over;
@@ -217,10 +222,11 @@ impl<L: LineList> PeerSession<L> {
     }
 
     /// Sends as much of the replies that are unsent as the stream takes.
+    #[tactic(auto, using(crate::proofs::ConnectionLemmas::writes_received))]
     fn send_replies(&mut self) -> Moved
         requires { self.old.stage ≢ stages.Lingering }
         ensures kept { Kept self.old.session self.new.session }
-        ensures peer { self.new.peer ≡ self.old.peer }
+        ensures rests { Rests self.old self.new }
         ensures stage { self.new.stage ≡ self.old.stage }
     {
         let moved = self.stream.write(self.session.unsent());
@@ -232,7 +238,9 @@ impl<L: LineList> PeerSession<L> {
 
     /// Responds to the request in hand, if all its lines are answered.
     fn respond(&mut self)
-        ensures { self.new ≡ self.old }
+        ensures session { self.new.session ≡ self.old.session }
+        ensures rests { Rests self.old self.new }
+        ensures stage { self.new.stage ≡ self.old.stage }
     {
         if !is_answered(&self.session) {
             return;
@@ -253,12 +261,14 @@ impl<L: LineList> PeerSession<L> {
     }
 
     /// Reads more of a gateway's header, and no byte after it. A connection without a header that names the peer ends.
+    #[tactic(auto, using(crate::proofs::ConnectionLemmas::named_later, crate::proofs::ConnectionLemmas::rests_later))]
     pub(crate) fn read_header(&mut self, alloc: Global, name_of: NameOf, buffer: &mut [u8]) -> Next
         requires awaited { self.old.peer ≡ None }
         requires proxy { self.old.proxy ≡ Some name_of }
         requires serving { self.old.stage ≡ stages.Serving }
         requires room { READ_SIZE ≤ length buffer.old }
-        ensures { self.new.session ≡ self.old.session }
+        ensures session { self.new.session ≡ self.old.session }
+        ensures later { IsLater self.old self.new }
     {
         let missing = match read_proxy_header(self.unread.as_slice(), name_of) {
             ProxyHeader::Begun { missing } => missing.min(READ_SIZE),
@@ -342,7 +352,7 @@ impl<L: LineList> PeerSession<L> {
     fn pause(&mut self) -> Next
         requires { self.old.stage ≡ stages.Serving }
         ensures session { self.new.session ≡ self.old.session }
-        ensures peer { self.new.peer ≡ self.old.peer }
+        ensures rests { Rests self.old self.new }
     {
         self.respond();
         if self.stream.is_over() {
@@ -388,7 +398,7 @@ impl<L: LineList> PeerSession<L> {
     /// Turns its part of the released answers into replies. If the session has ended, no more lines are answered.
     pub(crate) fn tell(&mut self, scratch: &mut Scratch, released: &Released<'_>)
         ensures tells { TellsOwn released.now self.old.session self.new.session }
-        ensures peer { self.new.peer ≡ self.old.peer }
+        ensures rests { Rests self.old self.new }
     {
         // If memory for the room is refused, the replies ask for their own.
         let _refused = scratch.make_room();
@@ -412,7 +422,7 @@ impl<L: LineList> PeerSession<L> {
     ) -> Result<(), AllocError>
         requires told { self.old.session.waiting ≡ 0 }
         ensures kept { Kept self.old.session self.new.session }
-        ensures peer { self.new.peer ≡ self.old.peer }
+        ensures rests { Rests self.old self.new }
     {
         // If memory for the room is refused, the lines ask for their own.
         let _refused = scratch.make_room();
@@ -430,7 +440,7 @@ impl<L: LineList> PeerSession<L> {
     /// Answers no more lines.
     pub(crate) fn stop_serving(&mut self)
         ensures session { self.new.session ≡ self.old.session }
-        ensures peer { self.new.peer ≡ self.old.peer }
+        ensures rests { Rests self.old self.new }
     {
         if self.stage == Stage::Serving {
             self.stage = Stage::Ending;
@@ -442,7 +452,7 @@ impl<L: LineList> PeerSession<L> {
     pub(crate) fn shutdown_write(&mut self)
         requires { self.old.stage ≡ stages.Ending }
         ensures session { self.new.session ≡ self.old.session }
-        ensures peer { self.new.peer ≡ self.old.peer }
+        ensures rests { Rests self.old self.new }
     {
         self.stream.shutdown_write();
         self.stage = Stage::Lingering;
@@ -451,17 +461,18 @@ impl<L: LineList> PeerSession<L> {
     /// Answers no more lines: the peer asked nothing for too long. A request that has not come whole is refused as late.
     pub(crate) fn stop_idle(&mut self)
         ensures session { self.new.session ≡ self.old.session }
-        ensures peer { self.new.peer ≡ self.old.peer }
+        ensures rests { Rests self.old self.new }
     {
         self.stream.refuse_late();
         self.stop_serving();
     }
 
     /// Sends the notice that the peer was idle, unless lines are carried over HTTP, and shuts down the write side.
+    #[tactic(auto, using(crate::proofs::ConnectionLemmas::writes_received))]
     pub(crate) fn shutdown_idle(&mut self)
         requires { self.old.stage ≡ stages.Ending }
         ensures session { self.new.session ≡ self.old.session }
-        ensures peer { self.new.peer ≡ self.old.peer }
+        ensures rests { Rests self.old self.new }
     {
         if self.stream.is_http() {
             self.shutdown_write();
@@ -476,7 +487,7 @@ impl<L: LineList> PeerSession<L> {
     pub(crate) fn linger(&mut self, buffer: &mut [u8]) -> Next
         requires { self.old.stage ≡ stages.Lingering }
         ensures session { self.new.session ≡ self.old.session }
-        ensures peer { self.new.peer ≡ self.old.peer }
+        ensures later { IsLater self.old self.new }
     {
         match self.stream.discard(buffer) {
             Moved::Bytes(_) => Next::Again,

@@ -1,5 +1,6 @@
 //! The state that the threads of a server share.
-ghost use Rattle.std.specs.Prelude.{◌≡◌};
+ghost use Rattle.std.specs.Prelude.{◌≡◌, IfOk};
+ghost use Rattle.nmvs_connections.specs.Pools.{share_of};
 
 use crate::socket::Socket;
 use mio::{Events, Poll, Token, Waker};
@@ -8,6 +9,7 @@ use nmvs_metrics::{Fault, Metrics, WorkerMetrics};
 use std::alloc::{AllocError, Global};
 use std::hash::RandomState;
 use std::io;
+use std::marker::Model;
 use std::net::{IpAddr, Net};
 use std::sync::{Mutex, Wait};
 use std::time::Duration;
@@ -132,6 +134,14 @@ pub struct WorkerPool<'p> {
     acceptor: Waker,
 }
 
+impl<'p> Model for WorkerPool<'p> {
+    ghost use Rattle.nmvs_connections.specs.Pools.{PoolState};
+
+    ghost Value = { PoolState };
+
+    ghost view = { λ p. record { proxy = p.bounds.proxy; memory = p.memory } };
+}
+
 /// The poll at which one thread waits, and room for its events.
 #[derive(Drop)]
 pub struct Poller {
@@ -165,7 +175,9 @@ impl<'p> WorkerPool<'p> {
         workers: usize,
         bounds: Bounds,
         metrics: &'p Metrics,
-    ) -> io::Result<(WorkerPool<'p>, Vec<Poller>, Poller)> {
+    ) -> io::Result<(WorkerPool<'p>, Vec<Poller>, Poller)>
+        ensures { IfOk result (λ opened. opened.0 ≡ record { proxy = bounds.proxy; memory = share_of bounds.memory workers }) }
+    {
         let acceptor = Poller::new(rt, alloc, ACCEPTOR_EVENTS)?;
         let mut pool = WorkerPool::with_acceptor(alloc, &acceptor, workers, bounds, metrics)?;
         let pollers = pool.open_inboxes(rt, alloc, workers)?;
@@ -173,13 +185,16 @@ impl<'p> WorkerPool<'p> {
     }
 
     /// A pool that has no inbox of a worker yet. The thread that accepts waits at this poller.
+    #[tactic(auto, using(crate::proofs::MemorySteps::share_is))]
     fn with_acceptor(
         alloc: Global,
         acceptor: &Poller,
         workers: usize,
         bounds: Bounds,
         metrics: &'p Metrics,
-    ) -> io::Result<WorkerPool<'p>> {
+    ) -> io::Result<WorkerPool<'p>>
+        ensures { IfOk result (λ pool. pool ≡ record { proxy = bounds.proxy; memory = share_of bounds.memory workers }) }
+    {
         let counts = Counts::none(alloc, workers, bounds.sessions)?;
         let inboxes = Vec::with_capacity(alloc, workers)?;
         let waker = acceptor.waker()?;
@@ -199,7 +214,9 @@ impl<'p> WorkerPool<'p> {
         rt: &impl Net,
         alloc: Global,
         workers: usize,
-    ) -> io::Result<Vec<Poller>> {
+    ) -> io::Result<Vec<Poller>>
+        ensures { self.new ≡ self.old }
+    {
         let mut pollers = Vec::with_capacity(alloc, workers)?;
         for _ in 0..workers {
             let poller = Poller::new(rt, alloc, WORKER_EVENTS)?;
@@ -240,7 +257,9 @@ impl<'p> WorkerPool<'p> {
     }
 
     /// Whether the gateway's header names a user or an authorisation, if each connection begins with one.
-    pub(crate) fn proxy(&self) -> Option<NameOf> {
+    pub(crate) fn proxy(&self) -> Option<NameOf>
+        ensures { result ≡ self.now.proxy }
+    {
         self.bounds.proxy
     }
 

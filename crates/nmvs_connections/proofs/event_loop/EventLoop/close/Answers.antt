@@ -1,8 +1,11 @@
+use Rattle.std.proofs.Common.{refl}
+use Rattle.nmvs_connections.proofs.MemorySteps.{counted_closed}
 use Rattle.nmvs_connections.proofs.TurnSteps.{each_removed}
 use Rattle.nmvs_connections.proofs.event_loop.EventLoop.close.Goals as goal
 
-pub returns-then-is_some-clause-connections : goal.returns-then-is_some-clause-connections
-returns-then-is_some-clause-connections g c = each_removed c.args.self.now.connections c.try_remove.new.self c.args.key c.try_remove.ensures.updates
-
-pub returns-else-is_some-clause-connections : goal.returns-else-is_some-clause-connections
-returns-else-is_some-clause-connections g c = each_removed c.args.self.now.connections c.try_remove.new.self c.args.key c.try_remove.ensures.updates
+pub returns-in-Some-clause-closes : goal.returns-in-Some-clause-closes
+returns-in-Some-clause-closes g c =
+    let connections = c.args.self.now.connections in
+    let removed = c.try_remove.new.self in
+    let e = c.in-Some.ensures in
+    (refl, each_removed connections removed c.args.key e.updates, counted_closed connections removed.slots c.args.key c.in-Some.connection c.args.self.now.memory c.saturating_sub-self.result e.value e.slots c.saturating_sub-self.ensures)

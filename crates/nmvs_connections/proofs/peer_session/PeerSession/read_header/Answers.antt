@@ -1,7 +1,8 @@
-use Rattle.std.proofs.Common.{◌≡◌, ◌∙◌, List, ℕ, false, ap, subst, rules}
+use Rattle.std.proofs.Common.{◌≡◌, ◌∙◌, List, ℕ, false, ap, refl, subst, rules}
 use Rattle.nmvs_connections.specs.LineStreams.{before_of, carried}
 use Rattle.nmvs_connections.specs.declared.proxy_header.ProxyHeader.TheVariants as proxy_headers
 use Rattle.nmvs_connections.specs.ProxyHeader.{ReadsProxyHeader}
+use Rattle.nmvs_connections.proofs.ConnectionLemmas.{reads_later}
 use Rattle.nmvs_connections.proofs.LineSteps.{stands_named, stands_over, stands_same}
 use Rattle.nmvs_connections.proofs.peer_session.PeerSession.read_header.Goals as goal
 
@@ -22,3 +23,9 @@ invariant_of-self g c =
     let same = c.begin.ensures.refused refused in
     stands_over (carried new) (before_of new.http) is.unread.items (ap (λ p. p.stage) c.self.view_is ∙ c.requires.serving)
     (stands_same (carried is.stream) (carried new) (before_of is.stream.http) (before_of new.http) (ap (λ s. carried s) same) (ap (λ s. before_of s.http) same) c.self.invariant)
+
+pub returns-in-Ok-clause-later : goal.returns-in-Ok-clause-later
+returns-in-Ok-clause-later g c = rw (← c.self.view_is) (reads_later _ _ _ _ refl (λ peer known. known) c.read.ensures.reads)
+
+pub returns-in-Err-clause-later : goal.returns-in-Err-clause-later
+returns-in-Err-clause-later g c = rw (← c.self.view_is) (reads_later _ _ _ _ refl (λ peer known. known) c.read.ensures.reads)

@@ -1,19 +1,28 @@
-use Rattle.std.proofs.Common.{◌≡◌, ◌∙◌, ◌++◌, ◌==◌, ℕ, true, List, [], take, length, refl, sym, ap, subst, rules}
+use Rattle.std.proofs.Common.{◌≡◌, ◌∙◌, ◌++◌, ◌==◌, inr, ℕ, true, List, [], take, length, refl, sym, ap, subst, rules}
 use Rattle.nmvs_connections.specs.LineStreams.{before_of, carried}
+use Rattle.nmvs_connections.specs.Traffic.{Traffic}
 use Rattle.nmvs_connections.specs.declared.peer_session.Stage.TheVariants as stages
-use Rattle.nmvs_connections.proofs.ConnectionLemmas.{kept_same, steps_idle, steps_kept}
+use Rattle.nmvs_connections.proofs.ConnectionLemmas.{reads_later, steps_idle, steps_resting}
 use Rattle.nmvs_connections.proofs.LineSteps.{Stands, stands_over, stands_read, stands_taken}
 use Rattle.nmvs_connections.proofs.PeerSteps.{empty, kept_rest}
 use Rattle.nmvs_connections.proofs.peer_session.PeerSession.take.Goals as goal
 
 pub returns-in-Blocked : goal.returns-in-Blocked
-returns-in-Blocked g c = rw (← c.self.view_is) (steps_idle _ _ _ _ _ _ c.pause.ensures.session c.pause.ensures.peer (c.self.inside.unread.items, c.self.invariant.0))
+returns-in-Blocked g c = rw (← c.self.view_is) (steps_resting _ _ _ _ _ _ c.pause.ensures.session (let r = c.pause.ensures.rests in (r.0, r.1, r.2 ∙ ap (λ (t : Traffic). t.received) c.in-Blocked.ensures.reads)))
 
 pub returns-in-Over : goal.returns-in-Over
-returns-in-Over g c = rw (← c.self.view_is) (steps_kept _ _ _ _ _ _ _ _ refl refl (kept_same _ _ refl) (λ peer known. known) (c.self.inside.unread.items, c.self.invariant.0))
+returns-in-Over g c = rw (← c.self.view_is) (steps_idle _ _ _ _ _ _ refl (reads_later _ _ _ _ refl (λ peer known. known) c.read.ensures.reads))
 
 pub returns-in_default : goal.returns-in_default
-returns-in_default g c = rw (← c.self.view_is) (steps_kept _ _ _ _ _ _ _ _ refl refl (kept_same _ _ refl) (λ peer known. known) (c.self.inside.unread.items, c.self.invariant.0))
+returns-in_default g c = rw (← c.self.view_is) (steps_idle _ _ _ _ _ _ refl (reads_later _ _ _ _ refl (λ peer known. known) c.read.ensures.reads))
+
+pub returns-then-is_lost : goal.returns-then-is_lost
+returns-then-is_lost g c =
+    rw (← c.self.view_is) (record { step = c.take_lines-taken.ensures.takes; waits = inr c.next_of-next.ensures; later = reads_later _ _ _ _ refl (λ peer known. known) c.read.ensures.reads })
+
+pub returns : goal.returns
+returns g c =
+    rw (← c.self.view_is) (record { step = c.take_lines-taken.ensures.takes; waits = inr c.next_of-next.ensures; later = reads_later _ _ _ _ refl (λ peer known. known) c.read.ensures.reads })
 
 pub invariant_of-self-then-is_lost : goal.invariant_of-self-then-is_lost
 invariant_of-self-then-is_lost g c =

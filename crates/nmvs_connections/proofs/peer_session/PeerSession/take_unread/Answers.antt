@@ -1,13 +1,13 @@
 use Rattle.std.proofs.Common.{◌≡◌, ◌∙◌, ◌++◌, ◌≤◌, ◌-◌, ℕ, List, inr, take, length, refl, sym, ap, subst}
 use Rattle.nmvs_connections.specs.LineStreams.{before_of, carried}
 use Rattle.nmvs_connections.specs.declared.peer_session.Stage.TheVariants as stages
-use Rattle.nmvs_connections.proofs.ConnectionLemmas.{kept_same, steps_kept}
+use Rattle.nmvs_connections.proofs.ConnectionLemmas.{rests_later, steps_resting}
 use Rattle.nmvs_connections.proofs.LineSteps.{stands_taken}
 use Rattle.nmvs_connections.proofs.PeerSteps.{cut_front}
 use Rattle.nmvs_connections.proofs.peer_session.PeerSession.take_unread.Goals as goal
 
 pub returns-then-before_report-eq0 : goal.returns-then-before_report-eq0
-returns-then-before_report-eq0 g c = rw (← c.self.view_is) (steps_kept _ _ _ _ _ _ _ _ refl refl (kept_same _ _ refl) (λ peer known. known) (c.self.inside.unread.items, c.self.invariant.0))
+returns-then-before_report-eq0 g c = rw (← c.self.view_is) (steps_resting _ _ _ _ _ _ refl (refl, refl, refl))
 
 pub invariant_of-self : goal.invariant_of-self
 invariant_of-self g c =
@@ -26,4 +26,4 @@ invariant_of-self g c =
 pub returns : goal.returns
 returns g c =
     rw (← c.self.view_is)
-    (record { step = c.take_lines-taken.ensures.takes; waits = inr c.next_of.ensures; stays = λ peer known. known; is = (c.self.inside.unread.items, c.self.invariant.0) })
+    (record { step = c.take_lines-taken.ensures.takes; waits = inr c.next_of.ensures; later = rests_later _ _ (refl, refl, refl) })
