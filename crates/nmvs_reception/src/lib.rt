@@ -9,6 +9,7 @@ mod alerts;
 mod clock;
 mod desk;
 mod journal_desk;
+mod latest_notice;
 mod opening;
 mod tally;
 
