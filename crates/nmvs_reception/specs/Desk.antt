@@ -155,6 +155,10 @@ Refuses old from ask turns.Tag new = ⊥
 Refuses old from ask turns.Differs new = ⊥
 Refuses old from ask turns.Changed new = ⊥
 
+-- the same desk, whose clerk has seen these trails of the shards
+abbrev pub with_sights : List (List Entry) → DeskView → DeskView
+with_sights sights desk = record desk { clerk = record desk.clerk { sights = sights } }
+
 -- the basis of an answer that rests on the first entries of a shard's trail, this number of them
 abbrev pub RestsOn : ℕ → ℕ → Option Basis → Type 0
 RestsOn shard entries None = entries ≡ 0
