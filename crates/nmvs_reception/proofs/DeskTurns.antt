@@ -1,5 +1,5 @@
 -- The steps of the program's desk.
-use Rattle.std.proofs.Common.{◌≡◌, ◌≢◌, ◌<◌, ◌+◌, ◌⊎◌, ◌∙◌, ◌++◌, ◌∷◌, ℕ, ℤ, Bool, true, false, cond, List, [], Option, Some, None, IfSome, length, pos, refl, sym, ap, subst, inl, inr, arith, length-append}
+use Rattle.std.proofs.Common.{◌≡◌, ◌≢◌, ◌<◌, ◌+◌, ◌⊎◌, ◌∙◌, ◌∷◌, ℕ, ℤ, true, false, cond, List, [], Option, Some, None, IfSome, length, pos, refl, sym, ap, subst, inl, inr, arith, length-append}
 use Rattle.std.proofs.lemmas.Bool.Decides.{eqb_tells}
 use mathlib.Core.List.{IsPrefix}
 use Rattle.nmvs_history.proofs.Beginnings.{prefix_self, prefix_trans, prefix_length}
@@ -33,29 +33,30 @@ use Rattle.nmvs_messages.specs.declared.peer.Peer.TheVariants as peers
 use Rattle.nmvs_messages.specs.Asks.{user_of}
 use Rattle.nmvs_messages.specs.declared.withheld.Basis.{Basis}
 use Rattle.nmvs_journal.specs.Told.{IsWithin, ReachView}
-use Rattle.nmvs_reception.specs.Desk.{DeskView, at_moment, Admits, AnswersAdmitted, IsMoment, Knows, LetsGo, LooksUp, Refuses, Replies, RestsOn, Says, SeesShard, Serves, suspended_turn}
+use Rattle.nmvs_reception.specs.Desk.{DeskView, at_moment, AnswersAdmitted, IsMoment, Knows, LetsGo, LooksUp, Refuses, Replies, RestsOn, Says, Serves, suspended_turn}
 
--- the clock gave a moment, the clerk learned the notice, and the directory said this of the user
-pub looks_up : (notice : List Change) (old : DeskView) (user : Name) (said look : Look) (moment : ℕ) (told new : ClerkView) (times : ℕ) (gave : ℤ) → times ≡ old.asked + 1 → IsMoment gave
-    → pos moment ≡ gave → at_moment moment said ≡ look
+-- the clock gave a moment, the latest notice was read, the clerk learned it, and the directory said this of the user
+pub looks_up : (old : DeskView) (user : Name) (said look : Look) (moment : ℕ) (told new : ClerkView) (times : ℕ) (gave : ℤ) (reads : ℕ) (notice : List Change)
+    → times ≡ old.asked + 1 → reads ≡ old.reads + 1 → IsMoment gave → pos moment ≡ gave → at_moment moment said ≡ look
     → told ≡ record old.clerk { seen = told.seen } → IsPrefix old.clerk.seen told.seen → IsPrefix notice told.seen
-    → Reads told.seen new.seen user said → new ≡ record told { seen = new.seen } → LooksUp notice old user look (record old { clerk = new; asked = times; gave = gave })
-looks_up notice old user said look moment told new times gave once in_range at stands learns seen latest reads looks = record {
-  told = record old { clerk = told; asked = times; gave = gave };
-  is = record { same = λ i. record old { clerk = learns i; asked = once i; gave = gave }; moment = in_range; seen = seen; latest = latest };
+    → Reads told.seen new.seen user said → new ≡ record told { seen = new.seen }
+    → LooksUp old user look (record old { clerk = new; asked = times; gave = gave; reads = reads; notice = notice })
+looks_up old user said look moment told new times gave reads notice once read in_range at stands learns seen latest says looks = record {
+  told = record old { clerk = told; asked = times; gave = gave; reads = reads; notice = notice };
+  is = record { same = λ i. record old { clerk = learns i; asked = once i; gave = gave; reads = read i; notice = notice }; moment = in_range; seen = seen; latest = latest };
   said = said;
-  reads = reads;
+  reads = says;
   moment = moment;
   at = at;
   stands = stands;
-  same = λ i. record old { clerk = looks i; asked = times; gave = gave };
+  same = λ i. record old { clerk = looks i; asked = times; gave = gave; reads = reads; notice = notice };
 }
 
 -- a line is turned away by the rate, or for want of memory
-pub over_rate : (notice : List Change) (old : DeskView) (from : Peer) (ask : Ask) (turn : Turn) (enrolment : Enrolment) (new : DeskView) → old.rated ≡ true
-    → (turn ≡ turns.Rate) ⊎ (turn ≡ turns.Memory) → Knows notice old from ask true enrolment new → Refuses notice old from ask turn new
-over_rate notice old from ask turn enrolment new rated (inl is) knows = subst (λ t. Refuses notice old from ask t new) (sym is) (rated, enrolment, knows)
-over_rate notice old from ask turn enrolment new rated (inr is) knows = subst (λ t. Refuses notice old from ask t new) (sym is) (rated, enrolment, knows)
+pub over_rate : (old : DeskView) (from : Peer) (ask : Ask) (turn : Turn) (enrolment : Enrolment) (new : DeskView) → old.rated ≡ true
+    → (turn ≡ turns.Rate) ⊎ (turn ≡ turns.Memory) → Knows old from ask true enrolment new → Refuses old from ask turn new
+over_rate old from ask turn enrolment new rated (inl is) knows = subst (λ t. Refuses old from ask t new) (sym is) (rated, enrolment, knows)
+over_rate old from ask turn enrolment new rated (inr is) knows = subst (λ t. Refuses old from ask t new) (sym is) (rated, enrolment, knows)
 
 -- a line that names a suspended user is turned away as such, or as one of nobody
 two_turns : (from : Peer) (user : Name) → (suspended_turn from user ≡ turns.Suspended) ⊎ (suspended_turn from user ≡ turns.Nobody)
@@ -67,34 +68,34 @@ two_turns (peers.User own) user =
     ]
 two_turns (peers.Authorisation own) user = inr refl
 
-pub refuses_suspended : (notice : List Change) (old : DeskView) (from : Peer) (ask : Ask) (turn : Turn) (new : DeskView) → LooksUp notice old (user_of ask) looks.Suspended new
-    → suspended_turn from (user_of ask) ≡ turn → Refuses notice old from ask turn new
-refuses_suspended notice old from ask turn new found is =
+pub refuses_suspended : (old : DeskView) (from : Peer) (ask : Ask) (turn : Turn) (new : DeskView) → LooksUp old (user_of ask) looks.Suspended new
+    → suspended_turn from (user_of ask) ≡ turn → Refuses old from ask turn new
+refuses_suspended old from ask turn new found is =
     elim (two_turns from (user_of ask)) [
-      | inl known ↦ subst (λ t. Refuses notice old from ask t new) (sym known ∙ is) (found, known)
-      | inr nobody ↦ subst (λ t. Refuses notice old from ask t new) (sym nobody ∙ is) (inr (inr (found, nobody)))
+      | inl known ↦ subst (λ t. Refuses old from ask t new) (sym known ∙ is) (found, known)
+      | inr nobody ↦ subst (λ t. Refuses old from ask t new) (sym nobody ∙ is) (inr (inr (found, nobody)))
     ]
 
 -- the trails that the clerk has seen stay as the user is looked up
-looked : (notice : List Change) (old : DeskView) (user : Name) (look : Look) (new : DeskView) → LooksUp notice old user look new → new.clerk.sights ≡ old.clerk.sights
-looked notice old user look new is = ap (λ (d : DeskView). d.clerk.sights) is.same ∙ ap (λ (d : DeskView). d.clerk.sights) is.is.same
+looked : (old : DeskView) (user : Name) (look : Look) (new : DeskView) → LooksUp old user look new → new.clerk.sights ≡ old.clerk.sights
+looked old user look new is = ap (λ (d : DeskView). d.clerk.sights) is.same ∙ ap (λ (d : DeskView). d.clerk.sights) is.is.same
 
 -- and as a line is turned away
-refused : (notice : List Change) (old : DeskView) (from : Peer) (ask : Ask) (turn : Turn) (new : DeskView) → Refuses notice old from ask turn new → new.clerk.sights ≡ old.clerk.sights
-refused notice old from ask turns.Clock new is = ap (λ (d : DeskView). d.clerk.sights) is.same
-refused notice old from ask turns.Nobody new (inl is) = looked _ _ _ _ _ is
-refused notice old from ask turns.Nobody new (inr (inl is)) = looked _ _ _ _ _ is.1.looks
-refused notice old from ask turns.Nobody new (inr (inr is)) = looked _ _ _ _ _ is.0
-refused notice old from ask turns.Suspended new is = looked _ _ _ _ _ is.0
-refused notice old from ask turns.Closed new is = looked _ _ _ _ _ is
-refused notice old from ask turns.Rate new is = looked _ _ _ _ _ is.2.looks
-refused notice old from ask turns.Memory new is = looked _ _ _ _ _ is.2.looks
-refused notice old from ask turns.Role new is = looked _ _ _ _ _ is.1.looks
-refused notice old from ask turns.Product new is = looked _ _ _ _ _ is.1.looks
-refused notice old from ask turns.Journal new is = absurd is
-refused notice old from ask turns.Tag new is = absurd is
-refused notice old from ask turns.Differs new is = absurd is
-refused notice old from ask turns.Changed new is = absurd is
+refused : (old : DeskView) (from : Peer) (ask : Ask) (turn : Turn) (new : DeskView) → Refuses old from ask turn new → new.clerk.sights ≡ old.clerk.sights
+refused old from ask turns.Clock new is = ap (λ (d : DeskView). d.clerk.sights) is.same
+refused old from ask turns.Nobody new (inl is) = looked _ _ _ _ is
+refused old from ask turns.Nobody new (inr (inl is)) = looked _ _ _ _ is.1.looks
+refused old from ask turns.Nobody new (inr (inr is)) = looked _ _ _ _ is.0
+refused old from ask turns.Suspended new is = looked _ _ _ _ is.0
+refused old from ask turns.Closed new is = looked _ _ _ _ is
+refused old from ask turns.Rate new is = looked _ _ _ _ is.2.looks
+refused old from ask turns.Memory new is = looked _ _ _ _ is.2.looks
+refused old from ask turns.Role new is = looked _ _ _ _ is.1.looks
+refused old from ask turns.Product new is = looked _ _ _ _ is.1.looks
+refused old from ask turns.Journal new is = absurd is
+refused old from ask turns.Tag new is = absurd is
+refused old from ask turns.Differs new is = absurd is
+refused old from ask turns.Changed new is = absurd is
 
 -- the earlier sight of each shard begins the new one
 abbrev Grows : DeskView → DeskView → Type 0
@@ -128,11 +129,11 @@ admitted_grows old tag (asked.Report user c) moment actor said basis new is = on
 -- whatever the ask is, the earlier sights begin the new ones
 pub grows : (old : DeskView) (from : Peer) (ask : Ask) (said : Content) (basis : Option Basis) (new : DeskView) → Serves old from ask said basis new → Grows old new
 grows old from ask said basis new serves =
-    elim serves.1 [
-      | inl is ↦ same_grows old new (refused serves.0 old from ask is.0 new is.1)
+    elim serves [
+      | inl is ↦ same_grows old new (refused old from ask is.0 new is.1)
       | inr is ↦ (
           let admitted = is.2 in
-          let same = looked _ _ _ _ _ is.3.knows.looks in
+          let same = looked _ _ _ _ is.3.knows.looks in
           let then = admitted_grows admitted ask.tag ask.asked is.0 is.1 said basis new is.4 in
           λ i. subst (λ t. IsPrefix (row t i) (row new.clerk.sights i)) same (then i))
     ]
@@ -171,7 +172,7 @@ admitted_within old tag (asked.Report user c) moment actor said basis new (sees,
 
 pub reaches : (old : DeskView) (from : Peer) (ask : Ask) (said : Content) (basis : Option Basis) (new : DeskView) → Serves old from ask said basis new → Within new basis
 reaches old from ask said basis new serves =
-    elim serves.1 [
+    elim serves [
       | inl is ↦ none_within new basis is.3
       | inr is ↦ admitted_within is.2 ask.tag ask.asked is.0 is.1 said basis new is.4
     ]
@@ -181,10 +182,6 @@ pub within_more : (reach : ReachView) (old new : List (List Entry)) → ((i : �
 within_more reach old new grown within i = omega (arith, within i, prefix_length (row old i) (row new i) (grown i))
 
 -- a release empties the receipts
-pub lets_go : (was now : ClerkView) (shards : ℕ) (rated : Bool) (times : ℕ) (gave : ℤ) → ((i : ℕ) → IsPrefix (row was.sights i) (row now.sights i))
-    → now ≡ record was { sights = now.sights; receipts = [] }
-    → LetsGo (record { clerk = was; shards = shards; rated = rated; asked = times; gave = gave }) (record { clerk = now; shards = shards; rated = rated; asked = times; gave = gave })
-lets_go was now shards rated times gave begins same = record {
-  sights = begins;
-  same = λ i. record { clerk = same i; shards = shards; rated = rated; asked = times; gave = gave };
-}
+pub lets_go : (was : DeskView) (now : ClerkView) → ((i : ℕ) → IsPrefix (row was.clerk.sights i) (row now.sights i))
+    → now ≡ record was.clerk { sights = now.sights; receipts = [] } → LetsGo was (record was { clerk = now })
+lets_go was now begins same = record { sights = begins; same = λ i. record was { clerk = same i } }

@@ -1,1 +1,3 @@
 mod DeskTurns
+mod RefusalLemmas
+mod TurnedAway

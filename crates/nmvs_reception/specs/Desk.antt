@@ -46,13 +46,15 @@ use Rattle.nmvs_messages.specs.Tags.{tag_text}
 use Rattle.nmvs_reports.specs.Report.{product_line, report_lines}
 
 -- a desk: its clerk, the number of its repository's shards, and whether its users have a rate; how often its clock was asked,
--- and the seconds that it gave last
+-- and the seconds that it gave last; how often the latest notice of the directory was read, and the notice that was read last
 pub record DeskView : Type 0 where
   pub clerk : ClerkView
   pub shards : ℕ
   pub rated : Bool
   pub asked : ℕ
   pub gave : ℤ
+  pub reads : ℕ
+  pub notice : List Change
 
 -- the seconds are those of a moment
 abbrev pub IsMoment : ℤ → Type 0
@@ -67,12 +69,13 @@ pub record StopsAtClock (old new : DeskView) : Type 0 where
   pub same : new ≡ record old { asked = old.asked + 1; gave = new.gave }
   pub none : IsMoment new.gave → ⊥
 
--- the clock was asked once, and gives a moment; the clerk learns the latest publication from this notice; nothing else changes
-pub record IsTold (notice : List Change) (old new : DeskView) : Type 0 where
-  pub same : new ≡ record (with_seen new.clerk.seen old) { asked = old.asked + 1; gave = new.gave }
+-- the clock was asked once, and gives a moment; then the latest notice was read once, and the clerk learns it; nothing else
+-- changes. So no line is judged by an older list of changes than an earlier line of this desk, nor than this notice
+pub record IsTold (old new : DeskView) : Type 0 where
+  pub same : new ≡ record (with_seen new.clerk.seen old) { asked = old.asked + 1; gave = new.gave; reads = old.reads + 1; notice = new.notice }
   pub moment : IsMoment new.gave
   pub seen : IsPrefix old.clerk.seen new.clerk.seen
-  pub latest : IsPrefix notice new.clerk.seen
+  pub latest : IsPrefix new.notice new.clerk.seen
 
 -- the directory's answer at a moment: a user whose enrolment has ended stands as one who is suspended
 abbrev pub at_moment : ℕ → Look → Look
@@ -80,9 +83,9 @@ at_moment moment (looks.Known enrolment) = if has_ended enrolment.until moment t
 at_moment moment said = said
 
 -- the directory then says this of the user at the moment that the clock gave; nothing else changes
-pub record LooksUp (notice : List Change) (old : DeskView) (user : Name) (look : Look) (new : DeskView) : Type 0 where
+pub record LooksUp (old : DeskView) (user : Name) (look : Look) (new : DeskView) : Type 0 where
   pub told : DeskView
-  pub is : IsTold notice old told
+  pub is : IsTold old told
   pub said : Look
   pub reads : Reads told.clerk.seen new.clerk.seen user said
   pub moment : ℕ
@@ -91,8 +94,8 @@ pub record LooksUp (notice : List Change) (old : DeskView) (user : Name) (look :
   pub same : new ≡ with_seen new.clerk.seen told
 
 -- the directory knows the user of the line, by this enrolment, and the peer may speak for the user, or may not
-pub record Knows (notice : List Change) (old : DeskView) (from : Peer) (ask : Ask) (may : Bool) (enrolment : Enrolment) (new : DeskView) : Type 0 where
-  pub looks : LooksUp notice old (user_of ask) (looks.Known enrolment) new
+pub record Knows (old : DeskView) (from : Peer) (ask : Ask) (may : Bool) (enrolment : Enrolment) (new : DeskView) : Type 0 where
+  pub looks : LooksUp old (user_of ask) (looks.Known enrolment) new
   pub speaks : speaks_for from (user_of ask) enrolment.actor.authorisation ≡ may
 
 -- the reason to turn away a line of a peer that names a suspended user: the suspension, unless the peer is a certificate that
@@ -103,8 +106,8 @@ suspended_turn (peers.User own) user = if same_text user own then turns.Suspende
 suspended_turn (peers.Authorisation own) user = turns.Nobody
 
 -- the directory says that the user of the line is suspended, and this is the reason for the peer
-abbrev pub FindsSuspended : List Change → DeskView → Peer → Ask → Turn → DeskView → Type 0
-FindsSuspended notice old from ask turn new = LooksUp notice old (user_of ask) looks.Suspended new × (suspended_turn from (user_of ask) ≡ turn)
+abbrev pub FindsSuspended : DeskView → Peer → Ask → Turn → DeskView → Type 0
+FindsSuspended old from ask turn new = LooksUp old (user_of ask) looks.Suspended new × (suspended_turn from (user_of ask) ≡ turn)
 
 -- whether a line asks for a report
 abbrev pub is_report : Asked → Bool
@@ -123,9 +126,9 @@ may_upload_this (asked.Question user (Upload p b x)) enrolment = may_upload enro
 may_upload_this _ enrolment = true
 
 -- a line is admitted, at the moment that the clock gave, in the capacity that the directory gives its user
-pub record Admits (notice : List Change) (old : DeskView) (from : Peer) (ask : Ask) (moment : ℕ) (actor : Actor) (new : DeskView) : Type 0 where
+pub record Admits (old : DeskView) (from : Peer) (ask : Ask) (moment : ℕ) (actor : Actor) (new : DeskView) : Type 0 where
   pub enrolment : Enrolment
-  pub knows : Knows notice old from ask true enrolment new
+  pub knows : Knows old from ask true enrolment new
   pub capacity : actor ≡ enrolment.actor
   pub at : pos moment ≡ new.gave
   pub may : may_ask_this ask.asked enrolment.actor.role ≡ true
@@ -134,23 +137,27 @@ pub record Admits (notice : List Change) (old : DeskView) (from : Peer) (ask : A
 -- the reason to turn a line away, the first that holds: the clock gives no moment; the directory does not know the user, or
 -- cannot be entered; the peer may not speak for the user; the user is suspended, or its last day is over; the user's lines are
 -- over the rate, or there is no memory to count them; the role gets no report; the product is none that the user may upload
-abbrev pub Refuses : List Change → DeskView → Peer → Ask → Turn → DeskView → Type 0
-Refuses notice old from ask turns.Clock new = StopsAtClock old new
-Refuses notice old from ask turns.Nobody new =
-    LooksUp notice old (user_of ask) looks.Nobody new
-    ⊎ (((enrolment : Enrolment) × Knows notice old from ask false enrolment new) ⊎ FindsSuspended notice old from ask turns.Nobody new)
-Refuses notice old from ask turns.Suspended new = FindsSuspended notice old from ask turns.Suspended new
-Refuses notice old from ask turns.Closed new = LooksUp notice old (user_of ask) looks.Closed new
-Refuses notice old from ask turns.Rate new = (old.rated ≡ true) × (enrolment : Enrolment) × Knows notice old from ask true enrolment new
-Refuses notice old from ask turns.Memory new = (old.rated ≡ true) × (enrolment : Enrolment) × Knows notice old from ask true enrolment new
-Refuses notice old from ask turns.Role new =
-    (enrolment : Enrolment) × Knows notice old from ask true enrolment new × (may_ask_this ask.asked enrolment.actor.role ≡ false)
-Refuses notice old from ask turns.Product new =
-    (enrolment : Enrolment) × Knows notice old from ask true enrolment new × (may_upload_this ask.asked enrolment ≡ false)
-Refuses notice old from ask turns.Journal new = ⊥
-Refuses notice old from ask turns.Tag new = ⊥
-Refuses notice old from ask turns.Differs new = ⊥
-Refuses notice old from ask turns.Changed new = ⊥
+abbrev pub Refuses : DeskView → Peer → Ask → Turn → DeskView → Type 0
+Refuses old from ask turns.Clock new = StopsAtClock old new
+Refuses old from ask turns.Nobody new =
+    LooksUp old (user_of ask) looks.Nobody new
+    ⊎ (((enrolment : Enrolment) × Knows old from ask false enrolment new) ⊎ FindsSuspended old from ask turns.Nobody new)
+Refuses old from ask turns.Suspended new = FindsSuspended old from ask turns.Suspended new
+Refuses old from ask turns.Closed new = LooksUp old (user_of ask) looks.Closed new
+Refuses old from ask turns.Rate new = (old.rated ≡ true) × (enrolment : Enrolment) × Knows old from ask true enrolment new
+Refuses old from ask turns.Memory new = (old.rated ≡ true) × (enrolment : Enrolment) × Knows old from ask true enrolment new
+Refuses old from ask turns.Role new =
+    (enrolment : Enrolment) × Knows old from ask true enrolment new × (may_ask_this ask.asked enrolment.actor.role ≡ false)
+Refuses old from ask turns.Product new =
+    (enrolment : Enrolment) × Knows old from ask true enrolment new × (may_upload_this ask.asked enrolment ≡ false)
+Refuses old from ask turns.Journal new = ⊥
+Refuses old from ask turns.Tag new = ⊥
+Refuses old from ask turns.Differs new = ⊥
+Refuses old from ask turns.Changed new = ⊥
+
+-- the same desk, whose clerk has seen these trails of the shards
+abbrev pub with_sights : List (List Entry) → DeskView → DeskView
+with_sights sights desk = record desk { clerk = record desk.clerk { sights = sights } }
 
 -- the basis of an answer that rests on the first entries of a shard's trail, this number of them
 abbrev pub RestsOn : ℕ → ℕ → Option Basis → Type 0
@@ -215,14 +222,12 @@ AnswersAdmitted old tag (asked.Conditional user kind p printed) moment actor sai
     AnswersQuestion old (record { moment = moment; user = user; actor = actor; question = naming_pack kind p; tag = tag }) (Some printed) said basis new
 AnswersAdmitted old tag (asked.Report user c) moment actor said basis new = AnswersReport old tag c said basis new
 
--- the answers that it may give to a line, and their bases, after it learned a notice: the line is turned away, or admitted and
--- answered
+-- the answers that it may give to a line, and their bases: the line is turned away, or admitted and answered
 abbrev pub Serves : DeskView → Peer → Ask → Content → Option Basis → DeskView → Type 0
 Serves old from ask said basis new =
-    (notice : List Change) ×
-    (((turn : Turn) × Refuses notice old from ask turn new × (said ≡ contents.Turned turn) × (basis ≡ None))
-    ⊎ ((moment : ℕ) × (actor : Actor) × (admitted : DeskView) × Admits notice old from ask moment actor admitted
-    × AnswersAdmitted admitted ask.tag ask.asked moment actor said basis new))
+    ((turn : Turn) × Refuses old from ask turn new × (said ≡ contents.Turned turn) × (basis ≡ None))
+    ⊎ ((moment : ℕ) × (actor : Actor) × (admitted : DeskView) × Admits old from ask moment actor admitted
+    × AnswersAdmitted admitted ask.tag ask.asked moment actor said basis new)
 
 -- the desk takes a line with such an answer
 abbrev pub Takes : DeskView → Peer → Ask → Withheld → DeskView → Type 0

@@ -1,2 +1,3 @@
 pub mod Alerts
 pub mod Desk
+pub mod Refusals

@@ -11,6 +11,7 @@ ghost use Rattle.nmvs_reception.specs.Desk.{at_moment, may_ask_this, may_upload_
 ghost use Rattle.nmvs_line.specs.Export.{export_text};
 ghost use Rattle.nmvs_reports.specs.Following.{following_text};
 
+use crate::latest_notice::LatestNotice;
 use crate::{Alerts, Clock};
 use log::Log;
 use nmvs_desk::{Clerk, Reader, Repository, Shown};
@@ -33,14 +34,14 @@ use std::marker::Model;
 use std::rt;
 use std::sync::{Mutex, Wait};
 
-/// Answers lines by a clerk of a repository, at the moments of a clock, which it asks once a line. Before it admits a line, the
-/// clerk learns the latest notice (own).
+/// Answers lines by a clerk of a repository, at the moments of a clock, which it asks once a line. At each moment it reads the
+/// latest notice, and its clerk learns it before the line's user is looked up (own).
 #[derive(Drop)]
 pub struct ClerkDesk<'r, 'a, R: Wait, J: Naming, H: Histories, K: Clock> {
     rt: &'r R,
     clerk: Clerk<'a, J, H>,
     repository: &'r Repository<'a, H>,
-    latest: &'r Mutex<Notice<J>>,
+    latest: LatestNotice<'r, J>,
     limiter: Option<&'r SharedLimiter<Global>>,
     clock: K,
     metrics: WorkerMetrics<'r>,
@@ -49,11 +50,20 @@ pub struct ClerkDesk<'r, 'a, R: Wait, J: Naming, H: Histories, K: Clock> {
 
 impl<'r, 'a, R: Wait, J: Naming, H: Histories, K: Clock> Model for ClerkDesk<'r, 'a, R, J, H, K> {
     ghost use Rattle.std.specs.Option.{is_some};
+    ghost use Rattle.std.specs.Prelude.{length};
     ghost use Rattle.nmvs_reception.specs.Desk.{DeskView};
 
     ghost Value = { DeskView };
 
-    ghost view = { λ d. record { clerk = d.clerk; shards = d.repository.now.shards; rated = is_some d.limiter; asked = K.asked d.clock; gave = K.gave d.clock } };
+    ghost view = { λ d. record {
+      clerk = d.clerk;
+      shards = d.repository.now.shards;
+      rated = is_some d.limiter;
+      asked = K.asked d.clock;
+      gave = K.gave d.clock;
+      reads = length d.latest.reads.numbers;
+      notice = d.latest.last;
+    } };
 }
 
 impl<'r, 'a, R: Wait + rt::Clock + Log, J: Naming, H: Histories, K: Clock> ClerkDesk<
@@ -72,7 +82,7 @@ impl<'r, 'a, R: Wait + rt::Clock + Log, J: Naming, H: Histories, K: Clock> Clerk
     ghost use Rattle.nmvs_reception.specs.Desk.{Admits, AnswersAdmitted, AnswersQuestion, AnswersReport, Refuses, RestsOn, SeesShard, Serves};
 
     /// A desk over a clerk of this repository, the lock of the latest notice, and the limiter of the users' rate, if they have
-    /// one. The metrics count its answers, and its flagged alerts are noted.
+    /// one. The metrics count its answers, and its flagged alerts are noted. It waits for the notice's lock.
     ///
     /// Condition: `open` gave the clerk with the repository, which the names of their histories say.
     pub fn new(
@@ -85,13 +95,13 @@ impl<'r, 'a, R: Wait + rt::Clock + Log, J: Naming, H: Histories, K: Clock> Clerk
         metrics: WorkerMetrics<'r>,
         alerts: &'r Alerts,
     ) -> ClerkDesk<'r, 'a, R, J, H, K>
-        ensures { result ≡ record { clerk = clerk.entry; shards = repository.now.shards; rated = is_some limiter.entry; asked = K.asked clock; gave = K.gave clock } }
+        ensures { result ≡ record { clerk = clerk.entry; shards = repository.now.shards; rated = is_some limiter.entry; asked = K.asked clock; gave = K.gave clock; reads = 0; notice = result.notice } }
     {
         ClerkDesk {
             rt,
             clerk,
             repository,
-            latest,
+            latest: LatestNotice::under(rt, latest),
             limiter,
             clock,
             metrics,
@@ -119,26 +129,26 @@ impl<'r, 'a, R: Wait + rt::Clock + Log, J: Naming, H: Histories, K: Clock> Clerk
         ensures shows { content_shown result.0 ≡ text_left (following_text export_text) result.2 }
     {
         self.metrics.note_line();
-        let notice = self.latest.lock(self.rt).again();
-        match self.admit(&notice, from, ask) {
+        match self.admit(from, ask) {
             Ok((moment, actor)) => self.answer_admitted(moment, actor, ask),
             Err(turn) => (Content::Turned(turn), None, None),
         }
     }
 
     /// Admits a line, or gives the reason to turn it away. The reasons come in this order. The clock gives no moment. The
-    /// directory does not know the user, who is looked up once, after the clerk has learnt the latest notice, or cannot be read.
-    /// The peer may not speak for the user. The user is suspended, or its last day is over. The line is over the user's rate, or
-    /// there is no memory to count it; this waits for the limiter's lock. The user's role gets no report. The product of an upload
-    /// is none of those that the user may upload.
-    fn admit(&mut self, notice: &Notice<J>, from: &Peer, ask: &Ask) -> Result<(Moment, Actor), Turn>
-        ensures admits { IfOk result (λ r. Admits notice.now self.old from.now ask.now r.0 r.1 self.new) }
-        ensures refuses { IfErr result (λ turn. Refuses notice.now self.old from.now ask.now turn self.new) }
+    /// directory does not know the user, who is looked up once, after the clerk has learnt the latest notice, or cannot be read; this
+    /// waits for the notice's lock. The peer may not speak for the user. The user is suspended, or its last day is over. The line is
+    /// over the user's rate, or there is no memory to count it; this waits for the limiter's lock. The user's role gets no report.
+    /// The product of an upload is none of those that the user may upload.
+    fn admit(&mut self, from: &Peer, ask: &Ask) -> Result<(Moment, Actor), Turn>
+        ensures admits { IfOk result (λ r. Admits self.old from.now ask.now r.0 r.1 self.new) }
+        ensures refuses { IfErr result (λ turn. Refuses self.old from.now ask.now turn self.new) }
     {
         let Some(moment) = Moment::new(self.clock.seconds()) else {
             return Err(Turn::Clock);
         };
-        self.clerk.learn(notice);
+        self.latest.read(self.rt);
+        self.clerk.learn(&self.latest.last);
         let user = ask.user();
         let enrolment = match at_moment(moment, self.clerk.look(user)) {
             Look::Known(enrolment) => enrolment,

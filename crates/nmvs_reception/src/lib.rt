@@ -2,13 +2,16 @@
 //!
 //! [`ClerkDesk`] answers lines by a clerk of a repository, at the moments of a [`Clock`]. With a [`JournalDesk`] each answer
 //! waits until the log has confirmed the entries on which it rests. [`Alerts`] counts the flagged alerts of each user.
-//! [`Opening`] has the values with which a repository and its clerks are opened.
+//! [`Opening`] has the values with which a repository and its clerks are opened. [`laws`] has the statements on who may ask, and
+//! on the order in which a question is refused.
 #![tactic(auto)]
 
 mod alerts;
 mod clock;
 mod desk;
 mod journal_desk;
+mod latest_notice;
+pub mod laws;
 mod opening;
 mod tally;
 
