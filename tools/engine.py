@@ -43,6 +43,8 @@ class Engine:
 
         self.server = http.server.ThreadingHTTPServer(("127.0.0.1", 0), Handler)
         self.server.daemon_threads = True
+        # A server that is killed breaks its connections.
+        self.server.handle_error = lambda *_: None
         self.address = f"127.0.0.1:{self.server.server_address[1]}"
         threading.Thread(target=self.server.serve_forever, daemon=True).start()
 
@@ -91,6 +93,11 @@ class Engine:
         """The name of the server that owns the logs."""
         with self.lock:
             return self.values[f"{CLUSTER}/owner".encode()]
+
+    def lose_turn(self):
+        """Another server owns the logs from now on."""
+        with self.lock:
+            self.values[f"{CLUSTER}/owner".encode()] = b"other"
 
     def close(self):
         self.server.shutdown()
