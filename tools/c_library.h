@@ -50,6 +50,8 @@ int open(const char *, int, ...);
 int close(int);
 int fstat(int, struct stat *);
 char *getcwd(char *, size_t);
+char *strrchr(const char *, int);
+int rename(const char *, const char *);
 ssize_t readlink(const char *, char *, size_t);
 int nanosleep(const struct timespec *, struct timespec *);
 int pthread_mutex_lock(pthread_mutex_t *);

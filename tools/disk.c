@@ -10,7 +10,8 @@
  * DISK_DELAY    microseconds that each sync takes longer; with the fault SLOW the sync of this number alone, which does not fail
  *
  * The notes are five counts of calls, one a kind, and then for each file its name (120 bytes) and its length when the last
- * sync of it that succeeded began (8 bytes); of a folder 1. The folder itself has the name ".". */
+ * sync of it that succeeded began (8 bytes); of a folder 1, or 0 once a file in it got another name and no sync came after that. The
+ * folder itself has the name ".". */
 #include "c_library.h"
 
 enum kind { WRITE, SYNC, OPEN, LOCK, TRUNCATE, KINDS };
@@ -125,16 +126,29 @@ int fsync(int fd) {
     return synced(fd, real);
 }
 
+/* The path from the root. */
+static void make_whole(char *whole, const char *path) {
+    size_t here = *path != '/' && getcwd(whole, PATH_MAX) ? strlen(whole) : 0;
+    snprintf(whole + here, PATH_MAX - here, here ? "/%s" : "%s", path);
+}
+
 static int opens(const char *path) {
     char whole[PATH_MAX];
     if (!notes || !path) return 1;
-    if (*path != '/') {
-        size_t here = getcwd(whole, sizeof whole) ? strlen(whole) : 0;
-        snprintf(whole + here, sizeof whole - here, "/%s", path);
-    } else {
-        snprintf(whole, sizeof whole, "%s", path);
-    }
+    make_whole(whole, path);
     return !name_in(whole) || !fails(OPEN);
+}
+
+int rename(const char *from, const char *to) {
+    REAL(rename);
+    char whole[PATH_MAX], *last;
+    if (notes && to) {
+        make_whole(whole, to);
+        if ((last = strrchr(whole, '/'))) *last = 0;
+        const char *name = name_in(whole);
+        if (name) note(name, 0);
+    }
+    return real(from, to);
 }
 
 static mode_t mode_of(int flags, va_list more) { return flags & (O_CREAT | O_TMPFILE) ? va_arg(more, mode_t) : 0; }

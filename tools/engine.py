@@ -1,0 +1,104 @@
+"""A stand-in for etcd, for tests of servers that share a log: one store in memory, whose requests of /v3/kv/txn and /v3/kv/range are
+carried out whole, one after the other, as etcd's JSON gateway has them. Nothing of it is replicated or kept."""
+import base64
+import http.server
+import json
+import threading
+
+CLUSTER = "trial"
+
+
+def bytes_of(text):
+    return base64.b64decode(text or "")
+
+
+def text_of(value):
+    return base64.b64encode(value).decode()
+
+
+class Engine:
+    """The store, with the keys of a cluster that has no owner yet, and a server of it at a port of 127.0.0.1."""
+
+    def __init__(self):
+        keys = {"owner": b"-"} | {f"{log}/{key}": b"0" for log in ("entries", "users") for key in ("end", "trimmed")}
+        self.values = {f"{CLUSTER}/{key}".encode(): value for key, value in keys.items()}
+        # Each block that was ever put.
+        self.blocks = {}
+        self.lock, engine = threading.Lock(), self
+
+        class Handler(http.server.BaseHTTPRequestHandler):
+            protocol_version = "HTTP/1.1"
+
+            def do_POST(self):
+                asked = json.loads(self.rfile.read(int(self.headers["content-length"])))
+                with engine.lock:
+                    answer = json.dumps(engine.transaction(asked) if self.path == "/v3/kv/txn" else engine.range(asked)).encode()
+                self.send_response(200)
+                self.send_header("content-length", str(len(answer)))
+                self.end_headers()
+                self.wfile.write(answer)
+
+            def log_message(self, *_):
+                pass
+
+        self.server = http.server.ThreadingHTTPServer(("127.0.0.1", 0), Handler)
+        self.server.daemon_threads = True
+        # A server that is killed breaks its connections.
+        self.server.handle_error = lambda *_: None
+        self.address = f"127.0.0.1:{self.server.server_address[1]}"
+        threading.Thread(target=self.server.serve_forever, daemon=True).start()
+
+    def keys(self, asked):
+        """The keys that a request names: one, or those of a range."""
+        first, past = bytes_of(asked["key"]), bytes_of(asked.get("range_end"))
+        return sorted(key for key in self.values if first <= key < past) if past else [first] if first in self.values else []
+
+    def range(self, asked):
+        found = [{"key": text_of(key), "value": text_of(self.values[key])} for key in self.keys(asked)]
+        return {"header": {}, **({"kvs": found} if found else {})}
+
+    def holds(self, compare):
+        key = bytes_of(compare["key"])
+        return key in self.values if compare["target"] == "CREATE" else self.values.get(key) == bytes_of(compare["value"])
+
+    def transaction(self, asked):
+        succeeded = all(map(self.holds, asked.get("compare", [])))
+        responses = []
+        for step in asked.get("success" if succeeded else "failure", []):
+            if put := step.get("requestPut"):
+                key, value = bytes_of(put["key"]), bytes_of(put["value"])
+                self.values[key] = value
+                if b"/block/" in key:
+                    self.blocks[key] = value
+                responses.append({"response_put": {}})
+            elif delete := step.get("requestDeleteRange"):
+                for key in self.keys(delete):
+                    del self.values[key]
+                responses.append({"response_delete_range": {}})
+            else:
+                responses.append({"response_range": self.range(step["requestRange"])})
+        return {"header": {}, **({"succeeded": True} if succeeded else {}), "responses": responses}
+
+    def lines(self, log):
+        """The lines of a log from its beginning on, trimmed or not: those of its blocks, each without its first line."""
+        with self.lock:
+            front = f"{CLUSTER}/{log}/block/".encode()
+            return b"".join(self.blocks[key].partition(b"\n")[2] for key in sorted(self.blocks) if key.startswith(front)).decode("latin-1")
+
+    def number(self, key):
+        with self.lock:
+            return int(self.values[f"{CLUSTER}/{key}".encode()])
+
+    def owner(self):
+        """The name of the server that owns the logs."""
+        with self.lock:
+            return self.values[f"{CLUSTER}/owner".encode()]
+
+    def lose_turn(self):
+        """Another server owns the logs from now on."""
+        with self.lock:
+            self.values[f"{CLUSTER}/owner".encode()] = b"other"
+
+    def close(self):
+        self.server.shutdown()
+        self.server.server_close()
