@@ -17,14 +17,23 @@ def text_of(value):
 
 
 class Engine:
-    """The store, with the keys of a cluster that has no owner yet, and a server of it at a port of 127.0.0.1."""
+    """The store, and a server of it at a port of 127.0.0.1. It has the keys of a cluster that has no owner yet, whose log of entries
+    has these blocks, each some lines."""
 
-    def __init__(self):
-        keys = {"owner": b"-"} | {f"{log}/{key}": b"0" for log in ("entries", "users") for key in ("end", "trimmed")}
-        self.values = {f"{CLUSTER}/{key}".encode(): value for key, value in keys.items()}
+    def __init__(self, *blocks, cluster=CLUSTER):
+        self.cluster, self.values = cluster, {}
         # Each block that was ever put.
         self.blocks = {}
         self.lock, engine = threading.Lock(), self
+        for key in ("entries/end", "entries/trimmed", "users/end", "users/trimmed"):
+            self.put(key, "0")
+        self.put("owner", "-")
+        first = 0
+        for number, lines in enumerate(blocks, 1):
+            count = lines.count("\n")
+            self.put(f"entries/block/{number:020}", f"a.0 {number} {first} {count}\n{lines}")
+            self.put("entries/end", str(number))
+            first += count
 
         class Handler(http.server.BaseHTTPRequestHandler):
             protocol_version = "HTTP/1.1"
@@ -48,6 +57,16 @@ class Engine:
         self.address = f"127.0.0.1:{self.server.server_address[1]}"
         threading.Thread(target=self.server.serve_forever, daemon=True).start()
 
+    def put(self, key, text):
+        """Gives a key of the cluster a value."""
+        with self.lock:
+            self.keep(f"{self.cluster}/{key}".encode(), text.encode())
+
+    def keep(self, key, value):
+        self.values[key] = value
+        if b"/block/" in key:
+            self.blocks[key] = value
+
     def keys(self, asked):
         """The keys that a request names: one, or those of a range."""
         first, past = bytes_of(asked["key"]), bytes_of(asked.get("range_end"))
@@ -66,10 +85,7 @@ class Engine:
         responses = []
         for step in asked.get("success" if succeeded else "failure", []):
             if put := step.get("requestPut"):
-                key, value = bytes_of(put["key"]), bytes_of(put["value"])
-                self.values[key] = value
-                if b"/block/" in key:
-                    self.blocks[key] = value
+                self.keep(bytes_of(put["key"]), bytes_of(put["value"]))
                 responses.append({"response_put": {}})
             elif delete := step.get("requestDeleteRange"):
                 for key in self.keys(delete):
@@ -82,22 +98,17 @@ class Engine:
     def lines(self, log):
         """The lines of a log from its beginning on, trimmed or not: those of its blocks, each without its first line."""
         with self.lock:
-            front = f"{CLUSTER}/{log}/block/".encode()
+            front = f"{self.cluster}/{log}/block/".encode()
             return b"".join(self.blocks[key].partition(b"\n")[2] for key in sorted(self.blocks) if key.startswith(front)).decode("latin-1")
 
     def number(self, key):
         with self.lock:
-            return int(self.values[f"{CLUSTER}/{key}".encode()])
+            return int(self.values[f"{self.cluster}/{key}".encode()])
 
     def owner(self):
         """The name of the server that owns the logs."""
         with self.lock:
-            return self.values[f"{CLUSTER}/owner".encode()]
-
-    def lose_turn(self):
-        """Another server owns the logs from now on."""
-        with self.lock:
-            self.values[f"{CLUSTER}/owner".encode()] = b"other"
+            return self.values[f"{self.cluster}/owner".encode()]
 
     def close(self):
         self.server.shutdown()

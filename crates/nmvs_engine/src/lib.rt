@@ -14,6 +14,6 @@ mod wire;
 
 pub use copy_place::{BEGIN, PlaceFile, noted_place};
 pub use dialer::Dialer;
-pub use local_copy::{CopiedLog, EngineLog, LocalCopy, UsersLog};
+pub use local_copy::{CopiedLog, CopyFiles, EngineLog, LocalCopy, UsersLog};
 pub use turn::Turn;
 pub use wire::Wire;
