@@ -43,7 +43,8 @@ pub(crate) fn serve_alone<'r, 'o, J: Naming, H: Histories, R: Host, T: Sides>(
     serve_one(config, latest, &repository, clerk, console)
 }
 
-/// Serves one session over the console by the clerk, and writes the export at the end, also after a session's fault.
+/// Serves one session over the console by the clerk, whose desk begins with the notice that lies under the lock, and writes the
+/// export at the end, also after a session's fault.
 fn serve_one<'r, 'o, J: Naming, H: Histories, R: Host, T: Sides>(
     config: &Config<'r, 'o, R>,
     latest: &Mutex<Notice<J>>,
@@ -52,8 +53,8 @@ fn serve_one<'r, 'o, J: Naming, H: Histories, R: Host, T: Sides>(
     console: &mut Console<T>,
 ) -> Outcome<'o>
     requires fresh { IsFresh (T.Source.told console.old.source) (T.Sink.taken console.old.sink) }
-    ensures { (last : DeskView) × (end : TheEnd) × Session (TakesFrom Takes peers.Anyone) AtOnce Stays session_limits
-        (record { clerk = clerk.entry; shards = repository.now.shards; rated = false; asked = 0; gave = pos 0 })
+    ensures { (first : DeskView) × (first ≡ record { clerk = clerk.entry; shards = repository.now.shards; rated = false; asked = 0; gave = pos 0; reads = 0; notice = first.notice })
+        × (last : DeskView) × (end : TheEnd) × Session (TakesFrom Takes peers.Anyone) AtOnce Stays session_limits first
         (T.Source.told console.old.source) (T.Sink.taken console.old.sink)
         last (T.Source.told console.new.source) (T.Sink.taken console.new.sink) end
         × (result.session ≡ result_err (outcome end)) }
@@ -66,7 +67,7 @@ fn serve_one<'r, 'o, J: Naming, H: Histories, R: Host, T: Sides>(
     }
 }
 
-/// Serves one session over the console by the clerk.
+/// Serves one session over the console by the clerk, whose desk begins with the notice that lies under the lock.
 fn serve_session<'s, 'r, J: Naming, H: Histories, R: Host, T: Sides>(
     config: &'s Config<'r, '_, R>,
     latest: &'s Mutex<Notice<J>>,
@@ -75,8 +76,8 @@ fn serve_session<'s, 'r, J: Naming, H: Histories, R: Host, T: Sides>(
     console: &mut Console<T>,
 ) -> End
     requires fresh { IsFresh (T.Source.told console.old.source) (T.Sink.taken console.old.sink) }
-    ensures { (last : DeskView) × Session (TakesFrom Takes peers.Anyone) AtOnce Stays session_limits
-        (record { clerk = clerk.entry; shards = repository.now.shards; rated = false; asked = 0; gave = pos 0 })
+    ensures { (first : DeskView) × (first ≡ record { clerk = clerk.entry; shards = repository.now.shards; rated = false; asked = 0; gave = pos 0; reads = 0; notice = first.notice })
+        × (last : DeskView) × Session (TakesFrom Takes peers.Anyone) AtOnce Stays session_limits first
         (T.Source.told console.old.source) (T.Sink.taken console.old.sink)
         last (T.Source.told console.new.source) (T.Sink.taken console.new.sink) result }
 {
