@@ -120,12 +120,13 @@ pub(crate) fn read_options(alloc: Global, words: &[String]) -> Result<Asked, Opt
 }
 
 fn command<'a>(alloc: Global) -> Result<Command<'a>, AllocError> {
+    let part = part_of_check(alloc)?;
     let command = Command::new(alloc, "nmvs-check")
         .about(ABOUT)
         .after_help(STATUS)
         .version(VERSION)
         .arg(files(alloc))?
-        .arg(part(alloc).conflicts_with_all(&["report", "audit"])?)?;
+        .arg(part)?;
     let command = with_lookups(alloc, command)?;
     let command = with_subcommand(command, list(alloc))?;
     let command = with_subcommand(command, count(alloc))?;
@@ -176,6 +177,13 @@ fn files<'a>(alloc: Global) -> Arg<'a> {
 
 fn part<'a>(alloc: Global) -> Arg<'a> {
     option(alloc, "part", "I/N", PART)
+}
+
+/// The same for the check itself, which looks nothing up in a part.
+fn part_of_check<'a>(alloc: Global) -> Result<Arg<'a>, AllocError> {
+    part(alloc)
+        .conflicts_with("report")?
+        .conflicts_with("audit")
 }
 
 fn list<'a>(alloc: Global) -> Result<Command<'a>, AllocError> {
