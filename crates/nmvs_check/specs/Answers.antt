@@ -1,7 +1,7 @@
 -- The answers about an export (own).
 use Rattle.std.specs.Prelude.{ℕ, Bool, true, false, List, [], ◌∷◌, ◌++◌, ◌+◌, ◌-◌, ◌==◌, length, filter, codes, decimal, fold, Option, None, Some, if◌then◌else◌, ◌≡◌, string_bytes}
 use Rattle.std.specs.List.{count_by, flat_map, list_any}
-use Rattle.std.specs.Option.{is_some}
+use Rattle.std.specs.Option.{is_some, option_map}
 use Rattle.nmvs_identifier.specs.Texts.{same_text}
 use Rattle.nmvs_identifier.specs.ProductCode.{ProductCode}
 use Rattle.nmvs_identifier.specs.declared.pack.Pack.{Pack}
@@ -16,6 +16,8 @@ use Rattle.nmvs_rules.specs.Trail.{is_about}
 use Rattle.nmvs_rules.specs.declared.reply.Reply.TheVariants.{Shown}
 use Rattle.nmvs_protocol.specs.Texts.{reply_text}
 use Rattle.nmvs_reader.specs.Lines.{Imported, newer}
+use Rattle.nmvs_parts.specs.Part.{PartView}
+use Rattle.nmvs_parts.specs.declared.examination.PartImport.{PartImport}
 use Rattle.nmvs_reports.specs.Report.{product_line, report_text}
 use Rattle.nmvs_inspect.specs.Filter.{takes}
 use Rattle.nmvs_inspect.specs.Groups.{AreSingle, groups_text}
@@ -56,21 +58,37 @@ abbrev pub first_repeated_after : List Entry → List Entry → Option ℕ
 first_repeated_after u [] = None
 first_repeated_after u (e ∷ es) = if is_new (repeat_of u e.put) then first_repeated_after (u ++ e ∷ []) es else Some (length u)
 
--- the line that names the first entry whose question was asked before with its tag, by the number of that entry's line,
--- counted from 1
+-- the number of its line, counted from 1
+abbrev pub repeated_line : List Entry → Option ℕ
+repeated_line t = option_map (λ place. place + 1) (first_repeated_after [] t)
+
+-- the line that names it by this number
 abbrev pub repeated_text : Option ℕ → List ℕ
 repeated_text None = []
-repeated_text (Some n) = codes "REPEATED " ++ (decimal (n + 1) ++ codes "\n")
+repeated_text (Some n) = codes "REPEATED " ++ (decimal n ++ codes "\n")
 
 -- the lines with the number of lines, their number in each version, and the first line that repeats a question, if any
-abbrev pub counts_text : Imported → List ℕ
-counts_text it =
+abbrev pub counts_with : Imported → Option ℕ → List ℕ
+counts_with it repeated =
     let tagged = tagged_of it.trail in
-    codes "LAWFUL " ++ (decimal (length it.trail) ++ (codes "\nVERSION 1 " ++ (decimal it.older ++ (codes "\nVERSION 2 " ++ (decimal (newer it - tagged) ++ (codes "\n" ++ (third_text tagged ++ repeated_text (first_repeated_after [] it.trail))))))))
+    codes "LAWFUL " ++ (decimal (length it.trail) ++ (codes "\nVERSION 1 " ++ (decimal it.older ++ (codes "\nVERSION 2 " ++ (decimal (newer it - tagged) ++ (codes "\n" ++ (third_text tagged ++ repeated_text repeated)))))))
 
--- these counts, and a line for each product code
+abbrev pub counts_text : Imported → List ℕ
+counts_text it = counts_with it (repeated_line it.trail)
+
+-- a line for each product code
+abbrev pub products_text : List Entry → List ℕ
+products_text t = flat_map (product_line t) (codes_named t)
+
+-- these counts and lines
 abbrev pub summary_text : Imported → List ℕ
-summary_text it = counts_text it ++ flat_map (product_line it.trail) (codes_named it.trail)
+summary_text it = counts_text it ++ products_text it.trail
+
+-- those of a part, whose lines are numbered as they stand in the whole; before them the part, and the number of all lines
+abbrev pub part_summary_text : PartView → PartImport → List ℕ
+part_summary_text part p =
+    (codes "PART " ++ (decimal part.index ++ (codes "/" ++ (decimal part.count ++ (codes " OF " ++ (decimal p.lines ++ (codes "\n" ++ counts_with p.importer p.repeated)))))))
+    ++ products_text p.importer.trail
 
 -- the report of each product code
 abbrev pub reports_text : List Entry → List ℕ
@@ -124,3 +142,8 @@ Tells it (request.Page heading) old new = Shows (string_bytes heading) it old ne
 Tells it (request.Story p form) old new =
     (ds : List Dated) × AreTaken (story_of p) it.trail ds × Delivers old new (story_text form p (status_of it.trail p) ds)
 Tells it (request.Packs c b form) old new = (ps : List (Standing it.trail)) × AreOfBatch c b it.trail ps × Delivers old new (packs_text form it.trail ps)
+
+-- the answer to a request about a part
+abbrev pub TellsPart : PartView → PartImport → Request → Taken → Taken → Type 0
+TellsPart part p request.Summary old new = Delivers old new (part_summary_text part p)
+TellsPart part p r old new = Tells p.importer r old new

@@ -1,5 +1,5 @@
 //! The answers about a lawful export.
-ghost use Rattle.std.specs.Prelude.{◌≡◌, ◌+◌, ◌<◌, ◌^◌, ◌++◌, IfOk, IfSome, OnOk, string_bytes};
+ghost use Rattle.std.specs.Prelude.{◌≡◌, ◌++◌, IfOk, OnOk, string_bytes};
 ghost use Rattle.std.specs.List.{flat_map};
 ghost use Rattle.nmvs_stream.specs.Delivery.{Delivers};
 ghost use Rattle.nmvs_reports.specs.Report as told;
@@ -12,6 +12,7 @@ use nmvs_inspect::{
     AnswerFault, Filter, period_line, story_of, takes_any, write_groups, write_list, write_packs,
     write_page, write_report_rows, write_story,
 };
+use nmvs_parts::{Part, PartImport};
 use nmvs_protocol::reply_text;
 use nmvs_record::Importer;
 use nmvs_reports::{product_line, report};
@@ -48,6 +49,26 @@ pub(crate) fn tell<W: Sink>(
     }
 }
 
+/// Writes the answer to a request about a part of an export. A summary also names the part and the number of all lines.
+///
+/// # Errors
+///
+/// Those of `tell`.
+pub(crate) fn tell_part<W: Sink>(
+    alloc: Global,
+    part: Part,
+    import: &PartImport,
+    request: &Request,
+    sink: &mut W,
+) -> Result<(), AnswerFault>
+    ensures { OnOk result (answers.TellsPart part import.now request.now (W.taken sink.old) (W.taken sink.new)) }
+{
+    match request {
+        Request::Summary => write(&part_summary(alloc, part, import)?, sink),
+        _ => tell(alloc, &import.importer, request, sink),
+    }
+}
+
 /// The number of entries, if the request is about those that a filter takes, and the filter takes none.
 pub(crate) fn untaken(shard: &Shard<Global>, request: &Request) -> Option<usize>
     ensures { result ≡ answers.untaken shard.now request.now }
@@ -79,8 +100,24 @@ pub(crate) fn write<W: Sink>(text: &str, sink: &mut W) -> Result<(), AnswerFault
 fn summary(alloc: Global, importer: &Importer<Shard<Global>>) -> Result<String, AllocError>
     ensures { IfOk result (λ text. string_bytes text ≡ answers.summary_text importer.now) }
 {
-    let shard = importer.shard();
-    let mut text = counts_text(alloc, importer)?;
+    let counts = counts_text(alloc, importer)?;
+    with_products(alloc, importer.shard(), &counts)
+}
+
+fn part_summary(alloc: Global, part: Part, import: &PartImport) -> Result<String, AllocError>
+    ensures { IfOk result (λ text. string_bytes text ≡ answers.part_summary_text part import.now) }
+{
+    let (index, count, lines) = (part.index(), part.count(), import.lines);
+    let counts = counts_with(alloc, &import.importer, import.repeated)?;
+    let counts = format!(in alloc; "PART {index}/{count} OF {lines}\n{counts}")?;
+    with_products(alloc, import.importer.shard(), &counts)
+}
+
+/// These counts, and a line for each product code.
+fn with_products(alloc: Global, shard: &Shard<Global>, counts: &str) -> Result<String, AllocError>
+    ensures { IfOk result (λ text. string_bytes text ≡ counts.now ++ answers.products_text shard.now) }
+{
+    let mut text = String::from_str(alloc, counts)?;
     let codes = codes_named(alloc, shard)?;
     append_products(alloc, shard, codes.as_slice(), &mut text)?;
     Ok(text)
@@ -90,24 +127,44 @@ fn summary(alloc: Global, importer: &Importer<Shard<Global>>) -> Result<String, 
 fn counts_text(alloc: Global, importer: &Importer<Shard<Global>>) -> Result<String, AllocError>
     ensures { IfOk result (λ text. string_bytes text ≡ answers.counts_text importer.now) }
 {
+    counts_with(alloc, importer, repeated_line(importer.shard()))
+}
+
+/// The same with the number of the first line that repeats a question.
+fn counts_with(
+    alloc: Global,
+    importer: &Importer<Shard<Global>>,
+    repeated: Option<usize>,
+) -> Result<String, AllocError>
+    ensures { IfOk result (λ text. string_bytes text ≡ answers.counts_with importer.now repeated) }
+{
     let shard = importer.shard();
     let (lines, older) = (shard.len(), importer.older());
     let tagged = tagged_of(shard);
     let newer = importer.newer().saturating_sub(tagged);
     let third = third_text(alloc, tagged)?;
-    let repeated = repeated_text(alloc, shard.first_repeated())?;
+    let repeated = repeated_text(alloc, repeated)?;
     format!(in alloc; "LAWFUL {lines}\nVERSION 1 {older}\nVERSION 2 {newer}\n{third}{repeated}")
 }
 
-/// The line that names the first entry whose question was asked before with its tag, if there is one.
-fn repeated_text(alloc: Global, place: Option<usize>) -> Result<String, AllocError>
-    requires { IfSome place (λ place. place + 1 < 2 ^ 64) }
-    ensures { IfOk result (λ text. string_bytes text ≡ answers.repeated_text place) }
+/// The number of the line of the first entry whose question was asked before with its tag, if there is one.
+#[tactic(auto, using(crate::proofs::AnswerLemmas::first_is, crate::proofs::AnswerLemmas::first_within))]
+fn repeated_line(shard: &Shard<Global>) -> Option<usize>
+    ensures { result ≡ answers.repeated_line shard.now }
 {
-    let Some(place) = place else {
+    let _entries = shard.len();
+    let place = shard.first_repeated()?;
+    let line = place + 1;
+    Some(line)
+}
+
+/// The line that names the first line whose question was asked before with its tag, if there is one.
+fn repeated_text(alloc: Global, line: Option<usize>) -> Result<String, AllocError>
+    ensures { IfOk result (λ text. string_bytes text ≡ answers.repeated_text line) }
+{
+    let Some(line) = line else {
         return Ok(String::new(alloc));
     };
-    let line = place + 1;
     format!(in alloc; "REPEATED {line}\n")
 }
 

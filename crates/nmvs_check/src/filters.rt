@@ -4,6 +4,7 @@ use clap::{Arg, ArgAction, ArgMatches, Command};
 use jiff::civil::Date;
 use nmvs_identifier::{Batch, Name, ProductCode, Serial};
 use nmvs_inspect::{By, Filter, Form, read_date};
+use nmvs_parts::Part;
 use nmvs_rules::Role;
 use nmvs_words::{QuestionKind, ReplyKind, role_named};
 use std::alloc::{AllocError, Global};
@@ -142,6 +143,25 @@ fn append_parts(alloc: Global, words: &str, parts: &mut Vec<By>) -> Result<(), O
         }
     }
     Ok(())
+}
+
+/// The part that the options name, if they name one.
+pub(crate) fn part_of(
+    alloc: Global,
+    matches: &ArgMatches<'_>,
+) -> Result<Option<Part>, OptionFault> {
+    let Some(text) = matches.get_str("part") else {
+        return Ok(None);
+    };
+    match read_part(text) {
+        Some(part) => Ok(Some(part)),
+        None => Err(refused(alloc, text, "part as 0/8")),
+    }
+}
+
+fn read_part(text: &str) -> Option<Part> {
+    let (index, count) = text.split_once('/')?;
+    Part::new(index.parse().ok()?, count.parse().ok()?)
 }
 
 fn date(

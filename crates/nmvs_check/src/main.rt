@@ -18,7 +18,7 @@ mod status;
 use crate::comparison::{CompareFault, compare};
 use crate::inputs::{InputFault, Inputs};
 use crate::inspect_fault::{InspectFault, fault_text};
-use crate::inspection::inspect;
+use crate::inspection::{inspect, inspect_part};
 use crate::options::{Asked, OptionFault, Options, read_options};
 use crate::output::Output;
 use crate::page_file::{PageFault, write_page};
@@ -90,7 +90,11 @@ fn check(rt: &HostRuntime, alloc: Global, key: HashKey, options: &Options) -> Ex
     let mut output = Output::new(rt.stdout());
     let inspected = {
         let (mut source, mut sink) = (Device::new(&mut inputs), Device::new(&mut output));
-        inspect(alloc, key, &mut source, &mut sink, &options.request, READS)
+        let asked = &options.request;
+        match options.part {
+            None => inspect(alloc, key, &mut source, &mut sink, asked, READS),
+            Some(part) => inspect_part(alloc, key, part, &mut source, &mut sink, asked, READS),
+        }
     };
     match inspected {
         Ok(None) => ExitCode::SUCCESS,

@@ -1,6 +1,7 @@
 //! The command line.
 use crate::filters::{
-    batch, by_of, code, filter_of, flag, form_of, option, refused, serial, with_filter, with_form,
+    batch, by_of, code, filter_of, flag, form_of, option, part_of, refused, serial, with_filter,
+    with_form,
 };
 use crate::request::Request;
 use clap::error::ErrorKind;
@@ -8,6 +9,7 @@ use clap::{Arg, ArgMatches, Command, Error};
 use nmvs_elements::National;
 use nmvs_identifier::{Pack, ProductCode, Serial};
 use nmvs_inspect::Form;
+use nmvs_parts::Part;
 use std::alloc::{AllocError, Global};
 
 /// The task that a command line asks for (own).
@@ -36,6 +38,8 @@ pub(crate) enum Asked {
 pub(crate) struct Options {
     /// Paths of the files of the export, one after another. The path `-` is standard input, and so is an empty list.
     pub files: Vec<String>,
+    /// The part of the export that is inspected; None is the whole.
+    pub part: Option<Part>,
     pub request: Request,
 }
 
@@ -88,6 +92,10 @@ const COMPARE: &str =
     line of the old one that the new one does not have in its place, with what it has there, and the status is 1. The \
     status is also 1 where one of them is not lawful, and 2 in trouble";
 
+const PART: &str =
+    "Check the lines of the product codes whose number is I modulo N alone, as 0/8, in the memory that these lines take. The N \
+    parts together say what one check says, and their counts add up";
+
 const PAGE: &str =
     "Writes a page for a browser: files and counts, product codes and batches, alerts by week, the premises with the most \
     flagged alerts, and these, oldest first";
@@ -112,11 +120,13 @@ pub(crate) fn read_options(alloc: Global, words: &[String]) -> Result<Asked, Opt
 }
 
 fn command<'a>(alloc: Global) -> Result<Command<'a>, AllocError> {
+    let part = part_of_check(alloc)?;
     let command = Command::new(alloc, "nmvs-check")
         .about(ABOUT)
         .after_help(STATUS)
         .version(VERSION)
-        .arg(files(alloc))?;
+        .arg(files(alloc))?
+        .arg(part)?;
     let command = with_lookups(alloc, command)?;
     let command = with_subcommand(command, list(alloc))?;
     let command = with_subcommand(command, count(alloc))?;
@@ -165,8 +175,22 @@ fn files<'a>(alloc: Global) -> Arg<'a> {
         )
 }
 
+fn part<'a>(alloc: Global) -> Arg<'a> {
+    option(alloc, "part", "I/N", PART)
+}
+
+/// The same for the check itself, which looks nothing up in a part.
+fn part_of_check<'a>(alloc: Global) -> Result<Arg<'a>, AllocError> {
+    part(alloc)
+        .conflicts_with("report")?
+        .conflicts_with("audit")
+}
+
 fn list<'a>(alloc: Global) -> Result<Command<'a>, AllocError> {
-    let command = Command::new(alloc, "list").about(LIST).arg(files(alloc))?;
+    let command = Command::new(alloc, "list")
+        .about(LIST)
+        .arg(files(alloc))?
+        .arg(part(alloc))?;
     let command = with_filter(alloc, command)?;
     let command = with_form(alloc, command)?;
     command.arg(json(alloc)?)
@@ -187,7 +211,8 @@ fn count<'a>(alloc: Global) -> Result<Command<'a>, AllocError> {
     let command = Command::new(alloc, "count")
         .about(COUNT)
         .arg(by.required(true))?
-        .arg(files(alloc))?;
+        .arg(files(alloc))?
+        .arg(part(alloc))?;
     let command = with_filter(alloc, command)?;
     with_form(alloc, command)
 }
@@ -226,7 +251,8 @@ fn reports<'a>(alloc: Global) -> Result<Command<'a>, AllocError> {
     let command = Command::new(alloc, "report")
         .about(REPORT)
         .arg(all.required(true))?
-        .arg(files(alloc))?;
+        .arg(files(alloc))?
+        .arg(part(alloc))?;
     with_form(alloc, command)
 }
 
@@ -305,7 +331,25 @@ fn nation_of(alloc: Global, asked: &ArgMatches<'_>) -> Result<Option<National>, 
 fn options_of(alloc: Global, matches: &ArgMatches<'_>) -> Result<Options, OptionFault> {
     let request = request_of(alloc, matches)?;
     let files = files_of(alloc, matches)?;
-    Ok(Options { files, request })
+    let part = part_in(alloc, matches)?;
+    Ok(Options {
+        files,
+        part,
+        request,
+    })
+}
+
+/// The part that the options name, behind the command that they belong to.
+fn part_in(alloc: Global, matches: &ArgMatches<'_>) -> Result<Option<Part>, OptionFault> {
+    let before = part_of(alloc, matches)?;
+    match (matches.subcommand(), before) {
+        (None, part) => Ok(part),
+        (Some((_, asked)), None) => part_of(alloc, asked),
+        (Some(_), Some(_)) => {
+            let wanted = "error: '--part' is wanted behind the command\n";
+            Err(OptionFault::Refused(String::from_str(alloc, wanted)?))
+        }
+    }
 }
 
 fn request_of(alloc: Global, matches: &ArgMatches<'_>) -> Result<Request, OptionFault> {

@@ -1,0 +1,4 @@
+pub mod LineCodes
+mod PartsExample
+pub mod ImportLemmas
+pub mod PartLemmas
