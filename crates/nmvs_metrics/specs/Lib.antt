@@ -1,3 +1,3 @@
+pub mod Families
 pub mod Kinds
-pub mod Page
-pub mod Visits
+pub mod Readiness

@@ -1,15 +1,13 @@
 //! Whether a server is ready to answer questions.
 ghost use Rattle.std.specs.Prelude.{◌≡◌};
-ghost use Rattle.nmvs_metrics.specs.Visits as specs;
-
-use http::StatusCode;
+ghost use Rattle.nmvs_metrics.specs.Readiness as specs;
 
 /// How many nanoseconds a write or sync of the log takes before the log hangs (own).
 const LONGEST_WRITE: u64 = 5_000_000_000;
 
 /// Whether a server is ready to answer questions.
 #[derive(Clone, Copy)]
-pub(crate) enum Readiness {
+pub enum Readiness {
     /// It does not listen yet.
     Starting,
     /// It follows the server of another machine.
@@ -41,30 +39,5 @@ pub(crate) fn readiness_of(
         Readiness::Listening
     } else {
         Readiness::Starting
-    }
-}
-
-/// The text of the answer to `/readyz`.
-pub(crate) fn text_of(readiness: Readiness) -> &'static str
-    ensures { result.now ≡ specs.readiness_text readiness }
-{
-    match readiness {
-        Readiness::Starting => "starting\n",
-        Readiness::Standby => "standby\n",
-        Readiness::Listening => "ok\n",
-        Readiness::LogFailed => "log failed\n",
-        Readiness::LogHangs => "log hangs\n",
-    }
-}
-
-/// The status of the answer to `/readyz`.
-pub(crate) fn status_of(readiness: Readiness) -> StatusCode
-    ensures { result ≡ specs.readiness_status readiness }
-{
-    match readiness {
-        Readiness::Listening => StatusCode::OK,
-        Readiness::Starting | Readiness::Standby | Readiness::LogFailed | Readiness::LogHangs => {
-            StatusCode::SERVICE_UNAVAILABLE
-        }
     }
 }

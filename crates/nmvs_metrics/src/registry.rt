@@ -1,4 +1,8 @@
 //! What a running server counts: the families of its page, and the counters under them.
+ghost use Rattle.std.specs.Prelude.{◌≡◌, map};
+ghost use Rattle.nmvs_metrics.specs.Families.{row_of};
+ghost use Rattle.nmvs_metrics.specs.Families as specs;
+
 use crate::counters::Counters;
 use crate::kinds::{
     CAUSES, FAULTS, Fault, QUESTIONS, REFUSALS, REPLIES, kind_of_reply, place_of_cause,
@@ -14,41 +18,33 @@ use std::alloc::{AllocError, Global};
 use std::sync::atomic::{AtomicU64, Ordering};
 use std::time::Duration;
 
-// Where the server's counters stand.
+/// A counter of the server.
+#[derive(Clone, Copy)]
+pub(crate) enum Count {
+    /// 1 if it listens.
+    Ready,
+    /// 1 if it ends.
+    Ends,
+    Sessions,
+    Enrolled,
+    Suspended,
+    /// The start of the metrics, in seconds since 1970, or 0 if no clock gave it.
+    Started,
+    ClockSteps,
+    /// 1 if the log failed.
+    Failed,
+    /// When the write or sync of the log that is under way began, in nanoseconds since the machine runs, or 0 if none is.
+    WriteBegan,
+    /// 1 if the server is one of several machines.
+    Shared,
+    /// 1 if it follows another.
+    Standby,
+    /// How many entries it has read of the log as one that follows.
+    Followed,
+}
 
-/// 1 if it listens.
-const READY: usize = 0;
-
-/// 1 if it ends.
-const ENDS: usize = READY + 1;
-
-const SESSIONS: usize = ENDS + 1;
-
-const ENROLLED: usize = SESSIONS + 1;
-
-const SUSPENDED: usize = ENROLLED + 1;
-
-/// The start of the metrics, in seconds since 1970, or 0 if no clock gave it.
-const STARTED: usize = SUSPENDED + 1;
-
-const CLOCK_STEPS: usize = STARTED + 1;
-
-/// 1 if the log failed.
-const FAILED: usize = CLOCK_STEPS + 1;
-
-/// When the write or sync of the log that is under way began, in nanoseconds since the machine runs, or 0 if none is.
-const WRITE_BEGAN: usize = FAILED + 1;
-
-/// 1 if the server is one of several machines.
-const SHARED: usize = WRITE_BEGAN + 1;
-
-/// 1 if it follows another.
-const STANDBY: usize = SHARED + 1;
-
-/// How many entries it has read of the log as one that follows.
-const FOLLOWED: usize = STANDBY + 1;
-
-const SERVER_COUNTERS: usize = FOLLOWED + 1;
+/// How many counters the server has.
+const COUNTS: usize = Count::Followed as usize + 1;
 
 // Where a worker's counters stand.
 
@@ -78,32 +74,38 @@ pub(crate) const CONFIRMED: usize = MEMORY + 1;
 
 /// The samples of one name on the page.
 #[derive(Clone, Copy)]
-pub(crate) struct Family {
-    pub(crate) name: &'static str,
-    pub(crate) kind: &'static str,
-    pub(crate) help: &'static str,
+pub struct Family {
+    pub name: &'static str,
+    pub kind: &'static str,
+    pub help: &'static str,
     /// The names of its labels. The second is empty if there is one, and both are if there is none.
-    pub(crate) labels: (&'static str, &'static str),
+    pub labels: (&'static str, &'static str),
     pub(crate) source: Source,
 }
 
 /// Where the values of a family come from.
 #[derive(Clone, Copy)]
 pub(crate) enum Source {
-    /// The server's counter at this place.
-    Server(usize),
+    /// 1, with these two words.
+    Build(&'static str, &'static str),
+    /// This counter of the server.
+    Server(Count),
     /// The same, if it is not 0.
-    Given(usize),
+    Given(Count),
     /// The same, if the server has a log.
-    Log(usize),
+    Log(Count),
     /// The same, if the server is one of several machines.
-    Shared(usize),
+    Shared(Count),
     /// The time since the nanosecond in this counter of the server, or 0 if the counter is 0, if the server has a log.
-    Since(usize),
+    Since(Count),
     /// The memory of the process, if the system reports it.
-    Resident,
-    /// The server's counters from this place on, each with its word.
-    States(usize, &'static [&'static str]),
+    Memory,
+    /// How many files it has open, if the system reports it.
+    OpenFiles,
+    /// How many it may have open, if the system reports it.
+    MostFiles,
+    /// These counters of the server, each with its word.
+    States(&'static [(Count, &'static str)]),
     /// The workers' counters at this place together.
     Total(usize),
     /// Those from this place on, each with its word.
@@ -130,35 +132,61 @@ pub(crate) enum PerShard {
     Waiting,
 }
 
-/// The families, in the order in which the page has them.
-pub(crate) const FAMILIES: &[Family] = &[
+/// The counters of users by their state.
+const USERS: &[(Count, &str)] = &[
+    (Count::Enrolled, "enrolled"),
+    (Count::Suspended, "suspended"),
+];
+
+const FAMILIES: &[Family] = &[
+    Family {
+        name: "nmvs_build_info",
+        kind: "gauge",
+        help: "Constant 1, by the version of the program and the toolchain that built it.",
+        labels: ("version", "toolchain"),
+        source: Source::Build("0.9.0", "rattle logic dac8208d650f15bf"),
+    },
     Family {
         name: "nmvs_ready",
         kind: "gauge",
         help: "Whether the server listens, 1 or 0.",
         labels: ("", ""),
-        source: Source::Server(READY),
+        source: Source::Server(Count::Ready),
     },
     Family {
         name: "nmvs_clock_steps_total",
         kind: "counter",
         help: "Steps of the system's clock by more than 2 seconds.",
         labels: ("", ""),
-        source: Source::Server(CLOCK_STEPS),
+        source: Source::Server(Count::ClockSteps),
     },
     Family {
         name: "process_start_time_seconds",
         kind: "gauge",
         help: "Start time of the process since 1970 in seconds.",
         labels: ("", ""),
-        source: Source::Given(STARTED),
+        source: Source::Given(Count::Started),
     },
     Family {
         name: "process_resident_memory_bytes",
         kind: "gauge",
         help: "Resident memory size in bytes.",
         labels: ("", ""),
-        source: Source::Resident,
+        source: Source::Memory,
+    },
+    Family {
+        name: "process_open_fds",
+        kind: "gauge",
+        help: "Number of open file descriptors.",
+        labels: ("", ""),
+        source: Source::OpenFiles,
+    },
+    Family {
+        name: "process_max_fds",
+        kind: "gauge",
+        help: "Maximum number of open file descriptors.",
+        labels: ("", ""),
+        source: Source::MostFiles,
     },
     Family {
         name: "nmvs_questions_total",
@@ -221,7 +249,7 @@ pub(crate) const FAMILIES: &[Family] = &[
         kind: "counter",
         help: "Sessions that have begun in which a line is served.",
         labels: ("", ""),
-        source: Source::Server(SESSIONS),
+        source: Source::Server(Count::Sessions),
     },
     Family {
         name: "nmvs_connections_memory_bytes",
@@ -242,7 +270,7 @@ pub(crate) const FAMILIES: &[Family] = &[
         kind: "gauge",
         help: "Users, by state.",
         labels: ("state", ""),
-        source: Source::States(ENROLLED, &["enrolled", "suspended"]),
+        source: Source::States(USERS),
     },
     Family {
         name: "nmvs_entries",
@@ -284,37 +312,44 @@ pub(crate) const FAMILIES: &[Family] = &[
         kind: "counter",
         help: "Failures of the file of the log.",
         labels: ("", ""),
-        source: Source::Log(FAILED),
+        source: Source::Log(Count::Failed),
     },
     Family {
         name: "nmvs_log_failed",
         kind: "gauge",
         help: "Whether the log failed, 1 or 0.",
         labels: ("", ""),
-        source: Source::Log(FAILED),
+        source: Source::Log(Count::Failed),
     },
     Family {
         name: "nmvs_log_write_seconds",
         kind: "gauge",
         help: "Seconds that the write or sync of the log that is under way has taken, 0 where none is.",
         labels: ("", ""),
-        source: Source::Since(WRITE_BEGAN),
+        source: Source::Since(Count::WriteBegan),
     },
     Family {
         name: "nmvs_standby",
         kind: "gauge",
         help: "Whether the server follows that of another machine, 1 or 0.",
         labels: ("", ""),
-        source: Source::Shared(STANDBY),
+        source: Source::Shared(Count::Standby),
     },
     Family {
         name: "nmvs_log_following_entries",
         kind: "gauge",
         help: "Entries of the log that the server has read as one that follows.",
         labels: ("", ""),
-        source: Source::Shared(FOLLOWED),
+        source: Source::Shared(Count::Followed),
     },
 ];
+
+/// The families, in the order in which the page has them.
+pub fn families() -> &'static [Family]
+    ensures { map row_of result.now ≡ specs.families }
+{
+    FAMILIES
+}
 
 /// The counters of one worker. No other worker writes to them; the thread that accepts counts connections here too.
 #[derive(Drop)]
@@ -385,7 +420,7 @@ impl Metrics {
         shards: usize,
         has_log: bool,
     ) -> Result<Metrics, AllocError> {
-        let server = Counters::new(alloc, SERVER_COUNTERS)?;
+        let server = Counters::new(alloc, COUNTS)?;
         let entries = Counters::new(alloc, shards)?;
         let packs = Counters::new(alloc, shards)?;
         let syncs = Times::new(alloc)?;
@@ -411,45 +446,45 @@ impl Metrics {
 
     /// Notes that the server listens.
     pub fn note_ready(&self) {
-        self.server.set(READY, 1);
+        self.server.set(Count::Ready as usize, 1);
     }
 
     /// Whether the server is ready, when the machine runs for this long.
-    pub(crate) fn readiness(&self, uptime: Duration) -> Readiness {
+    pub fn readiness(&self, uptime: Duration) -> Readiness {
         if !self.has_log {
-            return readiness_of(self.holds(READY), false, false, 0);
+            return readiness_of(self.holds(Count::Ready), false, false, 0);
         }
         readiness_of(
-            self.holds(READY),
-            self.holds(STANDBY),
-            self.holds(FAILED),
-            self.since(WRITE_BEGAN, uptime),
+            self.holds(Count::Ready),
+            self.holds(Count::Standby),
+            self.holds(Count::Failed),
+            self.since(Count::WriteBegan, uptime),
         )
     }
 
     /// Notes that the server ends.
     pub fn note_end(&self) {
-        self.server.set(ENDS, 1);
+        self.server.set(Count::Ends as usize, 1);
     }
 
     /// Whether the server ends.
-    pub(crate) fn has_ended(&self) -> bool {
-        self.holds(ENDS)
+    pub fn has_ended(&self) -> bool {
+        self.holds(Count::Ends)
     }
 
-    /// Whether the server's counter at this place is not 0.
-    pub(crate) fn holds(&self, place: usize) -> bool {
-        self.server.at(place) != 0
+    /// Whether this counter of the server is not 0.
+    pub(crate) fn holds(&self, count: Count) -> bool {
+        self.server.at(count as usize) != 0
     }
 
     /// Whether the server is one of several machines.
     pub(crate) fn is_shared(&self) -> bool {
-        self.has_log && self.holds(SHARED)
+        self.has_log && self.holds(Count::Shared)
     }
 
-    /// How many nanoseconds the machine has run since the server's counter at this place, or 0 if that is 0.
-    pub(crate) fn since(&self, place: usize, uptime: Duration) -> u64 {
-        match self.server.at(place) {
+    /// How many nanoseconds the machine has run since this counter of the server, or 0 if that is 0.
+    pub(crate) fn since(&self, count: Count, uptime: Duration) -> u64 {
+        match self.server.at(count as usize) {
             0 => 0,
             began => nanoseconds_of(uptime).saturating_sub(began),
         }
@@ -471,33 +506,34 @@ impl Metrics {
 
     /// Notes how many users are enrolled, and how many suspended.
     pub fn note_users(&self, enrolled: u64, suspended: u64) {
-        self.server.set(ENROLLED, enrolled);
-        self.server.set(SUSPENDED, suspended);
+        self.server.set(Count::Enrolled as usize, enrolled);
+        self.server.set(Count::Suspended as usize, suspended);
     }
 
     /// Notes the states of a user before and after a change. An unknown user has none.
     pub fn note_user(&self, before: Option<UserState>, after: Option<UserState>) {
         if let Some(state) = before {
-            self.server.subtract_one(place_of_state(state));
+            self.server.subtract_one(count_of(state) as usize);
         }
         if let Some(state) = after {
-            self.server.add(place_of_state(state), 1);
+            self.server.add(count_of(state) as usize, 1);
         }
     }
 
     /// Notes the start of the metrics: the time since 1970-01-01 00:00:00 UTC.
-    pub(crate) fn note_start(&self, since_1970: Duration) {
-        self.server.set(STARTED, since_1970.as_secs());
+    pub fn note_start(&self, since_1970: Duration) {
+        self.server
+            .set(Count::Started as usize, since_1970.as_secs());
     }
 
     /// Counts a step of the system's clock.
-    pub(crate) fn note_clock_step(&self) {
-        self.server.add(CLOCK_STEPS, 1);
+    pub fn note_clock_step(&self) {
+        self.server.add(Count::ClockSteps as usize, 1);
     }
 
     /// Counts a session in which a line is to be served.
     pub fn note_session(&self) {
-        self.server.add(SESSIONS, 1);
+        self.server.add(Count::Sessions as usize, 1);
     }
 
     /// Notes that a sync of the log succeeded and took this time.
@@ -507,36 +543,38 @@ impl Metrics {
 
     /// Notes that a write or sync of the log begins, when the machine runs for this long.
     pub fn note_write(&self, uptime: Duration) {
-        self.server.set(WRITE_BEGAN, nanoseconds_of(uptime).max(1));
+        self.server
+            .set(Count::WriteBegan as usize, nanoseconds_of(uptime).max(1));
     }
 
     /// Notes that no write or sync of the log is under way any more.
     pub fn note_written(&self) {
-        self.server.set(WRITE_BEGAN, 0);
+        self.server.set(Count::WriteBegan as usize, 0);
     }
 
     /// Notes whether the server, which is one of several machines, follows another.
     pub fn note_standby(&self, is_standby: bool) {
-        self.server.set(SHARED, 1);
-        self.server.set(STANDBY, u64::from(is_standby));
+        self.server.set(Count::Shared as usize, 1);
+        self.server
+            .set(Count::Standby as usize, u64::from(is_standby));
     }
 
     /// Counts entries of the log that the server reads as one that follows.
     pub fn note_followed(&self, entries: u64) {
-        self.server.add(FOLLOWED, entries);
+        self.server.add(Count::Followed as usize, entries);
     }
 
     /// Notes that the log failed, which it does for good.
     pub fn note_failure(&self) {
-        self.server.set(FAILED, 1);
+        self.server.set(Count::Failed as usize, 1);
     }
 }
 
-/// The place of the server's counter of users in this state.
-fn place_of_state(state: UserState) -> usize {
+/// The counter of users in this state.
+fn count_of(state: UserState) -> Count {
     match state {
-        UserState::Enrolled => ENROLLED,
-        UserState::Suspended => SUSPENDED,
+        UserState::Enrolled => Count::Enrolled,
+        UserState::Suspended => Count::Suspended,
     }
 }
 

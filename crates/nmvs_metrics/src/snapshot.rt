@@ -1,6 +1,6 @@
 //! The counts of a server at one moment.
 use crate::Metrics;
-use crate::registry::{CONFIRMED, FAMILIES, PerShard, Source};
+use crate::registry::{CONFIRMED, Count, PerShard, Source, families};
 use crate::times::empty;
 use std::alloc::{AllocError, Global};
 use std::time::Duration;
@@ -42,6 +42,19 @@ pub struct Bucket {
     pub count: u64,
 }
 
+/// What the system reports at one moment.
+#[derive(Clone, Copy)]
+pub struct SystemReading {
+    /// How long the machine runs.
+    pub uptime: Duration,
+    /// How many bytes of memory the process has, if the system reports it.
+    pub memory: Option<u64>,
+    /// How many files the process has open, sockets among them, if the system reports it.
+    pub open_files: Option<u64>,
+    /// How many it may have open, if the system reports it.
+    pub most_files: Option<u64>,
+}
+
 /// How often something took how long.
 #[derive(Drop)]
 pub struct Histogram {
@@ -51,9 +64,26 @@ pub struct Histogram {
     pub nanoseconds: u64,
 }
 
+/// One number, without a label.
+fn one(value: u64) -> Option<Values> {
+    Some(Values::One(value))
+}
+
+/// 1, with these two words.
+fn build(
+    alloc: Global,
+    version: &'static str,
+    toolchain: &'static str,
+) -> Result<Vec<Sample>, AllocError> {
+    let label = Label::Words(version, toolchain);
+    let mut samples = Vec::new(alloc);
+    samples.push(Sample { label, value: 1 })?;
+    Ok(samples)
+}
+
 impl Metrics {
-    /// The values of each family at this moment, when the machine runs for this long, in the order of the page. A family that the
-    /// server does not have has none. The process has these bytes of memory, if the system reports them.
+    /// The values of each family at the moment of this reading, in the order of the page. A family that the server does not have
+    /// has none.
     ///
     /// # Errors
     ///
@@ -61,12 +91,12 @@ impl Metrics {
     pub fn snapshot(
         &self,
         alloc: Global,
-        resident: Option<u64>,
-        uptime: Duration,
+        system: &SystemReading,
     ) -> Result<Vec<Option<Values>>, AllocError> {
-        let mut values = Vec::with_capacity(alloc, FAMILIES.len())?;
-        for family in FAMILIES {
-            values.push(self.values_of(alloc, family.source, resident, uptime)?)?;
+        let families = families();
+        let mut values = Vec::with_capacity(alloc, families.len())?;
+        for family in families {
+            values.push(self.values_of(alloc, family.source, system)?)?;
         }
         Ok(values)
     }
@@ -76,23 +106,27 @@ impl Metrics {
         &self,
         alloc: Global,
         source: Source,
-        resident: Option<u64>,
-        uptime: Duration,
+        system: &SystemReading,
     ) -> Result<Option<Values>, AllocError> {
         if !self.has(source) {
             return Ok(None);
         }
         let samples = match source {
-            Source::Server(place)
-            | Source::Given(place)
-            | Source::Log(place)
-            | Source::Shared(place) => return Ok(Some(Values::One(self.server.at(place)))),
-            Source::Since(place) => return Ok(Some(Values::Time(self.since(place, uptime)))),
-            Source::Total(place) => return Ok(Some(Values::One(self.total(place)))),
-            Source::Resident => return Ok(resident.map(|bytes| Values::One(bytes))),
+            Source::Server(count)
+            | Source::Given(count)
+            | Source::Log(count)
+            | Source::Shared(count) => return Ok(one(self.server.at(count as usize))),
+            Source::Since(count) => {
+                return Ok(Some(Values::Time(self.since(count, system.uptime))));
+            }
+            Source::Total(place) => return Ok(one(self.total(place))),
+            Source::Memory => return Ok(system.memory.and_then(one)),
+            Source::OpenFiles => return Ok(system.open_files.and_then(one)),
+            Source::MostFiles => return Ok(system.most_files.and_then(one)),
             Source::Replies => return self.replies(alloc),
             Source::Syncs => return self.sync_times(alloc),
-            Source::States(place, words) => self.states(alloc, place, words),
+            Source::Build(version, toolchain) => build(alloc, version, toolchain),
+            Source::States(counts) => self.states(alloc, counts),
             Source::Words(place, words) => self.words(alloc, place, words),
             Source::Pairs(place, words, others) => self.pairs(alloc, place, words, others),
             Source::Workers(place) => self.by_worker(alloc, place),
@@ -104,7 +138,7 @@ impl Metrics {
     /// Whether the server has values of this source.
     fn has(&self, source: Source) -> bool {
         match source {
-            Source::Given(place) => self.holds(place),
+            Source::Given(count) => self.holds(count),
             Source::Shared(_) => self.is_shared(),
             Source::Log(_)
             | Source::Since(_)
@@ -130,20 +164,17 @@ impl Metrics {
         Ok(Some(Values::Histogram(histogram)))
     }
 
-    /// The server's counters from this place on, each with its word.
+    /// These counters of the server, each with its word.
     fn states(
         &self,
         alloc: Global,
-        first: usize,
-        words: &[&'static str],
+        counts: &[(Count, &'static str)],
     ) -> Result<Vec<Sample>, AllocError> {
         let mut samples = Vec::new(alloc);
-        let mut place = first;
-        for word in words {
+        for (count, word) in counts {
             let label = Label::Word(*word);
-            let value = self.server.at(place);
+            let value = self.server.at(*count as usize);
             samples.push(Sample { label, value })?;
-            place = place.saturating_add(1);
         }
         Ok(samples)
     }

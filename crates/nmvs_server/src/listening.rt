@@ -1,8 +1,8 @@
 //! The sockets and ports at which a server listens.
 use crate::{Fault, Host};
-use libc::types::rlimit;
 use log::{Log, error, info, warn};
 use nmvs_connections::{HttpListener, Listener};
+use nmvs_exposition::most_files;
 use nmvs_operator::Options;
 use std::hash::RandomState;
 use std::io;
@@ -74,14 +74,9 @@ fn refused<'o, R: Log>(rt: &R, fault: Fault<'o>, error: io::Error) -> Fault<'o> 
 
 /// Logs how many descriptors the process may have, and warns if these are too few.
 fn tell_descriptors<R: Log>(rt: &R, options: &Options) {
-    let mut limit = rlimit {
-        rlim_cur: 0,
-        rlim_max: 0,
-    };
-    if libc::getrlimit(libc::RLIMIT_NOFILE, &mut limit) != 0 {
+    let Some(most) = most_files() else {
         return;
-    }
-    let most = limit.rlim_cur;
+    };
     let connections = options.connections;
     if most < (connections as u64).saturating_add(FURTHER_DESCRIPTORS) {
         warn!(rt; most, connections; "fewer descriptors than connections may be open: raise ulimit -n");

@@ -1,19 +1,10 @@
--- The answers over HTTP, by method and path, and when a server is ready (own).
-use Rattle.std.specs.Prelude.{ℕ, List, Bool, ◌||◌, codes, nat_lt, if◌then◌else◌}
+-- The answers over HTTP, by method and path (own).
+use Rattle.std.specs.Prelude.{ℕ, List, ◌||◌, codes, if◌then◌else◌}
 use Rattle.std.specs.Str.{bytes_eq}
 use Rattle.nmvs_metrics.specs.declared.readiness.Readiness.{Readiness}
 use Rattle.nmvs_metrics.specs.declared.readiness.Readiness.TheVariants.{Starting, Standby, Listening, LogFailed, LogHangs}
-use Rattle.nmvs_metrics.specs.declared.service.Content.{Content}
-use Rattle.nmvs_metrics.specs.declared.service.Content.TheVariants.{Metrics, Alive, Ready, NoPage, NoMethod}
-
--- the readiness of a server that listens or not, follows another or not, whose log failed or not, and whose write or sync has
--- taken this many nanoseconds: after 5 seconds the log hangs
-abbrev pub readiness : Bool → Bool → Bool → ℕ → Readiness
-readiness listens is_standby has_failed nanoseconds =
-    if has_failed then LogFailed
-    else (if is_standby then Standby
-    else (if nat_lt 5000000000 nanoseconds then LogHangs
-    else (if listens then Listening else Starting)))
+use Rattle.nmvs_exposition.specs.declared.service.Content.{Content}
+use Rattle.nmvs_exposition.specs.declared.service.Content.TheVariants.{Metrics, Alive, Ready, NoPage, NoMethod}
 
 -- the text of the answer to /readyz
 abbrev pub readiness_text : Readiness → List ℕ

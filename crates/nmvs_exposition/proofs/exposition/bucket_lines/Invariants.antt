@@ -1,6 +1,6 @@
 use Rattle.std.proofs.Common.{◌≡◌, ◌++◌, length, string_bytes}
-use Rattle.nmvs_metrics.specs.Page.{bucket_lines, bucket_count}
-use Rattle.nmvs_metrics.proofs.exposition.bucket_lines.Given as goal
+use Rattle.nmvs_exposition.specs.Page.{bucket_lines, bucket_count}
+use Rattle.nmvs_exposition.proofs.exposition.bucket_lines.Given as goal
 
 -- the lines of the buckets so far, and then of the rest, are the lines of all; and so it is with their count
 abbrev pub invariant-loop-rest : goal.invariant-loop-rest

@@ -1,21 +1,22 @@
 //! The port of metrics, over HTTP.
 ghost use Rattle.std.specs.Prelude.{◌<◌, vec_len};
 
-use crate::service::MetricsService;
-use crate::{ClockReading, Metrics, uptime};
+use crate::MetricsService;
+use crate::process::ProcessFiles;
 use http_server::{Config, Connection, Service};
 use log::{Log, warn};
 use mio::net::{TcpListener, TcpStream};
 use mio::{Events, Interest, Poll, Token};
+use nmvs_metrics::{ClockReading, Metrics};
 use std::alloc::{AllocError, Global};
 use std::fs::File;
 use std::hash::RandomState;
+use std::io;
 use std::io::ErrorKind;
 use std::net::{Net, Shutdown, SocketAddr};
 use std::random::RandomSource;
 use std::rt::{Clock, Files};
 use std::time::{Duration, Instant};
-use std::{fs, io};
 
 /// How many clients are served at once at most: the next one takes the place of the first (own).
 const MOST_CLIENTS: usize = 16;
@@ -32,9 +33,6 @@ const TICK: u64 = 200;
 /// The most reads and writes of a client one after the other, while others may wait (own).
 const MOST_STEPS: u64 = 64;
 
-/// The file that reports how much memory the process has (Linux, proc(5)).
-const MEMORY: &str = "/proc/self/statm";
-
 /// The token of the listener and of each client: at each wake-up all of them are looked at.
 const ANY: Token = Token(0);
 
@@ -43,8 +41,7 @@ const ANY: Token = Token(0);
 pub struct MetricsListener {
     listener: TcpListener,
     poll: Poll,
-    /// The system's report of the memory of the process, if there is one.
-    memory: Option<File>,
+    process: ProcessFiles,
 }
 
 impl MetricsListener {
@@ -61,11 +58,11 @@ impl MetricsListener {
         let poll = Poll::new(rt)?;
         poll.registry()
             .register(&mut listener, ANY, Interest::READABLE)?;
-        let memory = fs::open(rt, MEMORY).ok();
+        let process = ProcessFiles::open(rt);
         Ok(MetricsListener {
             listener,
             poll,
-            memory,
+            process,
         })
     }
 
@@ -126,9 +123,7 @@ impl MetricsListener {
             }
             check_clock(rt, metrics, &mut clock);
             let now = Instant::now(rt)?;
-            let memory = self.memory.as_ref();
-            let uptime = uptime().unwrap_or(Duration::ZERO);
-            let mut service = MetricsService::new(alloc, metrics, memory, uptime);
+            let mut service = MetricsService::new(alloc, metrics, self.process.read());
             step_all(&mut service, now, clients);
             self.accept_all(rt, alloc, now, &mut service, clients);
         }

@@ -1,10 +1,10 @@
 //! The page of metrics.
 ghost use Rattle.std.specs.Prelude.{◌≡◌, ◌++◌, IfOk, OnOk, map, string_bytes};
 ghost use Rattle.std.specs.List.{flat_map};
-ghost use Rattle.nmvs_metrics.specs.Page as specs;
+ghost use Rattle.nmvs_metrics.specs.Families.{row_of};
+ghost use Rattle.nmvs_exposition.specs.Page as specs;
 
-use crate::registry::{FAMILIES, Family};
-use crate::{Bucket, Histogram, Label, Sample, Values};
+use nmvs_metrics::{Bucket, Family, Histogram, Label, Sample, Values, families};
 use std::alloc::{AllocError, Global};
 
 /// The values of the families, in their order, as a page in the text format of Prometheus, version 0.0.4. A family without
@@ -18,7 +18,7 @@ pub fn encode(alloc: Global, values: &[Option<Values>]) -> Result<String, AllocE
     ensures { IfOk result (λ text. string_bytes text ≡ specs.page values.now) }
 {
     let mut text = String::new(alloc);
-    append_samples(alloc, FAMILIES, values, &mut text)?;
+    append_samples(alloc, families(), values, &mut text)?;
     Ok(text)
 }
 
@@ -29,7 +29,7 @@ fn append_samples(
     values: &[Option<Values>],
     text: &mut String,
 ) -> Result<(), AllocError>
-    ensures { OnOk result (string_bytes text.new ≡ string_bytes text.old ++ specs.samples (map specs.row_of families.now) values.now) }
+    ensures { OnOk result (string_bytes text.new ≡ string_bytes text.old ++ specs.samples (map row_of families.now) values.now) }
 {
     let (mut families, mut values) = (families, values);
     while let [family, later @ ..] = families {
@@ -50,7 +50,7 @@ fn family_text(
     family: &Family,
     values: &Option<Values>,
 ) -> Result<String, AllocError>
-    ensures { IfOk result (λ text. string_bytes text ≡ specs.family_text (specs.row_of family.now) values.now) }
+    ensures { IfOk result (λ text. string_bytes text ≡ specs.family_text (row_of family.now) values.now) }
 {
     match values {
         Some(values) => {
@@ -69,7 +69,7 @@ fn family_text(
 
 /// The lines of a family's samples.
 fn lines_of(alloc: Global, family: &Family, values: &Values) -> Result<String, AllocError>
-    ensures { IfOk result (λ text. string_bytes text ≡ specs.lines_of (specs.row_of family.now) values.now) }
+    ensures { IfOk result (λ text. string_bytes text ≡ specs.lines_of (row_of family.now) values.now) }
 {
     let name = family.name;
     match values {
@@ -81,7 +81,7 @@ fn lines_of(alloc: Global, family: &Family, values: &Values) -> Result<String, A
 }
 
 fn labelled_lines(alloc: Global, family: &Family, samples: &[Sample]) -> Result<String, AllocError>
-    ensures { IfOk result (λ text. string_bytes text ≡ flat_map (specs.labelled_line (specs.row_of family.now)) samples.now) }
+    ensures { IfOk result (λ text. string_bytes text ≡ flat_map (specs.labelled_line (row_of family.now)) samples.now) }
 {
     let mut text = String::new(alloc);
     for sample in samples {
@@ -92,7 +92,7 @@ fn labelled_lines(alloc: Global, family: &Family, samples: &[Sample]) -> Result<
 }
 
 fn labelled_line(alloc: Global, family: &Family, sample: &Sample) -> Result<String, AllocError>
-    ensures { IfOk result (λ line. string_bytes line ≡ specs.labelled_line (specs.row_of family.now) sample.now) }
+    ensures { IfOk result (λ line. string_bytes line ≡ specs.labelled_line (row_of family.now) sample.now) }
 {
     let Family {
         name,

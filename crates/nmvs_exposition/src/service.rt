@@ -1,25 +1,19 @@
 //! The answers to clients over HTTP.
 ghost use Rattle.std.specs.Prelude.{◌≡◌};
-ghost use Rattle.nmvs_metrics.specs.Visits as specs;
+ghost use Rattle.nmvs_exposition.specs.Visits as specs;
 
-use crate::readiness::{Readiness, status_of, text_of};
-use crate::{Metrics, encode};
+use crate::encode;
 use bytes::{BufMut, Bytes};
 use http::{HeaderValue, Request, StatusCode, header};
 use http_server::{Response, Service};
+use nmvs_metrics::{Metrics, Readiness, SystemReading};
 use std::alloc::{AllocError, Global};
-use std::fs::File;
-use std::os::unix::fs::FileExt;
-use std::time::Duration;
 
 /// The type of the page of metrics.
 const METRICS_TYPE: &str = "text/plain; version=0.0.4; charset=utf-8";
 
 /// The type of the other answers.
 const TEXT_TYPE: &str = "text/plain; charset=utf-8";
-
-/// The bytes of a page of memory, as the kernel counts.
-const PAGE_SIZE: u64 = 4_096;
 
 /// The answer to a request.
 #[derive(Clone, Copy)]
@@ -47,16 +41,40 @@ pub(crate) fn told(method: &str, path: &str, readiness: Readiness) -> Content
     }
 }
 
-/// Answers the requests of all clients.
-#[derive(Drop)]
-pub struct MetricsService<'p, 'm> {
-    alloc: Global,
-    metrics: &'p Metrics,
-    memory: Option<&'m File>,
-    uptime: Duration,
+/// The text of the answer to `/readyz`.
+pub(crate) fn text_of(readiness: Readiness) -> &'static str
+    ensures { result.now ≡ specs.readiness_text readiness }
+{
+    match readiness {
+        Readiness::Starting => "starting\n",
+        Readiness::Standby => "standby\n",
+        Readiness::Listening => "ok\n",
+        Readiness::LogFailed => "log failed\n",
+        Readiness::LogHangs => "log hangs\n",
+    }
 }
 
-impl<'p, 'm> Service for MetricsService<'p, 'm> {
+/// The status of the answer to `/readyz`.
+pub(crate) fn status_of(readiness: Readiness) -> StatusCode
+    ensures { result ≡ specs.readiness_status readiness }
+{
+    match readiness {
+        Readiness::Listening => StatusCode::OK,
+        Readiness::Starting | Readiness::Standby | Readiness::LogFailed | Readiness::LogHangs => {
+            StatusCode::SERVICE_UNAVAILABLE
+        }
+    }
+}
+
+/// Answers the requests of all clients.
+#[derive(Drop)]
+pub struct MetricsService<'p> {
+    alloc: Global,
+    metrics: &'p Metrics,
+    system: SystemReading,
+}
+
+impl<'p> Service for MetricsService<'p> {
     // No contract can say what is counted meanwhile.
     ghost answers = { λ _ _ _ _. Unit {0} };
 
@@ -68,7 +86,7 @@ impl<'p, 'm> Service for MetricsService<'p, 'm> {
         // One answer a connection: the next client does not wait for a client that stays.
         response.add_header(header::CONNECTION, HeaderValue::from_static("close"))?;
         let (method, path) = (request.method().as_str(), request.uri().path());
-        match told(method, path, self.metrics.readiness(self.uptime)) {
+        match told(method, path, self.metrics.readiness(self.system.uptime)) {
             Content::Metrics => {
                 let page = self.page()?;
                 put(response, HeaderValue::from_static(METRICS_TYPE), &page)
@@ -87,27 +105,19 @@ impl<'p, 'm> Service for MetricsService<'p, 'm> {
     }
 }
 
-impl<'p, 'm> MetricsService<'p, 'm> {
-    /// Answers with these metrics, when the machine runs for this long. The file is the system's report of the memory of the
-    /// process, if there is one.
-    pub fn new(
-        alloc: Global,
-        metrics: &'p Metrics,
-        memory: Option<&'m File>,
-        uptime: Duration,
-    ) -> MetricsService<'p, 'm> {
+impl<'p> MetricsService<'p> {
+    /// Answers with these metrics, and with what the system reports.
+    pub fn new(alloc: Global, metrics: &'p Metrics, system: SystemReading) -> MetricsService<'p> {
         MetricsService {
             alloc,
             metrics,
-            memory,
-            uptime,
+            system,
         }
     }
 
     /// The page of the metrics as they are now.
     fn page(&self) -> Result<String, AllocError> {
-        let resident = self.memory.and_then(|file| resident(file));
-        let values = self.metrics.snapshot(self.alloc, resident, self.uptime)?;
+        let values = self.metrics.snapshot(self.alloc, &self.system)?;
         encode(self.alloc, &values)
     }
 }
@@ -121,18 +131,4 @@ fn answer(response: &mut Response, status: StatusCode, text: &str) -> Result<(),
 fn put(response: &mut Response, kind: HeaderValue, text: &str) -> Result<(), AllocError> {
     response.add_header(header::CONTENT_TYPE, kind)?;
     response.body.put_slice(text.as_bytes())
-}
-
-/// How many bytes of memory the process has, if the system reports it.
-fn resident(memory: &File) -> Option<u64> {
-    let mut buffer = [0; 128];
-    let count = memory.read_at(&mut buffer, 0).ok()?;
-    resident_in(str::from_utf8(buffer.get(..count)?).ok()?)
-}
-
-/// How many bytes of memory a process has, by the text of its `/proc/PID/statm` (Linux, proc(5)): its second number counts
-/// pages.
-pub fn resident_in(text: &str) -> Option<u64> {
-    let pages: u64 = text.split_whitespace().nth(1)?.parse().ok()?;
-    pages.checked_mul(PAGE_SIZE)
 }

@@ -1,6 +1,7 @@
 use Rattle.std.proofs.Common.{◌≡◌, ◌++◌, length, map, string_bytes}
-use Rattle.nmvs_metrics.specs.Page.{row_of, samples}
-use Rattle.nmvs_metrics.proofs.exposition.append_samples.Given as goal
+use Rattle.nmvs_exposition.specs.Page.{samples}
+use Rattle.nmvs_metrics.specs.Families.{row_of}
+use Rattle.nmvs_exposition.proofs.exposition.append_samples.Given as goal
 
 abbrev pub invariant-loop-families : goal.invariant-loop-families
 invariant-loop-families l =
