@@ -1,4 +1,5 @@
 pub mod Options
+pub mod Config
 pub mod Users
 pub mod Orders
 pub mod Figures

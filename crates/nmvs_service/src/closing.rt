@@ -44,7 +44,7 @@ pub(crate) fn mark_all<'r, 'o, R: Host>(
 
 /// Whether an engine keeps the log on several machines. The file of this machine is a copy then, without marks.
 fn is_shared<R>(config: &Config<'_, '_, R>) -> bool {
-    config.run.options.engine.is_some()
+    config.run.options.cluster.is_some()
 }
 
 /// Gives the turn up, if the operator hands over. All of the logs is confirmed before. It logs whether it did.

@@ -159,7 +159,7 @@ fn serve_clerks<
 fn watch_of<'o, R: Host>(config: &Config<'_, 'o, R>, paths: Option<&Paths<'o>>) -> Watch {
     let run = &config.run;
     match paths {
-        Some(paths) if run.options.engine.is_none() => Watch::over(fs::open(
+        Some(paths) if run.options.cluster.is_none() => Watch::over(fs::open(
             run.rt,
             &paths.trail,
         ).ok()),
@@ -255,10 +255,12 @@ fn with_beat<'f, 'r, H: Histories + LogName>(
     options: &Options,
     log: CommitLog<'f, 'r, LogStore<'r>, H, H>,
 ) -> CommitLog<'f, 'r, LogStore<'r>, H, H> {
-    if options.engine.is_none() {
-        return log;
+    match &options.cluster {
+        Some(cluster) => log.with_beat(Duration::from_millis(
+            cluster.silence.saturating_mul(1_000) / BEATS,
+        )),
+        None => log,
     }
-    log.with_beat(Duration::from_millis(options.silence.saturating_mul(1_000) / BEATS))
 }
 
 /// The pool of this many workers, with a poller for each, and one for the thread that accepts.
