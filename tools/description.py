@@ -113,9 +113,10 @@ def problems_text():
     """The page of problems: of each fault, by its word, what it says, what to do, and whether the question may be recorded."""
     examples = DESCRIPTION["components"]["examples"].values()
     faults = sorted((one["value"]["fault"], one["value"], one["summary"]) for one in examples if "fault" in one["value"])
+    more = {"CODE": f"<p><code>scan</code>: {html.escape(at('#/components/schemas/Problem/properties/scan')['description'])}</p>\n"}
     rows = "".join(
         f'<h2 id="{word}">{word}</h2>\n<p>Status {it["status"]}, {html.escape(it["title"])}. {html.escape(it["detail"])}</p>\n'
-        f'<p>{html.escape(summary[0].upper() + summary[1:])}. The question is {"recorded or not" if it["recorded"] == "unknown" else "not recorded"}.</p>\n'
+        f'<p>{html.escape(summary[0].upper() + summary[1:])}. The question is {"recorded or not" if it["recorded"] == "unknown" else "not recorded"}.</p>\n{more.get(word, "")}'
         for word, it, summary in faults
     )
     return f'<!doctype html>\n<html lang="en">\n<meta charset="utf-8">\n<title>Problems</title>\n<h1>Problems</h1>\n{rows}</html>\n'

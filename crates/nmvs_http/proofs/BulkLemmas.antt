@@ -3,7 +3,6 @@ use Rattle.std.proofs.Common.{◌≡◌, ◌+◌, ℕ, Bool, true, false, List, 
 use Rattle.std.specs.Prelude.{IsSomeAnd, option_and_then}
 use Rattle.std.specs.List.{AllByRecursion}
 use Rattle.json.specs.Json.{Json}
-use Rattle.nmvs_rules.specs.declared.printed.Printed.{Printed}
 use Rattle.nmvs_words.specs.Words.{spaced}
 use Rattle.nmvs_stream.specs.InputLines.{HasNoLf, input_lines, lines_after}
 use Rattle.nmvs_stream.proofs.LinesOfPieces.{line_cut}
@@ -17,6 +16,7 @@ use Rattle.nmvs_json.specs.declared.refusal.Refusal.{Refusal}
 use Rattle.nmvs_json.specs.Bulks.{bulk_lines, item_fields, item_key, item_kind, item_line, item_line_with, item_lines, item_scanned, items_in, line_and, numbered, lines_of_items, lines_of_object, others_of}
 use Rattle.nmvs_json.specs.Questions.{fields_of, is_key, key_text, line_of, object_in, with_scanned}
 use Rattle.nmvs_json.specs.Replies.{bodies, body_text, body_where, bulk_text, first_line, first_word, places_of, separated}
+use Rattle.nmvs_json.specs.Scans.{Scanned}
 use Rattle.nmvs_http.specs.BulkLaws.{AreLinesOf, IsAnsweredByBodies, IsAskedByLines, IsLineText}
 use Rattle.nmvs_http.proofs.OneLineLemmas.{AreFields, IsLine, are_fields, is_line}
 
@@ -84,7 +84,7 @@ asked_by_lines body bulk e = by (object_in body) e
     told js (Err f) p e = absurd (cc e)
     told js (Ok lines) p e =
         let same : (map item_scanned js, lines) ≡ bulk = cc e in
-        (sym (ap (λ (b : List (Option Printed) × List ℕ). b.0) same), subst (λ (b : List (Option Printed) × List ℕ). AreLinesOf js (input_lines b.1)) same (lines_are js 0 lines p))
+        (sym (ap (λ (b : List (Option Scanned) × List ℕ). b.0) same), subst (λ (b : List (Option Scanned) × List ℕ). AreLinesOf js (input_lines b.1)) same (lines_are js 0 lines p))
 
     on : (o : Option (List Json)) → lines_of_items o ≡ Ok bulk → IsSomeAnd o (λ items. (bulk.0 ≡ map item_scanned items) × AreLinesOf items (input_lines bulk.1))
     on None e = absurd (cc e)
@@ -95,13 +95,13 @@ asked_by_lines body bulk e = by (object_in body) e
     by (Some j) e = on (items_in j) e
 
 -- the bodies of no answers
-none_answered : (missing : List (Option Printed)) → bodies missing (input_lines []) ≡ map (λ scanned. body_text scanned []) missing
+none_answered : (missing : List (Option Scanned)) → bodies missing (input_lines []) ≡ map (λ scanned. body_text scanned []) missing
 unfolding bodies body_text lines_after
 none_answered [] = refl
 none_answered (scanned ∷ missing) = ap (λ (later : List (List ℕ)). body_text scanned [] ∷ later) (none_answered missing)
 
 -- the body of an answer of one line, before more bodies
-one_answered : (scanned : Option Printed) (others : List (Option Printed)) (bytes rest : List ℕ) → (x : IsLineText bytes) → bodies (scanned ∷ others) (input_lines (bytes ++ rest)) ≡ body_text scanned bytes ∷ bodies others (input_lines rest)
+one_answered : (scanned : Option Scanned) (others : List (Option Scanned)) (bytes rest : List ℕ) → (x : IsLineText bytes) → bodies (scanned ∷ others) (input_lines (bytes ++ rest)) ≡ body_text scanned bytes ∷ bodies others (input_lines rest)
 unfolding bodies body_text lines_after
 one_answered scanned others bytes rest x =
     let cut = one_more bytes x.line rest x.whole x refl in
@@ -110,15 +110,15 @@ one_answered scanned others bytes rest x =
     ∙ ap (λ (b : List ℕ). b ∷ bodies others (input_lines rest)) (sym (ap (λ (ls : List (List ℕ)). body_where (places_of (first_word (first_line ls))) scanned (first_line ls) (drop 1 ls)) own))
 
 -- an answer, after the scanned values of its question
-abbrev Scanned : Type 0
-Scanned = Option Printed × Answer
+abbrev Said : Type 0
+Said = Option Scanned × Answer
 
-answered : (said : List Scanned) (missing : List (Option Printed)) → AllByRecursion (λ (a : Scanned). IsLineText (text a.1)) said
-    → bodies (map (λ (a : Scanned). a.0) said ++ missing) (input_lines (session_text (map (λ (a : Scanned). a.1) said)))
-    ≡ map (λ (a : Scanned). body_text a.0 (text a.1)) said ++ map (λ scanned. body_text scanned []) missing
+answered : (said : List Said) (missing : List (Option Scanned)) → AllByRecursion (λ (a : Said). IsLineText (text a.1)) said
+    → bodies (map (λ (a : Said). a.0) said ++ missing) (input_lines (session_text (map (λ (a : Said). a.1) said)))
+    ≡ map (λ (a : Said). body_text a.0 (text a.1)) said ++ map (λ scanned. body_text scanned []) missing
 answered [] missing lines = none_answered missing
 answered (a ∷ said) missing lines =
-    one_answered a.0 (map (λ (b : Scanned). b.0) said ++ missing) (text a.1) (session_text (map (λ (b : Scanned). b.1) said)) lines.0
+    one_answered a.0 (map (λ (b : Said). b.0) said ++ missing) (text a.1) (session_text (map (λ (b : Said). b.1) said)) lines.0
     ∙ ap (λ (later : List (List ℕ)). body_text a.0 (text a.1) ∷ later) (answered said missing lines.1)
 
 pub answered_by_bodies : IsAnsweredByBodies

@@ -10,10 +10,7 @@ use Rattle.std.proofs.lemmas.List.Splits.{slice_split_at, slice_split_none}
 use Rattle.std.proofs.lemmas.Option.{same_Some}
 use Rattle.json.specs.Find.{as_str, get}
 use Rattle.json.specs.Json.{Json}
-use Rattle.nmvs_identifier.specs.Batch.{is_batch}
-use Rattle.nmvs_identifier.specs.Expiry.{is_expiry}
-use Rattle.nmvs_identifier.proofs.PlainTexts.{is_plain, all_weaker, plain_batch, plain_expiry, plain_tag}
-use Rattle.nmvs_rules.specs.declared.printed.Printed.{Printed}
+use Rattle.nmvs_identifier.proofs.PlainTexts.{is_plain, all_weaker, plain_tag}
 use Rattle.nmvs_words.specs.Kinds.{kind_word}
 use Rattle.nmvs_words.specs.Words.{followed, spaced}
 use Rattle.nmvs_words.proofs.PlainWords.{word_plain}
@@ -26,9 +23,9 @@ use Rattle.nmvs_json.specs.declared.asked_kind.AskedKind.{AskedKind}
 use Rattle.nmvs_json.specs.declared.asked_kind.AskedKind.TheVariants.{Question, Report}
 use Rattle.nmvs_json.specs.declared.refusal.Refusal.{Refusal}
 use Rattle.nmvs_json.specs.declared.question_fault.QuestionFault.TheVariants as fault
-use Rattle.nmvs_json.specs.Questions.{as_field, as_user, condition_texts, count_of, fields_of, has_condition, has_scan, has_scanned, is_field, is_key, is_matching, is_misread, key_text, line_of, line_of_object, name_texts, names_of, object_in, pack_texts, placed, printed_in, printed_of, printed_texts, question_line, said_in, scan_printed, scan_values, scanned_in, scanned_of, shown_texts, string_of, subject_count, subject_of, text_of, texts_of, user_of, with_scanned, within, word_of, wrong_member, values_in}
+use Rattle.nmvs_json.specs.Questions.{as_field, as_user, condition_texts, count_of, fields_of, has_condition, has_scan, has_scanned, is_field, is_key, is_matching, is_misread, key_text, line_of, line_of_object, name_texts, names_of, object_in, pack_texts, placed, printed_texts, question_line, said_in, scan_printed, scan_values, scanned_in, scanned_of, shown_texts, string_of, subject_count, subject_of, text_of, texts_of, user_of, with_scanned, word_of, wrong_member, values_in}
 use Rattle.nmvs_json.specs.Refusals.{whole}
-use Rattle.nmvs_json.specs.Scans.{pack_in}
+use Rattle.nmvs_json.specs.Scans.{Scanned, scan_in}
 use Rattle.nmvs_json.proofs.ScanLemmas.{printed_plain, texts_plain}
 use Rattle.nmvs_http.specs.OneLine.{IsAskedByOneLine, IsOneLine, fields_behind, key_tag}
 
@@ -119,60 +116,12 @@ all_both (t ∷ ts) us a b = (a.0, all_both ts us a.1 b)
 names_graphic : (kind : AskedKind) (j : Json) (ts : List (List ℕ)) → name_texts kind j ≡ Some ts → AllByRecursion IsGraphic ts
 names_graphic kind j ts e = by (has_scan kind j) (string_of (codes "scan") j) e
   where
-    by : (b : Bool) (o : Option (List ℕ)) → cond b (option_map (λ scan. pack_texts (pack_in scan)) o) (texts_of (names_of kind) j) ≡ Some ts → AllByRecursion IsGraphic ts
+    by : (b : Bool) (o : Option (List ℕ)) → cond b (option_map (λ scan. pack_texts (scan_in scan)) o) (texts_of (names_of kind) j) ≡ Some ts → AllByRecursion IsGraphic ts
     by true None e = absurd (cc e)
-    by true (Some scan) e = subst (λ (us : List (List ℕ)). AllByRecursion IsGraphic us) (same_Some (pack_texts (pack_in scan)) ts e) (all_graphic (pack_texts (pack_in scan)) (texts_plain scan))
+    by true (Some scan) e = subst (λ (us : List (List ℕ)). AllByRecursion IsGraphic us) (same_Some (pack_texts (scan_in scan)) ts e) (all_graphic (pack_texts (scan_in scan)) (texts_plain scan))
     by false o e = texts_graphic (names_of kind) j ts e
 
--- and so are the values that are printed on a pack
-within_back : (grammar : List ℕ → Bool) (o : Option (List ℕ)) (t : List ℕ) → within grammar o ≡ Some t → grammar t ≡ true
-within_back grammar None t e = absurd (cc e)
-within_back grammar (Some s) t e = by (grammar s) refl e
-  where
-    by : (b : Bool) → grammar s ≡ b → cond b (Some s) None ≡ Some t → grammar t ≡ true
-    by false p e = absurd (cc e)
-    by true p e = subst (λ (u : List ℕ). grammar u ≡ true) (same_Some s t e) p
-
-in_graphic : (j : Json) (printed : Printed) → printed_in j ≡ Some printed → AllByRecursion IsGraphic (printed_texts (Some printed))
-unfolding printed_in
-in_graphic j printed e = by (count_of j == 2) (within is_batch (string_of (codes "batch") j)) refl (within is_expiry (string_of (codes "expiry") j)) refl e
-  where
-    by : (t : Bool) (o : Option (List ℕ)) → within is_batch (string_of (codes "batch") j) ≡ o → (r : Option (List ℕ)) → within is_expiry (string_of (codes "expiry") j) ≡ r
-        → cond t (option_and_then (λ batch. option_map (λ expiry. printed_of batch expiry) r) o) None ≡ Some printed → AllByRecursion IsGraphic (printed_texts (Some printed))
-    by false o p r q e = absurd (cc e)
-    by true None p r q e = absurd (cc e)
-    by true (Some batch) p None q e = absurd (cc e)
-    by true (Some batch) p (Some expiry) q e =
-        subst (λ (v : Printed). AllByRecursion IsGraphic (printed_texts (Some v))) (same_Some (printed_of batch expiry) printed e)
-        (plain-graphic batch (plain_batch batch (within_back is_batch (string_of (codes "batch") j) batch p)).2, (plain-graphic expiry (plain_expiry expiry (within_back is_expiry (string_of (codes "expiry") j) expiry q)).2, tt))
-
-printed_graphic : (kind : AskedKind) (j : Json) (scanned : Option Printed) → scanned_of kind j ≡ Some scanned → AllByRecursion IsGraphic (printed_texts scanned)
-unfolding scanned_of
-printed_graphic kind j scanned e = by (has_scanned kind j) (get (codes "scanned") j) e
-  where
-    none : None ≡ scanned → AllByRecursion IsGraphic (printed_texts scanned)
-    none same = subst (λ (s : Option Printed). AllByRecursion IsGraphic (printed_texts s)) same (refl, (refl, tt))
-
-    read : (v : Json) (o : Option Printed) → printed_in v ≡ o → o ≡ scanned → AllByRecursion IsGraphic (printed_texts scanned)
-    read v None p e = none e
-    read v (Some printed) p e = subst (λ (s : Option Printed). AllByRecursion IsGraphic (printed_texts s)) e (in_graphic v printed p)
-
-    its : (v : Json) (o : Option (List (List ℕ))) → option_map (λ _. printed_in v) o ≡ Some scanned → AllByRecursion IsGraphic (printed_texts scanned)
-    its v None e = absurd (cc e)
-    its v (Some ts) e = read v (printed_in v) refl (same_Some (printed_in v) scanned e)
-
-    on : (b : Bool) (o : Option (List ℕ)) → Some (cond b (option_and_then (λ scan. scan_printed (pack_in scan)) o) None) ≡ Some scanned → AllByRecursion IsGraphic (printed_texts scanned)
-    on false o e = none (same_Some None scanned e)
-    on true None e = none (same_Some None scanned e)
-    on true (Some scan) e =
-        subst (λ (s : Option Printed). AllByRecursion IsGraphic (printed_texts s)) (same_Some (scan_printed (pack_in scan)) scanned e) (all_graphic (printed_texts (scan_printed (pack_in scan))) (printed_plain scan))
-
-    by : (b : Bool) (r : Option Json) → cond b (option_and_then values_in r) (Some (scan_values kind j)) ≡ Some scanned → AllByRecursion IsGraphic (printed_texts scanned)
-    by true None e = absurd (cc e)
-    by true (Some v) e = its v (said_in v) e
-    by false r e = on (has_scan kind j) (string_of (codes "scan") j) e
-
--- misread texts are such fields
+-- and so are those of the member scanned, and the values of a scan
 said_graphic : (v : Json) (ts : List (List ℕ)) → said_in v ≡ Some ts → AllByRecursion IsGraphic ts
 said_graphic v ts e = by (count_of v == 2) e
   where
@@ -180,19 +129,29 @@ said_graphic v ts e = by (count_of v == 2) e
     by false e = absurd (cc e)
     by true e = texts_graphic (codes "batch" ∷ codes "expiry" ∷ []) v ts e
 
-shown_graphic : (kind : AskedKind) (j : Json) (scanned : Option Printed) (ts : List (List ℕ)) → AllByRecursion IsGraphic (printed_texts scanned) → shown_texts kind j scanned ≡ Some ts → AllByRecursion IsGraphic ts
-shown_graphic kind j scanned ts printed e = by (is_misread kind j scanned) (get (codes "scanned") j) e
+shown_graphic : (kind : AskedKind) (j : Json) (scanned : Option Scanned) (ts : List (List ℕ)) → scanned_of kind j ≡ Some scanned → shown_texts kind j scanned ≡ Some ts → AllByRecursion IsGraphic ts
+unfolding scanned_of
+shown_graphic kind j scanned ts is e = by (has_scanned kind j) (get (codes "scanned") j) is e
   where
-    by : (b : Bool) (r : Option Json) → cond b (option_and_then said_in r) (Some (printed_texts scanned)) ≡ Some ts → AllByRecursion IsGraphic ts
-    by true None e = absurd (cc e)
-    by true (Some v) e = said_graphic v ts e
-    by false r e = subst (λ (us : List (List ℕ)). AllByRecursion IsGraphic us) (same_Some (printed_texts scanned) ts e) printed
+    none : None ≡ scanned → AllByRecursion IsGraphic (printed_texts scanned)
+    none same = subst (λ (s : Option Scanned). AllByRecursion IsGraphic (printed_texts s)) same (refl, (refl, tt))
 
-condition_graphic : (kind : AskedKind) (j : Json) (scanned : Option Printed) (ts : List (List ℕ)) → AllByRecursion IsGraphic (printed_texts scanned) → condition_texts kind j scanned ≡ Some ts → AllByRecursion IsGraphic ts
+    printed : (b : Bool) (o : Option (List ℕ)) → Some (cond b (option_map (λ scan. scan_printed (scan_in scan)) o) None) ≡ Some scanned → AllByRecursion IsGraphic (printed_texts scanned)
+    printed false o is = none (same_Some None scanned is)
+    printed true None is = none (same_Some None scanned is)
+    printed true (Some scan) is =
+        subst (λ (s : Option Scanned). AllByRecursion IsGraphic (printed_texts s)) (same_Some (Some (scan_printed (scan_in scan))) scanned is) (all_graphic (printed_texts (Some (scan_printed (scan_in scan)))) (printed_plain scan))
+
+    by : (b : Bool) (r : Option Json) → cond b (option_and_then values_in r) (Some (scan_values kind j)) ≡ Some scanned → cond b (option_and_then said_in r) (Some (printed_texts scanned)) ≡ Some ts → AllByRecursion IsGraphic ts
+    by true None is e = absurd (cc e)
+    by true (Some v) is e = said_graphic v ts e
+    by false r is e = subst (λ (us : List (List ℕ)). AllByRecursion IsGraphic us) (same_Some (printed_texts scanned) ts e) (printed (has_scan kind j) (string_of (codes "scan") j) is)
+
+condition_graphic : (kind : AskedKind) (j : Json) (scanned : Option Scanned) (ts : List (List ℕ)) → scanned_of kind j ≡ Some scanned → condition_texts kind j scanned ≡ Some ts → AllByRecursion IsGraphic ts
 unfolding condition_texts
-condition_graphic kind j scanned ts printed e =
+condition_graphic kind j scanned ts is e =
     by (has_condition kind j && not (is_matching (string_of (codes "if_scanned") j))) (has_condition kind j || is_misread kind j scanned) (shown_texts kind j scanned)
-    (λ us same. shown_graphic kind j scanned us printed same) e
+    (λ us same. shown_graphic kind j scanned us is same) e
   where
     by : (refuses asks : Bool) (o : Option (List (List ℕ))) → ((us : List (List ℕ)) → o ≡ Some us → AllByRecursion IsGraphic us)
         → cond refuses None (cond asks (option_map (λ us. codes "IF" ∷ us) o) (Some [])) ≡ Some ts → AllByRecursion IsGraphic ts
@@ -205,14 +164,14 @@ subject_graphic : (kind : AskedKind) (j : Json) (ts : List (List ℕ)) → subje
 unfolding subject_of
 subject_graphic kind j ts e = by (name_texts kind j) refl (scanned_of kind j) refl e
   where
-    on : (names : List (List ℕ)) → name_texts kind j ≡ Some names → (scanned : Option Printed) → scanned_of kind j ≡ Some scanned → (r : Option (List (List ℕ))) → condition_texts kind j scanned ≡ r
+    on : (names : List (List ℕ)) → name_texts kind j ≡ Some names → (scanned : Option Scanned) → scanned_of kind j ≡ Some scanned → (r : Option (List (List ℕ))) → condition_texts kind j scanned ≡ r
         → option_map (λ condition. names ++ condition) r ≡ Some ts → AllByRecursion IsGraphic ts
     on names p scanned q None s e = absurd (cc e)
     on names p scanned q (Some condition) s e =
         subst (λ (us : List (List ℕ)). AllByRecursion IsGraphic us) (same_Some (names ++ condition) ts e)
-        (all_both names condition (names_graphic kind j names p) (condition_graphic kind j scanned condition (printed_graphic kind j scanned q) s))
+        (all_both names condition (names_graphic kind j names p) (condition_graphic kind j scanned condition q s))
 
-    by : (o : Option (List (List ℕ))) → name_texts kind j ≡ o → (r : Option (Option Printed)) → scanned_of kind j ≡ r
+    by : (o : Option (List (List ℕ))) → name_texts kind j ≡ o → (r : Option (Option Scanned)) → scanned_of kind j ≡ r
         → option_and_then (λ names. option_and_then (λ scanned. option_map (λ condition. names ++ condition) (condition_texts kind j scanned)) r) o ≡ Some ts → AllByRecursion IsGraphic ts
     by None p r q e = absurd (cc e)
     by (Some names) p None q e = absurd (cc e)
@@ -295,7 +254,7 @@ is_line key fields bytes e a is =
 is_one_line : (key : Option (List ℕ)) (fields : List (List ℕ)) (bytes : List ℕ) → IsLine bytes key fields → IsOneLine bytes (key_tag key) fields
 is_one_line key fields bytes l = record { line = l.line; one = ap input_lines l.whole ∙ one_line l.line l.no_lf; tagged = l.tagged; behind = l.behind }
 
-abbrev line_or_none : Result (Option Printed × List ℕ) Refusal → List ℕ
+abbrev line_or_none : Result (Option Scanned × List ℕ) Refusal → List ℕ
 line_or_none (Ok question) = question.1
 line_or_none (Err f) = []
 

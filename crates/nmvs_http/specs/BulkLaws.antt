@@ -3,7 +3,6 @@ use Rattle.std.specs.Prelude.{◌≡◌, ℕ, List, [], ◌∷◌, ◌++◌, map
 use Rattle.std.specs.List.{AllByRecursion}
 use Rattle.json.specs.Json.{Json}
 use Rattle.nmvs_stream.specs.InputLines.{HasNoLf, input_lines}
-use Rattle.nmvs_rules.specs.declared.printed.Printed.{Printed}
 use Rattle.nmvs_messages.specs.declared.answer.Answer.{Answer}
 use Rattle.nmvs_protocol.specs.Session.{session_text}
 use Rattle.nmvs_protocol.specs.Tags.{tag_of}
@@ -11,6 +10,7 @@ use Rattle.nmvs_protocol.specs.Texts.{text}
 use Rattle.nmvs_json.specs.Bulks.{bulk_lines, item_fields, item_key, item_scanned, items_in, others_of}
 use Rattle.nmvs_json.specs.Questions.{object_in}
 use Rattle.nmvs_json.specs.Replies.{body_text, bulk_text, separated}
+use Rattle.nmvs_json.specs.Scans.{Scanned}
 use Rattle.nmvs_http.specs.OneLine.{fields_behind, key_tag}
 
 -- the line of an item has its key as the tag, and its fields after that
@@ -31,7 +31,7 @@ AreLinesOf _ _ = ⊥
 -- a bulk asks the lines of its items, each with its scanned values
 abbrev pub IsAskedByLines : Type 0
 IsAskedByLines =
-    (body : List ℕ) (bulk : List (Option Printed) × List ℕ) → bulk_lines body ≡ Ok bulk
+    (body : List ℕ) (bulk : List (Option Scanned) × List ℕ) → bulk_lines body ≡ Ok bulk
     → IsSomeAnd (option_and_then items_in (object_in body)) (λ items. (bulk.0 ≡ map item_scanned items) × AreLinesOf items (input_lines bulk.1))
 
 -- the text of an answer is one line, as of each that is no list
@@ -44,6 +44,6 @@ pub record IsLineText (t : List ℕ) : Type 0 where
 -- and that of no answer for each question that has none
 abbrev pub IsAnsweredByBodies : Type 0
 IsAnsweredByBodies =
-    (said : List (Option Printed × Answer)) (missing : List (Option Printed)) → AllByRecursion (λ (a : Option Printed × Answer). IsLineText (text a.1)) said
-    → bulk_text (map (λ (a : Option Printed × Answer). a.0) said ++ missing) (session_text (map (λ (a : Option Printed × Answer). a.1) said))
-    ≡ codes "{\"replies\":[" ++ (separated [] (map (λ (a : Option Printed × Answer). body_text a.0 (text a.1)) said ++ map (λ scanned. body_text scanned []) missing) ++ codes "]}\n")
+    (said : List (Option Scanned × Answer)) (missing : List (Option Scanned)) → AllByRecursion (λ (a : Option Scanned × Answer). IsLineText (text a.1)) said
+    → bulk_text (map (λ (a : Option Scanned × Answer). a.0) said ++ missing) (session_text (map (λ (a : Option Scanned × Answer). a.1) said))
+    ≡ codes "{\"replies\":[" ++ (separated [] (map (λ (a : Option Scanned × Answer). body_text a.0 (text a.1)) said ++ map (λ scanned. body_text scanned []) missing) ++ codes "]}\n")

@@ -8,8 +8,7 @@ ghost use Rattle.nmvs_http.specs.Requests as specs;
 use crate::fault::Fault;
 use bytes::Bytes;
 use http::Request;
-use nmvs_json::{BulkScanned, Refusal};
-use nmvs_rules::Printed;
+use nmvs_json::{BulkScanned, Refusal, Scanned};
 
 /// The kind of a request.
 #[derive(Drop)]
@@ -17,7 +16,7 @@ pub enum Asks {
     /// Asks for the replies to the lines of its body.
     Lines,
     /// Asks for the reply to the question in its body of JSON, which has these scanned values if it has some.
-    Question(Option<Printed>),
+    Question(Option<Scanned>),
     /// Asks for the replies to the questions in its body of JSON, each of which has these scanned values if it has some.
     Questions(BulkScanned),
     /// Asks whether the server lives.

@@ -16,8 +16,7 @@ use crate::response::{
 use crate::write_buffer::WriteBuffer;
 use boxcar::tag::Tag;
 use bytes::Bytes;
-use nmvs_json::{Refusal, bulk_body, refusal_body, response_of};
-use nmvs_rules::Printed;
+use nmvs_json::{Refusal, Scanned, bulk_body, refusal_body, response_of};
 use nmvs_stream::Failed;
 use std::alloc::Global;
 use std::hash::RandomState;
@@ -392,7 +391,7 @@ fn tell_response(
 fn tell_reply(
     alloc: Global,
     told: &mut WriteBuffer,
-    scanned: &Option<Printed>,
+    scanned: &Option<Scanned>,
     head_alone: bool,
     stays: bool,
     replies: &[u8],
@@ -417,7 +416,7 @@ fn tell_reply(
 fn tell_bulk(
     alloc: Global,
     told: &mut WriteBuffer,
-    scanned: &[Option<Printed>],
+    scanned: &[Option<Scanned>],
     head_alone: bool,
     stays: bool,
     replies: &[u8],

@@ -1,6 +1,6 @@
 -- The object of a body, the tag of a key, and a line with one text more.
-use Rattle.std.proofs.Common.{◌≡◌, ◌<◌, ◌++◌, ◌∷◌, [], ℕ, Bool, true, false, List, length, codes, Option, Some, None, Bor, Vec, cond, refl, sym, ap, ◌∙◌, append_assoc, arith}
-use Rattle.std.specs.Prelude.{option_and_then, option_map}
+use Rattle.std.proofs.Common.{◌≡◌, ◌<◌, ◌++◌, ◌∷◌, [], ℕ, Bool, true, false, List, length, codes, Option, Some, None, Result, Ok, Err, Bor, Vec, cond, refl, sym, ap, ◌∙◌, append_assoc, arith}
+use Rattle.std.specs.Prelude.{OnOk, option_and_then, option_map}
 use Rattle.std.proofs.lemmas.Option.{same_Some}
 use Rattle.std.specs.List.{list_all, AllByRecursion}
 use Rattle.std.specs.Str.{IsUtf8, is_utf8}
@@ -16,9 +16,9 @@ use Rattle.json.specs.Value.{value_view, members_view}
 use Rattle.json.specs.declared.value.Value.{Value, Object}
 use Rattle.nmvs_identifier.specs.Tag.{is_tag}
 use Rattle.nmvs_identifier.proofs.PlainTexts.{is_plain, plain_tag}
-use Rattle.nmvs_rules.specs.declared.printed.Printed.{Printed}
 use Rattle.nmvs_words.specs.Words.{followed, spaced}
 use Rattle.nmvs_json.specs.Questions.{as_object, count_of, object_in, preceded, value_in}
+use Rattle.nmvs_json.specs.Scans.{Scanned}
 
 plain-small : (b : ℕ) → is_plain b ≡ true → b < 128
 plain-small b e = grind (arith, nat_tests)
@@ -67,6 +67,14 @@ pub line_more : (line text : List ℕ) (o : Option (List (List ℕ)))
 line_more line text None = refl
 line_more line text (Some ts) = ap Some (append_assoc (line ++ codes " ") text (preceded ts) ∙ append_assoc line (codes " ") (text ++ preceded ts))
 
+-- a line with the texts of a scan
+pub scan_put : {T E : Type 0} (r : Result T E) (there : Bool) (line new : List ℕ) (texts : List ℕ → List (List ℕ)) (o : Option (List ℕ)) (others : Option (List (List ℕ))) → there ≡ true
+    → OnOk r (option_map (λ scan. line ++ preceded (texts scan)) o ≡ Some new) → OnOk r (option_map (λ ts. line ++ preceded ts) (cond there (option_map texts o) others) ≡ Some new)
+scan_put (Err f) there line new texts o others is e = tt
+scan_put (Ok v) there line new texts None others is e = absurd (cc e)
+scan_put (Ok v) false line new texts (Some scan) others is e = absurd (cc is)
+scan_put (Ok v) true line new texts (Some scan) others is e = e
+
 -- texts, and LF after them
 preceded_lf : (ts : List (List ℕ)) → preceded ts ++ codes "\n" ≡ followed ts
 preceded_lf [] = refl
@@ -112,11 +120,11 @@ if_put false true line mid new (Some ts) goes there front e =
     ap Some (sym (append_assoc line (codes " IF") (preceded ts)) ∙ ap (λ (x : List ℕ). x ++ preceded ts) (sym front)) ∙ e
 
 -- the texts after the word of a line, by its scanned values
-pub subject_put : (line mid new : List ℕ) (names : Option (List (List ℕ))) (values : Option (Option Printed)) (scanned : Option Printed) (condition : Option Printed → Option (List (List ℕ)))
+pub subject_put : (line mid new : List ℕ) (names : Option (List (List ℕ))) (values : Option (Option Scanned)) (scanned : Option Scanned) (condition : Option Scanned → Option (List (List ℕ)))
     → option_map (λ ts. line ++ preceded ts) names ≡ Some mid → values ≡ Some scanned → option_map (λ cs. mid ++ preceded cs) (condition scanned) ≡ Some new
     → option_map (λ ts. line ++ preceded ts) (option_and_then (λ ns. option_and_then (λ s. option_map (λ cs. ns ++ cs) (condition s)) values) names) ≡ Some new
 subject_put line mid new names values scanned condition e v f =
-    ap (λ (o : Option (Option Printed)). option_map (λ ts. line ++ preceded ts) (option_and_then (λ ns. option_and_then (λ s. option_map (λ cs. ns ++ cs) (condition s)) o) names)) v
+    ap (λ (o : Option (Option Scanned)). option_map (λ ts. line ++ preceded ts) (option_and_then (λ ns. option_and_then (λ s. option_map (λ cs. ns ++ cs) (condition s)) o) names)) v
     ∙ condition_put line mid new names (condition scanned) e f
 
 -- the fields of a line whose members were counted

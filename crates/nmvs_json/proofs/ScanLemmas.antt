@@ -1,29 +1,26 @@
 -- The computed reading of a scan is that of nmvs_elements.
-use Rattle.std.proofs.Common.{◌≡◌, ◌≤◌, ◌<◌, ◌++◌, ℕ, zero, suc, Bool, true, false, not, ◌&&◌, ◌==◌, cond, List, [], ◌∷◌, length, take, drop, codes, Option, Some, None, is_none, Result, Ok, Err, refl, sym, ap, ◌∙◌, subst, arith, bytes_eq, take-append-drop}
-use Rattle.std.specs.Prelude.{nat_lt, option_and_then, option_map}
-use Rattle.std.specs.List.{AllByRecursion, list_all}
+use Rattle.std.proofs.Common.{◌≡◌, ◌≢◌, ◌≤◌, ◌<◌, ◌-◌, ◌++◌, ℕ, zero, suc, Bool, true, false, not, ◌&&◌, ◌==◌, cond, List, [], ◌∷◌, length, take, drop, codes, Option, Some, None, is_none, is_some, Result, Ok, Err, refl, sym, ap, ◌∙◌, subst, arith, bytes_eq, take-append-drop}
+use Rattle.std.specs.Prelude.{nat_lt}
+use Rattle.std.specs.List.{AllByRecursion, find, list_all}
 use Rattle.std.specs.Option.{unwrap_or}
-use Rattle.std.proofs.lemmas.Bool.{and_parts}
 use Rattle.std.proofs.lemmas.Bool.Decides.{nat_tests}
 use Rattle.std.proofs.lemmas.Option.{same_Some}
 use Rattle.std.proofs.lemmas.Slice.Eq.{bytes_eq-Decides}
 use Rattle.nmvs_identifier.proofs.PlainTexts.{is_plain, plain_batch, plain_code, plain_expiry, plain_serial}
-use Rattle.nmvs_identifier.specs.Texts.{Text}
 use Rattle.nmvs_elements.specs.declared.identifiers.ApplicationIdentifier.{ApplicationIdentifier}
 use Rattle.nmvs_elements.specs.declared.identifiers.ApplicationIdentifier.TheVariants as identifiers
 use Rattle.nmvs_elements.specs.declared.elements.Elements.{Elements}
 use Rattle.nmvs_elements.specs.declared.fault.ScanFault.{ScanFault}
 use Rattle.nmvs_elements.specs.declared.fault.ScanFault.TheVariants as faults
-use Rattle.nmvs_elements.specs.Elements.{AreDistinct, BeginsWith, BeginsWithElements, Element, IsKnown, IsSeparated, identifier_text, is_value, is_value_byte, predefined_length, skip_separator, value_of}
-use Rattle.nmvs_elements.specs.Scan.{ArePack, HasNational, ReadsScan, at_end, behind_symbology, longest_scan}
-use Rattle.nmvs_elements.proofs.ElementFacts.{begins, behind_shorter, one_element, same_identifier, short, skip_shorter}
+use Rattle.nmvs_elements.specs.Elements.{AreDistinct, BeginsWith, BeginsWithElements, Element, IsKnown, IsSeparated, identifier_text, is_value, is_value_byte, predefined_length, required, skip_separator, value_of}
+use Rattle.nmvs_elements.specs.Scan.{IsShort, ReadsBehind, ReadsBy, ReadsScan, ReadsStop, ReadsString, ReadsValues, Stop, StopsAt, at_end, at_repeated, at_short, at_unknown, has_wrong, is_missing, is_wrong, unknown_fault}
+use Rattle.nmvs_elements.proofs.ElementFacts.{begins, behind_shorter, distinct_more, one_more, short, skip_shorter}
 use Rattle.nmvs_elements.proofs.OneReading.{one_reading}
-use Rattle.nmvs_elements.proofs.Packs.{opened_read, scan_read}
-use Rattle.nmvs_elements.proofs.Printed.{reads_opened}
+use Rattle.nmvs_elements.proofs.Packs.{scan_read}
 use Rattle.nmvs_elements.proofs.Runs.{no_value, value_before}
-use Rattle.nmvs_elements.proofs.ValueFacts.{reads_pack}
+use Rattle.nmvs_elements.proofs.ValueFacts.{skipped}
 use Rattle.nmvs_json.specs.Questions.{pack_texts, printed_texts, scan_printed}
-use Rattle.nmvs_json.specs.Scans.{are_distinct, element_at, element_with, elements_in, elements_step, has_value, identifier_at, pack_behind, pack_in, pack_of, value_end}
+use Rattle.nmvs_json.specs.Scans.{Reader, ScansAreComputed, identifier_at, pack_by, pack_of, pack_with, read_behind, read_element, read_rest, read_value, scan_in, value_end, value_with}
 
 -- the bytes before the first separator
 within : (content : List ℕ) → value_end content ≤ length content
@@ -59,35 +56,34 @@ no_more m n e = grind (arith, nat_tests)
 more : (m n : ℕ) → nat_lt m n ≡ true → m < n
 more m n e = grind (arith, nat_tests)
 
--- an element is found at the front exactly if one stands there
+-- an element stands at the front exactly if its value is found there
 abbrev size_of : ApplicationIdentifier → List ℕ → ℕ
 size_of i content = unwrap_or (predefined_length i) (value_end content)
 
-abbrev cut_at : ApplicationIdentifier → List ℕ → Element × List ℕ
-cut_at i content = (record { identifier = i; value = take (size_of i content) content }, skip_separator (drop (size_of i content) content))
+abbrev cut_at : ApplicationIdentifier → List ℕ → List ℕ × List ℕ
+cut_at i content = (take (size_of i content) content, skip_separator (drop (size_of i content) content))
 
-with_sound : (bytes content : List ℕ) (i : ApplicationIdentifier) (first : Element × List ℕ) → IsKnown None i → bytes ≡ identifier_text i ++ content → element_with content i ≡ Some first → BeginsWith None bytes first.0 first.1
-with_sound bytes content i first known these e = by (nat_lt (value_end content) (size_of i content)) refl e
+abbrev element : ApplicationIdentifier → List ℕ → Element
+element i value = record { identifier = i; value = value }
+
+with_some : (bytes content : List ℕ) (i : ApplicationIdentifier) (first : List ℕ × List ℕ) → IsKnown None i → bytes ≡ identifier_text i ++ content → value_with i content ≡ Some first → BeginsWith None bytes (element i first.0) first.1
+with_some bytes content i first known these e = by (nat_lt (value_end content) (size_of i content)) refl e
   where
-    by : (t : Bool) → nat_lt (value_end content) (size_of i content) ≡ t → cond t None (Some (cut_at i content)) ≡ Some first → BeginsWith None bytes first.0 first.1
+    by : (t : Bool) → nat_lt (value_end content) (size_of i content) ≡ t → cond t None (Some (cut_at i content)) ≡ Some first → BeginsWith None bytes (element i first.0) first.1
     by true p e = absurd (cc e)
     by false p e =
         let size = size_of i content in
         let is = value_before (predefined_length i) content (take size content) (drop size content) (value_end content) size (within content) (run content) (separated content) refl (no_more (value_end content) size p) refl refl in
-        subst (λ (f : Element × List ℕ). BeginsWith None bytes f.0 f.1) (same_Some (cut_at i content) first e)
+        subst (λ (f : List ℕ × List ℕ). BeginsWith None bytes (element i f.0) f.1) (same_Some (cut_at i content) first e)
         (begins None bytes content i (take size content) (drop size content) (skip_separator (drop size content)) known these is refl)
 
-with_none : (bytes content : List ℕ) (i : ApplicationIdentifier) (e : Element) (rest : List ℕ) → IsKnown None i → bytes ≡ identifier_text i ++ content → element_with content i ≡ None → BeginsWith None bytes e rest → ⊥
-with_none bytes content i e rest known these none is = by (nat_lt (value_end content) (size_of i content)) refl none
+with_none : (bytes content : List ℕ) (i : ApplicationIdentifier) → IsKnown None i → bytes ≡ identifier_text i ++ content → value_with i content ≡ None → IsShort None bytes i
+with_none bytes content i known these none = by (nat_lt (value_end content) (size_of i content)) refl none
   where
-    same : e.identifier ≡ i
-    same = same_identifier None e.identifier i (e.value ++ is.behind) content is.known known (sym is.these ∙ these)
-
-    by : (t : Bool) → nat_lt (value_end content) (size_of i content) ≡ t → cond t None (Some (cut_at i content)) ≡ None → ⊥
+    by : (t : Bool) → nat_lt (value_end content) (size_of i content) ≡ t → cond t None (Some (cut_at i content)) ≡ None → IsShort None bytes i
     by true p none =
-        (short None bytes content i known these (no_value (predefined_length i) content (value_end content) (size_of i content) (within content) (separated content) refl (more (value_end content) (size_of i content) p))).none
-        e.value rest (subst (λ (k : ApplicationIdentifier). BeginsWith None bytes (record { identifier = k; value = e.value }) rest) same is)
-    by false p none = cc none
+        short None bytes content i known these (no_value (predefined_length i) content (value_end content) (size_of i content) (within content) (separated content) refl (more (value_end content) (size_of i content) p))
+    by false p none = absurd (cc none)
 
 -- an identifier stands at the front exactly if it is found there
 begins_with : (bytes text : List ℕ) → bytes_eq (take 2 bytes) text ≡ true → bytes ≡ text ++ drop 2 bytes
@@ -117,114 +113,49 @@ none_stands bytes identifiers.Batch content none known these = let e : Some iden
 none_stands bytes identifiers.Expiry content none known these = let e : Some identifiers.Expiry ≡ None = subst (λ (b : List ℕ). identifier_at b ≡ None) these none in cc e
 none_stands bytes (identifiers.NationalNumber n) content none known these = cc known
 
-at_sound : (bytes : List ℕ) (first : Element × List ℕ) → element_at bytes ≡ Some first → BeginsWith None bytes first.0 first.1
-at_sound bytes first e = by (identifier_at bytes) refl e
-  where
-    by : (o : Option ApplicationIdentifier) → identifier_at bytes ≡ o → option_and_then (element_with (drop 2 bytes)) o ≡ Some first → BeginsWith None bytes first.0 first.1
-    by None p e = absurd (cc e)
-    by (Some i) p e = let s = stands bytes i p in with_sound bytes (drop 2 bytes) i first s.0 s.1 e
+-- the pack of values is that of elements with these
+record NoneOf (test : ApplicationIdentifier → Bool) : Type 0 where
+  code : test identifiers.Code ≡ false
+  serial : test identifiers.Serial ≡ false
+  batch : test identifiers.Batch ≡ false
+  expiry : test identifiers.Expiry ≡ false
 
-at_complete : (bytes : List ℕ) (e : Element) (rest : List ℕ) → BeginsWith None bytes e rest → element_at bytes ≡ Some (e, rest)
-at_complete bytes e rest is = by (element_at bytes) refl
-  where
-    none : (o : Option ApplicationIdentifier) → identifier_at bytes ≡ o → option_and_then (element_with (drop 2 bytes)) o ≡ None → ⊥
-    none None p q = none_stands bytes e.identifier (e.value ++ is.behind) p is.known is.these
-    none (Some i) p q = let s = stands bytes i p in with_none bytes (drop 2 bytes) i e rest s.0 s.1 q is
+none_of : (test : ApplicationIdentifier → Bool) → find test (required None) ≡ None → NoneOf test
+none_of test e =
+    let code = skipped test identifiers.Code (identifiers.Serial ∷ identifiers.Batch ∷ identifiers.Expiry ∷ []) e in
+    let serial = skipped test identifiers.Serial (identifiers.Batch ∷ identifiers.Expiry ∷ []) code.1 in
+    let batch = skipped test identifiers.Batch (identifiers.Expiry ∷ []) serial.1 in
+    let expiry = skipped test identifiers.Expiry [] batch.1 in
+    record { code = code.0; serial = serial.0; batch = batch.0; expiry = expiry.0 }
 
-    by : (o : Option (Element × List ℕ)) → element_at bytes ≡ o → o ≡ Some (e, rest)
-    by None p = absurd (none (identifier_at bytes) refl p)
-    by (Some first) p = let one = one_element None bytes first.0 e first.1 rest (at_sound bytes first p) is in λ k. Some (one.0 k, one.1 k)
-
--- and so are elements, one after the other
-abbrev IsSound : ℕ → Type 0
-IsSound n = (rest : List ℕ) (later : List Element) → elements_in n rest ≡ Some later → BeginsWithElements None rest later []
-
-in_sound : (n : ℕ) (bytes : List ℕ) (es : List Element) → elements_in n bytes ≡ Some es → BeginsWithElements None bytes es []
-in_sound zero bytes es e = absurd (cc e)
-in_sound (suc n) [] es e = subst (λ (these : List Element). BeginsWithElements None [] these []) (same_Some [] es e) refl
-in_sound (suc n) (b ∷ bs) es e = by (element_at (b ∷ bs)) refl (in_sound n) e
-  where
-    on : (first : Element × List ℕ) (o : Option (List Element)) → element_at (b ∷ bs) ≡ Some first → IsSound n → elements_in n first.1 ≡ o → option_map (λ later. first.0 ∷ later) o ≡ Some es → BeginsWithElements None (b ∷ bs) es []
-    on first None p sound q e = absurd (cc e)
-    on first (Some later) p sound q e =
-        subst (λ (these : List Element). BeginsWithElements None (b ∷ bs) these []) (same_Some (first.0 ∷ later) es e) (first.1, at_sound (b ∷ bs) first p, sound first.1 later q)
-
-    by : (o : Option (Element × List ℕ)) → element_at (b ∷ bs) ≡ o → IsSound n → option_and_then (λ first. option_map (λ later. first.0 ∷ later) (elements_in n first.1)) o ≡ Some es → BeginsWithElements None (b ∷ bs) es []
-    by None p sound e = absurd (cc e)
-    by (Some first) p sound e = on first (elements_in n first.1) p sound refl e
-
-in_complete : (n : ℕ) (bytes : List ℕ) (es : List Element) → length bytes < n → BeginsWithElements None bytes es [] → elements_in n bytes ≡ Some es
-in_complete zero bytes es room is = absurd (omega arith)
-in_complete (suc n) bytes [] room is = ap (elements_step (elements_in n)) is
-in_complete (suc n) [] (e ∷ es) room is = absurd (omega (arith, behind_shorter None [] e is.0 is.1))
-in_complete (suc n) (b ∷ bs) (e ∷ es) room is =
-    let shorter = behind_shorter None (b ∷ bs) e is.0 is.1 in
-    ap (option_and_then (λ first. option_map (λ later. first.0 ∷ later) (elements_in n first.1))) (at_complete (b ∷ bs) e is.0 is.1)
-    ∙ ap (option_map (λ later. e ∷ later)) (in_complete n is.0 es (omega (arith, shorter, room)) is.2)
-
--- no element stands twice
-distinct_sound : (es : List Element) → are_distinct es ≡ true → AreDistinct es
-distinct_sound [] e = tt
-distinct_sound (d ∷ es) e = let parts = and_parts (is_none (value_of es d.identifier)) (are_distinct es) e in (none_there (value_of es d.identifier) parts.0, distinct_sound es parts.1)
-  where
-    none_there : (o : Option (List ℕ)) → is_none o ≡ true → o ≡ None
-    none_there None e = refl
-    none_there (Some v) e = absurd (cc e)
-
-distinct_complete : (es : List Element) → AreDistinct es → are_distinct es ≡ true
-distinct_complete [] once = refl
-distinct_complete (d ∷ es) once = λ i. is_none (once.0 i) && distinct_complete es once.1 i
-
--- the values are those of a pack
 record HasValue (i : ApplicationIdentifier) (o : Option (List ℕ)) : Type 0 where
   some : o ≡ Some (unwrap_or o [])
   right : is_value i (unwrap_or o []) ≡ true
 
-has : (i : ApplicationIdentifier) (o : Option (List ℕ)) → has_value i o ≡ true → HasValue i o
-has i None e = absurd (cc e)
-has i (Some v) e = record { some = refl; right = e }
-
-abbrev value : List Element → ApplicationIdentifier → List ℕ
-value es i = unwrap_or (value_of es i) []
-
-abbrev pack_with : List Element → Elements
-pack_with es = record {
-  code = record { bytes = value es identifiers.Code };
-  serial = record { bytes = value es identifiers.Serial };
-  batch = record { bytes = value es identifiers.Batch };
-  expiry = record { bytes = value es identifiers.Expiry };
-  national = None;
-}
-
-abbrev all_there : List Element → Bool
-all_there es =
-    has_value identifiers.Code (value_of es identifiers.Code)
-    && (has_value identifiers.Serial (value_of es identifiers.Serial)
-    && (has_value identifiers.Batch (value_of es identifiers.Batch)
-    && (has_value identifiers.Expiry (value_of es identifiers.Expiry) && true)))
-
-record IsPackOf (es : List Element) (pack : Elements) : Type 0 where
-  once : AreDistinct es
-  values : ArePack None (value_of es) pack
-
-pack_sound : (es : List Element) (pack : Elements) → pack_of es ≡ Some pack → IsPackOf es pack
-pack_sound es pack e = by (are_distinct es && all_there es) refl e
+has : (i : ApplicationIdentifier) (o : Option (List ℕ)) → is_none o ≡ false → is_wrong i o ≡ false → HasValue i o
+has i None there right = absurd (cc there)
+has i (Some v) there right = record { some = refl; right = by (is_value i v) right }
   where
-    by : (t : Bool) → (are_distinct es && all_there es) ≡ t → cond t (Some (pack_with es)) None ≡ Some pack → IsPackOf es pack
-    by false p e = absurd (cc e)
-    by true p e =
-        let a = and_parts (are_distinct es) (all_there es) p in
-        let b = and_parts (has_value identifiers.Code (value_of es identifiers.Code)) _ a.1 in
-        let c = and_parts (has_value identifiers.Serial (value_of es identifiers.Serial)) _ b.1 in
-        let d = and_parts (has_value identifiers.Batch (value_of es identifiers.Batch)) _ c.1 in
-        let f = and_parts (has_value identifiers.Expiry (value_of es identifiers.Expiry)) true d.1 in
-        let code = has identifiers.Code (value_of es identifiers.Code) b.0 in
-        let serial = has identifiers.Serial (value_of es identifiers.Serial) c.0 in
-        let batch = has identifiers.Batch (value_of es identifiers.Batch) d.0 in
-        let expiry = has identifiers.Expiry (value_of es identifiers.Expiry) f.0 in
-        let these : IsPackOf es (pack_with es) = record {
-          once = distinct_sound es a.0;
-          values = record {
+    by : (b : Bool) → not b ≡ false → b ≡ true
+    by true e = refl
+    by false e = absurd (cc e)
+
+pack_read : (values : ApplicationIdentifier → Option (List ℕ)) → ReadsValues None values (pack_of values)
+pack_read values = by (find (is_missing values) (required None)) refl (find (has_wrong values) (required None)) refl
+  where
+    by : (m : Option ApplicationIdentifier) → find (is_missing values) (required None) ≡ m → (w : Option ApplicationIdentifier) → find (has_wrong values) (required None) ≡ w → ReadsBy m w None values (pack_by m w values)
+    by (Some i) p w q = refl
+    by None p (Some i) q = refl
+    by None p None q =
+        let there = none_of (is_missing values) p in
+        let right = none_of (has_wrong values) q in
+        let code = has identifiers.Code (values identifiers.Code) there.code right.code in
+        let serial = has identifiers.Serial (values identifiers.Serial) there.serial right.serial in
+        let batch = has identifiers.Batch (values identifiers.Batch) there.batch right.batch in
+        let expiry = has identifiers.Expiry (values identifiers.Expiry) there.expiry right.expiry in (
+          pack_with values,
+          refl,
+          record {
             code = code.some;
             serial = serial.some;
             batch = batch.some;
@@ -234,98 +165,74 @@ pack_sound es pack e = by (are_distinct es && all_there es) refl e
             is_serial = serial.right;
             is_batch = batch.right;
             is_expiry = expiry.right;
-          };
-        } in
-        subst (IsPackOf es) (same_Some (pack_with es) pack e) these
+          },
+        )
 
-no_national : (values : ApplicationIdentifier → Option (List ℕ)) (number : Option Text) → HasNational None values number → None ≡ number
-no_national values None has = refl
-no_national values (Some number) has = absurd has
-
-value_is : (es : List Element) (i : ApplicationIdentifier) (t : Text) → value_of es i ≡ Some t.bytes → record { bytes = value es i } ≡ t
-value_is es i t e = λ k. record { bytes = unwrap_or (e k) [] }
-
-pack_complete : (es : List Element) (pack : Elements) → AreDistinct es → ArePack None (value_of es) pack → pack_of es ≡ Some pack
-pack_complete es pack once is = ap (λ t. cond t (Some (pack_with es)) None) tested ∙ same
+-- an element more, or the reason why the reading stops
+step : (size : ℕ) (string : List ℕ) (es : List Element) (rest : List ℕ) (reader : Reader) → rest ≢ [] → BeginsWithElements None string es rest → AreDistinct es
+    → ((e : Element) (behind : List ℕ) → BeginsWith None rest e behind → value_of es e.identifier ≡ None → ReadsString None size string (reader (es ++ e ∷ []) behind))
+    → ReadsString None size string (read_element reader size es rest (identifier_at rest))
+step size string es rest reader some these once goes_on = by (identifier_at rest) refl
   where
-    there : (i : ApplicationIdentifier) (v : List ℕ) → value_of es i ≡ Some v → is_value i v ≡ true → has_value i (value_of es i) ≡ true
-    there i v e right = ap (has_value i) e ∙ right
+    stopped : (fault : ScanFault) (stop : Stop) → StopsAt None es rest stop → ReadsStop None size es rest stop (Err fault) → ReadsString None size string (Err fault)
+    stopped fault stop stops reads = record { elements = es; rest = rest; these = these; once = once; stop = stop; stops = stops; reads = reads }
 
-    tested : (are_distinct es && all_there es) ≡ true
-    tested = λ k.
-        distinct_complete es once k
-        && (there identifiers.Code pack.code.bytes is.code is.is_code k
-        && (there identifiers.Serial pack.serial.bytes is.serial is.is_serial k
-        && (there identifiers.Batch pack.batch.bytes is.batch is.is_batch k
-        && (there identifiers.Expiry pack.expiry.bytes is.expiry is.is_expiry k && true))))
+    begun : (i : ApplicationIdentifier) (first : List ℕ × List ℕ) → BeginsWith None rest (element i first.0) first.1 → (o : Option (List ℕ)) → value_of es i ≡ o
+        → ReadsString None size string (cond (is_some o) (Err (faults.Twice i)) (reader (es ++ element i first.0 ∷ []) first.1))
+    begun i first begins None p = goes_on (element i first.0) first.1 begins p
+    begun i first begins (Some v) p = stopped (faults.Twice i) (at_repeated i) (record { value = first.0; rest = first.1; begins = begins; before = λ none. cc (sym p ∙ none) }) refl
 
-    same : Some (pack_with es) ≡ Some pack
-    same = λ k. Some (record {
-      code = value_is es identifiers.Code pack.code is.code k;
-      serial = value_is es identifiers.Serial pack.serial is.serial k;
-      batch = value_is es identifiers.Batch pack.batch is.batch k;
-      expiry = value_is es identifiers.Expiry pack.expiry is.expiry k;
-      national = no_national (value_of es) pack.national is.national k;
-    })
+    valued : (i : ApplicationIdentifier) → Stands rest i → (o : Option (List ℕ × List ℕ)) → value_with i (drop 2 rest) ≡ o → ReadsString None size string (read_value reader es i o)
+    valued i s None p = stopped (faults.Short i) (at_short i) (with_none rest (drop 2 rest) i s.0 s.1 p) refl
+    valued i s (Some first) p = begun i first (with_some rest (drop 2 rest) i first s.0 s.1 p) (value_of es i) refl
 
--- so a scan is read as a pack exactly if it carries that
-scan_sound : (scan : List ℕ) (pack : Elements) → pack_in scan ≡ Some pack → ReadsScan None scan (Ok pack)
-unfolding pack_in
-scan_sound scan pack e = by (nat_lt 100 (length scan)) refl e
+    by : (o : Option ApplicationIdentifier) → identifier_at rest ≡ o → ReadsString None size string (read_element reader size es rest o)
+    by None p = stopped (unknown_fault es (size - length rest)) at_unknown (record { some = some; none = λ i content known is. none_stands rest i content p known is }) refl
+    by (Some i) p = valued i (stands rest i p) (value_with i (drop 2 rest)) refl
+
+-- so a string is read, and a scan
+abbrev IsRead : ℕ → ℕ → List ℕ → Type 0
+IsRead n size string = (es : List Element) (rest : List ℕ) → length rest < n → BeginsWithElements None string es rest → AreDistinct es → ReadsString None size string (read_rest n size es rest)
+
+rest_read : (n size : ℕ) (string : List ℕ) → IsRead n size string
+rest_read zero size string es rest room these once = absurd (omega (arith, room))
+rest_read (suc n) size string es [] room these once = record { elements = es; rest = []; these = these; once = once; stop = at_end; stops = refl; reads = pack_read (value_of es) }
+rest_read (suc n) size string es (b ∷ bs) room these once = by (rest_read n size string)
   where
-    read : (string : List ℕ) → length scan ≤ 100 → behind_symbology scan ≡ Ok string → (o : Option (List Element)) → elements_in (suc (length string)) (skip_separator string) ≡ o → option_and_then pack_of o ≡ Some pack
-        → ReadsScan None scan (Ok pack)
-    read string short opened None p e = absurd (cc e)
-    read string short opened (Some es) p e =
-        let is = pack_sound es pack e in
-        reads_opened None scan string (Ok pack) short opened
-        (record { elements = es; rest = []; these = in_sound (suc (length string)) (skip_separator string) es p; once = is.once; stop = at_end; stops = refl; reads = reads_pack None (value_of es) pack is.values })
+    by : IsRead n size string → ReadsString None size string (read_element (read_rest n size) size es (b ∷ bs) (identifier_at (b ∷ bs)))
+    by later =
+        step size string es (b ∷ bs) (read_rest n size) (λ e. cc e) these once
+        (λ e behind begins none. later (es ++ e ∷ []) behind (omega (arith, behind_shorter None (b ∷ bs) e behind begins, room)) (one_more None string es (b ∷ bs) e behind these begins) (distinct_more es e once none))
 
-    on : (r : Result (List ℕ) ScanFault) → length scan ≤ 100 → behind_symbology scan ≡ r → pack_behind r ≡ Some pack → ReadsScan None scan (Ok pack)
-    on (Err fault) short p e = absurd (cc e)
-    on (Ok string) short p e = read string short p (elements_in (suc (length string)) (skip_separator string)) refl e
+behind_read : (size : ℕ) (opened : Result (List ℕ) ScanFault) → ReadsBehind None size opened (read_behind size opened)
+behind_read size (Err fault) = refl
+behind_read size (Ok string) = rest_read (suc (length string)) size (skip_separator string) [] (skip_separator string) (omega (arith, skip_shorter string)) refl tt
 
-    by : (t : Bool) → nat_lt 100 (length scan) ≡ t → pack_behind (cond t (Err faults.Long) (behind_symbology scan)) ≡ Some pack → ReadsScan None scan (Ok pack)
-    by true p e = absurd (cc e)
-    by false p e = on (behind_symbology scan) (no_more 100 (length scan) p) refl e
+pub scans_read : ScansAreComputed
+unfolding scan_in
+scans_read scan = behind_read (length scan) _
 
-scan_complete : (scan : List ℕ) (pack : Elements) → ReadsScan None scan (Ok pack) → pack_in scan ≡ Some pack
-unfolding pack_in
-scan_complete scan pack reads =
-    let opened = opened_read None (length scan) (cond (nat_lt longest_scan (length scan)) (Err faults.Long) (behind_symbology scan)) pack reads in
-    let is = opened.2 in
-    let shorter = skip_shorter opened.0 in
-    ap pack_behind opened.1
-    ∙ ap (option_and_then pack_of) (in_complete (suc (length opened.0)) (skip_separator opened.0) is.elements (omega (arith, shorter)) is.these)
-    ∙ pack_complete is.elements pack is.once is.values
-
-abbrev pub pack_read : Result Elements ScanFault → Option Elements
-pack_read (Ok pack) = Some pack
-pack_read (Err fault) = None
-
-pub scanned : (scan : List ℕ) (r : Result Elements ScanFault) → ReadsScan None scan r → pack_read r ≡ pack_in scan
-scanned scan (Ok pack) reads = sym (scan_complete scan pack reads)
-scanned scan (Err fault) reads = by (pack_in scan) refl
-  where
-    by : (o : Option Elements) → pack_in scan ≡ o → None ≡ o
-    by None p = refl
-    by (Some pack) p = absurd (cc (one_reading None scan (Err fault) (Ok pack) reads (scan_sound scan pack p)))
+pub scanned : (scan : List ℕ) (r : Result Elements ScanFault) → ReadsScan None scan r → r ≡ scan_in scan
+scanned scan r reads = one_reading None scan r (scan_in scan) reads (scans_read scan)
 
 -- the texts of the line of a scan have visible characters alone
-pub texts_plain : (scan : List ℕ) → AllByRecursion (λ (t : List ℕ). list_all is_plain t ≡ true) (pack_texts (pack_in scan))
-texts_plain scan = by (pack_in scan) refl
+abbrev ArePlain : List (List ℕ) → Type 0
+ArePlain ts = AllByRecursion (λ (t : List ℕ). list_all is_plain t ≡ true) ts
+
+pub texts_plain : (scan : List ℕ) → AllByRecursion (λ (t : List ℕ). list_all is_plain t ≡ true) (pack_texts (scan_in scan))
+texts_plain scan = by (scan_in scan) (scans_read scan)
   where
-    by : (o : Option Elements) → pack_in scan ≡ o → AllByRecursion (λ (t : List ℕ). list_all is_plain t ≡ true) (pack_texts o)
-    by None e = (refl, (refl, tt))
-    by (Some pack) e =
-        let read = scan_read None scan pack (scan_sound scan pack e) in
+    by : (r : Result Elements ScanFault) → ReadsScan None scan r → ArePlain (pack_texts r)
+    by (Err fault) reads = (refl, (refl, tt))
+    by (Ok pack) reads =
+        let read = scan_read None scan pack reads in
         ((plain_code pack.code.bytes read.2.values.is_code).2, ((plain_serial pack.serial.bytes read.2.values.is_serial).2, tt))
 
-pub printed_plain : (scan : List ℕ) → AllByRecursion (λ (t : List ℕ). list_all is_plain t ≡ true) (printed_texts (scan_printed (pack_in scan)))
-printed_plain scan = by (pack_in scan) refl
+pub printed_plain : (scan : List ℕ) → AllByRecursion (λ (t : List ℕ). list_all is_plain t ≡ true) (printed_texts (Some (scan_printed (scan_in scan))))
+printed_plain scan = by (scan_in scan) (scans_read scan)
   where
-    by : (o : Option Elements) → pack_in scan ≡ o → AllByRecursion (λ (t : List ℕ). list_all is_plain t ≡ true) (printed_texts (scan_printed o))
-    by None e = (refl, (refl, tt))
-    by (Some pack) e =
-        let read = scan_read None scan pack (scan_sound scan pack e) in
+    by : (r : Result Elements ScanFault) → ReadsScan None scan r → ArePlain (printed_texts (Some (scan_printed r)))
+    by (Err fault) reads = (refl, (refl, tt))
+    by (Ok pack) reads =
+        let read = scan_read None scan pack reads in
         ((plain_batch pack.batch.bytes read.2.values.is_batch).2, ((plain_expiry pack.expiry.bytes read.2.values.is_expiry).2, tt))

@@ -3,7 +3,6 @@ use Rattle.std.specs.Prelude.{ℕ, ◌+◌, ◌&&◌, List, [], ◌∷◌, ◌++
 use Rattle.json.specs.Find.{as_str, get}
 use Rattle.json.specs.Json as json
 use Rattle.json.specs.Json.{Json, Items}
-use Rattle.nmvs_rules.specs.declared.printed.Printed.{Printed}
 use Rattle.nmvs_json.specs.declared.asked_kind.AskedKind.{AskedKind}
 use Rattle.nmvs_json.specs.declared.question_fault.QuestionFault.{QuestionFault}
 use Rattle.nmvs_json.specs.declared.question_fault.QuestionFault.TheVariants as fault
@@ -12,6 +11,7 @@ use Rattle.nmvs_json.specs.declared.refusal.Member.TheVariants as members
 use Rattle.nmvs_json.specs.declared.refusal.Refusal.{Refusal}
 use Rattle.nmvs_json.specs.Questions.{count_of, fields_of, has_list, is_key, kind_named, line_of, object_in, scanned_in, text_of, with_scanned, wrong_member}
 use Rattle.nmvs_json.specs.Refusals.{whole}
+use Rattle.nmvs_json.specs.Scans.{Scanned}
 
 -- the kind that an item asks: one whose answer is no list
 abbrev pub without_list : AskedKind → Option AskedKind
@@ -99,18 +99,18 @@ abbrev pub items_in : Json → Option (List Json)
 items_in j = if count_of j == 1 then option_and_then within_most (option_and_then as_values (get (codes "questions") j)) else None
 
 -- the scanned values of an item that has no fault, if it has some
-unfoldable pub item_scanned : Json → Option Printed
+unfoldable pub item_scanned : Json → Option Scanned
 item_scanned j = option_and_then (λ kind. scanned_in kind j) (item_kind j)
 
-abbrev pub lines_of_items : Option (List Json) → Result (List (Option Printed) × List ℕ) Refusal
+abbrev pub lines_of_items : Option (List Json) → Result (List (Option Scanned) × List ℕ) Refusal
 lines_of_items None = Err (record { fault = fault.Fields; item = None; member = Some members.Questions })
 lines_of_items (Some js) = with_scanned (map item_scanned js) (item_lines 0 js)
 
-abbrev pub lines_of_object : Option Json → Result (List (Option Printed) × List ℕ) Refusal
+abbrev pub lines_of_object : Option Json → Result (List (Option Scanned) × List ℕ) Refusal
 lines_of_object None = Err (whole fault.Json)
 lines_of_object (Some j) = lines_of_items (items_in j)
 
 -- the scanned values of each question in the body of a bulk, and their lines in order, each with its LF; or the refusal
 -- for the first fault, for which none of them is asked
-unfoldable pub bulk_lines : List ℕ → Result (List (Option Printed) × List ℕ) Refusal
+unfoldable pub bulk_lines : List ℕ → Result (List (Option Scanned) × List ℕ) Refusal
 bulk_lines body = lines_of_object (object_in body)

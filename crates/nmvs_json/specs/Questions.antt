@@ -9,6 +9,7 @@ use Rattle.json.specs.Json as json
 use Rattle.json.specs.Json.{Json, Items, Members, document}
 use Rattle.json.specs.Strict.{keys}
 use Rattle.nmvs_elements.specs.declared.elements.Elements.{Elements}
+use Rattle.nmvs_elements.specs.declared.fault.ScanFault.{ScanFault}
 use Rattle.nmvs_identifier.specs.Batch.{is_batch}
 use Rattle.nmvs_identifier.specs.Expiry.{is_expiry}
 use Rattle.nmvs_identifier.specs.Tag.{is_tag}
@@ -28,7 +29,7 @@ use Rattle.nmvs_json.specs.declared.refusal.Member.TheVariants as members
 use Rattle.nmvs_json.specs.declared.refusal.Refusal.{Refusal}
 use Rattle.nmvs_json.specs.Refusals.{member_name, whole}
 use Rattle.nmvs_json.specs.Replies.{named}
-use Rattle.nmvs_json.specs.Scans.{pack_in}
+use Rattle.nmvs_json.specs.Scans.{Scanned, scan_in}
 
 -- the names of the kinds
 abbrev pub kind_names : List (List ℕ × AskedKind)
@@ -162,14 +163,14 @@ abbrev pub has_scan : AskedKind → Json → Bool
 has_scan kind j = is_of_pack kind && is_some (get (codes "scan") j)
 
 -- the code and the serial of a pack; a scan that cannot be read has -, which is no product code, in their places
-abbrev pub pack_texts : Option Elements → List (List ℕ)
-pack_texts None = codes "-" ∷ codes "-" ∷ []
-pack_texts (Some pack) = pack.code.bytes ∷ pack.serial.bytes ∷ []
+abbrev pub pack_texts : Result Elements ScanFault → List (List ℕ)
+pack_texts (Err fault) = codes "-" ∷ codes "-" ∷ []
+pack_texts (Ok pack) = pack.code.bytes ∷ pack.serial.bytes ∷ []
 
 -- the texts that name the pack, the batch or the product, and the number of members that say them
 abbrev pub name_texts : AskedKind → Json → Option (List (List ℕ))
 name_texts kind j =
-    if has_scan kind j then option_map (λ scan. pack_texts (pack_in scan)) (string_of (codes "scan") j) else texts_of (names_of kind) j
+    if has_scan kind j then option_map (λ scan. pack_texts (scan_in scan)) (string_of (codes "scan") j) else texts_of (names_of kind) j
 
 abbrev pub name_count : AskedKind → Json → ℕ
 name_count kind j = if has_scan kind j then 1 else length (members_of kind)
@@ -192,10 +193,10 @@ abbrev pub printed_of : List ℕ → List ℕ → Printed
 printed_of batch expiry = record { batch = record { bytes = batch }; expiry = record { bytes = expiry } }
 
 -- the printed values in an object, which has no other members
-unfoldable pub printed_in : Json → Option Printed
+unfoldable pub printed_in : Json → Option Scanned
 printed_in j =
     if count_of j == 2
-    then option_and_then (λ batch. option_map (λ expiry. printed_of batch expiry) (within is_expiry (string_of (codes "expiry") j))) (within is_batch (string_of (codes "batch") j))
+    then option_and_then (λ batch. option_map (λ expiry. Ok (printed_of batch expiry)) (within is_expiry (string_of (codes "expiry") j))) (within is_batch (string_of (codes "batch") j))
     else None
 
 -- the texts in such an object, which a person may have misread
@@ -206,41 +207,42 @@ abbrev pub said_of : Json → Option (List (List ℕ))
 said_of j = option_and_then said_in (get (codes "scanned") j)
 
 -- the printed values of an object with such texts: none if one of them is misread
-abbrev pub values_in : Json → Option (Option Printed)
+abbrev pub values_in : Json → Option (Option Scanned)
 values_in j = option_map (λ _. printed_in j) (said_in j)
 
--- those of a scan, if it can be read
-abbrev pub scan_printed : Option Elements → Option Printed
-scan_printed None = None
-scan_printed (Some pack) = Some (printed_of pack.batch.bytes pack.expiry.bytes)
+-- those of a scan, or its fault
+abbrev pub scan_printed : Result Elements ScanFault → Scanned
+scan_printed (Err fault) = Err fault
+scan_printed (Ok pack) = Ok (printed_of pack.batch.bytes pack.expiry.bytes)
 
-abbrev pub scan_values : AskedKind → Json → Option Printed
-scan_values kind j = if has_scan kind j then option_and_then (λ scan. scan_printed (pack_in scan)) (string_of (codes "scan") j) else None
+abbrev pub scan_values : AskedKind → Json → Option Scanned
+scan_values kind j = if has_scan kind j then option_map (λ scan. scan_printed (scan_in scan)) (string_of (codes "scan") j) else None
 
--- the scanned values of a question, if it has some: those of the member scanned, which has to have texts, or those of its scan
-unfoldable pub scanned_of : AskedKind → Json → Option (Option Printed)
+-- the scanned values of a question, if it has some: those of the member scanned, which has to have texts, or those of its scan, or its fault
+unfoldable pub scanned_of : AskedKind → Json → Option (Option Scanned)
 scanned_of kind j = if has_scanned kind j then option_and_then values_in (get (codes "scanned") j) else Some (scan_values kind j)
 
 -- whether a text of the member scanned is misread
-abbrev pub is_misread : AskedKind → Json → Option Printed → Bool
+abbrev pub is_misread : AskedKind → Json → Option Scanned → Bool
 is_misread kind j scanned = has_scanned kind j && is_none scanned
 
--- the texts of scanned values; a scan that cannot be read has - in their places as well
-abbrev pub printed_texts : Option Printed → List (List ℕ)
+-- the texts of the values of a scan; one that cannot be read has - in their places as well
+abbrev pub printed_texts : Option Scanned → List (List ℕ)
 printed_texts None = codes "-" ∷ codes "-" ∷ []
-printed_texts (Some printed) = printed.batch.bytes ∷ printed.expiry.bytes ∷ []
+printed_texts (Some (Err fault)) = codes "-" ∷ codes "-" ∷ []
+printed_texts (Some (Ok printed)) = printed.batch.bytes ∷ printed.expiry.bytes ∷ []
 
 -- whether the condition is that they match; there is no other
 abbrev pub is_matching : Option (List ℕ) → Bool
 is_matching None = false
 is_matching (Some t) = bytes_eq t (codes "matches")
 
--- the texts after IF: those of the scanned values; misread texts as they are, so that the line has their fault
-abbrev pub shown_texts : AskedKind → Json → Option Printed → Option (List (List ℕ))
-shown_texts kind j scanned = if is_misread kind j scanned then said_of j else Some (printed_texts scanned)
+-- the texts after IF: those of the member scanned as they are, so that the line has the fault of a misread one, or those of a scan
+abbrev pub shown_texts : AskedKind → Json → Option Scanned → Option (List (List ℕ))
+shown_texts kind j scanned = if has_scanned kind j then said_of j else Some (printed_texts scanned)
 
 -- the texts of the condition of a question with these scanned values: none if it has no condition and nothing is misread
-unfoldable pub condition_texts : AskedKind → Json → Option Printed → Option (List (List ℕ))
+unfoldable pub condition_texts : AskedKind → Json → Option Scanned → Option (List (List ℕ))
 condition_texts kind j scanned =
     if has_condition kind j && not (is_matching (string_of (codes "if_scanned") j)) then None
     else (if has_condition kind j || is_misread kind j scanned then option_map (λ ts. codes "IF" ∷ ts) (shown_texts kind j scanned) else Some [])
@@ -314,15 +316,15 @@ with_scanned scanned (Err f) = Err f
 with_scanned scanned (Ok lines) = Ok (scanned, lines)
 
 -- the scanned values of a question that has no fault
-abbrev pub scanned_in : AskedKind → Json → Option Printed
+abbrev pub scanned_in : AskedKind → Json → Option Scanned
 scanned_in kind j = unwrap_or (scanned_of kind j) None
 
 -- the scanned values and the line of a question with this key and this object as its body, or its refusal; the one other member is the
 -- user
-abbrev pub line_of_object : AskedKind → Option (List ℕ) → Option Json → Result (Option Printed × List ℕ) Refusal
+abbrev pub line_of_object : AskedKind → Option (List ℕ) → Option Json → Result (Option Scanned × List ℕ) Refusal
 line_of_object kind key None = Err (whole fault.Json)
 line_of_object kind key (Some j) = with_scanned (scanned_in kind j) (placed (wrong_member kind j) (line_of key (fields_of 1 kind j)))
 
 -- the scanned values and the line, with its LF, of a question with this key and this body, or its refusal for the first fault
-unfoldable pub question_line : AskedKind → Option (List ℕ) → List ℕ → Result (Option Printed × List ℕ) Refusal
+unfoldable pub question_line : AskedKind → Option (List ℕ) → List ℕ → Result (Option Scanned × List ℕ) Refusal
 question_line kind key body = if is_key key then line_of_object kind key (object_in body) else Err (whole fault.Key)

@@ -1,12 +1,15 @@
 -- The JSON of a reply (RFC 8259), or the problem if there is none (RFC 9457). Names and statuses are our own choice.
-use Rattle.std.specs.Prelude.{ℕ, Bool, true, false, List, [], ◌∷◌, ◌++◌, ◌==◌, ◌||◌, codes, drop, find, Option, Some, None, option_map, unwrap_or, if◌then◌else◌}
+use Rattle.std.specs.Prelude.{ℕ, Bool, true, false, List, [], ◌∷◌, ◌++◌, ◌==◌, ◌||◌, codes, drop, find, Option, Some, None, option_map, unwrap_or, Ok, Err, if◌then◌else◌}
 use Rattle.std.specs.List.{after_first, before_first, flat_map}
 use Rattle.std.specs.Str.{bytes_eq}
 use Rattle.nmvs_stream.specs.InputLines.{input_lines}
 use Rattle.nmvs_messages.specs.Fields.{is_space}
 use Rattle.nmvs_rules.specs.declared.printed.Printed.{Printed}
+use Rattle.nmvs_elements.specs.declared.fault.ScanFault.{ScanFault}
+use Rattle.nmvs_elements.specs.declared.fault.ScanFault.TheVariants as faults
 use Rattle.nmvs_json.specs.declared.reply.Problem.{Problem}
 use Rattle.nmvs_json.specs.declared.reply.Problem.TheVariants.{Unprocessable, Forbidden, Conflict, PreconditionFailed, TooManyRequests, Unavailable, Unknown}
+use Rattle.nmvs_json.specs.Scans.{Scanned}
 
 -- a character in a string: a backslash stands before a quotation mark and before a backslash (RFC 8259, section 7)
 abbrev pub escaped : ℕ → List ℕ
@@ -127,14 +130,15 @@ comparison_member scanned words =
     ++ (comparison scanned.batch.bytes (first_word words) ++ (codes "\",\"expiry\":\"" ++ (comparison scanned.expiry.bytes (first_word (later_words words)) ++ codes "\"}")))
 
 -- the member of the scanned values of a question, if there are some and the reply says a batch number and an expiry date
-abbrev pub scanned_member : Option Printed → Option (List ℕ) → List ℕ
+abbrev pub scanned_member : Option Scanned → Option (List ℕ) → List ℕ
 scanned_member None said = []
-scanned_member (Some scanned) None = []
-scanned_member (Some scanned) (Some words) = comparison_member scanned words
+scanned_member (Some (Err fault)) said = []
+scanned_member (Some (Ok scanned)) None = []
+scanned_member (Some (Ok scanned)) (Some words) = comparison_member scanned words
 
 -- the object of a reply, by its first line without the tag, the places of the words in it, the scanned values of its question, and its
 -- later lines
-abbrev pub reply_object : List Place → Option Printed → List ℕ → List (List ℕ) → List ℕ
+abbrev pub reply_object : List Place → Option Scanned → List ℕ → List (List ℕ) → List ℕ
 reply_object places scanned line lines =
     codes "{\"reply\":"
     ++ (quoted (first_word line)
@@ -162,7 +166,7 @@ abbrev pub details : List (List ℕ × List ℕ)
 details =
     (codes "LONG", codes "The line of the question has over 200 bytes. Shorten its values.")
     ∷ (codes "USER", codes "The user is no name. Send the name that is enrolled.")
-    ∷ (codes "CODE", codes "The code is no product code. Scan again, or type its 14 digits.")
+    ∷ (codes "CODE", codes "The code is no product code, or the scan cannot be read. Scan again, or type the print.")
     ∷ (codes "SERIAL", codes "The serial is no serial number. Scan again, or type the print.")
     ∷ (codes "BATCH", codes "The batch is no batch number. Scan again, or type the print.")
     ∷ (codes "EXPIRY", codes "The expiry is no date of the form YYMMDD. Scan again, or type the print.")
@@ -198,9 +202,27 @@ problem_front TooManyRequests = codes ",\"title\":\"Too Many Requests\",\"status
 problem_front Unavailable = codes ",\"title\":\"Service Unavailable\",\"status\":503,\"detail\":"
 problem_front Unknown = codes ",\"title\":\"Service Unavailable\",\"status\":503,\"detail\":"
 
-abbrev pub problem_end : Problem → List ℕ
-problem_end Unknown = codes ",\"recorded\":\"unknown\"}\n"
-problem_end _ = codes ",\"recorded\":\"no\"}\n"
+abbrev pub recorded_member : Problem → List ℕ
+recorded_member Unknown = codes ",\"recorded\":\"unknown\""
+recorded_member _ = codes ",\"recorded\":\"no\""
+
+-- the fault of a scan as a word (own)
+abbrev pub scan_word : ScanFault → List ℕ
+scan_word faults.Long = codes "LONG"
+scan_word faults.PlainDataMatrix = codes "PLAIN_DATA_MATRIX"
+scan_word faults.Symbology = codes "SYMBOLOGY"
+scan_word faults.NoElement = codes "NO_ELEMENT"
+scan_word (faults.Element place) = codes "ELEMENT"
+scan_word (faults.Short identifier) = codes "SHORT"
+scan_word (faults.Twice identifier) = codes "TWICE"
+scan_word (faults.Missing identifier) = codes "MISSING"
+scan_word (faults.Value identifier) = codes "VALUE"
+
+-- the member that says why the scan of a question cannot be read, if it cannot
+abbrev pub unread_member : Option Scanned → List ℕ
+unread_member None = []
+unread_member (Some (Ok scanned)) = []
+unread_member (Some (Err fault)) = member (string (codes "scan"), scan_word fault)
 
 -- the type of a problem: the section of the page that says what to do, a reference relative to the server (RFC 9457, section 3.1.1)
 unfoldable pub type_text : List ℕ → List ℕ
@@ -211,20 +233,21 @@ unfoldable pub said_text : Problem → List ℕ → List ℕ
 said_text problem fault = problem_front problem ++ quoted (detail_of fault)
 
 unfoldable pub fault_text : Problem → List ℕ → List ℕ
-fault_text problem fault = codes ",\"fault\":" ++ (quoted fault ++ problem_end problem)
+fault_text problem fault = codes ",\"fault\":" ++ (quoted fault ++ recorded_member problem)
 
--- the object of the problem of a fault
-abbrev pub problem_object : List ℕ → List ℕ
-problem_object fault = type_text fault ++ (said_text (problem_named fault) fault ++ fault_text (problem_named fault) fault)
+-- the object of the problem of a fault, by the scanned values of its question
+abbrev pub problem_object : Option Scanned → List ℕ → List ℕ
+problem_object scanned fault =
+    type_text fault ++ (said_text (problem_named fault) fault ++ (fault_text (problem_named fault) fault ++ (unread_member scanned ++ codes "}\n")))
 
 -- the fault of a line without a reply: the words after FAULT, or ENDED if the line does not begin with FAULT
 abbrev pub fault_of : List ℕ → List ℕ
 fault_of line = if bytes_eq (first_word line) (codes "FAULT") then later_words line else codes "ENDED"
 
 -- the body for a question with these scanned values, a first line without its tag, and the later lines
-abbrev pub body_where : Option (List Place) → Option Printed → List ℕ → List (List ℕ) → List ℕ
+abbrev pub body_where : Option (List Place) → Option Scanned → List ℕ → List (List ℕ) → List ℕ
 body_where (Some places) scanned line lines = reply_object places scanned line lines
-body_where None scanned line lines = problem_object (fault_of line)
+body_where None scanned line lines = problem_object scanned (fault_of line)
 
 -- the problem for a first line without its tag
 abbrev pub problem_where : Option (List Place) → List ℕ → Option Problem
@@ -237,14 +260,14 @@ first_line [] = []
 first_line (line ∷ lines) = untagged line
 
 -- the body for the scanned values of a question, and the text that a session of lines wrote to its line
-unfoldable pub body_text : Option Printed → List ℕ → List ℕ
+unfoldable pub body_text : Option Scanned → List ℕ → List ℕ
 body_text scanned text =
     let lines = input_lines text in
     body_where (places_of (first_word (first_line lines))) scanned (first_line lines) (drop 1 lines)
 
 -- the bodies of answers of one line each, by the scanned values of each question: a question without a line has the body of no
 -- answer
-unfoldable pub bodies : List (Option Printed) → List (List ℕ) → List (List ℕ)
+unfoldable pub bodies : List (Option Scanned) → List (List ℕ) → List (List ℕ)
 bodies [] lines = []
 bodies (scanned ∷ others) lines =
     body_where (places_of (first_word (first_line lines))) scanned (first_line lines) [] ∷ bodies others (drop 1 lines)
@@ -256,12 +279,12 @@ passes (Some Unavailable) = true
 passes _ = false
 
 -- whether one of the answers that have these bodies is such a problem
-unfoldable pub has_passing : List (Option Printed) → List (List ℕ) → Bool
+unfoldable pub has_passing : List (Option Scanned) → List (List ℕ) → Bool
 has_passing [] lines = false
 has_passing (scanned ∷ others) lines = passes (problem_where (places_of (first_word (first_line lines))) (first_line lines)) || has_passing others (drop 1 lines)
 
 -- the body for the scanned values of each question of a bulk, and the text that a session of lines wrote to its lines
-unfoldable pub bulk_text : List (Option Printed) → List ℕ → List ℕ
+unfoldable pub bulk_text : List (Option Scanned) → List ℕ → List ℕ
 bulk_text scanned text = codes "{\"replies\":[" ++ (separated [] (bodies scanned (input_lines text)) ++ codes "]}\n")
 
 -- the problem of the text, if it is no reply

@@ -6,9 +6,8 @@ ghost use Rattle.json.specs.Value.{value_view};
 ghost use Rattle.nmvs_json.specs.Bulks as specs;
 
 use crate::question::{count_of, object_in, push_fields, push_key, text_of, wrong_member};
-use crate::{AskedKind, Member, QuestionFault, Refusal};
+use crate::{AskedKind, Member, QuestionFault, Refusal, Scanned};
 use json::{Scratch, Value};
-use nmvs_rules::Printed;
 use std::alloc::{AllocError, Global};
 use std::marker::Model;
 
@@ -18,14 +17,14 @@ const MOST_QUESTIONS: usize = 500;
 /// The scanned values of each question of a bulk, in order; there are none of a question without them.
 #[derive(Drop)]
 pub struct BulkScanned {
-    entries: Vec<Option<Printed>>,
+    entries: Vec<Option<Scanned>>,
 }
 
 impl Model for BulkScanned {
     ghost use Rattle.std.specs.Prelude.{List, Option};
-    ghost use Rattle.nmvs_rules.specs.declared.printed.Printed.{Printed};
+    ghost use Rattle.nmvs_json.specs.Scans.{Scanned};
 
-    ghost Value = { List (Option Printed) };
+    ghost Value = { List (Option Scanned) };
 
     ghost view = { λ s. s.entries.items };
 }
@@ -40,14 +39,14 @@ impl BulkScanned {
     }
 
     /// Appends the scanned values of a question.
-    fn push(&mut self, scanned: Option<Printed>) -> Result<(), AllocError>
+    fn push(&mut self, scanned: Option<Scanned>) -> Result<(), AllocError>
         ensures { OnOk result (self.new ≡ self.old ++ scanned ∷ []) }
     {
         Ok(self.entries.push(scanned)?)
     }
 
     /// The scanned values of each question, in order.
-    pub fn entries(&self) -> &[Option<Printed>]
+    pub fn entries(&self) -> &[Option<Scanned>]
         ensures { result.now ≡ self.now }
     {
         self.entries.as_slice()
@@ -155,7 +154,7 @@ fn wrong_in(item: &Value<'_>, fault: QuestionFault) -> Option<Member>
 
 /// Appends the line of an item. Returns its scanned values.
 #[tactic(auto, unfolding(crate::specs::Bulks::item_line))]
-fn push_item(lines: &mut String, item: &Value<'_>) -> Result<Option<Printed>, QuestionFault>
+fn push_item(lines: &mut String, item: &Value<'_>) -> Result<Option<Scanned>, QuestionFault>
     ensures line { OnOk result (specs.appended (string_bytes lines.old) (specs.item_line (value_view item.now)) ≡ Ok (string_bytes lines.new)) }
     ensures scanned { IfOk result (λ scanned. scanned ≡ specs.item_scanned (value_view item.now)) }
     ensures fault { IfErr result (λ fault. fault ≢ QuestionFault.Memory → specs.item_line (value_view item.now) ≡ Err fault) }
@@ -197,7 +196,7 @@ fn push_question(
     lines: &mut String,
     others: usize,
     item: &Value<'_>,
-) -> Result<Option<Printed>, QuestionFault>
+) -> Result<Option<Scanned>, QuestionFault>
     requires { others ≤ 3 }
     ensures fields { OnOk result (option_map (λ fields. string_bytes lines.old ++ spaced fields) (specs.item_fields others (value_view item.now)) ≡ Some (string_bytes lines.new)) }
     ensures scanned { IfOk result (λ scanned. scanned ≡ specs.item_scanned (value_view item.now)) }

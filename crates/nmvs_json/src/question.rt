@@ -1,5 +1,5 @@
 //! The line that a question of JSON means.
-ghost use Rattle.std.specs.Prelude.{◌≡◌, ◌≢◌, ◌≤◌, ◌++◌, ◌∷◌, [], codes, true, false, Ok, Err, Some, None, IfOk, IfErr, OnOk, IfSome, IfNone, find, map, option_and_then, option_map, string_bytes};
+ghost use Rattle.std.specs.Prelude.{◌≡◌, ◌≢◌, ◌≤◌, ◌++◌, ◌∷◌, [], codes, true, false, Ok, Err, Some, None, IfOk, IfErr, OnOk, IfSome, IfNone, find, map, option_map, string_bytes};
 ghost use Rattle.std.specs.Char.{is_ascii_graphic};
 ghost use Rattle.std.specs.List.{list_all};
 ghost use Rattle.std.specs.Option.{is_none, is_some, option_copied};
@@ -15,7 +15,7 @@ ghost use Rattle.nmvs_json.specs.Refusals.{member_name};
 
 use crate::{AskedKind, Member, QuestionFault, Refusal};
 use json::{Error, Scratch, Value};
-use nmvs_elements::{Elements, read_scan};
+use nmvs_elements::{Elements, ScanFault, read_scan};
 use nmvs_identifier::{Batch, Expiry, Tag};
 use nmvs_rules::Printed;
 use std::alloc::{AllocError, Global};
@@ -26,10 +26,13 @@ const UNREAD: &str = "-";
 /// The members that say the values printed on a pack.
 const PRINTED: &[Member] = &[Member::Batch, Member::Expiry];
 
+/// What a question says of the print on its pack: the values, or the fault of its scan.
+pub type Scanned = Result<Printed, ScanFault>;
+
 /// The line of a question, with its LF, and the scanned values of the question if it has some.
 #[derive(Drop)]
 pub struct QuestionLine {
-    pub scanned: Option<Printed>,
+    pub scanned: Option<Scanned>,
     pub line: String,
 }
 
@@ -133,7 +136,7 @@ pub(crate) fn push_fields(
     kind: AskedKind,
     others: usize,
     object: &Value<'_>,
-) -> Result<Option<Printed>, QuestionFault>
+) -> Result<Option<Scanned>, QuestionFault>
     requires { others ≤ 3 }
     ensures fields { OnOk result (option_map (λ fields. string_bytes line.old ++ spaced fields) (specs.fields_of others kind (value_view object.now)) ≡ Some (string_bytes line.new)) }
     ensures scanned { IfOk result (λ scanned. specs.scanned_of kind (value_view object.now) ≡ Some scanned) }
@@ -200,7 +203,7 @@ fn push_subject(
     line: &mut String,
     kind: AskedKind,
     object: &Value<'_>,
-) -> Result<Option<Printed>, QuestionFault>
+) -> Result<Option<Scanned>, QuestionFault>
     ensures texts { OnOk result (option_map (λ texts. string_bytes line.old ++ specs.preceded texts) (specs.subject_of kind (value_view object.now)) ≡ Some (string_bytes line.new)) }
     ensures scanned { IfOk result (λ scanned. specs.scanned_of kind (value_view object.now) ≡ Some scanned) }
     ensures fault { IfErr result (λ fault. fault ≢ QuestionFault.Memory → (fault ≡ QuestionFault.Fields) × (specs.subject_of kind (value_view object.now) ≡ None)) }
@@ -212,12 +215,12 @@ fn push_subject(
 }
 
 /// Appends the texts of the pack, the batch or the product that an object names, with a space before each. Returns the printed
-/// values of a scan that can be read.
+/// values of a scan, or its fault.
 fn push_names(
     line: &mut String,
     kind: AskedKind,
     object: &Value<'_>,
-) -> Result<Option<Printed>, QuestionFault>
+) -> Result<Option<Scanned>, QuestionFault>
     ensures texts { OnOk result (option_map (λ texts. string_bytes line.old ++ specs.preceded texts) (specs.name_texts kind (value_view object.now)) ≡ Some (string_bytes line.new)) }
     ensures values { IfOk result (λ values. values ≡ specs.scan_values kind (value_view object.now)) }
     ensures fault { IfErr result (λ fault. fault ≢ QuestionFault.Memory → (fault ≡ QuestionFault.Fields) × (specs.name_texts kind (value_view object.now) ≡ None)) }
@@ -229,59 +232,56 @@ fn push_names(
     Ok(None)
 }
 
-/// Appends the code and the serial that the scan of an object carries, with a space before each. Returns its printed values if it
-/// can be read.
-fn push_scan(line: &mut String, object: &Value<'_>) -> Result<Option<Printed>, QuestionFault>
-    ensures texts { OnOk result (option_map (λ scan. string_bytes line.old ++ specs.preceded (specs.pack_texts (scans.pack_in scan))) (specs.string_of (codes "scan") (value_view object.now)) ≡ Some (string_bytes line.new)) }
-    ensures values { IfOk result (λ values. values ≡ option_and_then (λ scan. specs.scan_printed (scans.pack_in scan)) (specs.string_of (codes "scan") (value_view object.now))) }
+/// Appends the code and the serial that the scan of an object carries, with a space before each. Returns its printed values, or
+/// its fault.
+fn push_scan(line: &mut String, object: &Value<'_>) -> Result<Option<Scanned>, QuestionFault>
+    ensures texts { OnOk result (option_map (λ scan. string_bytes line.old ++ specs.preceded (specs.pack_texts (scans.scan_in scan))) (specs.string_of (codes "scan") (value_view object.now)) ≡ Some (string_bytes line.new)) }
+    ensures values { IfOk result (λ values. values ≡ option_map (λ scan. specs.scan_printed (scans.scan_in scan)) (specs.string_of (codes "scan") (value_view object.now))) }
     ensures fault { IfErr result (λ fault. fault ≢ QuestionFault.Memory → (fault ≡ QuestionFault.Fields) × (specs.string_of (codes "scan") (value_view object.now) ≡ None)) }
 {
     let scan = string_of(object, "scan").ok_or(QuestionFault::Fields)?;
-    let pack = pack_in(scan.as_bytes());
+    let pack = scan_in(scan.as_bytes());
     push_pack(line, &pack)?;
-    Ok(printed_on(&pack))
+    Ok(Some(printed_on(&pack)))
 }
 
-/// The pack that a scan carries, if it can be read.
-fn pack_in(scan: &[u8]) -> Option<Elements>
-    ensures { result ≡ scans.pack_in scan.now }
+/// The pack that a scan without a national number carries, or its fault.
+fn scan_in(scan: &[u8]) -> Result<Elements, ScanFault>
+    ensures { result ≡ scans.scan_in scan.now }
 {
-    match read_scan(scan, None) {
-        Ok(pack) => Some(pack),
-        Err(_) => None,
-    }
+    read_scan(scan, None)
 }
 
 /// Appends the code and the serial of a scanned pack, with a space before each; `-` is in their places without a pack.
-fn push_pack(line: &mut String, pack: &Option<Elements>) -> Result<(), AllocError>
+fn push_pack(line: &mut String, pack: &Result<Elements, ScanFault>) -> Result<(), AllocError>
     ensures { OnOk result (string_bytes line.new ≡ string_bytes line.old ++ specs.preceded (specs.pack_texts pack.now)) }
 {
     match pack {
-        Some(pack) => push_both(line, pack.code.text(), pack.serial.text()),
-        None => push_both(line, UNREAD, UNREAD),
+        Ok(pack) => push_both(line, pack.code.text(), pack.serial.text()),
+        Err(_) => push_both(line, UNREAD, UNREAD),
     }
 }
 
-/// The values that are printed on a scanned pack.
-fn printed_on(pack: &Option<Elements>) -> Option<Printed>
+/// The values that are printed on a scanned pack, or the fault of the scan.
+fn printed_on(pack: &Result<Elements, ScanFault>) -> Scanned
     ensures { result ≡ specs.scan_printed pack.now }
 {
     match pack {
-        Some(pack) => Some(Printed {
+        Ok(pack) => Ok(Printed {
             batch: pack.batch,
             expiry: pack.expiry,
         }),
-        None => None,
+        Err(fault) => Err(*fault),
     }
 }
 
-/// The scanned values of a question whose scan has these.
+/// The scanned values of a question whose scan has these, or this fault.
 #[tactic(auto, unfolding(crate::specs::Questions::scanned_of))]
 fn scanned_of(
     kind: AskedKind,
     object: &Value<'_>,
-    read: Option<Printed>,
-) -> Result<Option<Printed>, QuestionFault>
+    read: Option<Scanned>,
+) -> Result<Option<Scanned>, QuestionFault>
     requires { read ≡ specs.scan_values kind (value_view object.now) }
     ensures scanned { IfOk result (λ scanned. specs.scanned_of kind (value_view object.now) ≡ Some scanned) }
     ensures fault { IfErr result (λ fault. (fault ≡ QuestionFault.Fields) × (specs.scanned_of kind (value_view object.now) ≡ None)) }
@@ -296,7 +296,7 @@ fn scanned_of(
 }
 
 /// The printed values of an object that has texts for them: none if one of them is misread.
-fn values_in(scanned: &Value<'_>) -> Result<Option<Printed>, QuestionFault>
+fn values_in(scanned: &Value<'_>) -> Result<Option<Scanned>, QuestionFault>
     ensures values { IfOk result (λ values. specs.values_in (value_view scanned.now) ≡ Some values) }
     ensures fault { IfErr result (λ fault. (fault ≡ QuestionFault.Fields) × (specs.values_in (value_view scanned.now) ≡ None)) }
 {
@@ -318,7 +318,7 @@ fn has_said(scanned: &Value<'_>) -> bool
 
 /// The printed values in an object.
 #[tactic(auto, unfolding(crate::specs::Questions::printed_in))]
-fn printed_in(scanned: &Value<'_>) -> Option<Printed>
+fn printed_in(scanned: &Value<'_>) -> Option<Scanned>
     ensures { result ≡ specs.printed_in (value_view scanned.now) }
 {
     if count_of(scanned) != 2 {
@@ -326,7 +326,7 @@ fn printed_in(scanned: &Value<'_>) -> Option<Printed>
     }
     let batch = batch_of(scanned)?;
     let expiry = expiry_of(scanned)?;
-    Some(Printed { batch, expiry })
+    Some(Ok(Printed { batch, expiry }))
 }
 
 /// The batch number in an object.
@@ -358,7 +358,7 @@ fn push_condition(
     line: &mut String,
     kind: AskedKind,
     object: &Value<'_>,
-    scanned: &Option<Printed>,
+    scanned: &Option<Scanned>,
 ) -> Result<(), QuestionFault>
     ensures texts { OnOk result (option_map (λ texts. string_bytes line.old ++ specs.preceded texts) (specs.condition_texts kind (value_view object.now) scanned.now) ≡ Some (string_bytes line.new)) }
     ensures fault { IfErr result (λ fault. fault ≢ QuestionFault.Memory → (fault ≡ QuestionFault.Fields) × (specs.condition_texts kind (value_view object.now) scanned.now ≡ None)) }
@@ -375,23 +375,23 @@ fn push_condition(
 }
 
 /// Whether a text of the member `scanned` is misread.
-fn is_misread(kind: AskedKind, object: &Value<'_>, scanned: &Option<Printed>) -> bool
+fn is_misread(kind: AskedKind, object: &Value<'_>, scanned: &Option<Scanned>) -> bool
     ensures { result ≡ specs.is_misread kind (value_view object.now) scanned.now }
 {
     has_scanned(kind, object) && scanned.is_none()
 }
 
-/// Appends the texts after `IF`, with a space before each: those of the scanned values, or misread texts as they are.
+/// Appends the texts after `IF`, with a space before each: those of the member `scanned` as they are, or those of a scan.
 fn push_shown(
     line: &mut String,
     kind: AskedKind,
     object: &Value<'_>,
-    scanned: &Option<Printed>,
+    scanned: &Option<Scanned>,
 ) -> Result<(), QuestionFault>
     ensures texts { OnOk result (option_map (λ texts. string_bytes line.old ++ specs.preceded texts) (specs.shown_texts kind (value_view object.now) scanned.now) ≡ Some (string_bytes line.new)) }
     ensures fault { IfErr result (λ fault. fault ≢ QuestionFault.Memory → (fault ≡ QuestionFault.Fields) × (specs.shown_texts kind (value_view object.now) scanned.now ≡ None)) }
 {
-    if is_misread(kind, object, scanned) {
+    if has_scanned(kind, object) {
         return push_said(line, object);
     }
     push_printed(line, scanned)?;
@@ -419,13 +419,15 @@ fn is_matching(object: &Value<'_>) -> bool
     }
 }
 
-/// Appends the texts of scanned values, with a space before each; `-` is in their places if there are none.
-fn push_printed(line: &mut String, scanned: &Option<Printed>) -> Result<(), AllocError>
+/// Appends the texts of the values of a scan, with a space before each; `-` is in their places if there are none.
+fn push_printed(line: &mut String, scanned: &Option<Scanned>) -> Result<(), AllocError>
     ensures { OnOk result (string_bytes line.new ≡ string_bytes line.old ++ specs.preceded (specs.printed_texts scanned.now)) }
 {
     match scanned {
-        Some(printed) => push_both(line, printed.batch.text(), printed.expiry.text().as_str()),
-        None => push_both(line, UNREAD, UNREAD),
+        Some(Ok(printed)) => {
+            push_both(line, printed.batch.text(), printed.expiry.text().as_str())
+        }
+        _ => push_both(line, UNREAD, UNREAD),
     }
 }
 

@@ -6,8 +6,10 @@ ghost use Rattle.nmvs_stream.specs.InputLines.{input_lines};
 ghost use Rattle.nmvs_json.specs.Places.{place_of};
 ghost use Rattle.nmvs_json.specs.Replies as specs;
 
+use crate::Scanned;
 use crate::table::named;
 use memchr::memchr;
+use nmvs_elements::ScanFault;
 use nmvs_rules::Printed;
 use nmvs_stream::cut_line;
 use std::alloc::{AllocError, Allocator};
@@ -150,7 +152,7 @@ const DETAILS: &[(&str, &str)] = &[
     ),
     (
         "CODE",
-        "The code is no product code. Scan again, or type its 14 digits.",
+        "The code is no product code, or the scan cannot be read. Scan again, or type the print.",
     ),
     (
         "SERIAL",
@@ -224,7 +226,7 @@ const DETAILS: &[(&str, &str)] = &[
 #[tactic(auto, unfolding(crate::specs::Replies::body_text, crate::specs::Replies::problem_of))]
 pub fn response_of<A: Allocator>(
     alloc: A,
-    scanned: &Option<Printed>,
+    scanned: &Option<Scanned>,
     text: &[u8],
 ) -> Result<(Option<Problem>, Vec<u8, A>), AllocError>
     ensures problem { IfOk result (λ response. response.0 ≡ specs.problem_of text.now) }
@@ -245,7 +247,7 @@ pub fn response_of<A: Allocator>(
 #[tactic(auto, unfolding(crate::specs::Replies::bulk_text))]
 pub fn bulk_body<A: Allocator>(
     alloc: A,
-    scanned: &[Option<Printed>],
+    scanned: &[Option<Scanned>],
     text: &[u8],
 ) -> Result<(bool, Vec<u8, A>), AllocError>
     ensures passing { IfOk result (λ response. response.0 ≡ specs.has_passing scanned.now (input_lines text.now)) }
@@ -266,7 +268,7 @@ pub fn bulk_body<A: Allocator>(
 /// Returns whether one of them is a problem that passes.
 fn push_answers<A: Allocator>(
     body: &mut Vec<u8, A>,
-    scanned: &[Option<Printed>],
+    scanned: &[Option<Scanned>],
     text: &[u8],
 ) -> Result<bool, AllocError>
     ensures passing { IfOk result (λ passing. passing ≡ specs.has_passing scanned.now (input_lines text.now)) }
@@ -302,7 +304,7 @@ fn passes(problem: Option<Problem>) -> bool
 /// tag and the bytes of the later lines. Returns its problem, if it is no reply.
 fn push_answer<A: Allocator>(
     body: &mut Vec<u8, A>,
-    scanned: &Option<Printed>,
+    scanned: &Option<Scanned>,
     line: &[u8],
     later: &[u8],
 ) -> Result<Option<Problem>, AllocError>
@@ -316,7 +318,7 @@ fn push_answer<A: Allocator>(
             Ok(None)
         }
         None => {
-            let problem = push_problem(body, fault_of(line))?;
+            let problem = push_problem(body, scanned, fault_of(line))?;
             Ok(Some(problem))
         }
     }
@@ -400,7 +402,7 @@ fn fault_of(line: &[u8]) -> &[u8]
 fn push_reply<A: Allocator>(
     body: &mut Vec<u8, A>,
     places: &[Place],
-    scanned: &Option<Printed>,
+    scanned: &Option<Scanned>,
     line: &[u8],
     later: &[u8],
 ) -> Result<(), AllocError>
@@ -432,13 +434,13 @@ fn pack_words<'w>(word: &[u8], words: &'w [u8]) -> Option<&'w [u8]>
 /// Puts the comparison of scanned values with these words of a reply at the end of a body, if there are both.
 fn push_scanned<A: Allocator>(
     body: &mut Vec<u8, A>,
-    scanned: &Option<Printed>,
+    scanned: &Option<Scanned>,
     words: Option<&[u8]>,
 ) -> Result<(), AllocError>
     ensures { OnOk result (body.new.items ≡ body.old.items ++ specs.scanned_member scanned.now (option_copied words.entry)) }
 {
     match (scanned, words) {
-        (Some(printed), Some(words)) => push_comparison(body, printed, words),
+        (Some(Ok(printed)), Some(words)) => push_comparison(body, printed, words),
         _ => Ok(()),
     }
 }
@@ -649,15 +651,21 @@ fn push_escaped<A: Allocator>(body: &mut Vec<u8, A>, byte: u8) -> Result<(), All
     Ok(body.push(byte)?)
 }
 
-/// Puts the problem of a fault at the end of a body, and returns it.
-fn push_problem<A: Allocator>(body: &mut Vec<u8, A>, fault: &[u8]) -> Result<Problem, AllocError>
+/// Puts the problem of a fault at the end of a body, by the scanned values of its question, and returns it.
+fn push_problem<A: Allocator>(
+    body: &mut Vec<u8, A>,
+    scanned: &Option<Scanned>,
+    fault: &[u8],
+) -> Result<Problem, AllocError>
     ensures problem { IfOk result (λ problem. problem ≡ specs.problem_named fault.now) }
-    ensures body { OnOk result (body.new.items ≡ body.old.items ++ specs.problem_object fault.now) }
+    ensures body { OnOk result (body.new.items ≡ body.old.items ++ specs.problem_object scanned.now fault.now) }
 {
     let problem = problem_named(fault);
     push_type(body, fault)?;
     push_said(body, problem, fault)?;
     push_fault(body, problem, fault)?;
+    push_unread(body, scanned)?;
+    body.extend_from_slice(b"}\n")?;
     Ok(problem)
 }
 
@@ -695,7 +703,37 @@ fn push_fault<A: Allocator>(
 {
     body.extend_from_slice(b",\"fault\":")?;
     push_string(body, fault)?;
-    body.extend_from_slice(problem_end(problem))
+    body.extend_from_slice(recorded_member(problem))
+}
+
+/// Puts the reason why the scan of a question cannot be read at the end of a problem, if it cannot.
+fn push_unread<A: Allocator>(
+    body: &mut Vec<u8, A>,
+    scanned: &Option<Scanned>,
+) -> Result<(), AllocError>
+    ensures { OnOk result (body.new.items ≡ body.old.items ++ specs.unread_member scanned.now) }
+{
+    match scanned {
+        Some(Err(fault)) => push_member(body, Place::String(b"scan"), scan_word(*fault)),
+        _ => Ok(()),
+    }
+}
+
+/// The fault of a scan as a word.
+fn scan_word(fault: ScanFault) -> &'static [u8]
+    ensures { result.now ≡ specs.scan_word fault }
+{
+    match fault {
+        ScanFault::Long => b"LONG",
+        ScanFault::PlainDataMatrix => b"PLAIN_DATA_MATRIX",
+        ScanFault::Symbology => b"SYMBOLOGY",
+        ScanFault::NoElement => b"NO_ELEMENT",
+        ScanFault::Element(_) => b"ELEMENT",
+        ScanFault::Short(_) => b"SHORT",
+        ScanFault::Twice(_) => b"TWICE",
+        ScanFault::Missing(_) => b"MISSING",
+        ScanFault::Value(_) => b"VALUE",
+    }
 }
 
 /// The title and the status of a problem (RFC 9457).
@@ -721,12 +759,12 @@ fn problem_front(problem: Problem) -> &'static [u8]
     }
 }
 
-/// A problem after its fault: whether something is recorded.
-fn problem_end(problem: Problem) -> &'static [u8]
-    ensures { result.now ≡ specs.problem_end problem }
+/// Whether something is recorded, as a member.
+fn recorded_member(problem: Problem) -> &'static [u8]
+    ensures { result.now ≡ specs.recorded_member problem }
 {
     match problem {
-        Problem::Unknown => b",\"recorded\":\"unknown\"}\n",
-        _ => b",\"recorded\":\"no\"}\n",
+        Problem::Unknown => b",\"recorded\":\"unknown\"",
+        _ => b",\"recorded\":\"no\"",
     }
 }

@@ -7,7 +7,8 @@ use Rattle.json.specs.Json.{items, members, value}
 use Rattle.json.specs.Lex.{lex, punctuate}
 use Rattle.json.specs.Text.{code_unit, short_escape, content}
 use Rattle.json.specs.Word.{after_number, word}
-use Rattle.nmvs_rules.specs.declared.printed.Printed.{Printed}
+use Rattle.nmvs_elements.specs.declared.identifiers.ApplicationIdentifier.TheVariants as element
+use Rattle.nmvs_elements.specs.declared.fault.ScanFault.TheVariants as scan_fault
 use Rattle.nmvs_json.specs.declared.question_fault.QuestionFault.{QuestionFault}
 use Rattle.nmvs_json.specs.declared.question_fault.QuestionFault.TheVariants as fault
 use Rattle.nmvs_json.specs.declared.refusal.Member.{Member}
@@ -15,11 +16,11 @@ use Rattle.nmvs_json.specs.declared.refusal.Member.TheVariants as member
 use Rattle.nmvs_json.specs.declared.refusal.Refusal.{Refusal}
 use Rattle.nmvs_json.specs.Bulks.{bulk_lines, item_line, item_scanned}
 use Rattle.nmvs_json.specs.Questions.{asked_at, kind_named, question_line, fields_of, subject_of, subject_count, condition_texts, scanned_of, printed_in, wrong_member}
-use Rattle.nmvs_json.specs.Scans.{pack_in}
+use Rattle.nmvs_json.specs.Scans.{Scanned, scan_in}
 use Rattle.nmvs_tests.proofs.Gives.{Gives}
 
 abbrev Read : Type 0
-Read = Result (Option Printed × List ℕ) Refusal
+Read = Result (Option Scanned × List ℕ) Refusal
 
 abbrev line_in : Read → Result (List ℕ) QuestionFault
 line_in (Ok question) = Ok question.1
@@ -52,7 +53,7 @@ lines : Gives line_at (
     ∷ ((codes "/v1/withdraw", batch), Some (Ok (codes "mah1 WITHDRAW 09506000134352 B/1\n")))
     ∷ ((codes "/v1/report", codes "{\"user\":\"nca1\",\"code\":\"09506000134352\"}"), Some (Ok (codes "nca1 REPORT 09506000134352\n")))
     ∷ [])
-unfolding chars encode is_utf8 items members value lex punctuate code_unit short_escape content after_number word kind_named question_line fields_of subject_of subject_count condition_texts scanned_of printed_in pack_in
+unfolding chars encode is_utf8 items members value lex punctuate code_unit short_escape content after_number word kind_named question_line fields_of subject_of subject_count condition_texts scanned_of printed_in scan_in
 lines = refl
 
 no-paths : Gives asked_at (
@@ -71,7 +72,7 @@ abbrev with_key : List ℕ → List ℕ × List ℕ → Option (Result (List ℕ
 with_key key ask = option_map (λ kind. line_in (question_line kind (Some key) ask.1)) (asked_at ask.0)
 
 key : with_key (codes "a17") (codes "/v1/verify", pack) ≡ Some (Ok (codes "#a17 ph1 VERIFY 09506000134352 SN1\n"))
-unfolding chars encode is_utf8 items members value lex punctuate code_unit short_escape content after_number word kind_named question_line fields_of subject_of subject_count condition_texts scanned_of printed_in pack_in
+unfolding chars encode is_utf8 items members value lex punctuate code_unit short_escape content after_number word kind_named question_line fields_of subject_of subject_count condition_texts scanned_of printed_in scan_in
 key = refl
 
 no-keys : Gives (λ key. with_key key (codes "/v1/report", [])) (
@@ -80,7 +81,7 @@ no-keys : Gives (λ key. with_key key (codes "/v1/report", [])) (
     ∷ (codes "a b", Some (Err fault.Key))
     ∷ (codes "12345678901234567890123456789012345678901", Some (Err fault.Key))
     ∷ [])
-unfolding chars encode is_utf8 items members value lex punctuate code_unit short_escape content after_number word kind_named question_line fields_of subject_of subject_count condition_texts scanned_of printed_in pack_in
+unfolding chars encode is_utf8 items members value lex punctuate code_unit short_escape content after_number word kind_named question_line fields_of subject_of subject_count condition_texts scanned_of printed_in scan_in
 no-keys = refl
 
 faults : Gives (λ body. line_at (codes "/v1/report", body)) (
@@ -100,7 +101,7 @@ faults : Gives (λ body. line_at (codes "/v1/report", body)) (
     ∷ (codes "{\"user\":\"nca1\",\"code\":\"" ++ 195 ∷ 169 ∷ codes "\"}", Some (Err fault.Fields))
     ∷ (34 ∷ 255 ∷ 34 ∷ [], Some (Err fault.Json))
     ∷ [])
-unfolding chars encode is_utf8 items members value lex punctuate code_unit short_escape content after_number word kind_named question_line fields_of subject_of subject_count condition_texts scanned_of printed_in pack_in
+unfolding chars encode is_utf8 items members value lex punctuate code_unit short_escape content after_number word kind_named question_line fields_of subject_of subject_count condition_texts scanned_of printed_in scan_in
 faults = refl
 
 -- a scan is the code and the serial of its pack, and - for both if it is none
@@ -121,7 +122,7 @@ scans : Gives scan_line (
     ∷ (codes "010950600013435210B1\\u001d1728020021SN1\\u001d", Some (Ok (codes "ph1 SUPPLY 09506000134352 SN1\n")))
     ∷ (codes "]d2010950600013435217280200\\u0031\\u0030B1\\u001d21SN1", Some (Ok (codes "ph1 SUPPLY 09506000134352 SN1\n")))
     ∷ [])
-unfolding chars encode is_utf8 items members value lex punctuate code_unit short_escape content after_number word kind_named question_line fields_of subject_of subject_count condition_texts scanned_of printed_in pack_in
+unfolding chars encode is_utf8 items members value lex punctuate code_unit short_escape content after_number word kind_named question_line fields_of subject_of subject_count condition_texts scanned_of printed_in scan_in
 scans = refl
 
 no-scans : Gives scan_line (
@@ -136,7 +137,7 @@ no-scans : Gives scan_line (
     ∷ (codes "]d201095060001343521728020010B1\\u001d21SN1\\u001d712123", Some (Ok (codes "ph1 SUPPLY - -\n")))
     ∷ (codes "]d201095060001343521728020010B1\\n21SN1", Some (Ok (codes "ph1 SUPPLY - -\n")))
     ∷ [])
-unfolding chars encode is_utf8 items members value lex punctuate code_unit short_escape content after_number word kind_named question_line fields_of subject_of subject_count condition_texts scanned_of printed_in pack_in
+unfolding chars encode is_utf8 items members value lex punctuate code_unit short_escape content after_number word kind_named question_line fields_of subject_of subject_count condition_texts scanned_of printed_in scan_in
 no-scans = refl
 
 scans-misplaced : Gives line_at (
@@ -147,7 +148,7 @@ scans-misplaced : Gives line_at (
     ∷ ((codes "/v1/upload", codes "{\"user\":\"ph1\",\"scan\":\"]d201095060001343521728020010B1\\u001d21SN1\",\"batch\":\"B1\",\"expiry\":\"280200\"}"), Some (Err fault.Fields))
     ∷ ((codes "/v1/verify", codes "{\"user\":\"ph1\",\"scan\":1}"), Some (Err fault.Fields))
     ∷ [])
-unfolding chars encode is_utf8 items members value lex punctuate code_unit short_escape content after_number word kind_named question_line fields_of subject_of subject_count condition_texts scanned_of printed_in pack_in
+unfolding chars encode is_utf8 items members value lex punctuate code_unit short_escape content after_number word kind_named question_line fields_of subject_of subject_count condition_texts scanned_of printed_in scan_in
 scans-misplaced = refl
 
 -- misread values end the line, which then has their fault
@@ -157,7 +158,7 @@ misread : Gives supply (
     ∷ (codes "{\"user\":\"ph1\",\"code\":\"1\",\"serial\":\"2\",\"if_scanned\":\"matches\",\"scanned\":{\"batch\":\"B1\",\"expiry\":\"2\"}}", Some (Ok (codes "ph1 SUPPLY 1 2 IF B1 2\n")))
     ∷ (codes "{\"user\":\"ph1\",\"code\":\"1\",\"serial\":\"2\",\"scanned\":{\"batch\":\"B1\",\"expiry\":\"280200\"}}", Some (Ok (codes "ph1 SUPPLY 1 2\n")))
     ∷ [])
-unfolding chars encode is_utf8 items members value lex punctuate code_unit short_escape content after_number word kind_named question_line fields_of subject_of subject_count condition_texts scanned_of printed_in pack_in
+unfolding chars encode is_utf8 items members value lex punctuate code_unit short_escape content after_number word kind_named question_line fields_of subject_of subject_count condition_texts scanned_of printed_in scan_in
 misread = refl
 
 -- a condition ends the line
@@ -166,7 +167,7 @@ conditions : Gives supply (
     ∷ (codes "{\"user\":\"ph1\",\"code\":\"1\",\"serial\":\"2\",\"if_scanned\":\"matches\",\"scanned\":{\"batch\":\"B/2\",\"expiry\":\"251231\"}}", Some (Ok (codes "ph1 SUPPLY 1 2 IF B/2 251231\n")))
     ∷ (codes "{\"user\":\"ph1\",\"if_scanned\":\"matches\",\"scan\":\"\"}", Some (Ok (codes "ph1 SUPPLY - - IF - -\n")))
     ∷ [])
-unfolding chars encode is_utf8 items members value lex punctuate code_unit short_escape content after_number word kind_named question_line fields_of subject_of subject_count condition_texts scanned_of printed_in pack_in
+unfolding chars encode is_utf8 items members value lex punctuate code_unit short_escape content after_number word kind_named question_line fields_of subject_of subject_count condition_texts scanned_of printed_in scan_in
 conditions = refl
 
 no-conditions : Gives supply (
@@ -178,28 +179,42 @@ no-conditions : Gives supply (
     ∷ (codes "{\"user\":\"ph1\",\"code\":\"1\",\"serial\":\"2\",\"scanned\":{\"batch\":\"B1\"}}", Some (Err fault.Fields))
     ∷ (codes "{\"user\":\"ph1\",\"code\":\"1\",\"serial\":\"2\",\"if_scanned\":\"differs\",\"scanned\":{\"batch\":\"B1\",\"expiry\":\"280200\"}}", Some (Err fault.Fields))
     ∷ [])
-unfolding chars encode is_utf8 items members value lex punctuate code_unit short_escape content after_number word kind_named question_line fields_of subject_of subject_count condition_texts scanned_of printed_in pack_in
+unfolding chars encode is_utf8 items members value lex punctuate code_unit short_escape content after_number word kind_named question_line fields_of subject_of subject_count condition_texts scanned_of printed_in scan_in
 no-conditions = refl
 
--- the scanned values of a question are those of its scan
-abbrev values_in : Read → Option (Option Printed)
+-- the scanned values of a question are those of its scan, or its fault
+abbrev values_in : Read → Option (Option Scanned)
 values_in (Ok question) = Some question.0
 values_in (Err f) = None
 
-abbrev values_at : List ℕ → Option (Option Printed)
+abbrev values_at : List ℕ → Option (Option Scanned)
 values_at body = option_and_then (λ kind. values_in (question_line kind None body)) (asked_at (codes "/v1/verify"))
 
-abbrev printed : List ℕ → List ℕ → Option Printed
-printed b x = Some (record { batch = record { bytes = b }; expiry = record { bytes = x } })
+abbrev printed : List ℕ → List ℕ → Option Scanned
+printed b x = Some (Ok (record { batch = record { bytes = b }; expiry = record { bytes = x } }))
 
 values : Gives values_at (
     (codes "{\"user\":\"ph1\",\"code\":\"1\",\"serial\":\"2\"}", Some None)
     ∷ (codes "{\"user\":\"ph1\",\"scan\":\"]d201095060001343521728020010B1\\u001d21SN1\"}", Some (printed (codes "B1") (codes "280200")))
-    ∷ (codes "{\"user\":\"ph1\",\"scan\":\"\"}", Some None)
+    ∷ (codes "{\"user\":\"ph1\",\"scan\":\"\"}", Some (Some (Err (scan_fault.Missing element.Code))))
     ∷ (codes "{\"user\":\"ph1\",\"code\":\"1\",\"serial\":\"2\",\"scanned\":{\"batch\":\"B1\",\"expiry\":\"281300\"}}", Some None)
     ∷ [])
-unfolding chars encode is_utf8 items members value lex punctuate code_unit short_escape content after_number word kind_named question_line fields_of subject_of subject_count condition_texts scanned_of printed_in pack_in
+unfolding chars encode is_utf8 items members value lex punctuate code_unit short_escape content after_number word kind_named question_line fields_of subject_of subject_count condition_texts scanned_of printed_in scan_in
 values = refl
+
+unread : Gives (λ scan. values_at (scanned scan)) (
+    (codes "]d20109506000134352xxxxxxxxxxxxxxxxxxxxxxxxxxxxxxxxxxxxxxxxxxxxxxxxxxxxxxxxxxxxxxxxxxxxxxxxxxxxxxxxxx", Some (Some (Err scan_fault.Long)))
+    ∷ (codes "]d10109506000134352", Some (Some (Err scan_fault.PlainDataMatrix)))
+    ∷ (codes "]E00109506000134352", Some (Some (Err scan_fault.Symbology)))
+    ∷ (codes "5901234123457", Some (Some (Err scan_fault.NoElement)))
+    ∷ (codes "]d2\\u001d0109506000134352712123", Some (Some (Err (scan_fault.Element 20))))
+    ∷ (codes "01095060001343521728020", Some (Some (Err (scan_fault.Short element.Expiry))))
+    ∷ (codes "10B1\\u001d10B1", Some (Some (Err (scan_fault.Twice element.Batch))))
+    ∷ (codes "010950600013435210B121SN1", Some (Some (Err (scan_fault.Missing element.Serial))))
+    ∷ (codes "010950600013435310B1\\u001d21SN1\\u001d17281300", Some (Some (Err (scan_fault.Value element.Code))))
+    ∷ [])
+unfolding chars encode is_utf8 items members value lex punctuate code_unit short_escape content after_number word kind_named question_line fields_of subject_of subject_count condition_texts scanned_of printed_in scan_in
+unread = refl
 
 -- a refusal names the first member that is missing or wrong, and none if one is too many
 abbrev place_in : {T : Type 0} → Result T Refusal → Option (Option ℕ × Option Member)
@@ -219,7 +234,7 @@ places : Gives place_at (
     ∷ (codes "{\"user\":\"ph1\",\"code\":\"1\",\"serial\":\"2\",\"batch\":\"B1\"}", Some (None, None))
     ∷ (codes "{", Some (None, None))
     ∷ [])
-unfolding chars encode is_utf8 items members value lex punctuate code_unit short_escape content after_number word kind_named question_line fields_of subject_of subject_count condition_texts scanned_of printed_in wrong_member pack_in
+unfolding chars encode is_utf8 items members value lex punctuate code_unit short_escape content after_number word kind_named question_line fields_of subject_of subject_count condition_texts scanned_of printed_in wrong_member scan_in
 places = refl
 
 -- ---- bulks
@@ -228,26 +243,26 @@ abbrev bulk : List ℕ → List ℕ
 bulk questions = codes "{\"questions\":[" ++ (questions ++ codes "]}")
 
 abbrev Bulk : Type 0
-Bulk = Result (List (Option Printed) × List ℕ) Refusal
+Bulk = Result (List (Option Scanned) × List ℕ) Refusal
 
 bulk-of-one : bulk_lines (bulk (codes "{\"ask\":\"verify\",\"user\":\"ph1\",\"code\":\"09506000134352\",\"serial\":\"SN1\"}"))
     ≡ Ok (None ∷ [], codes "ph1 VERIFY 09506000134352 SN1\n")
-unfolding chars encode is_utf8 items members value lex punctuate code_unit short_escape content after_number word kind_named bulk_lines item_line item_scanned fields_of subject_of subject_count condition_texts scanned_of printed_in pack_in
+unfolding chars encode is_utf8 items members value lex punctuate code_unit short_escape content after_number word kind_named bulk_lines item_line item_scanned fields_of subject_of subject_count condition_texts scanned_of printed_in scan_in
 bulk-of-one = refl
 
 bulk-of-two : bulk_lines (bulk (codes "{\"key\":\"a17\",\"serial\":\"A\",\"code\":\"1\",\"user\":\"wh1\",\"ask\":\"export\"},\n{\"ask\":\"recall\",\"user\":\"mah1\",\"code\":\"2\",\"batch\":\"B\"}"))
     ≡ Ok (None ∷ None ∷ [], codes "#a17 wh1 EXPORT 1 A\nmah1 RECALL 2 B\n")
-unfolding chars encode is_utf8 items members value lex punctuate code_unit short_escape content after_number word kind_named bulk_lines item_line item_scanned fields_of subject_of subject_count condition_texts scanned_of printed_in pack_in
+unfolding chars encode is_utf8 items members value lex punctuate code_unit short_escape content after_number word kind_named bulk_lines item_line item_scanned fields_of subject_of subject_count condition_texts scanned_of printed_in scan_in
 bulk-of-two = refl
 
 bulk-of-three : bulk_lines (bulk (codes "{\"ask\":\"upload\",\"user\":\"mah1\",\"code\":\"1\",\"serial\":\"A\",\"batch\":\"B\",\"expiry\":\"2\",\"key\":\"k\"},{\"ask\":\"supply\",\"user\":\"ph1\",\"scan\":\"]d201095060001343521728020010B1\\u001d21SN1\",\"key\":\"k\"},{\"ask\":\"theft\",\"user\":\"mah1\",\"scan\":\"\"}"))
-    ≡ Ok (None ∷ printed (codes "B1") (codes "280200") ∷ None ∷ [], codes "#k mah1 UPLOAD 1 A B 2\n#k ph1 SUPPLY 09506000134352 SN1\nmah1 THEFT - -\n")
-unfolding chars encode is_utf8 items members value lex punctuate code_unit short_escape content after_number word kind_named bulk_lines item_line item_scanned fields_of subject_of subject_count condition_texts scanned_of printed_in pack_in
+    ≡ Ok (None ∷ printed (codes "B1") (codes "280200") ∷ Some (Err (scan_fault.Missing element.Code)) ∷ [], codes "#k mah1 UPLOAD 1 A B 2\n#k ph1 SUPPLY 09506000134352 SN1\nmah1 THEFT - -\n")
+unfolding chars encode is_utf8 items members value lex punctuate code_unit short_escape content after_number word kind_named bulk_lines item_line item_scanned fields_of subject_of subject_count condition_texts scanned_of printed_in scan_in
 bulk-of-three = refl
 
 bulk-with-values : bulk_lines (bulk (codes "{\"ask\":\"verify\",\"user\":\"ph1\",\"code\":\"1\",\"serial\":\"2\"},{\"ask\":\"status\",\"user\":\"ph1\",\"code\":\"1\",\"serial\":\"2\",\"scanned\":{\"expiry\":\"251231\",\"batch\":\"B/2\"}}"))
     ≡ Ok (None ∷ printed (codes "B/2") (codes "251231") ∷ [], codes "ph1 VERIFY 1 2\nph1 STATUS 1 2\n")
-unfolding chars encode is_utf8 items members value lex punctuate code_unit short_escape content after_number word kind_named bulk_lines item_line item_scanned fields_of subject_of subject_count condition_texts scanned_of printed_in pack_in
+unfolding chars encode is_utf8 items members value lex punctuate code_unit short_escape content after_number word kind_named bulk_lines item_line item_scanned fields_of subject_of subject_count condition_texts scanned_of printed_in scan_in
 bulk-with-values = refl
 
 -- a bulk is refused whole: a good question stands before each of these
@@ -270,7 +285,7 @@ bad-items : Gives after_good (
     ∷ (codes "{\"ask\":\"verify\",\"user\":\"ph1\",\"code\":\"1\",\"serial\":\"2\",\"key\":7}", Some fault.Key)
     ∷ (codes "{\"ask\":\"verify\",\"user\":\"ph1\",\"code\":\"1\",\"serial\":\"2\",\"ask\":\"verify\"}", Some fault.Json)
     ∷ [])
-unfolding chars encode is_utf8 items members value lex punctuate code_unit short_escape content after_number word kind_named bulk_lines item_line item_scanned fields_of subject_of subject_count condition_texts scanned_of printed_in pack_in
+unfolding chars encode is_utf8 items members value lex punctuate code_unit short_escape content after_number word kind_named bulk_lines item_line item_scanned fields_of subject_of subject_count condition_texts scanned_of printed_in scan_in
 bad-items = refl
 
 -- that of a bulk names the first item with a fault too, counted from 0
@@ -280,7 +295,7 @@ bulk-places : Gives (λ items. place_in (bulk_lines (bulk items))) (
     ∷ (codes "{\"ask\":\"verify\",\"user\":\"ph1\",\"code\":\"1\",\"serial\":\"2\"},{\"ask\":\"verify\",\"user\":\"ph1\",\"code\":\"1\",\"serial\":\"2\",\"key\":7}", Some (Some 1, Some member.Key))
     ∷ (codes "", Some (None, Some member.Questions))
     ∷ [])
-unfolding chars encode is_utf8 items members value lex punctuate code_unit short_escape content after_number word kind_named bulk_lines item_line item_scanned fields_of subject_of subject_count condition_texts scanned_of printed_in wrong_member pack_in
+unfolding chars encode is_utf8 items members value lex punctuate code_unit short_escape content after_number word kind_named bulk_lines item_line item_scanned fields_of subject_of subject_count condition_texts scanned_of printed_in wrong_member scan_in
 bulk-places = refl
 
 no-bulks : Gives (λ body. fault_of (bulk_lines body)) (
@@ -291,5 +306,5 @@ no-bulks : Gives (λ body. fault_of (bulk_lines body)) (
     ∷ (codes "{\"questions\":{}}", Some fault.Fields)
     ∷ (codes "{\"questions\":[],\"user\":\"ph1\"}", Some fault.Fields)
     ∷ [])
-unfolding chars encode is_utf8 items members value lex punctuate code_unit short_escape content after_number word kind_named bulk_lines item_line item_scanned fields_of subject_of subject_count condition_texts scanned_of printed_in pack_in
+unfolding chars encode is_utf8 items members value lex punctuate code_unit short_escape content after_number word kind_named bulk_lines item_line item_scanned fields_of subject_of subject_count condition_texts scanned_of printed_in scan_in
 no-bulks = refl

@@ -1,8 +1,10 @@
 -- The JSON of replies; the texts are written by hand, from the tables of docs/PROTOCOL.md.
-use Rattle.std.proofs.Common.{◌≡◌, ℕ, true, false, List, [], ◌∷◌, ◌++◌, Option, Some, None, refl}
+use Rattle.std.proofs.Common.{◌≡◌, ℕ, true, false, List, [], ◌∷◌, ◌++◌, Option, Some, None, Ok, Err, refl}
 use Rattle.std.specs.Prelude.{codes, map}
 use Rattle.std.specs.Fmt.{digits}
-use Rattle.nmvs_rules.specs.declared.printed.Printed.{Printed}
+use Rattle.nmvs_elements.specs.declared.identifiers.ApplicationIdentifier.TheVariants as element
+use Rattle.nmvs_elements.specs.declared.fault.ScanFault.{ScanFault}
+use Rattle.nmvs_elements.specs.declared.fault.ScanFault.TheVariants as scan_fault
 use Rattle.nmvs_stream.specs.InputLines.{input_lines, lines_after}
 use Rattle.nmvs_json.specs.declared.reply.Problem.{Problem}
 use Rattle.nmvs_json.specs.declared.reply.Problem.TheVariants.{Unprocessable, Forbidden, Conflict, PreconditionFailed, TooManyRequests, Unavailable, Unknown}
@@ -10,6 +12,7 @@ use Rattle.nmvs_json.specs.Replies.{body_text, places_of, separated, batch_place
 use Rattle.nmvs_json.specs.declared.question_fault.QuestionFault.TheVariants as fault
 use Rattle.nmvs_json.specs.declared.refusal.Member.TheVariants as member
 use Rattle.nmvs_json.specs.Refusals.{front_of, refusal_text}
+use Rattle.nmvs_json.specs.Scans.{Scanned}
 use Rattle.nmvs_tests.proofs.Gives.{Gives}
 
 replies : Gives (body_text None) (
@@ -103,7 +106,7 @@ ended = refl
 
 -- a bulk has a body for each question
 bulk : bulk_text (None ∷ None ∷ None ∷ []) (codes "#a17 UPLOADED\nFAULT CODE\nALERT HELD FLAGGED 17\n")
-    ≡ codes "{\"replies\":[{\"reply\":\"UPLOADED\"}\n,{\"type\":\"/problems#CODE\",\"title\":\"Unprocessable Content\",\"status\":422,\"detail\":\"The code is no product code. Scan again, or type its 14 digits.\",\"fault\":\"CODE\",\"recorded\":\"no\"}\n,{\"reply\":\"ALERT\",\"cause\":\"HELD\",\"flag\":\"FLAGGED\",\"number\":17}\n]}\n"
+    ≡ codes "{\"replies\":[{\"reply\":\"UPLOADED\"}\n,{\"type\":\"/problems#CODE\",\"title\":\"Unprocessable Content\",\"status\":422,\"detail\":\"The code is no product code, or the scan cannot be read. Scan again, or type the print.\",\"fault\":\"CODE\",\"recorded\":\"no\"}\n,{\"reply\":\"ALERT\",\"cause\":\"HELD\",\"flag\":\"FLAGGED\",\"number\":17}\n]}\n"
 unfolding body_text places_of separated batch_places batch_objects later_members pack_words comparison_member detail_named problem_named problem_front type_text said_text fault_text bulk_text bodies problem_of lines_after
 bulk = refl
 
@@ -133,8 +136,8 @@ unfolding digits front_of refusal_text
 refusals = refl
 
 -- scanned values are compared with the batch and the expiry date of a reply
-abbrev printed : List ℕ → List ℕ → Option Printed
-printed b x = Some (record { batch = record { bytes = b }; expiry = record { bytes = x } })
+abbrev printed : List ℕ → List ℕ → Option Scanned
+printed b x = Some (Ok (record { batch = record { bytes = b }; expiry = record { bytes = x } }))
 
 abbrev compared : List ℕ × List ℕ × List ℕ → List ℕ
 compared c = body_text (printed c.0 c.1) c.2
@@ -154,3 +157,30 @@ bulk-compared : bulk_text (None ∷ printed (codes "B1") (codes "280200") ∷ []
     ≡ codes "{\"replies\":[{\"reply\":\"AUTHENTIC\",\"batch\":\"B1\",\"expiry\":\"280200\",\"validity\":\"VALID\"}\n,{\"reply\":\"AUTHENTIC\",\"batch\":\"B2\",\"expiry\":\"280200\",\"validity\":\"VALID\",\"scanned\":{\"batch\":\"DIFFERS\",\"expiry\":\"MATCHES\"}}\n]}\n"
 unfolding body_text places_of separated batch_places batch_objects later_members pack_words comparison_member detail_named problem_named problem_front type_text said_text fault_text bulk_text bodies problem_of lines_after
 bulk-compared = refl
+
+-- a problem says why the scan of its question cannot be read
+abbrev unread : ScanFault → List ℕ
+unread fault = body_text (Some (Err fault)) (codes "FAULT CODE\n")
+
+abbrev unread_body : List ℕ → List ℕ
+unread_body why =
+    codes "{\"type\":\"/problems#CODE\",\"title\":\"Unprocessable Content\",\"status\":422,\"detail\":\"The code is no product code, or the scan cannot be read. Scan again, or type the print.\",\"fault\":\"CODE\",\"recorded\":\"no\",\"scan\":\"" ++ (why ++ codes "\"}\n")
+
+reasons : Gives unread (
+    (scan_fault.Long, unread_body (codes "LONG"))
+    ∷ (scan_fault.PlainDataMatrix, unread_body (codes "PLAIN_DATA_MATRIX"))
+    ∷ (scan_fault.Symbology, unread_body (codes "SYMBOLOGY"))
+    ∷ (scan_fault.NoElement, unread_body (codes "NO_ELEMENT"))
+    ∷ (scan_fault.Element 22, unread_body (codes "ELEMENT"))
+    ∷ (scan_fault.Short element.Code, unread_body (codes "SHORT"))
+    ∷ (scan_fault.Twice element.Serial, unread_body (codes "TWICE"))
+    ∷ (scan_fault.Missing element.Batch, unread_body (codes "MISSING"))
+    ∷ (scan_fault.Value element.Expiry, unread_body (codes "VALUE"))
+    ∷ [])
+unfolding body_text places_of separated batch_places batch_objects later_members pack_words comparison_member detail_named problem_named problem_front type_text said_text fault_text bulk_text bodies problem_of lines_after
+reasons = refl
+
+bulk-unread : bulk_text (Some (Err (scan_fault.Missing element.Serial)) ∷ None ∷ []) (codes "FAULT CODE\nUPLOADED\n")
+    ≡ codes "{\"replies\":[" ++ (unread_body (codes "MISSING") ++ codes ",{\"reply\":\"UPLOADED\"}\n]}\n")
+unfolding body_text places_of separated batch_places batch_objects later_members pack_words comparison_member detail_named problem_named problem_front type_text said_text fault_text bulk_text bodies problem_of lines_after
+bulk-unread = refl
