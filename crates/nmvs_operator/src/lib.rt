@@ -2,8 +2,9 @@
 //!
 //! [`read_options`] reads a command line. [`load_users`] publishes the users of a file, all at once, by a
 //! `nmvs_directory::Registrar`; [`users_faults`] lists all that is wrong with one. [`obey_all`] carries out the
-//! [`Order`]s of a [`Console`] as they come. It shows the notice of changed users by a [`Latest`] before it answers. It
-//! asks a [`Service`] for all that only a server can do or count.
+//! [`Order`]s of a `Console` as they come. It shows the notice of changed users by a [`Latest`] before it answers. It
+//! asks a [`Service`] for all that only a server can do or count. [`obey_following`] serves the console of a server that follows
+//! another.
 //!
 //! It serves no lines: `nmvs_server` decides what is served, and when commands are read.
 #![tactic(auto)]
@@ -15,27 +16,26 @@ mod commands;
 mod faults;
 mod figures;
 mod latest;
+mod lines;
 mod options;
 mod order;
 mod reload;
 mod roll;
 mod service;
-mod standby;
 mod users;
 mod users_check;
 
 pub use command_line::VERSION;
-pub use commands::obey_all;
+pub use commands::{obey_all, obey_following};
 pub use faults::{LoadFault, ObeyFault};
-pub use figures::{Figure, Topic};
+pub use figures::Figure;
 pub use latest::Latest;
 pub use options::{
     MOST_CONNECTIONS, MOST_IDLE, MOST_RATE, MOST_SESSIONS, MOST_SHARDS, MOST_SILENCE, MOST_WORKERS,
     NEW_YEAR, OptionFault, Options, read_options,
 };
-pub use order::{Order, read_order};
+pub use order::{Fixed, Order, read_order};
 pub use roll::{UserCounts, count_users, enrolment_text};
-pub use service::{Deed, Service, ServiceFault};
-pub use standby::{Standby, obey_standby, read_standby};
+pub use service::{Perform, Service, ServiceFault};
 pub use users::{load_users, read_all, users_trouble};
 pub use users_check::{UsersFault, changes_nothing, users_faults};
