@@ -7,7 +7,5 @@ pub mod Roll
 pub mod UsersFaults
 pub mod Reload
 pub mod Commands
-pub mod Progress
 pub mod Address
 pub mod ClusterNames
-pub mod Standby
