@@ -1,5 +1,5 @@
 //! Opens the repository and its log, serves by them, and closes them.
-ghost use Rattle.std.specs.Prelude.{◌≡◌, ◌≤◌, ◌<◌, ℕ, length, vec_len, IfNone, IfSome};
+ghost use Rattle.std.specs.Prelude.{◌≡◌, ◌≤◌, ◌<◌, ℕ, length, vec_len, IfNone, IfOk, IfSome};
 ghost use Rattle.nmvs_desk.specs.Opening.{table_of};
 ghost use Rattle.nmvs_desk.specs.Placing.{IsPartOf};
 ghost use Rattle.nmvs_desk.specs.Settlement.{row};
@@ -267,7 +267,9 @@ fn with_beat<'f, 'r, H: Histories + LogName>(
 fn open_pool<'r, 'o, R: Host>(
     config: &Config<'r, 'o, R>,
     workers: usize,
-) -> Result<(WorkerPool<'r>, Vec<Poller>, Poller), Fault<'o>> {
+) -> Result<(WorkerPool<'r>, Vec<Poller>, Poller), Fault<'o>>
+    ensures proxy { IfOk result (λ opened. opened.0.proxy ≡ config.now.run.options.now.proxy) }
+{
     let (run, bounds) = (&config.run, bounds_of(config.run.options, workers));
     match WorkerPool::open(run.rt, *run.alloc, workers, bounds, config.metrics) {
         Ok(opened) => Ok(opened),
