@@ -33,8 +33,6 @@ pub struct Config<'r, 'o, R> {
     pub interrupt: &'r AtomicBool,
     /// Whether the log was lost to the server of another machine, or its engine was.
     pub is_fenced: AtomicBool,
-    /// Whether the server gives its turn up at the end.
-    pub hands_over: AtomicBool,
     /// The turn of a server among several machines.
     pub turn: Mutex<Option<Turn<'r>>>,
 }
