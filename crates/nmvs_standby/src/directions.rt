@@ -54,10 +54,15 @@ impl<'d> Perform for Director<'d> {
 
     fn perform(&mut self, alloc: Global, order: &Order<'_>) -> Result<Vec<Figure>, ServiceFault> {
         match order {
-            Order::Fixed(Fixed::TakeOver) => self.0.takes_over.store(true, Ordering::SeqCst),
-            Order::Fixed(Fixed::Stop) => self.0.stops.store(true, Ordering::SeqCst),
-            _ => return Err(ServiceFault::Standby),
+            Order::Fixed(Fixed::TakeOver) => {
+                self.0.takes_over.store(true, Ordering::SeqCst);
+                Ok(Vec::new(alloc))
+            }
+            Order::Fixed(Fixed::Stop) => {
+                self.0.stops.store(true, Ordering::SeqCst);
+                Ok(Vec::new(alloc))
+            }
+            _ => Err(ServiceFault::Standby),
         }
-        Ok(Vec::new(alloc))
     }
 }
