@@ -27,14 +27,11 @@ pub(crate) fn serve_in_cluster<'r, 'o, R: Host + Sync, T: Sides>(
     match follow(&run, cluster, dialer, metrics, console, beside.interrupt) {
         Ok(Some((followed, turn))) => {
             metrics.note_standby(false);
-            serve_from(
-                run,
-                metrics,
-                &mut Some(followed),
-                Some(turn),
-                console,
-                beside.interrupt,
-            )
+            let mut followed = Some(followed);
+            let turn = Some(turn);
+            let outcome = serve_from(run, metrics, &mut followed, turn, console, beside.interrupt);
+            drop(followed);
+            outcome
         }
         Ok(None) => Outcome {
             session: None,

@@ -21,7 +21,7 @@ use std::fs::File;
 use std::rt::{Clock, Files};
 use std::sync::Wait;
 use std::thread;
-use std::thread::Threads;
+use std::thread::{JoinHandle, Scope, Threads};
 use std::time::Duration;
 
 /// The bounds of the connections of this number of workers.
@@ -158,28 +158,50 @@ pub(crate) fn serve_connections<
     registrar: &mut Registrar<J, &'r R, &'r Global>,
     console: &mut Console<T>,
 ) -> Result<Served<'r, J, H>, AllocError> {
+    // room for the clerks is made before anything is served, so that refused memory loses no trail
+    let Ok(mut back) = Vec::with_capacity(server.config.run.alloc, clerks.len()) else {
+        drop((clerks, pollers));
+        return Err(AllocError);
+    };
+    let served = serve_in_threads(
+        server, clerks, pollers, &mut back, running, registrar, console,
+    );
+    match served {
+        Ok(confirmed) => Ok((back, confirmed)),
+        Err(AllocError) => {
+            drop(back);
+            Err(AllocError)
+        }
+    }
+}
+
+/// Serves connections in threads, and gives the clerks back once they have ended.
+fn serve_in_threads<
+    'r,
+    R: Threads + Wait + Clock + Files<File = File> + Eprint + Log + Sync,
+    J: Naming + Send + Sync,
+    H: Histories + LogName + Send + Sync,
+    T: Sides,
+>(
+    server: &Server<'_, 'r, '_, R, J, H>,
+    clerks: Vec<Clerk<'r, J, H>, &'r Global>,
+    (pollers, acceptor): (Vec<Poller>, Poller),
+    back: &mut Vec<Clerk<'r, J, H>, &'r Global>,
+    running: &mut Running<'_, '_, 'r, '_, R, J, H>,
+    registrar: &mut Registrar<J, &'r R, &'r Global>,
+    console: &mut Console<T>,
+) -> Result<Result<usize, Unconfirmed>, AllocError> {
     let run = &server.config.run;
-    let (pollers, acceptor) = pollers;
     thread::scope(thread::scope_env(), run.rt, |scope| {
         let mut ready = server.ready.lock(run.rt);
-        let mut workers = Vec::with_capacity(*run.alloc, clerks.len())?;
-        // room for the clerks is made before anything is served, so that refused memory loses no trail
-        let mut back = Vec::with_capacity(run.alloc, clerks.len())?;
-        let mut number = 0usize;
-        for (clerk, poller) in clerks.into_iter().zip(pollers) {
-            let place = number;
-            let kept = match scope.spawn(move || work(server, clerk, place, poller)) {
-                Ok(worker) => workers.push(worker).or(Err(AllocError)),
-                Err(_) => Err(AllocError),
-            };
-            kept?;
-            number = number.saturating_add(1);
-        }
+        let workers = begin_workers(scope, server, clerks, pollers)?;
         let Ok(accepting) = scope.spawn(move || accept(server, acceptor)) else {
+            drop(workers);
             return Err(AllocError);
         };
         let Ok(writing) = scope.spawn(move || write_log(server)) else {
             server.pool.stop(run.rt);
+            drop((workers, accepting));
             return Err(AllocError);
         };
         *ready = true;
@@ -189,10 +211,47 @@ pub(crate) fn serve_connections<
             let _room_was_made = back.push(worker.join(run.rt));
         }
         accepting.join(run.rt);
-        let confirmed = close_log(server, &mut back);
+        let confirmed = close_log(server, back);
         writing.join(run.rt);
-        Ok((back, confirmed))
+        Ok(confirmed)
     })
+}
+
+/// Begins a thread for each clerk. They wait until all of them are there.
+fn begin_workers<
+    's,
+    'r: 's,
+    E,
+    R: Threads + Wait + Clock + Log + Sync,
+    J: Naming + Send + Sync,
+    H: Histories + LogName + Send + Sync,
+>(
+    scope: &Scope<'s, E>,
+    server: &'s Server<'_, 'r, '_, R, J, H>,
+    clerks: Vec<Clerk<'r, J, H>, &'r Global>,
+    pollers: Vec<Poller>,
+) -> Result<Vec<JoinHandle<Clerk<'r, J, H>>>, AllocError> {
+    let Ok(mut workers) = Vec::with_capacity(*server.config.run.alloc, clerks.len()) else {
+        drop((clerks, pollers));
+        return Err(AllocError);
+    };
+    let mut begun = Ok(());
+    for (number, (clerk, poller)) in clerks.into_iter().zip(pollers).enumerate() {
+        begun = match scope.spawn(move || work(server, clerk, number, poller)) {
+            Ok(worker) => workers.push(worker).or(Err(AllocError)),
+            Err(_) => Err(AllocError),
+        };
+        if begun.is_err() {
+            break;
+        }
+    }
+    match begun {
+        Ok(()) => Ok(workers),
+        Err(AllocError) => {
+            drop(workers);
+            Err(AllocError)
+        }
+    }
 }
 
 /// Says that the workers serve, and carries out the operator's commands until these end.
