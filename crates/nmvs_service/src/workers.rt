@@ -21,7 +21,7 @@ use std::fs::File;
 use std::rt::{Clock, Files};
 use std::sync::Wait;
 use std::thread;
-use std::thread::{JoinHandle, Scope, Threads};
+use std::thread::Threads;
 use std::time::Duration;
 
 /// The bounds of the connections of this number of workers.
@@ -159,7 +159,8 @@ pub(crate) fn serve_connections<
     console: &mut Console<T>,
 ) -> Result<Served<'r, J, H>, AllocError> {
     // room for the clerks is made before anything is served, so that refused memory loses no trail
-    let Ok(mut back) = Vec::with_capacity(server.config.run.alloc, clerks.len()) else {
+    let run = &server.config.run;
+    let Ok(mut back) = Vec::with_capacity(run.alloc, clerks.len()) else {
         drop((clerks, pollers));
         return Err(AllocError);
     };
@@ -194,7 +195,24 @@ fn serve_in_threads<
     let run = &server.config.run;
     thread::scope(thread::scope_env(), run.rt, |scope| {
         let mut ready = server.ready.lock(run.rt);
-        let workers = begin_workers(scope, server, clerks, pollers)?;
+        let Ok(mut workers) = Vec::with_capacity(*run.alloc, clerks.len()) else {
+            drop((clerks, pollers));
+            return Err(AllocError);
+        };
+        let mut begun = Ok(());
+        for (number, (clerk, poller)) in clerks.into_iter().zip(pollers).enumerate() {
+            begun = match scope.spawn(move || work(server, clerk, number, poller)) {
+                Ok(worker) => workers.push(worker).or(Err(AllocError)),
+                Err(_) => Err(AllocError),
+            };
+            if begun.is_err() {
+                break;
+            }
+        }
+        if begun.is_err() {
+            drop(workers);
+            return Err(AllocError);
+        }
         let Ok(accepting) = scope.spawn(move || accept(server, acceptor)) else {
             drop(workers);
             return Err(AllocError);
@@ -215,43 +233,6 @@ fn serve_in_threads<
         writing.join(run.rt);
         Ok(confirmed)
     })
-}
-
-/// Begins a thread for each clerk. They wait until all of them are there.
-fn begin_workers<
-    's,
-    'r: 's,
-    E,
-    R: Threads + Wait + Clock + Log + Sync,
-    J: Naming + Send + Sync,
-    H: Histories + LogName + Send + Sync,
->(
-    scope: &Scope<'s, E>,
-    server: &'s Server<'_, 'r, '_, R, J, H>,
-    clerks: Vec<Clerk<'r, J, H>, &'r Global>,
-    pollers: Vec<Poller>,
-) -> Result<Vec<JoinHandle<Clerk<'r, J, H>>>, AllocError> {
-    let Ok(mut workers) = Vec::with_capacity(*server.config.run.alloc, clerks.len()) else {
-        drop((clerks, pollers));
-        return Err(AllocError);
-    };
-    let mut begun = Ok(());
-    for (number, (clerk, poller)) in clerks.into_iter().zip(pollers).enumerate() {
-        begun = match scope.spawn(move || work(server, clerk, number, poller)) {
-            Ok(worker) => workers.push(worker).or(Err(AllocError)),
-            Err(_) => Err(AllocError),
-        };
-        if begun.is_err() {
-            break;
-        }
-    }
-    match begun {
-        Ok(()) => Ok(workers),
-        Err(AllocError) => {
-            drop(workers);
-            Err(AllocError)
-        }
-    }
 }
 
 /// Says that the workers serve, and carries out the operator's commands until these end.
