@@ -5,7 +5,7 @@ ghost use Rattle.nmvs_metrics.specs.Families as specs;
 
 use crate::counters::Counters;
 use crate::kinds::{
-    CAUSES, FAULTS, Fault, QUESTIONS, REFUSALS, REPLIES, kind_of_reply, place_of_cause,
+    CAUSES, FAULTS, Fault, QUESTIONS, REFUSALS, REPLIES, place_of_cause,
     place_of_fault, place_of_question, place_of_refusal, place_of_reply,
 };
 use crate::readiness::{Readiness, readiness_of};
@@ -13,7 +13,7 @@ use crate::times::Times;
 use crate::uptime;
 use nmvs_messages::{Content, Released};
 use nmvs_rules::{Question, Reply};
-use nmvs_words::QuestionKind;
+use nmvs_words::{QuestionKind, ReplyKind};
 use std::alloc::{AllocError, Global};
 use std::sync::atomic::{AtomicU64, Ordering};
 use std::time::Duration;
@@ -692,7 +692,7 @@ impl<'p> WorkerMetrics<'p> {
     /// Counts a question that had this reply.
     fn note_reply(&self, question: &Question, reply: &Reply) {
         let asked = place_of_question(QuestionKind::of(question));
-        let replied = place_of_reply(kind_of_reply(reply));
+        let replied = place_of_reply(ReplyKind::of(reply));
         self.add(ANSWERED + asked * REPLIES.len() + replied);
         match reply {
             Reply::Alert {
