@@ -18,7 +18,7 @@ mod trim;
 
 pub use answer::{append_outcome, free_outcome, own_outcome, trim_outcome};
 pub use ask::{
-    ask_append, ask_blocks, ask_end, ask_free, ask_own, ask_owner, ask_trim, ask_trimmed, ask_turn,
+    ask_append, ask_blocks, ask_end, ask_free, ask_own, ask_owner, ask_trim, ask_trimmed,
 };
 pub use block::Block;
 pub use connection::{Broken, Connection};

@@ -10,5 +10,7 @@ mod export_files;
 mod exports;
 mod slices;
 
-pub use export_files::{Confirming, FileExportFault, Unwaited, export, try_export, write_export};
+pub use export_files::{
+    Confirming, FileExportFault, Unwaited, WrittenExport, export, try_export, write_export,
+};
 pub use exports::{Exported, entries_of, export_summed};

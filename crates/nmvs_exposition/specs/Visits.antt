@@ -2,7 +2,7 @@
 use Rattle.std.specs.Prelude.{ℕ, List, ◌||◌, codes, if◌then◌else◌}
 use Rattle.std.specs.Str.{bytes_eq}
 use Rattle.nmvs_metrics.specs.declared.readiness.Readiness.{Readiness}
-use Rattle.nmvs_metrics.specs.declared.readiness.Readiness.TheVariants.{Starting, Standby, Listening, LogFailed, LogHangs}
+use Rattle.nmvs_metrics.specs.declared.readiness.Readiness.TheVariants.{Starting, Standby, NoEngine, Listening, LogFailed, LogHangs}
 use Rattle.nmvs_exposition.specs.declared.service.Content.{Content}
 use Rattle.nmvs_exposition.specs.declared.service.Content.TheVariants.{Metrics, Alive, Ready, NoPage, NoMethod}
 
@@ -10,6 +10,7 @@ use Rattle.nmvs_exposition.specs.declared.service.Content.TheVariants.{Metrics, 
 abbrev pub readiness_text : Readiness → List ℕ
 readiness_text Starting = codes "starting\n"
 readiness_text Standby = codes "standby\n"
+readiness_text NoEngine = codes "no engine\n"
 readiness_text Listening = codes "ok\n"
 readiness_text LogFailed = codes "log failed\n"
 readiness_text LogHangs = codes "log hangs\n"
@@ -18,6 +19,7 @@ readiness_text LogHangs = codes "log hangs\n"
 abbrev pub readiness_status : Readiness → ℕ
 readiness_status Starting = 503
 readiness_status Standby = 503
+readiness_status NoEngine = 503
 readiness_status Listening = 200
 readiness_status LogFailed = 503
 readiness_status LogHangs = 503

@@ -48,6 +48,7 @@ pub(crate) fn text_of(readiness: Readiness) -> &'static str
     match readiness {
         Readiness::Starting => "starting\n",
         Readiness::Standby => "standby\n",
+        Readiness::NoEngine => "no engine\n",
         Readiness::Listening => "ok\n",
         Readiness::LogFailed => "log failed\n",
         Readiness::LogHangs => "log hangs\n",
@@ -60,9 +61,11 @@ pub(crate) fn status_of(readiness: Readiness) -> StatusCode
 {
     match readiness {
         Readiness::Listening => StatusCode::OK,
-        Readiness::Starting | Readiness::Standby | Readiness::LogFailed | Readiness::LogHangs => {
-            StatusCode::SERVICE_UNAVAILABLE
-        }
+        Readiness::Starting
+        | Readiness::Standby
+        | Readiness::NoEngine
+        | Readiness::LogFailed
+        | Readiness::LogHangs => StatusCode::SERVICE_UNAVAILABLE,
     }
 }
 

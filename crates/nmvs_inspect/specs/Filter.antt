@@ -22,10 +22,9 @@ use Rattle.nmvs_rules.specs.Questions.{code_of, names, pack_of}
 use Rattle.nmvs_rules.specs.Trail.{known, locks_batch}
 use Rattle.nmvs_tables.specs.Codes.{is_flagged_alert}
 use Rattle.nmvs_words.specs.Kinds.{kind_of, kind_word}
-use Rattle.nmvs_words.specs.ReplyKinds.{reply_word}
+use Rattle.nmvs_words.specs.ReplyKinds.{kind_of_reply, reply_word}
 use Rattle.nmvs_words.specs.Words.{role_word}
 use Rattle.nmvs_words.specs.declared.reply_kind.ReplyKind.{ReplyKind}
-use Rattle.nmvs_words.specs.declared.reply_kind.ReplyKind.TheVariants as kinds
 use Rattle.nmvs_inspect.specs.declared.filter.Filter.{Filter}
 
 -- no test is set
@@ -103,21 +102,6 @@ is_asked f t q =
     is_wanted (λ k. bytes_eq (kind_word (kind_of q)) (kind_word k)) f.question && is_wanted (same_text (code_of q)) f.code
     && is_wanted (λ s. has_serial s (pack_of q)) f.serial && is_wanted (is_of_batch t q) f.batch
     && is_wanted (is_of_pack t q) f.pack
-
--- the kind of a reply
-abbrev pub kind_of_reply : Reply → ReplyKind
-kind_of_reply replies.Uploaded = kinds.Uploaded
-kind_of_reply (replies.Authentic _ _ _) = kinds.Authentic
-kind_of_reply (replies.Alert _ _ _) = kinds.Alert
-kind_of_reply (replies.StatusIs _ _ _ _ _) = kinds.Status
-kind_of_reply replies.NoPack = kinds.NoPack
-kind_of_reply replies.Decommissioned = kinds.Decommissioned
-kind_of_reply replies.HandedOver = kinds.HandedOver
-kind_of_reply replies.Reverted = kinds.Reverted
-kind_of_reply (replies.LockedNow _) = kinds.Locked
-kind_of_reply replies.MarkedStolen = kinds.Stolen
-kind_of_reply (replies.Shown _) = kinds.Shown
-kind_of_reply (replies.Refused _) = kinds.Refused
 
 -- whether the reply is a refusal
 abbrev pub is_refusal : Reply → Bool

@@ -9,14 +9,13 @@ use Rattle.nmvs_identifier.specs.Moment.{day_of}
 use Rattle.nmvs_rules.specs.declared.entry.Entry.{Entry}
 use Rattle.nmvs_rules.specs.Questions.{code_of}
 use Rattle.nmvs_words.specs.Kinds.{kind_of, kind_word}
-use Rattle.nmvs_words.specs.ReplyKinds.{reply_word}
+use Rattle.nmvs_words.specs.ReplyKinds.{kind_of_reply, reply_word}
 use Rattle.nmvs_words.specs.Words.{role_word}
 use Rattle.nmvs_inspect.specs.declared.by.By.{By}
 use Rattle.nmvs_inspect.specs.declared.by.By.TheVariants as by
 use Rattle.nmvs_inspect.specs.declared.filter.Filter.{Filter}
 use Rattle.nmvs_inspect.specs.declared.form.Form.{Form}
 pub use Rattle.nmvs_inspect.specs.declared.groups.Group.{Group}
-use Rattle.nmvs_inspect.specs.Filter.{kind_of_reply}
 use Rattle.nmvs_inspect.specs.Replies.{cause_text}
 use Rattle.nmvs_inspect.specs.Rows.{row_in}
 use Rattle.nmvs_inspect.specs.Selection.{selected}

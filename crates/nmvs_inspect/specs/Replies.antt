@@ -4,9 +4,8 @@ use Rattle.std.specs.Prelude.{ℕ, Bool, true, false, List, [], ◌∷◌, ◌++
 use Rattle.nmvs_rules.specs.declared.reply.Reply.{Reply}
 use Rattle.nmvs_rules.specs.declared.reply.Reply.TheVariants.{Authentic, Alert, StatusIs, LockedNow, Shown, Refused}
 use Rattle.nmvs_rules.specs.Replies.{refusal_number}
-use Rattle.nmvs_words.specs.ReplyKinds.{reply_word}
+use Rattle.nmvs_words.specs.ReplyKinds.{kind_of_reply, reply_word}
 use Rattle.nmvs_words.specs.Words.{cause_word, flag_word, lock_word, onward_word, own_word, refusal_word, validity_word}
-use Rattle.nmvs_inspect.specs.Filter.{kind_of_reply}
 
 -- the cause of an alert, and whether it is flagged
 abbrev pub cause_text : Reply → List ℕ

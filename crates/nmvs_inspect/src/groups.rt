@@ -9,7 +9,6 @@ ghost use Rattle.nmvs_stream.specs.Delivery.{Delivers};
 ghost use Rattle.nmvs_inspect.specs.Groups as spec;
 ghost use Rattle.nmvs_inspect.specs.Rows.{row_in};
 
-use crate::filter::kind_of_reply;
 use crate::placed::Placed;
 use crate::replies::cause_text;
 use crate::rows::append_row;
@@ -21,7 +20,7 @@ use jiff_core::civil;
 use nmvs_rules::Entry;
 use nmvs_shard::{HashKey, Shard};
 use nmvs_stream::{Sink, deliver};
-use nmvs_words::{QuestionKind, role_word};
+use nmvs_words::{QuestionKind, ReplyKind, role_word};
 use std::alloc::{AllocError, Allocator, Global};
 
 /// Entries that have the same parts.
@@ -209,7 +208,7 @@ fn append_part(alloc: Global, text: &mut Vec<u8>, found: &Group, by: By) -> Resu
         By::User => text.extend_from_slice(put.user.text().as_bytes()),
         By::Role => text.extend_from_slice(role_word(actor.role).as_bytes()),
         By::Word => text.extend_from_slice(QuestionKind::of(&put.question).word().as_bytes()),
-        By::Reply => text.extend_from_slice(kind_of_reply(&found.first.reply).word().as_bytes()),
+        By::Reply => text.extend_from_slice(ReplyKind::of(&found.first.reply).word().as_bytes()),
     }
 }
 

@@ -6,11 +6,10 @@ ghost use Rattle.nmvs_words.specs.Words.{spaced};
 ghost use Rattle.nmvs_inspect.specs.Replies as spec;
 
 use crate::Form;
-use crate::filter::kind_of_reply;
 use crate::rows::append_joined;
 use nmvs_rules::Reply;
 use nmvs_words::{
-    cause_word, flag_word, lock_word, onward_word, own_word, refusal_word, validity_word,
+    ReplyKind, cause_word, flag_word, lock_word, onward_word, own_word, refusal_word, validity_word,
 };
 use std::alloc::{AllocError, Global};
 
@@ -30,7 +29,7 @@ pub(crate) fn append_values(
     let number = number_text(alloc, reply)?;
     let detail = detail_text(alloc, reply)?;
     let values = [
-        kind_of_reply(reply).word().as_bytes(),
+        ReplyKind::of(reply).word().as_bytes(),
         cause_text(reply).as_bytes(),
         flag_text(reply).as_bytes(),
         number.as_bytes(),

@@ -1,6 +1,6 @@
 //! Answers that are withheld until the desk releases them.
 ghost use Rattle.std.specs.Prelude.{◌≡◌, ◌==◌, ◌<◌, ◌≤◌, ◌+◌, ◌++◌, ◌∷◌, ◌↔◌, [], false, length, map, take, drop, option_copied, slice_get, None, IsSome, IfNone, IfSome};
-ghost use Rattle.nmvs_messages.specs.Withheld.{AreReleased, answer_of, is_kept, is_of_repository as of_repository, plain, tagged, told_where, withheld_on, ends_long, is_long};
+ghost use Rattle.nmvs_messages.specs.Withheld.{AreReleased, answer_of, is_kept, is_of_repository as of_repository, plain, speaks_of_trail, tagged, told_where, withheld_on, ends_long, is_long};
 
 use crate::{Answer, Content, Turn};
 use arrayvec::ArrayVec;
@@ -73,9 +73,16 @@ impl Withheld {
     fn turn_unkept(&mut self, kept: Option<&[usize]>)
         ensures { self.new.answer ≡ told_where (option_copied kept.entry) self.old }
     {
-        if !is_basis_kept(self.basis, kept) && is_of_repository(&self.answer) {
+        if !is_basis_kept(self.basis, kept) && self.speaks_of_trail() {
             self.answer.content = Content::Turned(Turn::Journal);
         }
+    }
+
+    /// Whether it is a reply or a report, or rests on entries.
+    fn speaks_of_trail(&self) -> bool
+        ensures { result ≡ speaks_of_trail self.now }
+    {
+        is_of_repository(&self.answer) || self.basis.is_some()
     }
 }
 

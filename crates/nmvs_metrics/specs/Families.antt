@@ -45,6 +45,7 @@ families =
     ∷ row (codes "nmvs_log_write_seconds") (codes "gauge") (codes "Seconds that the write or sync of the log that is under way has taken, 0 where none is.") [] []
     ∷ row (codes "nmvs_standby") (codes "gauge") (codes "Whether the server follows that of another machine, 1 or 0.") [] []
     ∷ row (codes "nmvs_log_following_entries") (codes "gauge") (codes "Entries of the log that the server has read as one that follows.") [] []
+    ∷ row (codes "nmvs_copy_blocks") (codes "gauge") (codes "Blocks of the log that the copy of this machine has on the disk.") [] []
     ∷ []
 
 -- a family of the program

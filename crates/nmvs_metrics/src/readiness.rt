@@ -12,6 +12,8 @@ pub enum Readiness {
     Starting,
     /// It follows the server of another machine.
     Standby,
+    /// It follows, and the engine does not answer.
+    NoEngine,
     Listening,
     /// No new entry can be answered any more.
     LogFailed,
@@ -19,18 +21,21 @@ pub enum Readiness {
     LogHangs,
 }
 
-/// The readiness of a server that listens or not, follows another or not, and whose log failed or not. The write or sync of
-/// the log that is under way has taken this many nanoseconds, or 0 if none is.
+/// The readiness of a server that listens or not, follows another or not, with an engine that is silent or not, and whose log
+/// failed or not. The write or sync of the log that is under way has taken this many nanoseconds, or 0 if none is.
 pub(crate) fn readiness_of(
     listens: bool,
     is_standby: bool,
+    is_silent: bool,
     has_failed: bool,
     nanoseconds: u64,
 ) -> Readiness
-    ensures { result ≡ specs.readiness listens is_standby has_failed nanoseconds }
+    ensures { result ≡ specs.readiness listens is_standby is_silent has_failed nanoseconds }
 {
     if has_failed {
         Readiness::LogFailed
+    } else if is_standby && is_silent {
+        Readiness::NoEngine
     } else if is_standby {
         Readiness::Standby
     } else if nanoseconds > LONGEST_WRITE {

@@ -5,15 +5,15 @@ ghost use Rattle.nmvs_metrics.specs.Families as specs;
 
 use crate::counters::Counters;
 use crate::kinds::{
-    CAUSES, FAULTS, Fault, QUESTIONS, REFUSALS, REPLIES, kind_of_reply, place_of_cause,
-    place_of_fault, place_of_question, place_of_refusal, place_of_reply,
+    CAUSES, FAULTS, Fault, QUESTIONS, REFUSALS, REPLIES, place_of_cause, place_of_fault,
+    place_of_question, place_of_refusal, place_of_reply,
 };
 use crate::readiness::{Readiness, readiness_of};
 use crate::times::Times;
 use crate::uptime;
 use nmvs_messages::{Content, Released};
 use nmvs_rules::{Question, Reply};
-use nmvs_words::QuestionKind;
+use nmvs_words::{QuestionKind, ReplyKind};
 use std::alloc::{AllocError, Global};
 use std::sync::atomic::{AtomicU64, Ordering};
 use std::time::Duration;
@@ -39,12 +39,16 @@ pub(crate) enum Count {
     Shared,
     /// 1 if it follows another.
     Standby,
+    /// 1 if the engine did not answer its last read as one that follows.
+    Silent,
     /// How many entries it has read of the log as one that follows.
     Followed,
+    /// How many blocks of the log its copy has on the disk.
+    Copied,
 }
 
 /// How many counters the server has.
-const COUNTS: usize = Count::Followed as usize + 1;
+const COUNTS: usize = Count::Copied as usize + 1;
 
 // Where a worker's counters stand.
 
@@ -342,6 +346,13 @@ const FAMILIES: &[Family] = &[
         labels: ("", ""),
         source: Source::Shared(Count::Followed),
     },
+    Family {
+        name: "nmvs_copy_blocks",
+        kind: "gauge",
+        help: "Blocks of the log that the copy of this machine has on the disk.",
+        labels: ("", ""),
+        source: Source::Shared(Count::Copied),
+    },
 ];
 
 /// The families, in the order in which the page has them.
@@ -452,11 +463,12 @@ impl Metrics {
     /// Whether the server is ready, when the machine runs for this long.
     pub fn readiness(&self, uptime: Duration) -> Readiness {
         if !self.has_log {
-            return readiness_of(self.holds(Count::Ready), false, false, 0);
+            return readiness_of(self.holds(Count::Ready), false, false, false, 0);
         }
         readiness_of(
             self.holds(Count::Ready),
             self.holds(Count::Standby),
+            self.holds(Count::Silent),
             self.holds(Count::Failed),
             self.since(Count::WriteBegan, uptime),
         )
@@ -557,6 +569,16 @@ impl Metrics {
         self.server.set(Count::Shared as usize, 1);
         self.server
             .set(Count::Standby as usize, u64::from(is_standby));
+    }
+
+    /// Notes whether the engine answered the last read of a server that follows.
+    pub fn note_engine(&self, answers: bool) {
+        self.server.set(Count::Silent as usize, u64::from(!answers));
+    }
+
+    /// Notes how many blocks of the log the copy of this machine has on the disk.
+    pub fn note_copied(&self, blocks: u64) {
+        self.server.set(Count::Copied as usize, blocks);
     }
 
     /// Counts entries of the log that the server reads as one that follows.
@@ -692,7 +714,7 @@ impl<'p> WorkerMetrics<'p> {
     /// Counts a question that had this reply.
     fn note_reply(&self, question: &Question, reply: &Reply) {
         let asked = place_of_question(QuestionKind::of(question));
-        let replied = place_of_reply(kind_of_reply(reply));
+        let replied = place_of_reply(ReplyKind::of(reply));
         self.add(ANSWERED + asked * REPLIES.len() + replied);
         match reply {
             Reply::Alert {

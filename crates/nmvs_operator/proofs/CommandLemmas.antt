@@ -1,64 +1,28 @@
 -- The operator's orders go on, line by line.
-use Rattle.std.proofs.Common.{◌≡◌, ◌≢◌, ◌∙◌, ◌++◌, ◌∷◌, ◌<◌, ◌==◌, ◌||◌, [], inl, inr, refl, sym, ap, subst, arith, ℕ, Bool, true, false, List, length, take, codes, None, Result, Ok, Err}
-use Rattle.std.proofs.lemmas.List.{append-nil, append_assoc, length-take}
-use Rattle.std.proofs.lemmas.Bool.{eqb-true}
+use Rattle.std.proofs.Common.{◌≡◌, ◌≢◌, ◌∙◌, ◌++◌, ◌∷◌, ◌+◌, ◌<◌, ◌≤◌, [], inl, inr, refl, sym, ap, subst, arith, ℕ, zero, suc, Bool, true, false, List, length, take, codes, Result, Ok, Err}
+use Rattle.std.proofs.lemmas.List.{append-nil, append_assoc}
 use Rattle.std.proofs.lemmas.List.Elements.{All-append, All-cons, All-nil}
-use Rattle.std.proofs.Math.Bool.{or-true}
-use Rattle.std.specs.Prelude.{IfOk, MatchResult, is_ok}
-use Rattle.std.specs.Result.{result_err}
+use Rattle.std.specs.Prelude.{IfOk, MatchResult, slice_index}
 use Rattle.nmvs_stream.specs.Source.{Told, Gives}
 use Rattle.nmvs_stream.specs.Sink.{Taken}
-use Rattle.nmvs_stream.specs.InputLines.{lines_after, rest_after, input_lines, unfinished_line}
+use Rattle.nmvs_stream.specs.InputLines.{HasNoLf, lines_after, rest_after, input_lines, unfinished_line}
+use Rattle.nmvs_stream.proofs.LinesOfPieces.{lines_after-append, rest_after-append, no_lf_both, no_line}
 use Rattle.nmvs_messages.specs.PendingLines.{kept_part}
 use Rattle.nmvs_messages.proofs.KeptLines.{kept_more}
-use Rattle.nmvs_stream.proofs.LinesOfPieces.{lines_after-append, rest_after-append}
+use Rattle.nmvs_messages.specs.declared.command.Command.{Command}
 use Rattle.nmvs_operator.specs.declared.faults.ObeyFault.{ObeyFault}
 use Rattle.nmvs_operator.specs.declared.faults.ObeyFault.TheVariants as obey
-use Rattle.nmvs_directory.specs.Users.{users_of}
-use Rattle.nmvs_operator.specs.declared.figures.Figure.{Figure}
-use Rattle.nmvs_operator.specs.declared.figures.Topic.{Topic}
+use Rattle.nmvs_operator.specs.declared.order.Fixed.TheVariants as fixed
 use Rattle.nmvs_operator.specs.declared.order.Order.{Order}
 use Rattle.nmvs_operator.specs.declared.order.Order.TheVariants as orders
 use Rattle.nmvs_operator.specs.Orders.{ReadsOrder}
-use Rattle.nmvs_operator.specs.Figures.{figure_lines}
-use Rattle.nmvs_operator.specs.Roll.{user_lines}
-use Rattle.nmvs_operator.specs.Commands.{Office, Does, Counts, Ways, Said, saying, Ends, Lists, AnswersOrder, AnswersOrders, Tries, TellsAnswers, CarriesOut, answer_text, order_text, last_answer, stops, is_stop}
-use Rattle.nmvs_operator.specs.Progress.{AnsweredOrders, StoppedIn, CarriesOutLines, StoppedBy}
+use Rattle.nmvs_operator.specs.Commands.{Office, office, Does, Ways, Said, saying, Lists, Changes, Performs, AnswersRead, AnswersReadFollowing, AnswersOrder, AnswersOrders, Tries, TellsAnswers, GoesOn, InputEnds, ReadsLine, ReadsEnd, CarriesOut, answer_text, order_text, last_answer, stops, is_stop}
 use Rattle.nmvs_operator.proofs.OrderLemmas.{kept_reads_order}
-
--- the kept part of an order ends as the order does
-kept_ends : {S : Type 0} (does : Does S) (old : Office S) (x : List ℕ) (a : Result Order ObeyFault) (new : Office S) → Ends does old (kept_part x) a new → Ends does old x a new
-kept_ends does old x (Ok order) new h = record { read = kept_reads_order x (Ok order) h.read; performs = h.performs; changes = h.changes }
-kept_ends does old x (Err (obey.Unread fault)) new h = (kept_reads_order x (Err fault) h.0, h.1)
-kept_ends does old x (Err (obey.Undone fault)) new h =
-    record { order = h.order; read = kept_reads_order x (Ok h.order) h.read; performs = h.performs; stays = h.stays }
-kept_ends does old x (Err obey.Memory) new (inl h) = inl (record {
-  command = h.command;
-  read = kept_reads_order x (Ok (orders.Change h.command)) h.read;
-  performs = h.performs;
-  published = h.published;
-  pending = h.pending;
-  latest = h.latest;
-})
-kept_ends does old x (Err obey.Memory) new (inr (inl h)) = inr (inl (record {
-  all = h.all;
-  read = kept_reads_order x (Ok (orders.Reload h.all)) h.read;
-  file = h.file;
-  bytes = h.bytes;
-  takes = h.takes;
-  kept = h.kept;
-  published = h.published;
-  pending = h.pending;
-  latest = h.latest;
-}))
-kept_ends does old x (Err obey.Memory) new (inr (inr h)) =
-    inr (inr (record { order = h.order; read = kept_reads_order x (Ok h.order) h.read; asks = h.asks; stays = h.stays }))
-kept_ends does old x (Err obey.Users) new h = ((h.0.0, kept_reads_order x (Ok (orders.Reload h.0.0)) h.0.1), h.1)
-kept_ends does old x (Err obey.Unended) new h = absurd h
+use Rattle.nmvs_operator.proofs.ReloadLemmas.{line_behind}
 
 -- the kept part of an order is answered as the order is
 kept_answers : {S : Type 0} (ways : Ways S) (old : Office S) (x : List ℕ) (a : Said) (new : Office S) → AnswersOrder ways old (kept_part x) a new → AnswersOrder ways old x a new
-kept_answers ways old x a new h = (kept_ends ways.does old x a.ends new h.0, h.1)
+kept_answers ways old x a new h = (h.0, kept_reads_order x h.0 h.1, h.2)
 
 answers_more : {S : Type 0} (ways : Ways S) (first : Office S) (xs : List (List ℕ)) (said : List Said) (now new : Office S) (x : List ℕ) (a : Said)
     → AnswersOrders ways first xs said now → AnswersOrder ways now x a new → AnswersOrders ways first (xs ++ x ∷ []) (said ++ a ∷ []) new
@@ -67,241 +31,203 @@ answers_more ways first (y ∷ ys) (b ∷ bs) now new x a r s = (r.0, r.1, answe
 answers_more ways first [] (b ∷ bs) now new x a r s = absurd r
 answers_more ways first (y ∷ ys) [] now new x a r s = absurd r
 
-told_more : (start : Taken) (said : List Said) (now new : Taken) (a : Said)
-    → TellsAnswers start said now → Tries now new (answer_text a) → TellsAnswers start (said ++ a ∷ []) new
-told_more start [] now new a r s = (new, subst (λ (t : Taken). Tries t new (answer_text a)) r s, refl)
-told_more start (b ∷ bs) now new a r s = (r.0, r.1, told_more r.0 bs now new a r.2 s)
+told_more : (start : Taken) (said more : List Said) (now new : Taken) → TellsAnswers start said now → TellsAnswers now more new → TellsAnswers start (said ++ more) new
+told_more start [] more now new r s = subst (λ (t : Taken). TellsAnswers t more new) r s
+told_more start (b ∷ bs) more now new r s = (r.0, r.1, told_more r.0 bs more now new r.2 s)
 
--- one order more, which does not stop the server
-pub one_more : {S : Type 0} {ways : Ways S} {first now : Office S} {start sink : Taken} {lines : List (List ℕ)} (new : Office S) (sink' : Taken) (x : List ℕ) (a : Said)
-    → AnsweredOrders ways first start now sink lines → AnswersOrder ways now (kept_part x) a new
-    → Tries sink sink' (answer_text a) → is_stop a ≡ false → AnsweredOrders ways first start new sink' (lines ++ x ∷ [])
-one_more {ways = ways} {first = first} {now = now} {start = start} {sink = sink} {lines = lines} new sink' x a so_far answers told goes = record {
-  said = so_far.said ++ a ∷ [];
-  answers = answers_more ways first lines so_far.said now new x a so_far.answers (kept_answers ways now x a new answers);
-  told = told_more start so_far.said sink sink' a so_far.told told;
-  goes_on = All-append (λ a. is_stop a ≡ false) so_far.said (a ∷ []) so_far.goes_on (All-cons (λ a. is_stop a ≡ false) a [] goes (All-nil _));
+one_byte : (b : ℕ) → b ≢ 10 → HasNoLf (b ∷ [])
+one_byte b other zero lt = other
+one_byte b other (suc k) lt = absurd (omega (arith, lt))
+
+-- a byte more of a line
+pub byte_more : {old new : Told} (start buffer line line' x : List ℕ) (count : ℕ) → length buffer ≡ 1 → count ≢ 0 → Gives old new buffer count → slice_index buffer 0 ≢ 10
+    → old.bytes ≡ start ++ x → HasNoLf x → line ≡ kept_part x → line' ≡ kept_part (line ++ buffer)
+    → HasNoLf (x ++ buffer) × (new.bytes ≡ start ++ (x ++ buffer)) × (line' ≡ kept_part (x ++ buffer))
+byte_more start [] line line' x count single some gives other bytes one kept more = absurd (omega (arith, single))
+byte_more start (b ∷ c ∷ cs) line line' x count single some gives other bytes one kept more = absurd (omega (arith, single))
+byte_more {old} start (b ∷ []) line line' x count single some gives other bytes one kept more =
+    let whole : count ≡ 1 = omega (arith, some, gives.fits) in (
+      no_lf_both x (b ∷ []) one (one_byte b other),
+      gives.bytes ∙ ap (λ (n : ℕ). old.bytes ++ take n (b ∷ [])) whole ∙ ap (λ (t : List ℕ). t ++ b ∷ []) bytes ∙ append_assoc start x (b ∷ []),
+      more ∙ ap (λ (t : List ℕ). kept_part (t ++ b ∷ [])) kept ∙ kept_more x (b ∷ []),
+    )
+
+-- whole lines of a source were read and answered, no fewer than this, and none stopped the server
+pub record Answered {S : Type 0} (ways : Ways S) (first : Office S) (source : Told) (start : Taken) (now : Office S) (source' : Told) (sink : Taken) (count : ℕ) : Type 0 where
+  pub input : List ℕ
+  pub read : source'.bytes ≡ source.bytes ++ input
+  pub whole : unfinished_line input ≡ []
+  pub said : List Said
+  pub answers : AnswersOrders ways first (input_lines input) said now
+  pub told : TellsAnswers start said sink
+  pub goes_on : GoesOn said
+  pub reads : source.reads + count ≤ source'.reads
+
+pub none_answered : {S : Type 0} (ways : Ways S) (first : Office S) (source : Told) (start : Taken) → Answered ways first source start first source start 0
+unfolding lines_after rest_after
+none_answered ways first source start = record {
+  input = [];
+  read = sym (append-nil source.bytes);
+  whole = refl;
+  said = [];
+  answers = refl;
+  told = refl;
+  goes_on = All-nil _;
+  reads = omega arith;
 }
 
--- an order that stopped the server asked for no lines
-stop_lines : {S : Type 0} (counts : Counts S) (old : Office S) (ends : Result Order ObeyFault) (lines : List ℕ) (new : Office S) → Lists counts old ends lines new → stops ends ≡ true
-    → saying lines ends ≡ saying [] (Ok orders.Stop)
-stop_lines counts old (Ok orders.Stop) lines new none stop = ap (λ (l : List ℕ). saying l (Ok orders.Stop)) none
-stop_lines counts old (Ok (orders.Change c)) lines new none stop = absurd cc
-stop_lines counts old (Ok (orders.Reload all)) lines new none stop = absurd cc
-stop_lines counts old (Ok (orders.Export p)) lines new none stop = absurd cc
-stop_lines counts old (Ok orders.Users) lines new none stop = absurd cc
-stop_lines counts old (Ok (orders.Count t)) lines new none stop = absurd cc
-stop_lines counts old (Ok orders.TakeOver) lines new none stop = absurd cc
-stop_lines counts old (Ok orders.HandOver) lines new none stop = absurd cc
-stop_lines counts old (Ok (orders.Trim n)) lines new none stop = absurd cc
-stop_lines counts old (Ok orders.Help) lines new none stop = absurd cc
-stop_lines counts old (Err f) lines new none stop = absurd cc
+-- one line more, with its answer
+next_answers : {S : Type 0} {ways : Ways S} {first now : Office S} {source source' source'' : Told} {start sink : Taken} {count : ℕ} {kept : List ℕ} (new : Office S) (a : Said)
+    (p : Answered ways first source start now source' sink count) (r : ReadsLine source' source'' kept) → AnswersOrder ways now kept a new
+    → AnswersOrders ways first (input_lines (p.input ++ (r.line ++ 10 ∷ []))) (p.said ++ a ∷ []) new
+next_answers {ways = ways} {first = first} {now = now} new a p r answers =
+    let line = subst (λ (t : List ℕ). AnswersOrder ways now t a new) r.part answers in
+    subst (λ (t : List (List ℕ)). AnswersOrders ways first t (p.said ++ a ∷ []) new) (sym (line_behind p.input r.line p.whole r.one).0)
+    (answers_more ways first (input_lines p.input) p.said now new r.line a p.answers (kept_answers ways now r.line a new line))
 
--- one order more, which stops the server; the lines after it are not read
-pub one_stop : {S : Type 0} {ways : Ways S} {first now : Office S} {start sink : Taken} {lines : List (List ℕ)} (new : Office S) (sink' : Taken) (x : List ℕ) (a : Said) (input : List ℕ) (rest : List (List ℕ))
-    → AnsweredOrders ways first start now sink lines → AnswersOrder ways now (kept_part x) a new
-    → Tries sink sink' (answer_text a) → is_stop a ≡ true → input_lines input ≡ (lines ++ x ∷ []) ++ rest → StoppedIn ways first start new sink' input
-one_stop {ways = ways} {first = first} {now = now} {start = start} {sink = sink} {lines = lines} new sink' x a input rest so_far answers told stops these = record {
-  lines = lines ++ x ∷ [];
-  said = so_far.said ++ a ∷ [];
-  answers = answers_more ways first lines so_far.said now new x a so_far.answers (kept_answers ways now x a new answers);
-  ends = record {
-    rest = rest;
-    these = these;
-    before = so_far.said;
-    last = ap (λ (s : Said). so_far.said ++ s ∷ []) (stop_lines ways.counts now a.ends a.lines new answers.1 stops);
-    goes_on = so_far.goes_on;
-    told = told_more start so_far.said sink sink' a so_far.told told;
-  };
+read_more : {S : Type 0} {ways : Ways S} {first now : Office S} {source source' : Told} {start sink : Taken} {count : ℕ} (p : Answered ways first source start now source' sink count)
+    (bytes more : List ℕ) → bytes ≡ source'.bytes ++ more → bytes ≡ source.bytes ++ (p.input ++ more)
+read_more {source = source} p bytes more read = read ∙ ap (λ (t : List ℕ). t ++ more) p.read ∙ append_assoc source.bytes p.input more
+
+pub one_more : {S : Type 0} {ways : Ways S} {first now : Office S} {source source' source'' : Told} {start sink : Taken} {count : ℕ} {kept : List ℕ} (new : Office S) (sink' : Taken) (a : Said)
+    → Answered ways first source start now source' sink count → ReadsLine source' source'' kept → AnswersOrder ways now kept a new
+    → Tries sink sink' (answer_text a) → is_stop a ≡ false → Answered ways first source start new source'' sink' (count + 1)
+one_more {start = start} {sink = sink} new sink' a p r answers told goes = record {
+  input = p.input ++ (r.line ++ 10 ∷ []);
+  read = read_more p _ (r.line ++ 10 ∷ []) r.bytes;
+  whole = (line_behind p.input r.line p.whole r.one).1;
+  said = p.said ++ a ∷ [];
+  answers = next_answers new a p r answers;
+  told = told_more start p.said (a ∷ []) sink sink' p.told (sink', told, refl);
+  goes_on = All-append (λ a. is_stop a ≡ false) p.said (a ∷ []) p.goes_on (All-cons (λ a. is_stop a ≡ false) a [] goes (All-nil _));
+  reads = omega (arith, p.reads, r.reads);
 }
 
--- the same of equal lines
-pub same_lines : {S : Type 0} {ways : Ways S} {first now : Office S} {start sink : Taken} {xs ys : List (List ℕ)} → xs ≡ ys
-    → AnsweredOrders ways first start now sink xs → AnsweredOrders ways first start now sink ys
-same_lines {ways = ways} {first = first} {now = now} {start = start} {sink = sink} e h = subst (λ (t : List (List ℕ)). AnsweredOrders ways first start now sink t) e h
-
--- the answers, if an order was begun after the last one
-one_last : (begun : List ℕ) (said : List Said) (sink mid sink' : Taken) → 0 < length begun → TellsAnswers sink said mid
-    → Tries mid sink' (order_text (Err obey.Unended)) → TellsAnswers sink (said ++ last_answer begun) sink'
-one_last [] said sink mid sink' some told tries = absurd (omega arith)
-one_last (b ∷ begun) said sink mid sink' some told tries = told_more sink said mid sink' (saying [] (Err obey.Unended)) told tries
-
--- the orders of an input after which an order was begun
-pub carried-begun : {S : Type 0} (ways : Ways S) (old new : Office S) (source source' : Told) (sink mid sink' : Taken) (begun : List ℕ)
-    → CarriesOutLines ways old source sink new source' mid begun → 0 < length begun → Tries mid sink' (order_text (Err obey.Unended))
-    → CarriesOut ways old source sink new source' sink'
-carried-begun ways old new source source' sink mid sink' begun carried some tries = record {
-  input = carried.input;
-  read = carried.read;
-  lines = input_lines carried.input;
-  said = carried.answered.said;
-  answers = carried.answered.answers;
-  ends = inl (record {
+-- one line more, which stops the server
+pub one_stop : {S : Type 0} {ways : Ways S} {first now : Office S} {source source' source'' : Told} {start sink : Taken} {count : ℕ} {kept : List ℕ} (new : Office S) (sink' : Taken) (a : Said)
+    → Answered ways first source start now source' sink count → ReadsLine source' source'' kept → AnswersOrder ways now kept a new
+    → Tries sink sink' (answer_text a) → is_stop a ≡ true → CarriesOut ways first source start new source'' sink'
+one_stop {start = start} {sink = sink} new sink' a p r answers told stopped = record {
+  input = p.input ++ (r.line ++ 10 ∷ []);
+  read = read_more p _ (r.line ++ 10 ∷ []) r.bytes;
+  lines = input_lines (p.input ++ (r.line ++ 10 ∷ []));
+  said = p.said ++ a ∷ [];
+  answers = next_answers new a p r answers;
+  ends = inr (record {
     all = refl;
-    goes_on = carried.answered.goes_on;
-    told = one_last (unfinished_line carried.input) carried.answered.said sink mid sink' (kept_some (unfinished_line carried.input) (subst (λ (n : ℕ). 0 < n) (ap length carried.kept) some)) carried.answered.told tries;
-    ends = carried.ends;
+    before = p.said;
+    stop = a;
+    last = refl;
+    stopped = stopped;
+    goes_on = p.goes_on;
+    told = told_more start p.said (a ∷ []) sink sink' p.told (sink', told, refl);
   });
 }
-  where
-    kept_some : (x : List ℕ) → 0 < length (kept_part x) → 0 < length x
-    kept_some [] lt = absurd (omega (arith, lt))
-    kept_some (b ∷ x) lt = omega arith
 
--- the orders of an input after which none was begun
-pub carried-all : {S : Type 0} (ways : Ways S) (old new : Office S) (source source' : Told) (sink sink' : Taken) (begun : List ℕ)
-    → CarriesOutLines ways old source sink new source' sink' begun → (length begun == 0) ≡ true → CarriesOut ways old source sink new source' sink'
-carried-all ways old new source source' sink sink' begun carried none = record {
-  input = carried.input;
-  read = carried.read;
-  lines = input_lines carried.input;
-  said = carried.answered.said;
-  answers = carried.answered.answers;
+-- bytes without LF behind whole lines
+end_behind : (input x : List ℕ) → unfinished_line input ≡ [] → HasNoLf x → (input_lines (input ++ x) ≡ input_lines input) × (unfinished_line (input ++ x) ≡ x)
+unfolding lines_after rest_after
+end_behind input x whole one =
+    let none = no_line [] x one in (
+      lines_after-append [] input x ∙ ap (λ (t : List ℕ). input_lines input ++ lines_after t x) whole ∙ ap (λ (t : List (List ℕ)). input_lines input ++ t) none.0 ∙ append-nil (input_lines input),
+      rest_after-append [] input x ∙ ap (λ (t : List ℕ). rest_after t x) whole ∙ none.1,
+    )
+
+last_kept : (x : List ℕ) → last_answer (kept_part x) ≡ last_answer x
+last_kept [] = refl
+last_kept (b ∷ x) = refl
+
+ends_later : (source source' source'' : Told) (count : ℕ) → source.reads + count ≤ source'.reads → InputEnds source' source'' → InputEnds source source''
+ends_later source source' source'' count later (inl ended) = inl ended
+ends_later source source' source'' count later (inr (inl failed)) = inr (inl failed)
+ends_later source source' source'' count later (inr (inr most)) = inr (inr (omega (arith, later, most)))
+
+-- the input is at its end
+pub at_end : {S : Type 0} {ways : Ways S} {first now : Office S} {source source' source'' : Told} {start sink : Taken} {count : ℕ} {kept : List ℕ} (sink' : Taken)
+    → Answered ways first source start now source' sink count → ReadsEnd source' source'' kept → TellsAnswers sink (last_answer kept) sink'
+    → CarriesOut ways first source start now source'' sink'
+at_end {ways = ways} {first = first} {now = now} {source = source} {source' = source'} {source'' = source''} {start = start} {sink = sink} {count = count} sink' p r told =
+    let behind = end_behind p.input r.line p.whole r.one in
+    let last : last_answer _ ≡ last_answer (unfinished_line (p.input ++ r.line)) = ap last_answer r.part ∙ last_kept r.line ∙ ap last_answer (sym behind.1) in record {
+      input = p.input ++ r.line;
+      read = read_more p _ r.line r.bytes;
+      lines = input_lines (p.input ++ r.line);
+      said = p.said;
+      answers = subst (λ (t : List (List ℕ)). AnswersOrders ways first t p.said now) (sym behind.0) p.answers;
+      ends = inl (record {
+        all = refl;
+        goes_on = p.goes_on;
+        told = told_more start p.said _ sink sink' p.told (subst (λ (t : List Said). TellsAnswers sink t sink') last told);
+        ends = ends_later source source' source'' count p.reads r.ends;
+      });
+    }
+
+-- the most lines were read
+pub most_read : {S : Type 0} {ways : Ways S} {first now : Office S} {source source' : Told} {start sink : Taken} {count : ℕ} → 18446744073709551615 ≤ count
+    → Answered ways first source start now source' sink count → CarriesOut ways first source start now source' sink
+most_read most p = record {
+  input = p.input;
+  read = p.read;
+  lines = input_lines p.input;
+  said = p.said;
+  answers = p.answers;
   ends = inl (record {
     all = refl;
-    goes_on = carried.answered.goes_on;
-    told = none_last (unfinished_line carried.input) (subst (λ (t : List ℕ). (length t == 0) ≡ true) carried.kept none);
-    ends = carried.ends;
+    goes_on = p.goes_on;
+    told = rw (p.whole, append-nil p.said) p.told;
+    ends = inr (inr (omega (arith, p.reads, most)));
   });
 }
-  where
-    none_last : (x : List ℕ) → (length (kept_part x) == 0) ≡ true → TellsAnswers sink (carried.answered.said ++ last_answer x) sink'
-    none_last [] e = rw (append-nil carried.answered.said) carried.answered.told
-    none_last (b ∷ x) e =
-        let counted = length-take 201 (b ∷ x) in
-        let none = eqb-true (length (kept_part (b ∷ x))) 0 e in
-        absurd (omega (arith, counted, none))
-
--- the orders of an input that stopped the server
-pub carried-stopped : {S : Type 0} (ways : Ways S) (old new : Office S) (source source' : Told) (sink sink' : Taken)
-    → StoppedBy ways old source sink new source' sink' → CarriesOut ways old source sink new source' sink'
-carried-stopped ways old new source source' sink sink' by = record {
-  input = by.input;
-  read = by.read;
-  lines = by.stopped.lines;
-  said = by.stopped.said;
-  answers = by.stopped.answers;
-  ends = inr by.stopped.ends;
-}
-
--- a read of no bytes is the end
-pub end_read : (old new : Told) (buffer : List ℕ) (count : ℕ) → count ≡ 0 → Gives old new buffer count → (new.bytes ≡ old.bytes) × (new.ended ≡ true)
-end_read old new buffer count none gives = (
-  gives.bytes ∙ ap (λ (n : ℕ). old.bytes ++ take n buffer) none ∙ append-nil old.bytes,
-  gives.ended ∙ ap (λ (n : ℕ). old.ended || (n == 0)) none ∙ or-true old.ended,
-)
-
--- of the lines of some bytes these were answered; the others, and an unfinished line, are in the rest of a read and in the
--- begun line, of which this part is kept
-pub record OrdersAhead {S : Type 0} (ways : Ways S) (first : Office S) (start : Taken) (now : Office S) (sink : Taken) (line rest bytes : List ℕ) : Type 0 where
-  pub done : List (List ℕ)
-  pub begun : List ℕ
-  pub keeps : line ≡ kept_part begun
-  pub answered : AnsweredOrders ways first start now sink done
-  pub ahead : done ++ lines_after begun rest ≡ input_lines bytes
-  pub left : rest_after begun rest ≡ unfinished_line bytes
-
--- before anything of a read is looked at
-pub ahead_first : {S : Type 0} {ways : Ways S} {first now : Office S} {start sink : Taken} {line : List ℕ} (input chunk : List ℕ)
-    → line ≡ kept_part (unfinished_line input) → AnsweredOrders ways first start now sink (input_lines input)
-    → OrdersAhead ways first start now sink line chunk (input ++ chunk)
-ahead_first input chunk is so_far = record {
-  done = input_lines input;
-  begun = unfinished_line input;
-  keeps = is;
-  answered = so_far;
-  ahead = sym (lines_after-append [] input chunk);
-  left = sym (rest_after-append [] input chunk);
-}
-
--- the line that is next, with those after it
-pub ahead_next : {S : Type 0} {ways : Ways S} {first now : Office S} {start sink : Taken} {line rest bytes : List ℕ} (p : OrdersAhead ways first start now sink line rest bytes)
-    (x behind : List ℕ) → lines_after p.begun rest ≡ x ∷ input_lines behind → (p.done ++ x ∷ []) ++ input_lines behind ≡ input_lines bytes
-ahead_next p x behind cut =
-    append_assoc p.done (x ∷ []) (input_lines behind) ∙ ap (λ (t : List (List ℕ)). p.done ++ t) (sym cut) ∙ p.ahead
-
--- the kept part of a line that was begun and goes on
-pub goes_on : {line : List ℕ} (begun tail : List ℕ) → line ≡ kept_part begun → kept_part (line ++ tail) ≡ kept_part (begun ++ tail)
-goes_on begun tail keeps = ap (λ (t : List ℕ). kept_part (t ++ tail)) keeps ∙ kept_more begun tail
 
 -- the text that was tried is the wanted one
 pub tells : {old new : Taken} {text wanted : List ℕ} → text ≡ wanted → Tries old new text → Tries old new wanted
 tells {old} {new} e tries = subst (λ (t : List ℕ). Tries old new t) e tries
 
+-- a line without an end was answered, if it has a byte
+pub unended_told : (begun : List ℕ) (old new : Taken) → 0 < length begun → Tries old new (order_text (Err obey.Unended)) → TellsAnswers old (last_answer begun) new
+unended_told [] old new some tries = absurd (omega (arith, some))
+unended_told (b ∷ begun) old new some tries = (new, tries, refl)
+
+pub none_told : (begun : List ℕ) (old : Taken) → length begun ≡ 0 → TellsAnswers old (last_answer begun) old
+none_told [] old none = refl
+none_told (b ∷ begun) old none = absurd (omega (arith, none))
+
+-- an order that asks for lines is answered by them, or there was no memory for them
+pub lists_told : {T E : Type 0} (order : Order) (lines : List ℕ) (old new : Taken) (bytes : T → List ℕ) (made : Result T E) → stops (Ok order) ≡ false
+    → IfOk made (λ t. bytes t ≡ lines)
+    → MatchResult made (λ t. Tries old new (bytes t ++ codes "DONE\n")) (λ _. Tries old new (codes "FAULT MEMORY\n"))
+    → (said : Said) × Lists order lines said × Tries old new (answer_text said) × (false ≡ is_stop said)
+lists_told order lines old new bytes (Ok t) goes is tries =
+    (saying lines (Ok order), inl refl, tells (ap (λ (l : List ℕ). l ++ codes "DONE\n") is) tries, sym goes)
+lists_told order lines old new bytes (Err e) goes is tries = (saying [] (Err obey.Memory), inr refl, tries, refl)
+
+-- a change of the users is answered by how it ended
+pub change_told : {S U : Type 0} (ways : Ways S) (old new : Office S) (line : List ℕ) (command : Command) (sink sink' : Taken) (end : Result U ObeyFault)
+    → ReadsOrder line (Ok (orders.Change command))
+    → MatchResult end (λ _. Changes ways.does old command (Ok (orders.Change command)) new) (λ fault. Changes ways.does old command (Err fault) new)
+    → MatchResult end (λ _. Tries sink sink' (codes "DONE\n")) (λ fault. Tries sink sink' (order_text (Err fault)))
+    → (said : Said) × AnswersOrder ways old line said new × Tries sink sink' (answer_text said) × (false ≡ is_stop said)
+change_told ways old new line command sink sink' (Ok u) read ended tries =
+    (saying [] (Ok (orders.Change command)), (Ok (orders.Change command), read, (ended, refl)), tries, refl)
+change_told ways old new line command sink sink' (Err fault) read ended tries =
+    (saying [] (Err fault), (Ok (orders.Change command), read, (ended, refl)), tries, refl)
+
+-- an order for the server alone
+pub serves_read : {S : Type 0} (ways : Ways S) (old : Office S) (order : Order) (said : Said) (new : S) → ((command : Command) → order ≢ orders.Change command)
+    → ((all : Bool) → order ≢ orders.Reload all) → order ≢ orders.Fixed fixed.Users → order ≢ orders.Fixed fixed.Help → Performs ways.does old.service order said.lines said.ends new
+    → AnswersRead ways old (Ok order) said (office old.register old.latest new)
+serves_read ways old (orders.Change command) said new change reload users help served = absurd (change command refl)
+serves_read ways old (orders.Reload all) said new change reload users help served = absurd (reload all refl)
+serves_read ways old (orders.Fixed fixed.Users) said new change reload users help served = absurd (users refl)
+serves_read ways old (orders.Fixed fixed.Help) said new change reload users help served = absurd (help refl)
+serves_read ways old _ said new change reload users help served = (served, (refl, refl))
+
+pub serves_following : {S : Type 0} (does : Does S) (old : S) (order : Order) (said : Said) (new : S) → order ≢ orders.Fixed fixed.Help → Performs does old order said.lines said.ends new
+    → AnswersReadFollowing does old (Ok order) said new
+serves_following does old (orders.Fixed fixed.Help) said new help served = absurd (help refl)
+serves_following does old _ said new help served = served
+
 -- another order than STOP does not stop the server
-pub not_stop : (order : Order) → order ≢ orders.Stop → stops (Ok order) ≡ false
-not_stop (orders.Change command) other = refl
-not_stop (orders.Reload all) other = refl
-not_stop (orders.Export path) other = refl
-not_stop orders.Users other = refl
-not_stop (orders.Count topic) other = refl
-not_stop orders.Stop other = absurd (other refl)
-not_stop orders.TakeOver other = refl
-not_stop orders.HandOver other = refl
-not_stop (orders.Trim blocks) other = refl
-not_stop orders.Help other = refl
-
--- another order than USERS, STATS, CONNECTIONS, ALERTS and RELOAD lists nothing
-pub no_lines : {S : Type 0} (counts : Counts S) (old new : Office S) (order : Order) → order ≢ orders.Users → ((topic : Topic) → order ≢ orders.Count topic)
-    → ((all : Bool) → order ≢ orders.Reload all) → Lists counts old (Ok order) [] new
-no_lines counts old new (orders.Change command) users counted reloaded = refl
-no_lines counts old new (orders.Reload all) users counted reloaded = absurd (reloaded all refl)
-no_lines counts old new (orders.Export path) users counted reloaded = refl
-no_lines counts old new orders.Users users counted reloaded = absurd (users refl)
-no_lines counts old new (orders.Count topic) users counted reloaded = absurd (counted topic refl)
-no_lines counts old new orders.Stop users counted reloaded = refl
-no_lines counts old new orders.TakeOver users counted reloaded = refl
-no_lines counts old new orders.HandOver users counted reloaded = refl
-no_lines counts old new (orders.Trim blocks) users counted reloaded = refl
-no_lines counts old new orders.Help users counted reloaded = refl
-
--- of the faults those of a users file alone are listed
-pub no_fault_lines : {S : Type 0} (counts : Counts S) (old new : Office S) (fault : ObeyFault) → fault ≢ obey.Users → Lists counts old (Err fault) [] new
-no_fault_lines counts old new (obey.Unread fault) other = refl
-no_fault_lines counts old new (obey.Undone fault) other = refl
-no_fault_lines counts old new obey.Memory other = refl
-no_fault_lines counts old new obey.Users other = absurd (other refl)
-no_fault_lines counts old new obey.Unended other = refl
-
--- USERS is answered by the lines of the published users, or there was no memory for them
-pub users_told : {S T E : Type 0} (ways : Ways S) (office : Office S) (line : List ℕ) (before after : Taken) (bytes : T → List ℕ) (text : Result T E)
-    → ReadsOrder line (Ok orders.Users) → IfOk text (λ t. bytes t ≡ user_lines (users_of office.register.published) ++ codes "DONE\n")
-    → MatchResult text (λ t. Tries before after (bytes t)) (λ _. Tries before after (codes "FAULT MEMORY\n"))
-    → (said : Said) × AnswersOrder ways office line said office × Tries before after (answer_text said) × (false ≡ is_stop said)
-users_told ways office line before after bytes (Ok t) read made tries = (
-  saying (user_lines (users_of office.register.published)) (Ok orders.Users),
-  (record { read = read; performs = refl; changes = (refl, refl) }, refl),
-  tells made tries,
-  refl,
-)
-users_told ways office line before after bytes (Err e) read made tries = (
-  saying [] (Err obey.Memory),
-  (inr (inr (record { order = orders.Users; read = read; asks = refl; stays = refl })), refl),
-  tries,
-  refl,
-)
-
--- an order that asks numbers is answered by the lines of figures that the server may count, or there was no memory for them
-pub figures_told : {S T E : Type 0} (ways : Ways S) (office : Office S) (line : List ℕ) (before after : Taken) (topic : Topic) (bytes : T → List ℕ) (text : Result T E)
-    → ReadsOrder line (Ok (orders.Count topic))
-    → IfOk text (λ t. (figures : List Figure) × ways.counts office.service topic figures × (bytes t ≡ figure_lines figures ++ codes "DONE\n"))
-    → MatchResult text (λ t. Tries before after (bytes t)) (λ _. Tries before after (codes "FAULT MEMORY\n"))
-    → (said : Said) × AnswersOrder ways office line said office × Tries before after (answer_text said) × (false ≡ is_stop said)
-figures_told ways office line before after topic bytes (Ok t) read made tries = (
-  saying (figure_lines made.0) (Ok (orders.Count topic)),
-  (record { read = read; performs = refl; changes = (refl, refl) }, (made.0, made.1, refl)),
-  tells made.2 tries,
-  refl,
-)
-figures_told ways office line before after topic bytes (Err e) read made tries = (
-  saying [] (Err obey.Memory),
-  (inr (inr (record { order = orders.Count topic; read = read; asks = refl; stays = refl })), refl),
-  tries,
-  refl,
-)
-
--- a result that is Ok has no fault
-pub no_err : {A E : Type 0} (r : Result A E) → true ≡ is_ok r → result_err r ≡ None
-no_err (Ok x) well = refl
-no_err (Err e) well = absurd cc
+pub not_stop : (order : Order) → order ≢ orders.Fixed fixed.Stop → stops (Ok order) ≡ false
+not_stop (orders.Fixed fixed.Stop) other = absurd (other refl)
+not_stop _ other = refl

@@ -80,7 +80,7 @@ next_faults line behind p cut one =
     both_empty (line_faults p.number line) (faults_from (p.number + 1) behind) (sym (faults_from-line p.number _ line behind (line_cut [] line behind cut one) (left_cut [] line behind cut one)) ∙ p.faultless)
 
 -- one line behind whole lines
-line_behind : (lines line : List ℕ) → unfinished_line lines ≡ [] → HasNoLf line
+pub line_behind : (lines line : List ℕ) → unfinished_line lines ≡ [] → HasNoLf line
     → (input_lines (lines ++ (line ++ 10 ∷ [])) ≡ input_lines lines ++ line ∷ []) × (unfinished_line (lines ++ (line ++ 10 ∷ [])) ≡ [])
 unfolding lines_after rest_after
 line_behind lines line whole one = (

@@ -1,16 +1,17 @@
 -- Orders of the operator, and their answers (own).
-use Rattle.std.specs.Prelude.{◌≡◌, ◌+◌, ◌<◌, ◌⊎◌, ℕ, Bool, true, false, List, [], ◌∷◌, ◌++◌, All, length, codes, Option, Some, None, Result, Ok, Err}
+use Rattle.std.specs.Prelude.{◌≡◌, ◌+◌, ◌<◌, ◌≤◌, ◌⊎◌, ℕ, Bool, true, false, List, [], ◌∷◌, ◌++◌, All, length, codes, Option, Some, None, Result, Ok, Err}
 use Rattle.nmvs_directory.specs.Registrar.{Register}
 use Rattle.nmvs_directory.specs.Users.{users_of}
 use Rattle.nmvs_directory.specs.declared.change.Change.{Change}
-use Rattle.nmvs_stream.specs.InputLines.{input_lines, unfinished_line}
+use Rattle.nmvs_stream.specs.InputLines.{HasNoLf, input_lines, unfinished_line}
+use Rattle.nmvs_messages.specs.PendingLines.{kept_part}
 use Rattle.nmvs_messages.specs.declared.command.Command.{Command}
 use Rattle.nmvs_messages.specs.declared.command.CommandFault.{CommandFault}
 use Rattle.nmvs_messages.specs.declared.command.CommandFault.TheVariants as commands
 use Rattle.nmvs_stream.specs.Source.{Told}
 use Rattle.nmvs_stream.specs.Sink.{Taken}
 use Rattle.nmvs_stream.specs.Delivery.{Delivers, DeliversPart}
-use Rattle.nmvs_operator.specs.Orders.{ReadsOrder, first_order_fault}
+use Rattle.nmvs_operator.specs.Orders.{ReadsOrder, counts, help_lines}
 use Rattle.nmvs_operator.specs.Figures.{figure_lines}
 use Rattle.nmvs_operator.specs.Reload.{TakesLines}
 use Rattle.nmvs_operator.specs.Roll.{user_lines, changed_users, changed_line}
@@ -19,11 +20,9 @@ use Rattle.nmvs_operator.specs.UsersFaults.{faults_from, fault_lines}
 use Rattle.nmvs_operator.specs.declared.faults.ObeyFault.{ObeyFault}
 use Rattle.nmvs_operator.specs.declared.faults.ObeyFault.TheVariants as obey
 use Rattle.nmvs_operator.specs.declared.figures.Figure.{Figure}
-use Rattle.nmvs_operator.specs.declared.figures.Topic.{Topic}
+use Rattle.nmvs_operator.specs.declared.order.Fixed.TheVariants as fixed
 use Rattle.nmvs_operator.specs.declared.order.Order.{Order}
 use Rattle.nmvs_operator.specs.declared.order.Order.TheVariants as orders
-use Rattle.nmvs_operator.specs.declared.service.Deed.{Deed}
-use Rattle.nmvs_operator.specs.declared.service.Deed.TheVariants as deeds
 use Rattle.nmvs_operator.specs.declared.service.ServiceFault.{ServiceFault}
 use Rattle.nmvs_operator.specs.declared.service.ServiceFault.TheVariants as service
 
@@ -36,55 +35,34 @@ pub record Office (S : Type 0) : Type 0 where
 abbrev pub office : {S : Type 0} → Register → Option (List Change) → S → Office S
 office register latest service = record { register = register; latest = latest; service = service }
 
--- the deeds that a server in a state may do, with their faults and the states after them
+-- what a server in a state may do at an order: it gives these figures, or fails so, and is in that state then
 abbrev pub Does : Type 0 → Type 1
-Does S = S → Deed → Option ServiceFault → S → Type 0
+Does S = S → Order → Result (List Figure) ServiceFault → S → Type 0
 
--- the figures that a server in a state may count of a topic
-abbrev pub Counts : Type 0 → Type 1
-Counts S = S → Topic → List Figure → Type 0
+-- how it may keep the changes of these lines of a users file, or fail to
+abbrev pub Keeps : Type 0 → Type 1
+Keeps S = S → List ℕ → Option ServiceFault → S → Type 0
 
--- the deeds and figures of a server
+-- both
 pub record Ways (S : Type 0) : Type 1 where
   pub does : Does S
-  pub counts : Counts S
+  pub keeps : Keeps S
 
-abbrev pub ways : {S : Type 0} → Does S → Counts S → Ways S
-ways does counts = record { does = does; counts = counts }
+abbrev pub ways : {S : Type 0} → Does S → Keeps S → Ways S
+ways does keeps = record { does = does; keeps = keeps }
 
--- a deed is to keep the changes of a users file of these bytes
-abbrev pub IsKeepFile : Deed → List ℕ → Type 0
-IsKeepFile (deeds.KeepFile file) bytes = file.now ≡ bytes
-IsKeepFile (deeds.Keep command) bytes = ⊥
-IsKeepFile (deeds.Export path) bytes = ⊥
-IsKeepFile deeds.Stop bytes = ⊥
-IsKeepFile deeds.TakeOver bytes = ⊥
-IsKeepFile deeds.HandOver bytes = ⊥
-IsKeepFile (deeds.Trim blocks) bytes = ⊥
+-- an order that asks for no figures has none
+abbrev pub HasFigures : Order → List Figure → Type 0
+HasFigures order figures = counts order ≡ false → figures ≡ []
 
--- the server kept the changes of a users file that has no fault, or failed to with this fault
-pub record KeepsFile {S : Type 0} (does : Does S) (old : S) (bytes : List ℕ) (fault : Option ServiceFault) (new : S) : Type 0 where
+-- the server kept the changes of lines of a users file that have no fault, or failed to with this fault
+pub record KeepsFile {S : Type 0} (keeps : Keeps S) (old : S) (bytes : List ℕ) (fault : Option ServiceFault) (new : S) : Type 0 where
   pub faultless : faults_from 1 bytes ≡ []
-  pub deed : Deed
-  pub file : IsKeepFile deed bytes
-  pub done : does old deed fault new
+  pub kept : keeps old bytes fault new
 
--- the server did what an order asks of it, or failed to with this fault
-abbrev pub Performs : {S : Type 0} → Does S → S → Order → Option ServiceFault → S → Type 0
-Performs does old (orders.Change command) fault new = does old (deeds.Keep command) fault new
-Performs does old (orders.Export path) fault new = does old (deeds.Export path) fault new
-Performs does old orders.Stop fault new = does old deeds.Stop fault new
-Performs does old orders.TakeOver fault new = does old deeds.TakeOver fault new
-Performs does old orders.HandOver fault new = does old deeds.HandOver fault new
-Performs does old (orders.Trim blocks) fault new = does old (deeds.Trim blocks) fault new
-Performs does old (orders.Reload all) None new = (bytes : List ℕ) × KeepsFile does old bytes None new
-Performs does old (orders.Reload all) (Some fault) new = (new ≡ old) ⊎ ((bytes : List ℕ) × KeepsFile does old bytes (Some fault) new)
-Performs does old orders.Users None new = new ≡ old
-Performs does old orders.Users (Some fault) new = ⊥
-Performs does old (orders.Count topic) None new = new ≡ old
-Performs does old (orders.Count topic) (Some fault) new = ⊥
-Performs does old orders.Help None new = new ≡ old
-Performs does old orders.Help (Some fault) new = ⊥
+-- the users stay as they are, and so does the latest notice
+abbrev pub UsersStay : {S : Type 0} → Office S → Office S → Type 0
+UsersStay old new = (new.register ≡ old.register) × (new.latest ≡ old.latest)
 
 -- a change is published after all that were pending, and the latest notice has all that is published
 pub record Publishes {S : Type 0} (old : Office S) (command : Command) (new : Office S) : Type 0 where
@@ -92,127 +70,37 @@ pub record Publishes {S : Type 0} (old : Office S) (command : Command) (new : Of
   pub none_left : new.register.pending ≡ []
   pub told : new.latest ≡ Some new.register.published
 
--- the changes of those lines of a users file that take effect, which the server keeps, are published after all that were
--- pending; the latest notice has all that is published
-pub record Reloads {S : Type 0} (does : Does S) (all : Bool) (old : Office S) (new : Office S) : Type 0 where
+-- memory was wanting for a change that the server keeps: nothing was published, and the change may be pending
+pub record Lacks {S : Type 0} (old : Office S) (command : Command) (new : Office S) : Type 0 where
+  pub published : new.register.published ≡ old.register.published
+  pub pending : (new.register.pending ≡ old.register.pending) ⊎ (new.register.pending ≡ old.register.pending ++ change_of command ∷ [])
+  pub latest : new.latest ≡ old.latest
+
+-- the server keeps the changes of those lines of a users file that take effect
+pub record KeepsUsers {S : Type 0} (keeps : Keeps S) (all : Bool) (old new : Office S) (bytes : List ℕ) : Type 0 where
   pub file : List ℕ
-  pub bytes : List ℕ
   pub takes : TakesLines all old.register.published file bytes
-  pub kept : KeepsFile does old.service bytes None new.service
+  pub kept : KeepsFile keeps old.service bytes None new.service
+
+-- they are published after all that were pending; the latest notice has all that is published
+pub record Reloads {S : Type 0} (keeps : Keeps S) (all : Bool) (old new : Office S) : Type 0 where
+  pub bytes : List ℕ
+  pub users : KeepsUsers keeps all old new bytes
   pub added : List Change
   pub adds : AddsAll bytes old.register.pending added
   pub published : new.register.published ≡ old.register.published ++ added
   pub none_left : new.register.pending ≡ []
   pub told : new.latest ≡ Some new.register.published
 
--- the users stay as they are, and so does the latest notice
-abbrev pub UsersStay : {S : Type 0} → Office S → Office S → Type 0
-UsersStay old new = (new.register ≡ old.register) × (new.latest ≡ old.latest)
-
--- the change of the users and of the latest notice by an order
-abbrev pub Changes : {S : Type 0} → Does S → Office S → Order → Office S → Type 0
-Changes does old (orders.Change command) new = Publishes old command new
-Changes does old (orders.Reload all) new = Reloads does all old new
-Changes does old (orders.Export path) new = UsersStay old new
-Changes does old orders.Users new = UsersStay old new
-Changes does old (orders.Count topic) new = UsersStay old new
-Changes does old orders.Stop new = UsersStay old new
-Changes does old orders.TakeOver new = UsersStay old new
-Changes does old orders.HandOver new = UsersStay old new
-Changes does old (orders.Trim blocks) new = UsersStay old new
-Changes does old orders.Help new = UsersStay old new
-
--- an order was carried out
-pub record Obeys {S : Type 0} (does : Does S) (old : Office S) (line : List ℕ) (order : Order) (new : Office S) : Type 0 where
-  pub read : ReadsOrder line (Ok order)
-  pub performs : Performs does old.service order None new.service
-  pub changes : Changes does old order new
-
--- the server did not do what an order asks, and nothing was published
-pub record Fails {S : Type 0} (does : Does S) (old : Office S) (line : List ℕ) (fault : ServiceFault) (new : Office S) : Type 0 where
-  pub order : Order
-  pub read : ReadsOrder line (Ok order)
-  pub performs : Performs does old.service order (Some fault) new.service
-  pub stays : UsersStay old new
-
--- memory was wanting for a change that the server keeps: nothing was published, and the change may be pending
-pub record Lacks {S : Type 0} (does : Does S) (old : Office S) (line : List ℕ) (new : Office S) : Type 0 where
-  pub command : Command
-  pub read : ReadsOrder line (Ok (orders.Change command))
-  pub performs : does old.service (deeds.Keep command) None new.service
-  pub published : new.register.published ≡ old.register.published
-  pub pending : (new.register.pending ≡ old.register.pending) ⊎ (new.register.pending ≡ old.register.pending ++ change_of command ∷ [])
-  pub latest : new.latest ≡ old.latest
-
--- memory was wanting for the changes of those lines of a users file that take effect, which the server keeps: nothing was
--- published, and the changes of the first of them are pending
-pub record LacksUsers {S : Type 0} (does : Does S) (old : Office S) (line : List ℕ) (new : Office S) : Type 0 where
-  pub all : Bool
-  pub read : ReadsOrder line (Ok (orders.Reload all))
-  pub file : List ℕ
+-- memory was wanting for them: nothing was published, and the changes of the first of them are pending
+pub record LacksUsers {S : Type 0} (keeps : Keeps S) (all : Bool) (old new : Office S) : Type 0 where
   pub bytes : List ℕ
-  pub takes : TakesLines all old.register.published file bytes
-  pub kept : KeepsFile does old.service bytes None new.service
+  pub users : KeepsUsers keeps all old new bytes
   pub published : new.register.published ≡ old.register.published
   pub pending : AddsFirst bytes old.register.pending new.register.pending
   pub latest : new.latest ≡ old.latest
 
--- whether an order asks for lines that take memory
-abbrev pub asks_lines : Order → Bool
-asks_lines (orders.Change command) = false
-asks_lines (orders.Reload all) = true
-asks_lines (orders.Export path) = false
-asks_lines orders.Users = true
-asks_lines (orders.Count topic) = true
-asks_lines orders.Stop = false
-asks_lines orders.TakeOver = false
-asks_lines orders.HandOver = false
-asks_lines (orders.Trim blocks) = false
-asks_lines orders.Help = false
-
--- memory was wanting for the lines that an order asks for, and nothing changed
-pub record LacksLines {S : Type 0} (old : Office S) (line : List ℕ) (new : Office S) : Type 0 where
-  pub order : Order
-  pub read : ReadsOrder line (Ok order)
-  pub asks : asks_lines order ≡ true
-  pub stays : new ≡ old
-
--- an order was not carried out: it can't be read, or the users file has faults, and nothing changed; the server failed; or
--- memory was wanting
-abbrev pub Refuses : {S : Type 0} → Does S → Office S → List ℕ → ObeyFault → Office S → Type 0
-Refuses does old line (obey.Unread fault) new = (first_order_fault line ≡ Some fault) × (new ≡ old)
-Refuses does old line (obey.Undone fault) new = Fails does old line fault new
-Refuses does old line obey.Memory new = Lacks does old line new ⊎ (LacksUsers does old line new ⊎ LacksLines old line new)
-Refuses does old line obey.Users new = ((all : Bool) × ReadsOrder line (Ok (orders.Reload all))) × (new ≡ old)
-Refuses does old line obey.Unended new = ⊥
-
--- an order ended so: as the order that was carried out, or by a fault
-abbrev pub Ends : {S : Type 0} → Does S → Office S → List ℕ → Result Order ObeyFault → Office S → Type 0
-Ends does old line (Ok order) new = Obeys does old line order new
-Ends does old line (Err fault) new = Refuses does old line fault new
-
--- the lines of the answer to an order, by its result: the published users, some of the figures that the server may count, the
--- number of users whom a reload changed, the faults of a users file, or none
-abbrev pub Lists : {S : Type 0} → Counts S → Office S → Result Order ObeyFault → List ℕ → Office S → Type 0
-Lists counts old (Ok orders.Users) lines new = lines ≡ user_lines (users_of old.register.published)
-Lists counts old (Ok (orders.Count topic)) lines new = (figures : List Figure) × counts old.service topic figures × (lines ≡ figure_lines figures)
-Lists counts old (Ok (orders.Change command)) lines new = lines ≡ []
-Lists counts old (Ok (orders.Reload all)) lines new =
-    lines ≡ changed_line (changed_users old.register.published new.register.published)
-Lists counts old (Ok (orders.Export path)) lines new = lines ≡ []
-Lists counts old (Ok orders.Stop) lines new = lines ≡ []
-Lists counts old (Ok orders.TakeOver) lines new = lines ≡ []
-Lists counts old (Ok orders.HandOver) lines new = lines ≡ []
-Lists counts old (Ok (orders.Trim blocks)) lines new = lines ≡ []
-Lists counts old (Ok orders.Help) lines new = lines ≡ []
-Lists counts old (Err obey.Users) lines new =
-    (bytes : List ℕ) × (0 < length (faults_from 1 bytes)) × (lines ≡ fault_lines (faults_from 1 bytes))
-Lists counts old (Err (obey.Unread fault)) lines new = lines ≡ []
-Lists counts old (Err (obey.Undone fault)) lines new = lines ≡ []
-Lists counts old (Err obey.Memory) lines new = lines ≡ []
-Lists counts old (Err obey.Unended) lines new = lines ≡ []
-
--- the answer to an order: the lines that it asked for, and how it ended
+-- the answer to an order: the lines that it asked for, and how it ended: as the order that was carried out, or by a fault
 pub record Said : Type 0 where
   pub lines : List ℕ
   pub ends : Result Order ObeyFault
@@ -220,16 +108,66 @@ pub record Said : Type 0 where
 abbrev pub saying : List ℕ → Result Order ObeyFault → Said
 saying lines ends = record { lines = lines; ends = ends }
 
--- an order ended so, and these are its lines
-abbrev pub AnswersOrder : {S : Type 0} → Ways S → Office S → List ℕ → Said → Office S → Type 0
-AnswersOrder ways old line said new = Ends ways.does old line said.ends new × Lists ways.counts old said.ends said.lines new
+-- an order that asks for lines alone is answered by these, or there was no memory for them
+abbrev pub Lists : Order → List ℕ → Said → Type 0
+Lists order lines said = (said ≡ saying lines (Ok order)) ⊎ (said ≡ saying [] (Err obey.Memory))
 
--- orders are answered so, one by one in order
+-- a change of the users ended so
+abbrev pub Changes : {S : Type 0} → Does S → Office S → Command → Result Order ObeyFault → Office S → Type 0
+Changes does old command (Ok order) new =
+    (order ≡ orders.Change command) × does old.service (orders.Change command) (Ok []) new.service × Publishes old command new
+Changes does old command (Err (obey.Undone fault)) new = does old.service (orders.Change command) (Err fault) new.service × UsersStay old new
+Changes does old command (Err obey.Memory) new = does old.service (orders.Change command) (Ok []) new.service × Lacks old command new
+Changes does old command (Err _) new = ⊥
+
+-- a reload ended so, and these are the lines of its answer: the number of users whom it changed, or the faults of the users file
+abbrev pub Renews : {S : Type 0} → Keeps S → Bool → Office S → List ℕ → Result Order ObeyFault → Office S → Type 0
+Renews keeps all old lines (Ok order) new =
+    (order ≡ orders.Reload all) × Reloads keeps all old new × (lines ≡ changed_line (changed_users old.register.published new.register.published))
+Renews keeps all old lines (Err (obey.Undone fault)) new =
+    ((new.service ≡ old.service) ⊎ ((bytes : List ℕ) × KeepsFile keeps old.service bytes (Some fault) new.service)) × UsersStay old new × (lines ≡ [])
+Renews keeps all old lines (Err obey.Memory) new = ((new ≡ old) ⊎ LacksUsers keeps all old new) × (lines ≡ [])
+Renews keeps all old lines (Err obey.Users) new =
+    (new ≡ old) × ((bytes : List ℕ) × (0 < length (faults_from 1 bytes)) × (lines ≡ fault_lines (faults_from 1 bytes)))
+Renews keeps all old lines (Err _) new = ⊥
+
+-- an order that is for the server alone ended so, and these are the lines of its answer
+abbrev pub Performs : {S : Type 0} → Does S → S → Order → List ℕ → Result Order ObeyFault → S → Type 0
+Performs does old order lines (Ok done) new =
+    (done ≡ order) × ((figures : List Figure) × does old order (Ok figures) new × HasFigures order figures × (lines ≡ figure_lines figures))
+Performs does old order lines (Err (obey.Undone fault)) new = does old order (Err fault) new × (lines ≡ [])
+Performs does old order lines (Err obey.Memory) new =
+    ((figures : List Figure) × does old order (Ok figures) new × HasFigures order figures × (0 < length figures)) × (lines ≡ [])
+Performs does old order lines (Err _) new = ⊥
+
+-- a line that was read so is answered so
+abbrev pub AnswersRead : {S : Type 0} → Ways S → Office S → Result Order CommandFault → Said → Office S → Type 0
+AnswersRead ways old (Err fault) said new = (said ≡ saying [] (Err (obey.Unread fault))) × (new ≡ old)
+AnswersRead ways old (Ok (orders.Change command)) said new = Changes ways.does old command said.ends new × (said.lines ≡ [])
+AnswersRead ways old (Ok (orders.Reload all)) said new = Renews ways.keeps all old said.lines said.ends new
+AnswersRead ways old (Ok (orders.Fixed fixed.Users)) said new = Lists (orders.Fixed fixed.Users) (user_lines (users_of old.register.published)) said × (new ≡ old)
+AnswersRead ways old (Ok (orders.Fixed fixed.Help)) said new = Lists (orders.Fixed fixed.Help) help_lines said × (new ≡ old)
+AnswersRead ways old (Ok order) said new = Performs ways.does old.service order said.lines said.ends new.service × UsersStay old new
+
+-- a line is answered so
+abbrev pub AnswersOrder : {S : Type 0} → Ways S → Office S → List ℕ → Said → Office S → Type 0
+AnswersOrder ways old line said new = (read : Result Order CommandFault) × ReadsOrder line read × AnswersRead ways old read said new
+
+-- lines are answered so, one by one in order
 abbrev pub AnswersOrders : {S : Type 0} → Ways S → Office S → List (List ℕ) → List Said → Office S → Type 0
 AnswersOrders ways old [] [] new = new ≡ old
 AnswersOrders {S} ways old (x ∷ xs) (a ∷ said) new = (mid : Office S) × AnswersOrder ways old x a mid × AnswersOrders ways mid xs said new
 AnswersOrders ways old [] (a ∷ said) new = ⊥
 AnswersOrders ways old (x ∷ xs) [] new = ⊥
+
+-- the same by a server that follows another, which has no users to change
+abbrev pub AnswersReadFollowing : {S : Type 0} → Does S → S → Result Order CommandFault → Said → S → Type 0
+AnswersReadFollowing does old (Err fault) said new = (said ≡ saying [] (Err (obey.Unread fault))) × (new ≡ old)
+AnswersReadFollowing does old (Ok (orders.Fixed fixed.Help)) said new = Lists (orders.Fixed fixed.Help) help_lines said × (new ≡ old)
+AnswersReadFollowing does old (Ok order) said new = Performs does old order said.lines said.ends new
+
+abbrev pub AnswersFollowing : {S : Type 0} → Does S → S → List ℕ → Said → S → Type 0
+AnswersFollowing does old line said new = (read : Result Order CommandFault) × ReadsOrder line read × AnswersReadFollowing does old read said new
 
 -- the word of the fault of a line that can't be read
 abbrev pub command_word : CommandFault → List ℕ
@@ -256,13 +194,8 @@ service_word service.Engine = codes "ENGINE"
 service_word service.Standby = codes "STANDBY"
 service_word service.Untrimmed = codes "TRIM"
 
--- the answer to HELP: the list of the orders, and its last line
-abbrev pub help_text : List ℕ
-help_text = codes "ENROL user role authorisation premises [UNTIL YYMMDD] [CODES code,code]\nSUSPEND user\nREMOVE user\nRELOAD\nRELOAD ALL\nEXPORT file\nUSERS\nSTATS\nCONNECTIONS\nALERTS\nSTOP\nTAKE OVER\nHAND OVER\nTRIM blocks\nHELP\nDONE\n"
-
--- the last line of the answer to an order; and to HELP the whole answer
+-- the last line of the answer to an order
 abbrev pub order_text : Result Order ObeyFault → List ℕ
-order_text (Ok orders.Help) = help_text
 order_text (Ok _) = codes "DONE\n"
 order_text (Err (obey.Unread fault)) = codes "FAULT " ++ command_word fault ++ codes "\n"
 order_text (Err (obey.Undone fault)) = codes "FAULT " ++ service_word fault ++ codes "\n"
@@ -291,7 +224,7 @@ last_answer (b ∷ begun) = saying [] (Err obey.Unended) ∷ []
 
 -- whether an order that ended so stopped the server
 abbrev pub stops : Result Order ObeyFault → Bool
-stops (Ok orders.Stop) = true
+stops (Ok (orders.Fixed fixed.Stop)) = true
 stops _ = false
 
 -- whether the server was stopped
@@ -305,7 +238,23 @@ GoesOn said = All (λ a. is_stop a ≡ false) said
 -- an input is at its end: its end was read, a read failed, or the most reads were made
 abbrev pub InputEnds : Told → Told → Type 0
 InputEnds source source' =
-    (source'.ended ≡ true) ⊎ ((source'.failed ≡ true) ⊎ (source'.reads ≡ source.reads + 18446744073709551615))
+    (source'.ended ≡ true) ⊎ ((source'.failed ≡ true) ⊎ (source.reads + 18446744073709551615 ≤ source'.reads))
+
+-- a line was read up to its LF, of which this part is kept
+pub record ReadsLine (source source' : Told) (kept : List ℕ) : Type 0 where
+  pub line : List ℕ
+  pub one : HasNoLf line
+  pub part : kept ≡ kept_part line
+  pub bytes : source'.bytes ≡ source.bytes ++ (line ++ 10 ∷ [])
+  pub reads : source.reads + 1 ≤ source'.reads
+
+-- the input is at its end, and this part is kept of the line that was begun
+pub record ReadsEnd (source source' : Told) (kept : List ℕ) : Type 0 where
+  pub line : List ℕ
+  pub one : HasNoLf line
+  pub part : kept ≡ kept_part line
+  pub bytes : source'.bytes ≡ source.bytes ++ line
+  pub ends : InputEnds source source'
 
 -- all lines of an input that have their LF were answered, and none stopped the server; a line that was begun after them is
 -- answered, and not carried out
@@ -315,12 +264,13 @@ pub record EndsWithInput (input : List ℕ) (source : Told) (sink : Taken) (line
   pub told : TellsAnswers sink (said ++ last_answer (unfinished_line input)) sink'
   pub ends : InputEnds source source'
 
--- the first lines of an input were answered, up to the line that stopped the server; no other was read
+-- the lines of an input were answered, up to the one that stopped the server; no other was read
 pub record EndsByStop (input : List ℕ) (sink : Taken) (lines : List (List ℕ)) (said : List Said) (sink' : Taken) : Type 0 where
-  pub rest : List (List ℕ)
-  pub these : input_lines input ≡ lines ++ rest
+  pub all : lines ≡ input_lines input
   pub before : List Said
-  pub last : said ≡ before ++ saying [] (Ok orders.Stop) ∷ []
+  pub stop : Said
+  pub last : said ≡ before ++ stop ∷ []
+  pub stopped : is_stop stop ≡ true
   pub goes_on : GoesOn before
   pub told : TellsAnswers sink said sink'
 

@@ -1,4 +1,5 @@
 pub mod Options
+pub mod Config
 pub mod Users
 pub mod Orders
 pub mod Figures
@@ -6,7 +7,5 @@ pub mod Roll
 pub mod UsersFaults
 pub mod Reload
 pub mod Commands
-pub mod Progress
 pub mod Address
 pub mod ClusterNames
-pub mod Standby

@@ -1,39 +1,77 @@
--- The one line of each order of the operator, and the first fault of a line (own).
-use Rattle.std.specs.Prelude.{◌≡◌, ◌^◌, ◌&&◌, ℕ, Bool, true, false, nat_lt, List, [], ◌∷◌, codes, decimal, Option, Some, None, Result, Ok, Err, if◌then◌else◌, IsTrue}
+-- The orders of the operator: a row for each, the one line of each, and the first fault of a line (own).
+use Rattle.std.specs.Prelude.{◌≡◌, ◌^◌, ◌&&◌, ◌++◌, ℕ, Bool, true, false, nat_lt, List, [], ◌∷◌, codes, decimal, find, Option, Some, None, option_map, Result, Ok, Err, if◌then◌else◌, IsTrue}
+use Rattle.std.specs.List.{flat_map}
 use Rattle.std.specs.Str.{bytes_eq}
 use Rattle.std.specs.Str.Parse.{digits_value}
 use Rattle.nmvs_messages.specs.Commands.{command_fields, is_command, fields_fault}
 use Rattle.nmvs_messages.specs.Fields.{line_of_fields, line_fault}
 use Rattle.nmvs_messages.specs.declared.command.CommandFault.{CommandFault}
 use Rattle.nmvs_messages.specs.declared.command.CommandFault.TheVariants as fault
-use Rattle.nmvs_operator.specs.declared.figures.Topic.{Topic}
-use Rattle.nmvs_operator.specs.declared.figures.Topic.TheVariants.{Stats, Connections, Alerts}
+use Rattle.nmvs_operator.specs.declared.order.Fixed.{Fixed}
+use Rattle.nmvs_operator.specs.declared.order.Fixed.TheVariants as fixed
+use Rattle.nmvs_operator.specs.declared.order.Grammar.{Grammar}
+use Rattle.nmvs_operator.specs.declared.order.Grammar.TheVariants.{Alone, Over, Reload, Path, Blocks, User}
 use Rattle.nmvs_operator.specs.declared.order.Order.{Order}
 use Rattle.nmvs_operator.specs.declared.order.Order.TheVariants as orders
 
--- the word of a topic
-abbrev pub topic_word : Topic → List ℕ
-topic_word Stats = codes "STATS"
-topic_word Connections = codes "CONNECTIONS"
-topic_word Alerts = codes "ALERTS"
+-- a row: the word of an order, what HELP shows behind it, and what follows it in a line
+abbrev pub Row : Type 0
+Row = List ℕ × List ℕ × Grammar
+
+-- the rows, as HELP lists them
+abbrev pub rows : List Row
+rows =
+    (codes "ENROL", codes " user role authorisation premises [UNTIL YYMMDD] [CODES code,code]", User)
+    ∷ (codes "SUSPEND", codes " user", User)
+    ∷ (codes "REMOVE", codes " user", User)
+    ∷ (codes "RELOAD", [], Reload)
+    ∷ (codes "RELOAD", codes " ALL", Reload)
+    ∷ (codes "EXPORT", codes " file", Path)
+    ∷ (codes "USERS", [], Alone fixed.Users)
+    ∷ (codes "STATS", [], Alone fixed.Stats)
+    ∷ (codes "CONNECTIONS", [], Alone fixed.Connections)
+    ∷ (codes "ALERTS", [], Alone fixed.Alerts)
+    ∷ (codes "STOP", [], Alone fixed.Stop)
+    ∷ (codes "TAKE", codes " OVER", Over fixed.TakeOver)
+    ∷ (codes "HAND", codes " OVER", Over fixed.HandOver)
+    ∷ (codes "TRIM", codes " blocks", Blocks)
+    ∷ (codes "HELP", [], Alone fixed.Help)
+    ∷ []
+
+-- the lines of HELP
+abbrev pub help_of : List Row → List ℕ
+help_of rows = flat_map (λ row. row.0 ++ (row.1 ++ codes "\n")) rows
+
+unfoldable pub help_lines : List ℕ
+help_lines = help_of rows
+
+-- what follows a word, if it is one of an order
+unfoldable pub grammar_of : List ℕ → Option Grammar
+grammar_of word = option_map (λ row. row.2) (find (λ row. bytes_eq word row.0) rows)
 
 -- the fields of a reload, with ALL if it frees suspended users
 abbrev pub reload_fields : Bool → List (List ℕ)
 reload_fields false = codes "RELOAD" ∷ []
 reload_fields true = codes "RELOAD" ∷ codes "ALL" ∷ []
 
+-- the fields of an order of fixed words
+abbrev pub fixed_fields : Fixed → List (List ℕ)
+fixed_fields fixed.Users = codes "USERS" ∷ []
+fixed_fields fixed.Stats = codes "STATS" ∷ []
+fixed_fields fixed.Connections = codes "CONNECTIONS" ∷ []
+fixed_fields fixed.Alerts = codes "ALERTS" ∷ []
+fixed_fields fixed.Stop = codes "STOP" ∷ []
+fixed_fields fixed.TakeOver = codes "TAKE" ∷ codes "OVER" ∷ []
+fixed_fields fixed.HandOver = codes "HAND" ∷ codes "OVER" ∷ []
+fixed_fields fixed.Help = codes "HELP" ∷ []
+
 -- the fields of an order
 abbrev pub order_fields : Order → List (List ℕ)
 order_fields (orders.Change command) = command_fields command
 order_fields (orders.Reload all) = reload_fields all
 order_fields (orders.Export path) = codes "EXPORT" ∷ path.now ∷ []
-order_fields orders.Users = codes "USERS" ∷ []
-order_fields (orders.Count topic) = topic_word topic ∷ []
-order_fields orders.Stop = codes "STOP" ∷ []
-order_fields orders.TakeOver = codes "TAKE" ∷ codes "OVER" ∷ []
-order_fields orders.HandOver = codes "HAND" ∷ codes "OVER" ∷ []
 order_fields (orders.Trim blocks) = codes "TRIM" ∷ decimal blocks ∷ []
-order_fields orders.Help = codes "HELP" ∷ []
+order_fields (orders.Fixed order) = fixed_fields order
 
 -- the line of an order, without LF
 abbrev pub order_line : Order → List ℕ
@@ -42,15 +80,15 @@ order_line o = line_of_fields (order_fields o)
 -- whether the texts of an order are in their grammars
 abbrev pub is_order : Order → Bool
 is_order (orders.Change command) = is_command command
-is_order (orders.Reload all) = true
-is_order (orders.Export path) = true
-is_order orders.Users = true
-is_order (orders.Count topic) = true
-is_order orders.Stop = true
-is_order orders.TakeOver = true
-is_order orders.HandOver = true
 is_order (orders.Trim blocks) = nat_lt blocks (2 ^ 64)
-is_order orders.Help = true
+is_order _ = true
+
+-- whether an order asks for figures
+abbrev pub counts : Order → Bool
+counts (orders.Fixed fixed.Stats) = true
+counts (orders.Fixed fixed.Connections) = true
+counts (orders.Fixed fixed.Alerts) = true
+counts _ = false
 
 -- the first fault of an export with these texts after its word
 abbrev pub export_fault : List (List ℕ) → Option CommandFault
@@ -82,40 +120,20 @@ abbrev pub trim_fault : List (List ℕ) → Option CommandFault
 trim_fault (text ∷ []) = if is_number text then None else Some fault.Fields
 trim_fault _ = Some fault.Fields
 
--- the first fault of these fields, of an order about several machines or of one that changes a user
-unfoldable pub turn_fault : List (List ℕ) → Option CommandFault
-turn_fault [] = Some fault.Word
-turn_fault (word ∷ texts) =
-    if bytes_eq word (codes "TAKE") then over_fault texts
-    else if bytes_eq word (codes "HAND") then over_fault texts
-    else if bytes_eq word (codes "TRIM") then trim_fault texts
-    else fields_fault (word ∷ texts)
-
--- the first fault of these fields, of an order that changes the users
-unfoldable pub change_fault : List (List ℕ) → Option CommandFault
-change_fault [] = Some fault.Word
-change_fault (word ∷ texts) =
-    if bytes_eq word (codes "RELOAD") then reload_fault texts
-    else turn_fault (word ∷ texts)
-
--- the first fault of these fields, of an order that asks for lines or changes the users
-unfoldable pub listing_fault : List (List ℕ) → Option CommandFault
-listing_fault [] = Some fault.Word
-listing_fault (word ∷ texts) =
-    if bytes_eq word (codes "USERS") then alone_fault texts
-    else if bytes_eq word (codes "STATS") then alone_fault texts
-    else if bytes_eq word (codes "CONNECTIONS") then alone_fault texts
-    else if bytes_eq word (codes "ALERTS") then alone_fault texts
-    else change_fault (word ∷ texts)
+-- the first fault of a word and of these texts after it, by what follows it
+abbrev pub fault_by : Option Grammar → List ℕ → List (List ℕ) → Option CommandFault
+fault_by None word texts = Some fault.Word
+fault_by (Some (Alone order)) word texts = alone_fault texts
+fault_by (Some (Over order)) word texts = over_fault texts
+fault_by (Some Reload) word texts = reload_fault texts
+fault_by (Some Path) word texts = export_fault texts
+fault_by (Some Blocks) word texts = trim_fault texts
+fault_by (Some User) word texts = fields_fault (word ∷ texts)
 
 -- the first fault of these fields
 abbrev pub order_fault : List (List ℕ) → Option CommandFault
 order_fault [] = Some fault.Word
-order_fault (word ∷ texts) =
-    if bytes_eq word (codes "EXPORT") then export_fault texts
-    else if bytes_eq word (codes "STOP") then alone_fault texts
-    else if bytes_eq word (codes "HELP") then alone_fault texts
-    else listing_fault (word ∷ texts)
+order_fault (word ∷ texts) = fault_by (grammar_of word) word texts
 
 -- the first fault of a line
 unfoldable pub first_order_fault : List ℕ → Option CommandFault

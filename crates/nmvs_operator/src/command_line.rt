@@ -1,11 +1,18 @@
-//! The options that a command line may have, and their help.
+//! The command line: its parser, its help, and what it refuses.
+ghost use Rattle.std.specs.Prelude.{IfOk};
+ghost use Rattle.nmvs_operator.specs.Options.{IsIn};
+
+use crate::address::{address_in, is_path};
+use crate::cluster_name::is_cluster_name;
 use crate::options::{
-    MOST_CONNECTION_MEMORY, MOST_CONNECTIONS, MOST_EXPECTED_PACKS, MOST_IDLE, MOST_RATE,
-    MOST_SESSIONS, MOST_SHARDS, MOST_SILENCE, MOST_WORKERS,
+    ADMIN, CLUSTER, ENGINE, HTTP, IMPORT, JOURNAL, MACHINE, METRICS, OPTIONS, Options, REHEARSAL,
+    Row, STDIN, USERS, Value, values_of,
 };
-use clap::{Arg, ArgAction, Command, value_parser};
-use nmvs_identifier::LAST_MOMENT;
+use clap::error::ErrorKind;
+use clap::{Arg, ArgAction, ArgMatches, Command, Error, value_parser};
 use std::alloc::{AllocError, Global};
+use std::net::SocketAddr;
+use std::str::FromStr;
 
 const ABOUT: &str =
     "The national medicines verification repository: answers lines of users over connections, and takes commands of its \
@@ -15,263 +22,63 @@ const ABOUT: &str =
 /// same: the digests of a release name those that the gate passed.
 pub const VERSION: &str = "0.9.0 (built by rattle logic dac8208d650f15bf)";
 
-const REHEARSAL: &str =
+const WITHOUT_OPTIONS: &str =
     "Without any option the program is a rehearsal: one session over standard input and output, with an empty \
     repository and users of its own.";
 
-/// An option.
-#[derive(Clone, Copy)]
-struct Described {
-    name: &'static str,
-    value: Value,
-    default: Option<&'static str>,
-    help: &'static str,
+/// Why a command line gives no options.
+#[derive(Drop)]
+pub enum OptionFault {
+    Memory,
+    /// The line is refused, with the text that says why.
+    Refused(String),
+    /// The line asks for help or the version, with its text.
+    Help(String),
 }
 
-/// The value that an option takes.
-#[derive(Clone, Copy)]
-enum Value {
-    /// Nothing: the option is a flag.
-    Nothing,
-    /// A text, by its name in the help.
-    Text(&'static str),
-    /// One of these words, by its name in the help.
-    Word(&'static str, &'static [&'static str]),
-    /// A whole number, no less than the first of these and no more than the second.
-    Number(i64, i64),
+impl From<AllocError> for OptionFault {
+    fn from(_: AllocError) -> OptionFault {
+        OptionFault::Memory
+    }
 }
 
-/// The options, in the order in which the help shows them.
-static OPTIONS: [Described; 30] = [
-    Described {
-        name: "users",
-        value: Value::Text("FILE"),
-        default: None,
-        help: "Users file: one command a line, ENROL user role authorisation premises, SUSPEND user or REMOVE user",
-    },
-    Described {
-        name: "rehearsal",
-        value: Value::Nothing,
-        default: None,
-        help: "The users of the rehearsal, with a pack for each status, in place of a users file",
-    },
-    Described {
-        name: "import",
-        value: Value::Text("FILE"),
-        default: None,
-        help: "An export to go on from: each of its replies is judged again by the rules first",
-    },
-    Described {
-        name: "export",
-        value: Value::Text("FILE"),
-        default: None,
-        help: "Where the audit trail is written at the end, one line an entry; what the file had before is lost",
-    },
-    Described {
-        name: "journal",
-        value: Value::Text("DIR"),
-        default: None,
-        help: "Folder of the log: an answer goes out once its entry is on the disk there, and each start goes on from it",
-    },
-    Described {
-        name: "engine",
-        value: Value::Text("ADDRESS"),
-        default: None,
-        help: "Address and port of this machine's etcd, which keeps the log on several machines: one server answers, the others \
-        follow; a port alone is one of 127.0.0.1",
-    },
-    Described {
-        name: "cluster",
-        value: Value::Text("NAME"),
-        default: None,
-        help: "Name of the servers that share a log in etcd, 1 to 63 letters, digits and -",
-    },
-    Described {
-        name: "machine",
-        value: Value::Text("NAME"),
-        default: None,
-        help: "Name of this machine in the cluster, 1 to 63 letters, digits and -",
-    },
-    Described {
-        name: "silence",
-        value: Value::Number(1, MOST_SILENCE as i64),
-        default: Some("3"),
-        help: "Seconds of silence of the server that answers, after which one that follows takes over, 1 to 3600",
-    },
-    Described {
-        name: "config",
-        value: Value::Text("FILE"),
-        default: None,
-        help: "File of options, TOML with one key for each option, as shards = 2; the command line wins",
-    },
-    Described {
-        name: "shards",
-        value: Value::Number(1, MOST_SHARDS as i64),
-        default: Some("8"),
-        help: "Parts of the repository that are worked on at once, 1 to 8",
-    },
-    Described {
-        name: "expected-packs",
-        value: Value::Number(0, MOST_EXPECTED_PACKS as i64),
-        default: Some("0"),
-        help: "Packs that a start makes room for, 0 to 10000000000; up to them no table of packs grows while lines are answered",
-    },
-    Described {
-        name: "workers",
-        value: Value::Number(1, MOST_WORKERS as i64),
-        default: Some("4"),
-        help: "Threads that serve connections, 1 to 8",
-    },
-    Described {
-        name: "connections",
-        value: Value::Number(1, MOST_CONNECTIONS as i64),
-        default: Some("10000"),
-        help: "Connections that are open at once, 1 to 100000",
-    },
-    Described {
-        name: "connection-memory",
-        value: Value::Number(1, MOST_CONNECTION_MEMORY as i64),
-        default: Some("128"),
-        help: "Memory of the buffers of all connections in MiB, 1 to 1048576; above it the connection that takes most is closed",
-    },
-    Described {
-        name: "sessions",
-        value: Value::Number(0, MOST_SESSIONS as i64),
-        default: Some("0"),
-        help: "Sessions in which a line is served, for each worker, before the server ends, 0 to 1000000; 0 is without end",
-    },
-    Described {
-        name: "idle",
-        value: Value::Number(0, MOST_IDLE as i64),
-        default: Some("300"),
-        help: "Seconds after which a connection that asks nothing is closed, 0 to 86400; 0 is never",
-    },
-    Described {
-        name: "rate",
-        value: Value::Number(0, MOST_RATE as i64),
-        default: Some("0"),
-        help: "Lines a second that are taken from each user over connections, 0 to 1000000; 0 is all",
-    },
-    Described {
-        name: "burst",
-        value: Value::Number(1, MOST_RATE as i64),
-        default: None,
-        help: "Lines that are taken from a user at once, 1 to 1000000, if there is a rate; by default as many as in a second",
-    },
-    Described {
-        name: "listen",
-        value: Value::Text("ADDRESS"),
-        default: Some("127.0.0.1:7161"),
-        help: "Address and port, or path of a Unix socket, that is listened on; a port alone is one of 127.0.0.1, and port 0 one \
-        that the system chooses",
-    },
-    Described {
-        name: "http",
-        value: Value::Text("ADDRESS"),
-        default: None,
-        help: "Address and port, or path of a Unix socket, at which lines come over HTTP; a port alone is one of 127.0.0.1, and \
-        port 0 one that the system chooses",
-    },
-    Described {
-        name: "admin",
-        value: Value::Text("PATH"),
-        default: None,
-        help: "Unix socket that takes the operator's commands, in addition to standard input; its owner alone may open it",
-    },
-    Described {
-        name: "metrics",
-        value: Value::Text("ADDRESS"),
-        default: None,
-        help: "Address and port for /metrics, /healthz and /readyz; a port alone is one of 127.0.0.1, and port 0 one that the \
-        system chooses",
-    },
-    Described {
-        name: "log-level",
-        value: Value::Word("LEVEL", &["off", "error", "warn", "info", "debug"]),
-        default: Some("info"),
-        help: "Events of this level and above are logged",
-    },
-    Described {
-        name: "log-format",
-        value: Value::Word("FORMAT", &["text", "json"]),
-        default: Some("text"),
-        help: "How the log on standard error is written",
-    },
-    Described {
-        name: "log-users",
-        value: Value::Nothing,
-        default: None,
-        help: "An alert is logged with the user and the premises that raised it",
-    },
-    Described {
-        name: "proxy",
-        value: Value::Word("WHOSE", &["user", "authorisation"]),
-        default: None,
-        help: "Whose name the certificate has by which a gateway's header, PROXY version 2, begins each connection: a line of \
-        any other user is turned away",
-    },
-    Described {
-        name: "moment",
-        value: Value::Number(0, LAST_MOMENT),
-        default: None,
-        help: "Moment of every line in place of the clock, in seconds since 1970-01-01 UTC, 0 to 4102444799",
-    },
-    Described {
-        name: "stdin",
-        value: Value::Nothing,
-        default: None,
-        help: "Serve one session over standard input and output in place of connections",
-    },
-    Described {
-        name: "check",
-        value: Value::Nothing,
-        default: None,
-        help: "Start nothing: say all that is wrong with the file of options and the users file",
-    },
-];
+/// The options of the words after the program's own name.
+///
+/// # Errors
+///
+/// The words are no command line, or ask for help or the version; or there is no memory.
+pub fn read_options(alloc: Global, words: &[String]) -> Result<Options, OptionFault> {
+    match command(alloc)?.try_get_matches_from(words) {
+        Ok(matches) => options_of(alloc, &matches),
+        Err(error) => Err(fault_of(alloc, &error)),
+    }
+}
 
-/// Options that the help leaves out: an older form of `listen`.
-static OLDER_OPTIONS: [Described; 3] = [
-    Described {
-        name: "bind",
-        value: Value::Text("ADDRESS"),
-        default: None,
-        help: "Address that is listened on, of version 4 or 6, in place of that of --listen",
-    },
-    Described {
-        name: "port",
-        value: Value::Number(0, 65_535),
-        default: None,
-        help: "Port that is listened on, in place of that of --listen",
-    },
-    Described {
-        name: "socket",
-        value: Value::Text("PATH"),
-        default: None,
-        help: "Unix socket that is listened on in place of an address",
-    },
-];
+/// The options of a line that the parser took.
+fn options_of(alloc: Global, matches: &ArgMatches<'_>) -> Result<Options, OptionFault> {
+    let given = Given { alloc, matches };
+    judge_together(given)?;
+    values_of(given)
+}
 
 /// The command line, of the words after the program's own name.
-pub(crate) fn command<'a>(alloc: Global) -> Result<Command<'a>, AllocError> {
+fn command<'a>(alloc: Global) -> Result<Command<'a>, AllocError> {
     let mut command = Command::new(alloc, "nmvs-serve")
         .about(ABOUT)
-        .after_help(REHEARSAL)
+        .after_help(WITHOUT_OPTIONS)
         .version(VERSION)
         .no_binary_name(true);
     for option in &OPTIONS {
         command = command.arg(argument(alloc, option))?;
     }
-    for option in &OLDER_OPTIONS {
-        command = command.arg(argument(alloc, option).hide(true))?;
-    }
     Ok(command)
 }
 
-fn argument<'a>(alloc: Global, option: &Described) -> Arg<'a> {
+fn argument<'a>(alloc: Global, option: &Row) -> Arg<'a> {
     let argument = Arg::new(alloc, option.name)
         .long(option.name)
-        .help(option.help);
+        .help(option.help)
+        .hide(option.help.is_empty());
     let argument = with_value(argument, option.value);
     match option.default {
         Some(text) => argument.default_value(text),
@@ -280,12 +87,195 @@ fn argument<'a>(alloc: Global, option: &Described) -> Arg<'a> {
 }
 
 fn with_value<'a>(argument: Arg<'a>, value: Value) -> Arg<'a> {
+    let Some(name) = value.name() else {
+        return argument.action(ArgAction::SetTrue);
+    };
+    let argument = argument.value_name(name);
     match value {
-        Value::Nothing => argument.action(ArgAction::SetTrue),
-        Value::Text(name) => argument.value_name(name),
-        Value::Word(name, words) => argument.value_name(name).value_parser(words),
-        Value::Number(least, most) => argument
-            .value_name("N")
-            .value_parser(value_parser!(u64).range(least..=most)),
+        Value::Word(_, words) => argument.value_parser(words),
+        Value::Number(least, most) => argument.value_parser(value_parser!(u64).range(
+            bound(least)..=bound(most),
+        )),
+        _ => argument,
+    }
+}
+
+/// A bound as the parser takes it.
+fn bound(number: u64) -> i64 {
+    i64::try_from(number).unwrap_or(i64::MAX)
+}
+
+/// A line that the parser took.
+#[derive(Clone, Copy)]
+pub(crate) struct Given<'m, 'a> {
+    pub(crate) alloc: Global,
+    matches: &'m ArgMatches<'a>,
+}
+
+impl<'m, 'a> Given<'m, 'a> {
+    /// Whether the line has an option, or a default stands for it.
+    pub(crate) fn has(self, option: &Row) -> bool {
+        match option.value {
+            Value::Nothing => self.matches.get_flag(option.name),
+            _ => self.matches.contains_id(option.name),
+        }
+    }
+
+    /// The value of an option, as it stands.
+    pub(crate) fn str(self, option: &Row) -> Option<&'a str> {
+        self.matches.get_str(option.name)
+    }
+
+    /// The value of an option, as a text of its own.
+    pub(crate) fn text(self, option: &Row) -> Result<Option<String>, AllocError> {
+        match self.str(option) {
+            Some(text) => Ok(Some(String::from_str(self.alloc, text)?)),
+            None => Ok(None),
+        }
+    }
+
+    /// The value of an option that an address has, if it is the path of a socket in place of one.
+    pub(crate) fn path(self, option: &Row) -> Result<Option<String>, AllocError> {
+        match self.str(option) {
+            Some(text) if is_path(text) => self.text(option),
+            _ => Ok(None),
+        }
+    }
+
+    /// The address of an option, if it is given.
+    pub(crate) fn address(self, option: &Row) -> Result<Option<SocketAddr>, OptionFault> {
+        let Some(text) = self.str(option) else {
+            return Ok(None);
+        };
+        match address_in(text) {
+            Some(address) => Ok(Some(address)),
+            None => Err(refused(format!(in self.alloc;
+                "error: invalid value '{text}' for '{option}': it is no address with a port, as 127.0.0.1:7161 or [::1]:7161\n"
+            ))),
+        }
+    }
+
+    /// The address of an option, if it is given and is not the path of a socket.
+    pub(crate) fn address_or_path(self, option: &Row) -> Result<Option<SocketAddr>, OptionFault> {
+        match self.str(option) {
+            Some(text) if is_path(text) => Ok(None),
+            _ => self.address(option),
+        }
+    }
+
+    /// The number of an option. The parser takes none but one in its range; the check here shows that to the prover.
+    pub(crate) fn number(self, option: &Row) -> Result<u64, OptionFault>
+        ensures { IfOk result (IsIn option.now.value) }
+    {
+        match (option.value, self.matches.get_one::<u64>(option.name)) {
+            (Value::Number(least, most), Some(number)) if least <= number && number <= most => {
+                Ok(number)
+            }
+            _ => Err(self.unreadable()),
+        }
+    }
+
+    /// The value of an option, as its text spells it.
+    pub(crate) fn value<T: FromStr>(self, option: &Row) -> Option<T>
+    where
+        T::Err: Drop,
+    {
+        self.matches.get_one::<T>(option.name)
+    }
+
+    /// The fault of a value that the parser took and that is not what it has to be. No command line has one.
+    pub(crate) fn unreadable(self) -> OptionFault {
+        refused(String::from_str(self.alloc, "error: an option could not be read\n"))
+    }
+}
+
+/// The relation of an option to another, with the reason that the fault gives.
+#[derive(Clone, Copy)]
+enum Clash {
+    Needs(&'static str),
+    Excludes(&'static str),
+}
+
+const FOR_CONNECTIONS: Clash = Clash::Excludes(" is for connections, and");
+
+/// The options that need or exclude others, in the order in which a line is refused for them.
+static CLASHES: [(Row, Clash, Row); 11] = [
+    (STDIN, FOR_CONNECTIONS, JOURNAL),
+    (STDIN, FOR_CONNECTIONS, ADMIN),
+    (STDIN, FOR_CONNECTIONS, HTTP),
+    (STDIN, FOR_CONNECTIONS, METRICS),
+    (CLUSTER, Clash::Needs(""), ENGINE),
+    (MACHINE, Clash::Needs(""), ENGINE),
+    (ENGINE, Clash::Needs(""), CLUSTER),
+    (ENGINE, Clash::Needs(""), MACHINE),
+    (ENGINE, Clash::Needs(", the folder of its copy"), JOURNAL),
+    (ENGINE, Clash::Needs(", for TAKE OVER"), ADMIN),
+    (ENGINE, Clash::Excludes(""), IMPORT),
+];
+
+/// Refuses a line whose options lack others or exclude each other, or name no cluster or machine.
+fn judge_together(given: Given<'_, '_>) -> Result<(), OptionFault> {
+    if given.has(&USERS) == given.has(&REHEARSAL) {
+        return Err(refused(format!(in given.alloc;
+            "error: one of '{USERS}' and '{REHEARSAL}' is needed, and not both\n"
+        )));
+    }
+    for (option, clash, other) in &CLASHES {
+        if given.has(option) {
+            judge_clash(given, option, *clash, other)?;
+        }
+    }
+    for option in [&CLUSTER, &MACHINE] {
+        judge_name(given, option)?;
+    }
+    Ok(())
+}
+
+/// Refuses a line with an option that needs or excludes another, if it lacks or has the other.
+fn judge_clash(
+    given: Given<'_, '_>,
+    option: &Row,
+    clash: Clash,
+    other: &Row,
+) -> Result<(), OptionFault> {
+    match (clash, given.has(other)) {
+        (Clash::Needs(why), false) => Err(refused(format!(in given.alloc;
+            "error: '{option}' needs '{other}'{why}\n"
+        ))),
+        (Clash::Excludes(why), true) => Err(refused(format!(in given.alloc;
+            "error: '{other}'{why} can't be used with '{option}'\n"
+        ))),
+        _ => Ok(()),
+    }
+}
+
+/// Refuses a line with a name of a cluster or a machine that is not one of letters, digits and `-`.
+fn judge_name(given: Given<'_, '_>, option: &Row) -> Result<(), OptionFault> {
+    match given.str(option) {
+        Some(name) if !is_cluster_name(name) => Err(refused(format!(in given.alloc;
+            "error: the value of '{option}' is not 1 to 63 letters, digits and -\n"
+        ))),
+        _ => Ok(()),
+    }
+}
+
+/// The fault with a text, or of the memory that it lacks.
+pub(crate) fn refused(text: Result<String, AllocError>) -> OptionFault {
+    match text {
+        Ok(text) => OptionFault::Refused(text),
+        Err(AllocError) => OptionFault::Memory,
+    }
+}
+
+fn fault_of(alloc: Global, error: &Error) -> OptionFault {
+    if let ErrorKind::OutOfMemory = error.kind() {
+        return OptionFault::Memory;
+    }
+    let Ok(text) = format!(in alloc; "{error}") else {
+        return OptionFault::Memory;
+    };
+    match error.kind() {
+        ErrorKind::DisplayHelp | ErrorKind::DisplayVersion => OptionFault::Help(text),
+        _ => OptionFault::Refused(text),
     }
 }

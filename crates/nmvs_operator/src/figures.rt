@@ -1,21 +1,9 @@
 //! The figures that a server counts, and their lines for the operator.
-ghost use Rattle.std.specs.Prelude.{◌≡◌, ◌++◌, IfOk, OnOk, string_bytes};
-ghost use Rattle.std.specs.List.{flat_map};
+ghost use Rattle.std.specs.Prelude.{◌≡◌, ◌<◌, length, IfOk, OnErr, string_bytes};
 ghost use Rattle.nmvs_operator.specs.Figures.{figure_line as line_of_figure, figure_lines};
 
 use nmvs_identifier::Name;
 use std::alloc::{AllocError, Global};
-
-/// A topic that the operator asks numbers about (own).
-#[derive(Clone, Copy)]
-pub enum Topic {
-    /// Connections, sessions and entries.
-    Stats,
-    /// The connections of each worker.
-    Connections,
-    /// The users who have raised most flagged alerts.
-    Alerts,
-}
 
 /// One number that a server counts (own).
 #[derive(Clone, Copy)]
@@ -36,9 +24,10 @@ pub enum Figure {
 ///
 /// # Errors
 ///
-/// There is no memory for the text.
+/// There is no memory for the text. No figures take none.
 pub(crate) fn figures_text(alloc: Global, figures: &[Figure]) -> Result<String, AllocError>
-    ensures { IfOk result (λ text. string_bytes text ≡ figure_lines figures.now) }
+    ensures lines { IfOk result (λ text. string_bytes text ≡ figure_lines figures.now) }
+    ensures memory { OnErr result (0 < length figures.now) }
 {
     let mut text = String::new(alloc);
     for figure in figures {

@@ -1,12 +1,14 @@
-//! The operator's lines.
-ghost use Rattle.std.specs.Prelude.{◌≡◌, [], ◌∷◌, map, IfOk, OnOk, IfSome, IsTrue, is_some, codes, decimal};
+//! The operator's orders: a row for each, and the reading of their lines.
+ghost use Rattle.std.specs.Prelude.{◌≡◌, [], ◌∷◌, ◌++◌, map, find, option_map, IfOk, OnOk, IfSome, IsTrue, is_some, codes, decimal, string_bytes};
+ghost use Rattle.std.specs.List.{flat_map};
 ghost use Rattle.std.specs.Result.{result_err};
+ghost use Rattle.std.specs.Str.{bytes_eq};
 ghost use Rattle.nmvs_messages.specs.Commands.{fields_fault};
-ghost use Rattle.nmvs_operator.specs.Orders.{ReadsOrder, order_fields, is_order, order_fault, listing_fault, change_fault, reload_fault, turn_fault, over_fault, trim_fault, is_number, alone_fault, export_fault};
+ghost use Rattle.nmvs_operator.specs.Orders.{ReadsOrder, order_fields, is_order, order_fault, grammar_of as grammar_named, help_lines, reload_fault, over_fault, trim_fault, is_number, alone_fault, export_fault};
 
-use crate::Topic;
 use itoa::Buffer;
 use nmvs_messages::{Command, CommandFault, command_of, fields_of};
+use std::alloc::{AllocError, Global};
 
 /// The order that a line of the operator gives (own).
 #[derive(Clone, Copy)]
@@ -17,20 +19,114 @@ pub enum Order<'l> {
     Reload { all: bool },
     /// The audit trail as it is now, written to the file of this path.
     Export(&'l str),
+    /// To take from the engine the blocks of the log up to this number.
+    Trim(u64),
+    /// What fixed words ask for.
+    Fixed(Fixed),
+}
+
+/// An order of fixed words (own).
+#[derive(Clone, Copy)]
+pub enum Fixed {
     /// The users that were published, and how they stand.
     Users,
-    /// The figures of a topic that the server counts.
-    Count(Topic),
+    /// The connections, sessions and entries that the server counts.
+    Stats,
+    /// The connections of each worker.
+    Connections,
+    /// The users who have raised most flagged alerts.
+    Alerts,
     /// The end of the server.
     Stop,
     /// To answer in place of the server of another machine.
     TakeOver,
     /// To end, so that the server of another machine answers.
     HandOver,
-    /// To take from the engine the blocks of the log up to this number.
-    Trim(u64),
     /// The list of the orders.
     Help,
+}
+
+/// What follows the word of an order in its line.
+#[derive(Clone, Copy)]
+pub(crate) enum Grammar {
+    /// Nothing.
+    Alone(Fixed),
+    /// `OVER`.
+    Over(Fixed),
+    /// Nothing, or `ALL`.
+    Reload,
+    /// The path of a file.
+    Path,
+    /// A number of blocks.
+    Blocks,
+    /// A user, and its enrolment.
+    User,
+}
+
+/// A row: the word of an order, what `HELP` shows behind it, and what follows it in a line.
+type Row = (&'static str, &'static str, Grammar);
+
+/// The orders, as `HELP` lists them. The comment on a row is its effect in docs/COMMANDS.md.
+const ROWS: &[Row] = &[
+    // enrols the user so, in place of an earlier enrolment or suspension ([`UNTIL`, `CODES`](#last-day-and-products))
+    (
+        "ENROL",
+        " user role authorisation premises [UNTIL YYMMDD] [CODES code,code]",
+        Grammar::User,
+    ),
+    // the user's lines are answered `FAULT SUSPENDED`
+    ("SUSPEND", " user", Grammar::User),
+    // the user's lines are answered `FAULT NOBODY`
+    ("REMOVE", " user", Grammar::User),
+    // takes the file of `--users` anew
+    ("RELOAD", "", Grammar::Reload),
+    // the same, and frees suspended users
+    ("RELOAD", " ALL", Grammar::Reload),
+    // writes the audit trail up to now to this file, with its [digest](FILES.md#digests)
+    ("EXPORT", " file", Grammar::Path),
+    // lists the users
+    ("USERS", "", Grammar::Alone(Fixed::Users)),
+    // counts connections, sessions and entries
+    ("STATS", "", Grammar::Alone(Fixed::Stats)),
+    // counts the connections of each worker
+    ("CONNECTIONS", "", Grammar::Alone(Fixed::Connections)),
+    // lists the users with most flagged alerts since the start
+    ("ALERTS", "", Grammar::Alone(Fixed::Alerts)),
+    // ends the server in order
+    ("STOP", "", Grammar::Alone(Fixed::Stop)),
+    // makes a server that follows [take over](#more-than-one-machine)
+    ("TAKE", " OVER", Grammar::Over(Fixed::TakeOver)),
+    // ends the owner, so that another takes over
+    ("HAND", " OVER", Grammar::Over(Fixed::HandOver)),
+    // takes blocks of the log, up to this number, from etcd
+    ("TRIM", " blocks", Grammar::Blocks),
+    // lists these commands
+    ("HELP", "", Grammar::Alone(Fixed::Help)),
+];
+
+/// The lines of `HELP`.
+///
+/// # Errors
+///
+/// There is no memory for them.
+#[tactic(auto, unfolding(crate::specs::Orders::help_lines))]
+pub(crate) fn help_text(alloc: Global) -> Result<String, AllocError>
+    ensures { IfOk result (λ text. string_bytes text ≡ help_lines) }
+{
+    rows_text(alloc, ROWS)
+}
+
+/// The lines of these rows.
+fn rows_text(alloc: Global, rows: &[Row]) -> Result<String, AllocError>
+    ensures { IfOk result (λ text. string_bytes text ≡ flat_map (λ row. row.0.now ++ (row.1.now ++ codes "\n")) rows.now) }
+{
+    let mut text = String::new(alloc);
+    for (word, fields, _) in rows {
+        text.push_str(word)?;
+        text.push_str(fields)?;
+        text.push_str("\n")?;
+    }
+    Ok(text)
 }
 
 /// Reads a line of the operator, given without its LF: as the order whose line it is, else with its first fault.
@@ -55,50 +151,41 @@ fn read_fields<'l>(fields: &[&'l str]) -> Result<Order<'l>, CommandFault>
 {
     match fields {
         [] => Err(CommandFault::Word),
-        [word, texts @ ..] => match *word {
-            "EXPORT" => read_export(texts),
-            "STOP" => {
+        [word, texts @ ..] => match grammar_of(word) {
+            None => Err(CommandFault::Word),
+            Some(Grammar::Alone(order)) => {
                 stands_alone(texts)?;
-                Ok(Order::Stop)
+                Ok(Order::Fixed(order))
             }
-            "HELP" => {
-                stands_alone(texts)?;
-                Ok(Order::Help)
+            Some(Grammar::Over(order)) => {
+                is_over(texts)?;
+                Ok(Order::Fixed(order))
             }
-            _ => read_listing(fields),
+            Some(Grammar::Reload) => read_reload(texts),
+            Some(Grammar::Path) => read_export(texts),
+            Some(Grammar::Blocks) => read_trim(texts),
+            Some(Grammar::User) => read_change(fields),
         },
     }
 }
 
-/// The order that has these fields, if it asks for lines or changes the users.
-#[tactic(auto, unfolding(crate::specs::Orders::listing_fault))]
-fn read_listing<'l>(fields: &[&'l str]) -> Result<Order<'l>, CommandFault>
-    ensures fields { IfOk result (λ order. order_fields order ≡ map (λ f. f.now) fields.now) }
-    ensures valid { IfOk result (λ order. IsTrue (is_order order)) }
-    ensures fault { result_err result ≡ listing_fault (map (λ f. f.now) fields.now) }
+/// What follows this word, if it is one of an order.
+fn grammar_of(word: &str) -> Option<Grammar>
+    ensures { result ≡ grammar_named word.now }
 {
-    match fields {
-        [] => Err(CommandFault::Word),
-        [word, texts @ ..] => match *word {
-            "USERS" => {
-                stands_alone(texts)?;
-                Ok(Order::Users)
-            }
-            "STATS" => {
-                stands_alone(texts)?;
-                Ok(Order::Count(Topic::Stats))
-            }
-            "CONNECTIONS" => {
-                stands_alone(texts)?;
-                Ok(Order::Count(Topic::Connections))
-            }
-            "ALERTS" => {
-                stands_alone(texts)?;
-                Ok(Order::Count(Topic::Alerts))
-            }
-            _ => read_change(fields),
-        },
+    grammar_in(ROWS, word)
+}
+
+/// What follows this word by these rows.
+fn grammar_in(rows: &[Row], word: &str) -> Option<Grammar>
+    ensures { result ≡ option_map (λ row. row.2) (find (λ row. bytes_eq word.now row.0.now) rows.now) }
+{
+    for (name, _, grammar) in rows {
+        if word == *name {
+            return Some(*grammar);
+        }
     }
+    None
 }
 
 fn read_export<'l>(texts: &[&'l str]) -> Result<Order<'l>, CommandFault>
@@ -124,22 +211,6 @@ fn stands_alone(texts: &[&str]) -> Result<(), CommandFault>
     }
 }
 
-/// The order that has these fields, if it changes the users.
-#[tactic(auto, unfolding(crate::specs::Orders::change_fault))]
-fn read_change<'l>(fields: &[&'l str]) -> Result<Order<'l>, CommandFault>
-    ensures fields { IfOk result (λ order. order_fields order ≡ map (λ f. f.now) fields.now) }
-    ensures valid { IfOk result (λ order. IsTrue (is_order order)) }
-    ensures fault { result_err result ≡ change_fault (map (λ f. f.now) fields.now) }
-{
-    match fields {
-        [] => Err(CommandFault::Word),
-        [word, texts @ ..] => match *word {
-            "RELOAD" => read_reload(texts),
-            _ => read_turn(fields),
-        },
-    }
-}
-
 /// The order to take the users file anew that has these texts after its word.
 fn read_reload<'l>(texts: &[&str]) -> Result<Order<'l>, CommandFault>
     ensures fields { IfOk result (λ order.
@@ -154,30 +225,6 @@ fn read_reload<'l>(texts: &[&str]) -> Result<Order<'l>, CommandFault>
             _ => Err(CommandFault::Fields),
         },
         [_, _, ..] => Err(CommandFault::Fields),
-    }
-}
-
-/// The order that has these fields, if it is about several machines, or changes a user.
-#[tactic(auto, unfolding(crate::specs::Orders::turn_fault))]
-fn read_turn<'l>(fields: &[&'l str]) -> Result<Order<'l>, CommandFault>
-    ensures fields { IfOk result (λ order. order_fields order ≡ map (λ f. f.now) fields.now) }
-    ensures valid { IfOk result (λ order. IsTrue (is_order order)) }
-    ensures fault { result_err result ≡ turn_fault (map (λ f. f.now) fields.now) }
-{
-    match fields {
-        [] => Err(CommandFault::Word),
-        [word, texts @ ..] => match *word {
-            "TAKE" => {
-                is_over(texts)?;
-                Ok(Order::TakeOver)
-            }
-            "HAND" => {
-                is_over(texts)?;
-                Ok(Order::HandOver)
-            }
-            "TRIM" => read_trim(texts),
-            _ => read_command_fields(fields),
-        },
     }
 }
 
@@ -227,7 +274,8 @@ fn number_in(text: &str) -> Option<u64>
     }
 }
 
-fn read_command_fields<'l>(fields: &[&str]) -> Result<Order<'l>, CommandFault>
+/// The order to change a user that has these fields.
+fn read_change<'l>(fields: &[&str]) -> Result<Order<'l>, CommandFault>
     ensures fields { IfOk result (λ order. order_fields order ≡ map (λ f. f.now) fields.now) }
     ensures valid { IfOk result (λ order. IsTrue (is_order order)) }
     ensures fault { result_err result ≡ fields_fault (map (λ f. f.now) fields.now) }

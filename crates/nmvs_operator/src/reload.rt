@@ -1,22 +1,21 @@
 //! The users file, taken anew.
-ghost use Rattle.std.specs.Prelude.{◌≡◌, ◌≢◌, ◌++◌, ◌∷◌, [], ℕ, List, IfOk, OnOk, OnErr, IfErr, MatchResult, Ok, None, codes, true, false};
+ghost use Rattle.std.specs.Prelude.{◌≡◌, ◌++◌, ◌∷◌, [], ℕ, List, IfOk, OnOk, OnErr, MatchResult, Ok, Err, None, codes, true, false};
 ghost use Rattle.nmvs_directory.specs.Registrar.{register_of, published, pending};
 ghost use Rattle.nmvs_directory.specs.declared.change.Change.{Change};
 ghost use Rattle.nmvs_messages.specs.Commands.{first_command_fault};
 ghost use Rattle.nmvs_stream.specs.Delivery.{Delivers, DeliversPart};
 ghost use Rattle.nmvs_operator.specs.declared.order.Order.TheVariants as orders;
-ghost use Rattle.nmvs_operator.specs.Orders.{ReadsOrder};
 ghost use Rattle.nmvs_operator.specs.Users.{says as line_says, AddsAll, AddsFirst};
 ghost use Rattle.nmvs_operator.specs.UsersFaults.{faults_from};
 ghost use Rattle.nmvs_operator.specs.Reload.{TakesLines, LineTakesEffect, takes_effect, is_suspension};
-ghost use Rattle.nmvs_operator.specs.Roll.{changed_users, changed_line};
-ghost use Rattle.nmvs_operator.specs.Commands.{office, ways, Obeys, Refuses, Said, AnswersOrder, answer_text, is_stop, Tries};
+ghost use Rattle.nmvs_operator.specs.Roll.{changed_line};
+ghost use Rattle.nmvs_operator.specs.Commands.{office, Renews, Said, answer_text, is_stop, Tries};
 
 use crate::commands::{fault_text, tell};
 use crate::roll::{count_changed, count_users, standings};
 use crate::users::{add_all, says};
 use crate::users_check::faults_text;
-use crate::{Deed, Latest, ObeyFault, Service};
+use crate::{Latest, ObeyFault, Service};
 use itoa::Buffer;
 use nmvs_directory::{Look, Naming, Notice, Registrar};
 use nmvs_messages::{Command, read_command};
@@ -34,8 +33,8 @@ pub(crate) fn reload<'r, J: Naming, R: Wait, A: Allocator, W: Sink, S: Service>(
     latest: &mut Latest<'_, J, R>,
     service: &mut S,
 )
-    ensures { (line : List ℕ) → ReadsOrder line (Ok (orders.Reload all)) → (said : Said)
-        × AnswersOrder (ways S.does S.counts) (office (register_of registrar.old) latest.old service.old) line said
+    ensures { (said : Said)
+        × Renews S.keeps all (office (register_of registrar.old) latest.old service.old) said.lines said.ends
         (office (register_of registrar.new) latest.new service.new)
         × Tries (W.taken sink.old) (W.taken sink.new) (answer_text said)
         × (false ≡ is_stop said) }
@@ -56,8 +55,8 @@ fn reload_from<'r, J: Naming, R: Wait, A: Allocator, W: Sink, S: Service>(
     latest: &mut Latest<'_, J, R>,
     service: &mut S,
 )
-    ensures { (line : List ℕ) → ReadsOrder line (Ok (orders.Reload all)) → (said : Said)
-        × AnswersOrder (ways S.does S.counts) (office (register_of registrar.old) latest.old service.old) line said
+    ensures { (said : Said)
+        × Renews S.keeps all (office (register_of registrar.old) latest.old service.old) said.lines said.ends
         (office (register_of registrar.new) latest.new service.new)
         × Tries (W.taken sink.old) (W.taken sink.new) (answer_text said)
         × (false ≡ is_stop said) }
@@ -111,13 +110,11 @@ fn take_users<'r, J: Naming, R: Wait, A: Allocator, S: Service>(
     service: &mut S,
 ) -> Result<u64, ObeyFault>
     requires faultless { faults_from 1 file.now ≡ [] }
-    ensures answers { (line : List ℕ) → ReadsOrder line (Ok (orders.Reload all)) → MatchResult result
-        (λ _. Obeys S.does (office (register_of registrar.old) latest.old service.old) line (orders.Reload all)
+    ensures { MatchResult result
+        (λ changed. Renews S.keeps all (office (register_of registrar.old) latest.old service.old) (changed_line changed) (Ok (orders.Reload all))
         (office (register_of registrar.new) latest.new service.new))
-        (λ fault. Refuses S.does (office (register_of registrar.old) latest.old service.old) line fault
+        (λ fault. Renews S.keeps all (office (register_of registrar.old) latest.old service.old) [] (Err fault)
         (office (register_of registrar.new) latest.new service.new)) }
-    ensures changed { IfOk result (λ changed. changed ≡ changed_users (published registrar.old) (published registrar.new)) }
-    ensures listed { IfErr result (λ fault. fault ≢ ObeyFault.Users) }
 {
     let Ok(before) = standings(alloc, registrar) else {
         return Err(ObeyFault::Memory);
@@ -125,7 +122,7 @@ fn take_users<'r, J: Naming, R: Wait, A: Allocator, S: Service>(
     let Ok(lines) = lines_in_effect(alloc, all, file, registrar) else {
         return Err(ObeyFault::Memory);
     };
-    if let Err(fault) = service.perform(&Deed::KeepFile(&lines)) {
+    if let Err(fault) = service.keep_file(&lines) {
         return Err(ObeyFault::Undone(fault));
     }
     match publish_all(&lines, registrar) {

@@ -1,35 +1,15 @@
-//! The deeds and figures that a server's operator asks for.
-ghost use Rattle.std.specs.Prelude.{List, Option, IfOk};
+//! A server, as its operator's orders see it.
+ghost use Rattle.std.specs.Prelude.{List, ℕ, Option, Result, IfOk, MatchResult, Ok, Err};
 ghost use Rattle.std.specs.Result.{result_err};
+ghost use Rattle.nmvs_operator.specs.Commands.{HasFigures};
 ghost use Rattle.nmvs_operator.specs.declared.figures.Figure.{Figure as TheFigure};
-ghost use Rattle.nmvs_operator.specs.declared.figures.Topic.{Topic as TheTopic};
-ghost use Rattle.nmvs_operator.specs.declared.service.Deed.{Deed as TheDeed};
+ghost use Rattle.nmvs_operator.specs.declared.order.Order.{Order as TheOrder};
 ghost use Rattle.nmvs_operator.specs.declared.service.ServiceFault.{ServiceFault as TheFault};
 
-use crate::{Figure, Topic, UserCounts};
+use crate::{Figure, Order, UserCounts};
 use nmvs_directory::Look;
-use nmvs_messages::Command;
 use std::alloc::{AllocError, Global};
 use thiserror::Error;
-
-/// A deed that an order asks of the server (own).
-#[derive(Clone, Copy)]
-pub enum Deed<'l> {
-    /// To keep a change of the users beyond its own end.
-    Keep(Command),
-    /// To keep the changes of these lines of a users file in the same way.
-    KeepFile(&'l [u8]),
-    /// To write the audit trail as it is now to the file of this path.
-    Export(&'l str),
-    /// To end.
-    Stop,
-    /// To answer in place of the server of another machine.
-    TakeOver,
-    /// To end, so that the server of another machine answers.
-    HandOver,
-    /// To take from the engine the blocks of the log up to this number.
-    Trim(u64),
-}
 
 /// Why the server did not do what an order asks of it.
 #[derive(Clone, Copy, Debug, PartialEq, Eq, Error)]
@@ -54,17 +34,46 @@ pub enum ServiceFault {
     Untrimmed,
 }
 
-/// A server, as its operator's orders see it.
-pub trait Service {
-    // Whether a server in this state may do this deed, or fail so, and be in that state then.
-    ghost does: { Self → TheDeed → Option TheFault → Self → Type 0 };
+impl From<AllocError> for ServiceFault {
+    ghost use Rattle.std.specs.Prelude.{◌≡◌};
+    ghost use Rattle.nmvs_operator.specs.declared.service.ServiceFault.TheVariants.{Memory};
 
-    // Whether a server in this state may count these figures of a topic.
-    ghost counts: { Self → TheTopic → List TheFigure → Type 0 };
+    ghost from_gives = { λ e f. f ≡ Memory };
 
-    /// Does what an order asks.
-    fn perform(&mut self, deed: &Deed<'_>) -> Result<(), ServiceFault>
-        ensures { does self.old deed.now (result_err result) self.new };
+    fn from(_: AllocError) -> ServiceFault {
+        ServiceFault::Memory
+    }
+}
+
+/// A server that carries out orders: one that answers, or one that follows another.
+pub trait Perform {
+    // Whether a server in this state may carry out this order with these figures, or fail so, and be in that state then.
+    ghost does: { Self → TheOrder → Result (List TheFigure) TheFault → Self → Type 0 };
+
+    /// Carries out an order, and returns the figures of its answer. Of a change of the users it keeps the change beyond its own
+    /// end. It does nothing at `USERS`, `RELOAD` and `HELP`.
+    ///
+    /// # Errors
+    ///
+    /// The server did not do what the order asks.
+    fn perform(&mut self, alloc: Global, order: &Order<'_>) -> Result<Vec<Figure>, ServiceFault>
+        ensures does { MatchResult result (λ figures. does self.old order.now (Ok figures.items) self.new)
+            (λ fault. does self.old order.now (Err fault) self.new) }
+        ensures figures { IfOk result (λ figures. HasFigures order.now figures.items) };
+}
+
+/// A server that answers.
+pub trait Service: Perform {
+    // Whether a server in this state may keep the changes of these lines of a users file, or fail so, and be in that state then.
+    ghost keeps: { Self → List ℕ → Option TheFault → Self → Type 0 };
+
+    /// Keeps the changes of these lines of a users file as those of orders.
+    ///
+    /// # Errors
+    ///
+    /// It does not keep them.
+    fn keep_file(&mut self, lines: &[u8]) -> Result<(), ServiceFault>
+        ensures { keeps self.old lines.now (result_err result) self.new };
 
     /// The bytes of the users file, as it is now.
     fn read_users(&self, alloc: Global) -> Result<Vec<u8>, ServiceFault>;
@@ -74,12 +83,4 @@ pub trait Service {
 
     /// Notes the answers about a user before and after its change was published.
     fn note_user(&self, before: Look, after: Look);
-
-    /// Counts the figures of a topic that an order asks about.
-    ///
-    /// # Errors
-    ///
-    /// There is no memory for the figures.
-    fn count(&self, alloc: Global, topic: Topic) -> Result<Vec<Figure>, AllocError>
-        ensures { IfOk result (λ figures. counts self.now topic figures.items) };
 }

@@ -1,7 +1,5 @@
-//! The check of `--check`, which prints all faults of the file of options and of the users file. Nothing is started.
+//! The check of `--check`, which prints all faults of the users file. Nothing is started.
 use crate::report::{ended, say};
-use crate::{read_text, refuse_file};
-use nmvs_config::{ConfigFault, EntryFault, entry_faults};
 use nmvs_log::LogFormat;
 use nmvs_operator::{LoadFault, Options, UsersFault, changes_nothing, users_faults, users_trouble};
 use nmvs_server::Fault;
@@ -12,36 +10,6 @@ use std::rt::{Clock, Files};
 /// Whether the words of a command line ask for the check.
 pub(crate) fn asks_check(words: &[String]) -> bool {
     words.iter().any(|word| word.as_str() == "--check")
-}
-
-/// Prints each fault of the entries of the file of options at this path. If there is one, it returns the status of a start.
-pub(crate) fn check_file<R: Files + Eprint + Clock + AllocGlobal>(
-    rt: &R,
-    format: LogFormat,
-    path: &str,
-) -> Result<(), ExitCode> {
-    match faults_of_file(rt, path) {
-        Ok(faults) if faults.is_empty() => Ok(()),
-        Ok(faults) => {
-            for (key, fault) in &faults {
-                let reason = format_args!(
-                    "invalid value '{path}' for '--config <FILE>': '{key}' {fault}"
-                );
-                say(rt, format, "error", reason);
-            }
-            Err(ExitCode::from(2))
-        }
-        Err(fault) => Err(refuse_file(rt, format, path, &fault)),
-    }
-}
-
-/// The faults of the entries of the file of options at this path.
-fn faults_of_file<R: Files + AllocGlobal>(
-    rt: &R,
-    path: &str,
-) -> Result<Vec<(String, EntryFault)>, ConfigFault> {
-    let text = read_text(rt, path)?;
-    entry_faults(rt.alloc(), &text)
 }
 
 /// Prints each fault of the users file of the options, and a warning if the file names no user. It returns the status of a

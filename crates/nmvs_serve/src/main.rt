@@ -4,21 +4,21 @@
 mod check;
 mod report;
 
-ghost use Rattle.std.specs.Prelude.{IfOk};
-ghost use Rattle.nmvs_operator.specs.Options.{AreInRange};
 ghost use Rattle.nmvs_stream.specs.Console.{IsFresh};
 
-use crate::check::{asks_check, check_file, check_users};
+use crate::check::{asks_check, check_users};
 use crate::report::{ended, format_in, refuse_words, say};
 use log::{Log, info};
 use nmvs_admin::{AdminFault, open, remove_socket};
-use nmvs_config::{ConfigFault, config_path, read_config, with_config};
 use nmvs_log::{EventLog, LogFormat};
-use nmvs_operator::{OptionFault, Options, read_options};
+use nmvs_operator::{
+    ConfigFault, OPTIONS, OptionFault, Options, config_path, read_config, read_options, with_config,
+};
 use nmvs_rehearsal::rehearse_on_standard_input;
 use nmvs_server::{Beside, Dialer, Fault, Host, Outcome, outcome_of, start};
 use nmvs_stream::{Console, Device, Sink, Source};
 use std::alloc::{AllocError, Global};
+use std::fmt::Display;
 use std::io::{BufWriter, Eprint, Print};
 use std::process::ExitCode;
 use std::rt::{Clock, Env, Files};
@@ -45,25 +45,19 @@ fn main(rt: HostRuntime) -> ExitCode {
     };
     let options = &options;
     let rt = EventLog::new(rt, options.log_level, options.log_format);
-    let Some(address) = options.engine else {
+    let Some(cluster) = &options.cluster else {
         return finish(&rt, options, serve_one(rt, alloc, options, console));
     };
     // The runtime itself opens connections, which in this toolchain no thread but one of `main` can have it do.
-    let (dialer, host) = (&Dialer::new(address), &rt);
-    let outcome = thread::scope(
-        thread::scope_env(),
-        host,
-        |scope|
-            requires options { AreInRange options.now }
-        {
-            let Ok(dialing) = scope.spawn(move || dialer.run(host)) else {
-                return memory_refused();
-            };
-            let outcome = serve(*host, alloc, options, console, Some(dialer));
-            dialing.join(host);
-            outcome
-        },
-    );
+    let (dialer, host) = (&Dialer::new(cluster.engine), &rt);
+    let outcome = thread::scope(thread::scope_env(), host, |scope| {
+        let Ok(dialing) = scope.spawn(move || dialer.run(host)) else {
+            return memory_refused();
+        };
+        let outcome = serve(*host, alloc, options, console, Some(dialer));
+        dialing.join(host);
+        outcome
+    });
     finish(&rt, options, outcome)
 }
 
@@ -81,7 +75,6 @@ fn serve_one<'o, R: Host + Sync + Copy + Drop, I: Source + Drop, W: Sink + Drop>
     options: &'o Options,
     console: Console<(I, W)>,
 ) -> Outcome<'o>
-    requires options { AreInRange options.now }
     requires fresh { IsFresh (I.told console.source) (W.taken console.sink) }
 {
     if !options.stdin {
@@ -104,9 +97,7 @@ fn serve<'o, R: Host + Sync + Copy + Drop, I: Source + Drop, W: Sink + Drop>(
     options: &'o Options,
     console: Console<(I, W)>,
     dialer: Option<&Dialer>,
-) -> Outcome<'o>
-    requires options { AreInRange options.now }
-{
+) -> Outcome<'o> {
     let outcome = serve_console(rt, alloc, options, console, dialer);
     if let Some(dialer) = dialer {
         dialer.end();
@@ -121,9 +112,7 @@ fn serve_console<'o, R: Host + Sync + Copy + Drop, I: Source + Drop, W: Sink + D
     options: &'o Options,
     console: Console<(I, W)>,
     dialer: Option<&Dialer>,
-) -> Outcome<'o>
-    requires options { AreInRange options.now }
-{
+) -> Outcome<'o> {
     let path = options.admin.as_deref();
     let Ok((interrupt, shared)) = interrupt_of(alloc, options) else {
         return memory_refused();
@@ -158,7 +147,7 @@ fn interrupt_of(
     let Ok(interrupt) = Arc::new(alloc, AtomicBool::new(false)) else {
         return Err(AllocError);
     };
-    let shared = match options.engine {
+    let shared = match &options.cluster {
         Some(_) => Some(Arc::try_clone(&interrupt)?),
         None => None,
     };
@@ -192,9 +181,7 @@ fn words<R: Env + AllocGlobal>(rt: &R) -> io::Result<Vec<String>> {
 fn options<R: Files + Print + Eprint + Clock + AllocGlobal>(
     rt: &R,
     words: Vec<String>,
-) -> Result<Options, ExitCode>
-    ensures { IfOk result AreInRange }
-{
+) -> Result<Options, ExitCode> {
     let words = with_file(rt, words)?;
     let format = format_in(&words);
     match read_options(rt.alloc(), &words) {
@@ -223,25 +210,40 @@ fn with_file<R: Files + Eprint + Clock + AllocGlobal>(
     let Ok(path) = named else {
         return Err(ended(rt, format, &[Some(Fault::Memory)]));
     };
-    if asks_check(&words) {
-        check_file(rt, format, &path)?;
-    }
-    read_words(rt, &path, words).map_err(|fault| refuse_file(rt, format, &path, &fault))
+    // A start prints the first fault alone.
+    let most = if asks_check(&words) { usize::MAX } else { 1 };
+    read_words(rt, &path, words).map_err(|fault| refuse_file(rt, format, &path, &fault, most))
 }
 
-/// Prints the fault of the file at this path, and returns the status.
-pub(crate) fn refuse_file<R: Eprint + Clock>(
+/// Prints the fault of the file at this path, of its entries at most this many, and returns the status.
+fn refuse_file<R: Eprint + Clock>(
     rt: &R,
     format: LogFormat,
     path: &str,
     fault: &ConfigFault,
+    most: usize,
 ) -> ExitCode {
-    if let ConfigFault::Memory = fault {
-        return ended(rt, format, &[Some(Fault::Memory)]);
+    match fault {
+        ConfigFault::Memory => return ended(rt, format, &[Some(Fault::Memory)]),
+        ConfigFault::Entries(faults) => {
+            for (key, fault) in faults.iter().take(most) {
+                say_refused(rt, format, path, format_args!("'{key}' {fault}"));
+            }
+        }
+        _ => say_refused(rt, format, path, fault),
     }
-    let reason = format_args!("invalid value '{path}' for '--config <FILE>': {fault}");
-    say(rt, format, "error", reason);
     ExitCode::from(2)
+}
+
+/// Prints that the file at this path is refused for this reason.
+fn say_refused<R: Eprint + Clock, D: Display + Drop>(
+    rt: &R,
+    format: LogFormat,
+    path: &str,
+    reason: D,
+) {
+    let refused = format_args!("invalid value '{path}' for '--config <FILE>': {reason}");
+    say(rt, format, "error", refused);
 }
 
 /// The words of the file at this path, and then those of the command line.
@@ -250,14 +252,9 @@ fn read_words<R: Files + AllocGlobal>(
     path: &str,
     words: Vec<String>,
 ) -> Result<Vec<String>, ConfigFault> {
-    let text = read_text(rt, path)?;
-    with_config(rt.alloc(), &text, words)
-}
-
-/// The text of the file at this path.
-pub(crate) fn read_text<R: Files + AllocGlobal>(rt: &R, path: &str) -> Result<String, ConfigFault> {
     let file = fs::open(rt, path).map_err(|error| ConfigFault::Open(error))?;
-    read_config(rt.alloc(), &mut Device::new(file))
+    let text = read_config(rt.alloc(), &mut Device::new(file))?;
+    with_config(rt.alloc(), &OPTIONS, &text, words)
 }
 
 /// Whether one of the words asks for help or the version.

@@ -1,11 +1,11 @@
 //! A server among several machines, one of which answers at a time.
-ghost use Rattle.nmvs_operator.specs.Options.{AreInRange};
 
 use crate::launch::serve_from;
 use crate::starting::Beside;
 use crate::{Fault, Host, Outcome};
 use nmvs_engine::{Dialer, Turn};
 use nmvs_metrics::Metrics;
+use nmvs_operator::Cluster;
 use nmvs_recovery::Run;
 use nmvs_standby::{Followed, Means, Member, stand_by};
 use nmvs_stream::{Console, Sides};
@@ -15,27 +15,23 @@ use std::sync::atomic::AtomicBool;
 /// Follows the server that answers, and answers after it.
 pub(crate) fn serve_in_cluster<'r, 'o, R: Host + Sync, T: Sides>(
     run: Run<'r, 'o, R>,
+    cluster: &'o Cluster,
     metrics: &'r Metrics,
     console: &mut Console<T>,
     beside: Beside<'r>,
-) -> Outcome<'o>
-    requires options { AreInRange run.options.now }
-{
+) -> Outcome<'o> {
     // The program runs a dialer for each server among several machines.
     let Some(dialer) = beside.dialer else {
         return Outcome::of(Fault::Impossible("no dialer"));
     };
-    match follow(&run, dialer, metrics, console, beside.interrupt) {
+    match follow(&run, cluster, dialer, metrics, console, beside.interrupt) {
         Ok(Some((followed, turn))) => {
             metrics.note_standby(false);
-            serve_from(
-                run,
-                metrics,
-                &mut Some(followed),
-                Some(turn),
-                console,
-                beside.interrupt,
-            )
+            let mut followed = Some(followed);
+            let turn = Some(turn);
+            let outcome = serve_from(run, metrics, &mut followed, turn, console, beside.interrupt);
+            drop(followed);
+            outcome
         }
         Ok(None) => Outcome {
             session: None,
@@ -48,6 +44,7 @@ pub(crate) fn serve_in_cluster<'r, 'o, R: Host + Sync, T: Sides>(
 /// Follows the server that answers until this one owns the log. `None` if the operator ends this one.
 fn follow<'r, 'o, R: Host + Sync, T: Sides>(
     run: &Run<'r, 'o, R>,
+    cluster: &'o Cluster,
     dialer: &'r Dialer,
     metrics: &'r Metrics,
     console: &mut Console<T>,
@@ -57,12 +54,12 @@ fn follow<'r, 'o, R: Host + Sync, T: Sides>(
     if run.rt.fill_bytes(&mut drawn).is_err() {
         return Err(Fault::Random);
     }
-    // The options have both with each engine.
-    let (Some(member), Some(folder)) = (Member::of(run.options, drawn), &run.options.journal) else {
-        return Err(Fault::Impossible("an engine without its options"));
+    // The options have one with each cluster.
+    let Some(folder) = &run.options.journal else {
+        return Err(Fault::Impossible("a cluster without a folder"));
     };
     let means = Means {
-        member,
+        member: Member { cluster, drawn },
         metrics,
         dialer,
         interrupt,

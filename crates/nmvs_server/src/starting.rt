@@ -1,5 +1,4 @@
 //! The start of the program by its options: it logs the start, and serves metrics.
-ghost use Rattle.nmvs_operator.specs.Options.{AreInRange};
 ghost use Rattle.nmvs_stream.specs.Console.{IsFresh};
 
 use crate::launch::serve_run;
@@ -37,7 +36,6 @@ pub fn start<'r, 'o, R: Host + Sync, T: Sides>(
     console: &mut Console<T>,
     beside: Beside<'r>,
 ) -> Outcome<'o>
-    requires options { AreInRange options.now }
     requires fresh { IsFresh (T.Source.told console.old.source) (T.Sink.taken console.old.sink) }
 {
     tell_start(rt, options);
@@ -58,7 +56,6 @@ pub fn start<'r, 'o, R: Host + Sync, T: Sides>(
         listener,
         metrics,
         ||
-            requires options { AreInRange options.now }
             requires fresh { IsFresh (T.Source.told console.now.source) (T.Sink.taken console.now.sink) }
         { serve_run(rt, &alloc, options, metrics, console, beside) },
     );

@@ -16,8 +16,7 @@ use nmvs_stream::{Sink, deliver};
 use std::alloc::Global;
 use std::sync::atomic::Ordering;
 
-/// Marks all of the trail as confirmed, if there is a log of this machine. If an engine keeps the log, it gives the turn up, should
-/// the operator have ordered so.
+/// Marks all of the trail as confirmed, if there is a log of this machine. If an engine keeps the log, it gives the turn up.
 pub(crate) fn mark_all<'r, 'o, R: Host>(
     config: &Config<'r, 'o, R>,
     paths: Option<&Paths<'o>>,
@@ -44,14 +43,12 @@ pub(crate) fn mark_all<'r, 'o, R: Host>(
 
 /// Whether an engine keeps the log on several machines. The file of this machine is a copy then, without marks.
 fn is_shared<R>(config: &Config<'_, '_, R>) -> bool {
-    config.run.options.engine.is_some()
+    config.run.options.cluster.is_some()
 }
 
-/// Gives the turn up, if the operator hands over. All of the logs is confirmed before. It logs whether it did.
+/// Gives the turn up, so that no silence passes before another server takes over. All of the logs is confirmed before. It logs
+/// whether it did.
 fn end_turn<R: Host>(config: &Config<'_, '_, R>) {
-    if !config.hands_over.load(Ordering::SeqCst) {
-        return;
-    }
     let run = &config.run;
     let mut turn = config.turn.lock(run.rt);
     let is_given = match &mut *turn {

@@ -1,4 +1,6 @@
 //! The configuration of a server, and the state that its workers share.
+ghost use Rattle.std.specs.Prelude.{◌≡◌};
+
 use crate::trail_file::LogStore;
 use crate::watching::Watch;
 use nmvs_connections::{HttpListener, Listener, WorkerPool};
@@ -31,8 +33,6 @@ pub struct Config<'r, 'o, R> {
     pub interrupt: &'r AtomicBool,
     /// Whether the log was lost to the server of another machine, or its engine was.
     pub is_fenced: AtomicBool,
-    /// Whether the server gives its turn up at the end.
-    pub hands_over: AtomicBool,
     /// The turn of a server among several machines.
     pub turn: Mutex<Option<Turn<'r>>>,
 }
@@ -54,4 +54,5 @@ pub(crate) struct Server<'f, 'r, 'o, R, J: Naming, H: Histories + LogName> {
     pub(crate) limiter: Option<SharedLimiter<Global>>,
     /// Whether the workers may begin: it is locked until all of them are there.
     pub(crate) ready: Mutex<bool>,
+    pub(crate) ghost behind: { pool.proxy ≡ config.now.run.options.now.proxy },
 }

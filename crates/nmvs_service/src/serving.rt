@@ -1,5 +1,5 @@
 //! Opens the repository and its log, serves by them, and closes them.
-ghost use Rattle.std.specs.Prelude.{◌≡◌, ◌≤◌, ◌<◌, ℕ, length, vec_len, IfNone, IfSome};
+ghost use Rattle.std.specs.Prelude.{◌≡◌, ◌≤◌, ◌<◌, ℕ, length, vec_len, IfNone, IfOk, IfSome};
 ghost use Rattle.nmvs_desk.specs.Opening.{table_of};
 ghost use Rattle.nmvs_desk.specs.Placing.{IsPartOf};
 ghost use Rattle.nmvs_desk.specs.Settlement.{row};
@@ -72,11 +72,15 @@ pub fn open_repository<
     requires fresh { IfNone config.now.listener (IsFresh (T.Source.told console.old.source) (T.Sink.taken console.old.sink)) }
 {
     let Ok(opened) = opening.open::<H>(config.run.alloc) else {
+        drop(log);
         return Outcome::of(Fault::Memory);
     };
     match &config.listener {
         Some(listener) => serve_on(config, listener, latest, opened, log, registrar, console),
-        None => serve_alone(config, latest, opened, console),
+        None => {
+            drop(log);
+            serve_alone(config, latest, opened, console)
+        }
     }
 }
 
@@ -114,7 +118,10 @@ fn serve_on<
     );
     let program = match served {
         Ok(clerks) => close(config, repository, clerks, &mut console.sink).err(),
-        Err(fault) => Some(fault),
+        Err(fault) => {
+            drop(repository);
+            Some(fault)
+        }
     };
     Outcome {
         session: None,
@@ -145,21 +152,49 @@ fn serve_clerks<
     requires name { IfSome log (λ l. l.history.seen.book ≡ H.book) }
     requires log { IfSome log (λ l. BeginsLog l H.shards H.opening) }
 {
-    let (log, paths, users) = open_log(config, repository, log)?;
+    let (log, paths, users) = match open_log(config, repository, log) {
+        Ok(opened) => opened,
+        Err(fault) => {
+            drop(clerks);
+            return Err(fault);
+        }
+    };
     let logs = (log, users, watch_of(config, paths.as_ref()));
     let served = serve_by_pool(
         config, listener, latest, repository, logs, clerks, registrar, console,
     );
-    let (clerks, confirmed) = served?;
-    mark_all(config, paths.as_ref(), confirmed)?;
-    Ok(clerks)
+    mark_served(config, paths, served)
+}
+
+/// Marks all of the trail as confirmed after it was served, and returns the clerks.
+fn mark_served<'r, 'o, J: Naming, H: Histories + LogName, R: Host>(
+    config: &Config<'r, 'o, R>,
+    paths: Option<Paths<'o>>,
+    served: Result<Served<'r, J, H>, Fault<'o>>,
+) -> Result<Vec<Clerk<'r, J, H>, &'r Global>, Fault<'o>> {
+    let (clerks, confirmed) = match served {
+        Ok(served) => served,
+        Err(fault) => {
+            drop(paths);
+            return Err(fault);
+        }
+    };
+    let marked = mark_all(config, paths.as_ref(), confirmed);
+    drop(paths);
+    match marked {
+        Ok(()) => Ok(clerks),
+        Err(fault) => {
+            drop(clerks);
+            Err(fault)
+        }
+    }
 }
 
 /// The watch over the file of the log. It watches none if there is no log, or if an engine keeps it: the file is a copy then.
 fn watch_of<'o, R: Host>(config: &Config<'_, 'o, R>, paths: Option<&Paths<'o>>) -> Watch {
     let run = &config.run;
     match paths {
-        Some(paths) if run.options.engine.is_none() => Watch::over(fs::open(
+        Some(paths) if run.options.cluster.is_none() => Watch::over(fs::open(
             run.rt,
             &paths.trail,
         ).ok()),
@@ -190,8 +225,14 @@ fn serve_by_pool<
     registrar: &mut Registrar<J, &'r R, &'r Global>,
     console: &mut Console<T>,
 ) -> Result<Served<'r, J, H>, Fault<'o>> {
-    let (pool, pollers, acceptor) = open_pool(config, clerks.len())?;
-    let server: Server<'f, 'r, 'o, R, J, H> = Server {
+    let (pool, pollers, acceptor) = match open_pool(config, clerks.len()) {
+        Ok(opened) => opened,
+        Err(fault) => {
+            drop((log, users, clerks));
+            return Err(fault);
+        }
+    };
+    let server = Server {
         config,
         listener,
         latest,
@@ -202,12 +243,32 @@ fn serve_by_pool<
         limiter: limiter_of(config),
         ready: Mutex::new(false),
     };
-    let mut running = Running {
-        server: &server,
-        users,
-    };
     let pollers = (pollers, acceptor);
-    match serve_connections(&server, clerks, pollers, &mut running, registrar, console) {
+    let served = serve_opened(&server, users, clerks, pollers, registrar, console);
+    drop(server);
+    served
+}
+
+/// Serves connections by clerks, and has the log of the users keep what the operator changes.
+fn serve_opened<
+    'r,
+    'o,
+    J: Naming + Send + Sync,
+    H: Histories + LogName + Send + Sync,
+    R: Host + Sync,
+    T: Sides,
+>(
+    server: &Server<'_, 'r, 'o, R, J, H>,
+    users: Option<UsersLog<'r>>,
+    clerks: Vec<Clerk<'r, J, H>, &'r Global>,
+    pollers: (Vec<Poller>, Poller),
+    registrar: &mut Registrar<J, &'r R, &'r Global>,
+    console: &mut Console<T>,
+) -> Result<Served<'r, J, H>, Fault<'o>> {
+    let mut running = Running { server, users };
+    let served = serve_connections(server, clerks, pollers, &mut running, registrar, console);
+    drop(running);
+    match served {
         Ok(served) => Ok(served),
         Err(AllocError) => Err(Fault::Memory),
     }
@@ -246,7 +307,10 @@ fn open_log<'f, 'r, 'o, H: Histories + LogName, R: Host>(
             let log = with_beat(config.run.options, log);
             Ok((Some(log), Some(paths), Some(users)))
         }
-        Err(AllocError) => Err(Fault::Memory),
+        Err(AllocError) => {
+            drop((paths, users));
+            Err(Fault::Memory)
+        }
     }
 }
 
@@ -255,17 +319,21 @@ fn with_beat<'f, 'r, H: Histories + LogName>(
     options: &Options,
     log: CommitLog<'f, 'r, LogStore<'r>, H, H>,
 ) -> CommitLog<'f, 'r, LogStore<'r>, H, H> {
-    if options.engine.is_none() {
-        return log;
+    match &options.cluster {
+        Some(cluster) => log.with_beat(Duration::from_millis(
+            cluster.silence.saturating_mul(1_000) / BEATS,
+        )),
+        None => log,
     }
-    log.with_beat(Duration::from_millis(options.silence.saturating_mul(1_000) / BEATS))
 }
 
 /// The pool of this many workers, with a poller for each, and one for the thread that accepts.
 fn open_pool<'r, 'o, R: Host>(
     config: &Config<'r, 'o, R>,
     workers: usize,
-) -> Result<(WorkerPool<'r>, Vec<Poller>, Poller), Fault<'o>> {
+) -> Result<(WorkerPool<'r>, Vec<Poller>, Poller), Fault<'o>>
+    ensures proxy { IfOk result (λ opened. opened.0.proxy ≡ config.now.run.options.now.proxy) }
+{
     let (run, bounds) = (&config.run, bounds_of(config.run.options, workers));
     match WorkerPool::open(run.rt, *run.alloc, workers, bounds, config.metrics) {
         Ok(opened) => Ok(opened),

@@ -18,11 +18,14 @@ use nmvs_reception::{ClerkDesk, JournalDesk, ProgramClock};
 use nmvs_stream::{Console, Sides, Sink, deliver};
 use std::alloc::{AllocError, Global};
 use std::fs::File;
+use std::iter::Zip;
+use std::ops::Range;
 use std::rt::{Clock, Files};
-use std::sync::Wait;
+use std::sync::{Mutex, Wait};
 use std::thread;
 use std::thread::Threads;
 use std::time::Duration;
+use std::vec::IntoIter;
 
 /// The bounds of the connections of this number of workers.
 pub(crate) fn bounds_of(options: &Options, workers: usize) -> Bounds
@@ -53,17 +56,32 @@ fn bytes_of(mebibytes: u64) -> usize
     mebibytes.saturating_mul(1_048_576) as usize
 }
 
-/// Serves the connections of the worker with this number, and returns the clerk. If the worker cannot go on, it ends the
-/// service.
+/// The clerks that no worker has, with their pollers and numbers. They lie outside the threads' scope, whose early ends need not
+/// give them up.
+type FreeClerks<'r, J, H> = Mutex<
+    Zip<Zip<IntoIter<Clerk<'r, J, H>, &'r Global>, IntoIter<Poller>>, Range<usize>>,
+>;
+
+/// Serves the connections of the next worker, and returns its clerk. If the worker cannot go on, it ends the service.
 fn work<'r, R: Wait + Clock + Log, J: Naming, H: Histories + LogName>(
+    server: &Server<'_, 'r, '_, R, J, H>,
+    free: &FreeClerks<'r, J, H>,
+) -> Option<Clerk<'r, J, H>> {
+    let run = &server.config.run;
+    let ((clerk, poller), number) = free.lock(run.rt).next()?;
+    if !may_begin(server) {
+        return Some(clerk);
+    }
+    Some(serve_by_clerk(server, clerk, number, poller))
+}
+
+/// Serves the connections of the worker with this number, and returns the clerk.
+fn serve_by_clerk<'r, R: Wait + Clock + Log, J: Naming, H: Histories + LogName>(
     server: &Server<'_, 'r, '_, R, J, H>,
     clerk: Clerk<'r, J, H>,
     number: usize,
     poller: Poller,
 ) -> Clerk<'r, J, H> {
-    if !may_begin(server) {
-        return clerk;
-    }
     let desk = desk_of(server, clerk, number);
     match &server.log {
         None => serve_by_desk(server, number, poller, desk).into_clerk(),
@@ -158,40 +176,84 @@ pub(crate) fn serve_connections<
     registrar: &mut Registrar<J, &'r R, &'r Global>,
     console: &mut Console<T>,
 ) -> Result<Served<'r, J, H>, AllocError> {
+    // room for the clerks is made before anything is served, so that refused memory loses no trail
     let run = &server.config.run;
-    let (pollers, acceptor) = pollers;
+    let Ok(mut back) = Vec::with_capacity(run.alloc, clerks.len()) else {
+        drop((clerks, pollers));
+        return Err(AllocError);
+    };
+    let served = serve_in_threads(
+        server, clerks, pollers, &mut back, running, registrar, console,
+    );
+    match served {
+        Ok(confirmed) => Ok((back, confirmed)),
+        Err(AllocError) => {
+            drop(back);
+            Err(AllocError)
+        }
+    }
+}
+
+/// Serves connections in threads, and gives the clerks back once they have ended.
+fn serve_in_threads<
+    'r,
+    R: Threads + Wait + Clock + Files<File = File> + Eprint + Log + Sync,
+    J: Naming + Send + Sync,
+    H: Histories + LogName + Send + Sync,
+    T: Sides,
+>(
+    server: &Server<'_, 'r, '_, R, J, H>,
+    clerks: Vec<Clerk<'r, J, H>, &'r Global>,
+    (pollers, acceptor): (Vec<Poller>, Poller),
+    back: &mut Vec<Clerk<'r, J, H>, &'r Global>,
+    running: &mut Running<'_, '_, 'r, '_, R, J, H>,
+    registrar: &mut Registrar<J, &'r R, &'r Global>,
+    console: &mut Console<T>,
+) -> Result<Result<usize, Unconfirmed>, AllocError> {
+    let run = &server.config.run;
+    let workers = clerks.len();
+    let free = Mutex::new(clerks.into_iter().zip(pollers).zip(0..workers));
+    let clerks = &free;
     thread::scope(thread::scope_env(), run.rt, |scope| {
         let mut ready = server.ready.lock(run.rt);
-        let mut workers = Vec::with_capacity(*run.alloc, clerks.len())?;
-        // room for the clerks is made before anything is served, so that refused memory loses no trail
-        let mut back = Vec::with_capacity(run.alloc, clerks.len())?;
-        let mut number = 0usize;
-        for (clerk, poller) in clerks.into_iter().zip(pollers) {
-            let place = number;
-            let kept = match scope.spawn(move || work(server, clerk, place, poller)) {
-                Ok(worker) => workers.push(worker).or(Err(AllocError)),
+        let Ok(mut working) = Vec::with_capacity(*run.alloc, workers) else {
+            return Err(AllocError);
+        };
+        let mut begun = Ok(());
+        for _ in 0..workers {
+            begun = match scope.spawn(move || work(server, clerks)) {
+                Ok(worker) => working.push(worker).or(Err(AllocError)),
                 Err(_) => Err(AllocError),
             };
-            kept?;
-            number = number.saturating_add(1);
+            if begun.is_err() {
+                break;
+            }
+        }
+        if begun.is_err() {
+            drop(working);
+            return Err(AllocError);
         }
         let Ok(accepting) = scope.spawn(move || accept(server, acceptor)) else {
+            drop(working);
             return Err(AllocError);
         };
         let Ok(writing) = scope.spawn(move || write_log(server)) else {
             server.pool.stop(run.rt);
+            drop((working, accepting));
             return Err(AllocError);
         };
         *ready = true;
         drop(ready);
         take_commands(running, registrar, console);
-        for worker in workers {
-            let _room_was_made = back.push(worker.join(run.rt));
+        for worker in working {
+            if let Some(clerk) = worker.join(run.rt) {
+                let _room_was_made = back.push(clerk);
+            }
         }
         accepting.join(run.rt);
-        let confirmed = close_log(server, &mut back);
+        let confirmed = close_log(server, back);
         writing.join(run.rt);
-        Ok((back, confirmed))
+        Ok(confirmed)
     })
 }
 

@@ -1,5 +1,6 @@
 //! The orders of an operator to a server that follows.
-use nmvs_operator::Standby;
+use nmvs_operator::{Figure, Fixed, Order, Perform, ServiceFault};
+use std::alloc::Global;
 use std::sync::atomic::{AtomicBool, Ordering};
 
 /// The orders of an operator to a server that follows, for the thread that follows.
@@ -46,16 +47,22 @@ impl Directions {
 #[derive(Clone, Copy)]
 pub(crate) struct Director<'d>(pub(crate) &'d Directions);
 
-impl<'d> Standby for Director<'d> {
-    ghost takes_over = { λ old new. Unit {0} };
+impl<'d> Perform for Director<'d> {
+    ghost use Rattle.nmvs_standby.specs.Orders.{EndsFollowing};
 
-    ghost stops = { λ old new. Unit {0} };
+    ghost does = { λ old order end new. EndsFollowing order end };
 
-    fn take_over(&mut self) {
-        self.0.takes_over.store(true, Ordering::SeqCst);
-    }
-
-    fn stop(&mut self) {
-        self.0.stops.store(true, Ordering::SeqCst);
+    fn perform(&mut self, alloc: Global, order: &Order<'_>) -> Result<Vec<Figure>, ServiceFault> {
+        match order {
+            Order::Fixed(Fixed::TakeOver) => {
+                self.0.takes_over.store(true, Ordering::SeqCst);
+                Ok(Vec::new(alloc))
+            }
+            Order::Fixed(Fixed::Stop) => {
+                self.0.stops.store(true, Ordering::SeqCst);
+                Ok(Vec::new(alloc))
+            }
+            _ => Err(ServiceFault::Standby),
+        }
     }
 }

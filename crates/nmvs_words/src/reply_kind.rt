@@ -1,6 +1,8 @@
 //! Kinds of replies.
 ghost use Rattle.std.specs.Prelude.{◌≡◌};
-ghost use Rattle.nmvs_words.specs.ReplyKinds.{reply_word, reply_named};
+ghost use Rattle.nmvs_words.specs.ReplyKinds.{kind_of_reply, reply_word, reply_named};
+
+use nmvs_rules::Reply;
 
 /// A reply without its values. Each kind has a word, and decides which values follow it.
 #[derive(Clone, Copy)]
@@ -20,6 +22,26 @@ pub enum ReplyKind {
 }
 
 impl ReplyKind {
+    /// The kind of a reply.
+    pub fn of(reply: &Reply) -> ReplyKind
+        ensures { result ≡ kind_of_reply reply.now }
+    {
+        match reply {
+            Reply::Uploaded => ReplyKind::Uploaded,
+            Reply::Authentic { .. } => ReplyKind::Authentic,
+            Reply::Alert { .. } => ReplyKind::Alert,
+            Reply::StatusIs { .. } => ReplyKind::Status,
+            Reply::NoPack => ReplyKind::NoPack,
+            Reply::Decommissioned => ReplyKind::Decommissioned,
+            Reply::HandedOver => ReplyKind::HandedOver,
+            Reply::Reverted => ReplyKind::Reverted,
+            Reply::LockedNow(_) => ReplyKind::Locked,
+            Reply::MarkedStolen => ReplyKind::Stolen,
+            Reply::Shown(_) => ReplyKind::Shown,
+            Reply::Refused(_) => ReplyKind::Refused,
+        }
+    }
+
     /// The kind's word.
     pub fn word(self) -> &'static str
         ensures { result.now ≡ reply_word self }
