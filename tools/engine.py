@@ -7,6 +7,9 @@ import threading
 
 CLUSTER = "trial"
 
+# The keys of a log that begins, behind the name of the cluster, with their values.
+BEGUN = {"owner": "-", "entries/end": "0", "entries/trimmed": "0", "users/end": "0", "users/trimmed": "0"}
+
 
 def bytes_of(text):
     return base64.b64decode(text or "")
@@ -18,16 +21,15 @@ def text_of(value):
 
 class Engine:
     """The store, and a server of it at a port of 127.0.0.1. It has the keys of a cluster that has no owner yet, whose log of entries
-    has these blocks, each some lines."""
+    has these blocks, each some lines; or no key, if it is empty."""
 
-    def __init__(self, *blocks, cluster=CLUSTER):
+    def __init__(self, *blocks, cluster=CLUSTER, empty=False, port=0):
         self.cluster, self.values = cluster, {}
         # Each block that was ever put.
         self.blocks = {}
         self.lock, engine = threading.Lock(), self
-        for key in ("entries/end", "entries/trimmed", "users/end", "users/trimmed"):
-            self.put(key, "0")
-        self.put("owner", "-")
+        for key, value in () if empty else BEGUN.items():
+            self.put(key, value)
         first = 0
         for number, lines in enumerate(blocks, 1):
             count = lines.count("\n")
@@ -50,7 +52,7 @@ class Engine:
             def log_message(self, *_):
                 pass
 
-        self.server = http.server.ThreadingHTTPServer(("127.0.0.1", 0), Handler)
+        self.server = http.server.ThreadingHTTPServer(("127.0.0.1", port), Handler)
         self.server.daemon_threads = True
         # A server that is killed breaks its connections.
         self.server.handle_error = lambda *_: None
@@ -77,8 +79,10 @@ class Engine:
         return {"header": {}, **({"kvs": found} if found else {})}
 
     def holds(self, compare):
-        key = bytes_of(compare["key"])
-        return key in self.values if compare["target"] == "CREATE" else self.values.get(key) == bytes_of(compare["value"])
+        """Whether a comparison holds: the key has the value; or a revision of creation above 0, or one of 0, as a key has that is not there."""
+        if compare["target"] == "CREATE":
+            return bool(self.keys(compare)) == (compare["result"] == "GREATER")
+        return self.values.get(bytes_of(compare["key"])) == bytes_of(compare["value"])
 
     def transaction(self, asked):
         succeeded = all(map(self.holds, asked.get("compare", [])))

@@ -7,6 +7,7 @@ mod answer;
 mod ask;
 mod block;
 mod connection;
+mod found;
 mod http;
 mod key;
 mod laws;
@@ -16,12 +17,13 @@ mod read;
 mod request;
 mod trim;
 
-pub use answer::{append_outcome, free_outcome, own_outcome, trim_outcome};
+pub use answer::{append_outcome, found_outcome, free_outcome, own_outcome, trim_outcome};
 pub use ask::{
-    ask_append, ask_blocks, ask_end, ask_free, ask_own, ask_owner, ask_trim, ask_trimmed,
+    ask_append, ask_blocks, ask_end, ask_found, ask_free, ask_own, ask_owner, ask_trim, ask_trimmed,
 };
 pub use block::Block;
 pub use connection::{Broken, Connection};
+pub use found::found_request;
 pub use http::{Answer, MOST_ANSWER, Procedure, exchange};
 pub use key::Log;
 pub use laws::{answers, demands, names, no_owner, requests, trims, turns};

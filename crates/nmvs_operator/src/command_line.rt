@@ -5,8 +5,8 @@ ghost use Rattle.nmvs_operator.specs.Options.{IsIn};
 use crate::address::{address_in, is_path};
 use crate::cluster_name::is_cluster_name;
 use crate::options::{
-    ADMIN, CLUSTER, ENGINE, HTTP, IMPORT, JOURNAL, MACHINE, METRICS, OPTIONS, Options, REHEARSAL,
-    Row, STDIN, USERS, Value, values_of,
+    ADMIN, CLUSTER, ENGINE, FOUND, HTTP, IMPORT, JOURNAL, MACHINE, METRICS, OPTIONS, Options,
+    REHEARSAL, Row, STDIN, USERS, Value, values_of,
 };
 use clap::error::ErrorKind;
 use clap::{Arg, ArgAction, ArgMatches, Command, Error, value_parser};
@@ -199,13 +199,14 @@ enum Clash {
 const FOR_CONNECTIONS: Clash = Clash::Excludes(" is for connections, and");
 
 /// The options that need or exclude others, in the order in which a line is refused for them.
-static CLASHES: [(Row, Clash, Row); 11] = [
+static CLASHES: [(Row, Clash, Row); 12] = [
     (STDIN, FOR_CONNECTIONS, JOURNAL),
     (STDIN, FOR_CONNECTIONS, ADMIN),
     (STDIN, FOR_CONNECTIONS, HTTP),
     (STDIN, FOR_CONNECTIONS, METRICS),
     (CLUSTER, Clash::Needs(""), ENGINE),
     (MACHINE, Clash::Needs(""), ENGINE),
+    (FOUND, Clash::Needs(""), ENGINE),
     (ENGINE, Clash::Needs(""), CLUSTER),
     (ENGINE, Clash::Needs(""), MACHINE),
     (ENGINE, Clash::Needs(", the folder of its copy"), JOURNAL),

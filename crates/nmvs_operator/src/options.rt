@@ -145,6 +145,13 @@ pub(crate) const SILENCE: Row = Row {
     help: "Seconds of silence of the server that answers, after which one that follows takes over, 1 to 3600",
 };
 
+pub(crate) const FOUND: Row = Row {
+    name: "found",
+    value: Value::Nothing,
+    default: None,
+    help: "The log of a new cluster begins: its keys are made, where etcd has no key of it",
+};
+
 pub(crate) const CONFIG: Row = Row {
     name: "config",
     value: Value::Text("FILE"),
@@ -319,7 +326,7 @@ pub(crate) const SOCKET: Row = Row {
 };
 
 /// The options, in the order of the help.
-pub static OPTIONS: [Row; 33] = [
+pub static OPTIONS: [Row; 34] = [
     USERS,
     REHEARSAL,
     IMPORT,
@@ -329,6 +336,7 @@ pub static OPTIONS: [Row; 33] = [
     CLUSTER,
     MACHINE,
     SILENCE,
+    FOUND,
     CONFIG,
     SHARDS,
     EXPECTED_PACKS,
@@ -412,6 +420,8 @@ pub struct Cluster {
     pub machine: String,
     /// The seconds of silence of the owner after which a follower takes over.
     pub silence: u64,
+    /// Whether the server makes the keys of the log, if there is no key of the cluster.
+    pub founds: bool,
     ghost silence_in_range: { (1 ≤ silence) × (silence ≤ 3_600) },
 }
 
@@ -552,6 +562,7 @@ fn cluster_of(given: Given<'_, '_>) -> Result<Option<Cluster>, OptionFault> {
         name,
         machine,
         silence,
+        founds: given.has(&FOUND),
     }))
 }
 

@@ -35,6 +35,6 @@ pub use marks::{MarkFile, TAIL, mark, read_tail};
 pub use paths::{Paths, lock, refused, write_text};
 pub use progress::{Progress, Watched, Whole};
 pub use run::{Host, Run};
-pub use users::{publish_kept, publish_users, read_users, tell_users};
+pub use users::{publish_kept, publish_users, read_users, tell_users, try_users};
 pub use users_file::{make_place, whole_lines};
 pub use users_store::{OpenUsers, UsersFile};

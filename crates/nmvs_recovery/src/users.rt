@@ -37,13 +37,37 @@ pub fn publish_users<'r, 'o, J: Naming, H: Host>(
             }
             Ok(notice)
         }
-        Err(LoadFault::Memory) => Err(FileFault::Memory),
-        Err(LoadFault::Read) => Err(FileFault::CannotRead(path)),
-        Err(LoadFault::Line(number, fault)) => {
-            tell_first_fault(run);
-            Err(FileFault::UsersLine(number, fault))
+        Err(fault) => {
+            if let LoadFault::Line(..) = fault {
+                let _told = judge_file(run);
+            }
+            Err(refused_users(path, fault))
         }
-        Err(LoadFault::Unended(number)) => Err(FileFault::UsersEnd(number)),
+    }
+}
+
+/// Tries that the users of the users file can be published, if the options name one.
+///
+/// # Errors
+///
+/// As those of [`publish_users`].
+pub fn try_users<'o, H: Host>(run: &Run<'_, 'o, H>) -> Result<(), FileFault<'o>> {
+    let Some(path) = &run.options.users else {
+        return Ok(());
+    };
+    match judge_file(run) {
+        Ok(()) => Ok(()),
+        Err(fault) => Err(refused_users(path, fault)),
+    }
+}
+
+/// The fault of a users file of this path that is not taken.
+fn refused_users(path: &str, fault: LoadFault) -> FileFault<'_> {
+    match fault {
+        LoadFault::Memory => FileFault::Memory,
+        LoadFault::Read => FileFault::CannotRead(path),
+        LoadFault::Line(number, fault) => FileFault::UsersLine(number, fault),
+        LoadFault::Unended(number) => FileFault::UsersEnd(number),
     }
 }
 
@@ -74,16 +98,22 @@ pub fn read_users<H: Files<File = File> + Log>(
     }
 }
 
-/// Logs the first fault of the users file, with its line in quotes.
-fn tell_first_fault<H: Host>(run: &Run<'_, '_, H>) {
-    let Ok(bytes) = read_users(run, *run.alloc) else {
-        return;
+/// Looks for the first fault of the users file, and logs it with its line in quotes.
+fn judge_file<H: Host>(run: &Run<'_, '_, H>) -> Result<(), LoadFault> {
+    let bytes = match read_users(run, *run.alloc) {
+        Ok(bytes) => bytes,
+        Err(ServiceFault::Memory) => return Err(LoadFault::Memory),
+        Err(_) => return Err(LoadFault::Read),
     };
     let Ok(faults) = users_faults(*run.alloc, &bytes) else {
-        return;
+        return Err(LoadFault::Memory);
     };
-    if let Some(found) = faults.first() {
-        tell_fault(run.rt, found);
+    match faults.first() {
+        Some(found) => {
+            tell_fault(run.rt, found);
+            Err(found.fault)
+        }
+        None => Ok(()),
     }
 }
 

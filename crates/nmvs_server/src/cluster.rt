@@ -1,6 +1,7 @@
 //! A server among several machines, one of which answers at a time.
 
 use crate::launch::serve_from;
+use crate::listening::try_listening;
 use crate::starting::Beside;
 use crate::{Fault, Host, Outcome};
 use nmvs_engine::{Dialer, Turn};
@@ -41,7 +42,8 @@ pub(crate) fn serve_in_cluster<'r, 'o, R: Host + Sync, T: Sides>(
     }
 }
 
-/// Follows the server that answers until this one owns the log. `None` if the operator ends this one.
+/// Follows the server that answers until this one owns the log. `None` if the operator ends this one. First it tries what an owner
+/// needs, so that a wrong option shows at the start and not at a takeover.
 fn follow<'r, 'o, R: Host + Sync, T: Sides>(
     run: &Run<'r, 'o, R>,
     cluster: &'o Cluster,
@@ -50,6 +52,7 @@ fn follow<'r, 'o, R: Host + Sync, T: Sides>(
     console: &mut Console<T>,
     interrupt: &AtomicBool,
 ) -> Result<Option<(Followed<'r, 'o>, Turn<'r>)>, Fault<'o>> {
+    try_listening(run.rt, run.options)?;
     let mut drawn = [0; 16];
     if run.rt.fill_bytes(&mut drawn).is_err() {
         return Err(Fault::Random);

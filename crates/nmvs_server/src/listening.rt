@@ -5,9 +5,9 @@ use nmvs_connections::{HttpListener, Listener};
 use nmvs_exposition::most_files;
 use nmvs_operator::Options;
 use std::hash::RandomState;
-use std::io;
 use std::net::{Net, SocketAddr};
 use std::rt::Files;
+use std::{fs, io};
 
 /// The most descriptors that a server takes, next to those of its connections (own).
 const FURTHER_DESCRIPTORS: u64 = 48;
@@ -52,6 +52,29 @@ pub(crate) fn listen_http<'o, R: Host>(
         Ok(listener) => Ok(Some(HttpListener { listener, keys })),
         Err(error) => Err(refused(rt, Fault::of_http(options, address), error)),
     }
+}
+
+/// Tries that the server can listen where the options say, and listens nowhere afterwards.
+///
+/// # Errors
+///
+/// As those of [`listen`] and [`listen_http`].
+pub(crate) fn try_listening<'o, R: Host>(rt: &R, options: &'o Options) -> Result<(), Fault<'o>> {
+    let listener = listen(rt, options)?;
+    match listen_http(rt, options) {
+        Ok(http) => drop((listener, http)),
+        Err(fault) => {
+            drop(listener);
+            return Err(fault);
+        }
+    }
+    for path in [&options.socket, &options.http_socket] {
+        if let Some(path) = path {
+            // The next socket there is refused while there is a file.
+            let _left = fs::remove_file(rt, path);
+        }
+    }
+    Ok(())
 }
 
 /// Listens at the path of a socket, or else at an address.
