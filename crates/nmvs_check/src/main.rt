@@ -2,8 +2,8 @@
 #![tactic(auto)]
 
 mod answers;
+mod command_line;
 mod comparison;
-mod filters;
 mod inputs;
 mod inspect_fault;
 mod inspection;
@@ -15,11 +15,12 @@ mod request;
 mod scans;
 mod status;
 
+use crate::command_line::OptionFault;
 use crate::comparison::{CompareFault, compare};
 use crate::inputs::{InputFault, Inputs};
 use crate::inspect_fault::{InspectFault, fault_text};
 use crate::inspection::{inspect, inspect_part};
-use crate::options::{Asked, OptionFault, Options, read_options};
+use crate::options::{Asked, Options, read_options};
 use crate::output::Output;
 use crate::page_file::{PageFault, write_page};
 use crate::scans::answer_scans;

@@ -1,15 +1,12 @@
-//! The command line.
-use crate::filters::{
-    batch, by_of, code, filter_of, flag, form_of, option, part_of, refused, serial, with_filter,
-    with_form,
-};
+//! The task that a command line asks for.
+use crate::command_line::{BY, CHECK, NATION, OptionFault, PART, ROWS, command, fault_of, refused};
 use crate::request::Request;
-use clap::error::ErrorKind;
-use clap::{Arg, ArgMatches, Command, Error};
+use clap::ArgMatches;
 use nmvs_elements::National;
-use nmvs_identifier::{Pack, ProductCode, Serial};
-use nmvs_inspect::Form;
+use nmvs_identifier::{Batch, Name, Pack, ProductCode, Serial};
+use nmvs_inspect::{By, Filter, Form, read_date};
 use nmvs_parts::Part;
+use nmvs_words::{QuestionKind, ReplyKind, role_named};
 use std::alloc::{AllocError, Global};
 
 /// The task that a command line asks for (own).
@@ -43,300 +40,67 @@ pub(crate) struct Options {
     pub request: Request,
 }
 
-/// The reason why a command line gives no task.
-#[derive(Drop)]
-pub(crate) enum OptionFault {
-    Memory,
-    /// The line is refused, with the text of its fault.
-    Refused(String),
-    /// The line asks for help or the version, with its text.
-    Help(String),
-}
-
-impl From<AllocError> for OptionFault {
-    fn from(_: AllocError) -> OptionFault {
-        OptionFault::Memory
-    }
-}
-
-const ABOUT: &str =
-    "Checks an export of a medicines verification repository: reads it line by line, and judges each stored reply again \
-    by the rules. Of a lawful export it prints LAWFUL, the number of lines, how many of them are of which version, and \
-    a line for each product code, or what a command asks.";
-
-const STATUS: &str =
-    "The status is 0 where the export is lawful, 1 where it is not, and 2 in trouble: the command line is refused, a file \
-    cannot be read or written, or memory is refused. The reason is on standard error. Nothing is printed of an export that is \
-    not lawful. Of a compressed export: gunzip -c export.gz | nmvs-check list -";
-
-const VERSION: &str = "0.9.0 (reads entry lines of versions 1 to 3)";
-
-const REPORT: &str = "Prints the reports of product codes, in order of first appearance";
-
-const LIST: &str =
-    "Lists the entries that pass all tests, oldest first; those of one moment are in the order of the export";
-
-const COUNT: &str =
-    "Counts the entries that pass all tests, by what they have in common; the rows are in order of their oldest entries";
-
-const PACKS: &str =
-    "Lists the packs that were uploaded in a batch: the status of each, since when, and by whom";
-
-const PACK: &str =
-    "Lists the entries about a pack, its upload among them, and those that recall or withdraw its batch, oldest first; the last \
-    row is the reply that a STATUS of the pack gets at the end of the export";
-
-const COMPARE: &str =
-    "Says whether a new export goes on from an old one: for each product code the lines of the old one about it are, in \
-    order, the first lines of the new one about it. If so it prints GOES ON and the status is 0; else it prints the first \
-    line of the old one that the new one does not have in its place, with what it has there, and the status is 1. The \
-    status is also 1 where one of them is not lawful, and 2 in trouble";
-
-const PART: &str =
-    "Check the lines of the product codes whose number is I modulo N alone, as 0/8, in the memory that these lines take. The N \
-    parts together say what one check says, and their counts add up";
-
-const PAGE: &str =
-    "Writes a page for a browser: files and counts, product codes and batches, alerts by week, the premises with the most \
-    flagged alerts, and these, oldest first";
-
-const SCAN: &str =
-    "Reads each line of standard input as a scan of a pack, and writes a row of CSV: the elements of the pack, or why the \
-    scan is not read. The status is 0 where all lines are read, 1 where some are not, and 2 in trouble";
-
 /// The task that the words after the program's own name ask for.
 ///
 /// # Errors
 ///
 /// The words are no command line, or ask for help or the version, or there is no memory.
 pub(crate) fn read_options(alloc: Global, words: &[String]) -> Result<Asked, OptionFault> {
-    match command(alloc)?
-        .no_binary_name(true)
-        .try_get_matches_from(words)
-    {
+    match command(alloc)?.try_get_matches_from(words) {
         Ok(matches) => asked_of(alloc, &matches),
         Err(error) => Err(fault_of(alloc, &error)),
     }
 }
 
-fn command<'a>(alloc: Global) -> Result<Command<'a>, AllocError> {
-    let part = part_of_check(alloc)?;
-    let command = Command::new(alloc, "nmvs-check")
-        .about(ABOUT)
-        .after_help(STATUS)
-        .version(VERSION)
-        .arg(files(alloc))?
-        .arg(part)?;
-    let command = with_lookups(alloc, command)?;
-    let command = with_subcommand(command, list(alloc))?;
-    let command = with_subcommand(command, count(alloc))?;
-    let command = with_subcommand(command, pack(alloc))?;
-    let command = with_subcommand(command, packs(alloc))?;
-    let command = with_subcommand(command, reports(alloc))?;
-    let command = with_subcommand(command, compare(alloc))?;
-    let command = with_subcommand(command, scan(alloc))?;
-    with_subcommand(command, page(alloc))
-}
-
-/// A command with a subcommand, if there was memory for it.
-fn with_subcommand<'a>(
-    command: Command<'a>,
-    subcommand: Result<Command<'a>, AllocError>,
-) -> Result<Command<'a>, AllocError> {
-    command.subcommand(subcommand?)
-}
-
-/// A command with the options that ask for one product code or one pack.
-fn with_lookups<'a>(alloc: Global, command: Command<'a>) -> Result<Command<'a>, AllocError> {
-    let command = command.arg(option(
-        alloc,
-        "report",
-        "CODE",
-        "Print the report of this product code instead",
-    ))?;
-    command.arg(audit(alloc)?)
-}
-
-fn audit<'a>(alloc: Global) -> Result<Arg<'a>, AllocError> {
-    Arg::new(alloc, "audit")
-        .long("audit")
-        .value_names(&["CODE", "SERIAL"])
-        .num_args(2)
-        .help("Print the lines about the pack with this product code and serial number instead")
-        .conflicts_with("report")
-}
-
-fn files<'a>(alloc: Global) -> Arg<'a> {
-    Arg::new(alloc, "files")
-        .value_name("FILE")
-        .num_args(0..)
-        .help(
-            "The files of the export, one after another; standard input where there is none, and where it is -",
-        )
-}
-
-fn part<'a>(alloc: Global) -> Arg<'a> {
-    option(alloc, "part", "I/N", PART)
-}
-
-/// The same for the check itself, which looks nothing up in a part.
-fn part_of_check<'a>(alloc: Global) -> Result<Arg<'a>, AllocError> {
-    part(alloc)
-        .conflicts_with("report")?
-        .conflicts_with("audit")
-}
-
-fn list<'a>(alloc: Global) -> Result<Command<'a>, AllocError> {
-    let command = Command::new(alloc, "list")
-        .about(LIST)
-        .arg(files(alloc))?
-        .arg(part(alloc))?;
-    let command = with_filter(alloc, command)?;
-    let command = with_form(alloc, command)?;
-    command.arg(json(alloc)?)
-}
-
-fn json<'a>(alloc: Global) -> Result<Arg<'a>, AllocError> {
-    flag(alloc, "json", "As entry lines, which an export has too").conflicts_with("csv")
-}
-
-fn count<'a>(alloc: Global) -> Result<Command<'a>, AllocError> {
-    let by = option(
-        alloc,
-        "by",
-        "PARTS",
-        "One or several of day, week, month, cause, premises, authorisation, code, user, role, word and reply, with \
-        commas between",
-    );
-    let command = Command::new(alloc, "count")
-        .about(COUNT)
-        .arg(by.required(true))?
-        .arg(files(alloc))?
-        .arg(part(alloc))?;
-    let command = with_filter(alloc, command)?;
-    with_form(alloc, command)
-}
-
-fn pack<'a>(alloc: Global) -> Result<Command<'a>, AllocError> {
-    let code = option(alloc, "code", "CODE", "The product code");
-    let command = Command::new(alloc, "pack")
-        .about(PACK)
-        .arg(code.required(true))?;
-    let serial = option(alloc, "serial", "SERIAL", "The serial number");
-    let command = command.arg(serial.required(true))?.arg(files(alloc))?;
-    with_form(alloc, command)
-}
-
-fn packs<'a>(alloc: Global) -> Result<Command<'a>, AllocError> {
-    let code = option(alloc, "code", "CODE", "The product code");
-    let command = Command::new(alloc, "packs")
-        .about(PACKS)
-        .arg(code.required(true))?;
-    let batch = option(alloc, "batch", "BATCH", "The batch");
-    let command = command.arg(batch.required(true))?.arg(files(alloc))?;
-    with_form(alloc, command)
-}
-
-fn page<'a>(alloc: Global) -> Result<Command<'a>, AllocError> {
-    let help = "The file that the page is written to, as page.html: a new one, or an earlier page";
-    let output = option(alloc, "output", "PAGE", help);
-    Command::new(alloc, "page")
-        .about(PAGE)
-        .arg(output.required(true))?
-        .arg(files(alloc))
-}
-
-fn reports<'a>(alloc: Global) -> Result<Command<'a>, AllocError> {
-    let all = flag(alloc, "all", "Of every product code that some line names");
-    let command = Command::new(alloc, "report")
-        .about(REPORT)
-        .arg(all.required(true))?
-        .arg(files(alloc))?
-        .arg(part(alloc))?;
-    with_form(alloc, command)
-}
-
-fn compare<'a>(alloc: Global) -> Result<Command<'a>, AllocError> {
-    let old = operand(
-        alloc,
-        "old",
-        "OLD",
-        "The file of the old export; standard input where it is -",
-    );
-    let command = Command::new(alloc, "compare").about(COMPARE).arg(old)?;
-    command.arg(operand(
-        alloc,
-        "new",
-        "NEW",
-        "The file of the new export; standard input where it is -",
-    ))
-}
-
-fn scan<'a>(alloc: Global) -> Result<Command<'a>, AllocError> {
-    let national = option(
-        alloc,
-        "national",
-        "NUMBER",
-        "The application identifier of the national number that each pack has, 710 to 716",
-    );
-    Command::new(alloc, "scan").about(SCAN).arg(national)
-}
-
-/// A word that the command line must have, by its place.
-fn operand<'a>(alloc: Global, name: &'a str, value: &'a str, help: &'a str) -> Arg<'a> {
-    Arg::new(alloc, name)
-        .value_name(value)
-        .required(true)
-        .help(help)
-}
-
 fn asked_of(alloc: Global, matches: &ArgMatches<'_>) -> Result<Asked, OptionFault> {
-    match matches.subcommand() {
-        Some(("compare", asked)) => comparison_of(alloc, asked),
-        Some(("page", asked)) => page_of(alloc, asked),
-        Some(("scan", asked)) => Ok(Asked::Scans(nation_of(alloc, asked)?)),
-        _ => Ok(Asked::Inspection(options_of(alloc, matches)?)),
+    let (command, asked) = matches.subcommand().unwrap_or((CHECK, matches));
+    match command {
+        "compare" => comparison_of(alloc, asked),
+        "page" => page_of(alloc, asked),
+        "scan" => Ok(Asked::Scans(nation_of(alloc, asked)?)),
+        _ => Ok(Asked::Inspection(Options {
+            request: request_of(alloc, command, asked)?,
+            files: files_of(alloc, asked)?,
+            part: part_in(alloc, matches)?,
+        })),
     }
 }
 
 fn comparison_of(alloc: Global, asked: &ArgMatches<'_>) -> Result<Asked, OptionFault> {
-    let (Some(old), Some(new)) = (asked.get_str("old"), asked.get_str("new")) else {
-        let wanted = "error: two exports are wanted\n";
-        return Err(OptionFault::Refused(String::from_str(alloc, wanted)?));
-    };
-    if old == "-" && new == "-" {
-        let wanted = "error: only one of two exports can be standard input\n";
-        return Err(OptionFault::Refused(String::from_str(alloc, wanted)?));
+    match (asked.get_str("old"), asked.get_str("new")) {
+        (Some("-"), Some("-")) => Err(OptionFault::Refused(String::from_str(
+            alloc,
+            "error: only one of two exports can be standard input\n",
+        )?)),
+        (Some(old), Some(new)) => Ok(Asked::Comparison {
+            old: String::from_str(alloc, old)?,
+            new: String::from_str(alloc, new)?,
+        }),
+        _ => Err(unreadable(alloc)),
     }
-    Ok(Asked::Comparison {
-        old: String::from_str(alloc, old)?,
-        new: String::from_str(alloc, new)?,
-    })
+}
+
+fn page_of(alloc: Global, asked: &ArgMatches<'_>) -> Result<Asked, OptionFault> {
+    let Some(path) = asked.get_str("output") else {
+        return Err(unreadable(alloc));
+    };
+    let files = files_of(alloc, asked)?;
+    let path = String::from_str(alloc, path)?;
+    Ok(Asked::Page { path, files })
 }
 
 fn nation_of(alloc: Global, asked: &ArgMatches<'_>) -> Result<Option<National>, OptionFault> {
     let Some(text) = asked.get_str("national") else {
         return Ok(None);
     };
-    let nation = match text.parse() {
-        Ok(identifier) => National::new(identifier),
-        Err(_) => None,
-    };
-    match nation {
+    match read_nation(text) {
         Some(nation) => Ok(Some(nation)),
-        None => Err(refused(alloc, text, "application identifier of 710 to 716")),
+        None => Err(refused(alloc, text, NATION)),
     }
 }
 
-fn options_of(alloc: Global, matches: &ArgMatches<'_>) -> Result<Options, OptionFault> {
-    let request = request_of(alloc, matches)?;
-    let files = files_of(alloc, matches)?;
-    let part = part_in(alloc, matches)?;
-    Ok(Options {
-        files,
-        part,
-        request,
-    })
+fn read_nation(text: &str) -> Option<National> {
+    National::new(text.parse().ok()?)
 }
 
 /// The part that the options name, behind the command that they belong to.
@@ -352,68 +116,51 @@ fn part_in(alloc: Global, matches: &ArgMatches<'_>) -> Result<Option<Part>, Opti
     }
 }
 
-fn request_of(alloc: Global, matches: &ArgMatches<'_>) -> Result<Request, OptionFault> {
-    match matches.subcommand() {
-        Some(("list", asked)) => list_of(alloc, asked),
-        Some(("count", asked)) => count_of(alloc, asked),
-        Some(("pack", asked)) => story_of(alloc, asked),
-        Some(("packs", asked)) => packs_of(alloc, asked),
-        Some(("report", asked)) => Ok(reports_of(asked)),
-        _ => lookup_of(alloc, matches),
-    }
-}
-
-fn list_of(alloc: Global, matches: &ArgMatches<'_>) -> Result<Request, OptionFault> {
-    let form = if matches.get_flag("json") {
-        Form::Json
-    } else {
-        form_of(matches)
+fn part_of(alloc: Global, asked: &ArgMatches<'_>) -> Result<Option<Part>, OptionFault> {
+    let Some(text) = asked.get_str("part") else {
+        return Ok(None);
     };
-    Ok(Request::List(filter_of(alloc, matches)?, form))
-}
-
-fn count_of(alloc: Global, matches: &ArgMatches<'_>) -> Result<Request, OptionFault> {
-    let filter = filter_of(alloc, matches)?;
-    Ok(Request::Count(filter, by_of(alloc, matches)?, form_of(matches)))
-}
-
-fn reports_of(matches: &ArgMatches<'_>) -> Request {
-    match form_of(matches) {
-        Form::Csv => Request::ReportRows,
-        _ => Request::Reports,
+    match read_part(text) {
+        Some(part) => Ok(Some(part)),
+        None => Err(refused(alloc, text, PART)),
     }
 }
 
-fn files_of(alloc: Global, matches: &ArgMatches<'_>) -> Result<Vec<String>, AllocError> {
-    match matches.subcommand() {
-        Some((_, asked)) => paths_of(alloc, asked),
-        None => paths_of(alloc, matches),
-    }
+fn read_part(text: &str) -> Option<Part> {
+    let (index, count) = text.split_once('/')?;
+    Part::new(index.parse().ok()?, count.parse().ok()?)
 }
 
-fn paths_of(alloc: Global, matches: &ArgMatches<'_>) -> Result<Vec<String>, AllocError> {
+fn files_of(alloc: Global, asked: &ArgMatches<'_>) -> Result<Vec<String>, AllocError> {
     let mut paths = Vec::new(alloc);
-    if let Some(files) = matches.get_strs("files") {
-        append_paths(alloc, files, &mut paths)?;
+    for path in asked.get_strs("files").unwrap_or(&[]) {
+        paths.push(String::from_str(alloc, path)?)?;
     }
     Ok(paths)
 }
 
-fn append_paths(alloc: Global, files: &[&str], paths: &mut Vec<String>) -> Result<(), AllocError> {
-    for path in files {
-        paths.push(String::from_str(alloc, path)?)?;
+fn request_of(
+    alloc: Global,
+    command: &str,
+    asked: &ArgMatches<'_>,
+) -> Result<Request, OptionFault> {
+    let (filter, form) = (filter_of(alloc, asked)?, form_of(asked));
+    match (command, filter.code, filter.serial, filter.batch) {
+        (CHECK, ..) => lookup_of(alloc, asked),
+        ("list", ..) => Ok(Request::List(filter, form)),
+        ("count", ..) => Ok(Request::Count(filter, by_of(alloc, asked)?, form)),
+        ("pack", Some(code), Some(serial), _) => Ok(Request::Story(Pack { code, serial }, form)),
+        ("packs", Some(code), _, Some(batch)) => Ok(Request::Packs(code, batch, form)),
+        ("report", ..) => Ok(reports_of(form)),
+        _ => Err(unreadable(alloc)),
     }
-    Ok(())
 }
 
-fn page_of(alloc: Global, matches: &ArgMatches<'_>) -> Result<Asked, OptionFault> {
-    let Some(path) = matches.get_str("output") else {
-        let wanted = "error: a file for the page is wanted\n";
-        return Err(OptionFault::Refused(String::from_str(alloc, wanted)?));
-    };
-    let files = paths_of(alloc, matches)?;
-    let path = String::from_str(alloc, path)?;
-    Ok(Asked::Page { path, files })
+fn reports_of(form: Form) -> Request {
+    match form {
+        Form::Csv => Request::ReportRows,
+        _ => Request::Reports,
+    }
 }
 
 fn lookup_of(alloc: Global, matches: &ArgMatches<'_>) -> Result<Request, OptionFault> {
@@ -427,28 +174,6 @@ fn lookup_of(alloc: Global, matches: &ArgMatches<'_>) -> Result<Request, OptionF
         })),
         _ => Ok(Request::Summary),
     }
-}
-
-fn story_of(alloc: Global, matches: &ArgMatches<'_>) -> Result<Request, OptionFault> {
-    let (Some(code), Some(serial)) = (
-        code(alloc, matches, "code")?,
-        serial(alloc, matches, "serial")?,
-    ) else {
-        let wanted = "error: a product code and a serial number are wanted\n";
-        return Err(OptionFault::Refused(String::from_str(alloc, wanted)?));
-    };
-    Ok(Request::Story(Pack { code, serial }, form_of(matches)))
-}
-
-fn packs_of(alloc: Global, matches: &ArgMatches<'_>) -> Result<Request, OptionFault> {
-    let (Some(code), Some(batch)) = (
-        code(alloc, matches, "code")?,
-        batch(alloc, matches, "batch")?,
-    ) else {
-        let wanted = "error: a product code and a batch are wanted\n";
-        return Err(OptionFault::Refused(String::from_str(alloc, wanted)?));
-    };
-    Ok(Request::Packs(code, batch, form_of(matches)))
 }
 
 fn code_of(alloc: Global, text: &str) -> Result<ProductCode, OptionFault> {
@@ -469,15 +194,70 @@ fn serial_of(alloc: Global, text: &str) -> Result<Serial, OptionFault> {
     }
 }
 
-fn fault_of(alloc: Global, error: &Error) -> OptionFault {
-    if let ErrorKind::OutOfMemory = error.kind() {
-        return OptionFault::Memory;
+/// The form that the options name.
+fn form_of(asked: &ArgMatches<'_>) -> Form {
+    match (asked.get_flag("json"), asked.get_flag("csv")) {
+        (true, _) => Form::Json,
+        (_, true) => Form::Csv,
+        _ => Form::Table,
     }
-    let Ok(text) = format!(in alloc; "{error}") else {
-        return OptionFault::Memory;
-    };
-    match error.kind() {
-        ErrorKind::DisplayHelp | ErrorKind::DisplayVersion => OptionFault::Help(text),
-        _ => OptionFault::Refused(text),
+}
+
+/// The parts that the options name, by which entries are counted.
+fn by_of(alloc: Global, asked: &ArgMatches<'_>) -> Result<Vec<By>, OptionFault> {
+    let mut parts = Vec::new(alloc);
+    for word in asked.get_str("by").unwrap_or("").split(',') {
+        match By::named(word) {
+            Some(by) => parts.push(by).map_err(|_| AllocError)?,
+            None => return Err(refused(alloc, word, BY)),
+        }
+    }
+    Ok(parts)
+}
+
+/// The filter that the options name.
+fn filter_of(alloc: Global, asked: &ArgMatches<'_>) -> Result<Filter, OptionFault> {
+    let mut filter = Filter::new();
+    filter.flagged = asked.get_flag("flagged");
+    filter.refused = asked.get_flag("refused");
+    for (name, _, value, _, _) in &ROWS {
+        if let Some(text) = asked.get_str(name) {
+            if !takes(alloc, &mut filter, name, text)? {
+                return Err(refused(alloc, text, *value));
+            }
+        }
+    }
+    Ok(filter)
+}
+
+/// Reads the text of an option into a filter that has it. It is false if the text is no value of the option.
+fn takes(alloc: Global, filter: &mut Filter, name: &str, text: &str) -> Result<bool, AllocError> {
+    Ok(match name {
+        "from" => put(&mut filter.from, read_date(alloc, text)?),
+        "to" => put(&mut filter.to, read_date(alloc, text)?),
+        "user" => put(&mut filter.user, Name::read(text).ok()),
+        "role" => put(&mut filter.role, role_named(text)),
+        "authorisation" => put(&mut filter.authorisation, Name::read(text).ok()),
+        "premises" => put(&mut filter.premises, Name::read(text).ok()),
+        "code" => put(&mut filter.code, ProductCode::read(text).ok()),
+        "serial" => put(&mut filter.serial, Serial::read(text).ok()),
+        "batch" => put(&mut filter.batch, Batch::read(text).ok()),
+        "word" => put(&mut filter.question, QuestionKind::named(text)),
+        "reply" => put(&mut filter.reply, ReplyKind::named(text)),
+        _ => true,
+    })
+}
+
+/// Writes what was read, and says whether anything was.
+fn put<T: Copy>(place: &mut Option<T>, read: Option<T>) -> bool {
+    *place = read;
+    read.is_some()
+}
+
+/// The fault of a value that the parser took and that is not what it has to be. No command line has one.
+fn unreadable(alloc: Global) -> OptionFault {
+    match String::from_str(alloc, "error: an option could not be read\n") {
+        Ok(text) => OptionFault::Refused(text),
+        Err(AllocError) => OptionFault::Memory,
     }
 }
