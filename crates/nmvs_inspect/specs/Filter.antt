@@ -14,7 +14,7 @@ use Rattle.nmvs_rules.specs.declared.entry.Entry.{Entry}
 use Rattle.nmvs_rules.specs.declared.facts.Known.{Known}
 use Rattle.nmvs_rules.specs.declared.put.Put.{Put}
 use Rattle.nmvs_rules.specs.declared.question.Question.{Question}
-use Rattle.nmvs_rules.specs.declared.question.Question.TheVariants.{Upload, Recall, Withdraw}
+use Rattle.nmvs_rules.specs.declared.question.Question.TheVariants.{Upload, OfBatch}
 use Rattle.nmvs_rules.specs.declared.reply.Reply.{Reply}
 use Rattle.nmvs_rules.specs.declared.reply.Reply.TheVariants as replies
 use Rattle.nmvs_rules.specs.Facts.{pack_fact}
@@ -69,8 +69,7 @@ has_serial s (Some p) = same_text p.serial s
 -- the batch that a question names: that of an upload, a recall or a withdrawal
 abbrev pub named_batch : Question → Option Batch
 named_batch (Upload _ b _) = Some b
-named_batch (Recall _ b) = Some b
-named_batch (Withdraw _ b) = Some b
+named_batch (OfBatch _ _ b) = Some b
 named_batch _ = None
 
 -- whether the batch that is named, if any, is b

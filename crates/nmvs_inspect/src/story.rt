@@ -8,7 +8,7 @@ use crate::listing::write_selected;
 use crate::rows::{append_header, append_replied};
 use crate::{AnswerFault, Filter, Form};
 use nmvs_identifier::Pack;
-use nmvs_rules::{Put, Question, Reply};
+use nmvs_rules::{PackQuestion, Put, Question, Reply};
 use nmvs_shard::Shard;
 use nmvs_stream::{Sink, deliver};
 use std::alloc::{AllocError, Allocator, Global};
@@ -60,7 +60,7 @@ fn status_of<A: Allocator>(shard: &Shard<A>, pack: &Pack) -> Reply
     match shard.entry_at(0) {
         None => Reply::NoPack,
         Some(first) => shard.reply_to(&Put {
-            question: Question::Status(*pack),
+            question: Question::OfPack(PackQuestion::Status, *pack),
             ..first.put
         }),
     }

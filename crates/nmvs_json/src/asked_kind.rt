@@ -4,8 +4,8 @@ ghost use Rattle.nmvs_json.specs.Questions as specs;
 
 use crate::refusal::Member;
 use crate::table::named;
-use nmvs_rules::Reason;
-use nmvs_words::{BatchQuestion, PackQuestion, QuestionKind};
+use nmvs_rules::{BatchQuestion, PackQuestion, Reason};
+use nmvs_words::QuestionKind;
 
 /// The kind of a question or report, without its user and its fields.
 #[derive(Clone, Copy)]

@@ -3,8 +3,7 @@ ghost use Rattle.std.specs.Prelude.{◌≡◌};
 ghost use Rattle.nmvs_messages.specs.Asks.{user_of};
 
 use nmvs_identifier::{Name, Pack, ProductCode, Tag};
-use nmvs_rules::{Printed, Question};
-use nmvs_words::PackQuestion;
+use nmvs_rules::{PackQuestion, Printed, Question};
 use thiserror::Error;
 
 /// The meaning of a line.

@@ -17,13 +17,13 @@ use Rattle.nmvs_rules.specs.declared.role.Role.{Role}
 use Rattle.nmvs_rules.specs.declared.role.Role.TheVariants as role
 use Rattle.nmvs_rules.specs.declared.reason.Reason.TheVariants as reason
 use Rattle.nmvs_rules.specs.declared.question.Question.{Question}
-use Rattle.nmvs_rules.specs.declared.question.Question.TheVariants.{Upload, Verify, Status, Decommission, Handover, Revert, Recall, Withdraw, Theft, Audit}
+use Rattle.nmvs_rules.specs.declared.question.Question.TheVariants.{Upload, OfPack, OfBatch}
 use Rattle.nmvs_rules.specs.declared.put.Put.{Put}
 use Rattle.nmvs_rules.specs.declared.entry.Entry.{Entry}
 use Rattle.nmvs_rules.specs.Entries.{is_actor, is_question, is_put, is_reply, is_entry}
 use Rattle.nmvs_rules.specs.Questions.{code_of}
-use Rattle.nmvs_words.specs.declared.pack_question.PackQuestion.TheVariants as asked
-use Rattle.nmvs_words.specs.declared.batch_question.BatchQuestion.TheVariants as locks
+use Rattle.nmvs_rules.specs.declared.pack_question.PackQuestion.TheVariants as asked
+use Rattle.nmvs_rules.specs.declared.batch_question.BatchQuestion.TheVariants as locks
 use Rattle.nmvs_words.specs.declared.question_kind.QuestionKind.{QuestionKind}
 use Rattle.nmvs_words.specs.declared.question_kind.QuestionKind.TheVariants as kind
 use Rattle.nmvs_words.specs.Kinds.{kind_of, kind_word, texts_of}
@@ -205,15 +205,8 @@ record Named (q : Question) : Type 0 where
 
 named : (q : Question) → is_question q ≡ true → Named q
 named (Upload p b x) h = let r = and_parts _ _ (and_parts _ _ h).0 in record { more = p.serial.bytes ∷ b.bytes ∷ x.bytes ∷ []; texts = refl; code = r.0 }
-named (Verify p) h = record { more = p.serial.bytes ∷ []; texts = refl; code = (and_parts _ _ h).0 }
-named (Status p) h = record { more = p.serial.bytes ∷ []; texts = refl; code = (and_parts _ _ h).0 }
-named (Decommission p r) h = record { more = p.serial.bytes ∷ []; texts = refl; code = (and_parts _ _ h).0 }
-named (Handover p) h = record { more = p.serial.bytes ∷ []; texts = refl; code = (and_parts _ _ h).0 }
-named (Revert p) h = record { more = p.serial.bytes ∷ []; texts = refl; code = (and_parts _ _ h).0 }
-named (Recall c b) h = record { more = b.bytes ∷ []; texts = refl; code = (and_parts _ _ h).0 }
-named (Withdraw c b) h = record { more = b.bytes ∷ []; texts = refl; code = (and_parts _ _ h).0 }
-named (Theft p) h = record { more = p.serial.bytes ∷ []; texts = refl; code = (and_parts _ _ h).0 }
-named (Audit p) h = record { more = p.serial.bytes ∷ []; texts = refl; code = (and_parts _ _ h).0 }
+named (OfPack _ p) h = record { more = p.serial.bytes ∷ []; texts = refl; code = (and_parts _ _ h).0 }
+named (OfBatch _ c b) h = record { more = b.bytes ∷ []; texts = refl; code = (and_parts _ _ h).0 }
 
 digit-plain : (b : ℕ) → is_ascii_digit b ≡ true → is_no_mark b ≡ true
 digit-plain b h = grind (arith, nat_tests)

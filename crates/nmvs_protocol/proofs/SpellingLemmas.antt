@@ -13,7 +13,7 @@ use Rattle.nmvs_identifier.specs.declared.pack.Pack.{Pack}
 use Rattle.nmvs_rules.specs.declared.printed.Printed.{Printed}
 use Rattle.nmvs_rules.specs.declared.question.Question.{Question}
 use Rattle.nmvs_rules.specs.declared.question.Question.TheVariants as question
-use Rattle.nmvs_words.specs.declared.pack_question.PackQuestion.{PackQuestion}
+use Rattle.nmvs_rules.specs.declared.pack_question.PackQuestion.{PackQuestion}
 use Rattle.nmvs_words.specs.declared.question_kind.QuestionKind.{QuestionKind}
 use Rattle.nmvs_words.specs.declared.question_kind.QuestionKind.TheVariants.{Upload, OfPack, OfBatch}
 use Rattle.nmvs_words.specs.Kinds.{kind_of, kind_word, kind_named, texts_of}
@@ -126,15 +126,8 @@ question_or_report user user' q c e = not_report (kind_of q) (ap (λ fs. get_or 
 -- a question names at most four texts, and so has no values printed on its pack
 few_texts : (q : Question) → length (texts_of q) ≤ 4
 few_texts (question.Upload p b x) = lit≤ tt
-few_texts (question.Verify p) = lit≤ tt
-few_texts (question.Status p) = lit≤ tt
-few_texts (question.Decommission p r) = lit≤ tt
-few_texts (question.Handover p) = lit≤ tt
-few_texts (question.Revert p) = lit≤ tt
-few_texts (question.Recall c b) = lit≤ tt
-few_texts (question.Withdraw c b) = lit≤ tt
-few_texts (question.Theft p) = lit≤ tt
-few_texts (question.Audit p) = lit≤ tt
+few_texts (question.OfPack _ p) = lit≤ tt
+few_texts (question.OfBatch _ c b) = lit≤ tt
 
 question_or_conditional : (user user' : Name) (q : Question) (kind : PackQuestion) (p : Pack) (printed : Printed)
     → asked_fields (asked.Question user q) ≡ asked_fields (asked.Conditional user' kind p printed) → ⊥

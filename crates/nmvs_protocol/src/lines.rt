@@ -15,8 +15,8 @@ use nmvs_identifier::{Batch, Expiry, Name, Pack, ProductCode, Serial};
 use nmvs_messages::{
     Ask, Asked, Fields, LONGEST_LINE, Line, LineFault, Unread, fill_fields, tag_text,
 };
-use nmvs_rules::{Printed, Question};
-use nmvs_words::{BatchQuestion, PackQuestion, QuestionKind};
+use nmvs_rules::{BatchQuestion, PackQuestion, Printed, Question};
+use nmvs_words::QuestionKind;
 use std::alloc::{AllocError, Allocator};
 
 /// Reads a line, given without its LF.
@@ -197,7 +197,8 @@ fn read_of_pack(
     let user = read_user(user)?;
     let code = read_code(code)?;
     let serial = read_serial(serial)?;
-    Ok(Asked::Question(user, asked.naming(Pack { code, serial })))
+    let pack = Pack { code, serial };
+    Ok(Asked::Question(user, Question::OfPack(asked, pack)))
 }
 
 /// The question about a pack that is put if the batch and the expiry after `IF` are those of its upload.
@@ -243,7 +244,7 @@ fn read_of_batch(
     let user = read_user(user)?;
     let code = read_code(code)?;
     let batch = read_batch(batch)?;
-    Ok(Asked::Question(user, asked.naming(code, batch)))
+    Ok(Asked::Question(user, Question::OfBatch(asked, code, batch)))
 }
 
 fn read_user(text: &str) -> Result<Name, LineFault>
@@ -344,16 +345,12 @@ fn question_text<A: Allocator>(
                 expiry.text()
             )
         }
-        Question::Recall(_, batch) | Question::Withdraw(_, batch) => {
+        Question::OfPack(_, pack) => {
+            format!(in alloc; "{user} {word} {code} {}", pack.serial.text())
+        }
+        Question::OfBatch(_, _, batch) => {
             format!(in alloc; "{user} {word} {code} {}", batch.text())
         }
-        Question::Verify(pack)
-        | Question::Status(pack)
-        | Question::Decommission(pack, _)
-        | Question::Handover(pack)
-        | Question::Revert(pack)
-        | Question::Theft(pack)
-        | Question::Audit(pack) => format!(in alloc; "{user} {word} {code} {}", pack.serial.text()),
     }
 }
 

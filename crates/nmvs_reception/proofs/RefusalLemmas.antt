@@ -16,7 +16,9 @@ use Rattle.nmvs_rules.specs.declared.facts.Known.{Known}
 use Rattle.nmvs_rules.specs.declared.own_status.OwnStatus.TheVariants as own
 use Rattle.nmvs_rules.specs.declared.put.Put.{Put}
 use Rattle.nmvs_rules.specs.declared.question.Question.{Question}
-use Rattle.nmvs_rules.specs.declared.question.Question.TheVariants.{Upload, Verify, Status, Decommission, Handover, Revert, Recall, Withdraw, Theft, Audit}
+use Rattle.nmvs_rules.specs.declared.question.Question.TheVariants.{Upload, OfPack, OfBatch}
+use Rattle.nmvs_rules.specs.declared.pack_question.PackQuestion.TheVariants.{Verify, Status, Decommission, Handover, Revert, Theft, Audit}
+use Rattle.nmvs_rules.specs.declared.batch_question.BatchQuestion.TheVariants.{Recall}
 use Rattle.nmvs_rules.specs.declared.reason.Reason.TheVariants as reason
 use Rattle.nmvs_rules.specs.declared.refusal.Refusal.{Refusal}
 use Rattle.nmvs_rules.specs.declared.refusal.Refusal.TheVariants as refusal
@@ -40,35 +42,35 @@ use Rattle.nmvs_reception.specs.Refusals.{askers, first_reason, is_bound, is_by_
 
 -- the roles of a question are those that the rules admit
 may-is : (r : Role) (q : Question) → may_ask r q ≡ list_any (same_role r) (askers q)
-may-is role.Holder (Decommission p reason.Supply) = refl
-may-is role.Holder (Decommission p reason.Hold) = refl
-may-is role.Holder (Decommission p reason.Export) = refl
-may-is role.Holder (Decommission p reason.Sample) = refl
-may-is role.Holder (Decommission p reason.Destroy) = refl
+may-is role.Holder (OfPack (Decommission reason.Supply) p) = refl
+may-is role.Holder (OfPack (Decommission reason.Hold) p) = refl
+may-is role.Holder (OfPack (Decommission reason.Export) p) = refl
+may-is role.Holder (OfPack (Decommission reason.Sample) p) = refl
+may-is role.Holder (OfPack (Decommission reason.Destroy) p) = refl
 may-is role.Holder q = refl
-may-is role.Manufacturer (Decommission p reason.Supply) = refl
-may-is role.Manufacturer (Decommission p reason.Hold) = refl
-may-is role.Manufacturer (Decommission p reason.Export) = refl
-may-is role.Manufacturer (Decommission p reason.Sample) = refl
-may-is role.Manufacturer (Decommission p reason.Destroy) = refl
+may-is role.Manufacturer (OfPack (Decommission reason.Supply) p) = refl
+may-is role.Manufacturer (OfPack (Decommission reason.Hold) p) = refl
+may-is role.Manufacturer (OfPack (Decommission reason.Export) p) = refl
+may-is role.Manufacturer (OfPack (Decommission reason.Sample) p) = refl
+may-is role.Manufacturer (OfPack (Decommission reason.Destroy) p) = refl
 may-is role.Manufacturer q = refl
-may-is role.Wholesaler (Decommission p reason.Supply) = refl
-may-is role.Wholesaler (Decommission p reason.Hold) = refl
-may-is role.Wholesaler (Decommission p reason.Export) = refl
-may-is role.Wholesaler (Decommission p reason.Sample) = refl
-may-is role.Wholesaler (Decommission p reason.Destroy) = refl
+may-is role.Wholesaler (OfPack (Decommission reason.Supply) p) = refl
+may-is role.Wholesaler (OfPack (Decommission reason.Hold) p) = refl
+may-is role.Wholesaler (OfPack (Decommission reason.Export) p) = refl
+may-is role.Wholesaler (OfPack (Decommission reason.Sample) p) = refl
+may-is role.Wholesaler (OfPack (Decommission reason.Destroy) p) = refl
 may-is role.Wholesaler q = refl
-may-is role.Pharmacy (Decommission p reason.Supply) = refl
-may-is role.Pharmacy (Decommission p reason.Hold) = refl
-may-is role.Pharmacy (Decommission p reason.Export) = refl
-may-is role.Pharmacy (Decommission p reason.Sample) = refl
-may-is role.Pharmacy (Decommission p reason.Destroy) = refl
+may-is role.Pharmacy (OfPack (Decommission reason.Supply) p) = refl
+may-is role.Pharmacy (OfPack (Decommission reason.Hold) p) = refl
+may-is role.Pharmacy (OfPack (Decommission reason.Export) p) = refl
+may-is role.Pharmacy (OfPack (Decommission reason.Sample) p) = refl
+may-is role.Pharmacy (OfPack (Decommission reason.Destroy) p) = refl
 may-is role.Pharmacy q = refl
-may-is role.Authority (Decommission p reason.Supply) = refl
-may-is role.Authority (Decommission p reason.Hold) = refl
-may-is role.Authority (Decommission p reason.Export) = refl
-may-is role.Authority (Decommission p reason.Sample) = refl
-may-is role.Authority (Decommission p reason.Destroy) = refl
+may-is role.Authority (OfPack (Decommission reason.Supply) p) = refl
+may-is role.Authority (OfPack (Decommission reason.Hold) p) = refl
+may-is role.Authority (OfPack (Decommission reason.Export) p) = refl
+may-is role.Authority (OfPack (Decommission reason.Sample) p) = refl
+may-is role.Authority (OfPack (Decommission reason.Destroy) p) = refl
 may-is role.Authority q = refl
 
 -- a reply that is refused for a reason, or goes on
@@ -122,61 +124,60 @@ known-batch t c b = λ i. list_any (λ e. sym (batch_upload-is c b e.put.questio
 
 -- what the last operation on a pack made of it
 held-is : (p : Pack) (q : Question) (r : Reply) → (names p (pack_of q) && accepts q r) ≡ true → is_held (own_given q) ≡ hold_done p q r
-held-is p (Decommission s reason.Hold) reply.Decommissioned h = sym (first_so (same_pack p s) true h)
-held-is p (Decommission s reason.Hold) r h = let none : false ≡ true = second_so (same_pack p s) false h in cc
-held-is p (Decommission s reason.Supply) r h = refl
-held-is p (Decommission s reason.Export) r h = refl
-held-is p (Decommission s reason.Sample) r h = refl
-held-is p (Decommission s reason.Destroy) r h = refl
+held-is p (OfPack (Decommission reason.Hold) s) reply.Decommissioned h = sym (first_so (same_pack p s) true h)
+held-is p (OfPack (Decommission reason.Hold) s) r h = let none : false ≡ true = second_so (same_pack p s) false h in cc
+held-is p (OfPack (Decommission reason.Supply) s) r h = refl
+held-is p (OfPack (Decommission reason.Export) s) r h = refl
+held-is p (OfPack (Decommission reason.Sample) s) r h = refl
+held-is p (OfPack (Decommission reason.Destroy) s) r h = refl
 held-is p q r h = refl
 
 stolen-is : (p : Pack) (q : Question) (r : Reply) → (names p (pack_of q) && accepts q r) ≡ true → is_stolen (own_given q) ≡ theft_done p q r
-stolen-is p (Theft s) reply.MarkedStolen h = sym (first_so (same_pack p s) true h)
-stolen-is p (Theft s) r h = let none : false ≡ true = second_so (same_pack p s) false h in cc
-stolen-is p (Decommission s reason.Hold) r h = refl
-stolen-is p (Decommission s reason.Supply) r h = refl
-stolen-is p (Decommission s reason.Export) r h = refl
-stolen-is p (Decommission s reason.Sample) r h = refl
-stolen-is p (Decommission s reason.Destroy) r h = refl
+stolen-is p (OfPack Theft s) reply.MarkedStolen h = sym (first_so (same_pack p s) true h)
+stolen-is p (OfPack Theft s) r h = let none : false ≡ true = second_so (same_pack p s) false h in cc
+stolen-is p (OfPack (Decommission reason.Hold) s) r h = refl
+stolen-is p (OfPack (Decommission reason.Supply) s) r h = refl
+stolen-is p (OfPack (Decommission reason.Export) s) r h = refl
+stolen-is p (OfPack (Decommission reason.Sample) s) r h = refl
+stolen-is p (OfPack (Decommission reason.Destroy) s) r h = refl
 stolen-is p q r h = refl
 
 destroyed-is : (p : Pack) (q : Question) (r : Reply) → (names p (pack_of q) && accepts q r) ≡ true → is_destroyed (own_given q) ≡ destruction_done p q r
-destroyed-is p (Decommission s reason.Destroy) reply.Decommissioned h = sym (first_so (same_pack p s) true h)
-destroyed-is p (Decommission s reason.Destroy) r h = let none : false ≡ true = second_so (same_pack p s) false h in cc
-destroyed-is p (Decommission s reason.Hold) r h = refl
-destroyed-is p (Decommission s reason.Supply) r h = refl
-destroyed-is p (Decommission s reason.Export) r h = refl
-destroyed-is p (Decommission s reason.Sample) r h = refl
+destroyed-is p (OfPack (Decommission reason.Destroy) s) reply.Decommissioned h = sym (first_so (same_pack p s) true h)
+destroyed-is p (OfPack (Decommission reason.Destroy) s) r h = let none : false ≡ true = second_so (same_pack p s) false h in cc
+destroyed-is p (OfPack (Decommission reason.Hold) s) r h = refl
+destroyed-is p (OfPack (Decommission reason.Supply) s) r h = refl
+destroyed-is p (OfPack (Decommission reason.Export) s) r h = refl
+destroyed-is p (OfPack (Decommission reason.Sample) s) r h = refl
 destroyed-is p q r h = refl
 
 supplied-is : (p : Pack) (q : Question) (r : Reply) → (names p (pack_of q) && accepts q r) ≡ true → is_supplied (own_given q) ≡ supply_done p q r
-supplied-is p (Decommission s reason.Supply) reply.Decommissioned h = sym (first_so (same_pack p s) true h)
-supplied-is p (Decommission s reason.Supply) r h = let none : false ≡ true = second_so (same_pack p s) false h in cc
-supplied-is p (Handover s) reply.HandedOver h = sym (first_so (same_pack p s) true h)
-supplied-is p (Handover s) r h = let none : false ≡ true = second_so (same_pack p s) false h in cc
-supplied-is p (Decommission s reason.Hold) r h = refl
-supplied-is p (Decommission s reason.Destroy) r h = refl
-supplied-is p (Decommission s reason.Export) r h = refl
-supplied-is p (Decommission s reason.Sample) r h = refl
+supplied-is p (OfPack (Decommission reason.Supply) s) reply.Decommissioned h = sym (first_so (same_pack p s) true h)
+supplied-is p (OfPack (Decommission reason.Supply) s) r h = let none : false ≡ true = second_so (same_pack p s) false h in cc
+supplied-is p (OfPack Handover s) reply.HandedOver h = sym (first_so (same_pack p s) true h)
+supplied-is p (OfPack Handover s) r h = let none : false ≡ true = second_so (same_pack p s) false h in cc
+supplied-is p (OfPack (Decommission reason.Hold) s) r h = refl
+supplied-is p (OfPack (Decommission reason.Destroy) s) r h = refl
+supplied-is p (OfPack (Decommission reason.Export) s) r h = refl
+supplied-is p (OfPack (Decommission reason.Sample) s) r h = refl
 supplied-is p q r h = refl
 
 active-is : (p : Pack) (q : Question) (r : Reply) → (names p (pack_of q) && accepts q r) ≡ true → is_active (own_given q) ≡ (upload_done p q r || reversion_done p q r)
 active-is p (Upload s b x) reply.Uploaded h = sym (or-false (same_pack p s) ∙ first_so (same_pack p s) true h)
 active-is p (Upload s b x) r h = let none : false ≡ true = second_so (same_pack p s) false h in cc
-active-is p (Revert s) reply.Reverted h = sym (first_so (same_pack p s) true h)
-active-is p (Revert s) r h = let none : false ≡ true = second_so (same_pack p s) false h in cc
-active-is p (Decommission s reason.Hold) r h = refl
-active-is p (Decommission s reason.Supply) r h = refl
-active-is p (Decommission s reason.Destroy) r h = refl
-active-is p (Decommission s reason.Export) r h = refl
-active-is p (Decommission s reason.Sample) r h = refl
-active-is p (Handover s) r h = refl
-active-is p (Theft s) r h = refl
-active-is p (Recall c b) r h = let none : false ≡ true = h in cc
-active-is p (Withdraw c b) r h = let none : false ≡ true = h in cc
-active-is p (Verify s) r h = let none : false ≡ true = second_so (same_pack p s) false h in cc
-active-is p (Status s) r h = let none : false ≡ true = second_so (same_pack p s) false h in cc
-active-is p (Audit s) r h = let none : false ≡ true = second_so (same_pack p s) false h in cc
+active-is p (OfPack Revert s) reply.Reverted h = sym (first_so (same_pack p s) true h)
+active-is p (OfPack Revert s) r h = let none : false ≡ true = second_so (same_pack p s) false h in cc
+active-is p (OfPack (Decommission reason.Hold) s) r h = refl
+active-is p (OfPack (Decommission reason.Supply) s) r h = refl
+active-is p (OfPack (Decommission reason.Destroy) s) r h = refl
+active-is p (OfPack (Decommission reason.Export) s) r h = refl
+active-is p (OfPack (Decommission reason.Sample) s) r h = refl
+active-is p (OfPack Handover s) r h = refl
+active-is p (OfPack Theft s) r h = refl
+active-is p (OfBatch _ c b) r h = let none : false ≡ true = h in cc
+active-is p (OfPack Verify s) r h = let none : false ≡ true = second_so (same_pack p s) false h in cc
+active-is p (OfPack Status s) r h = let none : false ≡ true = second_so (same_pack p s) false h in cc
+active-is p (OfPack Audit s) r h = let none : false ≡ true = second_so (same_pack p s) false h in cc
 
 -- the facts of a known pack, in the words of the laws
 record Stands (t : List Entry) (p : Pack) (k : Known) : Type 0 where
@@ -237,30 +238,29 @@ none-on (Some k) unknown f u h = h k
 
 -- the refusals of a recall or withdrawal
 locks : (t : List Entry) (n : ℕ) (a : Actor) (c : ProductCode) (b : Batch)
-    → refusal_in (lock_reply a (is_known_batch t c b) (holder_of t c) (lock_of t c b) (count_of t c b own.Active)) ≡ first_reason (reasons_beyond_role t n a (Recall c b))
+    → refusal_in (lock_reply a (is_known_batch t c b) (holder_of t c) (lock_of t c b) (count_of t c b own.Active)) ≡ first_reason (reasons_beyond_role t n a (OfBatch Recall c b))
 locks t n a c b =
     on _ _ refusal.UnknownBatch _ _ (ap not (known-batch t c b)) (on _ _ refusal.NotHolder _ _ (ap not (holder t c a.authorisation)) (on _ _ refusal.Already _ _ (bound t c b) refl))
 
 -- the refusals of a question of a role that may ask it
 beyond : (t : List Entry) (n : ℕ) (a : Actor) (q : Question) → refusal_in (admitted_reply t n a q) ≡ first_reason (reasons_beyond_role t n a q)
 beyond t n a (Upload p b x) = on _ _ refusal.NotHolder _ _ (other t p.code a.authorisation) (on _ _ refusal.Duplicate _ _ (known-uploaded t p) refl)
-beyond t n a (Verify p) = none-on (known t p) _ _ refl (λ k. none-verified (is_authentic k.own (lock_on t p k)) (reply.Authentic k.batch k.expiry (is_past k.expiry n)) (alert_on k (lock_on t p k) (alerts_of t p.code)) refl refl)
-beyond t n a (Status p) = none-on (known t p) _ _ refl (λ k. refl)
-beyond t n a (Decommission p r) = none-on (known t p) _ _ refl (λ k. none-verified (is_authentic k.own (lock_on t p k)) reply.Decommissioned (alert_on k (lock_on t p k) (alerts_of t p.code)) refl refl)
-beyond t n a (Handover p) =
+beyond t n a (OfPack Verify p) = none-on (known t p) _ _ refl (λ k. none-verified (is_authentic k.own (lock_on t p k)) (reply.Authentic k.batch k.expiry (is_past k.expiry n)) (alert_on k (lock_on t p k) (alerts_of t p.code)) refl refl)
+beyond t n a (OfPack Status p) = none-on (known t p) _ _ refl (λ k. refl)
+beyond t n a (OfPack (Decommission r) p) = none-on (known t p) _ _ refl (λ k. none-verified (is_authentic k.own (lock_on t p k)) reply.Decommissioned (alert_on k (lock_on t p k) (alerts_of t p.code)) refl refl)
+beyond t n a (OfPack Handover p) =
     on-pack t p _ _ (λ k is. let s = stands t p k is in
     on _ _ refusal.Locked _ _ s.locked (on _ _ refusal.NotHeld _ _ (ap not s.held) (on _ _ refusal.Other _ _ (ap not (s.house a)) refl)))
-beyond t n a (Revert p) =
+beyond t n a (OfPack Revert p) =
     on-pack t p _ _ (λ k is. let s = stands t p k is in
     on _ _ refusal.Locked _ _ s.locked (on _ _ refusal.StillActive _ _ s.active (on _ _ refusal.IsStolen _ _ s.stolen
     (on _ _ refusal.IsDestroyed _ _ s.destroyed (on _ _ refusal.WasSupplied _ _ s.supplied (on _ _ refusal.Other _ _ (ap not (s.house a))
     (on _ _ refusal.Late _ _ (ap not (s.in_time n)) (on _ _ refusal.Expired _ _ (s.past n) refl))))))))
-beyond t n a (Recall c b) = locks t n a c b
-beyond t n a (Withdraw c b) = locks t n a c b
-beyond t n a (Theft p) =
+beyond t n a (OfBatch _ c b) = locks t n a c b
+beyond t n a (OfPack Theft p) =
     on-pack t p _ _ (λ k is. let s = stands t p k is in
     on _ _ refusal.NotHolder _ _ (ap not (holder t p.code a.authorisation)) (on _ _ refusal.Already _ _ s.stolen refl))
-beyond t n a (Audit p) = refl
+beyond t n a (OfPack Audit p) = refl
 
 -- the role is the first reason
 by-role : (b c : Bool) (r : Reply) (rest : Option Refusal) → b ≡ c → refusal_in r ≡ rest → refusal_in (cond b r (reply.Refused refusal.Role)) ≡ cond (not c) (Some refusal.Role) rest
@@ -286,11 +286,10 @@ other-first ((why, false) ∷ rest) h = other-first rest (second_so (is_other (S
 
 other-beyond : (t : List Entry) (n : ℕ) (a : Actor) (q : Question) → are_other (reasons_beyond_role t n a q) ≡ true
 other-beyond t n a (Upload p b x) = refl
-other-beyond t n a (Handover p) = refl
-other-beyond t n a (Revert p) = refl
-other-beyond t n a (Recall c b) = refl
-other-beyond t n a (Withdraw c b) = refl
-other-beyond t n a (Theft p) = refl
+other-beyond t n a (OfPack Handover p) = refl
+other-beyond t n a (OfPack Revert p) = refl
+other-beyond t n a (OfBatch _ c b) = refl
+other-beyond t n a (OfPack Theft p) = refl
 other-beyond t n a q = refl
 
 -- a question is refused for its role exactly if its role is not among those that may ask it

@@ -16,11 +16,10 @@ use Rattle.nmvs_rules.specs.declared.enrolment.Enrolment.{Enrolment}
 use Rattle.nmvs_rules.specs.declared.entry.Entry.{Entry}
 use Rattle.nmvs_rules.specs.declared.printed.Printed.{Printed}
 use Rattle.nmvs_rules.specs.declared.put.Put.{Put}
-use Rattle.nmvs_rules.specs.declared.question.Question.TheVariants.{Upload}
+use Rattle.nmvs_rules.specs.declared.question.Question.TheVariants.{Upload, OfPack}
 use Rattle.nmvs_rules.specs.declared.role.Role.{Role}
 use Rattle.nmvs_rules.specs.Enrolments.{has_ended, may_upload}
 use Rattle.nmvs_rules.specs.Questions.{code_of, may_report}
-use Rattle.nmvs_words.specs.Kinds.{naming_pack}
 use Rattle.nmvs_shard.specs.declared.shard.NotPut.{NotPut}
 use Rattle.nmvs_shard.specs.declared.shard.NotPut.TheVariants as not_put
 use Rattle.nmvs_shard.specs.declared.shard.Outcome.{Outcome}
@@ -219,7 +218,7 @@ abbrev pub AnswersAdmitted : DeskView → Option Tag → Asked → ℕ → Actor
 AnswersAdmitted old tag (asked.Question user q) moment actor said basis new =
     AnswersQuestion old (record { moment = moment; user = user; actor = actor; question = q; tag = tag }) None said basis new
 AnswersAdmitted old tag (asked.Conditional user kind p printed) moment actor said basis new =
-    AnswersQuestion old (record { moment = moment; user = user; actor = actor; question = naming_pack kind p; tag = tag }) (Some printed) said basis new
+    AnswersQuestion old (record { moment = moment; user = user; actor = actor; question = OfPack kind p; tag = tag }) (Some printed) said basis new
 AnswersAdmitted old tag (asked.Report user c) moment actor said basis new = AnswersReport old tag c said basis new
 
 -- the answers that it may give to a line, and their bases: the line is turned away, or admitted and answered

@@ -12,7 +12,8 @@ use Rattle.nmvs_rules.specs.declared.actor.Actor.{Actor}
 use Rattle.nmvs_rules.specs.declared.entry.Entry.{Entry}
 use Rattle.nmvs_rules.specs.declared.put.Put.{Put}
 use Rattle.nmvs_rules.specs.declared.question.Question.{Question}
-use Rattle.nmvs_rules.specs.declared.question.Question.TheVariants.{Upload, Verify, Status, Decommission, Handover, Revert, Recall, Withdraw, Theft, Audit}
+use Rattle.nmvs_rules.specs.declared.question.Question.TheVariants.{Upload, OfPack, OfBatch}
+use Rattle.nmvs_rules.specs.declared.pack_question.PackQuestion.TheVariants.{Verify, Status, Decommission, Handover, Revert, Theft, Audit}
 use Rattle.nmvs_rules.specs.declared.reason.Reason.TheVariants as reason
 use Rattle.nmvs_rules.specs.declared.refusal.Refusal.{Refusal}
 use Rattle.nmvs_rules.specs.declared.refusal.Refusal.TheVariants as refusal
@@ -31,19 +32,18 @@ handlers = role.Manufacturer ∷ role.Wholesaler ∷ role.Pharmacy ∷ []
 -- the roles that may ask a question (own, after the Articles named)
 abbrev pub askers : Question → List Role
 askers (Upload _ _ _) = role.Holder ∷ []  -- Article 33
-askers (Recall _ _) = role.Holder ∷ []  -- Article 40(a)
-askers (Withdraw _ _) = role.Holder ∷ []  -- Article 40(a)
-askers (Theft _) = role.Holder ∷ []  -- Article 40(b)
-askers (Verify _) = handlers  -- Articles 10, 16, 20 and 25
-askers (Revert _) = handlers  -- Article 13
-askers (Decommission _ reason.Sample) = handlers  -- Articles 22 and 25
-askers (Decommission _ reason.Destroy) = handlers  -- Articles 22 and 25
-askers (Decommission _ reason.Export) = role.Manufacturer ∷ role.Wholesaler ∷ []  -- Articles 19 and 22
-askers (Decommission _ reason.Hold) = role.Wholesaler ∷ role.Pharmacy ∷ []  -- Articles 22, 23 and 25
-askers (Decommission _ reason.Supply) = role.Pharmacy ∷ []  -- Article 25
-askers (Handover _) = role.Pharmacy ∷ []  -- Article 25
-askers (Status _) = role.Holder ∷ role.Authority ∷ handlers  -- Article 36
-askers (Audit _) = role.Authority ∷ []  -- Articles 36(i), 37(f) and 39
+askers (OfBatch _ _ _) = role.Holder ∷ []  -- Article 40(a)
+askers (OfPack Theft _) = role.Holder ∷ []  -- Article 40(b)
+askers (OfPack Verify _) = handlers  -- Articles 10, 16, 20 and 25
+askers (OfPack Revert _) = handlers  -- Article 13
+askers (OfPack (Decommission reason.Sample) _) = handlers  -- Articles 22 and 25
+askers (OfPack (Decommission reason.Destroy) _) = handlers  -- Articles 22 and 25
+askers (OfPack (Decommission reason.Export) _) = role.Manufacturer ∷ role.Wholesaler ∷ []  -- Articles 19 and 22
+askers (OfPack (Decommission reason.Hold) _) = role.Wholesaler ∷ role.Pharmacy ∷ []  -- Articles 22, 23 and 25
+askers (OfPack (Decommission reason.Supply) _) = role.Pharmacy ∷ []  -- Article 25
+askers (OfPack Handover _) = role.Pharmacy ∷ []  -- Article 25
+askers (OfPack Status _) = role.Holder ∷ role.Authority ∷ handlers  -- Article 36
+askers (OfPack Audit _) = role.Authority ∷ []  -- Articles 36(i), 37(f) and 39
 
 -- whether an entry of the trail, if there is one, passes a test
 abbrev pub passes : (Entry → Bool) → Option Entry → Bool
@@ -77,13 +77,13 @@ reasons_beyond_role t moment a (Upload p _ _) =
     let first = find (uploads_code p.code) t in
     (refusal.NotHolder, passes (λ e. not (is_uploader a.authorisation e)) first)
     ∷ (refusal.Duplicate, list_any (uploads p) t) ∷ []
-reasons_beyond_role t moment a (Handover p) =
+reasons_beyond_role t moment a (OfPack Handover p) =
     let last = last_operation t p in
     (refusal.Unknown, not (list_any (uploads p) t))
     ∷ (refusal.Locked, passes (λ e. is_bound t p e.put.question) (find (uploads p) t))
     ∷ (refusal.NotHeld, not (passes (holds p) last))
     ∷ (refusal.Other, not (passes (is_by_house a) last)) ∷ []
-reasons_beyond_role t moment a (Revert p) =
+reasons_beyond_role t moment a (OfPack Revert p) =
     let upload = find (uploads p) t in
     let last = last_operation t p in
     (refusal.Unknown, not (list_any (uploads p) t))
@@ -95,15 +95,11 @@ reasons_beyond_role t moment a (Revert p) =
     ∷ (refusal.Other, not (passes (is_by_house a) last))
     ∷ (refusal.Late, not (passes (is_within_ten_days moment) last))
     ∷ (refusal.Expired, passes (λ e. is_past_date moment e.put.question) upload) ∷ []
-reasons_beyond_role t moment a (Recall c b) =
+reasons_beyond_role t moment a (OfBatch _ c b) =
     (refusal.UnknownBatch, not (list_any (uploads_in c b) t))
     ∷ (refusal.NotHolder, not (passes (is_uploader a.authorisation) (find (uploads_code c) t)))
     ∷ (refusal.Already, list_any (binds c b) t) ∷ []
-reasons_beyond_role t moment a (Withdraw c b) =
-    (refusal.UnknownBatch, not (list_any (uploads_in c b) t))
-    ∷ (refusal.NotHolder, not (passes (is_uploader a.authorisation) (find (uploads_code c) t)))
-    ∷ (refusal.Already, list_any (binds c b) t) ∷ []
-reasons_beyond_role t moment a (Theft p) =
+reasons_beyond_role t moment a (OfPack Theft p) =
     (refusal.Unknown, not (list_any (uploads p) t))
     ∷ (refusal.NotHolder, not (passes (is_uploader a.authorisation) (find (uploads_code p.code) t)))
     ∷ (refusal.Already, passes (steals p) (last_operation t p)) ∷ []

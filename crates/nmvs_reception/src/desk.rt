@@ -187,7 +187,8 @@ impl<'r, 'a, R: Wait + rt::Clock + Log, J: Naming, H: Histories, K: Clock> Clerk
                 self.ask(&put, &None)
             }
             Asked::Conditional(user, kind, pack, printed) => {
-                let put = put_at(moment, user, actor, kind.naming(*pack), ask.tag);
+                let question = Question::OfPack(*kind, *pack);
+                let put = put_at(moment, user, actor, question, ask.tag);
                 self.ask_conditional(&put, printed)
             }
             Asked::Report(_, code) => self.report(code, ask.tag),

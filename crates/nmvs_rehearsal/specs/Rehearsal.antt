@@ -8,13 +8,13 @@ use Rattle.nmvs_rules.specs.declared.entry.Entry.{Entry}
 use Rattle.nmvs_rules.specs.declared.printed.Printed.{Printed}
 use Rattle.nmvs_rules.specs.declared.put.Put.{Put}
 use Rattle.nmvs_rules.specs.declared.question.Question.{Question}
+use Rattle.nmvs_rules.specs.declared.question.Question.TheVariants.{OfPack}
 use Rattle.nmvs_rules.specs.declared.reply.Reply.{Reply}
 use Rattle.nmvs_rules.specs.declared.repeat.Repeat.TheVariants as repeat
 use Rattle.nmvs_rules.specs.Printed.{is_withheld}
 use Rattle.nmvs_rules.specs.Questions.{may_report}
 use Rattle.nmvs_rules.specs.Repeats.{is_changed, repeat_of}
 use Rattle.nmvs_rules.specs.Rules.{reply_of, shown_of, answered}
-use Rattle.nmvs_words.specs.Kinds.{naming_pack}
 use Rattle.nmvs_line.specs.Export.{export_text}
 use Rattle.nmvs_messages.specs.Tags.{tag_text}
 use Rattle.nmvs_reports.specs.Report.{product_line, report_lines}
@@ -134,7 +134,7 @@ Judges old tag (asked.Question user q) said new =
     (moment : ℕ) × (begun : Rehearsal) × TakesMoment old moment begun × JudgesQuestion moment begun user tag q None said new
 Judges old tag (asked.Conditional user kind p printed) said new =
     (moment : ℕ) × (begun : Rehearsal) × TakesMoment old moment begun
-    × JudgesQuestion moment begun user tag (naming_pack kind p) (Some printed) said new
+    × JudgesQuestion moment begun user tag (OfPack kind p) (Some printed) said new
 Judges old tag (asked.Report user c) said new = (moment : ℕ) × TakesMoment old moment new × JudgesReport new.trail user tag c said
 
 -- its answers rest on nothing

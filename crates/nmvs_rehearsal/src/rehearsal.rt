@@ -19,7 +19,7 @@ use nmvs_messages::{
 };
 use nmvs_protocol::serve;
 use nmvs_reports::{Following, ReportList, batches, product_line};
-use nmvs_rules::{Printed, Put, Question, Reply, may, may_report};
+use nmvs_rules::{PackQuestion, Printed, Put, Question, Reply, may, may_report};
 use nmvs_shard::{HashKey, NotPut, Outcome, Shard};
 use nmvs_stream::{Sink, Source};
 use std::alloc::{AllocError, Global};
@@ -151,7 +151,7 @@ impl<'a> RehearsalDesk<'a> {
         ensures { IfOk result (λ list. entries_left (λ s. s) list ≡ shown_of self.now.trail put.now) }
     {
         match &put.question {
-            Question::Audit(pack) if may(put.actor.role, &put.question) => {
+            Question::OfPack(PackQuestion::Audit, pack) if may(put.actor.role, &put.question) => {
                 Ok(Some(GatheredEntries::new(self.shard.entries_of(pack)?)))
             }
             _ => Ok(None),
@@ -233,7 +233,7 @@ impl<'a> Desk for RehearsalDesk<'a> {
                 self.judge(moment, user, ask.tag, question, &None)
             }
             Asked::Conditional(user, kind, pack, printed) => {
-                let question = kind.naming(*pack);
+                let question = Question::OfPack(*kind, *pack);
                 self.judge(moment, user, ask.tag, &question, &Some(*printed))
             }
             Asked::Report(user, code) => self.report(user, code, ask.tag),

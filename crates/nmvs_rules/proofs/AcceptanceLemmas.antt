@@ -21,7 +21,9 @@ use Rattle.nmvs_rules.specs.declared.own_status.OwnStatus.{OwnStatus}
 use Rattle.nmvs_rules.specs.declared.own_status.OwnStatus.TheVariants as own
 use Rattle.nmvs_rules.specs.declared.put.Put.{Put}
 use Rattle.nmvs_rules.specs.declared.question.Question.{Question}
-use Rattle.nmvs_rules.specs.declared.question.Question.TheVariants.{Upload, Decommission, Handover, Recall, Withdraw, Theft}
+use Rattle.nmvs_rules.specs.declared.question.Question.TheVariants.{Upload, OfPack, OfBatch}
+use Rattle.nmvs_rules.specs.declared.pack_question.PackQuestion.TheVariants.{Decommission, Handover, Theft}
+use Rattle.nmvs_rules.specs.declared.batch_question.BatchQuestion.TheVariants.{Recall, Withdraw}
 use Rattle.nmvs_rules.specs.declared.reason.Reason.TheVariants as reason
 use Rattle.nmvs_rules.specs.declared.refusal.Refusal.TheVariants as refusal
 use Rattle.nmvs_rules.specs.declared.reply.Reply.{Reply}
@@ -103,16 +105,16 @@ uploading-exact t q p b x is = (forward, backward)
 
 -- a pack that is held was last decommissioned for that
 held-last : (p : Pack) (q : Question) (r : Reply) → (names p (pack_of q) && accepts q r) ≡ true → is_held (own_given q) ≡ true → hold_done p q r ≡ true
-held-last p (Decommission s reason.Hold) reply.Decommissioned h is = first_so (same_pack p s) true h
-held-last p (Decommission s reason.Hold) r h is = let none : false ≡ true = second_so (same_pack p s) false h in cc
-held-last p (Decommission s reason.Supply) r h is = let none : false ≡ true = is in cc
-held-last p (Decommission s reason.Export) r h is = let none : false ≡ true = is in cc
-held-last p (Decommission s reason.Sample) r h is = let none : false ≡ true = is in cc
-held-last p (Decommission s reason.Destroy) r h is = let none : false ≡ true = is in cc
+held-last p (OfPack (Decommission reason.Hold) s) reply.Decommissioned h is = first_so (same_pack p s) true h
+held-last p (OfPack (Decommission reason.Hold) s) r h is = let none : false ≡ true = second_so (same_pack p s) false h in cc
+held-last p (OfPack (Decommission reason.Supply) s) r h is = let none : false ≡ true = is in cc
+held-last p (OfPack (Decommission reason.Export) s) r h is = let none : false ≡ true = is in cc
+held-last p (OfPack (Decommission reason.Sample) s) r h is = let none : false ≡ true = is in cc
+held-last p (OfPack (Decommission reason.Destroy) s) r h is = let none : false ≡ true = is in cc
 held-last p q r h is = let none : false ≡ true = is in cc
 
 held-by : (p : Pack) (q : Question) (r : Reply) → hold_done p q r ≡ true → is_held (own_given q) ≡ true
-held-by p (Decommission s reason.Hold) r h = refl
+held-by p (OfPack (Decommission reason.Hold) s) r h = refl
 held-by p q r h = let none : false ≡ true = h in cc
 
 suppliable : (t : List Entry) (p : Pack) (q : Put) (k : Known) → KnownBy t p k → IsHeldHere t q.actor p k → IsSuppliable t p q
@@ -135,14 +137,14 @@ handed : (a : Actor) (k : Known) (l : BatchLock) → is_free l ≡ true → is_h
 handed a k l free held house = rw (free, held, house) refl
 
 -- the law of handovers
-pub handover-exact : (t : List Entry) (q : Put) (p : Pack) → q.question ≡ Handover p → (reply_of t q ≡ reply.HandedOver) ↔ ((q.actor.role ≡ role.Pharmacy) × IsSuppliable t p q)
+pub handover-exact : (t : List Entry) (q : Put) (p : Pack) → q.question ≡ OfPack Handover p → (reply_of t q ≡ reply.HandedOver) ↔ ((q.actor.role ≡ role.Pharmacy) × IsSuppliable t p q)
 handover-exact t q p is = (forward, backward)
   where
     forward : reply_of t q ≡ reply.HandedOver → (q.actor.role ≡ role.Pharmacy) × IsSuppliable t p q
     forward h =
-        let given : IsReply t q.moment q.actor (Handover p) reply.HandedOver = sym h ∙ reply-question t q (Handover p) is in
+        let given : IsReply t q.moment q.actor (OfPack Handover p) reply.HandedOver = sym h ∙ reply-question t q (OfPack Handover p) is in
         let pack = handover-tells t q.moment q.actor p given in (
-          a-pharmacy q.actor.role (may-tells t q.moment q.actor (Handover p) _ (λ e. cc) given),
+          a-pharmacy q.actor.role (may-tells t q.moment q.actor (OfPack Handover p) _ (λ e. cc) given),
           suppliable t p q pack.0 (known-by t p pack.0 pack.1) pack.2,
         )
 
@@ -151,7 +153,7 @@ handover-exact t q p is = (forward, backward)
         let upload = birth-of t p h.batch h.expiry h.uploaded in
         let k : Known = record { batch = h.batch; expiry = h.expiry; own = own_given h.last.put.question; mark = mark_after (mark_place t p) h.last } in
         let made : known t p ≡ Some k = known-made t p upload.2.0 upload.0 h.last h.batch h.expiry upload.1 upload.2.1 (sym (last-operation t p) ∙ h.latest) in
-        reply-admitted t q (Handover p) is (ap (may_ask q.actor.role) is ∙ ap is_supplier by)
+        reply-admitted t q (OfPack Handover p) is (ap (may_ask q.actor.role) is ∙ ap is_supplier by)
         ∙ ap (λ o. on_pack o (reply.Refused refusal.Unknown) (λ k. handover_reply q.actor k (lock_on t p k))) made
         ∙ handed q.actor k (lock_on t p k)
         (free-unlocked t p.code h.batch h.unlocked)
@@ -220,8 +222,8 @@ locked a is_known holder l n known held free = rw (known, held, free) refl
 
 -- the reply to a recall or withdrawal
 lock-question : (t : List Entry) (q : Put) (c : ProductCode) (b : Batch) → AsksLock c b q.question → reply_of t q ≡ cond (is_holder q.actor.role) (lock_reply q.actor (is_known_batch t c b) (holder_of t c) (lock_of t c b) (count_of t c b own.Active)) (reply.Refused refusal.Role)
-lock-question t q c b (inl is) = reply-question t q (Recall c b) is
-lock-question t q c b (inr is) = reply-question t q (Withdraw c b) is
+lock-question t q c b (inl is) = reply-question t q (OfBatch Recall c b) is
+lock-question t q c b (inr is) = reply-question t q (OfBatch Withdraw c b) is
 
 -- the law of recalls and withdrawals
 pub locking-exact : (t : List Entry) (q : Put) (c : ProductCode) (b : Batch) (active : ℕ) → AsksLock c b q.question → (reply_of t q ≡ reply.LockedNow active) ↔ ((q.actor.role ≡ role.Holder) × IsLockable t c b q.actor.authorisation × (active ≡ circulating t c b))
@@ -249,26 +251,26 @@ locking-exact t q c b active asks = (forward, backward)
 
 -- a pack that is stolen was last reported so
 stolen-last : (p : Pack) (q : Question) (r : Reply) → (names p (pack_of q) && accepts q r) ≡ true → is_stolen (own_given q) ≡ true → theft_done p q r ≡ true
-stolen-last p (Theft s) reply.MarkedStolen h is = first_so (same_pack p s) true h
-stolen-last p (Theft s) r h is = let none : false ≡ true = second_so (same_pack p s) false h in cc
-stolen-last p (Decommission s reason.Supply) r h is = let none : false ≡ true = is in cc
-stolen-last p (Decommission s reason.Hold) r h is = let none : false ≡ true = is in cc
-stolen-last p (Decommission s reason.Export) r h is = let none : false ≡ true = is in cc
-stolen-last p (Decommission s reason.Sample) r h is = let none : false ≡ true = is in cc
-stolen-last p (Decommission s reason.Destroy) r h is = let none : false ≡ true = is in cc
+stolen-last p (OfPack Theft s) reply.MarkedStolen h is = first_so (same_pack p s) true h
+stolen-last p (OfPack Theft s) r h is = let none : false ≡ true = second_so (same_pack p s) false h in cc
+stolen-last p (OfPack (Decommission reason.Supply) s) r h is = let none : false ≡ true = is in cc
+stolen-last p (OfPack (Decommission reason.Hold) s) r h is = let none : false ≡ true = is in cc
+stolen-last p (OfPack (Decommission reason.Export) s) r h is = let none : false ≡ true = is in cc
+stolen-last p (OfPack (Decommission reason.Sample) s) r h is = let none : false ≡ true = is in cc
+stolen-last p (OfPack (Decommission reason.Destroy) s) r h is = let none : false ≡ true = is in cc
 stolen-last p q r h is = let none : false ≡ true = is in cc
 
 -- the law of theft reports
-pub theft-exact : (t : List Entry) (q : Put) (p : Pack) → q.question ≡ Theft p → (reply_of t q ≡ reply.MarkedStolen) ↔ ((q.actor.role ≡ role.Holder) × IsReportable t p q.actor.authorisation)
+pub theft-exact : (t : List Entry) (q : Put) (p : Pack) → q.question ≡ OfPack Theft p → (reply_of t q ≡ reply.MarkedStolen) ↔ ((q.actor.role ≡ role.Holder) × IsReportable t p q.actor.authorisation)
 theft-exact t q p is = (forward, backward)
   where
     forward : reply_of t q ≡ reply.MarkedStolen → (q.actor.role ≡ role.Holder) × IsReportable t p q.actor.authorisation
     forward h =
-        let given : IsReply t q.moment q.actor (Theft p) reply.MarkedStolen = sym h ∙ reply-question t q (Theft p) is in
+        let given : IsReply t q.moment q.actor (OfPack Theft p) reply.MarkedStolen = sym h ∙ reply-question t q (OfPack Theft p) is in
         let pack = theft-tells t q.moment q.actor p given in
         let by = known-by t p pack.0 pack.1 in
         let P : Option Entry → Type 0 = λ o. IsSomeAnd o (λ m. IsFalse (steals p m)) in (
-          a-holder q.actor.role (may-tells t q.moment q.actor (Theft p) _ (λ e. cc) given),
+          a-holder q.actor.role (may-tells t q.moment q.actor (OfPack Theft p) _ (λ e. cc) given),
           record {
             holder = held t p.code q.actor.authorisation (theft-holder t q.moment q.actor p given);
             uploaded = sym (known-uploaded t p) ∙ ap is_some pack.1;
@@ -288,7 +290,7 @@ theft-exact t q p is = (forward, backward)
     backward : (q.actor.role ≡ role.Holder) × IsReportable t p q.actor.authorisation → reply_of t q ≡ reply.MarkedStolen
     backward (by, h) =
         let pack = is-some (known t p) (known-uploaded t p ∙ h.uploaded) in
-        reply-admitted t q (Theft p) is (ap (may_ask q.actor.role) is ∙ ap is_holder by)
+        reply-admitted t q (OfPack Theft p) is (ap (may_ask q.actor.role) is ∙ ap is_holder by)
         ∙ ap (λ o. on_pack o (reply.Refused refusal.Unknown) (λ k. theft_reply q.actor (holder_of t p.code) k)) pack.1
         ∙ reported q.actor (holder_of t p.code) pack.0 (is-holder t p.code q.actor.authorisation h.holder) (not_stolen pack.0 (known-by t p pack.0 pack.1) h.not_stolen)
       where

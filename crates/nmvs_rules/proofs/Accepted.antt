@@ -10,7 +10,8 @@ use Rattle.nmvs_identifier.specs.Texts.{same_text}
 use Rattle.nmvs_identifier.specs.declared.pack.Pack.{Pack}
 use Rattle.nmvs_rules.specs.declared.entry.Entry.{Entry}
 use Rattle.nmvs_rules.specs.declared.question.Question.{Question}
-use Rattle.nmvs_rules.specs.declared.question.Question.TheVariants.{Upload, Verify, Decommission, Handover, Revert, Recall, Withdraw, Theft}
+use Rattle.nmvs_rules.specs.declared.question.Question.TheVariants.{Upload, OfPack, OfBatch}
+use Rattle.nmvs_rules.specs.declared.pack_question.PackQuestion.TheVariants.{Verify, Decommission, Handover, Revert, Theft}
 use Rattle.nmvs_rules.specs.declared.reason.Reason.TheVariants as reason
 use Rattle.nmvs_rules.specs.declared.reply.Reply.{Reply}
 use Rattle.nmvs_rules.specs.declared.reply.Reply.TheVariants as reply
@@ -22,25 +23,25 @@ use Rattle.nmvs_rules.specs.Operations.{upload_done, code_upload_done, decommiss
 
 -- whether a question decommissions a pack, supplies it to the public, reverts it, or reports it as stolen
 abbrev pub is_decommissioning : Question → Bool
-is_decommissioning (Decommission _ _) = true
+is_decommissioning (OfPack (Decommission _) _) = true
 is_decommissioning _ = false
 
 abbrev pub is_supply : Question → Bool
-is_supply (Decommission _ reason.Supply) = true
-is_supply (Handover _) = true
+is_supply (OfPack (Decommission reason.Supply) _) = true
+is_supply (OfPack Handover _) = true
 is_supply _ = false
 
 abbrev pub is_reversion : Question → Bool
-is_reversion (Revert _) = true
+is_reversion (OfPack Revert _) = true
 is_reversion _ = false
 
 abbrev pub is_theft : Question → Bool
-is_theft (Theft _) = true
+is_theft (OfPack Theft _) = true
 is_theft _ = false
 
 -- whether a verification was answered Authentic
 abbrev pub is_confirmed : Question → Reply → Bool
-is_confirmed (Verify _) (reply.Authentic _ _ _) = true
+is_confirmed (OfPack Verify _) (reply.Authentic _ _ _) = true
 is_confirmed _ _ = false
 
 -- whether the entry is accepted, about the pack, and of this kind
@@ -82,50 +83,48 @@ code_upload-is c (Upload s b x) r = sym (and-false (same_text c s.code))
 code_upload-is c q r = refl
 
 decommissioning-is : (p : Pack) (q : Question) (r : Reply) → decommissioning_done p q r ≡ ((names p (pack_of q) && accepts q r) && is_decommissioning q)
-decommissioning-is p (Decommission s w) reply.Decommissioned = sym (twice-true (same_pack p s))
-decommissioning-is p (Decommission s w) r = sym (false-true (same_pack p s))
+decommissioning-is p (OfPack (Decommission w) s) reply.Decommissioned = sym (twice-true (same_pack p s))
+decommissioning-is p (OfPack (Decommission w) s) r = sym (false-true (same_pack p s))
 decommissioning-is p q r = sym (and-false (names p (pack_of q) && accepts q r))
 
 handover-is : (p : Pack) (q : Question) (r : Reply) → handover_done p q r ≡ ((names p (pack_of q) && accepts q r) && is_handover q)
-handover-is p (Handover s) reply.HandedOver = sym (twice-true (same_pack p s))
-handover-is p (Handover s) r = sym (false-true (same_pack p s))
+handover-is p (OfPack Handover s) reply.HandedOver = sym (twice-true (same_pack p s))
+handover-is p (OfPack Handover s) r = sym (false-true (same_pack p s))
 handover-is p q r = sym (and-false (names p (pack_of q) && accepts q r))
 
 supply-is : (p : Pack) (q : Question) (r : Reply) → supply_done p q r ≡ ((names p (pack_of q) && accepts q r) && is_supply q)
-supply-is p (Decommission s reason.Supply) reply.Decommissioned = sym (twice-true (same_pack p s))
-supply-is p (Decommission s reason.Supply) r = sym (false-true (same_pack p s))
-supply-is p (Handover s) reply.HandedOver = sym (twice-true (same_pack p s))
-supply-is p (Handover s) r = sym (false-true (same_pack p s))
+supply-is p (OfPack (Decommission reason.Supply) s) reply.Decommissioned = sym (twice-true (same_pack p s))
+supply-is p (OfPack (Decommission reason.Supply) s) r = sym (false-true (same_pack p s))
+supply-is p (OfPack Handover s) reply.HandedOver = sym (twice-true (same_pack p s))
+supply-is p (OfPack Handover s) r = sym (false-true (same_pack p s))
 supply-is p q r = sym (and-false (names p (pack_of q) && accepts q r))
 
 reversion-is : (p : Pack) (q : Question) (r : Reply) → reversion_done p q r ≡ ((names p (pack_of q) && accepts q r) && is_reversion q)
-reversion-is p (Revert s) reply.Reverted = sym (twice-true (same_pack p s))
-reversion-is p (Revert s) r = sym (false-true (same_pack p s))
+reversion-is p (OfPack Revert s) reply.Reverted = sym (twice-true (same_pack p s))
+reversion-is p (OfPack Revert s) r = sym (false-true (same_pack p s))
 reversion-is p q r = sym (and-false (names p (pack_of q) && accepts q r))
 
 confirmation-is : (p : Pack) (q : Question) (r : Reply) → confirmation_done p q r ≡ (names p (pack_of q) && is_confirmed q r)
-confirmation-is p (Verify s) (reply.Authentic b x late) = sym (and-true (same_pack p s))
-confirmation-is p (Verify s) r = sym (and-false (same_pack p s))
+confirmation-is p (OfPack Verify s) (reply.Authentic b x late) = sym (and-true (same_pack p s))
+confirmation-is p (OfPack Verify s) r = sym (and-false (same_pack p s))
 confirmation-is p q r = sym (and-false (names p (pack_of q)))
 
 lock-is : (c : ProductCode) (b : Batch) (q : Question) (r : Reply) → lock_done c b q r ≡ (locks_batch c b q && accepts q r)
-lock-is c b (Recall d l) (reply.LockedNow n) = sym (and-true (same_text c d && same_text b l))
-lock-is c b (Withdraw d l) (reply.LockedNow n) = sym (and-true (same_text c d && same_text b l))
-lock-is c b (Recall d l) r = sym (and-false (same_text c d && same_text b l))
-lock-is c b (Withdraw d l) r = sym (and-false (same_text c d && same_text b l))
+lock-is c b (OfBatch _ d l) (reply.LockedNow n) = sym (and-true (same_text c d && same_text b l))
+lock-is c b (OfBatch _ d l) r = sym (and-false (same_text c d && same_text b l))
 lock-is c b q r = refl
 
 operation-is : (p : Pack) (q : Question) (r : Reply) → ((upload_done p q r || decommissioning_done p q r) || (handover_done p q r || (reversion_done p q r || theft_done p q r))) ≡ (names p (pack_of q) && accepts q r)
 operation-is p (Upload s b x) reply.Uploaded = or-false (same_pack p s || false) ∙ or-false (same_pack p s) ∙ sym (and-true (same_pack p s))
-operation-is p (Decommission s w) reply.Decommissioned = or-false (same_pack p s) ∙ sym (and-true (same_pack p s))
-operation-is p (Handover s) reply.HandedOver = or-false (same_pack p s) ∙ sym (and-true (same_pack p s))
-operation-is p (Revert s) reply.Reverted = or-false (same_pack p s) ∙ sym (and-true (same_pack p s))
-operation-is p (Theft s) reply.MarkedStolen = sym (and-true (same_pack p s))
+operation-is p (OfPack (Decommission w) s) reply.Decommissioned = or-false (same_pack p s) ∙ sym (and-true (same_pack p s))
+operation-is p (OfPack Handover s) reply.HandedOver = or-false (same_pack p s) ∙ sym (and-true (same_pack p s))
+operation-is p (OfPack Revert s) reply.Reverted = or-false (same_pack p s) ∙ sym (and-true (same_pack p s))
+operation-is p (OfPack Theft s) reply.MarkedStolen = sym (and-true (same_pack p s))
 operation-is p (Upload s b x) r = sym (and-false (same_pack p s))
-operation-is p (Decommission s w) r = sym (and-false (same_pack p s))
-operation-is p (Handover s) r = sym (and-false (same_pack p s))
-operation-is p (Revert s) r = sym (and-false (same_pack p s))
-operation-is p (Theft s) r = sym (and-false (same_pack p s))
+operation-is p (OfPack (Decommission w) s) r = sym (and-false (same_pack p s))
+operation-is p (OfPack Handover s) r = sym (and-false (same_pack p s))
+operation-is p (OfPack Revert s) r = sym (and-false (same_pack p s))
+operation-is p (OfPack Theft s) r = sym (and-false (same_pack p s))
 operation-is p q r = sym (and-false (names p (pack_of q)))
 
 -- an upload of the pack in the words of the laws is an accepted upload of it
@@ -175,57 +174,56 @@ first-upload_of_code t c = λ i. find (λ e. code_upload-is c e.put.question e.r
 -- the own status that an operation leaves
 pub left : (p : Pack) (q : Question) (r : Reply) → (names p (pack_of q) && accepts q r) ≡ true → own_left q ≡ Some (own_given q)
 left p (Upload s b x) r h = refl
-left p (Decommission s reason.Supply) r h = refl
-left p (Decommission s reason.Hold) r h = refl
-left p (Decommission s reason.Export) r h = refl
-left p (Decommission s reason.Sample) r h = refl
-left p (Decommission s reason.Destroy) r h = refl
-left p (Handover s) r h = refl
-left p (Revert s) r h = refl
-left p (Theft s) r h = refl
-left p (Recall c b) r h = let none : false ≡ true = h in cc
-left p (Withdraw c b) r h = let none : false ≡ true = h in cc
+left p (OfPack (Decommission reason.Supply) s) r h = refl
+left p (OfPack (Decommission reason.Hold) s) r h = refl
+left p (OfPack (Decommission reason.Export) s) r h = refl
+left p (OfPack (Decommission reason.Sample) s) r h = refl
+left p (OfPack (Decommission reason.Destroy) s) r h = refl
+left p (OfPack Handover s) r h = refl
+left p (OfPack Revert s) r h = refl
+left p (OfPack Theft s) r h = refl
+left p (OfBatch _ c b) r h = let none : false ≡ true = h in cc
 left p q r h = let none : false ≡ true = second_so (names p (pack_of q)) (accepts q r) h in cc
 
 -- a decommissioning for destruction gives the own status Destroyed
 pub destroyed-by : (p : Pack) (q : Question) (r : Reply) → destruction_done p q r ≡ true → is_destroyed (own_given q) ≡ true
-destroyed-by p (Decommission s reason.Destroy) reply.Decommissioned h = refl
+destroyed-by p (OfPack (Decommission reason.Destroy) s) reply.Decommissioned h = refl
 destroyed-by p q r h = let none : false ≡ true = h in cc
 
 -- a supply gives the own status Supplied
 pub supplied-by : (p : Pack) (q : Question) (r : Reply) → supply_done p q r ≡ true → is_supplied (own_given q) ≡ true
-supplied-by p (Decommission s reason.Supply) reply.Decommissioned h = refl
-supplied-by p (Handover s) reply.HandedOver h = refl
+supplied-by p (OfPack (Decommission reason.Supply) s) reply.Decommissioned h = refl
+supplied-by p (OfPack Handover s) reply.HandedOver h = refl
 supplied-by p q r h = let none : false ≡ true = h in cc
 
 -- a theft report gives the own status Stolen
 pub stolen-by : (p : Pack) (q : Question) (r : Reply) → theft_done p q r ≡ true → is_stolen (own_given q) ≡ true
-stolen-by p (Theft s) reply.MarkedStolen h = refl
+stolen-by p (OfPack Theft s) reply.MarkedStolen h = refl
 stolen-by p q r h = let none : false ≡ true = h in cc
 
 -- a decommissioning that is not for destruction does not give Destroyed
 pub not-destroyed_by : (p : Pack) (q : Question) (r : Reply) → decommissioning_done p q r ≡ true → destruction_done p q r ≡ false → is_destroyed (own_given q) ≡ false
-not-destroyed_by p (Decommission s reason.Supply) reply.Decommissioned h n = refl
-not-destroyed_by p (Decommission s reason.Hold) reply.Decommissioned h n = refl
-not-destroyed_by p (Decommission s reason.Export) reply.Decommissioned h n = refl
-not-destroyed_by p (Decommission s reason.Sample) reply.Decommissioned h n = refl
-not-destroyed_by p (Decommission s reason.Destroy) reply.Decommissioned h n = sym h ∙ n
+not-destroyed_by p (OfPack (Decommission reason.Supply) s) reply.Decommissioned h n = refl
+not-destroyed_by p (OfPack (Decommission reason.Hold) s) reply.Decommissioned h n = refl
+not-destroyed_by p (OfPack (Decommission reason.Export) s) reply.Decommissioned h n = refl
+not-destroyed_by p (OfPack (Decommission reason.Sample) s) reply.Decommissioned h n = refl
+not-destroyed_by p (OfPack (Decommission reason.Destroy) s) reply.Decommissioned h n = sym h ∙ n
 not-destroyed_by p q r h n = let none : false ≡ true = h in cc
 
 -- a decommissioning that is no supply does not give Supplied
 pub not-supplied_by : (p : Pack) (q : Question) (r : Reply) → decommissioning_done p q r ≡ true → supply_done p q r ≡ false → is_supplied (own_given q) ≡ false
-not-supplied_by p (Decommission s reason.Supply) reply.Decommissioned h n = sym h ∙ n
-not-supplied_by p (Decommission s reason.Hold) reply.Decommissioned h n = refl
-not-supplied_by p (Decommission s reason.Export) reply.Decommissioned h n = refl
-not-supplied_by p (Decommission s reason.Sample) reply.Decommissioned h n = refl
-not-supplied_by p (Decommission s reason.Destroy) reply.Decommissioned h n = refl
+not-supplied_by p (OfPack (Decommission reason.Supply) s) reply.Decommissioned h n = sym h ∙ n
+not-supplied_by p (OfPack (Decommission reason.Hold) s) reply.Decommissioned h n = refl
+not-supplied_by p (OfPack (Decommission reason.Export) s) reply.Decommissioned h n = refl
+not-supplied_by p (OfPack (Decommission reason.Sample) s) reply.Decommissioned h n = refl
+not-supplied_by p (OfPack (Decommission reason.Destroy) s) reply.Decommissioned h n = refl
 not-supplied_by p q r h n = let none : false ≡ true = h in cc
 
 -- no decommissioning gives Stolen
 pub not-stolen_by : (p : Pack) (q : Question) (r : Reply) → decommissioning_done p q r ≡ true → is_stolen (own_given q) ≡ false
-not-stolen_by p (Decommission s reason.Supply) reply.Decommissioned h = refl
-not-stolen_by p (Decommission s reason.Hold) reply.Decommissioned h = refl
-not-stolen_by p (Decommission s reason.Export) reply.Decommissioned h = refl
-not-stolen_by p (Decommission s reason.Sample) reply.Decommissioned h = refl
-not-stolen_by p (Decommission s reason.Destroy) reply.Decommissioned h = refl
+not-stolen_by p (OfPack (Decommission reason.Supply) s) reply.Decommissioned h = refl
+not-stolen_by p (OfPack (Decommission reason.Hold) s) reply.Decommissioned h = refl
+not-stolen_by p (OfPack (Decommission reason.Export) s) reply.Decommissioned h = refl
+not-stolen_by p (OfPack (Decommission reason.Sample) s) reply.Decommissioned h = refl
+not-stolen_by p (OfPack (Decommission reason.Destroy) s) reply.Decommissioned h = refl
 not-stolen_by p q r h = let none : false ≡ true = h in cc

@@ -6,7 +6,8 @@ use Rattle.nmvs_identifier.specs.ProductCode.{ProductCode}
 use Rattle.nmvs_rules.specs.declared.refusal.Refusal.TheVariants as refusal
 use Rattle.nmvs_rules.specs.declared.actor.Actor.{Actor}
 use Rattle.nmvs_rules.specs.declared.question.Question.{Question}
-use Rattle.nmvs_rules.specs.declared.question.Question.TheVariants.{Upload, Verify, Status, Decommission, Handover, Revert, Recall, Withdraw, Theft, Audit}
+use Rattle.nmvs_rules.specs.declared.question.Question.TheVariants.{Upload, OfPack, OfBatch}
+use Rattle.nmvs_rules.specs.declared.pack_question.PackQuestion.TheVariants.{Verify, Status, Decommission, Handover, Revert, Theft, Audit}
 use Rattle.nmvs_rules.specs.declared.entry.Entry.{Entry}
 use Rattle.nmvs_rules.specs.declared.facts.Known.{Known}
 use Rattle.nmvs_rules.specs.declared.reply.Reply.{Reply}
@@ -31,15 +32,14 @@ on_pack-numbered n (Some k) x f unknown known = known k
 
 admitted_reply-numbered : (t : List Entry) (n : ℕ) (a : Actor) (q : Question) → IsNumbered (alerts_of t (code_of q) + 1) (admitted_reply t n a q)
 admitted_reply-numbered t n a (Upload p b x) = λ m is. grind arith
-admitted_reply-numbered t n a (Verify p) = on_pack-numbered _ (known t p) _ _ (λ m is. grind arith) (λ k m is. grind arith)
-admitted_reply-numbered t n a (Status p) = on_pack-numbered _ (known t p) _ _ (λ m is. grind arith) (λ k m is. grind arith)
-admitted_reply-numbered t n a (Decommission p w) = on_pack-numbered _ (known t p) _ _ (λ m is. grind arith) (λ k m is. grind arith)
-admitted_reply-numbered t n a (Handover p) = on_pack-numbered _ (known t p) _ _ (λ m is. grind arith) (λ k m is. grind arith)
-admitted_reply-numbered t n a (Revert p) = on_pack-numbered _ (known t p) _ _ (λ m is. grind arith) (λ k m is. grind arith)
-admitted_reply-numbered t n a (Recall c b) = λ m is. grind arith
-admitted_reply-numbered t n a (Withdraw c b) = λ m is. grind arith
-admitted_reply-numbered t n a (Theft p) = on_pack-numbered _ (known t p) _ _ (λ m is. grind arith) (λ k m is. grind arith)
-admitted_reply-numbered t n a (Audit p) = λ m is. grind arith
+admitted_reply-numbered t n a (OfPack Verify p) = on_pack-numbered _ (known t p) _ _ (λ m is. grind arith) (λ k m is. grind arith)
+admitted_reply-numbered t n a (OfPack Status p) = on_pack-numbered _ (known t p) _ _ (λ m is. grind arith) (λ k m is. grind arith)
+admitted_reply-numbered t n a (OfPack (Decommission w) p) = on_pack-numbered _ (known t p) _ _ (λ m is. grind arith) (λ k m is. grind arith)
+admitted_reply-numbered t n a (OfPack Handover p) = on_pack-numbered _ (known t p) _ _ (λ m is. grind arith) (λ k m is. grind arith)
+admitted_reply-numbered t n a (OfPack Revert p) = on_pack-numbered _ (known t p) _ _ (λ m is. grind arith) (λ k m is. grind arith)
+admitted_reply-numbered t n a (OfBatch _ c b) = λ m is. grind arith
+admitted_reply-numbered t n a (OfPack Theft p) = on_pack-numbered _ (known t p) _ _ (λ m is. grind arith) (λ k m is. grind arith)
+admitted_reply-numbered t n a (OfPack Audit p) = λ m is. grind arith
 
 -- an alert has the number after the alerts on its product code so far
 alert-numbered : (t : List Entry) (q : Put) → IsNumbered (alerts_of t (code_of q.question) + 1) (reply_of t q)

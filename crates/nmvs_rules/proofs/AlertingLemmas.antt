@@ -16,7 +16,9 @@ use Rattle.nmvs_rules.specs.declared.entry.Entry.{Entry}
 use Rattle.nmvs_rules.specs.declared.facts.Known.{Known}
 use Rattle.nmvs_rules.specs.declared.own_status.OwnStatus.{OwnStatus}
 use Rattle.nmvs_rules.specs.declared.question.Question.{Question}
-use Rattle.nmvs_rules.specs.declared.question.Question.TheVariants.{Verify, Decommission, Handover, Recall, Withdraw, Theft}
+use Rattle.nmvs_rules.specs.declared.question.Question.TheVariants.{OfPack, OfBatch}
+use Rattle.nmvs_rules.specs.declared.pack_question.PackQuestion.TheVariants.{Verify, Decommission, Handover, Theft}
+use Rattle.nmvs_rules.specs.declared.batch_question.BatchQuestion.TheVariants.{Recall, Withdraw}
 use Rattle.nmvs_rules.specs.declared.reason.Reason.{Reason}
 use Rattle.nmvs_rules.specs.declared.reason.Reason.TheVariants as reason
 use Rattle.nmvs_rules.specs.declared.reply.Reply.{Reply}
@@ -41,21 +43,21 @@ unknown t p h = ap (known_from t p) (is-none (born t p) (ap is_some (sym (first-
 -- the alert on a pack that was never uploaded says so
 pub unknown-alerts : (t : List Entry) (q : Put) (p : Pack) → AsksAuthenticity p q.question → may_ask q.actor.role q.question ≡ true → list_any (uploads p) t ≡ false → reply_of t q ≡ reply.Alert cause.Unknown true (alerts_of t p.code + 1)
 unknown-alerts t q p (inl is) may h =
-    reply-admitted t q (Verify p) is may
+    reply-admitted t q (OfPack Verify p) is may
     ∙ ap (λ o. on_pack o (alert_unknown (alerts_of t p.code)) (λ k. verify_reply q.moment k (lock_on t p k) (alerts_of t p.code))) (unknown t p h)
 unknown-alerts t q p (inr is) may h =
-    reply-admitted t q (Decommission p is.0) is.1 may
+    reply-admitted t q (OfPack (Decommission is.0) p) is.1 may
     ∙ ap (λ o. on_pack o (alert_unknown (alerts_of t p.code)) (λ k. decommission_reply k (lock_on t p k) (alerts_of t p.code))) (unknown t p h)
 
 -- a known pack that is not authentic has an alert by its own status and its batch's lock
 known-alerts : (t : List Entry) (q : Put) (p : Pack) (k : Known) (l : BatchLock) → AsksAuthenticity p q.question → may_ask q.actor.role q.question ≡ true → known t p ≡ Some k → lock_on t p k ≡ l → is_authentic k.own l ≡ false → reply_of t q ≡ alert_on k l (alerts_of t p.code)
 known-alerts t q p k l (inl is) may known_as locked h =
-    reply-admitted t q (Verify p) is may
+    reply-admitted t q (OfPack Verify p) is may
     ∙ ap (λ o. on_pack o (alert_unknown (alerts_of t p.code)) (λ k. verify_reply q.moment k (lock_on t p k) (alerts_of t p.code))) known_as
     ∙ ap (λ m. verify_reply q.moment k m (alerts_of t p.code)) locked
     ∙ ap (λ b. cond b (reply.Authentic k.batch k.expiry (is_past k.expiry q.moment)) (alert_on k l (alerts_of t p.code))) h
 known-alerts t q p k l (inr is) may known_as locked h =
-    reply-admitted t q (Decommission p is.0) is.1 may
+    reply-admitted t q (OfPack (Decommission is.0) p) is.1 may
     ∙ ap (λ o. on_pack o (alert_unknown (alerts_of t p.code)) (λ k. decommission_reply k (lock_on t p k) (alerts_of t p.code))) known_as
     ∙ ap (λ m. decommission_reply k m (alerts_of t p.code)) locked
     ∙ ap (λ b. cond b reply.Decommissioned (alert_on k l (alerts_of t p.code))) h
@@ -67,8 +69,8 @@ uploaded-known t p b x m uploaded last =
     known-made t p upload.2.0 upload.0 m b x upload.1 upload.2.1 (sym (last-operation t p) ∙ last)
 
 tells-lock : (c : ProductCode) (b : Batch) (q : Question) (o : OwnStatus) (w : Cause × Bool) → locks_batch c b q ≡ true → alarm q ≡ Some w → (cause_of o (lock_by q) ≡ w.0) × (is_flagged o (lock_by q) ≡ w.1)
-tells-lock c b (Recall d l) o w locks is = let same : (cause.Recalled, false) ≡ w = cc in (ap (λ z. z.0) same, ap (λ z. z.1) same)
-tells-lock c b (Withdraw d l) o w locks is = let same : (cause.Withdrawn, false) ≡ w = cc in (ap (λ z. z.0) same, ap (λ z. z.1) same)
+tells-lock c b (OfBatch Recall d l) o w locks is = let same : (cause.Recalled, false) ≡ w = cc in (ap (λ z. z.0) same, ap (λ z. z.1) same)
+tells-lock c b (OfBatch Withdraw d l) o w locks is = let same : (cause.Withdrawn, false) ≡ w = cc in (ap (λ z. z.0) same, ap (λ z. z.1) same)
 tells-lock c b q o w locks is = let none : false ≡ true = locks in (cc, cc)
 
 -- a pack of a recalled or withdrawn batch has the alert of the first recall or withdrawal
@@ -87,15 +89,14 @@ locked-alerts t q p b x l w asks may uploaded locked is =
     ∙ (λ i. reply.Alert (tells.0 i) (tells.1 i) (alerts_of t p.code + 1))
 
 tells-own : (p : Pack) (q : Question) (r : Reply) (w : Cause × Bool) → (names p (pack_of q) && accepts q r) ≡ true → alarm q ≡ Some w → (cause_of (own_given q) lock.Free ≡ w.0) × (is_flagged (own_given q) lock.Free ≡ w.1) × (is_active (own_given q) ≡ false)
-tells-own p (Decommission s reason.Supply) r w h is = let same : (cause.Supplied, true) ≡ w = cc in (ap (λ z. z.0) same, ap (λ z. z.1) same, refl)
-tells-own p (Decommission s reason.Hold) r w h is = let same : (cause.Held, true) ≡ w = cc in (ap (λ z. z.0) same, ap (λ z. z.1) same, refl)
-tells-own p (Decommission s reason.Export) r w h is = let same : (cause.Exported, true) ≡ w = cc in (ap (λ z. z.0) same, ap (λ z. z.1) same, refl)
-tells-own p (Decommission s reason.Sample) r w h is = let same : (cause.Sampled, true) ≡ w = cc in (ap (λ z. z.0) same, ap (λ z. z.1) same, refl)
-tells-own p (Decommission s reason.Destroy) r w h is = let same : (cause.Destroyed, false) ≡ w = cc in (ap (λ z. z.0) same, ap (λ z. z.1) same, refl)
-tells-own p (Handover s) r w h is = let same : (cause.Supplied, true) ≡ w = cc in (ap (λ z. z.0) same, ap (λ z. z.1) same, refl)
-tells-own p (Theft s) r w h is = let same : (cause.Stolen, true) ≡ w = cc in (ap (λ z. z.0) same, ap (λ z. z.1) same, refl)
-tells-own p (Recall c b) r w h is = let none : false ≡ true = h in (cc, cc, cc)
-tells-own p (Withdraw c b) r w h is = let none : false ≡ true = h in (cc, cc, cc)
+tells-own p (OfPack (Decommission reason.Supply) s) r w h is = let same : (cause.Supplied, true) ≡ w = cc in (ap (λ z. z.0) same, ap (λ z. z.1) same, refl)
+tells-own p (OfPack (Decommission reason.Hold) s) r w h is = let same : (cause.Held, true) ≡ w = cc in (ap (λ z. z.0) same, ap (λ z. z.1) same, refl)
+tells-own p (OfPack (Decommission reason.Export) s) r w h is = let same : (cause.Exported, true) ≡ w = cc in (ap (λ z. z.0) same, ap (λ z. z.1) same, refl)
+tells-own p (OfPack (Decommission reason.Sample) s) r w h is = let same : (cause.Sampled, true) ≡ w = cc in (ap (λ z. z.0) same, ap (λ z. z.1) same, refl)
+tells-own p (OfPack (Decommission reason.Destroy) s) r w h is = let same : (cause.Destroyed, false) ≡ w = cc in (ap (λ z. z.0) same, ap (λ z. z.1) same, refl)
+tells-own p (OfPack Handover s) r w h is = let same : (cause.Supplied, true) ≡ w = cc in (ap (λ z. z.0) same, ap (λ z. z.1) same, refl)
+tells-own p (OfPack Theft s) r w h is = let same : (cause.Stolen, true) ≡ w = cc in (ap (λ z. z.0) same, ap (λ z. z.1) same, refl)
+tells-own p (OfBatch _ c b) r w h is = let none : false ≡ true = h in (cc, cc, cc)
 tells-own p q r w h is = (cc, cc, cc)
 
 -- a pack of a free batch has the alert of the last operation on it
@@ -109,14 +110,14 @@ own-alerts t q p b x m w asks may uploaded unlocked last is =
     ∙ (λ i. reply.Alert (tells.0 i) (tells.1 i) (alerts_of t p.code + 1))
 
 -- a verification that is not answered Authentic, and a decommissioning that is not carried out, give the next alert
-pub verification-alerts : (t : List Entry) (q : Put) (p : Pack) → q.question ≡ Verify p → may_ask q.actor.role q.question ≡ true → ((b : Batch) (x : Expiry) (late : Bool) → reply_of t q ≢ reply.Authentic b x late) → alert_number (reply_of t q) ≡ Some (alerts_of t p.code + 1)
+pub verification-alerts : (t : List Entry) (q : Put) (p : Pack) → q.question ≡ OfPack Verify p → may_ask q.actor.role q.question ≡ true → ((b : Batch) (x : Expiry) (late : Bool) → reply_of t q ≢ reply.Authentic b x late) → alert_number (reply_of t q) ≡ Some (alerts_of t p.code + 1)
 verification-alerts t q p is may other = ap alert_number whole ∙ by (known t p) (λ k f. other k.batch k.expiry (is_past k.expiry q.moment) (whole ∙ f))
   where
     reply_by : Option Known → Reply
     reply_by o = on_pack o (alert_unknown (alerts_of t p.code)) (λ k. verify_reply q.moment k (lock_on t p k) (alerts_of t p.code))
 
     whole : reply_of t q ≡ reply_by (known t p)
-    whole = reply-admitted t q (Verify p) is may
+    whole = reply-admitted t q (OfPack Verify p) is may
 
     either : (k : Known) (a : Bool) → (cond a (reply.Authentic k.batch k.expiry (is_past k.expiry q.moment)) (alert_on k (lock_on t p k) (alerts_of t p.code)) ≡ reply.Authentic k.batch k.expiry (is_past k.expiry q.moment) → ⊥) → alert_number (cond a (reply.Authentic k.batch k.expiry (is_past k.expiry q.moment)) (alert_on k (lock_on t p k) (alerts_of t p.code))) ≡ Some (alerts_of t p.code + 1)
     either k true wrong = absurd (wrong refl)
@@ -127,14 +128,14 @@ verification-alerts t q p is may other = ap alert_number whole ∙ by (known t p
     by (Some k) wrong = either k (is_authentic k.own (lock_on t p k)) (wrong k)
 
 -- so does a decommissioning that is not carried out
-pub decommissioning-alerts : (t : List Entry) (q : Put) (p : Pack) (w : Reason) → q.question ≡ Decommission p w → may_ask q.actor.role q.question ≡ true → reply_of t q ≢ reply.Decommissioned → alert_number (reply_of t q) ≡ Some (alerts_of t p.code + 1)
+pub decommissioning-alerts : (t : List Entry) (q : Put) (p : Pack) (w : Reason) → q.question ≡ OfPack (Decommission w) p → may_ask q.actor.role q.question ≡ true → reply_of t q ≢ reply.Decommissioned → alert_number (reply_of t q) ≡ Some (alerts_of t p.code + 1)
 decommissioning-alerts t q p w is may other = ap alert_number whole ∙ by (known t p) (λ f. other (whole ∙ f))
   where
     reply_by : Option Known → Reply
     reply_by o = on_pack o (alert_unknown (alerts_of t p.code)) (λ k. decommission_reply k (lock_on t p k) (alerts_of t p.code))
 
     whole : reply_of t q ≡ reply_by (known t p)
-    whole = reply-admitted t q (Decommission p w) is may
+    whole = reply-admitted t q (OfPack (Decommission w) p) is may
 
     either : (k : Known) (a : Bool) → (cond a reply.Decommissioned (alert_on k (lock_on t p k) (alerts_of t p.code)) ≡ reply.Decommissioned → ⊥) → alert_number (cond a reply.Decommissioned (alert_on k (lock_on t p k) (alerts_of t p.code))) ≡ Some (alerts_of t p.code + 1)
     either k true wrong = absurd (wrong refl)

@@ -11,7 +11,9 @@ use Rattle.nmvs_identifier.specs.Texts.{same_text}
 use Rattle.nmvs_identifier.specs.declared.pack.Pack.{Pack}
 use Rattle.nmvs_rules.specs.declared.actor.Actor.{Actor}
 use Rattle.nmvs_rules.specs.declared.question.Question.{Question}
-use Rattle.nmvs_rules.specs.declared.question.Question.TheVariants.{Upload, Verify, Status, Decommission, Handover, Revert, Recall, Withdraw, Theft, Audit}
+use Rattle.nmvs_rules.specs.declared.question.Question.TheVariants.{Upload, OfPack, OfBatch}
+use Rattle.nmvs_rules.specs.declared.pack_question.PackQuestion.TheVariants.{Verify, Status, Decommission, Handover, Revert, Theft, Audit}
+use Rattle.nmvs_rules.specs.declared.batch_question.BatchQuestion.TheVariants.{Recall, Withdraw}
 use Rattle.nmvs_rules.specs.declared.entry.Entry.{Entry}
 use Rattle.nmvs_rules.specs.declared.facts.Known.{Known}
 use Rattle.nmvs_rules.specs.declared.reply.Reply.{Reply}
@@ -76,16 +78,9 @@ about-code : (p : Pack) (e : Entry) → is_about p e ≡ true → has_code p.cod
 about-code p e h = by e.put.question h
   where
     by : (q : Question) → names p (pack_of q) ≡ true → same_text p.code (code_of q) ≡ true
-    by (Recall c b) n = cc
-    by (Withdraw c b) n = cc
+    by (OfBatch _ c b) n = cc
     by (Upload r _ _) n = first_so _ _ n
-    by (Verify r) n = first_so _ _ n
-    by (Status r) n = first_so _ _ n
-    by (Decommission r _) n = first_so _ _ n
-    by (Handover r) n = first_so _ _ n
-    by (Revert r) n = first_so _ _ n
-    by (Theft r) n = first_so _ _ n
-    by (Audit r) n = first_so _ _ n
+    by (OfPack _ r) n = first_so _ _ n
 
 born-code : (t : List Entry) (p : Pack) → born (part_of t p.code) p ≡ born t p
 born-code t p = find-filter _ (has_code p.code) (λ e h. about-code p e (second_so _ _ (first_so _ _ h))) t
@@ -128,8 +123,7 @@ on_pack-forget None u f h = refl
 on_pack-forget (Some k) u f h = h k
 
 locks-code : (c : ProductCode) (b : Batch) (q : Question) → locks_batch c b q ≡ true → same_text c (code_of q) ≡ true
-locks-code c b (Recall d e) h = first_so _ _ h
-locks-code c b (Withdraw d e) h = first_so _ _ h
+locks-code c b (OfBatch _ d e) h = first_so _ _ h
 locks-code c b q h = cc
 
 uploads-code : (c : ProductCode) (b : Batch) (q : Question) → uploads_batch c b q ≡ true → same_text c (code_of q) ≡ true
@@ -172,23 +166,23 @@ admitted_reply-code : (t : List Entry) (n : ℕ) (a : Actor) (q : Question) → 
 admitted_reply-code t n a (Upload p b x) =
     ap (λ h. upload_reply a h (known (part_of t p.code) p)) (holder-code t p.code)
     ∙ ap (λ s. cond (has_other_holder (holder_of t p.code) a.authorisation) (reply.Refused refusal.NotHolder) (cond s (reply.Refused refusal.Duplicate) reply.Uploaded)) (sym (is_some-forget (known (part_of t p.code) p)) ∙ ap is_some (known-code t p) ∙ is_some-forget (known t p))
-admitted_reply-code t n a (Verify p) =
+admitted_reply-code t n a (OfPack Verify p) =
     ap (λ m. on_pack (known (part_of t p.code) p) (alert_unknown m) (λ k. verify_reply n k (lock_on (part_of t p.code) p k) m)) (alerts-code t p.code)
     ∙ on_pack-code t (part_of t p.code) p _ (λ k l. verify_reply n k l (alerts_of t p.code)) (known-code t p) (lock-code t p.code) (λ k l. refl)
-admitted_reply-code t n a (Status p) = on_pack-code t (part_of t p.code) p _ (λ k l. status_reply k l) (known-code t p) (lock-code t p.code) (λ k l. refl)
-admitted_reply-code t n a (Decommission p r) =
+admitted_reply-code t n a (OfPack Status p) = on_pack-code t (part_of t p.code) p _ (λ k l. status_reply k l) (known-code t p) (lock-code t p.code) (λ k l. refl)
+admitted_reply-code t n a (OfPack (Decommission r) p) =
     ap (λ m. on_pack (known (part_of t p.code) p) (alert_unknown m) (λ k. decommission_reply k (lock_on (part_of t p.code) p k) m)) (alerts-code t p.code)
     ∙ on_pack-code t (part_of t p.code) p _ (λ k l. decommission_reply k l (alerts_of t p.code)) (known-code t p) (lock-code t p.code) (λ k l. refl)
-admitted_reply-code t n a (Handover p) = on_pack-code t (part_of t p.code) p _ (λ k l. handover_reply a k l) (known-code t p) (lock-code t p.code) (λ k l. refl)
-admitted_reply-code t n a (Revert p) = on_pack-code t (part_of t p.code) p _ (λ k l. revert_reply n a k l) (known-code t p) (lock-code t p.code) (λ k l. refl)
-admitted_reply-code t n a (Recall c b) =
+admitted_reply-code t n a (OfPack Handover p) = on_pack-code t (part_of t p.code) p _ (λ k l. handover_reply a k l) (known-code t p) (lock-code t p.code) (λ k l. refl)
+admitted_reply-code t n a (OfPack Revert p) = on_pack-code t (part_of t p.code) p _ (λ k l. revert_reply n a k l) (known-code t p) (lock-code t p.code) (λ k l. refl)
+admitted_reply-code t n a (OfBatch Recall c b) =
     (λ j. lock_reply a (known_batch-code t c b j) (holder-code t c j) (lock-code t c b j) (count-code t c b own.Active j))
-admitted_reply-code t n a (Withdraw c b) =
+admitted_reply-code t n a (OfBatch Withdraw c b) =
     (λ j. lock_reply a (known_batch-code t c b j) (holder-code t c j) (lock-code t c b j) (count-code t c b own.Active j))
-admitted_reply-code t n a (Theft p) =
+admitted_reply-code t n a (OfPack Theft p) =
     ap (λ h. on_pack (known (part_of t p.code) p) (reply.Refused refusal.Unknown) (λ k. theft_reply a h k)) (holder-code t p.code)
     ∙ on_pack-code t (part_of t p.code) p _ (λ k l. theft_reply a (holder_of t p.code) k) (known-code t p) (lock-code t p.code) (λ k l. refl)
-admitted_reply-code t n a (Audit p) = ap reply.Shown (about-filter t p)
+admitted_reply-code t n a (OfPack Audit p) = ap reply.Shown (about-filter t p)
 
 -- a reply rests on the entries of its product code
 pub reply-code : (t : List Entry) (q : Put) → reply_of (part_of t (code_of q.question)) q ≡ reply_of t q

@@ -9,7 +9,8 @@ use Rattle.nmvs_identifier.specs.declared.pack.Pack.{Pack}
 use Rattle.nmvs_rules.specs.declared.reason.Reason.{Reason}
 use Rattle.nmvs_rules.specs.declared.reason.Reason.TheVariants as reason
 use Rattle.nmvs_rules.specs.declared.question.Question.{Question}
-use Rattle.nmvs_rules.specs.declared.question.Question.TheVariants.{Upload, Decommission, Handover, Revert, Recall, Withdraw, Theft}
+use Rattle.nmvs_rules.specs.declared.question.Question.TheVariants.{Upload, OfPack, OfBatch}
+use Rattle.nmvs_rules.specs.declared.pack_question.PackQuestion.TheVariants.{Decommission, Handover, Revert, Theft}
 use Rattle.nmvs_rules.specs.declared.own_status.OwnStatus.{OwnStatus}
 use Rattle.nmvs_rules.specs.declared.own_status.OwnStatus.TheVariants as own
 use Rattle.nmvs_rules.specs.declared.entry.Entry.{Entry}
@@ -26,11 +27,11 @@ use Rattle.nmvs_rules.proofs.ReplyLemmas.{KnownAnd, known-holds, accepted_upload
 
 -- a decommissioned pack is not active
 pub decommissioned-not_active : (q : Question) → is_decommissioning q ≡ true → is_active (own_given q) ≡ false
-decommissioned-not_active (Decommission p reason.Supply) h = refl
-decommissioned-not_active (Decommission p reason.Hold) h = refl
-decommissioned-not_active (Decommission p reason.Export) h = refl
-decommissioned-not_active (Decommission p reason.Sample) h = refl
-decommissioned-not_active (Decommission p reason.Destroy) h = refl
+decommissioned-not_active (OfPack (Decommission reason.Supply) p) h = refl
+decommissioned-not_active (OfPack (Decommission reason.Hold) p) h = refl
+decommissioned-not_active (OfPack (Decommission reason.Export) p) h = refl
+decommissioned-not_active (OfPack (Decommission reason.Sample) p) h = refl
+decommissioned-not_active (OfPack (Decommission reason.Destroy) p) h = refl
 decommissioned-not_active q h = cc
 
 decommissioned : (o : OwnStatus) (w : Reason) → is_active o ≡ true → may_become o (own_by_reason w) ≡ true
@@ -67,17 +68,16 @@ course t e p k lawful is marks = by e.put.question refl
     by (Upload s b x) h =
         let born : accepted_upload p e ≡ true = both_true (both_true (ap is_upload h) (first_so _ _ marks)) (second_so (is_about p e) _ marks) in
         let none : true ≡ false = sym (ap is_some is) ∙ accepted_upload-tells t e p lawful born in cc
-    by (Decommission s w) h =
+    by (OfPack (Decommission w) s) h =
         decommissioned k.own w (known-holds t p k _ is (accepted_decommissioning-tells t e p lawful (both_true marks (ap is_decommissioning h)))).active
-    by (Handover s) h =
+    by (OfPack Handover s) h =
         handed_over k.own (known-holds t p k _ is (accepted_handover-tells t e p lawful (both_true marks (ap is_handover h)))).held
-    by (Revert s) h =
+    by (OfPack Revert s) h =
         let tells = known-holds t p k _ is (accepted_reversion-tells t e p lawful (both_true marks (ap is_reversion h))) in
         reverted k.own tells.not_active tells.not_stolen tells.not_destroyed tells.not_supplied
-    by (Theft s) h =
+    by (OfPack Theft s) h =
         stolen k.own (known-holds t p k _ is (thefts-tells t e p lawful (both_true marks (ap is_theft h))))
-    by (Recall c b) h = let none : false ≡ true = sym (ap (λ q. names p (pack_of q) && accepts q e.reply) h) ∙ marks in cc
-    by (Withdraw c b) h = let none : false ≡ true = sym (ap (λ q. names p (pack_of q) && accepts q e.reply) h) ∙ marks in cc
+    by (OfBatch _ c b) h = let none : false ≡ true = sym (ap (λ q. names p (pack_of q) && accepts q e.reply) h) ∙ marks in cc
     by q h =
         let none : false ≡ true = second_so (names p (pack_of q)) (accepts q e.reply) (sym (ap (λ q. names p (pack_of q) && accepts q e.reply) h) ∙ marks) in cc
 
@@ -172,8 +172,8 @@ gone-keeps own.Stolen w h m = let none : false ≡ true = m in cc
 gone-keeps o w h m = let none : false ≡ true = h in cc
 
 supply-gone : (q : Question) → is_supply q ≡ true → ((is_decommissioning q ≡ true) ⊎ (is_handover q ≡ true)) × (is_gone (own_given q) ≡ true)
-supply-gone (Decommission s reason.Supply) h = (inl refl, refl)
-supply-gone (Handover s) h = (inr refl, refl)
+supply-gone (OfPack (Decommission reason.Supply) s) h = (inl refl, refl)
+supply-gone (OfPack Handover s) h = (inr refl, refl)
 supply-gone q h = let none : false ≡ true = h in (inl cc, cc)
 
 gone-not_active : (o : OwnStatus) → is_gone o ≡ true → is_active o ≡ true → true ≡ false
@@ -258,15 +258,14 @@ out-keeps : (t : List Entry) (e : Entry) (p : Pack) → Stands is_out t p → e.
 out-keeps t e p h lawful unreverted = by (is_mark p e) refl
   where
     out : (q : Question) → e.put.question ≡ q → is_mark p e ≡ true → is_out (own_given q) ≡ true
-    out (Decommission s w) is marks = ap not (decommissioned-not_active (Decommission s w) refl)
-    out (Handover s) is marks = refl
-    out (Theft s) is marks = refl
-    out (Revert s) is marks = let none : false ≡ true = sym unreverted ∙ both_true marks (ap is_reversion is) in cc
+    out (OfPack (Decommission w) s) is marks = ap not (decommissioned-not_active (OfPack (Decommission w) s) refl)
+    out (OfPack Handover s) is marks = refl
+    out (OfPack Theft s) is marks = refl
+    out (OfPack Revert s) is marks = let none : false ≡ true = sym unreverted ∙ both_true marks (ap is_reversion is) in cc
     out (Upload s b x) is marks =
         let born : accepted_upload p e ≡ true = both_true (both_true (ap is_upload is) (first_so _ _ marks)) (second_so (is_about p e) _ marks) in
         let none : true ≡ false = sym (ap is_some h.1) ∙ accepted_upload-tells t e p lawful born in cc
-    out (Recall c b) is marks = let none : false ≡ true = sym (ap (λ q. names p (pack_of q) && accepts q e.reply) is) ∙ marks in cc
-    out (Withdraw c b) is marks = let none : false ≡ true = sym (ap (λ q. names p (pack_of q) && accepts q e.reply) is) ∙ marks in cc
+    out (OfBatch _ c b) is marks = let none : false ≡ true = sym (ap (λ q. names p (pack_of q) && accepts q e.reply) is) ∙ marks in cc
     out q is marks =
         let none : false ≡ true = second_so (names p (pack_of q)) (accepts q e.reply) (sym (ap (λ q. names p (pack_of q) && accepts q e.reply) is) ∙ marks) in cc
 

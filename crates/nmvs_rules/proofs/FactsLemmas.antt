@@ -10,7 +10,8 @@ use Rattle.nmvs_identifier.specs.Name.{Name}
 use Rattle.nmvs_identifier.specs.declared.pack.Pack.{Pack}
 use Rattle.nmvs_rules.specs.declared.actor.Actor.{Actor}
 use Rattle.nmvs_rules.specs.declared.question.Question.{Question}
-use Rattle.nmvs_rules.specs.declared.question.Question.TheVariants.{Upload, Verify, Status, Decommission, Handover, Revert, Recall, Withdraw, Theft, Audit}
+use Rattle.nmvs_rules.specs.declared.question.Question.TheVariants.{Upload, OfPack, OfBatch}
+use Rattle.nmvs_rules.specs.declared.pack_question.PackQuestion.TheVariants.{Verify, Status, Decommission, Handover, Revert, Theft, Audit}
 use Rattle.nmvs_rules.specs.declared.reply.Reply.{Reply}
 use Rattle.nmvs_rules.specs.declared.reply.Reply.TheVariants as reply
 use Rattle.nmvs_rules.specs.declared.refusal.Refusal.TheVariants as refusal
@@ -32,15 +33,8 @@ pub known_at-batch : (t : List Entry) (p : Pack) (m : Entry) (q : Question) (k :
 known_at-batch t p m (Upload r b x) k e h =
     let same : b ≡ k.batch = cc in
     both_true (first_so _ _ h) (subst (λ d. same_text d b ≡ true) same (same_text-refl b))
-known_at-batch t p m (Verify _) k e h = cc
-known_at-batch t p m (Status _) k e h = cc
-known_at-batch t p m (Decommission _ _) k e h = cc
-known_at-batch t p m (Handover _) k e h = cc
-known_at-batch t p m (Revert _) k e h = cc
-known_at-batch t p m (Recall _ _) k e h = cc
-known_at-batch t p m (Withdraw _ _) k e h = cc
-known_at-batch t p m (Theft _) k e h = cc
-known_at-batch t p m (Audit _) k e h = cc
+known_at-batch t p m (OfPack _ _) k e h = cc
+known_at-batch t p m (OfBatch _ _ _) k e h = cc
 
 pub known_from-batch : (t : List Entry) (p : Pack) (o : Option Entry) (k : Known) → born t p ≡ o → known_from t p o ≡ Some k → is_known_batch t p.code k.batch ≡ true
 known_from-batch t p None k b e = cc
@@ -69,15 +63,14 @@ lock_reply-record a h r false = refl
 
 pub admitted_reply-facts : (t : List Entry) (n : ℕ) (a : Actor) (q : Question) → admitted_reply t n a q ≡ admitted_reply_by_facts (facts_of t q) n a q
 admitted_reply-facts t n a (Upload p b x) = refl
-admitted_reply-facts t n a (Verify p) = on_pack-lock t p _ (λ k l. verify_reply n k l (alerts_of t p.code)) (known t p) refl
-admitted_reply-facts t n a (Status p) = on_pack-lock t p _ (λ k l. status_reply k l) (known t p) refl
-admitted_reply-facts t n a (Decommission p r) = on_pack-lock t p _ (λ k l. decommission_reply k l (alerts_of t p.code)) (known t p) refl
-admitted_reply-facts t n a (Handover p) = on_pack-lock t p _ (λ k l. handover_reply a k l) (known t p) refl
-admitted_reply-facts t n a (Revert p) = on_pack-lock t p _ (λ k l. revert_reply n a k l) (known t p) refl
-admitted_reply-facts t n a (Recall c b) = lock_reply-record a (holder_of t c) (record { lock = lock_of t c b; counts = counts_of t c b }) (is_known_batch t c b)
-admitted_reply-facts t n a (Withdraw c b) = lock_reply-record a (holder_of t c) (record { lock = lock_of t c b; counts = counts_of t c b }) (is_known_batch t c b)
-admitted_reply-facts t n a (Theft p) = refl
-admitted_reply-facts t n a (Audit p) = refl
+admitted_reply-facts t n a (OfPack Verify p) = on_pack-lock t p _ (λ k l. verify_reply n k l (alerts_of t p.code)) (known t p) refl
+admitted_reply-facts t n a (OfPack Status p) = on_pack-lock t p _ (λ k l. status_reply k l) (known t p) refl
+admitted_reply-facts t n a (OfPack (Decommission r) p) = on_pack-lock t p _ (λ k l. decommission_reply k l (alerts_of t p.code)) (known t p) refl
+admitted_reply-facts t n a (OfPack Handover p) = on_pack-lock t p _ (λ k l. handover_reply a k l) (known t p) refl
+admitted_reply-facts t n a (OfPack Revert p) = on_pack-lock t p _ (λ k l. revert_reply n a k l) (known t p) refl
+admitted_reply-facts t n a (OfBatch _ c b) = lock_reply-record a (holder_of t c) (record { lock = lock_of t c b; counts = counts_of t c b }) (is_known_batch t c b)
+admitted_reply-facts t n a (OfPack Theft p) = refl
+admitted_reply-facts t n a (OfPack Audit p) = refl
 
 -- the reply of the rules on a trail is the reply by the trail's facts
 pub reply_by_facts-trail : (t : List Entry) (q : Put) (f : Facts) → facts_of t q.question ≡ f → reply_by_facts f q ≡ reply_of t q

@@ -9,7 +9,9 @@ use Rattle.nmvs_identifier.specs.Name.{Name}
 use Rattle.nmvs_identifier.specs.ProductCode.{ProductCode}
 use Rattle.nmvs_identifier.specs.declared.pack.Pack.{Pack}
 use Rattle.nmvs_rules.specs.declared.entry.Entry.{Entry}
-use Rattle.nmvs_rules.specs.declared.question.Question.TheVariants.{Upload, Recall, Withdraw, Theft}
+use Rattle.nmvs_rules.specs.declared.question.Question.TheVariants.{Upload, OfPack, OfBatch}
+use Rattle.nmvs_rules.specs.declared.pack_question.PackQuestion.TheVariants.{Theft}
+use Rattle.nmvs_rules.specs.declared.batch_question.BatchQuestion.TheVariants.{Recall, Withdraw}
 use Rattle.nmvs_rules.specs.declared.reply.Reply.TheVariants as reply
 use Rattle.nmvs_rules.specs.declared.put.Put.{Put}
 use Rattle.nmvs_rules.specs.Trail.{holder_of}
@@ -47,13 +49,13 @@ holder-uploads t q p b x is some h =
     not-other t p.code q.actor.authorisation (upload-holder t q.moment q.actor p b x (sym h ∙ reply-question t q (Upload p b x) is)) some
 
 -- so is a theft report
-pub holder-thefts : (t : List Entry) (q : Put) (p : Pack) → q.question ≡ Theft p → reply_of t q ≡ reply.MarkedStolen → IsHeldBy t p.code q.actor.authorisation
+pub holder-thefts : (t : List Entry) (q : Put) (p : Pack) → q.question ≡ OfPack Theft p → reply_of t q ≡ reply.MarkedStolen → IsHeldBy t p.code q.actor.authorisation
 holder-thefts t q p is h =
-    held t p.code q.actor.authorisation (theft-holder t q.moment q.actor p (sym h ∙ reply-question t q (Theft p) is))
+    held t p.code q.actor.authorisation (theft-holder t q.moment q.actor p (sym h ∙ reply-question t q (OfPack Theft p) is))
 
 -- so is a recall or withdrawal
 pub holder-locks : (t : List Entry) (q : Put) (c : ProductCode) (b : Batch) (n : ℕ) → AsksLock c b q.question → reply_of t q ≡ reply.LockedNow n → IsHeldBy t c q.actor.authorisation
 holder-locks t q c b n (inl is) h =
-    held t c q.actor.authorisation (lock-holder t q.actor c b n _ (sym h ∙ reply-question t q (Recall c b) is))
+    held t c q.actor.authorisation (lock-holder t q.actor c b n _ (sym h ∙ reply-question t q (OfBatch Recall c b) is))
 holder-locks t q c b n (inr is) h =
-    held t c q.actor.authorisation (lock-holder t q.actor c b n _ (sym h ∙ reply-question t q (Withdraw c b) is))
+    held t c q.actor.authorisation (lock-holder t q.actor c b n _ (sym h ∙ reply-question t q (OfBatch Withdraw c b) is))

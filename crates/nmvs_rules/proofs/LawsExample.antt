@@ -10,7 +10,9 @@ use Rattle.nmvs_rules.specs.declared.reason.Reason.TheVariants as reason
 use Rattle.nmvs_rules.specs.declared.own_status.OwnStatus.{OwnStatus}
 use Rattle.nmvs_rules.specs.declared.own_status.OwnStatus.TheVariants as own
 use Rattle.nmvs_rules.specs.declared.question.Question.{Question}
-use Rattle.nmvs_rules.specs.declared.question.Question.TheVariants.{Upload, Verify, Decommission, Handover, Revert, Recall, Withdraw, Theft}
+use Rattle.nmvs_rules.specs.declared.question.Question.TheVariants.{Upload, OfPack, OfBatch}
+use Rattle.nmvs_rules.specs.declared.pack_question.PackQuestion.TheVariants.{Verify, Decommission, Handover, Revert, Theft}
+use Rattle.nmvs_rules.specs.declared.batch_question.BatchQuestion.TheVariants.{Recall, Withdraw}
 use Rattle.nmvs_rules.specs.declared.reply.Reply.{Reply}
 use Rattle.nmvs_rules.specs.declared.reply.Reply.TheVariants as reply
 use Rattle.nmvs_rules.specs.declared.refusal.Refusal.TheVariants as refusal
@@ -44,28 +46,28 @@ abbrev upload : Entry
 upload = entry (Upload first batch (text (codes "280200"))) reply.Uploaded
 
 abbrev confirmation : Entry
-confirmation = entry (Verify first) (reply.Authentic batch (text (codes "280200")) false)
+confirmation = entry (OfPack Verify first) (reply.Authentic batch (text (codes "280200")) false)
 
 abbrev hold : Entry
-hold = entry (Decommission first reason.Hold) reply.Decommissioned
+hold = entry (OfPack (Decommission reason.Hold) first) reply.Decommissioned
 
 abbrev revert : Entry
-revert = entry (Revert first) reply.Reverted
+revert = entry (OfPack Revert first) reply.Reverted
 
 abbrev supply : Entry
-supply = entry (Decommission first reason.Supply) reply.Decommissioned
+supply = entry (OfPack (Decommission reason.Supply) first) reply.Decommissioned
 
 abbrev alert : ℕ → Entry
-alert n = entry (Verify first) (reply.Alert cause.Supplied true n)
+alert n = entry (OfPack Verify first) (reply.Alert cause.Supplied true n)
 
 abbrev refused : Entry
-refused = entry (Revert first) (reply.Refused refusal.WasSupplied)
+refused = entry (OfPack Revert first) (reply.Refused refusal.WasSupplied)
 
 abbrev recall : Entry
-recall = entry (Recall (text (codes "09506000134352")) batch) (reply.LockedNow 0)
+recall = entry (OfBatch Recall (text (codes "09506000134352")) batch) (reply.LockedNow 0)
 
 abbrev other_alert : Entry
-other_alert = entry (Verify other) (reply.Alert cause.Unknown true 1)
+other_alert = entry (OfPack Verify other) (reply.Alert cause.Unknown true 1)
 
 abbrev trail : List Entry
 trail = upload ∷ confirmation ∷ other_alert ∷ hold ∷ revert ∷ supply ∷ alert 1 ∷ refused ∷ alert 2 ∷ recall ∷ []
@@ -100,10 +102,10 @@ alarm-trail = refl
 
 -- a held pack is supplied by its handover
 abbrev handover : Entry
-handover = entry (Handover first) reply.HandedOver
+handover = entry (OfPack Handover first) reply.HandedOver
 
 abbrev handed_over : List Entry
-handed_over = upload ∷ hold ∷ entry (Handover first) (reply.Refused refusal.Other) ∷ handover ∷ []
+handed_over = upload ∷ hold ∷ entry (OfPack Handover first) (reply.Refused refusal.Other) ∷ handover ∷ []
 
 hands_over-handed_over : filter (hands_over first) handed_over ≡ handover ∷ []
 hands_over-handed_over = refl
@@ -154,16 +156,16 @@ goes_on-other = refl
 
 -- a pack is held by one of the five decommissionings
 abbrev decommission : Reason → Entry
-decommission w = entry (Decommission first w) reply.Decommissioned
+decommission w = entry (OfPack (Decommission w) first) reply.Decommissioned
 
 holds-each : filter (holds first) (map decommission (reason.Supply ∷ reason.Hold ∷ reason.Export ∷ reason.Sample ∷ reason.Destroy ∷ [])) ≡ hold ∷ []
 holds-each = refl
 
 -- the alert after each: Destroyed and the locks are not flagged
-alarm-decommissioned : map (λ w. alarm (Decommission first w)) (reason.Supply ∷ reason.Hold ∷ reason.Export ∷ reason.Sample ∷ reason.Destroy ∷ []) ≡ Some (cause.Supplied, true) ∷ Some (cause.Held, true) ∷ Some (cause.Exported, true) ∷ Some (cause.Sampled, true) ∷ Some (cause.Destroyed, false) ∷ []
+alarm-decommissioned : map (λ w. alarm (OfPack (Decommission w) first)) (reason.Supply ∷ reason.Hold ∷ reason.Export ∷ reason.Sample ∷ reason.Destroy ∷ []) ≡ Some (cause.Supplied, true) ∷ Some (cause.Held, true) ∷ Some (cause.Exported, true) ∷ Some (cause.Sampled, true) ∷ Some (cause.Destroyed, false) ∷ []
 alarm-decommissioned = refl
 
-alarm-others : map alarm (Handover first ∷ Theft first ∷ Recall first.code batch ∷ Withdraw first.code batch ∷ upload.put.question ∷ Revert first ∷ []) ≡ Some (cause.Supplied, true) ∷ Some (cause.Stolen, true) ∷ Some (cause.Recalled, false) ∷ Some (cause.Withdrawn, false) ∷ None ∷ None ∷ []
+alarm-others : map alarm (OfPack Handover first ∷ OfPack Theft first ∷ OfBatch Recall first.code batch ∷ OfBatch Withdraw first.code batch ∷ upload.put.question ∷ OfPack Revert first ∷ []) ≡ Some (cause.Supplied, true) ∷ Some (cause.Stolen, true) ∷ Some (cause.Recalled, false) ∷ Some (cause.Withdrawn, false) ∷ None ∷ None ∷ []
 alarm-others = refl
 
 -- which own statuses may follow each, in the order of the list
@@ -174,16 +176,16 @@ followers : map (λ o. filter (may_become o) owns) owns ≡ (own.Held ∷ own.Su
 followers = refl
 
 -- a recall and a withdrawal ask for a lock, a verification and a decommissioning whether the pack is authentic
-asks-recall : AsksLock first.code batch (Recall first.code batch)
+asks-recall : AsksLock first.code batch (OfBatch Recall first.code batch)
 asks-recall = inl refl
 
-asks-withdrawal : AsksLock first.code batch (Withdraw first.code batch)
+asks-withdrawal : AsksLock first.code batch (OfBatch Withdraw first.code batch)
 asks-withdrawal = inr refl
 
-asks-verification : AsksAuthenticity first (Verify first)
+asks-verification : AsksAuthenticity first (OfPack Verify first)
 asks-verification = inl refl
 
-asks-decommissioning : (w : Reason) → AsksAuthenticity first (Decommission first w)
+asks-decommissioning : (w : Reason) → AsksAuthenticity first (OfPack (Decommission w) first)
 asks-decommissioning w = inr (w, refl)
 
 -- of two packs of a batch one circulates

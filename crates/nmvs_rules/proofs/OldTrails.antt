@@ -15,7 +15,8 @@ use Rattle.nmvs_rules.specs.declared.facts.Known.{Known}
 use Rattle.nmvs_rules.specs.declared.own_status.OwnStatus.{OwnStatus}
 use Rattle.nmvs_rules.specs.declared.own_status.OwnStatus.TheVariants as own
 use Rattle.nmvs_rules.specs.declared.question.Question.{Question}
-use Rattle.nmvs_rules.specs.declared.question.Question.TheVariants.{Upload, Verify, Status, Decommission, Handover, Revert, Recall, Withdraw, Theft, Audit}
+use Rattle.nmvs_rules.specs.declared.question.Question.TheVariants.{Upload, OfPack, OfBatch}
+use Rattle.nmvs_rules.specs.declared.pack_question.PackQuestion.TheVariants.{Verify, Status, Decommission, Handover, Revert, Theft, Audit}
 use Rattle.nmvs_rules.specs.declared.refusal.Refusal.TheVariants as refusal
 use Rattle.nmvs_rules.specs.declared.reply.Reply.{Reply}
 use Rattle.nmvs_rules.specs.declared.reply.Reply.TheVariants as reply
@@ -74,38 +75,35 @@ found-none c p xs x h found = by (c x) refl
 
 -- of a question that is no handover the definitions agree
 accepts-alike : (q : Question) (r : Reply) → is_handover q ≡ false → accepts q r ≡ past.accepts q r
-accepts-alike (Handover p) r h = cc
+accepts-alike (OfPack Handover p) r h = cc
 accepts-alike (Upload p b x) reply.Uploaded h = refl
 accepts-alike (Upload p b x) r h = refl
-accepts-alike (Decommission p w) reply.Decommissioned h = refl
-accepts-alike (Decommission p w) r h = refl
-accepts-alike (Revert p) reply.Reverted h = refl
-accepts-alike (Revert p) r h = refl
-accepts-alike (Recall c b) (reply.LockedNow n) h = refl
-accepts-alike (Recall c b) r h = refl
-accepts-alike (Withdraw c b) (reply.LockedNow n) h = refl
-accepts-alike (Withdraw c b) r h = refl
-accepts-alike (Theft p) reply.MarkedStolen h = refl
-accepts-alike (Theft p) r h = refl
+accepts-alike (OfPack (Decommission w) p) reply.Decommissioned h = refl
+accepts-alike (OfPack (Decommission w) p) r h = refl
+accepts-alike (OfPack Revert p) reply.Reverted h = refl
+accepts-alike (OfPack Revert p) r h = refl
+accepts-alike (OfBatch _ c b) (reply.LockedNow n) h = refl
+accepts-alike (OfBatch _ c b) r h = refl
+accepts-alike (OfPack Theft p) reply.MarkedStolen h = refl
+accepts-alike (OfPack Theft p) r h = refl
 accepts-alike q r h = refl
 
 given-alike : (q : Question) → is_handover q ≡ false → own_given q ≡ past.own_given q
-given-alike (Handover p) h = cc
-given-alike (Decommission p w) h = refl
-given-alike (Theft p) h = refl
+given-alike (OfPack Handover p) h = cc
+given-alike (OfPack (Decommission w) p) h = refl
+given-alike (OfPack Theft p) h = refl
 given-alike q h = refl
 
 may-alike : (r : Role) (q : Question) → is_handover q ≡ false → may_ask r q ≡ past_rules.may_ask r q
-may-alike r (Handover p) h = cc
+may-alike r (OfPack Handover p) h = cc
 may-alike r (Upload p b x) h = refl
-may-alike r (Verify p) h = refl
-may-alike r (Status p) h = refl
-may-alike r (Decommission p w) h = refl
-may-alike r (Revert p) h = refl
-may-alike r (Recall c b) h = refl
-may-alike r (Withdraw c b) h = refl
-may-alike r (Theft p) h = refl
-may-alike r (Audit p) h = refl
+may-alike r (OfPack Verify p) h = refl
+may-alike r (OfPack Status p) h = refl
+may-alike r (OfPack (Decommission w) p) h = refl
+may-alike r (OfPack Revert p) h = refl
+may-alike r (OfBatch _ c b) h = refl
+may-alike r (OfPack Theft p) h = refl
+may-alike r (OfPack Audit p) h = refl
 
 accepted-alike : (e : Entry) → asks_handover e ≡ false → is_accepted e ≡ past.is_accepted e
 accepted-alike e h = accepts-alike e.put.question e.reply h
@@ -174,16 +172,15 @@ module _ (t : List Entry) (none : list_any asks_handover t ≡ false) where
   on_pack-alike p un f = λ i. on_pack (known-alike p i) un (λ k. f k (lock-alike p.code k.batch i))
 
   admitted-alike : (n : ℕ) (a : Actor) (q : Question) → is_handover q ≡ false → admitted_reply t n a q ≡ past_rules.admitted_reply t n a q
-  admitted-alike n a (Handover p) h = cc
+  admitted-alike n a (OfPack Handover p) h = cc
   admitted-alike n a (Upload p b x) h = λ i. upload_reply a (holder-alike p.code i) (known-alike p i)
-  admitted-alike n a (Verify p) h = on_pack-alike p _ (λ k l. verify_reply n k l (alerts_of t p.code))
-  admitted-alike n a (Status p) h = on_pack-alike p _ (λ k l. status_reply k l)
-  admitted-alike n a (Decommission p w) h = on_pack-alike p _ (λ k l. decommission_reply k l (alerts_of t p.code))
-  admitted-alike n a (Revert p) h = on_pack-alike p _ (λ k l. revert_reply n a k l)
-  admitted-alike n a (Recall c b) h = λ i. lock_reply a (known_batch-alike c b i) (holder-alike c i) (lock-alike c b i) (count-alike c b own.Active i)
-  admitted-alike n a (Withdraw c b) h = λ i. lock_reply a (known_batch-alike c b i) (holder-alike c i) (lock-alike c b i) (count-alike c b own.Active i)
-  admitted-alike n a (Theft p) h = λ i. on_pack (known-alike p i) (reply.Refused refusal.Unknown) (λ k. theft_reply a (holder-alike p.code i) k)
-  admitted-alike n a (Audit p) h = refl
+  admitted-alike n a (OfPack Verify p) h = on_pack-alike p _ (λ k l. verify_reply n k l (alerts_of t p.code))
+  admitted-alike n a (OfPack Status p) h = on_pack-alike p _ (λ k l. status_reply k l)
+  admitted-alike n a (OfPack (Decommission w) p) h = on_pack-alike p _ (λ k l. decommission_reply k l (alerts_of t p.code))
+  admitted-alike n a (OfPack Revert p) h = on_pack-alike p _ (λ k l. revert_reply n a k l)
+  admitted-alike n a (OfBatch _ c b) h = λ i. lock_reply a (known_batch-alike c b i) (holder-alike c i) (lock-alike c b i) (count-alike c b own.Active i)
+  admitted-alike n a (OfPack Theft p) h = λ i. on_pack (known-alike p i) (reply.Refused refusal.Unknown) (λ k. theft_reply a (holder-alike p.code i) k)
+  admitted-alike n a (OfPack Audit p) h = refl
 
   -- the reply to a question that is no handover is that of the old rules
   reply-alike : (q : Put) → is_handover q.question ≡ false → reply_of t q ≡ past_rules.reply_of t q

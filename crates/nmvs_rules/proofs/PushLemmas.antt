@@ -10,7 +10,8 @@ use Rattle.nmvs_identifier.specs.ProductCode.{ProductCode}
 use Rattle.nmvs_identifier.specs.Batch.{Batch}
 use Rattle.nmvs_identifier.specs.declared.pack.Pack.{Pack}
 use Rattle.nmvs_rules.specs.declared.question.Question.{Question}
-use Rattle.nmvs_rules.specs.declared.question.Question.TheVariants.{Upload, Recall, Withdraw}
+use Rattle.nmvs_rules.specs.declared.question.Question.TheVariants.{Upload, OfBatch}
+use Rattle.nmvs_rules.specs.declared.batch_question.BatchQuestion.TheVariants.{Recall, Withdraw}
 use Rattle.nmvs_rules.specs.declared.entry.Entry.{Entry}
 use Rattle.nmvs_rules.specs.declared.batch_lock.BatchLock.TheVariants as lock
 use Rattle.nmvs_rules.specs.Trail.{last, born, mark, mark_place, known, known_from, known_at, is_mark, is_upload, is_about, is_accepted, has_code, is_alert, alerts_of, about_of, marked_by, born_by, known_after, is_birth_in, is_known_batch, holder_of, lock_of, lock_by, locks_batch}
@@ -100,8 +101,8 @@ holder_of-push t e c =
 
 -- a recall or withdrawal leaves no batch free
 pub locks_batch-binds : (c : ProductCode) (b : Batch) (q : Question) → locks_batch c b q ≡ true → is_free (lock_by q) ≡ false
-locks_batch-binds c b (Recall d g) locks = refl
-locks_batch-binds c b (Withdraw d g) locks = refl
+locks_batch-binds c b (OfBatch Recall d g) locks = refl
+locks_batch-binds c b (OfBatch Withdraw d g) locks = refl
 locks_batch-binds c b q locks = cc
 
 lock-more : (o : Option Entry) (a : Bool) (e : Entry) → ((x : Entry) → o ≡ Some x → is_free (lock_by x.put.question) ≡ false) → option_map_or (λ x. lock_by x.put.question) (option_or o (cond a (Some e) None)) lock.Free ≡ cond (is_free (option_map_or (λ x. lock_by x.put.question) o lock.Free)) (cond a (lock_by e.put.question) lock.Free) (option_map_or (λ x. lock_by x.put.question) o lock.Free)

@@ -8,14 +8,20 @@ use Rattle.nmvs_rules.specs.declared.role.Role.TheVariants as role
 use Rattle.nmvs_rules.specs.declared.reason.Reason.{Reason}
 use Rattle.nmvs_rules.specs.declared.reason.Reason.TheVariants as reason
 use Rattle.nmvs_rules.specs.declared.question.Question.{Question}
-use Rattle.nmvs_rules.specs.declared.question.Question.TheVariants.{Upload, Verify, Status, Decommission, Handover, Revert, Recall, Withdraw, Theft, Audit}
+use Rattle.nmvs_rules.specs.declared.question.Question.TheVariants.{Upload, OfPack, OfBatch}
+use Rattle.nmvs_rules.specs.declared.pack_question.PackQuestion.{PackQuestion}
+use Rattle.nmvs_rules.specs.declared.pack_question.PackQuestion.TheVariants.{Verify, Status, Decommission, Handover, Revert, Theft, Audit}
+use Rattle.nmvs_rules.specs.declared.batch_question.BatchQuestion.{BatchQuestion}
+use Rattle.nmvs_rules.specs.declared.batch_question.BatchQuestion.TheVariants.{Recall, Withdraw}
 use Rattle.nmvs_identifier.specs.Texts.{same_text}
 use Rattle.nmvs_identifier.specs.Pack.{same_pack}
 use Rattle.nmvs_rules.specs.contracts.role.RolePartialEq.TheImpl as role_eq
 use Rattle.nmvs_rules.specs.contracts.reason.ReasonPartialEq.TheImpl as reason_eq
 use Rattle.nmvs_rules.specs.contracts.actor.ActorPartialEq.TheImpl as actor_eq
+use Rattle.nmvs_rules.specs.contracts.pack_question.PackQuestionPartialEq.TheImpl as pack_question_eq
+use Rattle.nmvs_rules.specs.contracts.batch_question.BatchQuestionPartialEq.TheImpl as batch_question_eq
 use Rattle.nmvs_rules.specs.contracts.question.QuestionPartialEq.TheImpl as question_eq
-use Rattle.nmvs_rules.specs.Repeats.{same_role, same_reason, same_actor, same_question}
+use Rattle.nmvs_rules.specs.Repeats.{same_role, same_reason, same_actor, same_pack_question, same_batch_question, same_question}
 use Rattle.nmvs_rules.proofs.TextLemmas.{same_text-equal, same_text-refl, same_pack-equal, same_pack-refl}
 
 -- the `==` of roles is that of the definitions
@@ -40,18 +46,27 @@ derived-reason _ _ = refl
 pub derived-actor : (a b : Actor) → (actor_eq.ghosts).eq a b ≡ same_actor a b
 derived-actor a b = ap (λ s. s && (same_text a.authorisation b.authorisation && same_text a.premises b.premises)) (derived-role a.role b.role)
 
+derived-pack_question : (q r : PackQuestion) → (pack_question_eq.ghosts).eq q r ≡ same_pack_question q r
+derived-pack_question Verify Verify = refl
+derived-pack_question Status Status = refl
+derived-pack_question (Decommission r) (Decommission s) = derived-reason r s
+derived-pack_question Handover Handover = refl
+derived-pack_question Revert Revert = refl
+derived-pack_question Theft Theft = refl
+derived-pack_question Audit Audit = refl
+derived-pack_question _ _ = refl
+
+derived-batch_question : (q r : BatchQuestion) → (batch_question_eq.ghosts).eq q r ≡ same_batch_question q r
+derived-batch_question Recall Recall = refl
+derived-batch_question Withdraw Withdraw = refl
+derived-batch_question _ _ = refl
+
 -- so is that of questions
 pub derived-question : (q r : Question) → (question_eq.ghosts).eq q r ≡ same_question q r
 derived-question (Upload p b x) (Upload q c y) = refl
-derived-question (Verify p) (Verify q) = refl
-derived-question (Status p) (Status q) = refl
-derived-question (Decommission p r) (Decommission q s) = ap (λ b. same_pack p q && b) (derived-reason r s)
-derived-question (Handover p) (Handover q) = refl
-derived-question (Revert p) (Revert q) = refl
-derived-question (Recall c b) (Recall d e) = refl
-derived-question (Withdraw c b) (Withdraw d e) = refl
-derived-question (Theft p) (Theft q) = refl
-derived-question (Audit p) (Audit q) = refl
+derived-question (OfPack asked p) (OfPack other q) = ap (λ s. s && same_pack p q) (derived-pack_question asked other)
+derived-question (OfBatch asked c b) (OfBatch other d e) =
+    ap (λ s. s && (same_text c d && same_text b e)) (derived-batch_question asked other)
 derived-question _ _ = refl
 
 same_role-equal : (r s : Role) → same_role r s ≡ true → r ≡ s
@@ -70,6 +85,21 @@ same_reason-equal reason.Sample reason.Sample h = refl
 same_reason-equal reason.Destroy reason.Destroy h = refl
 same_reason-equal _ _ h = cc
 
+same_pack_question-equal : (q r : PackQuestion) → same_pack_question q r ≡ true → q ≡ r
+same_pack_question-equal Verify Verify h = refl
+same_pack_question-equal Status Status h = refl
+same_pack_question-equal (Decommission r) (Decommission s) h = ap Decommission (same_reason-equal r s h)
+same_pack_question-equal Handover Handover h = refl
+same_pack_question-equal Revert Revert h = refl
+same_pack_question-equal Theft Theft h = refl
+same_pack_question-equal Audit Audit h = refl
+same_pack_question-equal _ _ h = cc
+
+same_batch_question-equal : (q r : BatchQuestion) → same_batch_question q r ≡ true → q ≡ r
+same_batch_question-equal Recall Recall h = refl
+same_batch_question-equal Withdraw Withdraw h = refl
+same_batch_question-equal _ _ h = cc
+
 -- the same actors are equal
 pub same_actor-equal : (a b : Actor) → same_actor a b ≡ true → a ≡ b
 same_actor-equal a b h =
@@ -85,18 +115,11 @@ pub same_question-equal : (q r : Question) → same_question q r ≡ true → q 
 same_question-equal (Upload p b x) (Upload q c y) h =
     let texts = second_so (same_pack p q) _ h in
     λ i. Upload (same_pack-equal p q (first_so _ _ h) i) (same_text-equal b c (first_so _ _ texts) i) (same_text-equal x y (second_so (same_text b c) _ texts) i)
-same_question-equal (Verify p) (Verify q) h = ap Verify (same_pack-equal p q h)
-same_question-equal (Status p) (Status q) h = ap Status (same_pack-equal p q h)
-same_question-equal (Decommission p r) (Decommission q s) h =
-    λ i. Decommission (same_pack-equal p q (first_so _ _ h) i) (same_reason-equal r s (second_so (same_pack p q) _ h) i)
-same_question-equal (Handover p) (Handover q) h = ap Handover (same_pack-equal p q h)
-same_question-equal (Revert p) (Revert q) h = ap Revert (same_pack-equal p q h)
-same_question-equal (Recall c b) (Recall d e) h =
-    λ i. Recall (same_text-equal c d (first_so _ _ h) i) (same_text-equal b e (second_so (same_text c d) _ h) i)
-same_question-equal (Withdraw c b) (Withdraw d e) h =
-    λ i. Withdraw (same_text-equal c d (first_so _ _ h) i) (same_text-equal b e (second_so (same_text c d) _ h) i)
-same_question-equal (Theft p) (Theft q) h = ap Theft (same_pack-equal p q h)
-same_question-equal (Audit p) (Audit q) h = ap Audit (same_pack-equal p q h)
+same_question-equal (OfPack asked p) (OfPack other q) h =
+    λ i. OfPack (same_pack_question-equal asked other (first_so _ _ h) i) (same_pack-equal p q (second_so (same_pack_question asked other) _ h) i)
+same_question-equal (OfBatch asked c b) (OfBatch other d e) h =
+    let texts = second_so (same_batch_question asked other) _ h in
+    λ i. OfBatch (same_batch_question-equal asked other (first_so _ _ h) i) (same_text-equal c d (first_so _ _ texts) i) (same_text-equal b e (second_so (same_text c d) _ texts) i)
 same_question-equal _ _ h = cc
 
 same_role-refl : (r : Role) → same_role r r ≡ true
@@ -113,6 +136,19 @@ same_reason-refl reason.Export = refl
 same_reason-refl reason.Sample = refl
 same_reason-refl reason.Destroy = refl
 
+same_pack_question-refl : (q : PackQuestion) → same_pack_question q q ≡ true
+same_pack_question-refl Verify = refl
+same_pack_question-refl Status = refl
+same_pack_question-refl (Decommission r) = same_reason-refl r
+same_pack_question-refl Handover = refl
+same_pack_question-refl Revert = refl
+same_pack_question-refl Theft = refl
+same_pack_question-refl Audit = refl
+
+same_batch_question-refl : (q : BatchQuestion) → same_batch_question q q ≡ true
+same_batch_question-refl Recall = refl
+same_batch_question-refl Withdraw = refl
+
 -- an actor is the same as itself
 pub same_actor-refl : (a : Actor) → same_actor a a ≡ true
 same_actor-refl a = both_true (same_role-refl a.role) (both_true (same_text-refl a.authorisation) (same_text-refl a.premises))
@@ -120,12 +156,5 @@ same_actor-refl a = both_true (same_role-refl a.role) (both_true (same_text-refl
 -- and so is a question
 pub same_question-refl : (q : Question) → same_question q q ≡ true
 same_question-refl (Upload p b x) = both_true (same_pack-refl p) (both_true (same_text-refl b) (same_text-refl x))
-same_question-refl (Verify p) = same_pack-refl p
-same_question-refl (Status p) = same_pack-refl p
-same_question-refl (Decommission p r) = both_true (same_pack-refl p) (same_reason-refl r)
-same_question-refl (Handover p) = same_pack-refl p
-same_question-refl (Revert p) = same_pack-refl p
-same_question-refl (Recall c b) = both_true (same_text-refl c) (same_text-refl b)
-same_question-refl (Withdraw c b) = both_true (same_text-refl c) (same_text-refl b)
-same_question-refl (Theft p) = same_pack-refl p
-same_question-refl (Audit p) = same_pack-refl p
+same_question-refl (OfPack asked p) = both_true (same_pack_question-refl asked) (same_pack-refl p)
+same_question-refl (OfBatch asked c b) = both_true (same_batch_question-refl asked) (both_true (same_text-refl c) (same_text-refl b))

@@ -11,7 +11,8 @@ use Rattle.nmvs_rules.specs.declared.reason.Reason.{Reason}
 use Rattle.nmvs_identifier.specs.declared.pack.Pack.{Pack}
 use Rattle.nmvs_rules.specs.declared.actor.Actor.{Actor}
 use Rattle.nmvs_rules.specs.declared.question.Question.{Question}
-use Rattle.nmvs_rules.specs.declared.question.Question.TheVariants.{Upload, Verify, Decommission, Handover, Revert, Theft}
+use Rattle.nmvs_rules.specs.declared.question.Question.TheVariants.{Upload, OfPack}
+use Rattle.nmvs_rules.specs.declared.pack_question.PackQuestion.TheVariants.{Verify, Decommission, Handover, Revert, Theft}
 use Rattle.nmvs_rules.specs.declared.own_status.OwnStatus.TheVariants as own
 use Rattle.nmvs_rules.specs.declared.entry.Entry.{Entry}
 use Rattle.nmvs_rules.specs.declared.facts.Known.{Known}
@@ -74,25 +75,25 @@ pub record IsReversible (t : List Entry) (n : ℕ) (a : Actor) (p : Pack) (k : K
   pub not_expired : is_past k.expiry n ≡ false
 
 -- a pack that is answered Authentic is known and authentic
-pub verify-tells : (t : List Entry) (n : ℕ) (a : Actor) (p : Pack) (b : Batch) (x : Expiry) (late : Bool) → IsReply t n a (Verify p) (reply.Authentic b x late) → KnownAnd t p (λ k. IsAuthentic t p k × (reply.Authentic k.batch k.expiry (is_past k.expiry n) ≡ reply.Authentic b x late))
+pub verify-tells : (t : List Entry) (n : ℕ) (a : Actor) (p : Pack) (b : Batch) (x : Expiry) (late : Bool) → IsReply t n a (OfPack Verify p) (reply.Authentic b x late) → KnownAnd t p (λ k. IsAuthentic t p k × (reply.Authentic k.batch k.expiry (is_past k.expiry n) ≡ reply.Authentic b x late))
 verify-tells t n a p b x late h =
-    let admitted = cond-then (may_ask a.role (Verify p)) _ _ _ (λ e. cc) (sym h) in
+    let admitted = cond-then (may_ask a.role (OfPack Verify p)) _ _ _ (λ e. cc) (sym h) in
     let pack = on_pack-known t p _ _ _ (λ e. cc) admitted.1 in
     let authentic = cond-then (is_authentic pack.0.own (lock_on t p pack.0)) _ _ _ (λ e. cc) pack.2 in
     (pack.0, pack.1, (record { active = first_so _ _ authentic.0; free = second_so (is_active pack.0.own) _ authentic.0 }, authentic.1))
 
 -- a pack that is decommissioned was authentic
-pub decommission-tells : (t : List Entry) (n : ℕ) (a : Actor) (p : Pack) (w : Reason) → IsReply t n a (Decommission p w) reply.Decommissioned → KnownAnd t p (IsAuthentic t p)
+pub decommission-tells : (t : List Entry) (n : ℕ) (a : Actor) (p : Pack) (w : Reason) → IsReply t n a (OfPack (Decommission w) p) reply.Decommissioned → KnownAnd t p (IsAuthentic t p)
 decommission-tells t n a p w h =
-    let admitted = cond-then (may_ask a.role (Decommission p w)) _ _ _ (λ e. cc) (sym h) in
+    let admitted = cond-then (may_ask a.role (OfPack (Decommission w) p)) _ _ _ (λ e. cc) (sym h) in
     let pack = on_pack-known t p _ _ _ (λ e. cc) admitted.1 in
     let authentic = cond-then (is_authentic pack.0.own (lock_on t p pack.0)) _ _ _ (λ e. cc) pack.2 in
     (pack.0, pack.1, record { active = first_so _ _ authentic.0; free = second_so (is_active pack.0.own) _ authentic.0 })
 
 -- a pack that is handed over was held here
-pub handover-tells : (t : List Entry) (n : ℕ) (a : Actor) (p : Pack) → IsReply t n a (Handover p) reply.HandedOver → KnownAnd t p (IsHeldHere t a p)
+pub handover-tells : (t : List Entry) (n : ℕ) (a : Actor) (p : Pack) → IsReply t n a (OfPack Handover p) reply.HandedOver → KnownAnd t p (IsHeldHere t a p)
 handover-tells t n a p h =
-    let admitted = cond-then (may_ask a.role (Handover p)) _ _ _ (λ e. cc) (sym h) in
+    let admitted = cond-then (may_ask a.role (OfPack Handover p)) _ _ _ (λ e. cc) (sym h) in
     let pack = on_pack-known t p _ _ _ (λ e. cc) admitted.1 in
     let k = pack.0 in
     let free = cond-else (not (is_free (lock_on t p k))) _ _ _ (λ e. cc) pack.2 in
@@ -101,9 +102,9 @@ handover-tells t n a p h =
     (k, pack.1, record { free = not-false _ free.0; held = not-false _ held.0; same_house = not-false _ house.0 })
 
 -- a pack that is reverted met the conditions of Article 13(1)
-pub revert-tells : (t : List Entry) (n : ℕ) (a : Actor) (p : Pack) → IsReply t n a (Revert p) reply.Reverted → KnownAnd t p (IsReversible t n a p)
+pub revert-tells : (t : List Entry) (n : ℕ) (a : Actor) (p : Pack) → IsReply t n a (OfPack Revert p) reply.Reverted → KnownAnd t p (IsReversible t n a p)
 revert-tells t n a p h =
-    let admitted = cond-then (may_ask a.role (Revert p)) _ _ _ (λ e. cc) (sym h) in
+    let admitted = cond-then (may_ask a.role (OfPack Revert p)) _ _ _ (λ e. cc) (sym h) in
     let pack = on_pack-known t p _ _ _ (λ e. cc) admitted.1 in
     let k = pack.0 in
     let free = cond-else (not (is_free (lock_on t p k))) _ _ _ (λ e. cc) pack.2 in
@@ -129,9 +130,9 @@ revert-tells t n a p h =
     )
 
 -- a theft report is accepted from the holder
-pub theft-holder : (t : List Entry) (n : ℕ) (a : Actor) (p : Pack) → IsReply t n a (Theft p) reply.MarkedStolen → is_held_by (holder_of t p.code) a.authorisation ≡ true
+pub theft-holder : (t : List Entry) (n : ℕ) (a : Actor) (p : Pack) → IsReply t n a (OfPack Theft p) reply.MarkedStolen → is_held_by (holder_of t p.code) a.authorisation ≡ true
 theft-holder t n a p h =
-    let admitted = cond-then (may_ask a.role (Theft p)) _ _ _ (λ e. cc) (sym h) in
+    let admitted = cond-then (may_ask a.role (OfPack Theft p)) _ _ _ (λ e. cc) (sym h) in
     let pack = on_pack-known t p _ _ _ (λ e. cc) admitted.1 in
     not-false _ (cond-else (not (is_held_by (holder_of t p.code) a.authorisation)) _ _ _ (λ e. cc) pack.2).0
 
@@ -149,9 +150,9 @@ lock-holder t a c b n may h =
     not-false _ (cond-else (not (is_held_by (holder_of t c) a.authorisation)) _ _ _ (λ e. cc) batch.1).0
 
 -- a pack that is reported as stolen was not stolen
-pub theft-tells : (t : List Entry) (n : ℕ) (a : Actor) (p : Pack) → IsReply t n a (Theft p) reply.MarkedStolen → KnownAnd t p (λ k. is_stolen k.own ≡ false)
+pub theft-tells : (t : List Entry) (n : ℕ) (a : Actor) (p : Pack) → IsReply t n a (OfPack Theft p) reply.MarkedStolen → KnownAnd t p (λ k. is_stolen k.own ≡ false)
 theft-tells t n a p h =
-    let admitted = cond-then (may_ask a.role (Theft p)) _ _ _ (λ e. cc) (sym h) in
+    let admitted = cond-then (may_ask a.role (OfPack Theft p)) _ _ _ (λ e. cc) (sym h) in
     let pack = on_pack-known t p _ _ _ (λ e. cc) admitted.1 in
     let held = cond-else (not (is_held_by (holder_of t p.code) a.authorisation)) _ _ _ (λ e. cc) pack.2 in
     let stolen = cond-else (is_stolen pack.0.own) _ _ _ (λ e. cc) held.1 in
@@ -172,7 +173,7 @@ pub authentic_answer-tells : (t : List Entry) (e : Entry) (p : Pack) → e.reply
 authentic_answer-tells t e p lawful h = by e.put.question e.reply lawful h
   where
     by : (q : Question) (r : Reply) → IsReply t e.put.moment e.put.actor q r → (names p (pack_of q) && is_confirmed q r) ≡ true → KnownAnd t p (IsAuthentic t p)
-    by (Verify s) (reply.Authentic b x late) is c =
+    by (OfPack Verify s) (reply.Authentic b x late) is c =
         let same : s ≡ p = sym (same_pack-equal p s (first_so _ _ c)) in
         subst (λ r. KnownAnd t r (IsAuthentic t r)) same
         (KnownAnd-map t s _ _ (λ k tells. tells.0) (verify-tells t e.put.moment e.put.actor s b x late is))
@@ -183,10 +184,10 @@ pub accepted_decommissioning-tells : (t : List Entry) (e : Entry) (p : Pack) →
 accepted_decommissioning-tells t e p lawful h = by e.put.question e.reply lawful h
   where
     by : (q : Question) (r : Reply) → IsReply t e.put.moment e.put.actor q r → ((names p (pack_of q) && accepts q r) && is_decommissioning q) ≡ true → KnownAnd t p (IsAuthentic t p)
-    by (Decommission s w) reply.Decommissioned is c =
+    by (OfPack (Decommission w) s) reply.Decommissioned is c =
         let same : s ≡ p = sym (same_pack-equal p s (first_so _ _ (first_so _ _ c))) in
         subst (λ r. KnownAnd t r (IsAuthentic t r)) same (decommission-tells t e.put.moment e.put.actor s w is)
-    by (Decommission s w) r is c = let none : false ≡ true = second_so (same_pack p s) false (first_so (same_pack p s && false) true c) in cc
+    by (OfPack (Decommission w) s) r is c = let none : false ≡ true = second_so (same_pack p s) false (first_so (same_pack p s && false) true c) in cc
     by q r is c = let none : false ≡ true = second_so (names p (pack_of q) && accepts q r) (is_decommissioning q) c in cc
 
 -- a pack is handed over only if it is held in the same house
@@ -194,10 +195,10 @@ pub accepted_handover-tells : (t : List Entry) (e : Entry) (p : Pack) → e.repl
 accepted_handover-tells t e p lawful h = by e.put.question e.reply lawful h
   where
     by : (q : Question) (r : Reply) → IsReply t e.put.moment e.put.actor q r → ((names p (pack_of q) && accepts q r) && is_handover q) ≡ true → KnownAnd t p (IsHeldHere t e.put.actor p)
-    by (Handover s) reply.HandedOver is c =
+    by (OfPack Handover s) reply.HandedOver is c =
         let same : s ≡ p = sym (same_pack-equal p s (first_so _ _ (first_so _ _ c))) in
         subst (λ r. KnownAnd t r (IsHeldHere t e.put.actor r)) same (handover-tells t e.put.moment e.put.actor s is)
-    by (Handover s) r is c = let none : false ≡ true = second_so (same_pack p s) false (first_so (same_pack p s && false) true c) in cc
+    by (OfPack Handover s) r is c = let none : false ≡ true = second_so (same_pack p s) false (first_so (same_pack p s && false) true c) in cc
     by q r is c = let none : false ≡ true = second_so (names p (pack_of q) && accepts q r) (is_handover q) c in cc
 
 -- a pack is reverted only if Article 13 allows it
@@ -205,10 +206,10 @@ pub accepted_reversion-tells : (t : List Entry) (e : Entry) (p : Pack) → e.rep
 accepted_reversion-tells t e p lawful h = by e.put.question e.reply lawful h
   where
     by : (q : Question) (r : Reply) → IsReply t e.put.moment e.put.actor q r → ((names p (pack_of q) && accepts q r) && is_reversion q) ≡ true → KnownAnd t p (IsReversible t e.put.moment e.put.actor p)
-    by (Revert s) reply.Reverted is c =
+    by (OfPack Revert s) reply.Reverted is c =
         let same : s ≡ p = sym (same_pack-equal p s (first_so _ _ (first_so _ _ c))) in
         subst (λ r. KnownAnd t r (IsReversible t e.put.moment e.put.actor r)) same (revert-tells t e.put.moment e.put.actor s is)
-    by (Revert s) r is c = let none : false ≡ true = second_so (same_pack p s) false (first_so (same_pack p s && false) true c) in cc
+    by (OfPack Revert s) r is c = let none : false ≡ true = second_so (same_pack p s) false (first_so (same_pack p s && false) true c) in cc
     by q r is c = let none : false ≡ true = second_so (names p (pack_of q) && accepts q r) (is_reversion q) c in cc
 
 -- a pack is uploaded only if it is not known
@@ -240,10 +241,10 @@ pub thefts-tells : (t : List Entry) (e : Entry) (p : Pack) → e.reply ≡ reply
 thefts-tells t e p lawful h = by e.put.question e.reply lawful h
   where
     by : (q : Question) (r : Reply) → IsReply t e.put.moment e.put.actor q r → ((names p (pack_of q) && accepts q r) && is_theft q) ≡ true → KnownAnd t p (λ k. is_stolen k.own ≡ false)
-    by (Theft s) reply.MarkedStolen is c =
+    by (OfPack Theft s) reply.MarkedStolen is c =
         let same : s ≡ p = sym (same_pack-equal p s (first_so _ _ (first_so _ _ c))) in
         subst (λ r. KnownAnd t r (λ k. is_stolen k.own ≡ false)) same (theft-tells t e.put.moment e.put.actor s is)
-    by (Theft s) r is c = let none : false ≡ true = second_so (same_pack p s) false (first_so (same_pack p s && false) true c) in cc
+    by (OfPack Theft s) r is c = let none : false ≡ true = second_so (same_pack p s) false (first_so (same_pack p s && false) true c) in cc
     by q r is c = let none : false ≡ true = second_so (names p (pack_of q) && accepts q r) (is_theft q) c in cc
 
 -- a property of the values known of a pack, for a name of these values

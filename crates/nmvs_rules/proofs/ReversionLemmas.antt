@@ -9,7 +9,8 @@ use Rattle.nmvs_identifier.specs.Texts.{same_text}
 use Rattle.nmvs_identifier.specs.declared.pack.Pack.{Pack}
 use Rattle.nmvs_rules.specs.declared.actor.Actor.{Actor}
 use Rattle.nmvs_rules.specs.declared.question.Question.{Question}
-use Rattle.nmvs_rules.specs.declared.question.Question.TheVariants.{Decommission, Handover, Revert, Theft}
+use Rattle.nmvs_rules.specs.declared.question.Question.TheVariants.{OfPack}
+use Rattle.nmvs_rules.specs.declared.pack_question.PackQuestion.TheVariants.{Decommission, Handover, Revert, Theft}
 use Rattle.nmvs_rules.specs.declared.batch_lock.BatchLock.{BatchLock}
 use Rattle.nmvs_rules.specs.declared.entry.Entry.{Entry}
 use Rattle.nmvs_rules.specs.declared.facts.Known.{Known}
@@ -46,9 +47,9 @@ time_in m n h = grind (arith, nat_tests)
 
 -- a pack that is neither active nor stolen nor supplied was decommissioned last
 decommissioned-last : (q : Question) → is_active (own_given q) ≡ false → is_stolen (own_given q) ≡ false → is_supplied (own_given q) ≡ false → is_decommissioning q ≡ true
-decommissioned-last (Decommission p w) active stolen supplied = refl
-decommissioned-last (Handover p) active stolen supplied = sym supplied
-decommissioned-last (Theft p) active stolen supplied = sym stolen
+decommissioned-last (OfPack (Decommission w) p) active stolen supplied = refl
+decommissioned-last (OfPack Handover p) active stolen supplied = sym supplied
+decommissioned-last (OfPack Theft p) active stolen supplied = sym stolen
 decommissioned-last q active stolen supplied = sym active
 
 revertible : (t : List Entry) (p : Pack) (q : Put) (k : Known) → KnownBy t p k → IsReversible t q.moment q.actor p k → IsRevertible t p q
@@ -79,7 +80,7 @@ revertible t p q k by tells =
 reverted : (n : ℕ) (a : Actor) (k : Known) (l : BatchLock) → is_free l ≡ true → is_active k.own ≡ false → is_stolen k.own ≡ false → is_destroyed k.own ≡ false → is_supplied k.own ≡ false → is_same_house a k.mark ≡ true → is_in_time n k.mark ≡ true → is_past k.expiry n ≡ false → revert_reply n a k l ≡ reply.Reverted
 reverted n a k l free active stolen destroyed supplied house time past = rw (free, active, stolen, destroyed, supplied, house, time, past) refl
 
-reversion : (t : List Entry) (p : Pack) (q : Put) → IsRevertible t p q → admitted_reply t q.moment q.actor (Revert p) ≡ reply.Reverted
+reversion : (t : List Entry) (p : Pack) (q : Put) → IsRevertible t p q → admitted_reply t q.moment q.actor (OfPack Revert p) ≡ reply.Reverted
 reversion t p q h =
     let upload = birth-of t p h.batch h.expiry h.uploaded in
     let k : Known = record { batch = h.batch; expiry = h.expiry; own = own_given h.last.put.question; mark = mark_after (mark_place t p) h.last } in
@@ -98,16 +99,16 @@ reversion t p q h =
     house (time_in _ _ h.within_days) (past_not _ _ h.not_expired)
 
 -- the law of reversions
-pub reversion-exact : (t : List Entry) (q : Put) (p : Pack) → q.question ≡ Revert p → (reply_of t q ≡ reply.Reverted) ↔ (IsTrue (may_ask q.actor.role q.question) × IsRevertible t p q)
+pub reversion-exact : (t : List Entry) (q : Put) (p : Pack) → q.question ≡ OfPack Revert p → (reply_of t q ≡ reply.Reverted) ↔ (IsTrue (may_ask q.actor.role q.question) × IsRevertible t p q)
 reversion-exact t q p is = (forward, backward)
   where
     forward : reply_of t q ≡ reply.Reverted → IsTrue (may_ask q.actor.role q.question) × IsRevertible t p q
     forward h =
-        let given : IsReply t q.moment q.actor (Revert p) reply.Reverted = sym h ∙ reply-question t q (Revert p) is in
+        let given : IsReply t q.moment q.actor (OfPack Revert p) reply.Reverted = sym h ∙ reply-question t q (OfPack Revert p) is in
         let pack = revert-tells t q.moment q.actor p given in (
-          ap (may_ask q.actor.role) is ∙ may-tells t q.moment q.actor (Revert p) _ (λ e. cc) given,
+          ap (may_ask q.actor.role) is ∙ may-tells t q.moment q.actor (OfPack Revert p) _ (λ e. cc) given,
           revertible t p q pack.0 (known-by t p pack.0 pack.1) pack.2,
         )
 
     backward : IsTrue (may_ask q.actor.role q.question) × IsRevertible t p q → reply_of t q ≡ reply.Reverted
-    backward h = reply-admitted t q (Revert p) is h.0 ∙ reversion t p q h.1
+    backward h = reply-admitted t q (OfPack Revert p) is h.0 ∙ reversion t p q h.1

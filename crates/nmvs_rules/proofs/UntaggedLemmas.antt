@@ -14,7 +14,9 @@ use Rattle.nmvs_rules.specs.declared.own_status.OwnStatus.{OwnStatus}
 use Rattle.nmvs_rules.specs.declared.own_status.OwnStatus.TheVariants as own
 use Rattle.nmvs_rules.specs.declared.put.Put.{Put}
 use Rattle.nmvs_rules.specs.declared.question.Question.{Question}
-use Rattle.nmvs_rules.specs.declared.question.Question.TheVariants.{Upload, Verify, Status, Decommission, Handover, Revert, Recall, Withdraw, Theft, Audit}
+use Rattle.nmvs_rules.specs.declared.question.Question.TheVariants.{Upload, OfPack, OfBatch}
+use Rattle.nmvs_rules.specs.declared.pack_question.PackQuestion.TheVariants.{Verify, Status, Decommission, Handover, Revert, Theft, Audit}
+use Rattle.nmvs_rules.specs.declared.batch_question.BatchQuestion.TheVariants.{Recall, Withdraw}
 use Rattle.nmvs_rules.specs.declared.refusal.Refusal.TheVariants as refusal
 use Rattle.nmvs_rules.specs.declared.repeat.Repeat.TheVariants as repeat
 use Rattle.nmvs_rules.specs.declared.reply.Reply.TheVariants as reply
@@ -132,22 +134,22 @@ module _ (t : List Entry) where
 
   admitted-untagged : (n : ℕ) (a : Actor) (q : Question) → admitted_reply Bare n a q ≡ admitted_reply t n a q
   admitted-untagged n a (Upload p b x) = λ i. upload_reply a (holder-untagged p.code i) (known-untagged p i)
-  admitted-untagged n a (Verify p) =
+  admitted-untagged n a (OfPack Verify p) =
       λ i. on_pack (known-untagged p i) (alert_unknown (alerts-untagged p.code i)) (λ k. verify_reply n k (lock_on-untagged p k i) (alerts-untagged p.code i))
-  admitted-untagged n a (Status p) = λ i. on_pack (known-untagged p i) reply.NoPack (λ k. status_reply k (lock_on-untagged p k i))
-  admitted-untagged n a (Decommission p r) =
+  admitted-untagged n a (OfPack Status p) = λ i. on_pack (known-untagged p i) reply.NoPack (λ k. status_reply k (lock_on-untagged p k i))
+  admitted-untagged n a (OfPack (Decommission r) p) =
       λ i. on_pack (known-untagged p i) (alert_unknown (alerts-untagged p.code i)) (λ k. decommission_reply k (lock_on-untagged p k i) (alerts-untagged p.code i))
-  admitted-untagged n a (Handover p) =
+  admitted-untagged n a (OfPack Handover p) =
       λ i. on_pack (known-untagged p i) (reply.Refused refusal.Unknown) (λ k. handover_reply a k (lock_on-untagged p k i))
-  admitted-untagged n a (Revert p) =
+  admitted-untagged n a (OfPack Revert p) =
       λ i. on_pack (known-untagged p i) (reply.Refused refusal.Unknown) (λ k. revert_reply n a k (lock_on-untagged p k i))
-  admitted-untagged n a (Recall c b) =
+  admitted-untagged n a (OfBatch Recall c b) =
       λ i. lock_reply a (batch-untagged c b i) (holder-untagged c i) (lock-untagged c b i) (count-untagged c b own.Active i)
-  admitted-untagged n a (Withdraw c b) =
+  admitted-untagged n a (OfBatch Withdraw c b) =
       λ i. lock_reply a (batch-untagged c b i) (holder-untagged c i) (lock-untagged c b i) (count-untagged c b own.Active i)
-  admitted-untagged n a (Theft p) =
+  admitted-untagged n a (OfPack Theft p) =
       λ i. on_pack (known-untagged p i) (reply.Refused refusal.Unknown) (λ k. theft_reply a (holder-untagged p.code i) k)
-  admitted-untagged n a (Audit p) = ap reply.Shown (about-untagged p)
+  admitted-untagged n a (OfPack Audit p) = ap reply.Shown (about-untagged p)
 
 -- the reply of the rules is the same without the tags
 pub reply-untagged : (t : List Entry) (q : Put) → reply_of (without_tags t) (without_tag q) ≡ reply_of t q

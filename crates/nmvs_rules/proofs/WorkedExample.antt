@@ -9,7 +9,9 @@ use Rattle.nmvs_rules.specs.declared.actor.Actor.{Actor}
 use Rattle.nmvs_rules.specs.declared.role.Role.TheVariants as role
 use Rattle.nmvs_rules.specs.declared.reason.Reason.TheVariants as reason
 use Rattle.nmvs_rules.specs.declared.question.Question.{Question}
-use Rattle.nmvs_rules.specs.declared.question.Question.TheVariants.{Upload, Verify, Status, Decommission, Handover, Revert, Recall, Audit}
+use Rattle.nmvs_rules.specs.declared.question.Question.TheVariants.{Upload, OfPack, OfBatch}
+use Rattle.nmvs_rules.specs.declared.pack_question.PackQuestion.TheVariants.{Verify, Status, Decommission, Handover, Revert, Audit}
+use Rattle.nmvs_rules.specs.declared.batch_question.BatchQuestion.TheVariants.{Recall}
 use Rattle.nmvs_rules.specs.declared.reply.Reply.TheVariants as reply
 use Rattle.nmvs_rules.specs.declared.refusal.Refusal.TheVariants as refusal
 use Rattle.nmvs_rules.specs.declared.cause.Cause.TheVariants as cause
@@ -100,7 +102,7 @@ batch-uploaded = refl
 
 -- a pharmacy decommissions it, to supply it later
 abbrev hold : Put
-hold = put (codes "ph1") pharmacy (Decommission pack reason.Hold)
+hold = put (codes "ph1") pharmacy (OfPack (Decommission reason.Hold) pack)
 
 abbrev held : List Entry
 held = after uploaded hold
@@ -116,7 +118,7 @@ batch-held = refl
 
 -- the holder recalls the batch, of which no pack is active; the pack's own status stays
 abbrev recall : Put
-recall = put (codes "mah1") holder (Recall code batch)
+recall = put (codes "mah1") holder (OfBatch Recall code batch)
 
 abbrev recalled : List Entry
 recalled = after held recall
@@ -135,7 +137,7 @@ about-recalled = refl
 
 -- the pharmacy may not revert it now: a refusal is recorded and changes nothing else
 abbrev revert : Put
-revert = put (codes "ph1") pharmacy (Revert pack)
+revert = put (codes "ph1") pharmacy (OfPack Revert pack)
 
 abbrev refused : List Entry
 refused = after recalled revert
@@ -154,7 +156,7 @@ alerts-refused = refl
 
 -- a verification alerts, and as the batch is recalled the alert is not flagged as a potential falsification
 abbrev verify : Put
-verify = put (codes "ph1") pharmacy (Verify pack)
+verify = put (codes "ph1") pharmacy (OfPack Verify pack)
 
 abbrev verified : List Entry
 verified = after refused verify
@@ -167,7 +169,7 @@ alerts-verified = refl
 
 -- an authority reads the status, and no alert is counted
 abbrev status : Put
-status = put (codes "au1") authority (Status pack)
+status = put (codes "au1") authority (OfPack Status pack)
 
 status-facts : facts_of verified status.question ≡ record {
   pack = known_as own.Held 1 pharmacy;
@@ -187,7 +189,7 @@ alerts-read = refl
 -- an audit shows it the entries about the pack, the recall of its batch not among them, and their number; it shows the
 -- pharmacy none
 abbrev audit : Put
-audit = put (codes "au1") authority (Audit pack)
+audit = put (codes "au1") authority (OfPack Audit pack)
 
 audit-reply : reply_of verified audit ≡ reply.Shown 4
 audit-reply = refl
@@ -197,7 +199,7 @@ audit-shown : shown_of verified audit ≡
     ∷ answered revert (reply.Refused refusal.Locked) ∷ answered verify (reply.Alert cause.Recalled false 1) ∷ []
 audit-shown = refl
 
-audit-hidden : shown_of verified (put (codes "ph1") pharmacy (Audit pack)) ≡ []
+audit-hidden : shown_of verified (put (codes "ph1") pharmacy (OfPack Audit pack)) ≡ []
 audit-hidden = refl
 
 -- the whole trail is lawful
@@ -242,12 +244,12 @@ revert-day_before = ap (λ d. if int_lt d (pos 20_434) then reply.Refused refusa
 abbrev other_premises : Actor
 other_premises = record pharmacy { premises = text (codes "P2") }
 
-revert-elsewhere : reply_of held (at (days_later 11) (put (codes "ph2") other_premises (Revert pack))) ≡ reply.Refused refusal.Other
+revert-elsewhere : reply_of held (at (days_later 11) (put (codes "ph2") other_premises (OfPack Revert pack))) ≡ reply.Refused refusal.Other
 revert-elsewhere = refl
 
 -- the pharmacy hands the held pack over, also once it is expired: the pack is supplied from then on
 abbrev handover : Put
-handover = put (codes "ph1") pharmacy (Handover pack)
+handover = put (codes "ph1") pharmacy (OfPack Handover pack)
 
 abbrev handed_over : List Entry
 handed_over = after held handover
@@ -280,7 +282,7 @@ handover-twice = refl
 handover-recalled : reply_of recalled handover ≡ reply.Refused refusal.Locked
 handover-recalled = refl
 
-handover-elsewhere : reply_of held (put (codes "ph2") other_premises (Handover pack)) ≡ reply.Refused refusal.Other
+handover-elsewhere : reply_of held (put (codes "ph2") other_premises (OfPack Handover pack)) ≡ reply.Refused refusal.Other
 handover-elsewhere = refl
 
 -- before, handovers were questions that nobody might ask

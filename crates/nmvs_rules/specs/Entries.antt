@@ -12,7 +12,7 @@ use Rattle.nmvs_identifier.specs.Tag.{Tag, is_tag}
 use Rattle.nmvs_rules.specs.declared.actor.Actor.{Actor}
 use Rattle.nmvs_rules.specs.declared.put.Put.{Put}
 use Rattle.nmvs_rules.specs.declared.question.Question.{Question}
-use Rattle.nmvs_rules.specs.declared.question.Question.TheVariants.{Upload, Verify, Status, Decommission, Handover, Revert, Recall, Withdraw, Theft, Audit}
+use Rattle.nmvs_rules.specs.declared.question.Question.TheVariants.{Upload, OfPack, OfBatch}
 use Rattle.nmvs_rules.specs.declared.reply.Reply.{Reply}
 use Rattle.nmvs_rules.specs.declared.reply.Reply.TheVariants as reply
 use Rattle.nmvs_rules.specs.declared.entry.Entry.{Entry}
@@ -32,15 +32,8 @@ is_actor a = is_name a.authorisation.bytes && is_name a.premises.bytes
 -- whether the texts that a question names are in their grammars
 abbrev pub is_question : Question → Bool
 is_question (Upload p b x) = is_pack p && is_batch_and_expiry b x
-is_question (Verify p) = is_pack p
-is_question (Status p) = is_pack p
-is_question (Decommission p _) = is_pack p
-is_question (Handover p) = is_pack p
-is_question (Revert p) = is_pack p
-is_question (Recall c b) = is_product_code c.bytes && is_batch b.bytes
-is_question (Withdraw c b) = is_product_code c.bytes && is_batch b.bytes
-is_question (Theft p) = is_pack p
-is_question (Audit p) = is_pack p
+is_question (OfPack _ p) = is_pack p
+is_question (OfBatch _ c b) = is_product_code c.bytes && is_batch b.bytes
 
 -- whether the texts and the numbers of a reply are in their grammars and ranges
 abbrev pub is_reply : Reply → Bool

@@ -6,7 +6,8 @@ use Rattle.nmvs_identifier.specs.declared.pack.Pack.{Pack}
 use Rattle.nmvs_rules.specs.declared.actor.Actor.{Actor}
 use Rattle.nmvs_rules.specs.declared.put.Put.{Put}
 use Rattle.nmvs_rules.specs.declared.question.Question.{Question}
-use Rattle.nmvs_rules.specs.declared.question.Question.TheVariants.{Upload, Verify, Status, Decommission, Handover, Revert, Recall, Withdraw, Theft, Audit}
+use Rattle.nmvs_rules.specs.declared.question.Question.TheVariants.{Upload, OfPack, OfBatch}
+use Rattle.nmvs_rules.specs.declared.pack_question.PackQuestion.TheVariants.{Verify, Status, Decommission, Handover, Revert, Theft, Audit}
 use Rattle.nmvs_rules.specs.declared.reply.Reply.{Reply}
 use Rattle.nmvs_rules.specs.declared.reply.Reply.TheVariants as reply
 use Rattle.nmvs_rules.specs.declared.refusal.Refusal.TheVariants as refusal
@@ -68,22 +69,20 @@ active_in (Some r) = r.counts.active
 -- by a fact
 abbrev pub admitted_reply_by_facts : Facts → ℕ → Actor → Question → Reply
 admitted_reply_by_facts f moment a (Upload p b x) = upload_reply a f.holder f.pack
-admitted_reply_by_facts f moment a (Verify p) =
+admitted_reply_by_facts f moment a (OfPack Verify p) =
     on_pack f.pack (alert_unknown f.alerts) (λ k. verify_reply moment k (lock_in f.batch) f.alerts)
-admitted_reply_by_facts f moment a (Status p) = on_pack f.pack reply.NoPack (λ k. status_reply k (lock_in f.batch))
-admitted_reply_by_facts f moment a (Decommission p r) =
+admitted_reply_by_facts f moment a (OfPack Status p) = on_pack f.pack reply.NoPack (λ k. status_reply k (lock_in f.batch))
+admitted_reply_by_facts f moment a (OfPack (Decommission r) p) =
     on_pack f.pack (alert_unknown f.alerts) (λ k. decommission_reply k (lock_in f.batch) f.alerts)
-admitted_reply_by_facts f moment a (Handover p) =
+admitted_reply_by_facts f moment a (OfPack Handover p) =
     on_pack f.pack (reply.Refused refusal.Unknown) (λ k. handover_reply a k (lock_in f.batch))
-admitted_reply_by_facts f moment a (Revert p) =
+admitted_reply_by_facts f moment a (OfPack Revert p) =
     on_pack f.pack (reply.Refused refusal.Unknown) (λ k. revert_reply moment a k (lock_in f.batch))
-admitted_reply_by_facts f moment a (Recall c b) =
+admitted_reply_by_facts f moment a (OfBatch _ c b) =
     lock_reply a (is_some f.batch) f.holder (lock_in f.batch) (active_in f.batch)
-admitted_reply_by_facts f moment a (Withdraw c b) =
-    lock_reply a (is_some f.batch) f.holder (lock_in f.batch) (active_in f.batch)
-admitted_reply_by_facts f moment a (Theft p) =
+admitted_reply_by_facts f moment a (OfPack Theft p) =
     on_pack f.pack (reply.Refused refusal.Unknown) (λ k. theft_reply a f.holder k)
-admitted_reply_by_facts f moment a (Audit p) = reply.Shown f.about
+admitted_reply_by_facts f moment a (OfPack Audit p) = reply.Shown f.about
 
 -- the reply of the rules by the facts
 abbrev pub reply_by_facts : Facts → Put → Reply

@@ -13,7 +13,9 @@ use Rattle.nmvs_rules.specs.declared.facts.Known.{Known}
 use Rattle.nmvs_rules.specs.declared.own_status.OwnStatus.{OwnStatus}
 use Rattle.nmvs_rules.specs.declared.own_status.OwnStatus.TheVariants as own
 use Rattle.nmvs_rules.specs.declared.question.Question.{Question}
-use Rattle.nmvs_rules.specs.declared.question.Question.TheVariants.{Upload, Verify, Decommission, Handover, Recall, Withdraw}
+use Rattle.nmvs_rules.specs.declared.question.Question.TheVariants.{Upload, OfPack, OfBatch}
+use Rattle.nmvs_rules.specs.declared.pack_question.PackQuestion.TheVariants.{Verify, Decommission, Handover}
+use Rattle.nmvs_rules.specs.declared.batch_question.BatchQuestion.TheVariants.{Recall, Withdraw}
 use Rattle.nmvs_rules.specs.declared.reason.Reason.{Reason}
 use Rattle.nmvs_rules.specs.declared.put.Put.{Put}
 use Rattle.nmvs_rules.specs.Limits.{reversion_days}
@@ -35,7 +37,7 @@ placed_at place i t = kept (λ c. place c == i) t
 
 -- whether the question hands a pack over (own, after Article 25)
 abbrev pub is_handover : Question → Bool
-is_handover (Handover _) = true
+is_handover (OfPack Handover _) = true
 is_handover _ = false
 
 -- whether the entry's question hands a pack over
@@ -121,11 +123,11 @@ pub record IsBorn (place : ℕ) (e : Entry) (n : Known) : Type 0 where
 
 -- a question that is answered with an alert if the pack is not authentic (Article 36)
 abbrev pub AsksAuthenticity : Pack → Question → Type 0
-AsksAuthenticity p q = (q ≡ Verify p) ⊎ ((w : Reason) × (q ≡ Decommission p w))
+AsksAuthenticity p q = (q ≡ OfPack Verify p) ⊎ ((w : Reason) × (q ≡ OfPack (Decommission w) p))
 
 -- a question that locks the batch if it is accepted (Article 40)
 abbrev pub AsksLock : ProductCode → Batch → Question → Type 0
-AsksLock c b q = (q ≡ Recall c b) ⊎ (q ≡ Withdraw c b)
+AsksLock c b q = (q ≡ OfBatch Recall c b) ⊎ (q ≡ OfBatch Withdraw c b)
 
 -- the numbers of the alerts on a product code, in order (own)
 abbrev pub alert_numbers : List Entry → ProductCode → List ℕ

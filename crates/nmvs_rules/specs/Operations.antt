@@ -12,7 +12,9 @@ use Rattle.nmvs_rules.specs.declared.entry.Entry.{Entry}
 use Rattle.nmvs_rules.specs.declared.own_status.OwnStatus.{OwnStatus}
 use Rattle.nmvs_rules.specs.declared.own_status.OwnStatus.TheVariants as own
 use Rattle.nmvs_rules.specs.declared.question.Question.{Question}
-use Rattle.nmvs_rules.specs.declared.question.Question.TheVariants.{Upload, Verify, Decommission, Handover, Revert, Recall, Withdraw, Theft}
+use Rattle.nmvs_rules.specs.declared.question.Question.TheVariants.{Upload, OfPack, OfBatch}
+use Rattle.nmvs_rules.specs.declared.pack_question.PackQuestion.TheVariants.{Verify, Decommission, Handover, Revert, Theft}
+use Rattle.nmvs_rules.specs.declared.batch_question.BatchQuestion.TheVariants.{Recall, Withdraw}
 use Rattle.nmvs_rules.specs.declared.reason.Reason.TheVariants as reason
 use Rattle.nmvs_rules.specs.declared.reply.Reply.{Reply}
 use Rattle.nmvs_rules.specs.declared.reply.Reply.TheVariants as reply
@@ -34,49 +36,48 @@ batch_upload_done c b _ _ = false
 
 -- the pack was decommissioned (Articles 22 and 25)
 abbrev pub decommissioning_done : Pack → Question → Reply → Bool
-decommissioning_done p (Decommission r _) reply.Decommissioned = same_pack p r
+decommissioning_done p (OfPack (Decommission _) r) reply.Decommissioned = same_pack p r
 decommissioning_done p _ _ = false
 
 -- the pack was decommissioned to be held until it is supplied (Article 25)
 abbrev pub hold_done : Pack → Question → Reply → Bool
-hold_done p (Decommission r reason.Hold) reply.Decommissioned = same_pack p r
+hold_done p (OfPack (Decommission reason.Hold) r) reply.Decommissioned = same_pack p r
 hold_done p _ _ = false
 
 -- the pack was handed over after it had been decommissioned for that (own, after Article 25)
 abbrev pub handover_done : Pack → Question → Reply → Bool
-handover_done p (Handover r) reply.HandedOver = same_pack p r
+handover_done p (OfPack Handover r) reply.HandedOver = same_pack p r
 handover_done p _ _ = false
 
 -- the pack was supplied to the public, at its decommissioning or by a later handover (Article 25)
 abbrev pub supply_done : Pack → Question → Reply → Bool
-supply_done p (Decommission r reason.Supply) reply.Decommissioned = same_pack p r
-supply_done p (Handover r) reply.HandedOver = same_pack p r
+supply_done p (OfPack (Decommission reason.Supply) r) reply.Decommissioned = same_pack p r
+supply_done p (OfPack Handover r) reply.HandedOver = same_pack p r
 supply_done p _ _ = false
 
 -- the pack was intended for destruction (Articles 13(1)(d), 22 and 25)
 abbrev pub destruction_done : Pack → Question → Reply → Bool
-destruction_done p (Decommission r reason.Destroy) reply.Decommissioned = same_pack p r
+destruction_done p (OfPack (Decommission reason.Destroy) r) reply.Decommissioned = same_pack p r
 destruction_done p _ _ = false
 
 -- the pack was reverted to active (Article 13)
 abbrev pub reversion_done : Pack → Question → Reply → Bool
-reversion_done p (Revert r) reply.Reverted = same_pack p r
+reversion_done p (OfPack Revert r) reply.Reverted = same_pack p r
 reversion_done p _ _ = false
 
 -- the pack was reported as stolen (Article 40)
 abbrev pub theft_done : Pack → Question → Reply → Bool
-theft_done p (Theft r) reply.MarkedStolen = same_pack p r
+theft_done p (OfPack Theft r) reply.MarkedStolen = same_pack p r
 theft_done p _ _ = false
 
 -- the batch was recalled or withdrawn (Article 40)
 abbrev pub lock_done : ProductCode → Batch → Question → Reply → Bool
-lock_done c b (Recall d l) (reply.LockedNow _) = same_text c d && same_text b l
-lock_done c b (Withdraw d l) (reply.LockedNow _) = same_text c d && same_text b l
+lock_done c b (OfBatch _ d l) (reply.LockedNow _) = same_text c d && same_text b l
 lock_done c b _ _ = false
 
 -- the pack was verified and answered Authentic (Article 11)
 abbrev pub confirmation_done : Pack → Question → Reply → Bool
-confirmation_done p (Verify r) (reply.Authentic _ _ _) = same_pack p r
+confirmation_done p (OfPack Verify r) (reply.Authentic _ _ _) = same_pack p r
 confirmation_done p _ _ = false
 
 -- whether the entry did this
@@ -132,28 +133,28 @@ last_operation t p = find (operates p) (reverse t)
 -- the own status that an operation leaves its pack with (Articles 11, 13, 22, 25 and 40)
 abbrev pub own_left : Question → Option OwnStatus
 own_left (Upload _ _ _) = Some own.Active
-own_left (Revert _) = Some own.Active
-own_left (Decommission _ reason.Supply) = Some own.Supplied
-own_left (Decommission _ reason.Hold) = Some own.Held
-own_left (Decommission _ reason.Export) = Some own.Exported
-own_left (Decommission _ reason.Sample) = Some own.Sampled
-own_left (Decommission _ reason.Destroy) = Some own.Destroyed
-own_left (Handover _) = Some own.Supplied
-own_left (Theft _) = Some own.Stolen
+own_left (OfPack Revert _) = Some own.Active
+own_left (OfPack (Decommission reason.Supply) _) = Some own.Supplied
+own_left (OfPack (Decommission reason.Hold) _) = Some own.Held
+own_left (OfPack (Decommission reason.Export) _) = Some own.Exported
+own_left (OfPack (Decommission reason.Sample) _) = Some own.Sampled
+own_left (OfPack (Decommission reason.Destroy) _) = Some own.Destroyed
+own_left (OfPack Handover _) = Some own.Supplied
+own_left (OfPack Theft _) = Some own.Stolen
 own_left _ = None
 
 -- the content of an alert after such an operation on the pack, or such a lock of its batch: its cause, and whether it is
 -- flagged as a potential falsification. An upload or a reversion gives no cause (after Article 36)
 abbrev pub alarm : Question → Option (Cause × Bool)
-alarm (Decommission _ reason.Supply) = Some (cause.Supplied, true)
-alarm (Decommission _ reason.Hold) = Some (cause.Held, true)
-alarm (Decommission _ reason.Export) = Some (cause.Exported, true)
-alarm (Decommission _ reason.Sample) = Some (cause.Sampled, true)
-alarm (Decommission _ reason.Destroy) = Some (cause.Destroyed, false)
-alarm (Handover _) = Some (cause.Supplied, true)
-alarm (Theft _) = Some (cause.Stolen, true)
-alarm (Recall _ _) = Some (cause.Recalled, false)
-alarm (Withdraw _ _) = Some (cause.Withdrawn, false)
+alarm (OfPack (Decommission reason.Supply) _) = Some (cause.Supplied, true)
+alarm (OfPack (Decommission reason.Hold) _) = Some (cause.Held, true)
+alarm (OfPack (Decommission reason.Export) _) = Some (cause.Exported, true)
+alarm (OfPack (Decommission reason.Sample) _) = Some (cause.Sampled, true)
+alarm (OfPack (Decommission reason.Destroy) _) = Some (cause.Destroyed, false)
+alarm (OfPack Handover _) = Some (cause.Supplied, true)
+alarm (OfPack Theft _) = Some (cause.Stolen, true)
+alarm (OfBatch Recall _ _) = Some (cause.Recalled, false)
+alarm (OfBatch Withdraw _ _) = Some (cause.Withdrawn, false)
 alarm _ = None
 
 -- the number of a reply that is an alert (own)

@@ -9,38 +9,24 @@ use Rattle.nmvs_rules.specs.declared.role.Role.TheVariants as role
 use Rattle.nmvs_rules.specs.declared.reason.Reason.{Reason}
 use Rattle.nmvs_rules.specs.declared.reason.Reason.TheVariants as reason
 use Rattle.nmvs_rules.specs.declared.question.Question.{Question}
-use Rattle.nmvs_rules.specs.declared.question.Question.TheVariants.{Upload, Verify, Status, Decommission, Handover, Revert, Recall, Withdraw, Theft, Audit}
+use Rattle.nmvs_rules.specs.declared.question.Question.TheVariants.{Upload, OfPack, OfBatch}
+use Rattle.nmvs_rules.specs.declared.pack_question.PackQuestion.TheVariants.{Verify, Status, Decommission, Handover, Revert, Theft, Audit}
 
 -- the pack that a question names; a recall or withdrawal names none, because it binds a whole batch (Article 40)
 abbrev pub pack_of : Question → Option Pack
 pack_of (Upload p b x) = Some p
-pack_of (Verify p) = Some p
-pack_of (Status p) = Some p
-pack_of (Decommission p r) = Some p
-pack_of (Handover p) = Some p
-pack_of (Revert p) = Some p
-pack_of (Recall c b) = None
-pack_of (Withdraw c b) = None
-pack_of (Theft p) = Some p
-pack_of (Audit p) = Some p
+pack_of (OfPack asked p) = Some p
+pack_of (OfBatch asked c b) = None
 
 -- the product code that a question names, by itself or in a pack (Articles 4 and 40)
 abbrev pub code_of : Question → ProductCode
 code_of (Upload p b x) = p.code
-code_of (Verify p) = p.code
-code_of (Status p) = p.code
-code_of (Decommission p r) = p.code
-code_of (Handover p) = p.code
-code_of (Revert p) = p.code
-code_of (Recall c b) = c
-code_of (Withdraw c b) = c
-code_of (Theft p) = p.code
-code_of (Audit p) = p.code
+code_of (OfPack asked p) = p.code
+code_of (OfBatch asked c b) = c
 
 -- the batch that a recall or withdrawal names, with its product code (Article 40)
 abbrev pub locked_batch : Question → Option Batch
-locked_batch (Recall c b) = Some b
-locked_batch (Withdraw c b) = Some b
+locked_batch (OfBatch asked c b) = Some b
 locked_batch _ = None
 
 -- whether the pack that is named, if any, is p (own)
@@ -89,15 +75,14 @@ is_authority _ = false
 -- whether a role may ask a question; all may read the status (own, after Articles 22, 25, 36 and 40)
 abbrev pub may_ask : Role → Question → Bool
 may_ask r (Upload _ _ _) = is_holder r
-may_ask r (Recall _ _) = is_holder r
-may_ask r (Withdraw _ _) = is_holder r
-may_ask r (Theft _) = is_holder r
-may_ask r (Verify _) = is_handler r
-may_ask r (Revert _) = is_handler r
-may_ask r (Decommission _ reason) = may_decommission r reason
-may_ask r (Handover _) = is_supplier r
-may_ask r (Status _) = true
-may_ask r (Audit _) = is_authority r
+may_ask r (OfBatch _ _ _) = is_holder r
+may_ask r (OfPack Theft _) = is_holder r
+may_ask r (OfPack Verify _) = is_handler r
+may_ask r (OfPack Revert _) = is_handler r
+may_ask r (OfPack (Decommission reason) _) = may_decommission r reason
+may_ask r (OfPack Handover _) = is_supplier r
+may_ask r (OfPack Status _) = true
+may_ask r (OfPack Audit _) = is_authority r
 
 -- whether a role gets the report of a product code, which is no question of a trail (own, after Articles 36 and 39)
 abbrev pub may_report : Role → Bool

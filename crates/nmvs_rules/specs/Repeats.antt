@@ -13,7 +13,11 @@ use Rattle.nmvs_rules.specs.declared.role.Role.TheVariants as role
 use Rattle.nmvs_rules.specs.declared.reason.Reason.{Reason}
 use Rattle.nmvs_rules.specs.declared.reason.Reason.TheVariants as reason
 use Rattle.nmvs_rules.specs.declared.question.Question.{Question}
-use Rattle.nmvs_rules.specs.declared.question.Question.TheVariants.{Upload, Verify, Status, Decommission, Handover, Revert, Recall, Withdraw, Theft, Audit}
+use Rattle.nmvs_rules.specs.declared.question.Question.TheVariants.{Upload, OfPack, OfBatch}
+use Rattle.nmvs_rules.specs.declared.pack_question.PackQuestion.{PackQuestion}
+use Rattle.nmvs_rules.specs.declared.pack_question.PackQuestion.TheVariants.{Verify, Status, Decommission, Handover, Revert, Theft, Audit}
+use Rattle.nmvs_rules.specs.declared.batch_question.BatchQuestion.{BatchQuestion}
+use Rattle.nmvs_rules.specs.declared.batch_question.BatchQuestion.TheVariants.{Recall, Withdraw}
 use Rattle.nmvs_rules.specs.declared.put.Put.{Put}
 use Rattle.nmvs_rules.specs.declared.entry.Entry.{Entry}
 use Rattle.nmvs_rules.specs.declared.reply.Reply.{Reply}
@@ -47,18 +51,28 @@ same_reason _ _ = false
 abbrev pub same_actor : Actor → Actor → Bool
 same_actor a b = same_role a.role b.role && (same_text a.authorisation b.authorisation && same_text a.premises b.premises)
 
+-- whether two questions about a pack are of the same kind
+abbrev pub same_pack_question : PackQuestion → PackQuestion → Bool
+same_pack_question Verify Verify = true
+same_pack_question Status Status = true
+same_pack_question (Decommission r) (Decommission s) = same_reason r s
+same_pack_question Handover Handover = true
+same_pack_question Revert Revert = true
+same_pack_question Theft Theft = true
+same_pack_question Audit Audit = true
+same_pack_question _ _ = false
+
+-- whether two questions about a batch are of the same kind
+abbrev pub same_batch_question : BatchQuestion → BatchQuestion → Bool
+same_batch_question Recall Recall = true
+same_batch_question Withdraw Withdraw = true
+same_batch_question _ _ = false
+
 -- whether two questions are the same
 abbrev pub same_question : Question → Question → Bool
 same_question (Upload p b x) (Upload q c y) = same_pack p q && (same_text b c && same_text x y)
-same_question (Verify p) (Verify q) = same_pack p q
-same_question (Status p) (Status q) = same_pack p q
-same_question (Decommission p r) (Decommission q s) = same_pack p q && same_reason r s
-same_question (Handover p) (Handover q) = same_pack p q
-same_question (Revert p) (Revert q) = same_pack p q
-same_question (Recall c b) (Recall d e) = same_text c d && same_text b e
-same_question (Withdraw c b) (Withdraw d e) = same_text c d && same_text b e
-same_question (Theft p) (Theft q) = same_pack p q
-same_question (Audit p) (Audit q) = same_pack p q
+same_question (OfPack asked p) (OfPack other q) = same_pack_question asked other && same_pack p q
+same_question (OfBatch asked c b) (OfBatch other d e) = same_batch_question asked other && (same_text c d && same_text b e)
 same_question _ _ = false
 
 -- whether both ask the same in the same capacity, at any moments

@@ -8,7 +8,8 @@ use Rattle.nmvs_identifier.specs.declared.pack.Pack.{Pack}
 use Rattle.nmvs_identifier.specs.Texts.{same_text}
 use Rattle.nmvs_rules.specs.declared.actor.Actor.{Actor}
 use Rattle.nmvs_rules.specs.declared.question.Question.{Question}
-use Rattle.nmvs_rules.specs.declared.question.Question.TheVariants.{Upload, Verify, Status, Decommission, Handover, Revert, Recall, Withdraw, Theft, Audit}
+use Rattle.nmvs_rules.specs.declared.question.Question.TheVariants.{Upload, OfPack, OfBatch}
+use Rattle.nmvs_rules.specs.declared.pack_question.PackQuestion.TheVariants.{Verify, Status, Decommission, Handover, Revert, Theft, Audit}
 use Rattle.nmvs_rules.specs.declared.role.Role.{Role}
 use Rattle.nmvs_rules.specs.declared.reply.Reply.{Reply}
 use Rattle.nmvs_rules.specs.declared.reply.Reply.TheVariants as reply
@@ -207,22 +208,20 @@ on_pack (Some k) unknown f = f k
 -- the reply to an admitted question
 abbrev pub admitted_reply : List Entry → ℕ → Actor → Question → Reply
 admitted_reply t moment a (Upload p b x) = upload_reply a (holder_of t p.code) (known t p)
-admitted_reply t moment a (Verify p) =
+admitted_reply t moment a (OfPack Verify p) =
     on_pack (known t p) (alert_unknown (alerts_of t p.code)) (λ k. verify_reply moment k (lock_on t p k) (alerts_of t p.code))
-admitted_reply t moment a (Status p) = on_pack (known t p) reply.NoPack (λ k. status_reply k (lock_on t p k))
-admitted_reply t moment a (Decommission p r) =
+admitted_reply t moment a (OfPack Status p) = on_pack (known t p) reply.NoPack (λ k. status_reply k (lock_on t p k))
+admitted_reply t moment a (OfPack (Decommission r) p) =
     on_pack (known t p) (alert_unknown (alerts_of t p.code)) (λ k. decommission_reply k (lock_on t p k) (alerts_of t p.code))
-admitted_reply t moment a (Handover p) =
+admitted_reply t moment a (OfPack Handover p) =
     on_pack (known t p) (reply.Refused refusal.Unknown) (λ k. handover_reply a k (lock_on t p k))
-admitted_reply t moment a (Revert p) =
+admitted_reply t moment a (OfPack Revert p) =
     on_pack (known t p) (reply.Refused refusal.Unknown) (λ k. revert_reply moment a k (lock_on t p k))
-admitted_reply t moment a (Recall c b) =
+admitted_reply t moment a (OfBatch _ c b) =
     lock_reply a (is_known_batch t c b) (holder_of t c) (lock_of t c b) (count_of t c b own.Active)
-admitted_reply t moment a (Withdraw c b) =
-    lock_reply a (is_known_batch t c b) (holder_of t c) (lock_of t c b) (count_of t c b own.Active)
-admitted_reply t moment a (Theft p) =
+admitted_reply t moment a (OfPack Theft p) =
     on_pack (known t p) (reply.Refused refusal.Unknown) (λ k. theft_reply a (holder_of t p.code) k)
-admitted_reply t moment a (Audit p) = reply.Shown (about_of t p)
+admitted_reply t moment a (OfPack Audit p) = reply.Shown (about_of t p)
 
 -- the reply of the rules: a user who may not ask is refused before all else (own)
 abbrev pub reply_of : List Entry → Put → Reply
@@ -231,7 +230,7 @@ reply_of t q =
 
 -- the entries that an audit shows to a role
 abbrev pub shown_to : List Entry → Role → Question → List Entry
-shown_to t r (Audit p) = if may_ask r (Audit p) then filter (is_about p) t else []
+shown_to t r (OfPack Audit p) = if may_ask r (OfPack Audit p) then filter (is_about p) t else []
 shown_to t r _ = []
 
 -- the entries that are shown with the reply: those about the pack of an audit that its role may ask, oldest first, and

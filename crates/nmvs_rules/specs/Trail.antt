@@ -11,7 +11,10 @@ use Rattle.nmvs_identifier.specs.Texts.{same_text}
 use Rattle.nmvs_rules.specs.declared.reason.Reason.{Reason}
 use Rattle.nmvs_rules.specs.declared.reason.Reason.TheVariants as reason
 use Rattle.nmvs_rules.specs.declared.question.Question.{Question}
-use Rattle.nmvs_rules.specs.declared.question.Question.TheVariants.{Upload, Decommission, Handover, Revert, Recall, Withdraw, Theft}
+use Rattle.nmvs_rules.specs.declared.question.Question.TheVariants.{Upload, OfPack, OfBatch}
+use Rattle.nmvs_rules.specs.declared.pack_question.PackQuestion.{PackQuestion}
+use Rattle.nmvs_rules.specs.declared.pack_question.PackQuestion.TheVariants.{Decommission, Handover, Revert, Theft}
+use Rattle.nmvs_rules.specs.declared.batch_question.BatchQuestion.TheVariants.{Recall, Withdraw}
 use Rattle.nmvs_rules.specs.declared.reply.Reply.{Reply}
 use Rattle.nmvs_rules.specs.declared.reply.Reply.TheVariants as reply
 use Rattle.nmvs_rules.specs.declared.own_status.OwnStatus.{OwnStatus}
@@ -32,12 +35,11 @@ last p t = find p (reverse t)
 -- whether the reply accepts the question; a refusal, an alert and mere information do not (own)
 abbrev pub accepts : Question → Reply → Bool
 accepts (Upload _ _ _) reply.Uploaded = true
-accepts (Decommission _ _) reply.Decommissioned = true
-accepts (Handover _) reply.HandedOver = true
-accepts (Revert _) reply.Reverted = true
-accepts (Recall _ _) (reply.LockedNow _) = true
-accepts (Withdraw _ _) (reply.LockedNow _) = true
-accepts (Theft _) reply.MarkedStolen = true
+accepts (OfPack (Decommission _) _) reply.Decommissioned = true
+accepts (OfPack Handover _) reply.HandedOver = true
+accepts (OfPack Revert _) reply.Reverted = true
+accepts (OfBatch _ _ _) (reply.LockedNow _) = true
+accepts (OfPack Theft _) reply.MarkedStolen = true
 accepts _ _ = false
 
 -- whether the entry's question was accepted
@@ -64,8 +66,7 @@ uploads_batch c b _ = false
 
 -- whether the question recalls or withdraws this batch of this product code (Article 40)
 abbrev pub locks_batch : ProductCode → Batch → Question → Bool
-locks_batch c b (Recall d e) = same_text c d && same_text b e
-locks_batch c b (Withdraw d e) = same_text c d && same_text b e
+locks_batch c b (OfBatch _ d e) = same_text c d && same_text b e
 locks_batch c b _ = false
 
 -- whether the reply is an alert (Article 36)
@@ -97,12 +98,17 @@ own_by_reason reason.Export = own.Exported
 own_by_reason reason.Sample = own.Sampled
 own_by_reason reason.Destroy = own.Destroyed
 
--- the own status that a question gives once it is accepted: supplied by a handover, active by an upload or a reversion
+-- the own status that a question about a pack gives it once it is accepted: supplied by a handover, active by a reversion
 -- (Articles 11, 13, 25 and 40)
+abbrev pub own_by_question : PackQuestion → OwnStatus
+own_by_question (Decommission r) = own_by_reason r
+own_by_question Handover = own.Supplied
+own_by_question Theft = own.Stolen
+own_by_question _ = own.Active
+
+-- the own status that a question gives once it is accepted: active by an upload
 abbrev pub own_given : Question → OwnStatus
-own_given (Decommission _ r) = own_by_reason r
-own_given (Handover _) = own.Supplied
-own_given (Theft _) = own.Stolen
+own_given (OfPack asked _) = own_by_question asked
 own_given _ = own.Active
 
 -- a pack's own status, if it has a mark (Articles 22, 25 and 40)
@@ -111,8 +117,8 @@ own_of t p = option_map (λ m. own_given m.put.question) (mark t p)
 
 -- the lock that a recall or withdrawal puts on its batch (Article 40)
 abbrev pub lock_by : Question → BatchLock
-lock_by (Recall _ _) = lock.Recalled
-lock_by (Withdraw _ _) = lock.Withdrawn
+lock_by (OfBatch Recall _ _) = lock.Recalled
+lock_by (OfBatch Withdraw _ _) = lock.Withdrawn
 lock_by _ = lock.Free
 
 -- the lock of a batch: its first accepted recall or withdrawal, which stays and binds packs uploaded later too (Article

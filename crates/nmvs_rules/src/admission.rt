@@ -3,22 +3,22 @@
 ghost use Rattle.std.specs.Prelude.{◌≡◌};
 ghost use Rattle.nmvs_rules.specs.Questions.{may_ask, may_report, may_decommission, is_handler, is_supplier, is_holder, is_authority};
 
-use crate::{Question, Reason, Role};
+use crate::{PackQuestion, Question, Reason, Role};
 
 /// Whether a user in this role may ask the question (own, after Articles 22, 25, 36 and 40).
 pub fn may(role: Role, question: &Question) -> bool
     ensures { result ≡ may_ask role question.now }
 {
     match question {
-        Question::Upload { .. }
-        | Question::Recall(_, _)
-        | Question::Withdraw(_, _)
-        | Question::Theft(_) => is_holder(role),
-        Question::Verify(_) | Question::Revert(_) => is_handler(role),
-        Question::Decommission(_, reason) => may_decommission(role, *reason),
-        Question::Handover(_) => is_supplier(role),
-        Question::Status(_) => true,
-        Question::Audit(_) => is_authority(role),
+        Question::Upload { .. } | Question::OfBatch(_, _, _) => is_holder(role),
+        Question::OfPack(asked, _) => match asked {
+            PackQuestion::Theft => is_holder(role),
+            PackQuestion::Verify | PackQuestion::Revert => is_handler(role),
+            PackQuestion::Decommission(reason) => may_decommission(role, *reason),
+            PackQuestion::Handover => is_supplier(role),
+            PackQuestion::Status => true,
+            PackQuestion::Audit => is_authority(role),
+        },
     }
 }
 

@@ -10,7 +10,7 @@ use crate::circulation::{decommission_reply, status_reply, verify_reply};
 use crate::handing_over::handover_reply;
 use crate::holding::{lock_reply, theft_reply, upload_reply};
 use crate::reversion::revert_reply;
-use crate::{BatchLock, BatchRecord, Facts, Put, Question, Refusal, Reply, may};
+use crate::{BatchLock, BatchRecord, Facts, PackQuestion, Put, Question, Refusal, Reply, may};
 
 /// The reply of the rules to a question as it is put, by the facts that it rests on (Articles 11 to 13, 22, 25, 35, 36
 /// and 40).
@@ -38,23 +38,26 @@ fn admitted_reply(facts: &Facts, put: &Put) -> Reply
 {
     let lock = lock_in(&facts.batch);
     let actor = &put.actor;
-    match (&put.question, &facts.pack) {
-        (Question::Upload { .. }, _) => upload_reply(actor, facts),
-        (Question::Verify(_), Some(known)) => verify_reply(put.moment, known, lock, facts.alerts),
-        (Question::Verify(_) | Question::Decommission(_, _), None) => alert_unknown(facts.alerts),
-        (Question::Status(_), Some(known)) => status_reply(known, lock),
-        (Question::Status(_), None) => Reply::NoPack,
-        (Question::Decommission(_, _), Some(known)) => {
+    let asked = match &put.question {
+        Question::Upload { .. } => return upload_reply(actor, facts),
+        Question::OfBatch(_, _, _) => return lock_reply(actor, facts),
+        Question::OfPack(asked, _) => asked,
+    };
+    match (asked, &facts.pack) {
+        (PackQuestion::Verify, Some(known)) => verify_reply(put.moment, known, lock, facts.alerts),
+        (PackQuestion::Verify | PackQuestion::Decommission(_), None) => alert_unknown(facts.alerts),
+        (PackQuestion::Status, Some(known)) => status_reply(known, lock),
+        (PackQuestion::Status, None) => Reply::NoPack,
+        (PackQuestion::Decommission(_), Some(known)) => {
             decommission_reply(known, lock, facts.alerts)
         }
-        (Question::Handover(_), Some(known)) => handover_reply(actor, known, lock),
-        (Question::Revert(_), Some(known)) => revert_reply(put.moment, actor, known, lock),
-        (Question::Recall(_, _) | Question::Withdraw(_, _), _) => lock_reply(actor, facts),
-        (Question::Theft(_), Some(known)) => theft_reply(actor, facts.holder, known),
-        (Question::Handover(_) | Question::Revert(_) | Question::Theft(_), None) => {
+        (PackQuestion::Handover, Some(known)) => handover_reply(actor, known, lock),
+        (PackQuestion::Revert, Some(known)) => revert_reply(put.moment, actor, known, lock),
+        (PackQuestion::Theft, Some(known)) => theft_reply(actor, facts.holder, known),
+        (PackQuestion::Handover | PackQuestion::Revert | PackQuestion::Theft, None) => {
             Reply::Refused(Refusal::Unknown)
         }
-        (Question::Audit(_), _) => Reply::Shown(facts.about),
+        (PackQuestion::Audit, _) => Reply::Shown(facts.about),
     }
 }
 

@@ -7,7 +7,8 @@ use Rattle.nmvs_identifier.specs.ProductCode.{ProductCode}
 use Rattle.nmvs_identifier.specs.Batch.{Batch}
 use Rattle.nmvs_identifier.specs.Texts.{same_text}
 use Rattle.nmvs_rules.specs.declared.question.Question.{Question}
-use Rattle.nmvs_rules.specs.declared.question.Question.TheVariants.{Upload, Recall, Withdraw}
+use Rattle.nmvs_rules.specs.declared.question.Question.TheVariants.{Upload, OfBatch}
+use Rattle.nmvs_rules.specs.declared.batch_question.BatchQuestion.TheVariants.{Recall, Withdraw}
 use Rattle.nmvs_rules.specs.declared.own_status.OwnStatus.{OwnStatus}
 use Rattle.nmvs_rules.specs.declared.own_status.OwnStatus.TheVariants as own
 use Rattle.nmvs_rules.specs.declared.batch_lock.BatchLock.{BatchLock}
@@ -62,8 +63,7 @@ count_in n own.Stolen = n.stolen
 abbrev pub batch_meant : Question → Option Known → Option BatchKey
 batch_meant q (Some k) = Some (record { code = code_of q; batch = k.batch })
 batch_meant (Upload p b x) None = Some (record { code = p.code; batch = b })
-batch_meant (Recall c b) None = Some (record { code = c; batch = b })
-batch_meant (Withdraw c b) None = Some (record { code = c; batch = b })
+batch_meant (OfBatch _ c b) None = Some (record { code = c; batch = b })
 batch_meant _ None = None
 
 -- the batch that an entry changes: none if the question was not accepted
@@ -80,8 +80,8 @@ own_after q = option_map (λ _. own_given q) (pack_of q)
 
 -- the lock of a batch after an accepted question that changes the batch (Article 40)
 abbrev pub lock_after : Question → BatchLock → BatchLock
-lock_after (Recall c b) l = lock.Recalled
-lock_after (Withdraw c b) l = lock.Withdrawn
+lock_after (OfBatch Recall c b) l = lock.Recalled
+lock_after (OfBatch Withdraw c b) l = lock.Withdrawn
 lock_after q l = l
 
 -- the counts of a batch without packs

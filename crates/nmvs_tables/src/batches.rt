@@ -12,7 +12,9 @@ use crate::counts::counts_after;
 use crate::writes::{find, find_near, write};
 use indexmap::IndexMap;
 use nmvs_identifier::{Batch, ProductCode};
-use nmvs_rules::{BatchLock, BatchRecord, Counts, Entry, Known, OwnStatus, Question};
+use nmvs_rules::{
+    BatchLock, BatchQuestion, BatchRecord, Counts, Entry, Known, OwnStatus, Question,
+};
 use std::alloc::Allocator;
 
 /// A batch of a product.
@@ -80,8 +82,8 @@ fn batch_meant(question: &Question, known: &Option<Known>) -> Option<BatchKey>
     let batch = match (known, question) {
         (Some(known), _) => known.batch,
         (None, Question::Upload { batch, .. }) => *batch,
-        (None, Question::Recall(_, batch) | Question::Withdraw(_, batch)) => *batch,
-        (None, _) => return None,
+        (None, Question::OfBatch(_, _, batch)) => *batch,
+        (None, Question::OfPack(_, _)) => return None,
     };
     Some(BatchKey {
         code: question.code(),
@@ -108,8 +110,8 @@ fn lock_after(question: &Question, lock: BatchLock) -> BatchLock
     ensures { result ≡ lock_after question.now lock }
 {
     match question {
-        Question::Recall(_, _) => BatchLock::Recalled,
-        Question::Withdraw(_, _) => BatchLock::Withdrawn,
+        Question::OfBatch(BatchQuestion::Recall, _, _) => BatchLock::Recalled,
+        Question::OfBatch(BatchQuestion::Withdraw, _, _) => BatchLock::Withdrawn,
         _ => lock,
     }
 }

@@ -12,7 +12,7 @@ use Rattle.nmvs_rules.specs.declared.cause.Cause.TheVariants as cause
 use Rattle.nmvs_rules.specs.declared.onward.Onward.TheVariants as onward
 use Rattle.nmvs_rules.specs.declared.own_status.OwnStatus.TheVariants as own
 use Rattle.nmvs_rules.specs.declared.batch_lock.BatchLock.TheVariants as lock
-use Rattle.nmvs_words.specs.declared.pack_question.PackQuestion.TheVariants as of_pack
+use Rattle.nmvs_rules.specs.declared.pack_question.PackQuestion.TheVariants as of_pack
 use Rattle.nmvs_messages.specs.declared.answer.Content.TheVariants as content
 use Rattle.nmvs_messages.specs.declared.answer.Turn.TheVariants as turn
 use Rattle.nmvs_messages.specs.declared.ask.Asked.TheVariants as asked
@@ -32,7 +32,7 @@ abbrev pack : List ℕ → Pack
 pack serial = record { code = text (codes "09506000134352"); serial = text serial }
 
 abbrev verification : Line
-verification = line.Ask (record { tag = Some (text (codes "a17")); asked = asked.Question (text (codes "ph1")) (question.Verify (pack (codes "SN1"))) })
+verification = line.Ask (record { tag = Some (text (codes "a17")); asked = asked.Question (text (codes "ph1")) (question.OfPack of_pack.Verify (pack (codes "SN1"))) })
 
 abbrev upload : Line
 upload = line.Ask (record {

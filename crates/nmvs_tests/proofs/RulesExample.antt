@@ -9,7 +9,9 @@ use Rattle.nmvs_rules.specs.declared.role.Role.{Role}
 use Rattle.nmvs_rules.specs.declared.role.Role.TheVariants as role
 use Rattle.nmvs_rules.specs.declared.reason.Reason.TheVariants as reason
 use Rattle.nmvs_rules.specs.declared.question.Question.{Question}
-use Rattle.nmvs_rules.specs.declared.question.Question.TheVariants.{Upload, Verify, Status, Decommission, Handover, Revert, Recall, Withdraw, Theft, Audit}
+use Rattle.nmvs_rules.specs.declared.question.Question.TheVariants.{Upload, OfPack, OfBatch}
+use Rattle.nmvs_rules.specs.declared.pack_question.PackQuestion.TheVariants.{Verify, Status, Decommission, Handover, Revert, Theft, Audit}
+use Rattle.nmvs_rules.specs.declared.batch_question.BatchQuestion.TheVariants.{Recall, Withdraw}
 use Rattle.nmvs_rules.specs.declared.reply.Reply.{Reply}
 use Rattle.nmvs_rules.specs.declared.reply.Reply.TheVariants as reply
 use Rattle.nmvs_rules.specs.declared.refusal.Refusal.{Refusal}
@@ -86,19 +88,19 @@ handlers = false ∷ true ∷ true ∷ true ∷ false ∷ []
 
 askers : Gives (λ q. of_each (λ r. may_ask r q)) (
     (upload, the_holder)
-    ∷ (Recall code batch, the_holder)
-    ∷ (Withdraw code batch, the_holder)
-    ∷ (Theft pack, the_holder)
-    ∷ (Verify pack, handlers)
-    ∷ (Revert pack, handlers)
-    ∷ (Decommission pack reason.Sample, handlers)
-    ∷ (Decommission pack reason.Destroy, handlers)
-    ∷ (Decommission pack reason.Export, false ∷ true ∷ true ∷ false ∷ false ∷ [])
-    ∷ (Decommission pack reason.Hold, false ∷ false ∷ true ∷ true ∷ false ∷ [])
-    ∷ (Decommission pack reason.Supply, the_pharmacy)
-    ∷ (Handover pack, the_pharmacy)
-    ∷ (Status pack, true ∷ true ∷ true ∷ true ∷ true ∷ [])
-    ∷ (Audit pack, the_authority)
+    ∷ (OfBatch Recall code batch, the_holder)
+    ∷ (OfBatch Withdraw code batch, the_holder)
+    ∷ (OfPack Theft pack, the_holder)
+    ∷ (OfPack Verify pack, handlers)
+    ∷ (OfPack Revert pack, handlers)
+    ∷ (OfPack (Decommission reason.Sample) pack, handlers)
+    ∷ (OfPack (Decommission reason.Destroy) pack, handlers)
+    ∷ (OfPack (Decommission reason.Export) pack, false ∷ true ∷ true ∷ false ∷ false ∷ [])
+    ∷ (OfPack (Decommission reason.Hold) pack, false ∷ false ∷ true ∷ true ∷ false ∷ [])
+    ∷ (OfPack (Decommission reason.Supply) pack, the_pharmacy)
+    ∷ (OfPack Handover pack, the_pharmacy)
+    ∷ (OfPack Status pack, true ∷ true ∷ true ∷ true ∷ true ∷ [])
+    ∷ (OfPack Audit pack, the_authority)
     ∷ [])
 askers = refl
 
@@ -106,10 +108,10 @@ reporters : of_each may_report ≡ the_authority
 reporters = refl
 
 -- a question names a code, and mostly a pack
-codes-named : Gives code_of ((Verify pack, code) ∷ (Recall code batch, code) ∷ [])
+codes-named : Gives code_of ((OfPack Verify pack, code) ∷ (OfBatch Recall code batch, code) ∷ [])
 codes-named = refl
 
-packs-named : Gives pack_of ((Verify pack, Some pack) ∷ (Recall code batch, None) ∷ [])
+packs-named : Gives pack_of ((OfPack Verify pack, Some pack) ∷ (OfBatch Recall code batch, None) ∷ [])
 packs-named = refl
 
 -- a pack of a free batch goes on by its own status, any other one to disposal
@@ -187,7 +189,7 @@ abbrev refused : Refusal → Reply
 refused = reply.Refused
 
 -- a pack expires after the last second of its last day
-verifications : Gives (asked (Verify pack)) (
+verifications : Gives (asked (OfPack Verify pack)) (
     ((pharmacy, 1_835_481_599, facts own.Active lock.Free), reply.Authentic batch expiry false)
     ∷ ((pharmacy, 1_835_481_600, facts own.Active lock.Free), reply.Authentic batch expiry true)
     ∷ ((pharmacy, new_year, nothing), reply.Alert cause.Unknown true 1)
@@ -198,7 +200,7 @@ unfolding days_from_civil day_count days_of_years days_of_months
 verifications = refl
 
 -- within ten days, by the same premises, if the pack is not expired; the clock may have been set back
-reversions : Gives (asked (Revert pack)) (
+reversions : Gives (asked (OfPack Revert pack)) (
     ((pharmacy, new_year + 10 * day, facts own.Held lock.Free), reply.Reverted)
     ∷ ((pharmacy, new_year - 20 * day, facts own.Held lock.Free), reply.Reverted)
     ∷ ((pharmacy, new_year + 11 * day, facts own.Held lock.Free), refused refusal.Late)
@@ -211,7 +213,7 @@ reversions : Gives (asked (Revert pack)) (
 unfolding days_from_civil day_count days_of_years days_of_months
 reversions = refl
 
-handovers : Gives (asked (Handover pack)) (
+handovers : Gives (asked (OfPack Handover pack)) (
     ((pharmacy, new_year, short own.Held lock.Free), reply.HandedOver)
     ∷ ((pharmacy, new_year + 11 * day, short own.Held lock.Free), reply.HandedOver)
     ∷ ((actor role.Wholesaler (codes "PH-1") (codes "P1"), new_year, short own.Held lock.Free), refused refusal.Role)
@@ -231,30 +233,30 @@ uploads : Gives (asked upload) (
     ∷ [])
 uploads = refl
 
-recalls : Gives (asked (Recall code batch)) (
+recalls : Gives (asked (OfBatch Recall code batch)) (
     ((holder, new_year, facts own.Active lock.Free), reply.LockedNow 1)
     ∷ ((holder, new_year, facts own.Active lock.Recalled), refused refusal.Already)
     ∷ ((holder, new_year, nothing), refused refusal.UnknownBatch)
     ∷ [])
 recalls = refl
 
-theft : asked (Theft pack) (holder, new_year, facts own.Destroyed lock.Free) ≡ reply.MarkedStolen
+theft : asked (OfPack Theft pack) (holder, new_year, facts own.Destroyed lock.Free) ≡ reply.MarkedStolen
 theft = refl
 
-supplies : Gives (asked (Decommission pack reason.Supply)) (
+supplies : Gives (asked (OfPack (Decommission reason.Supply) pack)) (
     ((pharmacy, new_year, facts own.Active lock.Free), reply.Decommissioned)
     ∷ ((actor role.Wholesaler (codes "WH-1") (codes "W1"), new_year, facts own.Active lock.Free), refused refusal.Role)
     ∷ ((pharmacy, new_year, facts own.Supplied lock.Free), reply.Alert cause.Supplied true 1)
     ∷ [])
 supplies = refl
 
-statuses : Gives (asked (Status pack)) (
+statuses : Gives (asked (OfPack Status pack)) (
     ((pharmacy, new_year, nothing), reply.NoPack)
     ∷ ((authority, new_year, facts own.Held lock.Recalled), reply.StatusIs own.Held lock.Recalled onward.Disposal batch expiry)
     ∷ [])
 statuses = refl
 
-audits : Gives (asked (Audit pack)) (
+audits : Gives (asked (OfPack Audit pack)) (
     ((authority, new_year, facts own.Held lock.Recalled), reply.Shown 2)
     ∷ ((pharmacy, new_year, facts own.Held lock.Recalled), refused refusal.Role)
     ∷ [])
@@ -262,12 +264,12 @@ audits = refl
 
 -- a verification with a tag
 abbrev tagged : Put
-tagged = record { moment = new_year; user = text (codes "user-1"); actor = pharmacy; question = Verify pack; tag = Some (text (codes "a17")) }
+tagged = record { moment = new_year; user = text (codes "user-1"); actor = pharmacy; question = OfPack Verify pack; tag = Some (text (codes "a17")) }
 
 -- words and capacity are compared, and neither moment nor tag
 same-asked : Gives (λ q. asks_same q tagged) (
     (record tagged { moment = new_year + day; tag = None }, true)
-    ∷ (record tagged { question = Status pack }, false)
+    ∷ (record tagged { question = OfPack Status pack }, false)
     ∷ (record tagged { actor = elsewhere }, false)
     ∷ [])
 same-asked = refl
@@ -292,7 +294,7 @@ alerted = record { put = tagged; reply = first_alert }
 -- an entry answers its question again for a day on either side
 asked-again : Gives (λ q. beside q 3 alerted) (
     (tagged, repeat.Same 3 first_alert)
-    ∷ (record tagged { question = Status pack }, repeat.Other)
+    ∷ (record tagged { question = OfPack Status pack }, repeat.Other)
     ∷ (record tagged { moment = new_year - day }, repeat.Same 3 first_alert)
     ∷ (record tagged { moment = new_year + day + 1 }, repeat.New)
     ∷ (record tagged { moment = new_year - day - 1 }, repeat.New)

@@ -11,7 +11,9 @@ use Rattle.nmvs_rules.specs.declared.role.Role.{Role}
 use Rattle.nmvs_rules.specs.declared.role.Role.TheVariants as role
 use Rattle.nmvs_rules.specs.declared.reason.Reason.TheVariants as reason
 use Rattle.nmvs_rules.specs.declared.question.Question.{Question}
-use Rattle.nmvs_rules.specs.declared.question.Question.TheVariants.{Upload, Verify, Status, Decommission, Revert, Recall, Withdraw, Theft, Audit}
+use Rattle.nmvs_rules.specs.declared.question.Question.TheVariants.{Upload, OfPack, OfBatch}
+use Rattle.nmvs_rules.specs.declared.pack_question.PackQuestion.TheVariants.{Verify, Status, Decommission, Revert, Theft, Audit}
+use Rattle.nmvs_rules.specs.declared.batch_question.BatchQuestion.TheVariants.{Recall, Withdraw}
 use Rattle.nmvs_rules.specs.declared.reply.Reply.{Reply}
 use Rattle.nmvs_rules.specs.declared.reply.Reply.TheVariants as reply
 use Rattle.nmvs_rules.specs.declared.refusal.Refusal.{Refusal}
@@ -128,16 +130,16 @@ abbrev uploads : List ℕ → Row
 uploads serial = (0, mah1, Upload (pack serial) batch expiry, reply.Uploaded)
 
 abbrev held : Row
-held = (0, ph1, Decommission sn1 reason.Hold, reply.Decommissioned)
+held = (0, ph1, OfPack (Decommission reason.Hold) sn1, reply.Decommissioned)
 
 abbrev refused : Refusal → Reply
 refused r = reply.Refused r
 
 abbrev unknown_pack : List Row
 unknown_pack =
-    (0, ph1, Verify sn1, reply.Alert cause.Unknown true 1)
-    ∷ (0, ph1, Verify sn1, reply.Alert cause.Unknown true 2)
-    ∷ (0, ph1, Status sn1, reply.NoPack)
+    (0, ph1, OfPack Verify sn1, reply.Alert cause.Unknown true 1)
+    ∷ (0, ph1, OfPack Verify sn1, reply.Alert cause.Unknown true 2)
+    ∷ (0, ph1, OfPack Status sn1, reply.NoPack)
     ∷ []
 
 unknown-answered : AreAnswered unknown_pack
@@ -169,10 +171,10 @@ uploaded-again = refl
 
 supplied-again : AreAnswered (
     uploaded
-    ∷ (0, wh1, Decommission sn1 reason.Supply, refused refusal.Role)
-    ∷ (0, ph1, Decommission sn1 reason.Supply, reply.Decommissioned)
-    ∷ (0, ph1, Decommission sn1 reason.Supply, reply.Alert cause.Supplied true 1)
-    ∷ (0, ph1, Revert sn1, refused refusal.WasSupplied)
+    ∷ (0, wh1, OfPack (Decommission reason.Supply) sn1, refused refusal.Role)
+    ∷ (0, ph1, OfPack (Decommission reason.Supply) sn1, reply.Decommissioned)
+    ∷ (0, ph1, OfPack (Decommission reason.Supply) sn1, reply.Alert cause.Supplied true 1)
+    ∷ (0, ph1, OfPack Revert sn1, refused refusal.WasSupplied)
     ∷ [])
 supplied-again = refl
 
@@ -196,7 +198,7 @@ batch_with l active held stolen = Some (record {
 
 -- a reversion on the tenth day makes the pack active
 abbrev on_day_ten : List Row
-on_day_ten = uploaded ∷ held ∷ (10, ph1b, Revert sn1, reply.Reverted) ∷ (10, ph1b, Revert sn1, refused refusal.StillActive) ∷ []
+on_day_ten = uploaded ∷ held ∷ (10, ph1b, OfPack Revert sn1, reply.Reverted) ∷ (10, ph1b, OfPack Revert sn1, refused refusal.StillActive) ∷ []
 
 day-ten-answered : AreAnswered on_day_ten
 unfolding days_from_civil day_count days_of_years days_of_months
@@ -210,7 +212,7 @@ day-ten-batch : batch_record (trail on_day_ten) code batch ≡ batch_with lock.F
 unfolding days_from_civil day_count days_of_years days_of_months
 day-ten-batch = refl
 
-day-eleven-answered : AreAnswered (uploaded ∷ held ∷ (11, ph1b, Revert sn1, refused refusal.Late) ∷ [])
+day-eleven-answered : AreAnswered (uploaded ∷ held ∷ (11, ph1b, OfPack Revert sn1, refused refusal.Late) ∷ [])
 day-eleven-answered = refl
 
 -- late comes before expired, and other premises before both; this pack expires on 5 January 2026
@@ -219,10 +221,10 @@ sn8 = pack (codes "SN8")
 
 other-late-or-expired : AreAnswered (
     (0, mah1, Upload sn8 (text (codes "B8")) (text (codes "260105")), reply.Uploaded)
-    ∷ (0, ph1, Decommission sn8 reason.Hold, reply.Decommissioned)
-    ∷ (11, ph2, Revert sn8, refused refusal.Other)
-    ∷ (6, ph1, Revert sn8, refused refusal.Expired)
-    ∷ (4, ph1, Revert sn8, reply.Reverted)
+    ∷ (0, ph1, OfPack (Decommission reason.Hold) sn8, reply.Decommissioned)
+    ∷ (11, ph2, OfPack Revert sn8, refused refusal.Other)
+    ∷ (6, ph1, OfPack Revert sn8, refused refusal.Expired)
+    ∷ (4, ph1, OfPack Revert sn8, reply.Reverted)
     ∷ [])
 unfolding days_from_civil day_count days_of_years days_of_months
 other-late-or-expired = refl
@@ -232,10 +234,10 @@ abbrev recalled_while_held : List Row
 recalled_while_held =
     uploaded
     ∷ held
-    ∷ (0, mah1, Recall code batch, reply.LockedNow 0)
-    ∷ (0, ph1, Revert sn1, refused refusal.Locked)
-    ∷ (0, ph1, Verify sn1, reply.Alert cause.Recalled false 1)
-    ∷ (0, au1, Status sn1, reply.StatusIs own.Held lock.Recalled onward.Disposal batch expiry)
+    ∷ (0, mah1, OfBatch Recall code batch, reply.LockedNow 0)
+    ∷ (0, ph1, OfPack Revert sn1, refused refusal.Locked)
+    ∷ (0, ph1, OfPack Verify sn1, reply.Alert cause.Recalled false 1)
+    ∷ (0, au1, OfPack Status sn1, reply.StatusIs own.Held lock.Recalled onward.Disposal batch expiry)
     ∷ []
 
 recalled-answered : AreAnswered recalled_while_held
@@ -253,13 +255,13 @@ recalled-alerts = refl
 -- and packs that are uploaded later
 uploaded-after-a-recall : AreAnswered (
     uploaded
-    ∷ (0, mah1, Recall code (text (codes "B9")), refused refusal.UnknownBatch)
-    ∷ (0, mah1, Recall code batch, reply.LockedNow 1)
+    ∷ (0, mah1, OfBatch Recall code (text (codes "B9")), refused refusal.UnknownBatch)
+    ∷ (0, mah1, OfBatch Recall code batch, reply.LockedNow 1)
     ∷ uploads (codes "SN2")
-    ∷ (0, ph1, Verify (pack (codes "SN2")), reply.Alert cause.Recalled false 1)
-    ∷ (0, mah1, Recall code batch, refused refusal.Already)
-    ∷ (0, mah1, Withdraw code batch, refused refusal.Already)
-    ∷ (0, mah2, Recall code batch, refused refusal.NotHolder)
+    ∷ (0, ph1, OfPack Verify (pack (codes "SN2")), reply.Alert cause.Recalled false 1)
+    ∷ (0, mah1, OfBatch Recall code batch, refused refusal.Already)
+    ∷ (0, mah1, OfBatch Withdraw code batch, refused refusal.Already)
+    ∷ (0, mah2, OfBatch Recall code batch, refused refusal.NotHolder)
     ∷ [])
 uploaded-after-a-recall = refl
 
@@ -267,9 +269,9 @@ recall-of-three : AreAnswered (
     uploaded
     ∷ uploads (codes "SN2")
     ∷ uploads (codes "SN3")
-    ∷ (0, ph1, Decommission sn1 reason.Supply, reply.Decommissioned)
-    ∷ (0, mah1, Theft (pack (codes "SN2")), reply.MarkedStolen)
-    ∷ (0, mah1, Recall code batch, reply.LockedNow 1)
+    ∷ (0, ph1, OfPack (Decommission reason.Supply) sn1, reply.Decommissioned)
+    ∷ (0, mah1, OfPack Theft (pack (codes "SN2")), reply.MarkedStolen)
+    ∷ (0, mah1, OfBatch Recall code batch, reply.LockedNow 1)
     ∷ [])
 recall-of-three = refl
 
@@ -277,13 +279,13 @@ recall-of-three = refl
 abbrev destroyed_then_stolen : List Row
 destroyed_then_stolen =
     uploaded
-    ∷ (0, wh1, Decommission sn1 reason.Destroy, reply.Decommissioned)
-    ∷ (0, wh1, Verify sn1, reply.Alert cause.Destroyed false 1)
-    ∷ (0, wh1, Revert sn1, refused refusal.IsDestroyed)
-    ∷ (0, mah1, Theft sn1, reply.MarkedStolen)
-    ∷ (0, wh1, Verify sn1, reply.Alert cause.Stolen true 2)
-    ∷ (0, mah1, Theft sn1, refused refusal.Already)
-    ∷ (0, wh1, Revert sn1, refused refusal.IsStolen)
+    ∷ (0, wh1, OfPack (Decommission reason.Destroy) sn1, reply.Decommissioned)
+    ∷ (0, wh1, OfPack Verify sn1, reply.Alert cause.Destroyed false 1)
+    ∷ (0, wh1, OfPack Revert sn1, refused refusal.IsDestroyed)
+    ∷ (0, mah1, OfPack Theft sn1, reply.MarkedStolen)
+    ∷ (0, wh1, OfPack Verify sn1, reply.Alert cause.Stolen true 2)
+    ∷ (0, mah1, OfPack Theft sn1, refused refusal.Already)
+    ∷ (0, wh1, OfPack Revert sn1, refused refusal.IsStolen)
     ∷ []
 
 stolen-answered : AreAnswered destroyed_then_stolen
@@ -302,29 +304,29 @@ stolen-batch : batch_record (trail destroyed_then_stolen) code batch ≡ batch_w
 stolen-batch = refl
 
 -- the clock was set back by 20 days
-reverted-before : reply_of (trail (uploaded ∷ held ∷ [])) (put (new_year - 20 * day) ph1 (Revert sn1)) ≡ reply.Reverted
+reverted-before : reply_of (trail (uploaded ∷ held ∷ [])) (put (new_year - 20 * day) ph1 (OfPack Revert sn1)) ≡ reply.Reverted
 unfolding days_from_civil day_count days_of_years days_of_months
 reverted-before = refl
 
 audited : AreAnswered (
     uploaded
-    ∷ (0, ph1, Verify sn1, reply.Authentic batch expiry false)
+    ∷ (0, ph1, OfPack Verify sn1, reply.Authentic batch expiry false)
     ∷ held
-    ∷ (0, ph1b, Revert sn1, reply.Reverted)
-    ∷ (0, au1, Audit sn1, reply.Shown 4)
-    ∷ (0, au1, Audit sn1, reply.Shown 5)
-    ∷ (0, ph1, Audit sn1, refused refusal.Role)
-    ∷ (0, au1, Audit (pack (codes "SN9")), reply.Shown 0)
+    ∷ (0, ph1b, OfPack Revert sn1, reply.Reverted)
+    ∷ (0, au1, OfPack Audit sn1, reply.Shown 4)
+    ∷ (0, au1, OfPack Audit sn1, reply.Shown 5)
+    ∷ (0, ph1, OfPack Audit sn1, refused refusal.Role)
+    ∷ (0, au1, OfPack Audit (pack (codes "SN9")), reply.Shown 0)
     ∷ [])
 unfolding days_from_civil day_count days_of_years days_of_months
 audited = refl
 
 withdrawn-after-a-sample : AreAnswered (
     uploaded
-    ∷ (0, wh1, Decommission sn1 reason.Sample, reply.Decommissioned)
-    ∷ (0, wh1, Status sn1, reply.StatusIs own.Sampled lock.Free onward.Authorities batch expiry)
-    ∷ (0, mah1, Withdraw code batch, reply.LockedNow 0)
-    ∷ (0, wh1, Verify sn1, reply.Alert cause.Withdrawn false 1)
+    ∷ (0, wh1, OfPack (Decommission reason.Sample) sn1, reply.Decommissioned)
+    ∷ (0, wh1, OfPack Status sn1, reply.StatusIs own.Sampled lock.Free onward.Authorities batch expiry)
+    ∷ (0, mah1, OfBatch Withdraw code batch, reply.LockedNow 0)
+    ∷ (0, wh1, OfPack Verify sn1, reply.Alert cause.Withdrawn false 1)
     ∷ [])
 withdrawn-after-a-sample = refl
 
@@ -340,7 +342,7 @@ abbrev one : List Entry
 one = trail (uploaded ∷ [])
 
 abbrev supply : Put
-supply = tagged (codes "a17") ph1 (Decommission sn1 reason.Supply)
+supply = tagged (codes "a17") ph1 (OfPack (Decommission reason.Supply) sn1)
 
 abbrev supplied : List Entry
 supplied = after one supply
@@ -368,7 +370,7 @@ supply-before = refl
 
 -- a verification that was answered Authentic is put anew; after a supply or a recall a late copy raises no alert
 abbrev verify : List ℕ → Put
-verify tag = tagged tag ph1 (Verify sn1)
+verify tag = tagged tag ph1 (OfPack Verify sn1)
 
 abbrev verified : List Entry
 verified = after one (verify (codes "a17"))
@@ -382,7 +384,7 @@ unfolding days_from_civil day_count days_of_years days_of_months
 verify-anew-reply = refl
 
 abbrev then_supplied : List Entry
-then_supplied = after (after verified (verify (codes "a17"))) (put new_year ph1 (Decommission sn1 reason.Supply))
+then_supplied = after (after verified (verify (codes "a17"))) (put new_year ph1 (OfPack (Decommission reason.Supply) sn1))
 
 abbrev alert : ℕ → Reply
 alert n = reply.Alert cause.Supplied true n
@@ -404,7 +406,7 @@ unfolding days_from_civil day_count days_of_years days_of_months
 next-day = refl
 
 abbrev recall : Put
-recall = put new_year mah1 (Recall code batch)
+recall = put new_year mah1 (OfBatch Recall code batch)
 
 abbrev recalled_alert : Reply
 recalled_alert = reply.Alert cause.Recalled false 1
@@ -423,17 +425,17 @@ alert-again = refl
 
 -- a tag is its user's own
 tags-own : Gives (repeat_of verified) (
-    (put new_year ph1 (Verify sn1), repeat.New)
+    (put new_year ph1 (OfPack Verify sn1), repeat.New)
     ∷ (verify (codes "a18"), repeat.New)
-    ∷ (tagged (codes "a17") ph1b (Verify sn1), repeat.New)
-    ∷ (tagged (codes "a17") ph1 (Status sn1), repeat.Other)
+    ∷ (tagged (codes "a17") ph1b (OfPack Verify sn1), repeat.New)
+    ∷ (tagged (codes "a17") ph1 (OfPack Status sn1), repeat.Other)
     ∷ [])
 unfolding days_from_civil day_count days_of_years days_of_months
 tags-own = refl
 
 -- a tag is looked for among the last 16 entries about the pack, and those about other packs do not count
 abbrev status : List ℕ → Put
-status serial = put new_year ph1 (Status (pack serial))
+status serial = put new_year ph1 (OfPack Status (pack serial))
 
 abbrev states : ℕ → List Entry
 states zero = supplied
@@ -447,7 +449,7 @@ not-among-sixteen = refl
 
 -- a recall is always new
 abbrev tagged_recall : Put
-tagged_recall = tagged (codes "a17") mah1 (Recall code batch)
+tagged_recall = tagged (codes "a17") mah1 (OfBatch Recall code batch)
 
 recall-new : answer_of one tagged_recall ≡ Some (reply.LockedNow 1)
 recall-new = refl
@@ -457,7 +459,7 @@ recall-again = refl
 
 -- an audit is shown anew; one that was refused is answered again, and shows nothing
 abbrev audit : User → Put
-audit u = tagged (codes "a17") u (Audit sn1)
+audit u = tagged (codes "a17") u (OfPack Audit sn1)
 
 abbrev audits : List Entry
 audits = after (after one (audit au1)) (status (codes "SN1"))
@@ -496,7 +498,7 @@ supply-withheld = refl
 
 -- an alert is given whatever is printed, on an unknown pack and on a supplied one
 abbrev unknown : Put
-unknown = tagged (codes "a17") ph1 (Decommission (pack (codes "SN2")) reason.Supply)
+unknown = tagged (codes "a17") ph1 (OfPack (Decommission reason.Supply) (pack (codes "SN2")))
 
 unknown-withheld : is_withheld [] unknown (printed (codes "B2") (codes "280200")) ≡ false
 unknown-withheld = refl
@@ -505,17 +507,17 @@ unknown-alert : reply_of [] unknown ≡ reply.Alert cause.Unknown true 1
 unknown-alert = refl
 
 abbrev supplied_elsewhere : List Entry
-supplied_elsewhere = after one (put new_year ph2 (Decommission sn1 reason.Supply))
+supplied_elsewhere = after one (put new_year ph2 (OfPack (Decommission reason.Supply) sn1))
 
-copy-withheld : is_withheld supplied_elsewhere (put new_year ph1 (Verify sn1)) (printed (codes "B1") (codes "280229")) ≡ false
+copy-withheld : is_withheld supplied_elsewhere (put new_year ph1 (OfPack Verify sn1)) (printed (codes "B1") (codes "280229")) ≡ false
 copy-withheld = refl
 
-copy-alert : reply_of supplied_elsewhere (put new_year ph1 (Verify sn1)) ≡ alert 1
+copy-alert : reply_of supplied_elsewhere (put new_year ph1 (OfPack Verify sn1)) ≡ alert 1
 copy-alert = refl
 
 -- and so is a refusal
-refusal-withheld : is_withheld one (put new_year ph1 (Revert sn1)) (printed (codes "B2") (codes "280200")) ≡ false
+refusal-withheld : is_withheld one (put new_year ph1 (OfPack Revert sn1)) (printed (codes "B2") (codes "280200")) ≡ false
 refusal-withheld = refl
 
-refusal-reply : reply_of one (put new_year ph1 (Revert sn1)) ≡ refused refusal.StillActive
+refusal-reply : reply_of one (put new_year ph1 (OfPack Revert sn1)) ≡ refused refusal.StillActive
 refusal-reply = refl

@@ -11,12 +11,12 @@ use Rattle.nmvs_rules.specs.declared.cause.Cause.TheVariants as cause
 use Rattle.nmvs_rules.specs.declared.onward.Onward.TheVariants as onward
 use Rattle.nmvs_rules.specs.declared.own_status.OwnStatus.TheVariants as own
 use Rattle.nmvs_rules.specs.declared.batch_lock.BatchLock.TheVariants as lock
-use Rattle.nmvs_words.specs.declared.pack_question.PackQuestion.TheVariants as of_pack
-use Rattle.nmvs_words.specs.declared.batch_question.BatchQuestion.TheVariants as of_batch
+use Rattle.nmvs_rules.specs.declared.pack_question.PackQuestion.TheVariants as of_pack
+use Rattle.nmvs_rules.specs.declared.batch_question.BatchQuestion.TheVariants as of_batch
 use Rattle.nmvs_words.specs.declared.question_kind.QuestionKind.TheVariants as kind
 use Rattle.nmvs_words.specs.declared.reply_kind.ReplyKind.TheVariants as reply
 use Rattle.nmvs_words.specs.Words.{role_word, role_named, reason_word, own_word, own_named, lock_word, lock_named, onward_word, onward_named, cause_word, cause_named, validity_word, validity_named, flag_word, flag_named, refusal_word, refusal_numbered}
-use Rattle.nmvs_words.specs.Kinds.{kind_word, kind_named, kind_of, naming_pack, naming_batch}
+use Rattle.nmvs_words.specs.Kinds.{kind_word, kind_named, kind_of}
 use Rattle.nmvs_words.specs.ReplyKinds.{reply_word, reply_named}
 use Rattle.nmvs_tests.proofs.Gives.{Gives}
 
@@ -78,15 +78,9 @@ pack = record { code = code; serial = record { bytes = codes "SN1" } }
 abbrev batch : Text
 batch = record { bytes = codes "B1" }
 
-pack-named : naming_pack (of_pack.Decommission reason.Hold) pack ≡ question.Decommission pack reason.Hold
-pack-named = refl
-
-batch-named : naming_batch of_batch.Withdraw code batch ≡ question.Withdraw code batch
-batch-named = refl
-
 kinds-of-questions : Gives (λ q. kind_word (kind_of q)) (
-    (question.Decommission pack reason.Hold, codes "HOLD")
-    ∷ (question.Withdraw code batch, codes "WITHDRAW")
-    ∷ (question.Handover pack, codes "HANDOVER")
+    (question.OfPack (of_pack.Decommission reason.Hold) pack, codes "HOLD")
+    ∷ (question.OfBatch of_batch.Withdraw code batch, codes "WITHDRAW")
+    ∷ (question.OfPack of_pack.Handover pack, codes "HANDOVER")
     ∷ [])
 kinds-of-questions = refl

@@ -11,7 +11,7 @@ use nmvs_directory::{Directory, Naming, Window};
 use nmvs_history::Histories;
 use nmvs_identifier::{Batch, Expiry, Moment, Name, Pack, ProductCode, Serial};
 use nmvs_record::{export, import};
-use nmvs_rules::{Actor, Put, Question, Role};
+use nmvs_rules::{Actor, PackQuestion, Put, Question, Role};
 use nmvs_shard::{HashKey, Shard, Shards};
 use nmvs_stream::Device;
 use std::alloc::Global;
@@ -62,7 +62,7 @@ fn questions(rt: &impl Abort, digits: &str) -> (Put, Put) {
         batch: Batch::read("B1").expect(rt, "a batch"),
         expiry: Expiry::read("280200").expect(rt, "a date"),
     };
-    let verify = Question::Verify(pack(rt, digits));
+    let verify = Question::OfPack(PackQuestion::Verify, pack(rt, digits));
     let first = put(rt, "mah1", Role::Holder, upload);
     (first, put(rt, "ph1", Role::Pharmacy, verify))
 }

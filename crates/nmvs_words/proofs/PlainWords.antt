@@ -12,8 +12,8 @@ use Rattle.nmvs_rules.specs.declared.onward.Onward.{Onward}
 use Rattle.nmvs_rules.specs.declared.onward.Onward.TheVariants as onward
 use Rattle.nmvs_rules.specs.declared.cause.Cause.{Cause}
 use Rattle.nmvs_rules.specs.declared.cause.Cause.TheVariants as cause
-use Rattle.nmvs_words.specs.declared.pack_question.PackQuestion.TheVariants.{Verify, Status, Decommission, Handover, Revert, Theft, Audit}
-use Rattle.nmvs_words.specs.declared.batch_question.BatchQuestion.TheVariants.{Recall, Withdraw}
+use Rattle.nmvs_rules.specs.declared.pack_question.PackQuestion.TheVariants.{Verify, Status, Decommission, Handover, Revert, Theft, Audit}
+use Rattle.nmvs_rules.specs.declared.batch_question.BatchQuestion.TheVariants.{Recall, Withdraw}
 use Rattle.nmvs_words.specs.declared.question_kind.QuestionKind.{QuestionKind}
 use Rattle.nmvs_words.specs.declared.question_kind.QuestionKind.TheVariants.{Upload, OfPack, OfBatch}
 use Rattle.nmvs_words.specs.declared.reply_kind.ReplyKind.{ReplyKind}

@@ -18,8 +18,8 @@ use Rattle.nmvs_rules.specs.declared.refusal.Refusal.{Refusal}
 use Rattle.nmvs_rules.specs.declared.refusal.Refusal.TheVariants as refusal
 use Rattle.nmvs_rules.specs.Replies.{refusal_number}
 use Rattle.nmvs_rules.proofs.FindLemmas.{find-passes}
-use Rattle.nmvs_words.specs.declared.pack_question.PackQuestion.TheVariants.{Verify, Status, Decommission, Handover, Revert, Theft, Audit}
-use Rattle.nmvs_words.specs.declared.batch_question.BatchQuestion.TheVariants.{Recall, Withdraw}
+use Rattle.nmvs_rules.specs.declared.pack_question.PackQuestion.TheVariants.{Verify, Status, Decommission, Handover, Revert, Theft, Audit}
+use Rattle.nmvs_rules.specs.declared.batch_question.BatchQuestion.TheVariants.{Recall, Withdraw}
 use Rattle.nmvs_words.specs.declared.question_kind.QuestionKind.{QuestionKind}
 use Rattle.nmvs_words.specs.declared.question_kind.QuestionKind.TheVariants.{Upload, OfPack, OfBatch}
 use Rattle.nmvs_words.specs.Kinds.{kind_word, kind_named, kinds}

@@ -8,14 +8,10 @@
 //! It composes no lines: `nmvs_line` and `nmvs_protocol` do.
 #![tactic(auto)]
 
-mod batch_question;
-mod pack_question;
 mod question_kind;
 mod reply_kind;
 mod words;
 
-pub use batch_question::BatchQuestion;
-pub use pack_question::PackQuestion;
 pub use question_kind::QuestionKind;
 pub use reply_kind::ReplyKind;
 pub use words::{

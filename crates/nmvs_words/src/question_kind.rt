@@ -2,8 +2,8 @@
 ghost use Rattle.std.specs.Prelude.{◌≡◌};
 ghost use Rattle.nmvs_words.specs.Kinds.{kind_of, kind_word, kind_named};
 
-use crate::{BatchQuestion, PackQuestion, reason_word};
-use nmvs_rules::{Question, Reason};
+use crate::reason_word;
+use nmvs_rules::{BatchQuestion, PackQuestion, Question, Reason};
 
 /// A question without the values that it names. Each kind has a word, and the variant decides which values follow it.
 #[derive(Clone, Copy)]
@@ -20,17 +20,8 @@ impl QuestionKind {
     {
         match question {
             Question::Upload { .. } => QuestionKind::Upload,
-            Question::Verify(_) => QuestionKind::OfPack(PackQuestion::Verify),
-            Question::Status(_) => QuestionKind::OfPack(PackQuestion::Status),
-            Question::Decommission(_, reason) => {
-                QuestionKind::OfPack(PackQuestion::Decommission(*reason))
-            }
-            Question::Handover(_) => QuestionKind::OfPack(PackQuestion::Handover),
-            Question::Revert(_) => QuestionKind::OfPack(PackQuestion::Revert),
-            Question::Recall(_, _) => QuestionKind::OfBatch(BatchQuestion::Recall),
-            Question::Withdraw(_, _) => QuestionKind::OfBatch(BatchQuestion::Withdraw),
-            Question::Theft(_) => QuestionKind::OfPack(PackQuestion::Theft),
-            Question::Audit(_) => QuestionKind::OfPack(PackQuestion::Audit),
+            Question::OfPack(asked, _) => QuestionKind::OfPack(*asked),
+            Question::OfBatch(asked, _, _) => QuestionKind::OfBatch(*asked),
         }
     }
 

@@ -8,7 +8,8 @@ use Rattle.nmvs_rules.specs.declared.entry.Entry.{Entry}
 use Rattle.nmvs_rules.specs.declared.facts.Known.{Known}
 use Rattle.nmvs_rules.specs.declared.own_status.OwnStatus.TheVariants as own
 use Rattle.nmvs_rules.specs.declared.question.Question.{Question}
-use Rattle.nmvs_rules.specs.declared.question.Question.TheVariants.{Upload, Verify, Status, Decommission, Revert, Recall, Withdraw, Theft, Audit}
+use Rattle.nmvs_rules.specs.declared.question.Question.TheVariants.{Upload, OfPack, OfBatch}
+use Rattle.nmvs_rules.specs.declared.pack_question.PackQuestion.TheVariants.{Verify, Status, Decommission, Revert, Theft, Audit}
 use Rattle.nmvs_rules.specs.declared.refusal.Refusal.TheVariants as refusal
 use Rattle.nmvs_rules.specs.declared.reply.Reply.{Reply}
 use Rattle.nmvs_rules.specs.declared.reply.Reply.TheVariants as reply
@@ -22,14 +23,13 @@ use Rattle.nmvs_rules.specs.before_handover.Trail.{known, lock_of, holder_of, co
 -- whether a role might ask a question; none might hand over a pack
 abbrev pub may_ask : Role → Question → Bool
 may_ask r (Upload _ _ _) = is_holder r
-may_ask r (Recall _ _) = is_holder r
-may_ask r (Withdraw _ _) = is_holder r
-may_ask r (Theft _) = is_holder r
-may_ask r (Verify _) = is_handler r
-may_ask r (Revert _) = is_handler r
-may_ask r (Decommission _ reason) = may_decommission r reason
-may_ask r (Status _) = true
-may_ask r (Audit _) = is_authority r
+may_ask r (OfBatch _ _ _) = is_holder r
+may_ask r (OfPack Theft _) = is_holder r
+may_ask r (OfPack Verify _) = is_handler r
+may_ask r (OfPack Revert _) = is_handler r
+may_ask r (OfPack (Decommission reason) _) = may_decommission r reason
+may_ask r (OfPack Status _) = true
+may_ask r (OfPack Audit _) = is_authority r
 may_ask r _ = false
 
 abbrev pub lock_on : List Entry → Pack → Known → BatchLock
@@ -38,20 +38,18 @@ lock_on t p k = lock_of t p.code k.batch
 -- the reply to an admitted question
 abbrev pub admitted_reply : List Entry → ℕ → Actor → Question → Reply
 admitted_reply t moment a (Upload p b x) = upload_reply a (holder_of t p.code) (known t p)
-admitted_reply t moment a (Verify p) =
+admitted_reply t moment a (OfPack Verify p) =
     on_pack (known t p) (alert_unknown (alerts_of t p.code)) (λ k. verify_reply moment k (lock_on t p k) (alerts_of t p.code))
-admitted_reply t moment a (Status p) = on_pack (known t p) reply.NoPack (λ k. status_reply k (lock_on t p k))
-admitted_reply t moment a (Decommission p r) =
+admitted_reply t moment a (OfPack Status p) = on_pack (known t p) reply.NoPack (λ k. status_reply k (lock_on t p k))
+admitted_reply t moment a (OfPack (Decommission r) p) =
     on_pack (known t p) (alert_unknown (alerts_of t p.code)) (λ k. decommission_reply k (lock_on t p k) (alerts_of t p.code))
-admitted_reply t moment a (Revert p) =
+admitted_reply t moment a (OfPack Revert p) =
     on_pack (known t p) (reply.Refused refusal.Unknown) (λ k. revert_reply moment a k (lock_on t p k))
-admitted_reply t moment a (Recall c b) =
+admitted_reply t moment a (OfBatch _ c b) =
     lock_reply a (is_known_batch t c b) (holder_of t c) (lock_of t c b) (count_of t c b own.Active)
-admitted_reply t moment a (Withdraw c b) =
-    lock_reply a (is_known_batch t c b) (holder_of t c) (lock_of t c b) (count_of t c b own.Active)
-admitted_reply t moment a (Theft p) =
+admitted_reply t moment a (OfPack Theft p) =
     on_pack (known t p) (reply.Refused refusal.Unknown) (λ k. theft_reply a (holder_of t p.code) k)
-admitted_reply t moment a (Audit p) = reply.Shown (about_of t p)
+admitted_reply t moment a (OfPack Audit p) = reply.Shown (about_of t p)
 admitted_reply t moment a _ = reply.Refused refusal.Role
 
 abbrev pub reply_of : List Entry → Put → Reply

@@ -14,7 +14,8 @@ use Rattle.nmvs_rules.specs.declared.facts.Known.{Known}
 use Rattle.nmvs_rules.specs.declared.own_status.OwnStatus.{OwnStatus}
 use Rattle.nmvs_rules.specs.declared.own_status.OwnStatus.TheVariants as own
 use Rattle.nmvs_rules.specs.declared.question.Question.{Question}
-use Rattle.nmvs_rules.specs.declared.question.Question.TheVariants.{Upload, Decommission, Revert, Recall, Withdraw, Theft}
+use Rattle.nmvs_rules.specs.declared.question.Question.TheVariants.{Upload, OfPack, OfBatch}
+use Rattle.nmvs_rules.specs.declared.pack_question.PackQuestion.TheVariants.{Decommission, Revert, Theft}
 use Rattle.nmvs_rules.specs.declared.reply.Reply.{Reply}
 use Rattle.nmvs_rules.specs.declared.reply.Reply.TheVariants as reply
 use Rattle.nmvs_rules.specs.Questions.{pack_of}
@@ -23,17 +24,16 @@ use Rattle.nmvs_rules.specs.Trail.{last, is_upload, is_about, has_code, locks_ba
 -- whether the reply accepted the question
 abbrev pub accepts : Question → Reply → Bool
 accepts (Upload _ _ _) reply.Uploaded = true
-accepts (Decommission _ _) reply.Decommissioned = true
-accepts (Revert _) reply.Reverted = true
-accepts (Recall _ _) (reply.LockedNow _) = true
-accepts (Withdraw _ _) (reply.LockedNow _) = true
-accepts (Theft _) reply.MarkedStolen = true
+accepts (OfPack (Decommission _) _) reply.Decommissioned = true
+accepts (OfPack Revert _) reply.Reverted = true
+accepts (OfBatch _ _ _) (reply.LockedNow _) = true
+accepts (OfPack Theft _) reply.MarkedStolen = true
 accepts _ _ = false
 
 -- the own status that a question gave once it was accepted
 abbrev pub own_given : Question → OwnStatus
-own_given (Decommission _ r) = own_by_reason r
-own_given (Theft _) = own.Stolen
+own_given (OfPack (Decommission r) _) = own_by_reason r
+own_given (OfPack Theft _) = own.Stolen
 own_given _ = own.Active
 
 abbrev pub is_accepted : Entry → Bool

@@ -5,7 +5,8 @@ ghost use Rattle.nmvs_identifier.specs.Expiry.{Expiry};
 ghost use Rattle.nmvs_identifier.specs.ProductCode.{ProductCode};
 ghost use Rattle.nmvs_identifier.specs.declared.pack.Pack.{Pack};
 ghost use Rattle.nmvs_rules.specs.declared.entry.Entry.{Entry};
-ghost use Rattle.nmvs_rules.specs.declared.question.Question.TheVariants.{Upload, Decommission, Handover, Revert, Theft};
+ghost use Rattle.nmvs_rules.specs.declared.question.Question.TheVariants.{Upload, OfPack};
+ghost use Rattle.nmvs_rules.specs.declared.pack_question.PackQuestion.TheVariants.{Decommission, Handover, Revert, Theft};
 ghost use Rattle.nmvs_rules.specs.declared.reason.Reason.{Reason};
 ghost use Rattle.nmvs_rules.specs.declared.reply.Reply.TheVariants as reply;
 ghost use Rattle.nmvs_rules.specs.declared.role.Role.TheVariants as role;
@@ -25,7 +26,7 @@ pub fn uploading()
 /// A decommissioning is accepted exactly if the role may ask it and a verification would be answered Authentic
 /// (Articles 22 and 25). On every trail.
 pub fn decommissioning()
-    ensures { (t : List Entry) (q : Put) (p : Pack) (w : Reason) → q.question ≡ Decommission p w →
+    ensures { (t : List Entry) (q : Put) (p : Pack) (w : Reason) → q.question ≡ OfPack (Decommission w) p →
         (reply_of t q ≡ reply.Decommissioned) ↔
         (IsTrue (may_ask q.actor.role q.question)
         × ((b : Batch) × (x : Expiry) × IsGenuine t p b x)) }
@@ -35,7 +36,7 @@ pub fn decommissioning()
 /// and its batch was neither recalled nor withdrawn. The pharmacy has the authorisation and the premises of that operation
 /// (own, after Articles 25 and 40). On every trail.
 pub fn handover()
-    ensures { (t : List Entry) (q : Put) (p : Pack) → q.question ≡ Handover p →
+    ensures { (t : List Entry) (q : Put) (p : Pack) → q.question ≡ OfPack Handover p →
         (reply_of t q ≡ reply.HandedOver) ↔
         ((q.actor.role ≡ role.Pharmacy) × IsSuppliable t p q) }
 {}
@@ -43,7 +44,7 @@ pub fn handover()
 /// A reversion is accepted exactly if the role may revert and all that Article 13(1) asks for is met. On every
 /// trail.
 pub fn reversion()
-    ensures { (t : List Entry) (q : Put) (p : Pack) → q.question ≡ Revert p →
+    ensures { (t : List Entry) (q : Put) (p : Pack) → q.question ≡ OfPack Revert p →
         (reply_of t q ≡ reply.Reverted) ↔
         (IsTrue (may_ask q.actor.role q.question) × IsRevertible t p q) }
 {}
@@ -61,7 +62,7 @@ pub fn locking()
 /// A theft report is accepted exactly if the product code's holder asks for it, in the role of a holder, the pack was
 /// uploaded, and the last operation on it was no theft report (Article 40). On every trail.
 pub fn theft()
-    ensures { (t : List Entry) (q : Put) (p : Pack) → q.question ≡ Theft p →
+    ensures { (t : List Entry) (q : Put) (p : Pack) → q.question ≡ OfPack Theft p →
         (reply_of t q ≡ reply.MarkedStolen) ↔
         ((q.actor.role ≡ role.Holder) × IsReportable t p q.actor.authorisation) }
 {}

@@ -9,7 +9,8 @@ ghost use Rattle.nmvs_identifier.specs.declared.pack.Pack.{Pack};
 ghost use Rattle.nmvs_rules.specs.declared.cause.Cause.{Cause};
 ghost use Rattle.nmvs_rules.specs.declared.cause.Cause.TheVariants as cause;
 ghost use Rattle.nmvs_rules.specs.declared.entry.Entry.{Entry};
-ghost use Rattle.nmvs_rules.specs.declared.question.Question.TheVariants.{Upload, Verify, Decommission, Revert, Theft, Audit};
+ghost use Rattle.nmvs_rules.specs.declared.question.Question.TheVariants.{Upload, OfPack};
+ghost use Rattle.nmvs_rules.specs.declared.pack_question.PackQuestion.TheVariants.{Verify, Decommission, Theft, Audit};
 ghost use Rattle.nmvs_rules.specs.declared.reason.Reason.{Reason};
 ghost use Rattle.nmvs_rules.specs.declared.reply.Reply.TheVariants as reply;
 ghost use Rattle.nmvs_rules.specs.declared.put.Put.{Put};
@@ -24,7 +25,7 @@ ghost use Rattle.nmvs_rules.specs.Laws.{IsUploadedWith, IsUnlocked, IsGenuine, I
 /// (Articles 11 and 40). On every trail.
 pub fn verification()
     ensures { (t : List Entry) (q : Put) (p : Pack) (b : Batch) (x : Expiry) (expired : Bool) →
-        q.question ≡ Verify p →
+        q.question ≡ OfPack Verify p →
         (reply_of t q ≡ reply.Authentic b x expired) ↔
         (IsTrue (may_ask q.actor.role q.question) × IsGenuine t p b x
         × (expired ≡ int_lt (expiry_day x.bytes) (pos (day_of q.moment)))) }
@@ -36,11 +37,11 @@ pub fn verification()
 /// falsification.
 pub fn alerting()
     ensures verification { (t : List Entry) (q : Put) (p : Pack) →
-        q.question ≡ Verify p → IsTrue (may_ask q.actor.role q.question) →
+        q.question ≡ OfPack Verify p → IsTrue (may_ask q.actor.role q.question) →
         ((b : Batch) (x : Expiry) (expired : Bool) → reply_of t q ≢ reply.Authentic b x expired) →
         alert_number (reply_of t q) ≡ Some (alerts_of t p.code + 1) }
     ensures decommissioning { (t : List Entry) (q : Put) (p : Pack) (w : Reason) →
-        q.question ≡ Decommission p w → IsTrue (may_ask q.actor.role q.question) →
+        q.question ≡ OfPack (Decommission w) p → IsTrue (may_ask q.actor.role q.question) →
         reply_of t q ≢ reply.Decommissioned →
         alert_number (reply_of t q) ≡ Some (alerts_of t p.code + 1) }
     ensures unknown { (t : List Entry) (q : Put) (p : Pack) →
@@ -76,7 +77,7 @@ pub fn holders()
         AsksLock c b q.question → reply_of t q ≡ reply.LockedNow active →
         IsHeldBy t c q.actor.authorisation }
     ensures thefts { (t : List Entry) (q : Put) (p : Pack) →
-        q.question ≡ Theft p → reply_of t q ≡ reply.MarkedStolen →
+        q.question ≡ OfPack Theft p → reply_of t q ≡ reply.MarkedStolen →
         IsHeldBy t p.code q.actor.authorisation }
 {}
 
@@ -84,11 +85,11 @@ pub fn holders()
 /// (Articles 35, 36(i) and 37(f)). An audit by any other user shows none, and no other question shows any. On every trail.
 pub fn auditing()
     ensures shown { (t : List Entry) (q : Put) (p : Pack) →
-        q.question ≡ Audit p → IsTrue (may_ask q.actor.role q.question) →
+        q.question ≡ OfPack Audit p → IsTrue (may_ask q.actor.role q.question) →
         (shown_of t q ≡ filter (is_about p) t)
         × (reply_of t q ≡ reply.Shown (length (shown_of t q))) }
     ensures hidden { (t : List Entry) (q : Put) →
         IsFalse (may_ask q.actor.role q.question) → shown_of t q ≡ [] }
     ensures others { (t : List Entry) (q : Put) →
-        ((p : Pack) → q.question ≢ Audit p) → shown_of t q ≡ [] }
+        ((p : Pack) → q.question ≢ OfPack Audit p) → shown_of t q ≡ [] }
 {}

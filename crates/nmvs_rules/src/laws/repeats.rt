@@ -9,7 +9,8 @@ ghost use Rattle.nmvs_identifier.specs.declared.pack.Pack.{Pack};
 ghost use Rattle.nmvs_rules.specs.declared.entry.Entry.{Entry};
 ghost use Rattle.nmvs_rules.specs.declared.put.Put.{Put};
 ghost use Rattle.nmvs_rules.specs.declared.repeat.Repeat.TheVariants as repeat;
-ghost use Rattle.nmvs_rules.specs.declared.question.Question.TheVariants.{Verify};
+ghost use Rattle.nmvs_rules.specs.declared.question.Question.TheVariants.{OfPack};
+ghost use Rattle.nmvs_rules.specs.declared.pack_question.PackQuestion.TheVariants.{Verify};
 ghost use Rattle.nmvs_rules.specs.declared.reply.Reply.{Reply};
 ghost use Rattle.nmvs_rules.specs.declared.reply.Reply.TheVariants as reply;
 ghost use Rattle.nmvs_rules.specs.Laws.{IsGenuine};
@@ -45,7 +46,7 @@ pub fn states_are_current()
     ensures state { (t : List Entry) (q : Put) (said : Reply) → IsTrue (tells_state said) →
         answer_of t q ≡ Some said → reply_of t q ≡ said }
     ensures authentic { (t : List Entry) (q : Put) (p : Pack) (b : Batch) (x : Expiry) (expired : Bool) →
-        q.question ≡ Verify p → answer_of t q ≡ Some (reply.Authentic b x expired) → IsGenuine t p b x }
+        q.question ≡ OfPack Verify p → answer_of t q ≡ Some (reply.Authentic b x expired) → IsGenuine t p b x }
 {}
 
 /// A repeated reply is that of an earlier entry: the same question of the same user, with the same tag and in the same

@@ -1,12 +1,12 @@
-use Rattle.std.proofs.Common.{◌∷◌, [], ◌∙◌, Some, None, cond, not, sym}
+use Rattle.std.proofs.Common.{◌∷◌, [], Some, None, cond, not, sym}
+use Rattle.nmvs_words.specs.declared.question_kind.QuestionKind.TheVariants.{OfPack}
 use Rattle.nmvs_words.specs.Kinds.{kind_word}
 use Rattle.nmvs_messages.specs.declared.ask.LineFault.TheVariants as fault
 use Rattle.nmvs_protocol.proofs.lines.read_of_pack.Goals as goal
 
 pub returns-clause-fields : goal.returns-clause-fields
 returns-clause-fields c =
-    let texts = c.naming.ensures.texts ∙ (λ i. c.in_ok-code.ensures.read.0 i ∷ c.in_ok-serial.ensures.read.0 i ∷ []) in
-    λ i. c.in_ok-user.ensures.read.0 i ∷ kind_word (c.naming.ensures.kind i) ∷ texts i
+    λ i. c.in_ok-user.ensures.read.0 i ∷ kind_word (OfPack c.args.asked) ∷ c.in_ok-code.ensures.read.0 i ∷ c.in_ok-serial.ensures.read.0 i ∷ []
 
 pub returns-clause-fault : goal.returns-clause-fault
 returns-clause-fault c =
