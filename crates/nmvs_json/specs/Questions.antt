@@ -14,11 +14,9 @@ use Rattle.nmvs_identifier.specs.Batch.{is_batch}
 use Rattle.nmvs_identifier.specs.Expiry.{is_expiry}
 use Rattle.nmvs_identifier.specs.Tag.{is_tag}
 use Rattle.nmvs_rules.specs.declared.printed.Printed.{Printed}
-use Rattle.nmvs_rules.specs.declared.reason.Reason.TheVariants as reason
-use Rattle.nmvs_rules.specs.declared.pack_question.PackQuestion.TheVariants.{Verify, Status, Decommission, Handover, Revert, Theft, Audit}
-use Rattle.nmvs_rules.specs.declared.batch_question.BatchQuestion.TheVariants.{Recall, Withdraw}
+use Rattle.nmvs_rules.specs.declared.pack_question.PackQuestion.TheVariants.{Audit}
 use Rattle.nmvs_words.specs.declared.question_kind.QuestionKind.TheVariants.{Upload, OfPack, OfBatch}
-use Rattle.nmvs_words.specs.Kinds.{kind_word}
+use Rattle.nmvs_words.specs.Kinds.{kind_word, kinds}
 use Rattle.nmvs_words.specs.Words.{spaced}
 use Rattle.nmvs_json.specs.declared.asked_kind.AskedKind.{AskedKind}
 use Rattle.nmvs_json.specs.declared.asked_kind.AskedKind.TheVariants.{Question, Report}
@@ -31,25 +29,9 @@ use Rattle.nmvs_json.specs.Refusals.{member_name, whole}
 use Rattle.nmvs_json.specs.Replies.{named}
 use Rattle.nmvs_json.specs.Scans.{Scanned, scan_in}
 
--- the names of the kinds
+-- the names of the kinds: the word of each question in small letters, and that of the report
 abbrev pub kind_names : List (List ℕ × AskedKind)
-kind_names =
-    (codes "upload", Question Upload)
-    ∷ (codes "recall", Question (OfBatch Recall))
-    ∷ (codes "withdraw", Question (OfBatch Withdraw))
-    ∷ (codes "verify", Question (OfPack Verify))
-    ∷ (codes "status", Question (OfPack Status))
-    ∷ (codes "supply", Question (OfPack (Decommission reason.Supply)))
-    ∷ (codes "hold", Question (OfPack (Decommission reason.Hold)))
-    ∷ (codes "export", Question (OfPack (Decommission reason.Export)))
-    ∷ (codes "sample", Question (OfPack (Decommission reason.Sample)))
-    ∷ (codes "destroy", Question (OfPack (Decommission reason.Destroy)))
-    ∷ (codes "handover", Question (OfPack Handover))
-    ∷ (codes "revert", Question (OfPack Revert))
-    ∷ (codes "theft", Question (OfPack Theft))
-    ∷ (codes "audit", Question (OfPack Audit))
-    ∷ (codes "report", Report)
-    ∷ []
+kind_names = map (λ k. (map (λ b. b + 32) (kind_word k), Question k)) kinds ++ (codes "report", Report) ∷ []
 
 -- the kind of a name
 unfoldable pub kind_named : List ℕ → Option AskedKind

@@ -15,18 +15,15 @@ use Rattle.nmvs_identifier.specs.ProductCode.{is_product_code, is_checked}
 use Rattle.nmvs_identifier.proofs.PlainTexts.{all_weaker}
 use Rattle.nmvs_rules.specs.declared.role.Role.{Role}
 use Rattle.nmvs_rules.specs.declared.role.Role.TheVariants as role
-use Rattle.nmvs_rules.specs.declared.reason.Reason.TheVariants as reason
 use Rattle.nmvs_rules.specs.declared.question.Question.{Question}
 use Rattle.nmvs_rules.specs.declared.question.Question.TheVariants.{Upload, OfPack, OfBatch}
 use Rattle.nmvs_rules.specs.declared.put.Put.{Put}
 use Rattle.nmvs_rules.specs.declared.entry.Entry.{Entry}
 use Rattle.nmvs_rules.specs.Entries.{is_actor, is_question, is_put, is_reply, is_entry}
 use Rattle.nmvs_rules.specs.Questions.{code_of}
-use Rattle.nmvs_rules.specs.declared.pack_question.PackQuestion.TheVariants as asked
-use Rattle.nmvs_rules.specs.declared.batch_question.BatchQuestion.TheVariants as locks
 use Rattle.nmvs_words.specs.declared.question_kind.QuestionKind.{QuestionKind}
-use Rattle.nmvs_words.specs.declared.question_kind.QuestionKind.TheVariants as kind
 use Rattle.nmvs_words.specs.Kinds.{kind_of, kind_word, texts_of}
+use Rattle.nmvs_words.proofs.WordLemmas.{every_kind}
 use Rattle.nmvs_words.specs.Words.{role_word}
 use Rattle.nmvs_line.specs.declared.line_version.LineVersion.{LineVersion}
 use Rattle.nmvs_line.specs.declared.line_version.LineVersion.TheVariants as version
@@ -182,20 +179,7 @@ inside-free v e h =
 -- ---- the question
 
 word-plain : (k : QuestionKind) → list_all is_no_mark (kind_word k) ≡ true
-word-plain kind.Upload = refl
-word-plain (kind.OfPack asked.Verify) = refl
-word-plain (kind.OfPack asked.Status) = refl
-word-plain (kind.OfPack (asked.Decommission reason.Supply)) = refl
-word-plain (kind.OfPack (asked.Decommission reason.Hold)) = refl
-word-plain (kind.OfPack (asked.Decommission reason.Export)) = refl
-word-plain (kind.OfPack (asked.Decommission reason.Sample)) = refl
-word-plain (kind.OfPack (asked.Decommission reason.Destroy)) = refl
-word-plain (kind.OfPack asked.Handover) = refl
-word-plain (kind.OfPack asked.Revert) = refl
-word-plain (kind.OfPack asked.Theft) = refl
-word-plain (kind.OfPack asked.Audit) = refl
-word-plain (kind.OfBatch locks.Recall) = refl
-word-plain (kind.OfBatch locks.Withdraw) = refl
+word-plain k = every_kind (λ k. list_all is_no_mark (kind_word k)) refl k
 
 -- the texts of a question begin with its product code
 record Named (q : Question) : Type 0 where

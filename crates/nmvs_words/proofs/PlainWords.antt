@@ -1,9 +1,11 @@
 -- The words of the formats are plain.
-use Rattle.std.proofs.Common.{Bool, true, false, refl, lit≤}
-use Rattle.nmvs_identifier.proofs.PlainTexts.{IsPlain}
+use Rattle.std.proofs.Common.{Bool, true, false, length, nat_le, refl, lit≤}
+use Rattle.std.specs.List.{list_all}
+use Rattle.std.proofs.lemmas.Bool.{leb-true}
+use Rattle.nmvs_identifier.specs.Texts.{longest_text}
+use Rattle.nmvs_identifier.proofs.PlainTexts.{IsPlain, is_plain}
 use Rattle.nmvs_rules.specs.declared.role.Role.{Role}
 use Rattle.nmvs_rules.specs.declared.role.Role.TheVariants as role
-use Rattle.nmvs_rules.specs.declared.reason.Reason.TheVariants as reason
 use Rattle.nmvs_rules.specs.declared.own_status.OwnStatus.{OwnStatus}
 use Rattle.nmvs_rules.specs.declared.own_status.OwnStatus.TheVariants as own
 use Rattle.nmvs_rules.specs.declared.batch_lock.BatchLock.{BatchLock}
@@ -12,32 +14,21 @@ use Rattle.nmvs_rules.specs.declared.onward.Onward.{Onward}
 use Rattle.nmvs_rules.specs.declared.onward.Onward.TheVariants as onward
 use Rattle.nmvs_rules.specs.declared.cause.Cause.{Cause}
 use Rattle.nmvs_rules.specs.declared.cause.Cause.TheVariants as cause
-use Rattle.nmvs_rules.specs.declared.pack_question.PackQuestion.TheVariants.{Verify, Status, Decommission, Handover, Revert, Theft, Audit}
-use Rattle.nmvs_rules.specs.declared.batch_question.BatchQuestion.TheVariants.{Recall, Withdraw}
 use Rattle.nmvs_words.specs.declared.question_kind.QuestionKind.{QuestionKind}
-use Rattle.nmvs_words.specs.declared.question_kind.QuestionKind.TheVariants.{Upload, OfPack, OfBatch}
 use Rattle.nmvs_words.specs.declared.reply_kind.ReplyKind.{ReplyKind}
 use Rattle.nmvs_words.specs.declared.reply_kind.ReplyKind.TheVariants as kinds
 use Rattle.nmvs_words.specs.Kinds.{kind_word}
 use Rattle.nmvs_words.specs.ReplyKinds.{reply_word}
+use Rattle.nmvs_words.proofs.WordLemmas.{every_kind}
 use Rattle.nmvs_words.specs.Words.{role_word, own_word, lock_word, onward_word, cause_word, validity_word, flag_word}
 
 -- the word of a kind of question is plain
 pub word_plain : (kind : QuestionKind) → IsPlain (kind_word kind)
-word_plain Upload = (lit≤ tt, lit≤ tt, refl)
-word_plain (OfPack Verify) = (lit≤ tt, lit≤ tt, refl)
-word_plain (OfPack Status) = (lit≤ tt, lit≤ tt, refl)
-word_plain (OfPack (Decommission reason.Supply)) = (lit≤ tt, lit≤ tt, refl)
-word_plain (OfPack (Decommission reason.Hold)) = (lit≤ tt, lit≤ tt, refl)
-word_plain (OfPack (Decommission reason.Export)) = (lit≤ tt, lit≤ tt, refl)
-word_plain (OfPack (Decommission reason.Sample)) = (lit≤ tt, lit≤ tt, refl)
-word_plain (OfPack (Decommission reason.Destroy)) = (lit≤ tt, lit≤ tt, refl)
-word_plain (OfPack Handover) = (lit≤ tt, lit≤ tt, refl)
-word_plain (OfPack Revert) = (lit≤ tt, lit≤ tt, refl)
-word_plain (OfPack Theft) = (lit≤ tt, lit≤ tt, refl)
-word_plain (OfPack Audit) = (lit≤ tt, lit≤ tt, refl)
-word_plain (OfBatch Recall) = (lit≤ tt, lit≤ tt, refl)
-word_plain (OfBatch Withdraw) = (lit≤ tt, lit≤ tt, refl)
+word_plain kind = (
+  leb-true 1 (length (kind_word kind)) (every_kind (λ k. nat_le 1 (length (kind_word k))) refl kind),
+  leb-true (length (kind_word kind)) longest_text (every_kind (λ k. nat_le (length (kind_word k)) longest_text) refl kind),
+  every_kind (λ k. list_all is_plain (kind_word k)) refl kind,
+)
 
 -- so is that of a role
 pub role_plain : (r : Role) → IsPlain (role_word r)

@@ -1,6 +1,8 @@
 -- Words and the values that they name.
-use Rattle.std.proofs.Common.{◌≡◌, ℕ, Bool, true, false, List, Some, refl, sym, ap, ◌∙◌}
+use Rattle.std.proofs.Common.{◌≡◌, ℕ, Bool, true, false, cond, List, [], ◌∷◌, find, Some, refl, sym, ap, subst, ◌∙◌}
+use Rattle.std.specs.List.{list_all}
 use Rattle.std.specs.Str.{bytes_eq}
+use Rattle.std.proofs.lemmas.Bool.{and_parts}
 use Rattle.std.proofs.lemmas.Option.{same_Some}
 use Rattle.std.proofs.lemmas.Slice.Eq.{bytes_eq-Decides}
 use Rattle.nmvs_rules.specs.declared.role.Role.{Role}
@@ -45,6 +47,20 @@ kind_named-of_word (OfPack Theft) = refl
 kind_named-of_word (OfPack Audit) = refl
 kind_named-of_word (OfBatch Recall) = refl
 kind_named-of_word (OfBatch Withdraw) = refl
+
+-- what passes a test if all of a list pass it: an element that is found in the list
+found-passes : {X : Type 0} (p test : X → Bool) → (xs : List X) (x : X) → list_all test xs ≡ true → find p xs ≡ Some x → test x ≡ true
+found-passes p test [] x all found = cc
+found-passes p test (y ∷ ys) x all found =
+    let parts = and_parts (test y) (list_all test ys) all in
+    elim (p y) as (λ b. cond b (Some y) (find p ys) ≡ Some x → test x ≡ true) [
+      | true ↦ λ is. let same : y ≡ x = cc in subst (λ z. test z ≡ true) same parts.0
+      | false ↦ λ is. found-passes p test ys x parts.1 is
+    ] found
+
+-- each kind passes a test that the list of all kinds passes
+pub every_kind : (test : QuestionKind → Bool) → list_all test kinds ≡ true → (kind : QuestionKind) → test kind ≡ true
+every_kind test all kind = found-passes (λ k. bytes_eq (kind_word kind) (kind_word k)) test kinds kind all (kind_named-of_word kind)
 
 -- different kinds have different words
 pub kind_word-one : (k k' : QuestionKind) → kind_word k ≡ kind_word k' → k ≡ k'
