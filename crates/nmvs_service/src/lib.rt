@@ -24,5 +24,4 @@ mod workers;
 pub use fault::{Fault, Outcome, outcome_of};
 pub use server::Config;
 pub use serving::{LogStart, open_repository};
-pub use timed_file::TimedFile;
 pub use trail_file::{LogStore, TrailFile};
