@@ -8,4 +8,5 @@ pub mod Storing
 pub mod Posting
 pub mod Hearing
 pub mod Ordering
+pub mod Transactions
 pub mod Trimming

@@ -1,10 +1,10 @@
 pub mod Answers
 pub mod Asks
 pub mod Blocks
+pub mod Demands
 pub mod Exchanges
 pub mod Keys
 pub mod Names
-pub mod Outcomes
 pub mod Requests
 pub mod Store
 pub mod Turns
