@@ -19,10 +19,10 @@ use Rattle.nmvs_etcd.specs.declared.key.Log.TheVariants.{Entries}
 use Rattle.nmvs_etcd.specs.declared.outcome.Outcome.{Outcome}
 use Rattle.nmvs_etcd.specs.declared.outcome.Outcome.TheVariants.{Confirmed, Fenced, Unknown}
 use Rattle.nmvs_etcd.specs.declared.request.BlockRange.{BlockRange}
-use Rattle.nmvs_etcd.specs.Answers.{append_answer, own_answer, trim_answer, shown_value, shown_blocks}
+use Rattle.nmvs_etcd.specs.Answers.{answer, shown_value, shown_blocks}
 use Rattle.nmvs_etcd.specs.Blocks.{block_text}
 use Rattle.nmvs_etcd.specs.Names.{owner_name, is_machine}
-use Rattle.nmvs_etcd.specs.Turns.{append_outcome, own_outcome, trim_outcome, nobody}
+use Rattle.nmvs_etcd.specs.Turns.{append, free, left, meaning, nobody, own, trim}
 use Rattle.nmvs_tests.proofs.Gives.{Gives}
 
 abbrev owned : List ℕ
@@ -93,7 +93,7 @@ block machine line = record { owner = lent (owner_on machine); before = 0; first
 
 -- the meaning of an answer to the append of such a block
 abbrev to_append : List ℕ × List ℕ × ℕ × List ℕ → Outcome
-to_append a = append_outcome (block_text (block a.0 a.1)) 0 (append_answer a.2 a.3)
+to_append a = meaning (left (append (block_text (block a.0 a.1)) 0)) (answer 3 a.2 a.3)
 
 appends : Gives to_append (
     ((codes "a", codes "x\n", 200, appended), Confirmed)
@@ -120,7 +120,7 @@ appends-partly = refl
 
 -- the meaning of an answer to a request to own the logs
 abbrev to_own : List ℕ × List ℕ → Outcome
-to_own a = own_outcome (owner_on a.0) (own_answer 200 a.1)
+to_own a = meaning (left (own nobody (owner_on a.0))) (answer 1 200 a.1)
 
 owners : Gives to_own (
     ((codes "a", owned), Confirmed)
@@ -135,7 +135,7 @@ owners = refl
 
 -- the meaning of an answer to the trim of the first two blocks
 abbrev to_trim : List ℕ × ℕ × List ℕ → Outcome
-to_trim a = trim_outcome (owner_on a.0) 2 (trim_answer a.1 a.2)
+to_trim a = meaning (left (trim (owner_on a.0) 0 2)) (answer 2 a.1 a.2)
 
 trims : Gives to_trim (
     ((codes "a", 200, trimmed), Confirmed)
@@ -159,7 +159,7 @@ unfolding digits chars encode is_utf8 encode_with groups_error groups_bytes scan
 trims-partly = refl
 
 -- the meaning of an answer to a turn that is given up
-turns : Gives (λ body. own_outcome nobody (own_answer 200 body)) (
+turns : Gives (λ body. meaning (left (free (owner_on (codes "a")))) (answer 1 200 body)) (
     (freed, Confirmed)
     ∷ (freed_already, Confirmed)
     ∷ (trimmed_already, Fenced)
@@ -169,7 +169,7 @@ unfolding digits chars encode is_utf8 encode_with groups_error groups_bytes scan
 turns = refl
 
 turns-partly :
-    map (λ body. own_outcome nobody (own_answer 500 body)) (freed ∷ freed_already ∷ trimmed_already ∷ number_read ∷ [])
+    map (λ body. meaning (left (free (owner_on (codes "a")))) (answer 1 500 body)) (freed ∷ freed_already ∷ trimmed_already ∷ number_read ∷ [])
     ≡ Unknown ∷ Unknown ∷ Unknown ∷ Unknown ∷ []
 turns-partly = refl
 
