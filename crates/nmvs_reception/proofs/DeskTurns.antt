@@ -15,6 +15,7 @@ use Rattle.nmvs_rules.specs.declared.enrolment.Enrolment.{Enrolment}
 use Rattle.nmvs_rules.specs.declared.entry.Entry.{Entry}
 use Rattle.nmvs_rules.specs.declared.printed.Printed.{Printed}
 use Rattle.nmvs_rules.specs.declared.put.Put.{Put}
+use Rattle.nmvs_rules.specs.declared.question.Question.TheVariants.{OfPack}
 use Rattle.nmvs_rules.specs.Rules.{answered}
 use Rattle.nmvs_shard.proofs.Again.{stands_for}
 use Rattle.nmvs_shard.specs.Asking.{Asks}
@@ -165,7 +166,9 @@ admitted_within : (old : DeskView) (tag : Option Tag) (what : Asked) (moment : �
     → AnswersAdmitted old tag what moment actor said basis new → Within new basis
 admitted_within old tag (asked.Question user q) moment actor said basis new (inl is) = said_within new _ is.answers.trail _ None is.outcome is.shown said basis is.answers.asks is.says
 admitted_within old tag (asked.Question user q) moment actor said basis new (inr is) = none_within new basis is.0.1
-admitted_within old tag (asked.Conditional user kind p printed) moment actor said basis new (inl is) = said_within new _ is.answers.trail _ (Some printed) is.outcome is.shown said basis is.answers.asks is.says
+admitted_within old tag (asked.Conditional user kind p printed) moment actor said basis new (inl is) =
+    let put : Put = record { moment = moment; user = user; actor = actor; question = OfPack kind p; tag = tag } in
+    said_within new _ is.answers.trail put (Some printed) is.outcome is.shown said basis is.answers.asks is.says
 admitted_within old tag (asked.Conditional user kind p printed) moment actor said basis new (inr is) = none_within new basis is.0.1
 admitted_within old tag (asked.Report user c) moment actor said basis new (sees, inl is) = all_within new _ basis is.rests
 admitted_within old tag (asked.Report user c) moment actor said basis new (sees, inr is) = none_within new basis is.1
