@@ -15,7 +15,9 @@ use nmvs_operator::{
     ConfigFault, OPTIONS, OptionFault, Options, config_path, read_config, read_options, with_config,
 };
 use nmvs_rehearsal::rehearse_on_standard_input;
-use nmvs_server::{Beside, Dialer, Fault, Host, Outcome, outcome_of, start};
+use nmvs_server::{
+    Beside, CopyNotes, Dialer, EngineThreads, Fault, Host, Outcome, outcome_of, start,
+};
 use nmvs_stream::{Console, Device, Sink, Source};
 use std::alloc::{AllocError, Global};
 use std::fmt::Display;
@@ -49,13 +51,20 @@ fn main(rt: HostRuntime) -> ExitCode {
         return finish(&rt, options, serve_one(rt, alloc, options, console));
     };
     // The runtime itself opens connections, which in this toolchain no thread but one of `main` can have it do.
-    let (dialer, host) = (&Dialer::new(cluster.engine), &rt);
+    let (dialer, notes, host) = (&Dialer::new(cluster.engine), &CopyNotes::new(), &rt);
+    let threads = EngineThreads { dialer, notes };
     let outcome = thread::scope(thread::scope_env(), host, |scope| {
         let Ok(dialing) = scope.spawn(move || dialer.run(host)) else {
             return memory_refused();
         };
-        let outcome = serve(*host, alloc, options, console, Some(dialer));
+        let Ok(noting) = scope.spawn(move || notes.run(host)) else {
+            threads.end();
+            dialing.join(host);
+            return memory_refused();
+        };
+        let outcome = serve(*host, alloc, options, console, Some(threads));
         dialing.join(host);
+        noting.join(host);
         outcome
     });
     finish(&rt, options, outcome)
@@ -84,23 +93,23 @@ fn serve_one<'o, R: Host + Sync + Copy + Drop, I: Source + Drop, W: Sink + Drop>
     let interrupt = &AtomicBool::new(false);
     let beside = Beside {
         interrupt,
-        dialer: None,
+        threads: None,
     };
     start(&rt, alloc, options, &mut console, beside)
 }
 
-/// Serves connections, while commands come by the console and by the socket of the options, if they name one. It ends the dialer
-/// at the end.
+/// Serves connections, while commands come by the console and by the socket of the options, if they name one. It ends the threads
+/// of a server among several machines.
 fn serve<'o, R: Host + Sync + Copy + Drop, I: Source + Drop, W: Sink + Drop>(
     rt: R,
     alloc: Global,
     options: &'o Options,
     console: Console<(I, W)>,
-    dialer: Option<&Dialer>,
+    threads: Option<EngineThreads<'_>>,
 ) -> Outcome<'o> {
-    let outcome = serve_console(rt, alloc, options, console, dialer);
-    if let Some(dialer) = dialer {
-        dialer.end();
+    let outcome = serve_console(rt, alloc, options, console, threads);
+    if let Some(threads) = threads {
+        threads.end();
     }
     outcome
 }
@@ -111,7 +120,7 @@ fn serve_console<'o, R: Host + Sync + Copy + Drop, I: Source + Drop, W: Sink + D
     alloc: Global,
     options: &'o Options,
     console: Console<(I, W)>,
-    dialer: Option<&Dialer>,
+    threads: Option<EngineThreads<'_>>,
 ) -> Outcome<'o> {
     let path = options.admin.as_deref();
     let Ok((interrupt, shared)) = interrupt_of(alloc, options) else {
@@ -125,7 +134,7 @@ fn serve_console<'o, R: Host + Sync + Copy + Drop, I: Source + Drop, W: Sink + D
                 alloc,
                 options,
                 &mut console,
-                Beside { interrupt, dialer },
+                Beside { interrupt, threads },
             );
             if let Some(path) = path {
                 let _gone = remove_socket(&rt, path);

@@ -4,7 +4,7 @@ use crate::launch::serve_from;
 use crate::listening::try_listening;
 use crate::starting::Beside;
 use crate::{Fault, Host, Outcome};
-use nmvs_engine::{Dialer, Turn};
+use nmvs_engine::{EngineThreads, Turn};
 use nmvs_metrics::Metrics;
 use nmvs_operator::Cluster;
 use nmvs_recovery::Run;
@@ -21,11 +21,11 @@ pub(crate) fn serve_in_cluster<'r, 'o, R: Host + Sync, T: Sides>(
     console: &mut Console<T>,
     beside: Beside<'r>,
 ) -> Outcome<'o> {
-    // The program runs a dialer for each server among several machines.
-    let Some(dialer) = beside.dialer else {
+    // The program runs these threads for each server among several machines.
+    let Some(threads) = beside.threads else {
         return Outcome::of(Fault::Impossible("no dialer"));
     };
-    match follow(&run, cluster, dialer, metrics, console, beside.interrupt) {
+    match follow(&run, cluster, threads, metrics, console, beside.interrupt) {
         Ok(Some((followed, turn))) => {
             metrics.note_standby(false);
             let mut followed = Some(followed);
@@ -47,7 +47,7 @@ pub(crate) fn serve_in_cluster<'r, 'o, R: Host + Sync, T: Sides>(
 fn follow<'r, 'o, R: Host + Sync, T: Sides>(
     run: &Run<'r, 'o, R>,
     cluster: &'o Cluster,
-    dialer: &'r Dialer,
+    threads: EngineThreads<'r>,
     metrics: &'r Metrics,
     console: &mut Console<T>,
     interrupt: &AtomicBool,
@@ -64,7 +64,7 @@ fn follow<'r, 'o, R: Host + Sync, T: Sides>(
     let means = Means {
         member: Member { cluster, drawn },
         metrics,
-        dialer,
+        threads,
         interrupt,
     };
     match stand_by(run, folder, means, console) {

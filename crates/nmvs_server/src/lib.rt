@@ -13,7 +13,7 @@ mod listening;
 mod recovered;
 mod starting;
 
-pub use nmvs_engine::Dialer;
+pub use nmvs_engine::{CopyNotes, Dialer, EngineThreads};
 pub use nmvs_recovery::Host;
 pub use nmvs_service::{Fault, Outcome, outcome_of};
 pub use starting::{Beside, start};

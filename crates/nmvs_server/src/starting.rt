@@ -2,7 +2,7 @@
 ghost use Rattle.nmvs_stream.specs.Console.{IsFresh};
 
 use crate::launch::serve_run;
-use crate::{Dialer, Fault, Host, Outcome};
+use crate::{EngineThreads, Fault, Host, Outcome};
 use log::{Log, error, info};
 use nmvs_exposition::{MetricsListener, serve_metrics};
 use nmvs_metrics::Metrics;
@@ -22,8 +22,8 @@ use std::thread::Threads;
 pub struct Beside<'b> {
     /// Whether the console is to give no further command.
     pub interrupt: &'b AtomicBool,
-    /// The dialer of a server among several machines, which a thread runs.
-    pub dialer: Option<&'b Dialer>,
+    /// The threads of a server among several machines.
+    pub threads: Option<EngineThreads<'b>>,
 }
 
 /// Serves one session over the console, or connections at the address or the socket of the options. With connections, the
