@@ -147,7 +147,7 @@ function objection(pack, said) {
 const done = ({ word, pack }) => ({ kind: ASKS.includes(word) ? 'gone' : word === 'revert' ? 'calm' : 'good', head: say(`done.${word}`), then: say(`after.${word}`), undo: ['hold', 'export', 'sample'].includes(word) && !isPast(pack.expiry) });
 const READ = {
   AUTHENTIC: ({ pack, said }) => objection(pack, said) ?? { kind: 'good', head: say('done.verify'), then: say('after.verify'), facts: uploaded(said) },
-  ALERT: ({ pack, said }) => ({ kind: 'bad', head: say('wrong.head'), then: say(`cause.${said.cause}`), steps: said.flag === 'FLAGGED' ? ['aside', 'person', 'authority'] : ['disposal'], facts: [[say('fact.alert'), say('fact.number', { number: said.number, code: pack.code })], [say('fact.flag'), say(said.flag === 'FLAGGED' ? 'yes' : 'no')]] }),
+  ALERT: ({ pack, said }) => ({ kind: 'bad', head: say('wrong.head'), then: say(`cause.${said.cause}`), steps: said.flag === 'FLAGGED' ? ['aside', 'person', 'authority'] : ['disposal'], facts: [[say('fact.alert'), said.alert ?? `${pack.code}-${said.number}`, true], [say('fact.flag'), say(said.flag === 'FLAGGED' ? 'yes' : 'no')]] }),
   REFUSED: ({ said }) => ({ kind: 'warn', head: say('wrong.undone'), then: say(`refusal.${said.refusal}`), facts: [[say('fact.refusal'), said.number]] }),
   DECOMMISSIONED: done, HANDED_OVER: done, REVERTED: done, STOLEN: done,
   NOPACK: () => ({ kind: 'warn', head: say('done.none'), then: say('after.none') }),
@@ -201,7 +201,7 @@ function show(verdict, hint = null) {
   const hints = [...(note ? [note()] : []), ...(kept ? [] : [say('hint.unkept')]), ...(caps ? [say('hint.caps')] : [])].map(it => make('p', 'hint', it));
   $('verdict').className = v.kind;
   $('verdict').replaceChildren(...hints, icon(v.kind), text);
-  if (v.facts?.length) $('verdict').append(make('div', 'facts', ...v.facts.map(([name, value]) => make('span', '', make('span', '', name), ' ', make('b', 'code', value)))));
+  if (v.facts?.length) $('verdict').append(make('div', 'facts', ...v.facts.map(([name, value, copies]) => make('span', copies ? 'quoted' : '', make('span', '', name), ' ', make('b', 'code', value), ...(copies ? [button(say('act.copy'), () => navigator.clipboard?.writeText(value), value)] : [])))));
 }
 const hinted = hint => show(shown, hint);
 function showPack(pack, said = {}) {

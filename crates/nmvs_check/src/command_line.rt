@@ -81,6 +81,8 @@ const CODE: Value = (&["CODE"], "product code");
 
 const SERIAL: Value = (&["SERIAL"], "serial number");
 
+const ALERT: Value = (&["NAME"], "name of an alert, as 09506000134352-17");
+
 const BATCH: Value = (&["BATCH"], "batch");
 
 pub(crate) const PART: Value = (&["I/N"], "part as 0/8");
@@ -103,7 +105,7 @@ pub(crate) type Row = (
 
 /// The arguments of all commands, in the order of the help, in which the values of a filter are read too.
 #[rattlefmt::skip]
-pub(crate) const ROWS: [Row; 28] = [
+pub(crate) const ROWS: [Row; 29] = [
     ("files", Place::Several, (&["FILE"], ""), &[CHECK, "list", "count", "pack", "packs", "report", "page"],
         "The files of the export, one after another; standard input where there is none, and where it is -"),
     ("old", Place::Alone, (&["OLD"], ""), &["compare"], "The file of the old export; standard input where it is -"),
@@ -135,6 +137,7 @@ pub(crate) const ROWS: [Row; 28] = [
     ("batch", Place::Needed, BATCH, &["packs"], "The batch"),
     ("word", Place::Named, (&["WORD"], "word of a question"), ENTRIES, "Questions of this kind, as SUPPLY"),
     ("reply", Place::Named, (&["WORD"], "word of a reply"), ENTRIES, "Entries whose reply begins with this word, as ALERT"),
+    ("alert", Place::Named, ALERT, ENTRIES, "The alert of this name alone"),
     ("flagged", Place::Named, FLAG, ENTRIES, "Alerts flagged as potential falsifications alone"),
     ("refused", Place::Named, FLAG, ENTRIES, "Refused questions alone"),
     ("csv", Place::Named, FLAG, &["list", "count", "pack", "packs", "report"], "As CSV, with a header"),

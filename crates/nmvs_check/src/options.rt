@@ -6,6 +6,7 @@ use nmvs_elements::National;
 use nmvs_identifier::{Batch, Name, Pack, ProductCode, Serial};
 use nmvs_inspect::{By, Filter, Form, read_date};
 use nmvs_parts::Part;
+use nmvs_reports::AlertName;
 use nmvs_words::{QuestionKind, ReplyKind, role_named};
 use std::alloc::{AllocError, Global};
 
@@ -243,6 +244,7 @@ fn takes(alloc: Global, filter: &mut Filter, name: &str, text: &str) -> Result<b
         "serial" => put(&mut filter.serial, Serial::read(text).ok()),
         "batch" => put(&mut filter.batch, Batch::read(text).ok()),
         "word" => put(&mut filter.question, QuestionKind::named(text)),
+        "alert" => put(&mut filter.alert, AlertName::read(text)),
         "reply" => put(&mut filter.reply, ReplyKind::named(text)),
         _ => true,
     })

@@ -13,10 +13,10 @@ use Rattle.nmvs_json.specs.declared.asked_kind.AskedKind.{AskedKind}
 use Rattle.nmvs_json.specs.declared.question_fault.QuestionFault.{QuestionFault}
 use Rattle.nmvs_json.specs.declared.question_fault.QuestionFault.TheVariants as fault
 use Rattle.nmvs_json.specs.declared.refusal.Refusal.{Refusal}
-use Rattle.nmvs_json.specs.Bulks.{bulk_lines, item_fields, item_key, item_kind, item_line, item_line_with, item_lines, item_scanned, items_in, line_and, numbered, lines_of_items, lines_of_object, others_of}
-use Rattle.nmvs_json.specs.Questions.{fields_of, is_key, key_text, line_of, object_in, with_scanned}
+use Rattle.nmvs_json.specs.declared.subject.Subject.{Subject}
+use Rattle.nmvs_json.specs.Bulks.{bulk_lines, item_fields, item_key, item_kind, item_line, item_line_with, item_lines, item_subject, items_in, line_and, numbered, lines_of_items, lines_of_object, others_of}
+use Rattle.nmvs_json.specs.Questions.{fields_of, is_key, key_text, line_of, object_in, with_subject}
 use Rattle.nmvs_json.specs.Replies.{bodies, body_text, body_where, bulk_text, first_line, first_word, places_of, separated}
-use Rattle.nmvs_json.specs.Scans.{Scanned}
 use Rattle.nmvs_http.specs.BulkLaws.{AreLinesOf, IsAnsweredByBodies, IsAskedByLines, IsLineText}
 use Rattle.nmvs_http.proofs.OneLineLemmas.{AreFields, IsLine, are_fields, is_line}
 
@@ -80,42 +80,42 @@ pub asked_by_lines : IsAskedByLines
 unfolding bulk_lines
 asked_by_lines body bulk e = by (object_in body) e
   where
-    told : (js : List Json) (r : Result (List ℕ) Refusal) → item_lines 0 js ≡ r → with_scanned (map item_scanned js) r ≡ Ok bulk → (bulk.0 ≡ map item_scanned js) × AreLinesOf js (input_lines bulk.1)
+    told : (js : List Json) (r : Result (List ℕ) Refusal) → item_lines 0 js ≡ r → with_subject (map item_subject js) r ≡ Ok bulk → (bulk.0 ≡ map item_subject js) × AreLinesOf js (input_lines bulk.1)
     told js (Err f) p e = absurd (cc e)
     told js (Ok lines) p e =
-        let same : (map item_scanned js, lines) ≡ bulk = cc e in
-        (sym (ap (λ (b : List (Option Scanned) × List ℕ). b.0) same), subst (λ (b : List (Option Scanned) × List ℕ). AreLinesOf js (input_lines b.1)) same (lines_are js 0 lines p))
+        let same : (map item_subject js, lines) ≡ bulk = cc e in
+        (sym (ap (λ (b : List Subject × List ℕ). b.0) same), subst (λ (b : List Subject × List ℕ). AreLinesOf js (input_lines b.1)) same (lines_are js 0 lines p))
 
-    on : (o : Option (List Json)) → lines_of_items o ≡ Ok bulk → IsSomeAnd o (λ items. (bulk.0 ≡ map item_scanned items) × AreLinesOf items (input_lines bulk.1))
+    on : (o : Option (List Json)) → lines_of_items o ≡ Ok bulk → IsSomeAnd o (λ items. (bulk.0 ≡ map item_subject items) × AreLinesOf items (input_lines bulk.1))
     on None e = absurd (cc e)
     on (Some js) e = told js (item_lines 0 js) refl e
 
-    by : (o : Option Json) → lines_of_object o ≡ Ok bulk → IsSomeAnd (option_and_then items_in o) (λ items. (bulk.0 ≡ map item_scanned items) × AreLinesOf items (input_lines bulk.1))
+    by : (o : Option Json) → lines_of_object o ≡ Ok bulk → IsSomeAnd (option_and_then items_in o) (λ items. (bulk.0 ≡ map item_subject items) × AreLinesOf items (input_lines bulk.1))
     by None e = absurd (cc e)
     by (Some j) e = on (items_in j) e
 
 -- the bodies of no answers
-none_answered : (missing : List (Option Scanned)) → bodies missing (input_lines []) ≡ map (λ scanned. body_text scanned []) missing
+none_answered : (missing : List Subject) → bodies missing (input_lines []) ≡ map (λ subject. body_text subject []) missing
 unfolding bodies body_text lines_after
 none_answered [] = refl
-none_answered (scanned ∷ missing) = ap (λ (later : List (List ℕ)). body_text scanned [] ∷ later) (none_answered missing)
+none_answered (subject ∷ missing) = ap (λ (later : List (List ℕ)). body_text subject [] ∷ later) (none_answered missing)
 
 -- the body of an answer of one line, before more bodies
-one_answered : (scanned : Option Scanned) (others : List (Option Scanned)) (bytes rest : List ℕ) → (x : IsLineText bytes) → bodies (scanned ∷ others) (input_lines (bytes ++ rest)) ≡ body_text scanned bytes ∷ bodies others (input_lines rest)
+one_answered : (subject : Subject) (others : List Subject) (bytes rest : List ℕ) → (x : IsLineText bytes) → bodies (subject ∷ others) (input_lines (bytes ++ rest)) ≡ body_text subject bytes ∷ bodies others (input_lines rest)
 unfolding bodies body_text lines_after
-one_answered scanned others bytes rest x =
+one_answered subject others bytes rest x =
     let cut = one_more bytes x.line rest x.whole x refl in
     let own : input_lines bytes ≡ x.line ∷ [] = line_cut [] x.line [] x.whole x.no_lf in
-    ap (λ (ls : List (List ℕ)). bodies (scanned ∷ others) ls) cut
-    ∙ ap (λ (b : List ℕ). b ∷ bodies others (input_lines rest)) (sym (ap (λ (ls : List (List ℕ)). body_where (places_of (first_word (first_line ls))) scanned (first_line ls) (drop 1 ls)) own))
+    ap (λ (ls : List (List ℕ)). bodies (subject ∷ others) ls) cut
+    ∙ ap (λ (b : List ℕ). b ∷ bodies others (input_lines rest)) (sym (ap (λ (ls : List (List ℕ)). body_where (places_of (first_word (first_line ls))) subject (first_line ls) (drop 1 ls)) own))
 
--- an answer, after the scanned values of its question
+-- an answer, after the subject of its question
 abbrev Said : Type 0
-Said = Option Scanned × Answer
+Said = Subject × Answer
 
-answered : (said : List Said) (missing : List (Option Scanned)) → AllByRecursion (λ (a : Said). IsLineText (text a.1)) said
+answered : (said : List Said) (missing : List Subject) → AllByRecursion (λ (a : Said). IsLineText (text a.1)) said
     → bodies (map (λ (a : Said). a.0) said ++ missing) (input_lines (session_text (map (λ (a : Said). a.1) said)))
-    ≡ map (λ (a : Said). body_text a.0 (text a.1)) said ++ map (λ scanned. body_text scanned []) missing
+    ≡ map (λ (a : Said). body_text a.0 (text a.1)) said ++ map (λ subject. body_text subject []) missing
 answered [] missing lines = none_answered missing
 answered (a ∷ said) missing lines =
     one_answered a.0 (map (λ (b : Said). b.0) said ++ missing) (text a.1) (session_text (map (λ (b : Said). b.1) said)) lines.0

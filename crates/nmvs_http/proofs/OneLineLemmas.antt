@@ -23,7 +23,8 @@ use Rattle.nmvs_json.specs.declared.asked_kind.AskedKind.{AskedKind}
 use Rattle.nmvs_json.specs.declared.asked_kind.AskedKind.TheVariants.{Question, Report}
 use Rattle.nmvs_json.specs.declared.refusal.Refusal.{Refusal}
 use Rattle.nmvs_json.specs.declared.question_fault.QuestionFault.TheVariants as fault
-use Rattle.nmvs_json.specs.Questions.{as_field, as_user, condition_texts, count_of, fields_of, has_condition, has_scan, has_scanned, is_field, is_key, is_matching, is_misread, key_text, line_of, line_of_object, name_texts, names_of, object_in, pack_texts, placed, printed_texts, question_line, said_in, scan_printed, scan_values, scanned_in, scanned_of, shown_texts, string_of, subject_count, subject_of, text_of, texts_of, user_of, with_scanned, word_of, wrong_member, values_in}
+use Rattle.nmvs_json.specs.declared.subject.Subject.{Subject}
+use Rattle.nmvs_json.specs.Questions.{as_field, as_user, condition_texts, count_of, fields_of, has_condition, has_scan, has_scanned, is_field, is_key, is_matching, is_misread, key_text, line_of, line_of_object, name_texts, names_of, object_in, pack_texts, placed, printed_texts, question_line, said_in, scan_printed, scan_values, subject_in, scanned_of, shown_texts, string_of, subject_count, subject_of, text_of, texts_of, user_of, with_subject, word_of, wrong_member, values_in}
 use Rattle.nmvs_json.specs.Refusals.{whole}
 use Rattle.nmvs_json.specs.Scans.{Scanned, scan_in}
 use Rattle.nmvs_json.proofs.ScanLemmas.{printed_plain, texts_plain}
@@ -254,7 +255,7 @@ is_line key fields bytes e a is =
 is_one_line : (key : Option (List ℕ)) (fields : List (List ℕ)) (bytes : List ℕ) → IsLine bytes key fields → IsOneLine bytes (key_tag key) fields
 is_one_line key fields bytes l = record { line = l.line; one = ap input_lines l.whole ∙ one_line l.line l.no_lf; tagged = l.tagged; behind = l.behind }
 
-abbrev line_or_none : Result (Option Scanned × List ℕ) Refusal → List ℕ
+abbrev line_or_none : Result (Subject × List ℕ) Refusal → List ℕ
 line_or_none (Ok question) = question.1
 line_or_none (Err f) = []
 
@@ -262,7 +263,7 @@ pub asked_by_one_line : IsAskedByOneLine
 unfolding question_line
 asked_by_one_line kind key body question e = by (is_key key) refl (object_in body) e
   where
-    on : (j : Json) (r : Option (List (List ℕ))) → fields_of 1 kind j ≡ r → is_key key ≡ true → with_scanned (scanned_in kind j) (placed (wrong_member kind j) (line_of key r)) ≡ Ok question → IsSomeAnd r (λ fields. IsOneLine question.1 (key_tag key) fields)
+    on : (j : Json) (r : Option (List (List ℕ))) → fields_of 1 kind j ≡ r → is_key key ≡ true → with_subject (subject_in kind j) (placed (wrong_member kind j) (line_of key r)) ≡ Ok question → IsSomeAnd r (λ fields. IsOneLine question.1 (key_tag key) fields)
     on j None p k e = absurd (cc e)
     on j (Some fields) p k e = is_one_line key fields question.1 (is_line key fields question.1 k (are_fields 1 kind j fields p) (ap line_or_none e))
 

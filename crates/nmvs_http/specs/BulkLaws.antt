@@ -7,10 +7,10 @@ use Rattle.nmvs_messages.specs.declared.answer.Answer.{Answer}
 use Rattle.nmvs_protocol.specs.Session.{session_text}
 use Rattle.nmvs_protocol.specs.Tags.{tag_of}
 use Rattle.nmvs_protocol.specs.Texts.{text}
-use Rattle.nmvs_json.specs.Bulks.{bulk_lines, item_fields, item_key, item_scanned, items_in, others_of}
+use Rattle.nmvs_json.specs.declared.subject.Subject.{Subject}
+use Rattle.nmvs_json.specs.Bulks.{bulk_lines, item_fields, item_key, item_subject, items_in, others_of}
 use Rattle.nmvs_json.specs.Questions.{object_in}
 use Rattle.nmvs_json.specs.Replies.{body_text, bulk_text, separated}
-use Rattle.nmvs_json.specs.Scans.{Scanned}
 use Rattle.nmvs_http.specs.OneLine.{fields_behind, key_tag}
 
 -- the line of an item has its key as the tag, and its fields after that
@@ -28,11 +28,11 @@ AreLinesOf [] [] = Unit {0}
 AreLinesOf (item ∷ items) (line ∷ lines) = IsLineOf item line × AreLinesOf items lines
 AreLinesOf _ _ = ⊥
 
--- a bulk asks the lines of its items, each with its scanned values
+-- a bulk asks the lines of its items, each with its subject
 abbrev pub IsAskedByLines : Type 0
 IsAskedByLines =
-    (body : List ℕ) (bulk : List (Option Scanned) × List ℕ) → bulk_lines body ≡ Ok bulk
-    → IsSomeAnd (option_and_then items_in (object_in body)) (λ items. (bulk.0 ≡ map item_scanned items) × AreLinesOf items (input_lines bulk.1))
+    (body : List ℕ) (bulk : List Subject × List ℕ) → bulk_lines body ≡ Ok bulk
+    → IsSomeAnd (option_and_then items_in (object_in body)) (λ items. (bulk.0 ≡ map item_subject items) × AreLinesOf items (input_lines bulk.1))
 
 -- the text of an answer is one line, as of each that is no list
 pub record IsLineText (t : List ℕ) : Type 0 where
@@ -40,10 +40,10 @@ pub record IsLineText (t : List ℕ) : Type 0 where
   pub no_lf : HasNoLf line
   pub whole : t ≡ line ++ 10 ∷ []
 
--- the response to a bulk has the body of each answer, in order, as the response to one question with these scanned values has it,
+-- the response to a bulk has the body of each answer, in order, as the response to one question with this subject has it,
 -- and that of no answer for each question that has none
 abbrev pub IsAnsweredByBodies : Type 0
 IsAnsweredByBodies =
-    (said : List (Option Scanned × Answer)) (missing : List (Option Scanned)) → AllByRecursion (λ (a : Option Scanned × Answer). IsLineText (text a.1)) said
-    → bulk_text (map (λ (a : Option Scanned × Answer). a.0) said ++ missing) (session_text (map (λ (a : Option Scanned × Answer). a.1) said))
-    ≡ codes "{\"replies\":[" ++ (separated [] (map (λ (a : Option Scanned × Answer). body_text a.0 (text a.1)) said ++ map (λ scanned. body_text scanned []) missing) ++ codes "]}\n")
+    (said : List (Subject × Answer)) (missing : List Subject) → AllByRecursion (λ (a : Subject × Answer). IsLineText (text a.1)) said
+    → bulk_text (map (λ (a : Subject × Answer). a.0) said ++ missing) (session_text (map (λ (a : Subject × Answer). a.1) said))
+    ≡ codes "{\"replies\":[" ++ (separated [] (map (λ (a : Subject × Answer). body_text a.0 (text a.1)) said ++ map (λ subject. body_text subject []) missing) ++ codes "]}\n")

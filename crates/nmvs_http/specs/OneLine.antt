@@ -5,8 +5,8 @@ use Rattle.nmvs_stream.specs.InputLines.{input_lines}
 use Rattle.nmvs_messages.specs.Fields.{fields_in}
 use Rattle.nmvs_protocol.specs.Tags.{behind_tag, tag_of}
 use Rattle.nmvs_json.specs.declared.asked_kind.AskedKind.{AskedKind}
+use Rattle.nmvs_json.specs.declared.subject.Subject.{Subject}
 use Rattle.nmvs_json.specs.Questions.{fields_of, object_in, question_line}
-use Rattle.nmvs_json.specs.Scans.{Scanned}
 
 -- the tag that a key is
 abbrev pub key_tag : Option (List ℕ) → Option Tag
@@ -29,5 +29,5 @@ pub record IsOneLine (bytes : List ℕ) (tag : Option Tag) (fields : List (List 
 -- members
 abbrev pub IsAskedByOneLine : Type 0
 IsAskedByOneLine =
-    (kind : AskedKind) (key : Option (List ℕ)) (body : List ℕ) (question : Option Scanned × List ℕ) → question_line kind key body ≡ Ok question
+    (kind : AskedKind) (key : Option (List ℕ)) (body : List ℕ) (question : Subject × List ℕ) → question_line kind key body ≡ Ok question
     → IsSomeAnd (object_in body) (λ object. IsSomeAnd (fields_of 1 kind object) (λ fields. IsOneLine question.1 (key_tag key) fields))

@@ -11,10 +11,10 @@ use Rattle.http_uri.specs.Uri.{uri_path}
 use Rattle.nmvs_json.specs.declared.asked_kind.AskedKind.{AskedKind}
 use Rattle.nmvs_json.specs.declared.question_fault.QuestionFault.TheVariants as questions
 use Rattle.nmvs_json.specs.declared.refusal.Refusal.{Refusal}
+use Rattle.nmvs_json.specs.declared.subject.Subject.{Subject}
 use Rattle.nmvs_json.specs.Bulks.{bulk_lines}
 use Rattle.nmvs_json.specs.Questions.{asked_at, question_line}
 use Rattle.nmvs_json.specs.Refusals.{whole}
-use Rattle.nmvs_json.specs.Scans.{Scanned}
 use Rattle.nmvs_http.specs.declared.asked.Asks.{Asks}
 use Rattle.nmvs_http.specs.declared.asked.Asks.TheVariants.{Lines, Question, Questions, Health, Refused, Malformed}
 use Rattle.nmvs_http.specs.declared.fault.Fault.{Fault}
@@ -115,13 +115,13 @@ reading_of_lines (Some fault) body = refused_for fault
 abbrev pub malformed : Refusal → Reading
 malformed refusal = record { asks = Malformed refusal; lines = [] }
 
--- a request whose key and body mean this line with these scanned values, or are refused
-abbrev pub reading_of_line : Result (Option Scanned × List ℕ) Refusal → Reading
+-- a request whose key and body mean this line with this subject, or are refused
+abbrev pub reading_of_line : Result (Subject × List ℕ) Refusal → Reading
 reading_of_line (Ok question) = record { asks = Question question.0; lines = question.1 }
 reading_of_line (Err refusal) = malformed refusal
 
 -- a request with this fault, or whose key and body mean this line or are refused
-abbrev pub reading_of_question : Option Fault → Result (Option Scanned × List ℕ) Refusal → Reading
+abbrev pub reading_of_question : Option Fault → Result (Subject × List ℕ) Refusal → Reading
 reading_of_question None line = reading_of_line line
 reading_of_question (Some fault) line = refused_for fault
 
@@ -135,8 +135,8 @@ unquoted key = if is_quoted key then take (length key - 2) (drop 1 key) else key
 abbrev pub key_of : Request (List ℕ) → Option (List ℕ)
 key_of request = option_map unquoted (field_value request (codes "idempotency-key"))
 
--- the scanned values and the line that a request means at the path of this question, or the refusal; it has one key at most
-abbrev pub line_of : AskedKind → Request (List ℕ) → Result (Option Scanned × List ℕ) Refusal
+-- the subject and the line that a request means at the path of this question, or the refusal; it has one key at most
+abbrev pub line_of : AskedKind → Request (List ℕ) → Result (Subject × List ℕ) Refusal
 line_of kind request =
     if is_repeated request (codes "idempotency-key") then Err (whole questions.Key)
     else question_line kind (key_of request) (body_of request)
@@ -146,21 +146,21 @@ abbrev pub reading_at : Option AskedKind → Request (List ℕ) → Reading
 reading_at None request = refused_for faults.Path
 reading_at (Some kind) request = reading_of_question (fault_of_post (codes "application/json") request) (line_of kind request)
 
--- a bulk whose body means these lines with these scanned values, or is refused
-abbrev pub reading_of_items : Result (List (Option Scanned) × List ℕ) Refusal → Reading
+-- a bulk whose body means these lines with these subjects, or is refused
+abbrev pub reading_of_items : Result (List Subject × List ℕ) Refusal → Reading
 reading_of_items (Ok bulk) = record { asks = Questions bulk.0; lines = bulk.1 }
 reading_of_items (Err refusal) = malformed refusal
 
 -- the lines of a bulk, which has no key of its own, or the refusal
-abbrev pub keyless : Option (List ℕ) → List ℕ → Result (List (Option Scanned) × List ℕ) Refusal
+abbrev pub keyless : Option (List ℕ) → List ℕ → Result (List Subject × List ℕ) Refusal
 keyless None body = bulk_lines body
 keyless (Some key) body = Err (whole questions.Key)
 
-abbrev pub bulk_of : Request (List ℕ) → Result (List (Option Scanned) × List ℕ) Refusal
+abbrev pub bulk_of : Request (List ℕ) → Result (List Subject × List ℕ) Refusal
 bulk_of request = keyless (field_value request (codes "idempotency-key")) (body_of request)
 
 -- a request with this fault, or whose body means these lines or is refused
-abbrev pub reading_of_bulk : Option Fault → Result (List (Option Scanned) × List ℕ) Refusal → Reading
+abbrev pub reading_of_bulk : Option Fault → Result (List Subject × List ℕ) Refusal → Reading
 reading_of_bulk None bulk = reading_of_items bulk
 reading_of_bulk (Some fault) bulk = refused_for fault
 

@@ -72,8 +72,8 @@ bulk_status false = codes "200 OK"
 -- the status of the response: 200 to lines and to a bulk, exactly if they are not refused
 abbrev pub status_of : Asks → List ℕ → List ℕ
 status_of Lines replies = codes "200 OK"
-status_of (Question scanned) replies = status_where (problem_of replies)
-status_of (Questions scanned) replies = bulk_status (json.has_passing scanned (input_lines replies))
+status_of (Question subject) replies = status_where (problem_of replies)
+status_of (Questions subjects) replies = bulk_status (json.has_passing subjects (input_lines replies))
 status_of Health replies = codes "200 OK"
 status_of (Refused fault) replies = status fault
 status_of (Malformed refusal) replies = codes "400 Bad Request"
@@ -81,8 +81,8 @@ status_of (Malformed refusal) replies = codes "400 Bad Request"
 -- the type of its body
 abbrev pub type_of : Asks → List ℕ → List ℕ
 type_of Lines replies = codes "application/vnd.nmvs.lines"
-type_of (Question scanned) replies = type_where (problem_of replies)
-type_of (Questions scanned) replies = codes "application/json"
+type_of (Question subject) replies = type_where (problem_of replies)
+type_of (Questions subjects) replies = codes "application/json"
 type_of Health replies = codes "text/plain; charset=utf-8"
 type_of (Refused fault) replies = codes "application/problem+json"
 type_of (Malformed refusal) replies = codes "application/problem+json"
@@ -90,8 +90,8 @@ type_of (Malformed refusal) replies = codes "application/problem+json"
 -- its body: the replies to lines, word for word; the reply to one question, or those to a bulk, as JSON
 abbrev pub body_text : Asks → List ℕ → List ℕ
 body_text Lines replies = replies
-body_text (Question scanned) replies = json.body_text scanned replies
-body_text (Questions scanned) replies = json.bulk_text scanned replies
+body_text (Question subject) replies = json.body_text subject replies
+body_text (Questions subjects) replies = json.bulk_text subjects replies
 body_text Health replies = codes "ok\n"
 body_text (Refused fault) replies = problem fault
 body_text (Malformed refusal) replies = refusal_text refusal

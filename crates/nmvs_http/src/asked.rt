@@ -8,17 +8,17 @@ ghost use Rattle.nmvs_http.specs.Requests as specs;
 use crate::fault::Fault;
 use bytes::Bytes;
 use http::Request;
-use nmvs_json::{BulkScanned, Refusal, Scanned};
+use nmvs_json::{BulkSubjects, Refusal, Subject};
 
 /// The kind of a request.
 #[derive(Drop)]
 pub enum Asks {
     /// Asks for the replies to the lines of its body.
     Lines,
-    /// Asks for the reply to the question in its body of JSON, which has these scanned values if it has some.
-    Question(Option<Scanned>),
-    /// Asks for the replies to the questions in its body of JSON, each of which has these scanned values if it has some.
-    Questions(BulkScanned),
+    /// Asks for the reply to the question in its body of JSON, which has this subject.
+    Question(Subject),
+    /// Asks for the replies to the questions in its body of JSON, each of which has its subject.
+    Questions(BulkSubjects),
     /// Asks whether the server lives.
     Health,
     /// Is refused for this fault.

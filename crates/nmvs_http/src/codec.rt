@@ -16,7 +16,7 @@ use crate::response::{
 use crate::write_buffer::WriteBuffer;
 use boxcar::tag::Tag;
 use bytes::Bytes;
-use nmvs_json::{Refusal, Scanned, bulk_body, refusal_body, response_of};
+use nmvs_json::{Refusal, Subject, bulk_body, refusal_body, response_of};
 use nmvs_stream::Failed;
 use std::alloc::Global;
 use std::hash::RandomState;
@@ -375,9 +375,9 @@ fn tell_response(
     let alone = hand.head_alone;
     match &hand.asks {
         Asks::Lines => tell_body(told, front_of_lines(), alone, stays, replies),
-        Asks::Question(scanned) => tell_reply(alloc, told, scanned, alone, stays, replies),
-        Asks::Questions(scanned) => {
-            tell_bulk(alloc, told, scanned.entries(), alone, stays, replies)
+        Asks::Question(subject) => tell_reply(alloc, told, subject, alone, stays, replies),
+        Asks::Questions(subjects) => {
+            tell_bulk(alloc, told, subjects.entries(), alone, stays, replies)
         }
         Asks::Health => tell_body(told, front_of_health(), alone, stays, b"ok\n"),
         Asks::Refused(fault) => {
@@ -387,18 +387,18 @@ fn tell_response(
     }
 }
 
-/// Responds to a question with these scanned values with the answer to it. Returns the next stage of the codec.
+/// Responds to a question with this subject with the answer to it. Returns the next stage of the codec.
 fn tell_reply(
     alloc: Global,
     told: &mut WriteBuffer,
-    scanned: &Option<Scanned>,
+    subject: &Subject,
     head_alone: bool,
     stays: bool,
     replies: &[u8],
 ) -> CodecStage
-    ensures { Tells told.old.bytes.items told.new.bytes.items (response_text (Asks.Question scanned.now) head_alone stays replies.now) (if stays then CodecStage.Open else CodecStage.Closing) result }
+    ensures { Tells told.old.bytes.items told.new.bytes.items (response_text (Asks.Question subject.now) head_alone stays replies.now) (if stays then CodecStage.Open else CodecStage.Closing) result }
 {
-    match response_of(alloc, scanned, replies) {
+    match response_of(alloc, subject, replies) {
         Ok((problem, body)) => {
             tell_body(
                 told,
@@ -412,18 +412,18 @@ fn tell_reply(
     }
 }
 
-/// Responds to a bulk of questions, each with its scanned values, with the answers to them. Returns the next stage of the codec.
+/// Responds to a bulk of questions, each with its subject, with the answers to them. Returns the next stage of the codec.
 fn tell_bulk(
     alloc: Global,
     told: &mut WriteBuffer,
-    scanned: &[Option<Scanned>],
+    subjects: &[Subject],
     head_alone: bool,
     stays: bool,
     replies: &[u8],
 ) -> CodecStage
-    ensures { Tells told.old.bytes.items told.new.bytes.items (response_text (Asks.Questions scanned.now) head_alone stays replies.now) (if stays then CodecStage.Open else CodecStage.Closing) result }
+    ensures { Tells told.old.bytes.items told.new.bytes.items (response_text (Asks.Questions subjects.now) head_alone stays replies.now) (if stays then CodecStage.Open else CodecStage.Closing) result }
 {
-    match bulk_body(alloc, scanned, replies) {
+    match bulk_body(alloc, subjects, replies) {
         Ok((passing, body)) => tell_body(
             told,
             front_of_bulk(passing),

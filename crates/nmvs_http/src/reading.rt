@@ -117,8 +117,8 @@ fn read_body(
         return malformed(Refusal::whole(QuestionFault::Key));
     }
     match question_line(alloc, kind, key_of(request), request.body().as_slice()) {
-        Ok(QuestionLine { scanned, line }) => Ok(Reading {
-            asks: Asks::Question(scanned),
+        Ok(QuestionLine { subject, line }) => Ok(Reading {
+            asks: Asks::Question(subject),
             lines: bytes_of(line)?,
         }),
         Err(refusal) => malformed(refusal),
@@ -143,10 +143,10 @@ fn read_items(alloc: Global, request: &Request<Bytes>) -> Result<Reading, AllocE
         return malformed(Refusal::whole(QuestionFault::Key));
     }
     match bulk_lines(alloc, request.body().as_slice()) {
-        Ok(BulkLines { scanned, lines }) => {
+        Ok(BulkLines { subjects, lines }) => {
             let lines = bytes_of(lines)?;
             Ok(Reading {
-                asks: Asks::Questions(scanned),
+                asks: Asks::Questions(subjects),
                 lines,
             })
         }

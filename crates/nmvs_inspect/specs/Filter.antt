@@ -10,6 +10,7 @@ use Rattle.nmvs_identifier.specs.ProductCode.{ProductCode}
 use Rattle.nmvs_identifier.specs.Serial.{Serial}
 use Rattle.nmvs_identifier.specs.Texts.{same_text}
 use Rattle.nmvs_identifier.specs.declared.pack.Pack.{Pack}
+use Rattle.nmvs_reports.specs.Alerts.{is_named}
 use Rattle.nmvs_rules.specs.declared.entry.Entry.{Entry}
 use Rattle.nmvs_rules.specs.declared.facts.Known.{Known}
 use Rattle.nmvs_rules.specs.declared.put.Put.{Put}
@@ -42,6 +43,7 @@ every = record {
   pack = None;
   question = None;
   reply = None;
+  alert = None;
   flagged = false;
   refused = false;
 }
@@ -116,4 +118,5 @@ is_answered f r =
 -- whether the filter takes an entry of the trail
 abbrev pub takes : Filter → List Entry → Entry → Bool
 takes f t e =
-    is_in_days f e.put.moment && is_asked_by f e.put && is_answered f e.reply && is_asked f t e.put.question
+    is_in_days f e.put.moment && is_asked_by f e.put && is_answered f e.reply && is_wanted (λ name. is_named name e) f.alert
+    && is_asked f t e.put.question

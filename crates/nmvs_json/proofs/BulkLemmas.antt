@@ -11,10 +11,10 @@ use Rattle.nmvs_words.specs.Words.{spaced}
 use Rattle.nmvs_json.specs.declared.question_fault.QuestionFault.{QuestionFault}
 use Rattle.nmvs_json.specs.declared.question_fault.QuestionFault.TheVariants as fault
 use Rattle.nmvs_json.specs.declared.refusal.Refusal.{Refusal}
+use Rattle.nmvs_json.specs.declared.subject.Subject.{Subject}
 use Rattle.nmvs_json.specs.Bulks.{appended, as_values, item_fields, item_key, item_line, item_line_with, line_and, numbered, others_of, values_of, wrong_in}
 use Rattle.nmvs_json.specs.Questions.{is_key, key_text, line_of}
 use Rattle.nmvs_json.specs.Replies.{bodies, body_where, first_line, first_word, has_passing, passes, places_of, problem_where}
-use Rattle.nmvs_json.specs.Scans.{Scanned}
 
 -- one line more
 pub line_more : (n : ℕ) (j : Json) (lines new : List ℕ) (r : Result (List ℕ) QuestionFault) (rest : Result (List ℕ) Refusal) → appended lines r ≡ Ok new → line_and (Ok new) rest ≡ line_and (Ok lines) (line_and (numbered n j r) rest)
@@ -64,28 +64,28 @@ or_none true = refl
 or_none false = refl
 
 -- one body more, or none
-pub body_more : (all others : List (Option Scanned)) (scanned : Option Scanned) (lines after : List (List ℕ)) → all ≡ scanned ∷ others → after ≡ drop 1 lines
-    → bodies all lines ≡ body_where (places_of (first_word (first_line lines))) scanned (first_line lines) [] ∷ bodies others after
+pub body_more : (all others : List Subject) (subject : Subject) (lines after : List (List ℕ)) → all ≡ subject ∷ others → after ≡ drop 1 lines
+    → bodies all lines ≡ body_where (places_of (first_word (first_line lines))) subject (first_line lines) [] ∷ bodies others after
 unfolding bodies
-body_more all others scanned lines after some is =
-    ap (λ (ss : List (Option Scanned)). bodies ss lines) some
-    ∙ ap (λ (ls : List (List ℕ)). body_where (places_of (first_word (first_line lines))) scanned (first_line lines) [] ∷ bodies others ls) (sym is)
+body_more all others subject lines after some is =
+    ap (λ (ss : List Subject). bodies ss lines) some
+    ∙ ap (λ (ls : List (List ℕ)). body_where (places_of (first_word (first_line lines))) subject (first_line lines) [] ∷ bodies others ls) (sym is)
 
-pub no_bodies : (all : List (Option Scanned)) (lines : List (List ℕ)) → all ≡ [] → bodies all lines ≡ []
+pub no_bodies : (all : List Subject) (lines : List (List ℕ)) → all ≡ [] → bodies all lines ≡ []
 unfolding bodies
-no_bodies all lines none = ap (λ (ss : List (Option Scanned)). bodies ss lines) none
+no_bodies all lines none = ap (λ (ss : List Subject). bodies ss lines) none
 
 -- one answer more, or none
-pub passing_more : (all others : List (Option Scanned)) (scanned : Option Scanned) (lines after : List (List ℕ)) (old new whole : Bool) → all ≡ scanned ∷ others → after ≡ drop 1 lines
+pub passing_more : (all others : List Subject) (subject : Subject) (lines after : List (List ℕ)) (old new whole : Bool) → all ≡ subject ∷ others → after ≡ drop 1 lines
     → new ≡ (old || passes (problem_where (places_of (first_word (first_line lines))) (first_line lines))) → (old || has_passing all lines) ≡ whole → (new || has_passing others after) ≡ whole
 unfolding has_passing
-passing_more all others scanned lines after old new whole some is next e =
+passing_more all others subject lines after old new whole some is next e =
     let its = passes (problem_where (places_of (first_word (first_line lines))) (first_line lines)) in
     let more : has_passing all lines ≡ (its || has_passing others after) =
-    ap (λ (ss : List (Option Scanned)). has_passing ss lines) some ∙ ap (λ (ls : List (List ℕ)). its || has_passing others ls) (sym is) in
+    ap (λ (ss : List Subject). has_passing ss lines) some ∙ ap (λ (ls : List (List ℕ)). its || has_passing others ls) (sym is) in
     ap (λ (b : Bool). b || has_passing others after) next ∙ or_more old its (has_passing others after) ∙ ap (λ (b : Bool). old || b) (sym more) ∙ e
 
-pub no_passing : (all : List (Option Scanned)) (lines : List (List ℕ)) (found whole : Bool) → all ≡ [] → (found || has_passing all lines) ≡ whole → found ≡ whole
+pub no_passing : (all : List Subject) (lines : List (List ℕ)) (found whole : Bool) → all ≡ [] → (found || has_passing all lines) ≡ whole → found ≡ whole
 unfolding has_passing
 no_passing all lines found whole none e =
-    or_none found ∙ ap (λ (ss : List (Option Scanned)). found || has_passing ss lines) (sym none) ∙ e
+    or_none found ∙ ap (λ (ss : List Subject). found || has_passing ss lines) (sym none) ∙ e

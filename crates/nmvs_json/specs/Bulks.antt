@@ -1,5 +1,6 @@
 -- The lines that a bulk of questions means (own).
 use Rattle.std.specs.Prelude.{ℕ, ◌+◌, ◌&&◌, List, [], ◌∷◌, ◌++◌, length, map, nat_le, nat_lt, codes, Option, Some, None, option_and_then, option_map, ◌==◌, Result, Ok, Err, if◌then◌else◌}
+use Rattle.std.specs.Option.{option_map_or}
 use Rattle.json.specs.Find.{as_str, get}
 use Rattle.json.specs.Json as json
 use Rattle.json.specs.Json.{Json, Items}
@@ -9,9 +10,9 @@ use Rattle.nmvs_json.specs.declared.question_fault.QuestionFault.TheVariants as 
 use Rattle.nmvs_json.specs.declared.refusal.Member.{Member}
 use Rattle.nmvs_json.specs.declared.refusal.Member.TheVariants as members
 use Rattle.nmvs_json.specs.declared.refusal.Refusal.{Refusal}
-use Rattle.nmvs_json.specs.Questions.{count_of, fields_of, has_list, is_key, kind_named, line_of, object_in, scanned_in, text_of, with_scanned, wrong_member}
+use Rattle.nmvs_json.specs.declared.subject.Subject.{Subject}
+use Rattle.nmvs_json.specs.Questions.{count_of, fields_of, has_list, is_key, kind_named, line_of, object_in, subject_in, text_of, unnamed, with_subject, wrong_member}
 use Rattle.nmvs_json.specs.Refusals.{whole}
-use Rattle.nmvs_json.specs.Scans.{Scanned}
 
 -- the kind that an item asks: one whose answer is no list
 abbrev pub without_list : AskedKind → Option AskedKind
@@ -98,19 +99,19 @@ within_most js = if nat_lt 0 (length js) && nat_le (length js) most_questions th
 abbrev pub items_in : Json → Option (List Json)
 items_in j = if count_of j == 1 then option_and_then within_most (option_and_then as_values (get (codes "questions") j)) else None
 
--- the scanned values of an item that has no fault, if it has some
-unfoldable pub item_scanned : Json → Option Scanned
-item_scanned j = option_and_then (λ kind. scanned_in kind j) (item_kind j)
+-- the subject of an item that has no fault
+unfoldable pub item_subject : Json → Subject
+item_subject j = option_map_or (λ kind. subject_in kind j) (item_kind j) unnamed
 
-abbrev pub lines_of_items : Option (List Json) → Result (List (Option Scanned) × List ℕ) Refusal
+abbrev pub lines_of_items : Option (List Json) → Result (List Subject × List ℕ) Refusal
 lines_of_items None = Err (record { fault = fault.Fields; item = None; member = Some members.Questions })
-lines_of_items (Some js) = with_scanned (map item_scanned js) (item_lines 0 js)
+lines_of_items (Some js) = with_subject (map item_subject js) (item_lines 0 js)
 
-abbrev pub lines_of_object : Option Json → Result (List (Option Scanned) × List ℕ) Refusal
+abbrev pub lines_of_object : Option Json → Result (List Subject × List ℕ) Refusal
 lines_of_object None = Err (whole fault.Json)
 lines_of_object (Some j) = lines_of_items (items_in j)
 
--- the scanned values of each question in the body of a bulk, and their lines in order, each with its LF; or the refusal
+-- the subject of each question in the body of a bulk, and their lines in order, each with its LF; or the refusal
 -- for the first fault, for which none of them is asked
-unfoldable pub bulk_lines : List ℕ → Result (List (Option Scanned) × List ℕ) Refusal
+unfoldable pub bulk_lines : List ℕ → Result (List Subject × List ℕ) Refusal
 bulk_lines body = lines_of_object (object_in body)

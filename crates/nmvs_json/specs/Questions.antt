@@ -12,6 +12,7 @@ use Rattle.nmvs_elements.specs.declared.elements.Elements.{Elements}
 use Rattle.nmvs_elements.specs.declared.fault.ScanFault.{ScanFault}
 use Rattle.nmvs_identifier.specs.Batch.{is_batch}
 use Rattle.nmvs_identifier.specs.Expiry.{is_expiry}
+use Rattle.nmvs_identifier.specs.ProductCode.{ProductCode, is_product_code}
 use Rattle.nmvs_identifier.specs.Tag.{is_tag}
 use Rattle.nmvs_rules.specs.declared.printed.Printed.{Printed}
 use Rattle.nmvs_rules.specs.declared.pack_question.PackQuestion.TheVariants.{Audit}
@@ -25,6 +26,7 @@ use Rattle.nmvs_json.specs.declared.question_fault.QuestionFault.TheVariants as 
 use Rattle.nmvs_json.specs.declared.refusal.Member.{Member}
 use Rattle.nmvs_json.specs.declared.refusal.Member.TheVariants as members
 use Rattle.nmvs_json.specs.declared.refusal.Refusal.{Refusal}
+use Rattle.nmvs_json.specs.declared.subject.Subject.{Subject}
 use Rattle.nmvs_json.specs.Refusals.{member_name, whole}
 use Rattle.nmvs_json.specs.Replies.{named}
 use Rattle.nmvs_json.specs.Scans.{Scanned, scan_in}
@@ -204,6 +206,18 @@ scan_values kind j = if has_scan kind j then option_map (λ scan. scan_printed (
 unfoldable pub scanned_of : AskedKind → Json → Option (Option Scanned)
 scanned_of kind j = if has_scanned kind j then option_and_then values_in (get (codes "scanned") j) else Some (scan_values kind j)
 
+-- the product code of a scan, if it can be read, and that in an object, if its text is one
+abbrev pub scan_code : Result Elements ScanFault → Option ProductCode
+scan_code (Err fault) = None
+scan_code (Ok pack) = Some pack.code
+
+abbrev pub code_in : Json → Option ProductCode
+code_in j = option_map (λ code. record { bytes = code }) (within is_product_code (string_of (codes "code") j))
+
+-- the product code of a question
+abbrev pub named_code : AskedKind → Json → Option ProductCode
+named_code kind j = if has_scan kind j then option_and_then (λ scan. scan_code (scan_in scan)) (string_of (codes "scan") j) else code_in j
+
 -- whether a text of the member scanned is misread
 abbrev pub is_misread : AskedKind → Json → Option Scanned → Bool
 is_misread kind j scanned = has_scanned kind j && is_none scanned
@@ -292,21 +306,24 @@ abbrev pub placed : Option Member → Result (List ℕ) QuestionFault → Result
 placed member (Err f) = Err (record { fault = f; item = None; member = member })
 placed member (Ok line) = Ok line
 
--- lines and the scanned values of their questions, or the refusal
-abbrev pub with_scanned : {S : Type 0} → S → Result (List ℕ) Refusal → Result (S × List ℕ) Refusal
-with_scanned scanned (Err f) = Err f
-with_scanned scanned (Ok lines) = Ok (scanned, lines)
+-- lines and the subjects of their questions, or the refusal
+abbrev pub with_subject : {S : Type 0} → S → Result (List ℕ) Refusal → Result (S × List ℕ) Refusal
+with_subject subject (Err f) = Err f
+with_subject subject (Ok lines) = Ok (subject, lines)
 
--- the scanned values of a question that has no fault
-abbrev pub scanned_in : AskedKind → Json → Option Scanned
-scanned_in kind j = unwrap_or (scanned_of kind j) None
+-- the subject of a question that has no fault, and one without a name
+unfoldable pub subject_in : AskedKind → Json → Subject
+subject_in kind j = record { code = named_code kind j; scanned = unwrap_or (scanned_of kind j) None }
 
--- the scanned values and the line of a question with this key and this object as its body, or its refusal; the one other member is the
+abbrev pub unnamed : Subject
+unnamed = record { code = None; scanned = None }
+
+-- the subject and the line of a question with this key and this object as its body, or its refusal; the one other member is the
 -- user
-abbrev pub line_of_object : AskedKind → Option (List ℕ) → Option Json → Result (Option Scanned × List ℕ) Refusal
+abbrev pub line_of_object : AskedKind → Option (List ℕ) → Option Json → Result (Subject × List ℕ) Refusal
 line_of_object kind key None = Err (whole fault.Json)
-line_of_object kind key (Some j) = with_scanned (scanned_in kind j) (placed (wrong_member kind j) (line_of key (fields_of 1 kind j)))
+line_of_object kind key (Some j) = with_subject (subject_in kind j) (placed (wrong_member kind j) (line_of key (fields_of 1 kind j)))
 
--- the scanned values and the line, with its LF, of a question with this key and this body, or its refusal for the first fault
-unfoldable pub question_line : AskedKind → Option (List ℕ) → List ℕ → Result (Option Scanned × List ℕ) Refusal
+-- the subject and the line, with its LF, of a question with this key and this body, or its refusal for the first fault
+unfoldable pub question_line : AskedKind → Option (List ℕ) → List ℕ → Result (Subject × List ℕ) Refusal
 question_line kind key body = if is_key key then line_of_object kind key (object_in body) else Err (whole fault.Key)

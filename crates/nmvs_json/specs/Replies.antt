@@ -4,11 +4,13 @@ use Rattle.std.specs.List.{after_first, before_first, flat_map}
 use Rattle.std.specs.Str.{bytes_eq}
 use Rattle.nmvs_stream.specs.InputLines.{input_lines}
 use Rattle.nmvs_messages.specs.Fields.{is_space}
+use Rattle.nmvs_identifier.specs.ProductCode.{ProductCode}
 use Rattle.nmvs_rules.specs.declared.printed.Printed.{Printed}
 use Rattle.nmvs_elements.specs.declared.fault.ScanFault.{ScanFault}
 use Rattle.nmvs_elements.specs.declared.fault.ScanFault.TheVariants as faults
 use Rattle.nmvs_json.specs.declared.reply.Problem.{Problem}
 use Rattle.nmvs_json.specs.declared.reply.Problem.TheVariants.{Unprocessable, Forbidden, Conflict, PreconditionFailed, TooManyRequests, Unavailable, Unknown}
+use Rattle.nmvs_json.specs.declared.subject.Subject.{Subject}
 use Rattle.nmvs_json.specs.Scans.{Scanned}
 
 -- a character in a string: a backslash stands before a quotation mark and before a backslash (RFC 8259, section 7)
@@ -112,6 +114,15 @@ later_members word lines =
     else (if bytes_eq word (codes "PRODUCT") then codes ",\"batches\":[" ++ (separated [] (batch_objects lines) ++ codes "]")
     else [])
 
+-- the member of the name of an alert: the product code, a hyphen, and the number, which is the third word after the first (own)
+unfoldable pub name_member : ProductCode → List ℕ → List ℕ
+name_member code words = codes ",\"alert\":\"" ++ (code.bytes ++ (codes "-" ++ (first_word (later_words (later_words words)) ++ codes "\"")))
+
+-- the same of a reply to a question about this code, by its first word and its later words, if it is an alert
+unfoldable pub alert_member : Option ProductCode → List ℕ → List ℕ → List ℕ
+alert_member None word words = []
+alert_member (Some code) word words = if bytes_eq word (codes "ALERT") then name_member code words else []
+
 -- the words of a reply from its batch number and expiry date on, by its first word and its later words, if it says them
 unfoldable pub pack_words : List ℕ → List ℕ → Option (List ℕ)
 pack_words word words =
@@ -136,13 +147,16 @@ scanned_member (Some (Err fault)) said = []
 scanned_member (Some (Ok scanned)) None = []
 scanned_member (Some (Ok scanned)) (Some words) = comparison_member scanned words
 
--- the object of a reply, by its first line without the tag, the places of the words in it, the scanned values of its question, and its
--- later lines
-abbrev pub reply_object : List Place → Option Scanned → List ℕ → List (List ℕ) → List ℕ
-reply_object places scanned line lines =
+-- the object of a reply, by its first line without the tag, the places of the words in it, the subject of its question, and its later
+-- lines
+abbrev pub reply_object : List Place → Subject → List ℕ → List (List ℕ) → List ℕ
+reply_object places subject line lines =
+    let word = first_word line in
+    let words = later_words line in
     codes "{\"reply\":"
-    ++ (quoted (first_word line)
-    ++ (members places (later_words line) ++ (scanned_member scanned (pack_words (first_word line) (later_words line)) ++ (later_members (first_word line) lines ++ codes "}\n"))))
+    ++ (quoted word
+    ++ (members places words
+    ++ (alert_member subject.code word words ++ (scanned_member subject.scanned (pack_words word words) ++ (later_members word lines ++ codes "}\n")))))
 
 -- the faults of lines, and the problem of each
 abbrev pub problems : List (List ℕ × Problem)
@@ -244,10 +258,10 @@ problem_object scanned fault =
 abbrev pub fault_of : List ℕ → List ℕ
 fault_of line = if bytes_eq (first_word line) (codes "FAULT") then later_words line else codes "ENDED"
 
--- the body for a question with these scanned values, a first line without its tag, and the later lines
-abbrev pub body_where : Option (List Place) → Option Scanned → List ℕ → List (List ℕ) → List ℕ
-body_where (Some places) scanned line lines = reply_object places scanned line lines
-body_where None scanned line lines = problem_object scanned (fault_of line)
+-- the body for a question with this subject, a first line without its tag, and the later lines
+abbrev pub body_where : Option (List Place) → Subject → List ℕ → List (List ℕ) → List ℕ
+body_where (Some places) subject line lines = reply_object places subject line lines
+body_where None subject line lines = problem_object subject.scanned (fault_of line)
 
 -- the problem for a first line without its tag
 abbrev pub problem_where : Option (List Place) → List ℕ → Option Problem
@@ -259,18 +273,17 @@ abbrev pub first_line : List (List ℕ) → List ℕ
 first_line [] = []
 first_line (line ∷ lines) = untagged line
 
--- the body for the scanned values of a question, and the text that a session of lines wrote to its line
-unfoldable pub body_text : Option Scanned → List ℕ → List ℕ
-body_text scanned text =
+-- the body for the subject of a question, and the text that a session of lines wrote to its line
+unfoldable pub body_text : Subject → List ℕ → List ℕ
+body_text subject text =
     let lines = input_lines text in
-    body_where (places_of (first_word (first_line lines))) scanned (first_line lines) (drop 1 lines)
+    body_where (places_of (first_word (first_line lines))) subject (first_line lines) (drop 1 lines)
 
--- the bodies of answers of one line each, by the scanned values of each question: a question without a line has the body of no
--- answer
-unfoldable pub bodies : List (Option Scanned) → List (List ℕ) → List (List ℕ)
+-- the bodies of answers of one line each, by the subject of each question: a question without a line has the body of no answer
+unfoldable pub bodies : List Subject → List (List ℕ) → List (List ℕ)
 bodies [] lines = []
-bodies (scanned ∷ others) lines =
-    body_where (places_of (first_word (first_line lines))) scanned (first_line lines) [] ∷ bodies others (drop 1 lines)
+bodies (subject ∷ others) lines =
+    body_where (places_of (first_word (first_line lines))) subject (first_line lines) [] ∷ bodies others (drop 1 lines)
 
 -- whether a problem passes: nothing is recorded, and the same question may have a reply after a second
 abbrev pub passes : Option Problem → Bool
@@ -279,13 +292,13 @@ passes (Some Unavailable) = true
 passes _ = false
 
 -- whether one of the answers that have these bodies is such a problem
-unfoldable pub has_passing : List (Option Scanned) → List (List ℕ) → Bool
+unfoldable pub has_passing : List Subject → List (List ℕ) → Bool
 has_passing [] lines = false
-has_passing (scanned ∷ others) lines = passes (problem_where (places_of (first_word (first_line lines))) (first_line lines)) || has_passing others (drop 1 lines)
+has_passing (subject ∷ others) lines = passes (problem_where (places_of (first_word (first_line lines))) (first_line lines)) || has_passing others (drop 1 lines)
 
--- the body for the scanned values of each question of a bulk, and the text that a session of lines wrote to its lines
-unfoldable pub bulk_text : List (Option Scanned) → List ℕ → List ℕ
-bulk_text scanned text = codes "{\"replies\":[" ++ (separated [] (bodies scanned (input_lines text)) ++ codes "]}\n")
+-- the body for the subject of each question of a bulk, and the text that a session of lines wrote to its lines
+unfoldable pub bulk_text : List Subject → List ℕ → List ℕ
+bulk_text subjects text = codes "{\"replies\":[" ++ (separated [] (bodies subjects (input_lines text)) ++ codes "]}\n")
 
 -- the problem of the text, if it is no reply
 unfoldable pub problem_of : List ℕ → Option Problem

@@ -6,7 +6,7 @@ ghost use Rattle.json.specs.Value.{value_view};
 ghost use Rattle.nmvs_json.specs.Bulks as specs;
 
 use crate::question::{count_of, object_in, push_fields, push_key, text_of, wrong_member};
-use crate::{AskedKind, Member, QuestionFault, Refusal, Scanned};
+use crate::{AskedKind, Member, QuestionFault, Refusal, Subject};
 use json::{Scratch, Value};
 use std::alloc::{AllocError, Global};
 use std::marker::Model;
@@ -14,49 +14,49 @@ use std::marker::Model;
 /// The most questions of a bulk (own).
 const MOST_QUESTIONS: usize = 500;
 
-/// The scanned values of each question of a bulk, in order; there are none of a question without them.
+/// The subject of each question of a bulk, in order.
 #[derive(Drop)]
-pub struct BulkScanned {
-    entries: Vec<Option<Scanned>>,
+pub struct BulkSubjects {
+    entries: Vec<Subject>,
 }
 
-impl Model for BulkScanned {
-    ghost use Rattle.std.specs.Prelude.{List, Option};
-    ghost use Rattle.nmvs_json.specs.Scans.{Scanned};
+impl Model for BulkSubjects {
+    ghost use Rattle.std.specs.Prelude.{List};
+    ghost use Rattle.nmvs_json.specs.declared.subject.Subject.{Subject};
 
-    ghost Value = { List (Option Scanned) };
+    ghost Value = { List Subject };
 
     ghost view = { λ s. s.entries.items };
 }
 
-impl BulkScanned {
+impl BulkSubjects {
     /// An empty list with room for this number of questions.
-    fn with_capacity(alloc: Global, count: usize) -> Result<BulkScanned, AllocError>
-        ensures { IfOk result (λ scanned. scanned ≡ []) }
+    fn with_capacity(alloc: Global, count: usize) -> Result<BulkSubjects, AllocError>
+        ensures { IfOk result (λ subjects. subjects ≡ []) }
     {
         let entries = Vec::with_capacity(alloc, count)?;
-        Ok(BulkScanned { entries })
+        Ok(BulkSubjects { entries })
     }
 
-    /// Appends the scanned values of a question.
-    fn push(&mut self, scanned: Option<Scanned>) -> Result<(), AllocError>
-        ensures { OnOk result (self.new ≡ self.old ++ scanned ∷ []) }
+    /// Appends the subject of a question.
+    fn push(&mut self, subject: Subject) -> Result<(), AllocError>
+        ensures { OnOk result (self.new ≡ self.old ++ subject ∷ []) }
     {
-        Ok(self.entries.push(scanned)?)
+        Ok(self.entries.push(subject)?)
     }
 
-    /// The scanned values of each question, in order.
-    pub fn entries(&self) -> &[Option<Scanned>]
+    /// The subject of each question, in order.
+    pub fn entries(&self) -> &[Subject]
         ensures { result.now ≡ self.now }
     {
         self.entries.as_slice()
     }
 }
 
-/// The lines of a bulk of questions, each with its LF, and the scanned values of each question.
+/// The lines of a bulk of questions, each with its LF, and the subject of each question.
 #[derive(Drop)]
 pub struct BulkLines {
-    pub scanned: BulkScanned,
+    pub subjects: BulkSubjects,
     pub lines: String,
 }
 
@@ -67,7 +67,7 @@ pub struct BulkLines {
 /// The refusal for the first fault that holds. `Memory`: there is no memory.
 #[tactic(auto, unfolding(crate::specs::Bulks::bulk_lines))]
 pub fn bulk_lines(alloc: Global, body: &[u8]) -> Result<BulkLines, Refusal>
-    ensures lines { IfOk result (λ bulk. specs.bulk_lines body.now ≡ Ok (bulk.scanned, string_bytes bulk.lines)) }
+    ensures lines { IfOk result (λ bulk. specs.bulk_lines body.now ≡ Ok (bulk.subjects, string_bytes bulk.lines)) }
     ensures refusal { IfErr result (λ refusal. refusal.fault ≢ QuestionFault.Memory → specs.bulk_lines body.now ≡ Err refusal) }
 {
     let mut scratch = Scratch::new(alloc);
@@ -106,26 +106,26 @@ fn values_of<'v, 't>(value: &'v Value<'t>) -> Option<&'v [Value<'t>]>
     }
 }
 
-/// The lines of items, and the scanned values of each.
+/// The lines of items, and the subject of each.
 fn lines_of(alloc: Global, items: &[Value<'_>]) -> Result<BulkLines, Refusal>
     ensures lines { IfOk result (λ bulk. specs.item_lines 0 (map (λ v. value_view v) items.now) ≡ Ok (string_bytes bulk.lines)) }
-    ensures scanned { IfOk result (λ bulk. bulk.scanned ≡ map specs.item_scanned (map (λ v. value_view v) items.now)) }
+    ensures subjects { IfOk result (λ bulk. bulk.subjects ≡ map specs.item_subject (map (λ v. value_view v) items.now)) }
     ensures refusal { IfErr result (λ refusal. refusal.fault ≢ QuestionFault.Memory → specs.item_lines 0 (map (λ v. value_view v) items.now) ≡ Err refusal) }
 {
     let mut lines = String::new(alloc);
-    let mut scanned = BulkScanned::with_capacity(alloc, items.len())?;
+    let mut subjects = BulkSubjects::with_capacity(alloc, items.len())?;
     let mut number: usize = 0;
     let mut rest = items;
     while let [item, later @ ..] = rest {
-        let its = match push_item(&mut lines, item) {
-            Ok(its) => its,
+        let subject = match push_item(&mut lines, item) {
+            Ok(subject) => subject,
             Err(fault) => return Err(refused(number, item, fault)),
         };
-        scanned.push(its)?;
+        subjects.push(subject)?;
         number += 1;
         rest = later;
     }
-    Ok(BulkLines { scanned, lines })
+    Ok(BulkLines { subjects, lines })
 }
 
 /// The refusal of the item of this number, which has this fault.
@@ -152,11 +152,11 @@ fn wrong_in(item: &Value<'_>, fault: QuestionFault) -> Option<Member>
     }
 }
 
-/// Appends the line of an item. Returns its scanned values.
+/// Appends the line of an item. Returns its subject.
 #[tactic(auto, unfolding(crate::specs::Bulks::item_line))]
-fn push_item(lines: &mut String, item: &Value<'_>) -> Result<Option<Scanned>, QuestionFault>
+fn push_item(lines: &mut String, item: &Value<'_>) -> Result<Subject, QuestionFault>
     ensures line { OnOk result (specs.appended (string_bytes lines.old) (specs.item_line (value_view item.now)) ≡ Ok (string_bytes lines.new)) }
-    ensures scanned { IfOk result (λ scanned. scanned ≡ specs.item_scanned (value_view item.now)) }
+    ensures subject { IfOk result (λ subject. subject ≡ specs.item_subject (value_view item.now)) }
     ensures fault { IfErr result (λ fault. fault ≢ QuestionFault.Memory → specs.item_line (value_view item.now) ≡ Err fault) }
 {
     let key = key_of(item)?;
@@ -190,16 +190,16 @@ fn others_of(key: Option<&[u8]>) -> usize
 }
 
 /// Appends the fields of the line of an item, which has this number of members beyond those that name a pack, a batch or a
-/// product, or say the scanned values and the condition. Returns the scanned values.
-#[tactic(auto, unfolding(crate::specs::Bulks::item_scanned))]
+/// product, or say the scanned values and the condition. Returns the subject.
+#[tactic(auto, unfolding(crate::specs::Bulks::item_subject))]
 fn push_question(
     lines: &mut String,
     others: usize,
     item: &Value<'_>,
-) -> Result<Option<Scanned>, QuestionFault>
+) -> Result<Subject, QuestionFault>
     requires { others ≤ 3 }
     ensures fields { OnOk result (option_map (λ fields. string_bytes lines.old ++ spaced fields) (specs.item_fields others (value_view item.now)) ≡ Some (string_bytes lines.new)) }
-    ensures scanned { IfOk result (λ scanned. scanned ≡ specs.item_scanned (value_view item.now)) }
+    ensures subject { IfOk result (λ subject. subject ≡ specs.item_subject (value_view item.now)) }
     ensures fault { IfErr result (λ fault. fault ≢ QuestionFault.Memory → (fault ≡ QuestionFault.Fields) × (specs.item_fields others (value_view item.now) ≡ None)) }
 {
     let kind = item_kind(item).ok_or(QuestionFault::Fields)?;

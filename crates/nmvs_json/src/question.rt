@@ -1,5 +1,5 @@
 //! The line that a question of JSON means.
-ghost use Rattle.std.specs.Prelude.{◌≡◌, ◌≢◌, ◌≤◌, ◌++◌, ◌∷◌, [], codes, true, false, Ok, Err, Some, None, IfOk, IfErr, OnOk, IfSome, IfNone, find, map, option_map, string_bytes};
+ghost use Rattle.std.specs.Prelude.{◌≡◌, ◌≢◌, ◌≤◌, ◌++◌, ◌∷◌, [], codes, true, false, Ok, Err, Some, None, IfOk, IfErr, OnOk, IfSome, IfNone, find, map, option_and_then, option_map, string_bytes};
 ghost use Rattle.std.specs.Char.{is_ascii_graphic};
 ghost use Rattle.std.specs.List.{list_all};
 ghost use Rattle.std.specs.Option.{is_none, is_some, option_copied};
@@ -13,10 +13,10 @@ ghost use Rattle.nmvs_json.specs.Scans as scans;
 ghost use Rattle.nmvs_json.specs.Questions as specs;
 ghost use Rattle.nmvs_json.specs.Refusals.{member_name};
 
-use crate::{AskedKind, Member, QuestionFault, Refusal};
+use crate::{AskedKind, Member, QuestionFault, Refusal, Scanned, Subject};
 use json::{Error, Scratch, Value};
 use nmvs_elements::{Elements, ScanFault, read_scan};
-use nmvs_identifier::{Batch, Expiry, Tag};
+use nmvs_identifier::{Batch, Expiry, ProductCode, Tag};
 use nmvs_rules::Printed;
 use std::alloc::{AllocError, Global};
 
@@ -26,17 +26,14 @@ const UNREAD: &str = "-";
 /// The members that say the values printed on a pack.
 const PRINTED: &[Member] = &[Member::Batch, Member::Expiry];
 
-/// What a question says of the print on its pack: the values, or the fault of its scan.
-pub type Scanned = Result<Printed, ScanFault>;
-
-/// The line of a question, with its LF, and the scanned values of the question if it has some.
+/// The line of a question, with its LF, and the subject of the question.
 #[derive(Drop)]
 pub struct QuestionLine {
-    pub scanned: Option<Scanned>,
+    pub subject: Subject,
     pub line: String,
 }
 
-/// The line of a question and its scanned values, by its kind, its key if there is one, and its body of JSON.
+/// The line of a question and its subject, by its kind, its key if there is one, and its body of JSON.
 ///
 /// # Errors
 ///
@@ -48,7 +45,7 @@ pub fn question_line(
     key: Option<&[u8]>,
     body: &[u8],
 ) -> Result<QuestionLine, Refusal>
-    ensures line { IfOk result (λ question. specs.question_line kind (option_copied key.entry) body.now ≡ Ok (question.scanned, string_bytes question.line)) }
+    ensures line { IfOk result (λ question. specs.question_line kind (option_copied key.entry) body.now ≡ Ok (question.subject, string_bytes question.line)) }
     ensures refusal { IfErr result (λ refusal. refusal.fault ≢ QuestionFault.Memory → specs.question_line kind (option_copied key.entry) body.now ≡ Err refusal) }
 {
     let mut line = String::new(alloc);
@@ -56,7 +53,7 @@ pub fn question_line(
     let mut scratch = Scratch::new(alloc);
     let object = object_in(alloc, body, &mut scratch)?;
     match push_fields(&mut line, kind, 1, &object) {
-        Ok(scanned) => Ok(QuestionLine { scanned, line }),
+        Ok(subject) => Ok(QuestionLine { subject, line }),
         Err(fault) => Err(Refusal {
             fault,
             item: None,
@@ -129,17 +126,17 @@ fn value_in<'t>(
 }
 
 /// Appends the fields of the line that an object means, and LF. The object has this number of members beyond those that name a
-/// pack, a batch or a product, or say the scanned values and the condition. Returns the scanned values.
+/// pack, a batch or a product, or say the scanned values and the condition. Returns the subject.
 #[tactic(auto, unfolding(crate::specs::Questions::fields_of))]
 pub(crate) fn push_fields(
     line: &mut String,
     kind: AskedKind,
     others: usize,
     object: &Value<'_>,
-) -> Result<Option<Scanned>, QuestionFault>
+) -> Result<Subject, QuestionFault>
     requires { others ≤ 3 }
     ensures fields { OnOk result (option_map (λ fields. string_bytes line.old ++ spaced fields) (specs.fields_of others kind (value_view object.now)) ≡ Some (string_bytes line.new)) }
-    ensures scanned { IfOk result (λ scanned. specs.scanned_of kind (value_view object.now) ≡ Some scanned) }
+    ensures subject { IfOk result (λ subject. subject ≡ specs.subject_in kind (value_view object.now)) }
     ensures fault { IfErr result (λ fault. fault ≢ QuestionFault.Memory → (fault ≡ QuestionFault.Fields) × (specs.fields_of others kind (value_view object.now) ≡ None)) }
 {
     if count_of(object) != others + subject_count(kind, object) {
@@ -149,9 +146,9 @@ pub(crate) fn push_fields(
     line.push_str(user)?;
     line.push_str(" ")?;
     line.push_str(kind.word())?;
-    let scanned = push_subject(line, kind, object)?;
+    let subject = push_subject(line, kind, object)?;
     line.push_str("\n")?;
-    Ok(scanned)
+    Ok(subject)
 }
 
 /// The number of members that say the texts after the word of a line.
@@ -197,52 +194,84 @@ fn has_scan(kind: AskedKind, object: &Value<'_>) -> bool
     kind.is_of_pack() && object.get("scan").is_some()
 }
 
-/// Appends the texts after the word of a line, with a space before each. Returns the scanned values.
-#[tactic(auto, unfolding(crate::specs::Questions::subject_of))]
+/// Appends the texts after the word of a line, with a space before each. Returns the subject.
+#[tactic(auto, unfolding(crate::specs::Questions::subject_of, crate::specs::Questions::subject_in))]
 fn push_subject(
     line: &mut String,
     kind: AskedKind,
     object: &Value<'_>,
-) -> Result<Option<Scanned>, QuestionFault>
+) -> Result<Subject, QuestionFault>
     ensures texts { OnOk result (option_map (λ texts. string_bytes line.old ++ specs.preceded texts) (specs.subject_of kind (value_view object.now)) ≡ Some (string_bytes line.new)) }
-    ensures scanned { IfOk result (λ scanned. specs.scanned_of kind (value_view object.now) ≡ Some scanned) }
+    ensures subject { IfOk result (λ subject. subject ≡ specs.subject_in kind (value_view object.now)) }
     ensures fault { IfErr result (λ fault. fault ≢ QuestionFault.Memory → (fault ≡ QuestionFault.Fields) × (specs.subject_of kind (value_view object.now) ≡ None)) }
 {
-    let read = push_names(line, kind, object)?;
-    let scanned = scanned_of(kind, object, read)?;
+    let named = push_names(line, kind, object)?;
+    let scanned = scanned_of(kind, object, named.scanned)?;
     push_condition(line, kind, object, &scanned)?;
-    Ok(scanned)
+    Ok(Subject {
+        code: named.code,
+        scanned,
+    })
 }
 
-/// Appends the texts of the pack, the batch or the product that an object names, with a space before each. Returns the printed
-/// values of a scan, or its fault.
+/// Appends the texts of the pack, the batch or the product that an object names, with a space before each. Returns the code, and
+/// the printed values of a scan or its fault.
 fn push_names(
     line: &mut String,
     kind: AskedKind,
     object: &Value<'_>,
-) -> Result<Option<Scanned>, QuestionFault>
+) -> Result<Subject, QuestionFault>
     ensures texts { OnOk result (option_map (λ texts. string_bytes line.old ++ specs.preceded texts) (specs.name_texts kind (value_view object.now)) ≡ Some (string_bytes line.new)) }
-    ensures values { IfOk result (λ values. values ≡ specs.scan_values kind (value_view object.now)) }
+    ensures code { IfOk result (λ named. named.code ≡ specs.named_code kind (value_view object.now)) }
+    ensures values { IfOk result (λ named. named.scanned ≡ specs.scan_values kind (value_view object.now)) }
     ensures fault { IfErr result (λ fault. fault ≢ QuestionFault.Memory → (fault ≡ QuestionFault.Fields) × (specs.name_texts kind (value_view object.now) ≡ None)) }
 {
     if has_scan(kind, object) {
         return push_scan(line, object);
     }
     push_texts(line, kind.members(), object)?;
-    Ok(None)
+    Ok(Subject {
+        code: code_in(object),
+        scanned: None,
+    })
 }
 
-/// Appends the code and the serial that the scan of an object carries, with a space before each. Returns its printed values, or
-/// its fault.
-fn push_scan(line: &mut String, object: &Value<'_>) -> Result<Option<Scanned>, QuestionFault>
+/// Appends the code and the serial that the scan of an object carries, with a space before each. Returns its code, and its
+/// printed values or its fault.
+fn push_scan(line: &mut String, object: &Value<'_>) -> Result<Subject, QuestionFault>
     ensures texts { OnOk result (option_map (λ scan. string_bytes line.old ++ specs.preceded (specs.pack_texts (scans.scan_in scan))) (specs.string_of (codes "scan") (value_view object.now)) ≡ Some (string_bytes line.new)) }
-    ensures values { IfOk result (λ values. values ≡ option_map (λ scan. specs.scan_printed (scans.scan_in scan)) (specs.string_of (codes "scan") (value_view object.now))) }
+    ensures code { IfOk result (λ named. named.code ≡ option_and_then (λ scan. specs.scan_code (scans.scan_in scan)) (specs.string_of (codes "scan") (value_view object.now))) }
+    ensures values { IfOk result (λ named. named.scanned ≡ option_map (λ scan. specs.scan_printed (scans.scan_in scan)) (specs.string_of (codes "scan") (value_view object.now))) }
     ensures fault { IfErr result (λ fault. fault ≢ QuestionFault.Memory → (fault ≡ QuestionFault.Fields) × (specs.string_of (codes "scan") (value_view object.now) ≡ None)) }
 {
     let scan = string_of(object, "scan").ok_or(QuestionFault::Fields)?;
     let pack = scan_in(scan.as_bytes());
     push_pack(line, &pack)?;
-    Ok(Some(printed_on(&pack)))
+    Ok(Subject {
+        code: code_on(&pack),
+        scanned: Some(printed_on(&pack)),
+    })
+}
+
+/// The product code of a scanned pack.
+fn code_on(pack: &Result<Elements, ScanFault>) -> Option<ProductCode>
+    ensures { result ≡ specs.scan_code pack.now }
+{
+    match pack {
+        Ok(pack) => Some(pack.code),
+        Err(_) => None,
+    }
+}
+
+/// The product code in an object.
+fn code_in(object: &Value<'_>) -> Option<ProductCode>
+    ensures { result ≡ specs.code_in (value_view object.now) }
+{
+    let text = string_of(object, "code")?;
+    match ProductCode::read(text) {
+        Ok(code) => Some(code),
+        Err(_) => None,
+    }
 }
 
 /// The pack that a scan without a national number carries, or its fault.

@@ -6,10 +6,11 @@ ghost use Rattle.nmvs_stream.specs.InputLines.{input_lines};
 ghost use Rattle.nmvs_json.specs.Places.{place_of};
 ghost use Rattle.nmvs_json.specs.Replies as specs;
 
-use crate::Scanned;
 use crate::table::named;
+use crate::{Scanned, Subject};
 use memchr::memchr;
 use nmvs_elements::ScanFault;
+use nmvs_identifier::ProductCode;
 use nmvs_rules::Printed;
 use nmvs_stream::cut_line;
 use std::alloc::{AllocError, Allocator};
@@ -50,6 +51,8 @@ const ROOM: usize = 128;
 
 /// The first words of lines that are read in a way of their own.
 const FAULT: &[u8] = b"FAULT";
+
+const ALERT: &[u8] = b"ALERT";
 
 const AUTHENTIC: &[u8] = b"AUTHENTIC";
 
@@ -217,8 +220,8 @@ const DETAILS: &[(&str, &str)] = &[
     ),
 ];
 
-/// The problem of a session's answer to one question, if it is no reply, and the body of the response. The body compares the
-/// question's scanned values with those of a reply that says a batch number and an expiry date.
+/// The problem of a session's answer to one question, if it is no reply, and the body of the response. The body names an
+/// alert, and compares the question's scanned values with those of a reply that says a batch number and an expiry date.
 ///
 /// # Errors
 ///
@@ -226,20 +229,20 @@ const DETAILS: &[(&str, &str)] = &[
 #[tactic(auto, unfolding(crate::specs::Replies::body_text, crate::specs::Replies::problem_of))]
 pub fn response_of<A: Allocator>(
     alloc: A,
-    scanned: &Option<Scanned>,
+    subject: &Subject,
     text: &[u8],
 ) -> Result<(Option<Problem>, Vec<u8, A>), AllocError>
     ensures problem { IfOk result (λ response. response.0 ≡ specs.problem_of text.now) }
-    ensures body { IfOk result (λ response. response.1.items ≡ specs.body_text scanned.now text.now) }
+    ensures body { IfOk result (λ response. response.1.items ≡ specs.body_text subject.now text.now) }
 {
     let mut body = Vec::with_capacity(alloc, text.len() + ROOM)?;
     let (line, later) = first_line(text);
-    let problem = push_answer(&mut body, scanned, line, later)?;
+    let problem = push_answer(&mut body, subject, line, later)?;
     Ok((problem, body))
 }
 
-/// Whether one of the answers to a bulk is a problem that passes, and the body of the response, by the scanned values of each
-/// question: the bodies of their answers, each a line of a session's text.
+/// Whether one of the answers to a bulk is a problem that passes, and the body of the response, by the subject of each question:
+/// the bodies of their answers, each a line of a session's text.
 ///
 /// # Errors
 ///
@@ -247,41 +250,40 @@ pub fn response_of<A: Allocator>(
 #[tactic(auto, unfolding(crate::specs::Replies::bulk_text))]
 pub fn bulk_body<A: Allocator>(
     alloc: A,
-    scanned: &[Option<Scanned>],
+    subjects: &[Subject],
     text: &[u8],
 ) -> Result<(bool, Vec<u8, A>), AllocError>
-    ensures passing { IfOk result (λ response. response.0 ≡ specs.has_passing scanned.now (input_lines text.now)) }
-    ensures body { IfOk result (λ response. response.1.items ≡ specs.bulk_text scanned.now text.now) }
+    ensures passing { IfOk result (λ response. response.0 ≡ specs.has_passing subjects.now (input_lines text.now)) }
+    ensures body { IfOk result (λ response. response.1.items ≡ specs.bulk_text subjects.now text.now) }
 {
-    let room = scanned
+    let room = subjects
         .len()
         .saturating_mul(ROOM)
         .saturating_add(text.len());
     let mut body = Vec::with_capacity(alloc, room)?;
     body.extend_from_slice(b"{\"replies\":[")?;
-    let passing = push_answers(&mut body, scanned, text)?;
+    let passing = push_answers(&mut body, subjects, text)?;
     body.extend_from_slice(b"]}\n")?;
     Ok((passing, body))
 }
 
-/// Puts the bodies of answers at the end of a body, by the scanned values of each question, with a comma between each two.
-/// Returns whether one of them is a problem that passes.
+/// Puts the bodies of answers at the end of a body, by the subject of each question, with a comma between each two. Returns whether one of them is a problem that passes.
 fn push_answers<A: Allocator>(
     body: &mut Vec<u8, A>,
-    scanned: &[Option<Scanned>],
+    subjects: &[Subject],
     text: &[u8],
 ) -> Result<bool, AllocError>
-    ensures passing { IfOk result (λ passing. passing ≡ specs.has_passing scanned.now (input_lines text.now)) }
-    ensures body { OnOk result (body.new.items ≡ body.old.items ++ specs.separated [] (specs.bodies scanned.now (input_lines text.now))) }
+    ensures passing { IfOk result (λ passing. passing ≡ specs.has_passing subjects.now (input_lines text.now)) }
+    ensures body { OnOk result (body.new.items ≡ body.old.items ++ specs.separated [] (specs.bodies subjects.now (input_lines text.now))) }
 {
     let mut passing = false;
     let mut comma: &[u8] = b"";
     let mut rest = text;
-    let mut left = scanned;
-    while let Some((its, others)) = left.split_first() {
+    let mut left = subjects;
+    while let Some((subject, others)) = left.split_first() {
         let (line, later) = first_line(rest);
         body.extend_from_slice(comma)?;
-        let problem = push_answer(body, its, line, b"")?;
+        let problem = push_answer(body, subject, line, b"")?;
         passing = passing || passes(problem);
         comma = b",";
         rest = later;
@@ -300,25 +302,25 @@ fn passes(problem: Option<Problem>) -> bool
     )
 }
 
-/// Puts the body of an answer to one question at the end of a body, by the question's scanned values, the first line without the
-/// tag and the bytes of the later lines. Returns its problem, if it is no reply.
+/// Puts the body of an answer to one question at the end of a body, by the question's subject, the first line without the tag
+/// and the bytes of the later lines. Returns its problem, if it is no reply.
 fn push_answer<A: Allocator>(
     body: &mut Vec<u8, A>,
-    scanned: &Option<Scanned>,
+    subject: &Subject,
     line: &[u8],
     later: &[u8],
 ) -> Result<Option<Problem>, AllocError>
     ensures problem { IfOk result (λ problem. problem ≡ specs.problem_where (specs.places_of (specs.first_word line.now)) line.now) }
-    ensures body { OnOk result (body.new.items ≡ body.old.items ++ specs.body_where (specs.places_of (specs.first_word line.now)) scanned.now line.now (input_lines later.now)) }
+    ensures body { OnOk result (body.new.items ≡ body.old.items ++ specs.body_where (specs.places_of (specs.first_word line.now)) subject.now line.now (input_lines later.now)) }
 {
     let (word, _) = cut_word(line);
     match places_of(word) {
         Some(places) => {
-            push_reply(body, places, scanned, line, later)?;
+            push_reply(body, places, subject, line, later)?;
             Ok(None)
         }
         None => {
-            let problem = push_problem(body, scanned, fault_of(line))?;
+            let problem = push_problem(body, &subject.scanned, fault_of(line))?;
             Ok(Some(problem))
         }
     }
@@ -402,19 +404,54 @@ fn fault_of(line: &[u8]) -> &[u8]
 fn push_reply<A: Allocator>(
     body: &mut Vec<u8, A>,
     places: &[Place],
-    scanned: &Option<Scanned>,
+    subject: &Subject,
     line: &[u8],
     later: &[u8],
 ) -> Result<(), AllocError>
-    ensures { OnOk result (body.new.items ≡ body.old.items ++ specs.reply_object (map place_of places.now) scanned.now line.now (input_lines later.now)) }
+    ensures { OnOk result (body.new.items ≡ body.old.items ++ specs.reply_object (map place_of places.now) subject.now line.now (input_lines later.now)) }
 {
     let (word, words) = cut_word(line);
     body.extend_from_slice(b"{\"reply\":")?;
     push_string(body, word)?;
     push_members(body, places, words)?;
-    push_scanned(body, scanned, pack_words(word, words))?;
+    push_alert(body, &subject.code, word, words)?;
+    push_scanned(body, &subject.scanned, pack_words(word, words))?;
     push_later(body, word, later)?;
     body.extend_from_slice(b"}\n")
+}
+
+/// Puts the name of an alert on this product code at the end of a body, by the first word of its reply and its later words.
+#[tactic(auto, unfolding(crate::specs::Replies::alert_member))]
+fn push_alert<A: Allocator>(
+    body: &mut Vec<u8, A>,
+    code: &Option<ProductCode>,
+    word: &[u8],
+    words: &[u8],
+) -> Result<(), AllocError>
+    ensures { OnOk result (body.new.items ≡ body.old.items ++ specs.alert_member code.now word.now words.now) }
+{
+    match code {
+        Some(code) if word == ALERT => push_alert_name(body, code, words),
+        _ => Ok(()),
+    }
+}
+
+/// Puts the name of an alert at the end of a body, by its product code and the words of its reply after the first.
+#[tactic(auto, unfolding(crate::specs::Replies::name_member))]
+fn push_alert_name<A: Allocator>(
+    body: &mut Vec<u8, A>,
+    code: &ProductCode,
+    words: &[u8],
+) -> Result<(), AllocError>
+    ensures { OnOk result (body.new.items ≡ body.old.items ++ specs.name_member code.now words.now) }
+{
+    let (number, _) = cut_word(cut_word(cut_word(words).1).1);
+    push_name(body, b"alert")?;
+    body.extend_from_slice(b"\"")?;
+    body.extend_from_slice(code.text().as_bytes())?;
+    body.extend_from_slice(b"-")?;
+    body.extend_from_slice(number)?;
+    body.extend_from_slice(b"\"")
 }
 
 /// The words of a reply from its batch number and expiry date on, by its first word and its later words, if it says them.

@@ -7,6 +7,7 @@ ghost use Rattle.nmvs_reception.specs.declared.tally.Raised.{Raised as TheRaised
 use crate::tally::{Raised, Tally, keep_most};
 use log::{Log, info};
 use nmvs_identifier::Name;
+use nmvs_reports::AlertName;
 use nmvs_rules::{Cause, Put};
 use nmvs_words::cause_word;
 use std::alloc::{AllocError, Global};
@@ -34,12 +35,13 @@ impl Alerts {
         let (user, premises) = (&put.user, &put.actor.premises);
         let _uncounted = self.tally.lock(rt).note(user, premises);
         let (code, cause) = (put.question.code(), cause_word(cause));
+        let alert = AlertName { code, number };
         let code = code.text();
         if self.logs_users {
             let (user, premises) = (user.text(), premises.text());
-            info!(rt; code, cause, number, user, premises; "alert");
+            info!(rt; alert:% = alert, code, cause, number, user, premises; "alert");
         } else {
-            info!(rt; code, cause, number; "alert");
+            info!(rt; alert:% = alert, code, cause, number; "alert");
         }
     }
 

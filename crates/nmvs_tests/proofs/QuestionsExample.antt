@@ -14,13 +14,14 @@ use Rattle.nmvs_json.specs.declared.question_fault.QuestionFault.TheVariants as 
 use Rattle.nmvs_json.specs.declared.refusal.Member.{Member}
 use Rattle.nmvs_json.specs.declared.refusal.Member.TheVariants as member
 use Rattle.nmvs_json.specs.declared.refusal.Refusal.{Refusal}
-use Rattle.nmvs_json.specs.Bulks.{bulk_lines, item_line, item_scanned}
-use Rattle.nmvs_json.specs.Questions.{asked_at, kind_named, question_line, fields_of, subject_of, subject_count, condition_texts, scanned_of, printed_in, wrong_member}
+use Rattle.nmvs_json.specs.Bulks.{bulk_lines, item_line, item_subject}
+use Rattle.nmvs_json.specs.Questions.{asked_at, kind_named, question_line, fields_of, subject_of, subject_count, condition_texts, scanned_of, subject_in, printed_in, wrong_member}
+use Rattle.nmvs_json.specs.declared.subject.Subject.{Subject}
 use Rattle.nmvs_json.specs.Scans.{Scanned, scan_in}
 use Rattle.nmvs_tests.proofs.Gives.{Gives}
 
 abbrev Read : Type 0
-Read = Result (Option Scanned × List ℕ) Refusal
+Read = Result (Subject × List ℕ) Refusal
 
 abbrev line_in : Read → Result (List ℕ) QuestionFault
 line_in (Ok question) = Ok question.1
@@ -53,7 +54,7 @@ lines : Gives line_at (
     ∷ ((codes "/v1/withdraw", batch), Some (Ok (codes "mah1 WITHDRAW 09506000134352 B/1\n")))
     ∷ ((codes "/v1/report", codes "{\"user\":\"nca1\",\"code\":\"09506000134352\"}"), Some (Ok (codes "nca1 REPORT 09506000134352\n")))
     ∷ [])
-unfolding chars encode is_utf8 items members value lex punctuate code_unit short_escape content after_number word kind_named question_line fields_of subject_of subject_count condition_texts scanned_of printed_in scan_in
+unfolding chars encode is_utf8 items members value lex punctuate code_unit short_escape content after_number word kind_named question_line fields_of subject_of subject_count condition_texts scanned_of subject_in printed_in scan_in
 lines = refl
 
 no-paths : Gives asked_at (
@@ -72,7 +73,7 @@ abbrev with_key : List ℕ → List ℕ × List ℕ → Option (Result (List ℕ
 with_key key ask = option_map (λ kind. line_in (question_line kind (Some key) ask.1)) (asked_at ask.0)
 
 key : with_key (codes "a17") (codes "/v1/verify", pack) ≡ Some (Ok (codes "#a17 ph1 VERIFY 09506000134352 SN1\n"))
-unfolding chars encode is_utf8 items members value lex punctuate code_unit short_escape content after_number word kind_named question_line fields_of subject_of subject_count condition_texts scanned_of printed_in scan_in
+unfolding chars encode is_utf8 items members value lex punctuate code_unit short_escape content after_number word kind_named question_line fields_of subject_of subject_count condition_texts scanned_of subject_in printed_in scan_in
 key = refl
 
 no-keys : Gives (λ key. with_key key (codes "/v1/report", [])) (
@@ -81,7 +82,7 @@ no-keys : Gives (λ key. with_key key (codes "/v1/report", [])) (
     ∷ (codes "a b", Some (Err fault.Key))
     ∷ (codes "12345678901234567890123456789012345678901", Some (Err fault.Key))
     ∷ [])
-unfolding chars encode is_utf8 items members value lex punctuate code_unit short_escape content after_number word kind_named question_line fields_of subject_of subject_count condition_texts scanned_of printed_in scan_in
+unfolding chars encode is_utf8 items members value lex punctuate code_unit short_escape content after_number word kind_named question_line fields_of subject_of subject_count condition_texts scanned_of subject_in printed_in scan_in
 no-keys = refl
 
 faults : Gives (λ body. line_at (codes "/v1/report", body)) (
@@ -101,7 +102,7 @@ faults : Gives (λ body. line_at (codes "/v1/report", body)) (
     ∷ (codes "{\"user\":\"nca1\",\"code\":\"" ++ 195 ∷ 169 ∷ codes "\"}", Some (Err fault.Fields))
     ∷ (34 ∷ 255 ∷ 34 ∷ [], Some (Err fault.Json))
     ∷ [])
-unfolding chars encode is_utf8 items members value lex punctuate code_unit short_escape content after_number word kind_named question_line fields_of subject_of subject_count condition_texts scanned_of printed_in scan_in
+unfolding chars encode is_utf8 items members value lex punctuate code_unit short_escape content after_number word kind_named question_line fields_of subject_of subject_count condition_texts scanned_of subject_in printed_in scan_in
 faults = refl
 
 -- a scan is the code and the serial of its pack, and - for both if it is none
@@ -122,7 +123,7 @@ scans : Gives scan_line (
     ∷ (codes "010950600013435210B1\\u001d1728020021SN1\\u001d", Some (Ok (codes "ph1 SUPPLY 09506000134352 SN1\n")))
     ∷ (codes "]d2010950600013435217280200\\u0031\\u0030B1\\u001d21SN1", Some (Ok (codes "ph1 SUPPLY 09506000134352 SN1\n")))
     ∷ [])
-unfolding chars encode is_utf8 items members value lex punctuate code_unit short_escape content after_number word kind_named question_line fields_of subject_of subject_count condition_texts scanned_of printed_in scan_in
+unfolding chars encode is_utf8 items members value lex punctuate code_unit short_escape content after_number word kind_named question_line fields_of subject_of subject_count condition_texts scanned_of subject_in printed_in scan_in
 scans = refl
 
 no-scans : Gives scan_line (
@@ -137,7 +138,7 @@ no-scans : Gives scan_line (
     ∷ (codes "]d201095060001343521728020010B1\\u001d21SN1\\u001d712123", Some (Ok (codes "ph1 SUPPLY - -\n")))
     ∷ (codes "]d201095060001343521728020010B1\\n21SN1", Some (Ok (codes "ph1 SUPPLY - -\n")))
     ∷ [])
-unfolding chars encode is_utf8 items members value lex punctuate code_unit short_escape content after_number word kind_named question_line fields_of subject_of subject_count condition_texts scanned_of printed_in scan_in
+unfolding chars encode is_utf8 items members value lex punctuate code_unit short_escape content after_number word kind_named question_line fields_of subject_of subject_count condition_texts scanned_of subject_in printed_in scan_in
 no-scans = refl
 
 scans-misplaced : Gives line_at (
@@ -148,7 +149,7 @@ scans-misplaced : Gives line_at (
     ∷ ((codes "/v1/upload", codes "{\"user\":\"ph1\",\"scan\":\"]d201095060001343521728020010B1\\u001d21SN1\",\"batch\":\"B1\",\"expiry\":\"280200\"}"), Some (Err fault.Fields))
     ∷ ((codes "/v1/verify", codes "{\"user\":\"ph1\",\"scan\":1}"), Some (Err fault.Fields))
     ∷ [])
-unfolding chars encode is_utf8 items members value lex punctuate code_unit short_escape content after_number word kind_named question_line fields_of subject_of subject_count condition_texts scanned_of printed_in scan_in
+unfolding chars encode is_utf8 items members value lex punctuate code_unit short_escape content after_number word kind_named question_line fields_of subject_of subject_count condition_texts scanned_of subject_in printed_in scan_in
 scans-misplaced = refl
 
 -- misread values end the line, which then has their fault
@@ -158,7 +159,7 @@ misread : Gives supply (
     ∷ (codes "{\"user\":\"ph1\",\"code\":\"1\",\"serial\":\"2\",\"if_scanned\":\"matches\",\"scanned\":{\"batch\":\"B1\",\"expiry\":\"2\"}}", Some (Ok (codes "ph1 SUPPLY 1 2 IF B1 2\n")))
     ∷ (codes "{\"user\":\"ph1\",\"code\":\"1\",\"serial\":\"2\",\"scanned\":{\"batch\":\"B1\",\"expiry\":\"280200\"}}", Some (Ok (codes "ph1 SUPPLY 1 2\n")))
     ∷ [])
-unfolding chars encode is_utf8 items members value lex punctuate code_unit short_escape content after_number word kind_named question_line fields_of subject_of subject_count condition_texts scanned_of printed_in scan_in
+unfolding chars encode is_utf8 items members value lex punctuate code_unit short_escape content after_number word kind_named question_line fields_of subject_of subject_count condition_texts scanned_of subject_in printed_in scan_in
 misread = refl
 
 -- a condition ends the line
@@ -167,7 +168,7 @@ conditions : Gives supply (
     ∷ (codes "{\"user\":\"ph1\",\"code\":\"1\",\"serial\":\"2\",\"if_scanned\":\"matches\",\"scanned\":{\"batch\":\"B/2\",\"expiry\":\"251231\"}}", Some (Ok (codes "ph1 SUPPLY 1 2 IF B/2 251231\n")))
     ∷ (codes "{\"user\":\"ph1\",\"if_scanned\":\"matches\",\"scan\":\"\"}", Some (Ok (codes "ph1 SUPPLY - - IF - -\n")))
     ∷ [])
-unfolding chars encode is_utf8 items members value lex punctuate code_unit short_escape content after_number word kind_named question_line fields_of subject_of subject_count condition_texts scanned_of printed_in scan_in
+unfolding chars encode is_utf8 items members value lex punctuate code_unit short_escape content after_number word kind_named question_line fields_of subject_of subject_count condition_texts scanned_of subject_in printed_in scan_in
 conditions = refl
 
 no-conditions : Gives supply (
@@ -179,12 +180,12 @@ no-conditions : Gives supply (
     ∷ (codes "{\"user\":\"ph1\",\"code\":\"1\",\"serial\":\"2\",\"scanned\":{\"batch\":\"B1\"}}", Some (Err fault.Fields))
     ∷ (codes "{\"user\":\"ph1\",\"code\":\"1\",\"serial\":\"2\",\"if_scanned\":\"differs\",\"scanned\":{\"batch\":\"B1\",\"expiry\":\"280200\"}}", Some (Err fault.Fields))
     ∷ [])
-unfolding chars encode is_utf8 items members value lex punctuate code_unit short_escape content after_number word kind_named question_line fields_of subject_of subject_count condition_texts scanned_of printed_in scan_in
+unfolding chars encode is_utf8 items members value lex punctuate code_unit short_escape content after_number word kind_named question_line fields_of subject_of subject_count condition_texts scanned_of subject_in printed_in scan_in
 no-conditions = refl
 
 -- the scanned values of a question are those of its scan, or its fault
 abbrev values_in : Read → Option (Option Scanned)
-values_in (Ok question) = Some question.0
+values_in (Ok question) = Some question.0.scanned
 values_in (Err f) = None
 
 abbrev values_at : List ℕ → Option (Option Scanned)
@@ -199,7 +200,7 @@ values : Gives values_at (
     ∷ (codes "{\"user\":\"ph1\",\"scan\":\"\"}", Some (Some (Err (scan_fault.Missing element.Code))))
     ∷ (codes "{\"user\":\"ph1\",\"code\":\"1\",\"serial\":\"2\",\"scanned\":{\"batch\":\"B1\",\"expiry\":\"281300\"}}", Some None)
     ∷ [])
-unfolding chars encode is_utf8 items members value lex punctuate code_unit short_escape content after_number word kind_named question_line fields_of subject_of subject_count condition_texts scanned_of printed_in scan_in
+unfolding chars encode is_utf8 items members value lex punctuate code_unit short_escape content after_number word kind_named question_line fields_of subject_of subject_count condition_texts scanned_of subject_in printed_in scan_in
 values = refl
 
 unread : Gives (λ scan. values_at (scanned scan)) (
@@ -213,7 +214,7 @@ unread : Gives (λ scan. values_at (scanned scan)) (
     ∷ (codes "010950600013435210B121SN1", Some (Some (Err (scan_fault.Missing element.Serial))))
     ∷ (codes "010950600013435310B1\\u001d21SN1\\u001d17281300", Some (Some (Err (scan_fault.Value element.Code))))
     ∷ [])
-unfolding chars encode is_utf8 items members value lex punctuate code_unit short_escape content after_number word kind_named question_line fields_of subject_of subject_count condition_texts scanned_of printed_in scan_in
+unfolding chars encode is_utf8 items members value lex punctuate code_unit short_escape content after_number word kind_named question_line fields_of subject_of subject_count condition_texts scanned_of subject_in printed_in scan_in
 unread = refl
 
 -- a refusal names the first member that is missing or wrong, and none if one is too many
@@ -234,7 +235,7 @@ places : Gives place_at (
     ∷ (codes "{\"user\":\"ph1\",\"code\":\"1\",\"serial\":\"2\",\"batch\":\"B1\"}", Some (None, None))
     ∷ (codes "{", Some (None, None))
     ∷ [])
-unfolding chars encode is_utf8 items members value lex punctuate code_unit short_escape content after_number word kind_named question_line fields_of subject_of subject_count condition_texts scanned_of printed_in wrong_member scan_in
+unfolding chars encode is_utf8 items members value lex punctuate code_unit short_escape content after_number word kind_named question_line fields_of subject_of subject_count condition_texts scanned_of subject_in printed_in wrong_member scan_in
 places = refl
 
 -- ---- bulks
@@ -243,26 +244,30 @@ abbrev bulk : List ℕ → List ℕ
 bulk questions = codes "{\"questions\":[" ++ (questions ++ codes "]}")
 
 abbrev Bulk : Type 0
-Bulk = Result (List (Option Scanned) × List ℕ) Refusal
+Bulk = Result (List Subject × List ℕ) Refusal
+
+-- the subject of a question about this product code, if it is one, and with these scanned values
+abbrev about : Option (List ℕ) → Option Scanned → Subject
+about code scanned = record { code = option_map (λ c. record { bytes = c }) code; scanned = scanned }
 
 bulk-of-one : bulk_lines (bulk (codes "{\"ask\":\"verify\",\"user\":\"ph1\",\"code\":\"09506000134352\",\"serial\":\"SN1\"}"))
-    ≡ Ok (None ∷ [], codes "ph1 VERIFY 09506000134352 SN1\n")
-unfolding chars encode is_utf8 items members value lex punctuate code_unit short_escape content after_number word kind_named bulk_lines item_line item_scanned fields_of subject_of subject_count condition_texts scanned_of printed_in scan_in
+    ≡ Ok (about (Some (codes "09506000134352")) None ∷ [], codes "ph1 VERIFY 09506000134352 SN1\n")
+unfolding chars encode is_utf8 items members value lex punctuate code_unit short_escape content after_number word kind_named bulk_lines item_line item_subject fields_of subject_of subject_count condition_texts scanned_of subject_in printed_in scan_in
 bulk-of-one = refl
 
 bulk-of-two : bulk_lines (bulk (codes "{\"key\":\"a17\",\"serial\":\"A\",\"code\":\"1\",\"user\":\"wh1\",\"ask\":\"export\"},\n{\"ask\":\"recall\",\"user\":\"mah1\",\"code\":\"2\",\"batch\":\"B\"}"))
-    ≡ Ok (None ∷ None ∷ [], codes "#a17 wh1 EXPORT 1 A\nmah1 RECALL 2 B\n")
-unfolding chars encode is_utf8 items members value lex punctuate code_unit short_escape content after_number word kind_named bulk_lines item_line item_scanned fields_of subject_of subject_count condition_texts scanned_of printed_in scan_in
+    ≡ Ok (about None None ∷ about None None ∷ [], codes "#a17 wh1 EXPORT 1 A\nmah1 RECALL 2 B\n")
+unfolding chars encode is_utf8 items members value lex punctuate code_unit short_escape content after_number word kind_named bulk_lines item_line item_subject fields_of subject_of subject_count condition_texts scanned_of subject_in printed_in scan_in
 bulk-of-two = refl
 
 bulk-of-three : bulk_lines (bulk (codes "{\"ask\":\"upload\",\"user\":\"mah1\",\"code\":\"1\",\"serial\":\"A\",\"batch\":\"B\",\"expiry\":\"2\",\"key\":\"k\"},{\"ask\":\"supply\",\"user\":\"ph1\",\"scan\":\"]d201095060001343521728020010B1\\u001d21SN1\",\"key\":\"k\"},{\"ask\":\"theft\",\"user\":\"mah1\",\"scan\":\"\"}"))
-    ≡ Ok (None ∷ printed (codes "B1") (codes "280200") ∷ Some (Err (scan_fault.Missing element.Code)) ∷ [], codes "#k mah1 UPLOAD 1 A B 2\n#k ph1 SUPPLY 09506000134352 SN1\nmah1 THEFT - -\n")
-unfolding chars encode is_utf8 items members value lex punctuate code_unit short_escape content after_number word kind_named bulk_lines item_line item_scanned fields_of subject_of subject_count condition_texts scanned_of printed_in scan_in
+    ≡ Ok (about None None ∷ about (Some (codes "09506000134352")) (printed (codes "B1") (codes "280200")) ∷ about None (Some (Err (scan_fault.Missing element.Code))) ∷ [], codes "#k mah1 UPLOAD 1 A B 2\n#k ph1 SUPPLY 09506000134352 SN1\nmah1 THEFT - -\n")
+unfolding chars encode is_utf8 items members value lex punctuate code_unit short_escape content after_number word kind_named bulk_lines item_line item_subject fields_of subject_of subject_count condition_texts scanned_of subject_in printed_in scan_in
 bulk-of-three = refl
 
 bulk-with-values : bulk_lines (bulk (codes "{\"ask\":\"verify\",\"user\":\"ph1\",\"code\":\"1\",\"serial\":\"2\"},{\"ask\":\"status\",\"user\":\"ph1\",\"code\":\"1\",\"serial\":\"2\",\"scanned\":{\"expiry\":\"251231\",\"batch\":\"B/2\"}}"))
-    ≡ Ok (None ∷ printed (codes "B/2") (codes "251231") ∷ [], codes "ph1 VERIFY 1 2\nph1 STATUS 1 2\n")
-unfolding chars encode is_utf8 items members value lex punctuate code_unit short_escape content after_number word kind_named bulk_lines item_line item_scanned fields_of subject_of subject_count condition_texts scanned_of printed_in scan_in
+    ≡ Ok (about None None ∷ about None (printed (codes "B/2") (codes "251231")) ∷ [], codes "ph1 VERIFY 1 2\nph1 STATUS 1 2\n")
+unfolding chars encode is_utf8 items members value lex punctuate code_unit short_escape content after_number word kind_named bulk_lines item_line item_subject fields_of subject_of subject_count condition_texts scanned_of subject_in printed_in scan_in
 bulk-with-values = refl
 
 -- a bulk is refused whole: a good question stands before each of these
@@ -285,7 +290,7 @@ bad-items : Gives after_good (
     ∷ (codes "{\"ask\":\"verify\",\"user\":\"ph1\",\"code\":\"1\",\"serial\":\"2\",\"key\":7}", Some fault.Key)
     ∷ (codes "{\"ask\":\"verify\",\"user\":\"ph1\",\"code\":\"1\",\"serial\":\"2\",\"ask\":\"verify\"}", Some fault.Json)
     ∷ [])
-unfolding chars encode is_utf8 items members value lex punctuate code_unit short_escape content after_number word kind_named bulk_lines item_line item_scanned fields_of subject_of subject_count condition_texts scanned_of printed_in scan_in
+unfolding chars encode is_utf8 items members value lex punctuate code_unit short_escape content after_number word kind_named bulk_lines item_line item_subject fields_of subject_of subject_count condition_texts scanned_of subject_in printed_in scan_in
 bad-items = refl
 
 -- that of a bulk names the first item with a fault too, counted from 0
@@ -295,7 +300,7 @@ bulk-places : Gives (λ items. place_in (bulk_lines (bulk items))) (
     ∷ (codes "{\"ask\":\"verify\",\"user\":\"ph1\",\"code\":\"1\",\"serial\":\"2\"},{\"ask\":\"verify\",\"user\":\"ph1\",\"code\":\"1\",\"serial\":\"2\",\"key\":7}", Some (Some 1, Some member.Key))
     ∷ (codes "", Some (None, Some member.Questions))
     ∷ [])
-unfolding chars encode is_utf8 items members value lex punctuate code_unit short_escape content after_number word kind_named bulk_lines item_line item_scanned fields_of subject_of subject_count condition_texts scanned_of printed_in wrong_member scan_in
+unfolding chars encode is_utf8 items members value lex punctuate code_unit short_escape content after_number word kind_named bulk_lines item_line item_subject fields_of subject_of subject_count condition_texts scanned_of subject_in printed_in wrong_member scan_in
 bulk-places = refl
 
 no-bulks : Gives (λ body. fault_of (bulk_lines body)) (
@@ -306,5 +311,5 @@ no-bulks : Gives (λ body. fault_of (bulk_lines body)) (
     ∷ (codes "{\"questions\":{}}", Some fault.Fields)
     ∷ (codes "{\"questions\":[],\"user\":\"ph1\"}", Some fault.Fields)
     ∷ [])
-unfolding chars encode is_utf8 items members value lex punctuate code_unit short_escape content after_number word kind_named bulk_lines item_line item_scanned fields_of subject_of subject_count condition_texts scanned_of printed_in scan_in
+unfolding chars encode is_utf8 items members value lex punctuate code_unit short_escape content after_number word kind_named bulk_lines item_line item_subject fields_of subject_of subject_count condition_texts scanned_of subject_in printed_in scan_in
 no-bulks = refl

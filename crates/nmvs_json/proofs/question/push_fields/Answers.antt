@@ -13,4 +13,4 @@ returns-clause-fields c =
     line_counted (count_of object == c.args.others + subject_count c.args.kind object) (string_bytes c.args.line.now) c.in_ok-user.user.now (word_of c.args.kind) (string_bytes c.push_str-3.new.self)
     (string_bytes c.push_subject.new.line) (string_bytes c.push_str-4.new.self) (user_of object) (subject_of c.args.kind object) (eq-eqb (count_of object) (c.args.others + subject_count c.args.kind object) counted) user
     (c.in_ok-push_str-3.ensures.bytes ∙ (λ i. (c.in_ok-push_str-2.ensures.bytes ∙ ap (λ (t : List ℕ). t ++ codes " ") c.in_ok-push_str.ensures.bytes) i ++ c.word.ensures i))
-    c.in_ok-scanned.ensures.texts c.in_ok-push_str-4.ensures.bytes
+    c.in_ok-subject.ensures.texts c.in_ok-push_str-4.ensures.bytes
