@@ -1,57 +1,17 @@
 //! The lines that a bulk of questions means.
-ghost use Rattle.std.specs.Prelude.{◌≡◌, ◌≢◌, ◌≤◌, ◌++◌, ◌∷◌, [], Ok, Err, Some, None, IfOk, IfErr, OnOk, map, option_map, string_bytes};
+ghost use Rattle.std.specs.Prelude.{◌≡◌, ◌≢◌, ◌≤◌, ◌++◌, Ok, Err, Some, None, IfOk, IfErr, OnOk, map, option_map, string_bytes};
 ghost use Rattle.nmvs_words.specs.Words.{spaced};
 ghost use Rattle.std.specs.Option.{option_copied};
 ghost use Rattle.json.specs.Value.{value_view};
 ghost use Rattle.nmvs_json.specs.Bulks as specs;
 
 use crate::question::{count_of, object_in, push_fields, push_key, text_of, wrong_member};
-use crate::{AskedKind, Member, QuestionFault, Refusal, Subject};
+use crate::{AskedKind, BulkSubjects, Member, QuestionFault, Refusal, Subject};
 use json::{Scratch, Value};
-use std::alloc::{AllocError, Global};
-use std::marker::Model;
+use std::alloc::Global;
 
 /// The most questions of a bulk (own).
 const MOST_QUESTIONS: usize = 500;
-
-/// The subject of each question of a bulk, in order.
-#[derive(Drop)]
-pub struct BulkSubjects {
-    entries: Vec<Subject>,
-}
-
-impl Model for BulkSubjects {
-    ghost use Rattle.std.specs.Prelude.{List};
-    ghost use Rattle.nmvs_json.specs.declared.subject.Subject.{Subject};
-
-    ghost Value = { List Subject };
-
-    ghost view = { λ s. s.entries.items };
-}
-
-impl BulkSubjects {
-    /// An empty list with room for this number of questions.
-    fn with_capacity(alloc: Global, count: usize) -> Result<BulkSubjects, AllocError>
-        ensures { IfOk result (λ subjects. subjects ≡ []) }
-    {
-        let entries = Vec::with_capacity(alloc, count)?;
-        Ok(BulkSubjects { entries })
-    }
-
-    /// Appends the subject of a question.
-    fn push(&mut self, subject: Subject) -> Result<(), AllocError>
-        ensures { OnOk result (self.new ≡ self.old ++ subject ∷ []) }
-    {
-        Ok(self.entries.push(subject)?)
-    }
-
-    /// The subject of each question, in order.
-    pub fn entries(&self) -> &[Subject]
-        ensures { result.now ≡ self.now }
-    {
-        self.entries.as_slice()
-    }
-}
 
 /// The lines of a bulk of questions, each with its LF, and the subject of each question.
 #[derive(Drop)]

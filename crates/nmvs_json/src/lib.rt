@@ -12,10 +12,10 @@ mod subject;
 mod table;
 
 pub use asked_kind::AskedKind;
-pub use bulk::{BulkLines, BulkSubjects, bulk_lines};
+pub use bulk::{BulkLines, bulk_lines};
 pub use laws::{no_word_is_left_out, scans_are_computed};
 pub use question::{QuestionLine, question_line};
 pub use question_fault::QuestionFault;
 pub use refusal::{Member, Refusal, refusal_body};
 pub use reply::{Problem, bulk_body, response_of};
-pub use subject::{Scanned, Subject};
+pub use subject::{BulkSubjects, Scanned, Subject};

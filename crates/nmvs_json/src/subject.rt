@@ -1,7 +1,11 @@
-//! The subject of a question: what the body of its answer takes from it.
+//! The subjects of questions: what the body of an answer takes from its question.
+ghost use Rattle.std.specs.Prelude.{◌≡◌, ◌++◌, ◌∷◌, [], IfOk, OnOk};
+
 use nmvs_elements::ScanFault;
 use nmvs_identifier::ProductCode;
 use nmvs_rules::Printed;
+use std::alloc::{AllocError, Global};
+use std::marker::Model;
 
 /// What a question says of the print on its pack: the values, or the fault of its scan.
 pub type Scanned = Result<Printed, ScanFault>;
@@ -13,4 +17,43 @@ pub struct Subject {
     pub code: Option<ProductCode>,
     /// Its scanned values, if it has some.
     pub scanned: Option<Scanned>,
+}
+
+/// The subject of each question of a bulk, in order.
+#[derive(Drop)]
+pub struct BulkSubjects {
+    entries: Vec<Subject>,
+}
+
+impl Model for BulkSubjects {
+    ghost use Rattle.std.specs.Prelude.{List};
+    ghost use Rattle.nmvs_json.specs.declared.subject.Subject.{Subject};
+
+    ghost Value = { List Subject };
+
+    ghost view = { λ s. s.entries.items };
+}
+
+impl BulkSubjects {
+    /// An empty list with room for this number of questions.
+    pub(crate) fn with_capacity(alloc: Global, count: usize) -> Result<BulkSubjects, AllocError>
+        ensures { IfOk result (λ subjects. subjects ≡ []) }
+    {
+        let entries = Vec::with_capacity(alloc, count)?;
+        Ok(BulkSubjects { entries })
+    }
+
+    /// Appends the subject of a question.
+    pub(crate) fn push(&mut self, subject: Subject) -> Result<(), AllocError>
+        ensures { OnOk result (self.new ≡ self.old ++ subject ∷ []) }
+    {
+        Ok(self.entries.push(subject)?)
+    }
+
+    /// The subject of each question, in order.
+    pub fn entries(&self) -> &[Subject]
+        ensures { result.now ≡ self.now }
+    {
+        self.entries.as_slice()
+    }
 }
