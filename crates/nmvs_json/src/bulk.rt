@@ -81,7 +81,7 @@ fn lines_of(alloc: Global, items: &[Value<'_>]) -> Result<BulkLines, Refusal>
             Ok(subject) => subject,
             Err(fault) => return Err(refused(number, item, fault)),
         };
-        subjects.push(subject)?;
+        subjects.push(subject.code, subject.scanned)?;
         number += 1;
         rest = later;
     }

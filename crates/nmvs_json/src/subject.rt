@@ -43,11 +43,15 @@ impl BulkSubjects {
         Ok(BulkSubjects { entries })
     }
 
-    /// Appends the subject of a question.
-    pub(crate) fn push(&mut self, subject: Subject) -> Result<(), AllocError>
-        ensures { OnOk result (self.new ≡ self.old ++ subject ∷ []) }
+    /// Appends the subject of a question about this product code and with these scanned values.
+    pub(crate) fn push(
+        &mut self,
+        code: Option<ProductCode>,
+        scanned: Option<Scanned>,
+    ) -> Result<(), AllocError>
+        ensures { OnOk result (self.new ≡ self.old ++ record { code = code; scanned = scanned } ∷ []) }
     {
-        Ok(self.entries.push(subject)?)
+        Ok(self.entries.push(Subject { code, scanned })?)
     }
 
     /// The subject of each question, in order.
