@@ -48,7 +48,7 @@ impl AlertName {
     pub fn names(&self, entry: &Entry) -> bool
         ensures { result ≡ is_named self.now entry.now }
     {
-        entry.put.question.code() == self.code && is_numbered(self.number, &entry.reply)
+        self.code == entry.put.question.code() && is_numbered(self.number, &entry.reply)
     }
 }
 
