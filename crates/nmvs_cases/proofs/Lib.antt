@@ -1,0 +1,3 @@
+mod KeyboardLemmas
+mod HintLemmas
+mod CaseLemmas

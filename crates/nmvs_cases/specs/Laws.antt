@@ -1,0 +1,68 @@
+-- The laws of hints and cases, in the words of operations (own, for Article 37(d)).
+use Rattle.std.specs.Prelude.{ℕ, ◌≡◌, ◌≤◌, ◌+◌, ◌⊎◌, Bool, true, false, List, [], ◌∷◌, find, Option, Some}
+use Rattle.std.specs.List.{list_any}
+use Rattle.std.specs.Option.{is_some, option_and_then}
+use Rattle.nmvs_identifier.specs.Name.{Name}
+use Rattle.nmvs_identifier.specs.declared.pack.Pack.{Pack}
+use Rattle.nmvs_rules.specs.declared.cause.Cause.{Cause}
+use Rattle.nmvs_rules.specs.declared.cause.Cause.TheVariants as causes
+use Rattle.nmvs_rules.specs.declared.entry.Entry.{Entry}
+use Rattle.nmvs_rules.specs.declared.put.Put.{Put}
+use Rattle.nmvs_rules.specs.Operations.{last_operation, uploads}
+use Rattle.nmvs_cases.specs.declared.act.Act.{Act}
+use Rattle.nmvs_cases.specs.declared.act.Act.TheVariants.{Close, Confirm}
+use Rattle.nmvs_cases.specs.declared.act.Reader.{Reader}
+use Rattle.nmvs_cases.specs.declared.act.Reader.TheVariants.{Officer, Authority}
+use Rattle.nmvs_cases.specs.declared.case.Case.{Case}
+use Rattle.nmvs_cases.specs.declared.case.Case.TheVariants.{Open, Confirmed}
+use Rattle.nmvs_cases.specs.declared.case.Informed.{Informed}
+use Rattle.nmvs_cases.specs.declared.hint.Hint.TheVariants.{Late, Own, House}
+use Rattle.nmvs_cases.specs.Cases.{after, are_all, is_listed}
+use Rattle.nmvs_cases.specs.Hints.{hint_at}
+
+-- the last operation on the pack, among the entries before, was of the question's authorisation, at most a day earlier
+pub record IsRepeated (before : List Entry) (p : Pack) (q : Put) : Type 0 where
+  pub last : Entry
+  pub latest : last_operation before p ≡ Some last
+  pub authorisation : last.put.actor.authorisation.bytes ≡ q.actor.authorisation.bytes
+  pub soon : q.moment ≤ last.put.moment + 86400
+
+-- a hint says what the trail has: that the unknown pack was uploaded, or that the house repeats its last operation
+pub record HintsAreTrue : Type 0 where
+  pub late : (t before : List Entry) (q : Put) (p : Pack) (c : Cause) → hint_at t before q p c ≡ Some Late → (c ≡ causes.Unknown) × (is_some (find (uploads p) t) ≡ true)
+  pub own : (t before : List Entry) (q : Put) (p : Pack) (c : Cause) → hint_at t before q p c ≡ Some Own → IsRepeated before p q
+  pub house : (t before : List Entry) (q : Put) (p : Pack) (c : Cause) → hint_at t before q p c ≡ Some House → IsRepeated before p q
+
+-- an act on an alert: what, as which reader, by whom
+pub record Done : Type 0 where
+  pub act : Act
+  pub reader : Reader
+  pub user : Name
+
+-- the case after these acts, the latest of which is the first; none if an author could not do one of them
+abbrev pub case_after : List Done → Option Case
+case_after [] = Some Open
+case_after (d ∷ ds) = option_and_then (λ s. after s d.act d.reader d.user) (case_after ds)
+
+-- whether an act closes an alert without a falsification, by one who may
+abbrev pub is_closing : Act → Reader → Bool
+is_closing (Close v) Officer = true
+is_closing (Close v) Authority = true
+is_closing _ r = false
+
+abbrev pub closes : Done → Bool
+closes d = is_closing d.act d.reader
+
+-- whether an act confirms a falsification, by the authority
+abbrev pub is_confirming : Act → Reader → Bool
+is_confirming Confirm Authority = true
+is_confirming _ r = false
+
+abbrev pub confirms : Done → Bool
+confirms d = is_confirming d.act d.reader
+
+-- no flagged alert leaves the list of work by itself: one who may closed it, or the authority confirmed it and all three are informed
+abbrev pub NoneIsForgotten : Type 0
+NoneIsForgotten =
+    (ds : List Done) (s : Case) → case_after ds ≡ Some s → is_listed s ≡ false
+    → (list_any closes ds ≡ true) ⊎ ((list_any confirms ds ≡ true) × ((i : Informed) × (s ≡ Confirmed i) × (are_all i ≡ true)))

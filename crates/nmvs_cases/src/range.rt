@@ -1,0 +1,46 @@
+//! What an act is about.
+ghost use Rattle.std.specs.Prelude.{◌≡◌};
+ghost use Rattle.nmvs_cases.specs.Cases as cases;
+
+use crate::Hint;
+use nmvs_identifier::ProductCode;
+
+/// The hints of the alerts that an act is about.
+#[derive(Clone, Copy)]
+pub enum Hinted {
+    /// Any, or none.
+    Any,
+    /// This one, or none if it is `None`.
+    Only(Option<Hint>),
+}
+
+/// The flagged alerts that one act is about: those on a product code with a number from `first` to `last` that have this hint.
+#[derive(Clone, Copy)]
+pub struct Range {
+    pub code: ProductCode,
+    pub first: u64,
+    pub last: u64,
+    pub hinted: Hinted,
+}
+
+impl Range {
+    /// Whether an act on the range is about the flagged alert on this product code with this number, which has this hint.
+    pub fn has(&self, code: &ProductCode, number: u64, hint: Option<Hint>) -> bool
+        ensures { result ≡ cases.has self.now code.now number hint }
+    {
+        self.code == *code
+            && self.first <= number
+            && number <= self.last
+            && is_hinted(self.hinted, hint)
+    }
+}
+
+fn is_hinted(hinted: Hinted, hint: Option<Hint>) -> bool
+    ensures { result ≡ cases.is_hinted hinted hint }
+{
+    match (hinted, hint) {
+        (Hinted::Any, _) | (Hinted::Only(None), None) => true,
+        (Hinted::Only(Some(wanted)), Some(hint)) => wanted.word() == hint.word(),
+        _ => false,
+    }
+}
