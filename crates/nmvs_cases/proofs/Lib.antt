@@ -1,3 +1,5 @@
 mod KeyboardLemmas
 mod HintLemmas
 mod CaseLemmas
+mod RangeLemmas
+mod CasesExample

@@ -15,6 +15,7 @@ use Rattle.nmvs_cases.specs.declared.case.Case.{Case}
 use Rattle.nmvs_cases.specs.declared.case.Case.TheVariants.{Open, Taken, Closed, Confirmed}
 use Rattle.nmvs_cases.specs.declared.case.Informed.{Informed}
 use Rattle.nmvs_cases.specs.declared.hint.Hint.{Hint}
+use Rattle.nmvs_cases.specs.declared.line.CaseLine.{CaseLine}
 use Rattle.nmvs_cases.specs.declared.range.Hinted.{Hinted}
 use Rattle.nmvs_cases.specs.declared.range.Hinted.TheVariants.{Any, Only}
 use Rattle.nmvs_cases.specs.declared.range.Range.{Range}
@@ -109,3 +110,7 @@ is_hinted (Only (Some wanted)) (Some h) = bytes_eq (hint_word wanted) (hint_word
 -- whether an act on the range is about the flagged alert on this product code with this number and hint
 abbrev pub has : Range → ProductCode → ℕ → Option Hint → Bool
 has range c n h = same_text range.code c && nat_le range.first n && nat_le n range.last && is_hinted range.hinted h
+
+-- what a line makes of the case of such an alert: nothing if the alert is not of the range
+abbrev pub on : CaseLine → Case → ProductCode → ℕ → Option Hint → Option Case
+on line s c n h = if has line.range c n h then after s line.act line.reader line.user else Some s

@@ -1,8 +1,11 @@
 -- The laws of hints and cases, in the words of operations (own, for Article 37(d)).
-use Rattle.std.specs.Prelude.{ℕ, ◌≡◌, ◌≤◌, ◌+◌, ◌⊎◌, Bool, true, false, List, [], ◌∷◌, find, Option, Some}
+use Rattle.std.specs.Prelude.{ℕ, ◌≡◌, ◌≤◌, ◌<◌, ◌+◌, ◌⊎◌, Bool, true, false, List, [], ◌∷◌, find, Option, Some, None}
 use Rattle.std.specs.List.{list_any}
 use Rattle.std.specs.Option.{is_some, option_and_then}
+use Rattle.std.specs.Str.{bytes_eq}
 use Rattle.nmvs_identifier.specs.Name.{Name}
+use Rattle.nmvs_identifier.specs.ProductCode.{ProductCode}
+use Rattle.nmvs_identifier.specs.Texts.{same_text}
 use Rattle.nmvs_identifier.specs.declared.pack.Pack.{Pack}
 use Rattle.nmvs_rules.specs.declared.cause.Cause.{Cause}
 use Rattle.nmvs_rules.specs.declared.cause.Cause.TheVariants as causes
@@ -16,9 +19,12 @@ use Rattle.nmvs_cases.specs.declared.act.Reader.TheVariants.{Officer, Authority}
 use Rattle.nmvs_cases.specs.declared.case.Case.{Case}
 use Rattle.nmvs_cases.specs.declared.case.Case.TheVariants.{Open, Confirmed}
 use Rattle.nmvs_cases.specs.declared.case.Informed.{Informed}
+use Rattle.nmvs_cases.specs.declared.hint.Hint.{Hint}
 use Rattle.nmvs_cases.specs.declared.hint.Hint.TheVariants.{Late, Own, House}
-use Rattle.nmvs_cases.specs.Cases.{after, are_all, is_listed}
-use Rattle.nmvs_cases.specs.Hints.{hint_at}
+use Rattle.nmvs_cases.specs.declared.line.CaseLine.{CaseLine}
+use Rattle.nmvs_cases.specs.declared.range.Hinted.TheVariants.{Only}
+use Rattle.nmvs_cases.specs.Cases.{after, are_all, is_listed, on}
+use Rattle.nmvs_cases.specs.Hints.{hint_at, hint_word}
 
 -- the last operation on the pack, among the entries before, was of the question's authorisation, at most a day earlier
 pub record IsRepeated (before : List Entry) (p : Pack) (q : Put) : Type 0 where
@@ -66,3 +72,11 @@ abbrev pub NoneIsForgotten : Type 0
 NoneIsForgotten =
     (ds : List Done) (s : Case) → case_after ds ≡ Some s → is_listed s ≡ false
     → (list_any closes ds ≡ true) ⊎ ((list_any confirms ds ≡ true) × ((i : Informed) × (s ≡ Confirmed i) × (are_all i ≡ true)))
+
+-- a line changes the case of no alert on another product code, with another number, or with another hint
+pub record RangesHaveTheirOwn : Type 0 where
+  pub code : (line : CaseLine) (s : Case) (c : ProductCode) (n : ℕ) (h : Option Hint) → same_text line.range.code c ≡ false → on line s c n h ≡ Some s
+  pub earlier : (line : CaseLine) (s : Case) (c : ProductCode) (n : ℕ) (h : Option Hint) → n < line.range.first → on line s c n h ≡ Some s
+  pub later : (line : CaseLine) (s : Case) (c : ProductCode) (n : ℕ) (h : Option Hint) → line.range.last < n → on line s c n h ≡ Some s
+  pub hint : (line : CaseLine) (s : Case) (c : ProductCode) (n : ℕ) (wanted h : Hint) → line.range.hinted ≡ Only (Some wanted) → bytes_eq (hint_word wanted) (hint_word h) ≡ false → on line s c n (Some h) ≡ Some s
+  pub unhinted : (line : CaseLine) (s : Case) (c : ProductCode) (n : ℕ) (wanted : Hint) → line.range.hinted ≡ Only (Some wanted) → on line s c n None ≡ Some s

@@ -1,5 +1,5 @@
 //! Laws of hints and cases.
-ghost use Rattle.nmvs_cases.specs.Laws.{HintsAreTrue, NoneIsForgotten};
+ghost use Rattle.nmvs_cases.specs.Laws.{HintsAreTrue, NoneIsForgotten, RangesHaveTheirOwn};
 
 /// A hint says what the trail has (own). It does nothing.
 pub fn hints_are_true()
@@ -9,4 +9,9 @@ pub fn hints_are_true()
 /// No flagged alert leaves the list of work by itself (own, for Article 37(d)). It does nothing.
 pub fn none_is_forgotten()
     ensures { NoneIsForgotten }
+{}
+
+/// A line changes the case of no alert with another code, number or hint (own). It does nothing.
+pub fn ranges_have_their_own()
+    ensures { RangesHaveTheirOwn }
 {}

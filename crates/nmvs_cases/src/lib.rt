@@ -1,7 +1,7 @@
 //! The investigation of flagged alerts (Article 37(d)): hints at what raised an alert, and cases, with what becomes of one by an act.
 //!
 //! A [`Hint`] is a fact of the trail, and no verdict. A [`Case`] is what is known of one alert: each starts open, and
-//! [`Case::after`] says what an act makes of it, or that its author may not do it. A [`Range`] is what one act is about.
+//! [`Case::after`] says what an act makes of it, or that its author may not do it. A [`CaseLine`] is an act on a [`Range`] of alerts.
 #![tactic(auto)]
 
 mod act;
@@ -9,11 +9,13 @@ mod case;
 mod hint;
 mod keyboard;
 mod laws;
+mod line;
 mod range;
 
 pub use act::{Act, Reader, Verdict, Whom};
 pub use case::{Case, Informed};
 pub use hint::{Hint, hint_of, repeated_hint};
 pub use keyboard::{Keyboard, typed_pack};
-pub use laws::{hints_are_true, none_is_forgotten};
+pub use laws::{hints_are_true, none_is_forgotten, ranges_have_their_own};
+pub use line::CaseLine;
 pub use range::{Hinted, Range};

@@ -1,0 +1,35 @@
+//! Lines of a list of cases.
+ghost use Rattle.std.specs.Prelude.{◌≡◌};
+ghost use Rattle.nmvs_cases.specs.Cases as cases;
+
+use crate::{Act, Case, Hint, Range, Reader};
+use nmvs_identifier::{Name, ProductCode};
+
+/// One act of a user on the alerts of a range.
+#[derive(Clone, Copy)]
+pub struct CaseLine {
+    pub user: Name,
+    pub reader: Reader,
+    pub range: Range,
+    pub act: Act,
+}
+
+impl CaseLine {
+    /// What the line makes of the case of the flagged alert on this product code with this number, which has this hint at the
+    /// line: nothing if the alert is not of the range. There is none if the user may not do the act, or not on this case.
+    pub fn on(
+        &self,
+        case: &Case,
+        code: &ProductCode,
+        number: u64,
+        hint: Option<Hint>,
+    ) -> Option<Case>
+        ensures { result ≡ cases.on self.now case.now code.now number hint }
+    {
+        if self.range.has(code, number, hint) {
+            case.after(self.act, self.reader, &self.user)
+        } else {
+            Some(*case)
+        }
+    }
+}
