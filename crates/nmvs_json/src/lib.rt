@@ -8,7 +8,6 @@ mod question;
 mod question_fault;
 mod refusal;
 mod reply;
-mod table;
 
 pub use asked_kind::AskedKind;
 pub use bulk::{BulkLines, BulkScanned, bulk_lines};
@@ -16,4 +15,4 @@ pub use laws::{no_word_is_left_out, scans_are_computed};
 pub use question::{QuestionLine, Scanned, question_line};
 pub use question_fault::QuestionFault;
 pub use refusal::{Member, Refusal, refusal_body};
-pub use reply::{Problem, bulk_body, response_of};
+pub use reply::{bulk_body, response_of};
