@@ -55,7 +55,7 @@ serial-short bs is = (plain_serial bs is).1
 plain-small : (b : ℕ) → is_plain b ≡ true → b < 128
 plain-small b e = grind (arith, nat_tests)
 
-all-small : (x : List ℕ) → list_all is_plain x ≡ true → AllByRecursion (λ b. b < 128) x
+pub all-small : (x : List ℕ) → list_all is_plain x ≡ true → AllByRecursion (λ b. b < 128) x
 all-small [] e = tt
 all-small (b ∷ bs) e = let parts = and_parts (is_plain b) (list_all is_plain bs) e in (plain-small b parts.0, all-small bs parts.1)
 

@@ -2,4 +2,10 @@ mod KeyboardLemmas
 mod HintLemmas
 mod CaseLemmas
 mod RangeLemmas
+mod PieceLemmas
+mod StringLemmas
+mod KeyLemmas
+mod LineLemmas
+mod LinePieces
+mod ReadingLemmas
 mod CasesExample

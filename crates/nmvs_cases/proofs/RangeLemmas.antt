@@ -10,6 +10,7 @@ use Rattle.nmvs_cases.specs.declared.hint.Hint.{Hint}
 use Rattle.nmvs_cases.specs.declared.line.CaseLine.{CaseLine}
 use Rattle.nmvs_cases.specs.declared.range.Hinted.{Hinted}
 use Rattle.nmvs_cases.specs.declared.range.Hinted.TheVariants.{Only}
+use Rattle.nmvs_cases.specs.Authors.{author_reader, author_user}
 use Rattle.nmvs_cases.specs.Cases.{after, has, is_hinted, on}
 use Rattle.nmvs_cases.specs.Hints.{hint_word}
 use Rattle.nmvs_cases.specs.Laws.{RangesHaveTheirOwn}
@@ -39,7 +40,7 @@ fourth-fails true true true true h = absurd cc
 
 -- a line says nothing about an alert that is not of its range
 untouched : (line : CaseLine) (s : Case) (c : ProductCode) (n : ℕ) (h : Option Hint) → has line.range c n h ≡ false → on line s c n h ≡ Some s
-untouched line s c n h not = ap (λ (b : Bool). cond b (after s line.act line.reader line.user) (Some s)) not
+untouched line s c n h not = ap (λ (b : Bool). cond b (after s line.act (author_reader line.author) (author_user line.author)) (Some s)) not
 
 above : (m n : ℕ) → n < m → nat_le m n ≡ false
 above m n less = grind (arith, nat_tests, less)

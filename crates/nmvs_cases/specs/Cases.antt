@@ -19,6 +19,7 @@ use Rattle.nmvs_cases.specs.declared.line.CaseLine.{CaseLine}
 use Rattle.nmvs_cases.specs.declared.range.Hinted.{Hinted}
 use Rattle.nmvs_cases.specs.declared.range.Hinted.TheVariants.{Any, Only}
 use Rattle.nmvs_cases.specs.declared.range.Range.{Range}
+use Rattle.nmvs_cases.specs.Authors.{author_reader, author_user}
 use Rattle.nmvs_cases.specs.Hints.{hint_word}
 
 -- who of a confirmed falsification is informed: nobody at first
@@ -113,4 +114,4 @@ has range c n h = same_text range.code c && nat_le range.first n && nat_le n ran
 
 -- what a line makes of the case of such an alert: nothing if the alert is not of the range
 abbrev pub on : CaseLine → Case → ProductCode → ℕ → Option Hint → Option Case
-on line s c n h = if has line.range c n h then after s line.act line.reader line.user else Some s
+on line s c n h = if has line.range c n h then after s line.act (author_reader line.author) (author_user line.author) else Some s

@@ -1,5 +1,5 @@
 -- The hints at what raised an alert (own): facts of the trail, in one order. The first that holds is given.
-use Rattle.std.specs.Prelude.{ℕ, ◌+◌, ◌-◌, ◌==◌, Bool, true, false, not, ◌&&◌, List, [], ◌∷◌, codes, find, map, nat_le, Option, Some, None, if◌then◌else◌}
+use Rattle.std.specs.Prelude.{ℕ, ◌+◌, ◌-◌, ◌==◌, Bool, true, false, not, ◌&&◌, List, [], ◌∷◌, codes, find, map, nat_le, Option, Some, None, option_map, if◌then◌else◌}
 use Rattle.std.specs.Char.{is_ascii_lowercase, is_ascii_uppercase}
 use Rattle.std.specs.Option.{is_none, is_some, option_and_then}
 use Rattle.std.specs.Str.{bytes_eq}
@@ -17,6 +17,8 @@ use Rattle.nmvs_cases.specs.declared.hint.Hint.{Hint}
 use Rattle.nmvs_cases.specs.declared.hint.Hint.TheVariants.{Late, Caps, Layout, NoCode, Own, House}
 use Rattle.nmvs_cases.specs.declared.keyboard.Keyboard.{Keyboard}
 use Rattle.nmvs_cases.specs.declared.keyboard.Keyboard.TheVariants.{CapsLock, ExchangesYAndZ}
+use Rattle.nmvs_cases.specs.declared.range.Hinted.{Hinted}
+use Rattle.nmvs_cases.specs.declared.range.Hinted.TheVariants.{Any, Only}
 
 -- the word of a hint
 abbrev pub hint_word : Hint → List ℕ
@@ -33,6 +35,15 @@ all_hints = Late ∷ Caps ∷ Layout ∷ NoCode ∷ Own ∷ House ∷ []
 
 abbrev pub hint_named : List ℕ → Option Hint
 hint_named w = find (λ h. bytes_eq w (hint_word h)) all_hints
+
+-- what stands for the hints that an act is about
+abbrev pub hinted_word : Hinted → List ℕ
+hinted_word Any = codes "*"
+hinted_word (Only None) = codes "-"
+hinted_word (Only (Some h)) = hint_word h
+
+abbrev pub hinted_named : List ℕ → Option Hinted
+hinted_named w = if bytes_eq w (codes "*") then Some Any else (if bytes_eq w (codes "-") then Some (Only None) else option_map (λ h. Only (Some h)) (hint_named w))
 
 -- a letter in the other case; y and z in each other's place
 abbrev pub in_other_case : ℕ → ℕ

@@ -1,3 +1,9 @@
 pub mod Hints
+pub mod Texts
+pub mod ActWords
+pub mod Authors
 pub mod Cases
+pub mod CaseLines
+pub mod LineParts
+pub mod Pieces
 pub mod Laws

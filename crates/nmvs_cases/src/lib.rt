@@ -5,17 +5,26 @@
 #![tactic(auto)]
 
 mod act;
+mod author;
 mod case;
 mod hint;
 mod keyboard;
 mod laws;
 mod line;
+mod pieces;
 mod range;
+mod reading;
+mod text;
+mod written_line;
 
 pub use act::{Act, Reader, Verdict, Whom};
+pub use author::Author;
 pub use case::{Case, Informed};
 pub use hint::{Hint, hint_of, repeated_hint};
 pub use keyboard::{Keyboard, typed_pack};
 pub use laws::{hints_are_true, none_is_forgotten, ranges_have_their_own};
 pub use line::CaseLine;
 pub use range::{Hinted, Range};
+pub use reading::read_case_line;
+pub use text::{CaseText, LONGEST_CASE_TEXT};
+pub use written_line::{WrittenLine, append_case_line};

@@ -2,21 +2,23 @@
 ghost use Rattle.std.specs.Prelude.{◌≡◌};
 ghost use Rattle.nmvs_cases.specs.Cases as cases;
 
-use crate::{Act, Case, Hint, Range, Reader};
-use nmvs_identifier::{Name, ProductCode};
+use crate::{Act, Author, Case, Hint, Range};
+use nmvs_identifier::{Moment, ProductCode};
 
-/// One act of a user on the alerts of a range.
+/// One act of an author on the alerts of a range.
 #[derive(Clone, Copy)]
 pub struct CaseLine {
-    pub user: Name,
-    pub reader: Reader,
+    /// The number of entries that were judged when it was done. The hints of the alerts are those over these.
+    pub at: u64,
+    pub moment: Moment,
+    pub author: Author,
     pub range: Range,
     pub act: Act,
 }
 
 impl CaseLine {
     /// What the line makes of the case of the flagged alert on this product code with this number, which has this hint at the
-    /// line: nothing if the alert is not of the range. There is none if the user may not do the act, or not on this case.
+    /// line: nothing if the alert is not of the range. There is none if the author may not do the act, or not on this case.
     pub fn on(
         &self,
         case: &Case,
@@ -27,7 +29,7 @@ impl CaseLine {
         ensures { result ≡ cases.on self.now case.now code.now number hint }
     {
         if self.range.has(code, number, hint) {
-            case.after(self.act, self.reader, &self.user)
+            case.after(self.act, self.author.reader(), self.author.user())
         } else {
             Some(*case)
         }

@@ -1,6 +1,7 @@
 //! What an act is about.
 ghost use Rattle.std.specs.Prelude.{◌≡◌};
 ghost use Rattle.nmvs_cases.specs.Cases as cases;
+ghost use Rattle.nmvs_cases.specs.Hints as hints;
 
 use crate::Hint;
 use nmvs_identifier::ProductCode;
@@ -12,6 +13,30 @@ pub enum Hinted {
     Any,
     /// This one, or none if it is `None`.
     Only(Option<Hint>),
+}
+
+impl Hinted {
+    /// What stands for these hints: `*` for any, `-` for none, or the word of the hint.
+    pub fn word(self) -> &'static str
+        ensures { result.now ≡ hints.hinted_word self }
+    {
+        match self {
+            Hinted::Any => "*",
+            Hinted::Only(None) => "-",
+            Hinted::Only(Some(hint)) => hint.word(),
+        }
+    }
+
+    /// The hints for which this word stands.
+    pub fn named(word: &str) -> Option<Hinted>
+        ensures { result ≡ hints.hinted_named word.now }
+    {
+        match word {
+            "*" => Some(Hinted::Any),
+            "-" => Some(Hinted::Only(None)),
+            _ => Some(Hinted::Only(Some(Hint::named(word)?))),
+        }
+    }
 }
 
 /// The flagged alerts that one act is about: those on a product code with a number from `first` to `last` that have this hint.
