@@ -2,6 +2,7 @@ mod KeyboardLemmas
 mod HintLemmas
 mod CaseLemmas
 mod RangeLemmas
+mod OverLemmas
 mod PieceLemmas
 mod StringLemmas
 mod KeyLemmas

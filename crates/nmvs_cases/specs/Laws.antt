@@ -1,5 +1,5 @@
 -- The laws of hints and cases, in the words of operations (own, for Article 37(d)).
-use Rattle.std.specs.Prelude.{ℕ, ◌≡◌, ◌≤◌, ◌<◌, ◌+◌, ◌⊎◌, Bool, true, false, List, [], ◌∷◌, find, Option, Some, None}
+use Rattle.std.specs.Prelude.{ℕ, ◌≡◌, ◌≤◌, ◌<◌, ◌+◌, ◌⊎◌, Bool, true, false, List, [], ◌∷◌, ◌++◌, find, Option, Some, None}
 use Rattle.std.specs.List.{list_any}
 use Rattle.std.specs.Option.{is_some, option_and_then}
 use Rattle.std.specs.Str.{bytes_eq}
@@ -80,3 +80,18 @@ pub record RangesHaveTheirOwn : Type 0 where
   pub later : (line : CaseLine) (s : Case) (c : ProductCode) (n : ℕ) (h : Option Hint) → line.range.last < n → on line s c n h ≡ Some s
   pub hint : (line : CaseLine) (s : Case) (c : ProductCode) (n : ℕ) (wanted h : Hint) → line.range.hinted ≡ Only (Some wanted) → bytes_eq (hint_word wanted) (hint_word h) ≡ false → on line s c n (Some h) ≡ Some s
   pub unhinted : (line : CaseLine) (s : Case) (c : ProductCode) (n : ℕ) (wanted : Hint) → line.range.hinted ≡ Only (Some wanted) → on line s c n None ≡ Some s
+
+-- a line over an alert, and the hint of the alert at the line
+pub record Over : Type 0 where
+  pub line : CaseLine
+  pub hint : Option Hint
+
+-- what these lines, the earliest of which is the first, make of the case of an alert; none if an author could not do one of the acts
+abbrev pub case_over : ProductCode → ℕ → List Over → Case → Option Case
+case_over c n [] s = Some s
+case_over c n (l ∷ ls) s = option_and_then (case_over c n ls) (on l.line s c n l.hint)
+
+-- what lines made of a case stays: later lines change that case, and none of the earlier ones
+abbrev pub CasesStay : Type 0
+CasesStay =
+    (c : ProductCode) (n : ℕ) (earlier later : List Over) (s : Case) → case_over c n (earlier ++ later) s ≡ option_and_then (case_over c n later) (case_over c n earlier s)

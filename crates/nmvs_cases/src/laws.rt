@@ -1,5 +1,5 @@
 //! Laws of hints and cases.
-ghost use Rattle.nmvs_cases.specs.Laws.{HintsAreTrue, NoneIsForgotten, RangesHaveTheirOwn};
+ghost use Rattle.nmvs_cases.specs.Laws.{CasesStay, HintsAreTrue, NoneIsForgotten, RangesHaveTheirOwn};
 
 /// A hint says what the trail has (own). It does nothing.
 pub fn hints_are_true()
@@ -14,4 +14,10 @@ pub fn none_is_forgotten()
 /// A line changes the case of no alert with another code, number or hint (own). It does nothing.
 pub fn ranges_have_their_own()
     ensures { RangesHaveTheirOwn }
+{}
+
+/// After two lists of lines a case is what the second makes of it after the first, so what lines made of it stays (own). It does
+/// nothing.
+pub fn cases_stay()
+    ensures { CasesStay }
 {}
