@@ -21,10 +21,9 @@ use Rattle.nmvs_cases.specs.declared.act.Reader.{Reader}
 use Rattle.nmvs_cases.specs.declared.act.Reader.TheVariants.{Officer, Authority, Owner}
 use Rattle.nmvs_cases.specs.declared.act.Verdict.TheVariants.{Technical, Market}
 use Rattle.nmvs_cases.specs.declared.act.Whom.TheVariants as whom
-use Rattle.nmvs_cases.specs.declared.case.Case.{Case}
 use Rattle.nmvs_cases.specs.declared.hint.Hint.{Hint}
 use Rattle.nmvs_cases.specs.declared.hint.Hint.TheVariants as hint
-use Rattle.nmvs_cases.specs.declared.range.Hinted.TheVariants.{Any, Only}
+use Rattle.nmvs_cases.specs.declared.range.Hinted.TheVariants.{Only}
 use Rattle.nmvs_cases.specs.Cases.{has, is_listed}
 use Rattle.nmvs_cases.specs.Hints.{hint_at}
 use Rattle.nmvs_cases.specs.Laws.{Done, case_after}

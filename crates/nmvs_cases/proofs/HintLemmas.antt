@@ -17,11 +17,11 @@ use Rattle.nmvs_rules.specs.Trail.{known}
 use Rattle.nmvs_rules.proofs.Accepted.{first-upload, last-operation}
 use Rattle.nmvs_rules.proofs.BirthLemmas.{is_some-known}
 use Rattle.nmvs_rules.proofs.FindLemmas.{find-passes}
-use Rattle.nmvs_rules.proofs.MarkLemmas.{KnownBy, known-by}
+use Rattle.nmvs_rules.proofs.MarkLemmas.{known-by}
 use Rattle.nmvs_rules.proofs.TextLemmas.{same_text-bytes}
 use Rattle.nmvs_cases.specs.declared.hint.Hint.{Hint}
-use Rattle.nmvs_cases.specs.declared.hint.Hint.TheVariants.{Late, Caps, Layout, NoCode, Own, House}
-use Rattle.nmvs_cases.specs.Hints.{all_hints, hint_at, hint_behind, hint_by, holds_behind, holds_of_unknown, is_in_a_day, is_own_cause, repeated_hint}
+use Rattle.nmvs_cases.specs.declared.hint.Hint.TheVariants.{Late, Own, House}
+use Rattle.nmvs_cases.specs.Hints.{all_hints, hint_behind, hint_by, holds_behind, holds_of_unknown, is_in_a_day, is_own_cause, repeated_hint}
 use Rattle.nmvs_cases.specs.Laws.{HintsAreTrue, IsRepeated}
 
 -- a hint of a repetition holds of what was known of the pack

@@ -1,5 +1,5 @@
 -- The key of a line is cut out of its end.
-use Rattle.std.proofs.Common.{◌≡◌, ℕ, Bool, true, List, [], ◌∷◌, ◌++◌, not, ◌==◌, ◌⊎◌, inl, inr, ◌&&◌, length, nat_le, Option, Some, None, refl, sym, ap, ◌∙◌, arith, append_assoc}
+use Rattle.std.proofs.Common.{◌≡◌, ℕ, Bool, true, List, [], ◌∷◌, ◌++◌, not, ◌==◌, inl, inr, ◌&&◌, length, nat_le, Option, Some, None, refl, sym, ap, ◌∙◌, arith, append_assoc}
 use Rattle.std.specs.List.{list_all}
 use Rattle.std.specs.Str.{IsAscii, IsUtf8}
 use Rattle.std.proofs.lemmas.Bool.{and_parts, cases_eq, ne_eqb}
@@ -10,7 +10,7 @@ use Rattle.std.proofs.lemmas.Str.Ascii.{IsAscii-cons, IsAscii-from_all, IsAscii-
 use Rattle.nmvs_identifier.specs.Characters.{is_name_character}
 use Rattle.nmvs_identifier.specs.Name.{begins_alphanumeric, has_name_characters}
 use Rattle.nmvs_identifier.specs.Tag.{Tag, is_tag, longest_tag}
-use Rattle.nmvs_identifier.proofs.PlainTexts.{all_weaker, is_plain, plain_tag}
+use Rattle.nmvs_identifier.proofs.PlainTexts.{all_weaker, plain_tag}
 use Rattle.nmvs_rules.specs.Entries.{is_tag_or_none}
 use Rattle.nmvs_cases.specs.LineParts.{ending}
 use Rattle.nmvs_cases.specs.Pieces.{cut}

@@ -1,5 +1,5 @@
 -- A serial number stays one on another keyboard.
-use Rattle.std.proofs.Common.{◌≡◌, ◌≤◌, ◌<◌, ◌+◌, ◌==◌, ◌&&◌, ◌||◌, ℕ, suc, Bool, true, false, List, Result, Ok, Err, [], ◌∷◌, length, map, ◌++◌, append-nil, refl, sym, subst, ap, eqb-true, inl, inr, ◌∙◌, arith}
+use Rattle.std.proofs.Common.{◌≡◌, ◌≤◌, ◌<◌, ◌&&◌, ℕ, suc, Bool, true, List, Result, Ok, Err, [], ◌∷◌, length, map, ◌++◌, append-nil, refl, sym, subst, ap, eqb-true, inl, inr, ◌∙◌, arith}
 use Rattle.std.specs.List.{list_all, list_any, AllByRecursion}
 use Rattle.std.specs.Prelude.{IsOk, MatchResult, nat_eq, nat_le}
 use Rattle.std.specs.Str.{IsUtf8}

@@ -8,5 +8,6 @@ mod StringLemmas
 mod KeyLemmas
 mod LineLemmas
 mod LinePieces
+mod LfLemmas
 mod ReadingLemmas
 mod CasesExample

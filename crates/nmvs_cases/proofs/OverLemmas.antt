@@ -1,10 +1,9 @@
 -- What lines made of a case stays.
-use Rattle.std.proofs.Common.{◌≡◌, ℕ, List, [], ◌∷◌, ◌++◌, Option, Some, None, refl}
+use Rattle.std.proofs.Common.{◌≡◌, [], ◌∷◌, ◌++◌, Option, Some, None, refl}
 use Rattle.std.specs.Option.{option_and_then}
-use Rattle.nmvs_identifier.specs.ProductCode.{ProductCode}
 use Rattle.nmvs_cases.specs.declared.case.Case.{Case}
 use Rattle.nmvs_cases.specs.Cases.{on}
-use Rattle.nmvs_cases.specs.Laws.{CasesStay, Over, case_over}
+use Rattle.nmvs_cases.specs.Laws.{CasesStay, case_over}
 
 pub stay : CasesStay
 stay c n [] later s = refl

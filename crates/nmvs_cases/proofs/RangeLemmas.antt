@@ -1,7 +1,6 @@
 -- A line is about its own alerts.
-use Rattle.std.proofs.Common.{◌≡◌, ◌<◌, ◌&&◌, ℕ, Bool, true, false, cond, Option, Some, None, refl, sym, subst, ap, ◌∙◌, arith}
+use Rattle.std.proofs.Common.{◌≡◌, ◌<◌, ◌&&◌, ℕ, Bool, true, false, cond, Option, Some, None, refl, ap, ◌∙◌, arith}
 use Rattle.std.specs.Prelude.{nat_le}
-use Rattle.std.specs.Str.{bytes_eq}
 use Rattle.std.proofs.lemmas.Bool.Decides.{nat_tests}
 use Rattle.nmvs_identifier.specs.ProductCode.{ProductCode}
 use Rattle.nmvs_identifier.specs.Texts.{same_text}
@@ -12,7 +11,6 @@ use Rattle.nmvs_cases.specs.declared.range.Hinted.{Hinted}
 use Rattle.nmvs_cases.specs.declared.range.Hinted.TheVariants.{Only}
 use Rattle.nmvs_cases.specs.Authors.{author_reader, author_user}
 use Rattle.nmvs_cases.specs.Cases.{after, has, is_hinted, on}
-use Rattle.nmvs_cases.specs.Hints.{hint_word}
 use Rattle.nmvs_cases.specs.Laws.{RangesHaveTheirOwn}
 
 -- four tests of which one fails

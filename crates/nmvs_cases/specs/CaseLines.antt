@@ -1,5 +1,5 @@
 -- The lines of acts on alerts: each act as one line of JSON without blanks (own).
-use Rattle.std.specs.Prelude.{ℕ, ◌≤◌, ◌<◌, ◌^◌, Bool, true, false, ◌==◌, ◌||◌, List, [], ◌∷◌, ◌++◌, codes, decimal, Option, Some, None, IsTrue, IsUtf8, if◌then◌else◌}
+use Rattle.std.specs.Prelude.{ℕ, ◌<◌, ◌^◌, Bool, true, false, ◌==◌, ◌||◌, List, [], ◌∷◌, ◌++◌, codes, decimal, Option, Some, None, IsTrue, IsUtf8, if◌then◌else◌}
 use Rattle.std.specs.List.{flat_map}
 use Rattle.nmvs_identifier.specs.Moment.{is_moment}
 use Rattle.nmvs_identifier.specs.ProductCode.{is_product_code}

@@ -1,6 +1,6 @@
 -- The laws of hints and cases, in the words of operations (own, for Article 37(d)).
-use Rattle.std.specs.Prelude.{ℕ, ◌≡◌, ◌≤◌, ◌<◌, ◌+◌, ◌⊎◌, Bool, true, false, List, [], ◌∷◌, ◌++◌, find, Option, Some, None}
-use Rattle.std.specs.List.{list_any}
+use Rattle.std.specs.Prelude.{ℕ, ◌≡◌, ◌≤◌, ◌<◌, ◌+◌, ◌⊎◌, ◌==◌, not, Bool, true, false, List, [], ◌∷◌, ◌++◌, find, Option, Some, None}
+use Rattle.std.specs.List.{list_all, list_any}
 use Rattle.std.specs.Option.{is_some, option_and_then}
 use Rattle.std.specs.Str.{bytes_eq}
 use Rattle.nmvs_identifier.specs.Name.{Name}
@@ -23,6 +23,8 @@ use Rattle.nmvs_cases.specs.declared.hint.Hint.{Hint}
 use Rattle.nmvs_cases.specs.declared.hint.Hint.TheVariants.{Late, Own, House}
 use Rattle.nmvs_cases.specs.declared.line.CaseLine.{CaseLine}
 use Rattle.nmvs_cases.specs.declared.range.Hinted.TheVariants.{Only}
+use Rattle.nmvs_cases.specs.declared.written_line.WrittenLine.{WrittenLine}
+use Rattle.nmvs_cases.specs.CaseLines.{IsRanged, case_text}
 use Rattle.nmvs_cases.specs.Cases.{after, are_all, is_listed, on}
 use Rattle.nmvs_cases.specs.Hints.{hint_at, hint_word}
 
@@ -95,3 +97,7 @@ case_over c n (l ∷ ls) s = option_and_then (case_over c n ls) (on l.line s c n
 abbrev pub CasesStay : Type 0
 CasesStay =
     (c : ProductCode) (n : ℕ) (earlier later : List Over) (s : Case) → case_over c n (earlier ++ later) s ≡ option_and_then (case_over c n later) (case_over c n earlier s)
+
+-- no line of an act has an LF, so an LF ends it
+abbrev pub LinesHaveNoLf : Type 0
+LinesHaveNoLf = (w : WrittenLine) → IsRanged w → list_all (λ b. not (b == 10)) (case_text w) ≡ true

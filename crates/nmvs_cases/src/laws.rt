@@ -1,5 +1,5 @@
 //! Laws of hints and cases.
-ghost use Rattle.nmvs_cases.specs.Laws.{CasesStay, HintsAreTrue, NoneIsForgotten, RangesHaveTheirOwn};
+ghost use Rattle.nmvs_cases.specs.Laws.{CasesStay, HintsAreTrue, LinesHaveNoLf, NoneIsForgotten, RangesHaveTheirOwn};
 
 /// A hint says what the trail has (own). It does nothing.
 pub fn hints_are_true()
@@ -20,4 +20,9 @@ pub fn ranges_have_their_own()
 /// nothing.
 pub fn cases_stay()
     ensures { CasesStay }
+{}
+
+/// No line of an act has an LF, so an LF ends it (own). It does nothing.
+pub fn lines_have_no_lf()
+    ensures { LinesHaveNoLf }
 {}

@@ -23,7 +23,9 @@ pub use author::Author;
 pub use case::{Case, Informed};
 pub use hint::{Hint, hint_of, repeated_hint};
 pub use keyboard::{Keyboard, typed_pack};
-pub use laws::{cases_stay, hints_are_true, none_is_forgotten, ranges_have_their_own};
+pub use laws::{
+    cases_stay, hints_are_true, lines_have_no_lf, none_is_forgotten, ranges_have_their_own,
+};
 pub use line::CaseLine;
 pub use range::{Hinted, Range};
 pub use reading::read_case_line;

@@ -1,6 +1,7 @@
 //! The texts of acts.
 ghost use Rattle.std.specs.Prelude.{◌≡◌, ◌↔◌, IsTrue, IsSome, IfSome};
 ghost use Rattle.std.specs.List.{list_all};
+ghost use Rattle.nmvs_cases.specs.Texts as texts;
 ghost use Rattle.nmvs_cases.specs.Texts.{is_case_text, is_no_control};
 
 use arrayvec::ArrayString;
@@ -9,8 +10,8 @@ use std::marker::Model;
 /// The most bytes of a text of an act (own).
 pub const LONGEST_CASE_TEXT: usize = 400;
 
-/// What a user writes with an act (own): at most 400 bytes of UTF-8 without a control character of ASCII, so that it stands on
-/// one line. It may be empty.
+/// What a user writes with an act (own): at most 400 bytes of UTF-8 without a control character, U+0080 to U+009F among them, so
+/// that it stands on one line and says nothing to a terminal. It may be empty.
 #[derive(Drop)]
 pub struct CaseText {
     text: ArrayString<LONGEST_CASE_TEXT>,
@@ -34,7 +35,11 @@ impl CaseText {
         ensures accepts { IsSome result ↔ IsTrue (is_case_text text.now) }
         ensures kept { IfSome result (λ read. read.bytes ≡ text.now) }
     {
-        if text.len() > LONGEST_CASE_TEXT || !has_no_control(text.as_bytes()) {
+        let bytes = text.as_bytes();
+        if bytes.len() > LONGEST_CASE_TEXT
+            || !has_no_control(bytes)
+            || !lacks_later_controls(bytes)
+        {
             return None;
         }
         let mut kept = ArrayString::new();
@@ -56,4 +61,28 @@ fn has_no_control(bytes: &[u8]) -> bool
     ensures { result ≡ list_all is_no_control bytes.now }
 {
     bytes.iter().all(|b| *b >= b' ' && *b != 127)
+}
+
+/// Whether a text has no control character from U+0080 to U+009F.
+fn lacks_later_controls(text: &[u8]) -> bool
+    ensures { result ≡ texts.lacks_later_controls text.now }
+{
+    let mut rest = text;
+    while let [byte, later @ ..] = rest {
+        if *byte == 0xC2 && ends_control(later) {
+            return false;
+        }
+        rest = later;
+    }
+    true
+}
+
+/// Whether a byte follows that ends a control character after 0xC2.
+fn ends_control(rest: &[u8]) -> bool
+    ensures { result ≡ texts.ends_control rest.now }
+{
+    match rest {
+        [byte, ..] => *byte >= 0x80 && *byte <= 0x9F,
+        [] => false,
+    }
 }
