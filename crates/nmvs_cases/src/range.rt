@@ -16,6 +16,17 @@ pub enum Hinted {
 }
 
 impl Hinted {
+    /// Whether an alert with this hint, or with none, is one of these.
+    pub fn has(self, hint: Option<Hint>) -> bool
+        ensures { result ≡ cases.is_hinted self hint }
+    {
+        match (self, hint) {
+            (Hinted::Any, _) | (Hinted::Only(None), None) => true,
+            (Hinted::Only(Some(wanted)), Some(hint)) => wanted.word() == hint.word(),
+            _ => false,
+        }
+    }
+
     /// What stands for these hints: `*` for any, `-` for none, or the word of the hint.
     pub fn word(self) -> &'static str
         ensures { result.now ≡ hints.hinted_word self }
@@ -53,19 +64,6 @@ impl Range {
     pub fn has(&self, code: &ProductCode, number: u64, hint: Option<Hint>) -> bool
         ensures { result ≡ cases.has self.now code.now number hint }
     {
-        self.code == *code
-            && self.first <= number
-            && number <= self.last
-            && is_hinted(self.hinted, hint)
-    }
-}
-
-fn is_hinted(hinted: Hinted, hint: Option<Hint>) -> bool
-    ensures { result ≡ cases.is_hinted hinted hint }
-{
-    match (hinted, hint) {
-        (Hinted::Any, _) | (Hinted::Only(None), None) => true,
-        (Hinted::Only(Some(wanted)), Some(hint)) => wanted.word() == hint.word(),
-        _ => false,
+        self.code == *code && self.first <= number && number <= self.last && self.hinted.has(hint)
     }
 }

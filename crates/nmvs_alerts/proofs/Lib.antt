@@ -1,0 +1,4 @@
+mod AlertLemmas
+mod EntryLemmas
+mod FollowLemmas
+mod JsonLemmas

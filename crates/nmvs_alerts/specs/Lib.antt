@@ -1,0 +1,11 @@
+pub mod Alerts
+pub mod Entries
+pub mod Following
+pub mod Json
+pub mod Judging
+pub mod One
+pub mod Pages
+pub mod Rows
+pub mod Selection
+pub mod Story
+pub mod Viewing
