@@ -1,0 +1,95 @@
+//! The library's side: what readers ask, and how an act is carried out.
+use crate::query::Asked;
+use crate::refusal::Refusal;
+use nmvs_alerts::{Behind, Investigation, Request, Status, answer};
+pub(crate) use nmvs_alerts::{AlertFilter, Format, Wanted};
+use nmvs_cases::{Act, Author, CaseLine};
+use nmvs_identifier::Name;
+use nmvs_rules::Actor;
+use std::alloc::{AllocError, Global};
+
+/// What an answer is made of.
+#[derive(Clone, Copy)]
+pub(crate) struct Basis<'r> {
+    pub investigation: &'r Investigation,
+    /// The users that are enrolled.
+    pub enrolled: &'r [(Name, Actor)],
+    /// Why the replica does not go on, or nothing.
+    pub fault: &'r str,
+}
+
+/// The answer to what an author asks for, or its refusal.
+pub(crate) fn answer_of(
+    alloc: Global,
+    basis: &Basis<'_>,
+    author: &Author,
+    asked: &Asked,
+    form: Format,
+) -> Result<Vec<u8>, Refusal> {
+    let request = match *asked {
+        Asked::Reader => Request::Reader(basis.fault),
+        Asked::Alerts(filter) => Request::Alerts(filter),
+        Asked::Alert(name) => Request::Alert(name),
+        Asked::Range(code, hinted) => Request::Range(code, hinted),
+        Asked::Numbers => Request::Numbers,
+        Asked::Entries(filter, after) => Request::Entries(filter, after),
+        Asked::Houses(since, after) => {
+            Request::Houses(basis.enrolled, since.to_plain().to_unix_epoch_day(), after)
+        }
+    };
+    let mut bytes = Vec::new(alloc);
+    match answer(
+        alloc,
+        basis.investigation,
+        author,
+        &request,
+        form,
+        &mut bytes,
+    )? {
+        Status::Found => Ok(bytes),
+        Status::NoAlert => Err(Refusal::NoAlert),
+        Status::NotYours => Err(Refusal::NotYours),
+    }
+}
+
+/// Carries out an act, and returns how many alerts it is about. If it is refused, nothing changes.
+pub(crate) fn carry_out(
+    investigation: &mut Investigation,
+    line: &CaseLine,
+) -> Result<u64, Refusal> {
+    if line.at != investigation.len() as u64 {
+        return Err(Refusal::State);
+    }
+    let alerts = investigation.judge(line)?;
+    investigation.act(line)?;
+    Ok(alerts)
+}
+
+/// The answer to an act that was done on this number of alerts.
+pub(crate) fn done_text(alloc: Global, act: Act, alerts: u64) -> Result<String, AllocError> {
+    let case = state_after(act);
+    format!(in alloc; "{{\"case\":\"{case}\",\"alerts\":{alerts}}}")
+}
+
+/// The word of the state that an act leaves; nothing for a note, which changes none.
+fn state_after(act: Act) -> &'static str {
+    match act {
+        Act::Take => "TAKEN",
+        Act::Leave | Act::Reopen => "OPEN",
+        Act::Note => "",
+        Act::Close(_) => "CLOSED",
+        Act::Confirm | Act::Inform(_) => "CONFIRMED",
+    }
+}
+
+/// The place in the list of alerts that a text names.
+pub(crate) fn behind_named(text: &str) -> Option<Behind> {
+    let (letter, place) = text.split_at_checked(1)?;
+    let hinted = match letter {
+        "h" => true,
+        "u" => false,
+        _ => return None,
+    };
+    let place = place.parse().ok()?;
+    Some(Behind { hinted, place })
+}
