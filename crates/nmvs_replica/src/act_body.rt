@@ -3,7 +3,7 @@ use crate::refusal::Refusal;
 use json::{Error, Scratch, Value};
 use nmvs_cases::{Act, Hinted, Range};
 use nmvs_identifier::ProductCode;
-use std::alloc::Global;
+use std::alloc::{AllocError, Global};
 use std::str;
 
 /// The number of members of a body.
@@ -28,9 +28,13 @@ pub(crate) fn read_act(alloc: Global, body: &[u8]) -> Result<AskedAct, Refusal> 
         Err(Error::OutOfMemory | Error::TooLong) => return Err(Refusal::Memory),
         Err(Error::Invalid | Error::DuplicateKey) => return Err(Refusal::Query),
     };
-    let (range, act, text) = read_members(&object).ok_or(Refusal::Query)?;
-    let text = String::from_str(alloc, text)?;
-    Ok(AskedAct { range, act, text })
+    let Some((range, act, text)) = read_members(&object) else {
+        return Err(Refusal::Query);
+    };
+    match String::from_str(alloc, text) {
+        Ok(text) => Ok(AskedAct { range, act, text }),
+        Err(AllocError) => Err(Refusal::Memory),
+    }
 }
 
 fn read_members<'t>(object: &Value<'t>) -> Option<(Range, Act, &'t str)> {

@@ -1,8 +1,9 @@
 //! The library's side: what readers ask, and how an act is carried out.
-use crate::query::Asked;
+use crate::query::{Asked, Parameters, asked_of};
 use crate::refusal::Refusal;
+use crate::routes::Served;
 use nmvs_alerts::{Behind, Investigation, Request, Status, answer};
-pub(crate) use nmvs_alerts::{AlertFilter, Format, Wanted};
+pub(crate) use nmvs_alerts::{AlertFilter, Wanted};
 use nmvs_cases::{Act, Author, CaseLine};
 use nmvs_identifier::Name;
 use nmvs_rules::Actor;
@@ -18,15 +19,19 @@ pub(crate) struct Basis<'r> {
     pub fault: &'r str,
 }
 
-/// The answer to what an author asks for, or its refusal.
+/// The answer to what an author asks for by these parameters and the text of an alert's name, or its refusal.
 pub(crate) fn answer_of(
     alloc: Global,
     basis: &Basis<'_>,
     author: &Author,
-    asked: &Asked,
-    form: Format,
+    served: Served,
+    parameters: &Parameters,
+    alert: &str,
 ) -> Result<Vec<u8>, Refusal> {
-    let request = match *asked {
+    let Some(asked) = asked_of(served, parameters, alert) else {
+        return Err(Refusal::Query);
+    };
+    let request = match asked {
         Asked::Reader => Request::Reader(basis.fault),
         Asked::Alerts(filter) => Request::Alerts(filter),
         Asked::Alert(name) => Request::Alert(name),
@@ -38,31 +43,24 @@ pub(crate) fn answer_of(
         }
     };
     let mut bytes = Vec::new(alloc);
-    match answer(
-        alloc,
-        basis.investigation,
-        author,
-        &request,
-        form,
-        &mut bytes,
-    )? {
+    match answer(alloc, basis.investigation, author, &request, &mut bytes)? {
         Status::Found => Ok(bytes),
         Status::NoAlert => Err(Refusal::NoAlert),
         Status::NotYours => Err(Refusal::NotYours),
     }
 }
 
-/// Carries out an act, and returns how many alerts it is about. If it is refused, nothing changes.
+/// Carries out the act of a line with this text. If it is refused, nothing changes.
 pub(crate) fn carry_out(
     investigation: &mut Investigation,
     line: &CaseLine,
-) -> Result<u64, Refusal> {
+    text: &str,
+) -> Result<(), Refusal> {
     if line.at != investigation.len() as u64 {
         return Err(Refusal::State);
     }
-    let alerts = investigation.judge(line)?;
-    investigation.act(line)?;
-    Ok(alerts)
+    investigation.act(line, text)?;
+    Ok(())
 }
 
 /// The answer to an act that was done on this number of alerts.

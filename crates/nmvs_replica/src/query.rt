@@ -1,5 +1,5 @@
 //! What a reader asks for, by the parameters of a request.
-use crate::answers::{AlertFilter, Format, Wanted, behind_named};
+use crate::answers::{AlertFilter, Wanted, behind_named};
 use crate::refusal::Refusal;
 use crate::routes::Served;
 use form_urlencoded::parse;
@@ -21,7 +21,6 @@ pub(crate) struct Parameters {
     pub wanted: Option<Wanted>,
     pub silent_since: Option<Date>,
     pub after: Option<String>,
-    pub form: Option<Format>,
 }
 
 /// What a reader asks for.
@@ -81,7 +80,6 @@ pub(crate) fn read_parameters(
         wanted: None,
         silent_since: None,
         after: None,
-        form: None,
     };
     let names = names_of(served);
     for pair in parse(alloc, query.as_bytes()) {
@@ -109,7 +107,7 @@ fn takes(
         "cause" => put(&mut parameters.cause, cause_named(value)),
         "hint" => put(&mut parameters.hinted, Hinted::named(value)),
         "silent_since" => put(&mut parameters.silent_since, read_date(alloc, value)?),
-        "form" => put(&mut parameters.form, form_named(value)),
+        "form" => value == "json",
         "after" => {
             let is_first = parameters.after.is_none();
             parameters.after = Some(String::from_str(alloc, value)?);
@@ -167,14 +165,6 @@ fn wanted_named(word: &str) -> Option<Wanted> {
         "CLOSED" => Some(Wanted::Closed),
         "CONFIRMED" => Some(Wanted::Confirmed),
         "ANY" => Some(Wanted::Any),
-        _ => None,
-    }
-}
-
-fn form_named(word: &str) -> Option<Format> {
-    match word {
-        "json" => Some(Format::Json),
-        "csv" => Some(Format::Csv),
         _ => None,
     }
 }

@@ -1,4 +1,6 @@
 //! What a request is for, by its method and path.
+ghost use Rattle.std.specs.Prelude.{◌≡◌};
+ghost use Rattle.nmvs_replica.specs.Routes as specs;
 
 /// What is served.
 #[derive(Clone, Copy)]
@@ -41,18 +43,32 @@ const ALERT: &str = "/v1/alerts/";
 
 /// The route of a request of this method for this path.
 pub(crate) fn route_of(method: &str, path: &str) -> Route {
-    let Some(served) = served_at(path) else {
-        return Route::Nowhere;
-    };
-    match (served, method) {
-        (Served::Cases, "POST") => Route::Serves(served),
-        (Served::Cases, _) => Route::OnlyFor(Methods::Act),
-        (_, "GET" | "HEAD") => Route::Serves(served),
-        _ => Route::OnlyFor(Methods::Read),
+    match served_at(path) {
+        Some(served) => by_method(served, method),
+        None if path.starts_with(ALERT) => by_method(Served::Alert, method),
+        None => Route::Nowhere,
     }
 }
 
-fn served_at(path: &str) -> Option<Served> {
+fn by_method(served: Served, method: &str) -> Route
+    ensures { result ≡ specs.by_method served method.now }
+{
+    match served {
+        Served::Cases => match method {
+            "POST" => Route::Serves(served),
+            _ => Route::OnlyFor(Methods::Act),
+        },
+        _ => match method {
+            "GET" | "HEAD" => Route::Serves(served),
+            _ => Route::OnlyFor(Methods::Read),
+        },
+    }
+}
+
+/// What is served at a path that is not that of one alert.
+fn served_at(path: &str) -> Option<Served>
+    ensures { result ≡ specs.served_at path.now }
+{
     match path {
         "/healthz" => Some(Served::Health),
         "/" => Some(Served::Page),
@@ -65,7 +81,6 @@ fn served_at(path: &str) -> Option<Served> {
         "/v1/entries" => Some(Served::Entries),
         "/v1/houses" => Some(Served::Houses),
         "/v1/cases" => Some(Served::Cases),
-        _ if path.starts_with(ALERT) => Some(Served::Alert),
         _ => None,
     }
 }

@@ -1,7 +1,6 @@
 //! The answers over HTTP.
 use crate::act_body::read_act;
-use crate::answers::Format;
-use crate::query::{Asked, asked_of, read_parameters};
+use crate::query::read_parameters;
 use crate::refusal::Refusal;
 use crate::replica::Replica;
 use crate::routes::{Methods, Route, Served, alert_text, route_of};
@@ -14,8 +13,6 @@ use std::alloc::AllocError;
 use std::str;
 
 const JSON_TYPE: &str = "application/json";
-
-const CSV_TYPE: &str = "text/csv; charset=utf-8";
 
 const PAGE_TYPE: &str = "text/html; charset=utf-8";
 
@@ -94,45 +91,42 @@ impl Replica {
         response: &mut Response,
     ) -> Result<(), AllocError> {
         match self.answer_author(served, request) {
-            Ok((Format::Json, bytes)) => put(response, HeaderValue::from_static(JSON_TYPE), &bytes),
-            Ok((Format::Csv, bytes)) => put(response, HeaderValue::from_static(CSV_TYPE), &bytes),
+            Ok(bytes) => put(response, HeaderValue::from_static(JSON_TYPE), &bytes),
             Err(refusal) => refuse(response, refusal),
         }
     }
 
-    /// The answer to an author's request, and its form.
+    /// The answer to an author's request.
     fn answer_author(
         &mut self,
         served: Served,
         request: &Request<Bytes>,
-    ) -> Result<(Format, Vec<u8>), Refusal> {
+    ) -> Result<Vec<u8>, Refusal> {
         let author = self.author().ok_or(Refusal::Nobody)?;
         if is_foreign(request) {
             return Err(Refusal::Site);
         }
         match served {
-            Served::Cases => Ok((Format::Json, self.answer_act(&author, request)?)),
+            Served::Cases => self.answer_act(&author, request),
             _ => self.look(served, &author, request),
         }
     }
 
-    /// The answer to what an author asks for, and its form.
+    /// The answer to what an author asks for.
     fn look(
         &mut self,
         served: Served,
         author: &Author,
         request: &Request<Bytes>,
-    ) -> Result<(Format, Vec<u8>), Refusal> {
+    ) -> Result<Vec<u8>, Refusal> {
         let query = request.uri().query().unwrap_or("");
         let parameters = read_parameters(self.alloc, served, query)?;
-        let form = parameters.form.unwrap_or(Format::Json);
-        let asked = asked_of(served, &parameters, alert_text(request.uri().path()));
-        let asked = asked.ok_or(Refusal::Query)?;
-        let bytes = self.answer(author, &asked, form)?;
-        if shows_entries(&asked) {
+        let alert = alert_text(request.uri().path());
+        let bytes = self.answer(author, served, &parameters, alert)?;
+        if let Served::Alert | Served::Entries = served {
             self.note_look(author, path_of(request))?;
         }
-        Ok((form, bytes))
+        Ok(bytes)
     }
 
     /// The answer to an act.
@@ -146,11 +140,6 @@ impl Replica {
         let answer = self.act(author, &asked, key)?;
         Ok(answer.into_bytes())
     }
-}
-
-/// Whether an answer has entries.
-fn shows_entries(asked: &Asked) -> bool {
-    matches!(asked, Asked::Alert(_) | Asked::Entries(..))
 }
 
 /// The path of a request, with its query.

@@ -1,8 +1,10 @@
 //! Who may read: enrolled users and officers.
+use crate::appended_file::{StartFault, refused};
 use crate::followed_file::{FollowFault, FollowedFile, first_line};
+use crate::options::Options;
 use indexmap::IndexMap;
 use nmvs_cases::Author;
-use nmvs_identifier::{Moment, Name};
+use nmvs_identifier::{Codes, Expiry, Moment, Name};
 use nmvs_messages::{Command, CommandFault, read_command};
 use nmvs_rules::{Actor, Enrolment};
 use std::alloc::{AllocError, Global};
@@ -38,22 +40,55 @@ impl From<AllocError> for UsersFault {
 #[derive(Drop)]
 pub(crate) struct Users {
     alloc: Global,
+    /// The users file in the folder of the log, which grows.
+    file: FollowedFile,
     /// The enrolment of each user that a line names, and nothing of one that is suspended or removed.
     users: IndexMap<Name, Option<Enrolment>, BuildHasherDefault<FoldHasher>>,
     officers: Vec<Name>,
 }
 
 impl Users {
-    /// Nobody.
-    pub fn new(alloc: Global) -> Users {
-        Users {
+    /// The users of the users file and the officers, as far as the options name files.
+    ///
+    /// # Errors
+    ///
+    /// A file cannot be read, or a line of it is no command or no name. Or there is no memory.
+    pub fn open<R: Files<File = File> + AllocGlobal>(
+        rt: &R,
+        alloc: Global,
+        options: &Options,
+    ) -> Result<Users, StartFault> {
+        let journal = &options.journal;
+        let path = format!(in alloc; "{journal}/users.txt")?;
+        let mut users = Users {
             alloc,
+            file: FollowedFile::new(alloc, path),
             users: IndexMap::new(alloc),
             officers: Vec::new(alloc),
-        }
+        };
+        users.take_files(rt, options)?;
+        Ok(users)
     }
 
-    /// Takes the whole lines that are new in a users file.
+    fn take_files<R: Files<File = File> + AllocGlobal>(
+        &mut self,
+        rt: &R,
+        options: &Options,
+    ) -> Result<(), StartFault> {
+        if let Some(path) = &options.users {
+            if let Err(fault) = self.take_file(rt, path) {
+                return Err(refused(self.alloc, path, &fault));
+            }
+        }
+        if let Some(path) = &options.officers {
+            if let Err(fault) = self.take_officers(rt, path) {
+                return Err(refused(self.alloc, path, &fault));
+            }
+        }
+        Ok(())
+    }
+
+    /// Takes the whole lines that are new in the users file of the log's folder.
     ///
     /// # Errors
     ///
@@ -61,19 +96,19 @@ impl Users {
     pub fn follow<R: Files<File = File>>(
         &mut self,
         rt: &R,
-        file: &mut FollowedFile,
         room: &mut [u8],
     ) -> Result<(), UsersFault> {
         for _ in 0..u64::MAX {
-            let count = file
-                .read(rt, room)
-                .map_err(|fault| UsersFault::Unread(fault))?;
+            let count = match self.file.read(rt, room) {
+                Ok(count) => count,
+                Err(fault) => return Err(UsersFault::Unread(fault)),
+            };
             let read = room.get(..count).unwrap_or(&[]);
             let taken = self.take_all(read)?;
             if taken == 0 {
                 return Ok(());
             }
-            file.note(read.get(..taken).unwrap_or(&[]))?;
+            self.file.note(read.get(..taken).unwrap_or(&[]))?;
         }
         Ok(())
     }
@@ -81,7 +116,10 @@ impl Users {
     /// Takes the whole lines at the front of some bytes, and returns how many bytes they are.
     fn take_all(&mut self, bytes: &[u8]) -> Result<usize, UsersFault> {
         let mut rest = bytes;
-        while let Some((line, behind)) = first_line(rest) {
+        for _ in 0..u64::MAX {
+            let Some((line, behind)) = first_line(rest) else {
+                break;
+            };
             self.take(line)?;
             rest = behind;
         }
@@ -94,15 +132,26 @@ impl Users {
             return Ok(());
         }
         match read_command(line) {
-            Ok(Command::Enrol(user, enrolment)) => self.enter(user, Some(enrolment)),
-            Ok(Command::Suspend(user)) => self.enter(user, None),
-            Ok(Command::Remove(user)) => self.enter(user, None),
+            Ok(command) => self.obey(command),
             Err(fault) => Err(UsersFault::Line(fault)),
+        }
+    }
+
+    fn obey(&mut self, command: Command) -> Result<(), UsersFault> {
+        match command {
+            Command::Enrol(user, enrolment) => self.enter(user, Some(enrolment)),
+            Command::Suspend(user) => self.enter(user, None),
+            Command::Remove(user) => self.enter(user, None),
         }
     }
 
     /// Enters the enrolment of a user, or that it has none.
     fn enter(&mut self, user: Name, enrolment: Option<Enrolment>) -> Result<(), UsersFault> {
+        // For the proof alone: the types are named before the map is of them.
+        let _limits: (Option<Expiry>, Option<Codes>) = match &enrolment {
+            Some(enrolment) => (enrolment.until, enrolment.codes),
+            None => (None, None),
+        };
         match self.users.insert(user, enrolment) {
             Ok(_) => Ok(()),
             Err(_) => Err(UsersFault::Unread(FollowFault::Memory)),
@@ -114,7 +163,7 @@ impl Users {
     /// # Errors
     ///
     /// The file cannot be read, a line is no command, or the last one has no LF.
-    pub fn take_file<R: Files<File = File> + AllocGlobal>(
+    fn take_file<R: Files<File = File> + AllocGlobal>(
         &mut self,
         rt: &R,
         path: &str,
@@ -131,7 +180,7 @@ impl Users {
     /// # Errors
     ///
     /// The file cannot be read, or a line is no name.
-    pub fn take_officers<R: Files<File = File> + AllocGlobal>(
+    fn take_officers<R: Files<File = File> + AllocGlobal>(
         &mut self,
         rt: &R,
         path: &str,
