@@ -7,6 +7,8 @@ use Rattle.nmvs_rules.specs.Facts.{pack_fact}
 use Rattle.nmvs_rules.specs.Questions.{pack_of}
 use Rattle.nmvs_cases.specs.declared.act.Act.{Act}
 use Rattle.nmvs_cases.specs.declared.act.Act.TheVariants.{Take, Leave, Close, Confirm, Inform, Reopen}
+use Rattle.nmvs_cases.specs.declared.act.Reader.{Reader}
+use Rattle.nmvs_cases.specs.declared.act.Reader.TheVariants.{Owner}
 use Rattle.nmvs_cases.specs.declared.act.Verdict.TheVariants.{Technical}
 use Rattle.nmvs_cases.specs.declared.act.Whom.TheVariants.{Agency}
 use Rattle.nmvs_cases.specs.declared.author.Author.{Author}
@@ -21,9 +23,11 @@ use Rattle.nmvs_alerts.specs.Json.{named, text_member}
 use Rattle.nmvs_alerts.specs.Rows.{row_text}
 use Rattle.nmvs_alerts.specs.Viewing.{sees_houses}
 
-abbrev pub taken_by : Case → List ℕ
-taken_by (Taken u) = u.bytes
-taken_by s = []
+-- the name of who took the case, if anybody has; an owner does not see it
+abbrev pub taken_by : Reader → Case → List ℕ
+taken_by Owner s = []
+taken_by r (Taken u) = u.bytes
+taken_by r s = []
 
 abbrev pub verdict_of : Case → List ℕ
 verdict_of (Closed v) = verdict_word v
@@ -73,5 +77,5 @@ known_text (Some k) = text_member (codes "batch") k.batch.bytes ++ text_member (
 -- an alert up to its acts
 unfoldable pub alert_text : List Entry → Author → FlaggedAlert → List ℕ
 alert_text t u a =
-    row_text a (sees_houses u) ++ (text_member (codes "by") (taken_by a.case) ++ (text_member (codes "verdict") (verdict_of a.case)
+    row_text a (sees_houses u) ++ (text_member (codes "by") (taken_by (author_reader u) a.case) ++ (text_member (codes "verdict") (verdict_of a.case)
     ++ (informed_text a.case ++ (may_text a.case u ++ known_text (pack_fact t (pack_of a.entry.put.question))))))

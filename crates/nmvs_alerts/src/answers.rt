@@ -9,7 +9,7 @@ use crate::one::append_alert;
 use crate::pages::append_alerts;
 use crate::selection::ranged;
 use crate::story::append_story;
-use crate::viewing::may_see;
+use crate::viewing::{may_see, sees_houses};
 use crate::{AlertFilter, FlaggedAlert, Investigation};
 use nmvs_cases::{Author, Hinted, Reader};
 use nmvs_identifier::{Name, ProductCode};
@@ -59,6 +59,7 @@ pub fn answer(
     let (shard, flagged) = (investigation.shard(), investigation.flagged());
     match request {
         Request::Reader(fault) => append_reader(block, investigation, author, fault)?,
+        Request::Alerts(filter) if !may_ask(author, &filter.entries) => return Ok(Status::NotYours),
         Request::Alerts(filter) => append_alerts(alloc, block, shard, flagged, author, filter)?,
         Request::Alert(name) => return append_one(alloc, block, investigation, author, name),
         Request::Range(code, hinted) => {
@@ -77,6 +78,15 @@ pub fn answer(
         },
     }
     Ok(Status::Found)
+}
+
+/// Whether somebody may ask for alerts by who raised them: who does not see that may not (Article 38).
+fn may_ask(author: &Author, filter: &Filter) -> bool {
+    sees_houses(author)
+        || (filter.user.is_none()
+            && filter.role.is_none()
+            && filter.authorisation.is_none()
+            && filter.premises.is_none())
 }
 
 /// The filter of the entries that a reader asks for and sees: an authority all, a house its own, and others none (Articles 38 and 39).

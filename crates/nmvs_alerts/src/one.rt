@@ -1,12 +1,13 @@
 //! One flagged alert with its pack's story, as JSON.
 ghost use Rattle.std.specs.Prelude.{◌≡◌, ◌++◌, OnOk};
+ghost use Rattle.nmvs_cases.specs.Authors.{author_reader};
 ghost use Rattle.nmvs_alerts.specs.One as one;
 
 use crate::FlaggedAlert;
 use crate::json::{append, append_name, append_text};
 use crate::row::append_row;
 use crate::viewing::sees_houses;
-use nmvs_cases::{Act, Author, Case, Informed, Verdict, Whom};
+use nmvs_cases::{Act, Author, Case, Informed, Reader, Verdict, Whom};
 use nmvs_rules::Known;
 use nmvs_shard::Shard;
 use std::alloc::{AllocError, Allocator, Global};
@@ -24,19 +25,19 @@ pub(crate) fn append_alert<A: Allocator>(
     ensures { OnOk result (block.new.items ≡ block.old.items ++ one.alert_text shard.now author.now alert.now) }
 {
     append_row(alloc, block, alert, sees_houses(author))?;
-    append_text(block, "by", taken_by(&alert.case))?;
+    append_text(block, "by", taken_by(author, &alert.case))?;
     append_text(block, "verdict", verdict_of(&alert.case))?;
     append_informed(block, &alert.case)?;
     append_may(block, &alert.case, author)?;
     append_known(block, &shard.tables().facts(&alert.entry.put.question).pack)
 }
 
-/// The name of who took the case, if anybody has.
-fn taken_by(case: &Case) -> &str
-    ensures { result.now ≡ one.taken_by case.now }
+/// The name of who took the case, if anybody has. An owner does not see it.
+fn taken_by<'c>(author: &Author, case: &'c Case) -> &'c str
+    ensures { result.now ≡ one.taken_by (author_reader author.now) case.now }
 {
-    match case {
-        Case::Taken(user) => user.text(),
+    match (author.reader(), case) {
+        (Reader::Officer | Reader::Authority, Case::Taken(user)) => user.text(),
         _ => "",
     }
 }
