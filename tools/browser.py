@@ -9,8 +9,24 @@ import subprocess
 import time
 
 BOUND = 30  # seconds that any wait takes at most
-CODES = {"Enter": 13, "Escape": 27, "Tab": 9, " ": 32, "ArrowRight": 39, "F2": 113, "F3": 114, "F4": 115, "F6": 117, "F7": 118, "F8": 119, "F9": 120, "F10": 121}
+CODES = {"Enter": 13, "Escape": 27, "Tab": 9, " ": 32, "ArrowRight": 39, "ArrowDown": 40, "F2": 113, "F3": 114, "F4": 115, "F6": 117, "F7": 118, "F8": 119, "F9": 120, "F10": 121}
 CTRL, SHIFT = 2, 8
+# Each text whose contrast to what it stands on is too low: 4.5, of large letters 3 (WCAG 1.4.3).
+CONTRAST = """
+(() => {
+  const parts = color => color.match(/[\\d.]+/g).map(Number);
+  const light = ([r, g, b]) => [r, g, b].map(it => it / 255).map(it => it <= 0.04045 ? it / 12.92 : ((it + 0.055) / 1.055) ** 2.4).reduce((sum, it, place) => sum + it * [0.2126, 0.7152, 0.0722][place], 0);
+  const ground = it => { for (; it; it = it.parentElement) { const color = parts(getComputedStyle(it).backgroundColor); if (color[3] !== 0) return color } return [255, 255, 255] };
+  const bad = [];
+  for (const it of document.querySelectorAll('body *')) {
+    if (![...it.childNodes].some(node => node.nodeType === 3 && node.textContent.trim()) || !it.checkVisibility({ checkVisibilityCSS: true }) || it.closest('.off, dialog:not([open])')) continue;
+    const style = getComputedStyle(it), size = parseFloat(style.fontSize), large = size >= 24 || (size >= 18.66 && style.fontWeight >= 700);
+    const [one, other] = [light(parts(style.color)), light(ground(it))], ratio = (Math.max(one, other) + 0.05) / (Math.min(one, other) + 0.05);
+    if (ratio < (large ? 3 : 4.5)) bad.push([it.textContent.slice(0, 40), ratio]);
+  }
+  return bad;
+})()
+"""
 
 
 def have_chromium():
