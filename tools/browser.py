@@ -46,16 +46,17 @@ def pipe():
 
 
 class Browser:
-    """A page in Chromium, by the DevTools protocol over pipes. `early` is a script that runs before those of each page."""
+    """A page in Chromium, by the DevTools protocol over pipes. `early` is a script that runs before those of each page. Keys come at a
+    scanner's speed; without `scans` at their own moments, as they must where a key changes the address: else Chromium fails."""
 
-    def __init__(self, folder, early="", language="en"):
+    def __init__(self, folder, early="", language="en", scans=True):
         (read, self.commands), (self.events, write) = pipe(), pipe()
         words = ["chromium", "--headless=new", "--no-sandbox", "--disable-gpu", "--hide-scrollbars", "--remote-debugging-pipe", f"--user-data-dir={folder}", f"--lang={language}", f"--accept-lang={language}"]
         shell = ["bash", "-c", f'exec "$@" 3<&{read} 4>&{write}', "bash", *words]
         self.process = subprocess.Popen(shell, pass_fds=(read, write), stdout=subprocess.DEVNULL, stderr=subprocess.DEVNULL, env={**os.environ, "LANGUAGE": language})
         os.close(read)
         os.close(write)
-        self.number, self.rest, self.session, self.faults, self.early, self.moment = 0, b"", None, [], early, time.time()
+        self.number, self.rest, self.session, self.faults, self.early, self.moment, self.scans = 0, b"", None, [], early, time.time(), scans
         self.tab()
 
     def tab(self):
@@ -86,6 +87,8 @@ class Browser:
                 if "error" in event:
                     raise RuntimeError(f"{method}: {event['error']}")
                 return event["result"]
+            if event.get("method") == "Inspector.targetCrashed":
+                raise RuntimeError("the page has crashed")
             if event.get("method") == "Runtime.exceptionThrown":
                 self.faults.append(event["params"]["exceptionDetails"].get("exception", {}).get("description"))
             if event.get("method") == "Log.entryAdded" and not event["params"]["entry"]["text"].startswith("Failed to load resource"):
@@ -97,10 +100,11 @@ class Browser:
     def key(self, key, modifiers=0, pause=0.005):
         """Presses a key, so many seconds after the last one: that is a scanner's speed."""
         self.moment += pause
+        timestamp = {"timestamp": self.moment} if self.scans else {}
         text = {"text": key} if len(key) == 1 and not modifiers else {"text": "\r"} if key == "Enter" else {}
         for kind in ("keyDown", "keyUp"):
             more = text if kind == "keyDown" else {}
-            self.call("Input.dispatchKeyEvent", type=kind, key=key, modifiers=modifiers, windowsVirtualKeyCode=CODES.get(key, 0), timestamp=self.moment, **more)
+            self.call("Input.dispatchKeyEvent", type=kind, key=key, modifiers=modifiers, windowsVirtualKeyCode=CODES.get(key, 0), **timestamp, **more)
 
     def keys(self, text):
         """Types as a scanner that sends the separator as Ctrl+]."""
