@@ -23,7 +23,7 @@ const dayOf = seconds => new Date(1000 * seconds).toISOString().slice(0, 10);
 const dayAfter = (day, days) => dayOf(Date.parse(day) / 1000 + days * DAY);
 const utc = form => new Intl.DateTimeFormat(language, { timeZone: 'UTC', ...form });
 function clock(seconds) {
-  const it = make('time', '', `${utc({ dateStyle: 'medium', timeStyle: 'medium', hourCycle: 'h23' }).format(1000 * seconds)} UTC`);
+  const it = make('time', '', `${utc({ dateStyle: 'medium', timeStyle: 'medium', hourCycle: 'h23' }).format(1000 * seconds)}\u00a0UTC`);
   it.dateTime = new Date(1000 * seconds).toISOString();
   return it;
 }
@@ -82,12 +82,16 @@ async function doing(act) {
 }
 // No answer came at all: the act may be done or not. A person may send it again, with its key.
 function lost(again) {
-  const text = () => [say('note.lost'), ' ', button(say('note.send'), () => doing(async () => { done(await again()); await shown() }))];
+  const text = () => [say('note.lost'), ' ', button(say('note.send'), () => doing(() => doneBy(again())))];
   noted('warn', text);
 }
-const done = said => noted('good', () => say('note.done', { state: say(`state.${said.case}`), count: count(said.alerts) }));
-// Does an act on one alert and shows it as it is then.
-const perform = (alert, act, word, text) => doing(async () => { done(await send(orderOf(alert, act, word, text))); await shown() });
+// Once the answer is there, the view is shown as it is then, and the note says what was done.
+async function doneBy(answered) {
+  const said = await answered;
+  await shown();
+  noted('good', () => say('note.done', { state: say(`state.${said.case}`), count: count(said.alerts) }));
+}
+const perform = (alert, act, word, text) => doing(() => doneBy(send(orderOf(alert, act, word, text))));
 // The view after an act: the button that was pressed is gone, so the focus goes to the next letter, or to the heading.
 async function shown() {
   await show();
@@ -164,7 +168,9 @@ function ask(title, yes, ...inside) {
   dialog.returnValue = '';
   dialog.showModal();
   form.querySelector('input, select')?.focus();
-  return new Promise(answered => { dialog.onclose = () => answered(dialog.returnValue === 'yes' ? typed(form) : null) });
+  return new Promise(answered => {
+    dialog.onclose = () => { answered(dialog.returnValue === 'yes' ? typed(form) : null); form.replaceChildren() };
+  });
 }
 
 // ---- The words of the interface
@@ -245,7 +251,7 @@ function endNumbers(it) {
 // ---- The list, with boxes for who may take
 async function list(given) {
   const { alerts, next } = await get(`/v1/alerts?${query(given)}`);
-  const form = filters('list', listFields(given)), take = watches() ? [taking(alerts), ...alike(alerts)] : [];
+  const form = filters('list', listFields(given)), take = watches() ? [make('section', 'row', taking(alerts), ...alike(alerts))] : [];
   return [heading(say('view.list')), form, ...take, section('', alertTable(alerts)), ...following('list', given, next)];
 }
 function listFields(given) {
@@ -280,7 +286,7 @@ function showTicked() { $('take').textContent = say('take', { count: count(ticke
 function taking(alerts) {
   const it = button(say('take', { count: 0 }), () => takeAll(alerts.filter(one => ticked().includes(one.alert))), 'main');
   it.id = 'take';
-  return make('div', 'row', it);
+  return it;
 }
 // Takes one after another. What is in no state for it is left, and counted.
 function takeAll(alerts) {
@@ -290,16 +296,17 @@ function takeAll(alerts) {
     for (const it of alerts) {
       try { await send(orderOf(it, 'TAKE')) } catch (fault) { if (fault.message === 'AWAY') throw fault; left.push(it.alert) }
     }
-    noted(left.length ? 'warn' : 'good', () => say('note.taken', { count: count(alerts.length - left.length) }) + (left.length ? ` ${say('note.untaken', { alerts: left.join(', ') })}` : ''));
     await shown();
+    noted(left.length ? 'warn' : 'good', () => say('note.taken', { count: count(alerts.length - left.length) }) + (left.length ? ` ${say('note.untaken', { alerts: left.join(', ') })}` : ''));
   });
 }
 // One act for all alerts on a code with the same hint, for each such pair among the rows that are shown.
 function alike(alerts) {
   const pairs = new Map(alerts.filter(it => it.hint).map(it => [`${it.code} ${it.hint}`, it]));
   if (!pairs.size) return [];
-  const buttons = [...pairs.values()].map(it => button(make('span', '', hintName(it.hint), ' ', code(it.code)), () => closeAll(it.code, it.hint)));
-  return [section(say('alike'), make('div', 'row', ...buttons))];
+  const buttons = [...pairs.values()].map(it => button(make('span', '', hintName(it.hint), ' ', code(it.code)), () => closeAll(it.code, it.hint))), group = make('div', 'row', make('span', '', say('alike')), ...buttons);
+  group.setAttribute('role', 'group'); group.setAttribute('aria-label', say('alike'));
+  return [group];
 }
 async function closeAll(product, hint) {
   let range;
@@ -310,8 +317,8 @@ async function closeAll(product, hint) {
   if (!said) return;
   await doing(async () => {
     const closed = await closeRange({ code: product, ...range, hint, act: 'CLOSE', word: said.word, text: said.text ?? '' });
-    noted(closed ? 'good' : 'warn', () => say('note.closed', { count: count(closed) }));
     await shown();
+    noted(closed ? 'good' : 'warn', () => say('note.closed', { count: count(closed) }));
   });
 }
 // Closes a range in one act, and says how many alerts that were. An alert in it that was closed or confirmed before forbids the act:
