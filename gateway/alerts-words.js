@@ -6,7 +6,7 @@ const WORDS = {
     language: 'English', title: 'Alerts', views: 'Views', tongue: 'Language', recorded: 'Each act is recorded with the name of its user, and so is each page that shows entries.',
     view: { numbers: 'Numbers', list: 'List', houses: 'Silent houses', entries: 'Entries' }, reads: { OFFICER: 'officer', AUTHORITY: 'authority', HOLDER: 'holder', HOUSE: 'house' },
     judged: 'Entries judged: {count}.', judgedLast: 'The last is of', fault: 'The replica does not go on: {fault}. The page shows the entries that were judged before. Call the operator.',
-    none: 'None.', any: 'Any', worklist: 'Still to do', filters: 'Filters', filter: 'Show', unfilter: 'Without filters', next: 'Next page', never: 'never', csv: 'All of these as CSV', leave: 'Cancel', monthEnd: 'end of {month}', digits: '14 digits',
+    none: 'None.', any: 'Any', worklist: 'Still to do', filters: 'Filters', filter: 'Show', unfilter: 'Without filters', next: 'Next page', never: 'never', leave: 'Cancel', monthEnd: 'end of {month}', digits: '14 digits',
     field: {
       alert: 'Alert', alerts: 'Alerts', moment: 'Moment', cause: 'Cause', hint: 'Hint', house: 'House', state: 'State', week: 'Week of', verdict: 'Verdict', code: 'Product code', serial: 'Serial number', serialOrBatch: 'Serial number or batch', batch: 'Batch', expiry: 'Expiry', question: 'Question', reply: 'Reply',
       by: 'By', act: 'Act', text: 'Text', whom: 'Whom', when: 'Sent at (UTC)', reference: 'Reference', from: 'From day', to: 'To day', premises: 'Premises', user: 'User', role: 'Role', authorisation: 'Authorisation', last: 'Last entry', silent_since: 'Without an entry since', flagged: 'Flagged alerts alone', refused: 'Refused alone',
@@ -50,7 +50,7 @@ const WORDS = {
     language: 'Deutsch', title: 'Alarme', views: 'Ansichten', tongue: 'Sprache', recorded: 'Jede Handlung wird mit dem Namen des Benutzers gespeichert, ebenso jede Seite, die Einträge zeigt.',
     view: { numbers: 'Zahlen', list: 'Liste', houses: 'Stille Häuser', entries: 'Einträge' }, reads: { OFFICER: 'Beauftragter', AUTHORITY: 'Behörde', HOLDER: 'Inhaber', HOUSE: 'Haus' },
     judged: 'Geprüfte Einträge: {count}.', judgedLast: 'Der letzte ist von', fault: 'Das Abbild geht nicht weiter: {fault}. Die Seite zeigt die Einträge, die vorher geprüft wurden. Den Betreiber anrufen.',
-    none: 'Keine.', any: 'Alle', worklist: 'Zu bearbeiten', filters: 'Filter', filter: 'Zeigen', unfilter: 'Ohne Filter', next: 'Nächste Seite', never: 'nie', csv: 'Alle diese als CSV', leave: 'Abbrechen', monthEnd: 'Ende {month}', digits: '14 Ziffern',
+    none: 'Keine.', any: 'Alle', worklist: 'Zu bearbeiten', filters: 'Filter', filter: 'Zeigen', unfilter: 'Ohne Filter', next: 'Nächste Seite', never: 'nie', leave: 'Abbrechen', monthEnd: 'Ende {month}', digits: '14 Ziffern',
     field: {
       alert: 'Alarm', alerts: 'Alarme', moment: 'Zeitpunkt', cause: 'Ursache', hint: 'Hinweis', house: 'Haus', state: 'Stand', week: 'Woche ab', verdict: 'Urteil', code: 'Produktcode', serial: 'Seriennummer', serialOrBatch: 'Seriennummer oder Charge', batch: 'Charge', expiry: 'Verfall', question: 'Frage', reply: 'Antwort',
       by: 'Von', act: 'Handlung', text: 'Text', whom: 'Wen', when: 'Gesendet um (UTC)', reference: 'Aktenzeichen', from: 'Ab Tag', to: 'Bis Tag', premises: 'Betriebsstätte', user: 'Benutzer', role: 'Rolle', authorisation: 'Erlaubnis', last: 'Letzter Eintrag', silent_since: 'Ohne Eintrag seit', flagged: 'Nur markierte Alarme', refused: 'Nur Ablehnungen',
@@ -94,7 +94,7 @@ const WORDS = {
     language: 'Français', title: 'Alertes', views: 'Vues', tongue: 'Langue', recorded: 'Chaque acte est enregistré avec le nom de son utilisateur, et chaque page qui montre des entrées aussi.',
     view: { numbers: 'Chiffres', list: 'Liste', houses: 'Maisons silencieuses', entries: 'Entrées' }, reads: { OFFICER: 'chargé d’enquête', AUTHORITY: 'autorité', HOLDER: 'titulaire', HOUSE: 'maison' },
     judged: 'Entrées jugées : {count}.', judgedLast: 'La dernière est de', fault: 'La copie ne continue pas : {fault}. La page montre les entrées jugées avant. Appeler l’opérateur.',
-    none: 'Aucune.', any: 'Toutes', worklist: 'À traiter', filters: 'Filtres', filter: 'Montrer', unfilter: 'Sans filtres', next: 'Page suivante', never: 'jamais', csv: 'Toutes en CSV', leave: 'Abandonner', monthEnd: 'fin {month}', digits: '14 chiffres',
+    none: 'Aucune.', any: 'Toutes', worklist: 'À traiter', filters: 'Filtres', filter: 'Montrer', unfilter: 'Sans filtres', next: 'Page suivante', never: 'jamais', leave: 'Abandonner', monthEnd: 'fin {month}', digits: '14 chiffres',
     field: {
       alert: 'Alerte', alerts: 'Alertes', moment: 'Moment', cause: 'Cause', hint: 'Indice', house: 'Maison', state: 'État', week: 'Semaine du', verdict: 'Conclusion', code: 'Code produit', serial: 'Numéro de série', serialOrBatch: 'Numéro de série ou lot', batch: 'Lot', expiry: 'Péremption', question: 'Question', reply: 'Réponse',
       by: 'Par', act: 'Acte', text: 'Texte', whom: 'Qui', when: 'Envoyée à (UTC)', reference: 'Référence', from: 'Du jour', to: 'Au jour', premises: 'Locaux', user: 'Utilisateur', role: 'Rôle', authorisation: 'Autorisation', last: 'Dernière entrée', silent_since: 'Sans entrée depuis', flagged: 'Alertes signalées seules', refused: 'Refus seuls',
@@ -138,7 +138,7 @@ const WORDS = {
     language: 'Suomi', title: 'Hälytykset', views: 'Näkymät', tongue: 'Kieli', recorded: 'Jokainen toimi tallennetaan käyttäjän nimellä, samoin jokainen sivu, joka näyttää kirjauksia.',
     view: { numbers: 'Luvut', list: 'Luettelo', houses: 'Hiljaiset talot', entries: 'Kirjaukset' }, reads: { OFFICER: 'selvittäjä', AUTHORITY: 'viranomainen', HOLDER: 'haltija', HOUSE: 'talo' },
     judged: 'Arvioituja kirjauksia: {count}.', judgedLast: 'Viimeisin on ajalta', fault: 'Kopio ei jatka: {fault}. Sivu näyttää aiemmin arvioidut kirjaukset. Soita ylläpitäjälle.',
-    none: 'Ei yhtään.', any: 'Kaikki', worklist: 'Käsiteltävänä', filters: 'Suodattimet', filter: 'Näytä', unfilter: 'Ilman suodattimia', next: 'Seuraava sivu', never: 'ei koskaan', csv: 'Kaikki nämä CSV-muodossa', leave: 'Peruuta', monthEnd: '{month}, kuun loppu', digits: '14 numeroa',
+    none: 'Ei yhtään.', any: 'Kaikki', worklist: 'Käsiteltävänä', filters: 'Suodattimet', filter: 'Näytä', unfilter: 'Ilman suodattimia', next: 'Seuraava sivu', never: 'ei koskaan', leave: 'Peruuta', monthEnd: '{month}, kuun loppu', digits: '14 numeroa',
     field: {
       alert: 'Hälytys', alerts: 'Hälytyksiä', moment: 'Hetki', cause: 'Syy', hint: 'Vihje', house: 'Talo', state: 'Vaihe', week: 'Viikko alkaen', verdict: 'Päätelmä', code: 'Tuotekoodi', serial: 'Sarjanumero', serialOrBatch: 'Sarjanumero tai erä', batch: 'Erä', expiry: 'Viimeinen käyttöpäivä', question: 'Kysymys', reply: 'Vastaus',
       by: 'Tekijä', act: 'Toimi', text: 'Teksti', whom: 'Kenelle', when: 'Lähetetty (UTC)', reference: 'Viite', from: 'Päivästä', to: 'Päivään', premises: 'Toimipaikka', user: 'Käyttäjä', role: 'Rooli', authorisation: 'Lupa', last: 'Viimeinen kirjaus', silent_since: 'Ilman kirjausta alkaen', flagged: 'Vain merkityt hälytykset', refused: 'Vain hylkäykset',
@@ -182,7 +182,7 @@ const WORDS = {
     language: 'Polski', title: 'Alarmy', views: 'Widoki', tongue: 'Język', recorded: 'Każda czynność jest zapisywana z nazwą użytkownika, tak samo każda strona, która pokazuje wpisy.',
     view: { numbers: 'Liczby', list: 'Lista', houses: 'Milczące placówki', entries: 'Wpisy' }, reads: { OFFICER: 'prowadzący', AUTHORITY: 'organ', HOLDER: 'podmiot odpowiedzialny', HOUSE: 'placówka' },
     judged: 'Ocenione wpisy: {count}.', judgedLast: 'Ostatni jest z', fault: 'Kopia nie idzie dalej: {fault}. Strona pokazuje wpisy ocenione wcześniej. Zadzwoń do operatora.',
-    none: 'Brak.', any: 'Wszystkie', worklist: 'Do zrobienia', filters: 'Filtry', filter: 'Pokaż', unfilter: 'Bez filtrów', next: 'Następna strona', never: 'nigdy', csv: 'Wszystkie jako CSV', leave: 'Anuluj', monthEnd: 'koniec: {month}', digits: '14 cyfr',
+    none: 'Brak.', any: 'Wszystkie', worklist: 'Do zrobienia', filters: 'Filtry', filter: 'Pokaż', unfilter: 'Bez filtrów', next: 'Następna strona', never: 'nigdy', leave: 'Anuluj', monthEnd: 'koniec: {month}', digits: '14 cyfr',
     field: {
       alert: 'Alarm', alerts: 'Alarmy', moment: 'Chwila', cause: 'Przyczyna', hint: 'Wskazówka', house: 'Placówka', state: 'Stan', week: 'Tydzień od', verdict: 'Wniosek', code: 'Kod produktu', serial: 'Numer seryjny', serialOrBatch: 'Numer seryjny lub numer serii', batch: 'Numer serii', expiry: 'Termin ważności', question: 'Pytanie', reply: 'Odpowiedź',
       by: 'Kto', act: 'Czynność', text: 'Tekst', whom: 'Kogo', when: 'Wysłano o (UTC)', reference: 'Znak sprawy', from: 'Od dnia', to: 'Do dnia', premises: 'Lokal', user: 'Użytkownik', role: 'Rola', authorisation: 'Zezwolenie', last: 'Ostatni wpis', silent_since: 'Bez wpisu od', flagged: 'Tylko oznaczone alarmy', refused: 'Tylko odmowy',

@@ -407,11 +407,10 @@ async function houses(given) {
 
 // ---- Entries
 async function entries(given) {
-  const { entries: lines, next } = await get(`/v1/entries?${query(given)}`), { after, ...whole } = given;
-  const csv = Object.assign(link(say('csv'), `/v1/entries?${query({ ...whole, form: 'csv' })}`, 'button'), { download: 'entries.csv' });
+  const { entries: lines, next } = await get(`/v1/entries?${query(given)}`);
   const rows = lines.map(entryOf).map(it => ({ cells: [clock(it.moment), house(it.user, it.authorisation, it.premises), say(`question.${it.question[0]}`), code(it.question[1]), code(it.question[2]), it.alert ? link(replied(it.reply), `#alert/${it.alert}`) : replied(it.reply)] }));
   const columns = ['moment', 'house', 'question', 'code', 'serialOrBatch', 'reply'].map(name => column(name));
-  return [heading(say('view.entries')), filters('entries', entryFields(given)), make('div', 'row', csv), section('', table(say('view.entries'), columns, rows)), ...following('entries', given, next)];
+  return [heading(say('view.entries')), filters('entries', entryFields(given)), section('', table(say('view.entries'), columns, rows)), ...following('entries', given, next)];
 }
 function entryFields(given) {
   const text = name => labelled(name, input(name, 'text', given[name], 'code'));
