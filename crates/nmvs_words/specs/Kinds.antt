@@ -26,10 +26,10 @@ kind_word (OfBatch Withdraw) = codes "WITHDRAW"
 -- all kinds
 abbrev pub kinds : List QuestionKind
 kinds =
-    Upload ∷ OfBatch Recall ∷ OfBatch Withdraw ∷ OfPack Verify ∷ OfPack Status
+    Upload ∷ OfPack Verify ∷ OfPack Status
     ∷ OfPack (Decommission reason.Supply) ∷ OfPack (Decommission reason.Hold) ∷ OfPack (Decommission reason.Export)
     ∷ OfPack (Decommission reason.Sample) ∷ OfPack (Decommission reason.Destroy)
-    ∷ OfPack Handover ∷ OfPack Revert ∷ OfPack Theft ∷ OfPack Audit ∷ []
+    ∷ OfPack Handover ∷ OfPack Revert ∷ OfPack Theft ∷ OfPack Audit ∷ OfBatch Recall ∷ OfBatch Withdraw ∷ []
 
 -- the kind that has a word
 abbrev pub kind_named : List ℕ → Option QuestionKind

@@ -2,6 +2,7 @@
 ghost use Rattle.std.specs.Prelude.{◌≡◌};
 ghost use Rattle.nmvs_words.specs.ReplyKinds.{kind_of_reply, reply_word, reply_named};
 
+use crate::row::named;
 use nmvs_rules::Reply;
 
 /// A reply without its values. Each kind has a word, and decides which values follow it.
@@ -20,6 +21,22 @@ pub enum ReplyKind {
     Shown,
     Refused,
 }
+
+/// The kinds of replies, each with its word and its source; the words are own.
+pub const REPLIES: [(&str, ReplyKind); 12] = [
+    ("UPLOADED", ReplyKind::Uploaded), // Article 33
+    ("AUTHENTIC", ReplyKind::Authentic), // Article 11
+    ("ALERT", ReplyKind::Alert), // Article 36
+    ("STATUS", ReplyKind::Status), // Article 36
+    ("NOPACK", ReplyKind::NoPack), // own, after Article 36
+    ("DECOMMISSIONED", ReplyKind::Decommissioned), // Articles 22 and 25
+    ("HANDED_OVER", ReplyKind::HandedOver), // own, after Article 25
+    ("REVERTED", ReplyKind::Reverted), // Article 13
+    ("LOCKED", ReplyKind::Locked), // Article 40
+    ("STOLEN", ReplyKind::Stolen), // Article 40
+    ("SHOWN", ReplyKind::Shown), // Article 35
+    ("REFUSED", ReplyKind::Refused), // own
+];
 
 impl ReplyKind {
     /// The kind of a reply.
@@ -46,40 +63,13 @@ impl ReplyKind {
     pub fn word(self) -> &'static str
         ensures { result.now ≡ reply_word self }
     {
-        match self {
-            ReplyKind::Uploaded => "UPLOADED",
-            ReplyKind::Authentic => "AUTHENTIC",
-            ReplyKind::Alert => "ALERT",
-            ReplyKind::Status => "STATUS",
-            ReplyKind::NoPack => "NOPACK",
-            ReplyKind::Decommissioned => "DECOMMISSIONED",
-            ReplyKind::HandedOver => "HANDED_OVER",
-            ReplyKind::Reverted => "REVERTED",
-            ReplyKind::Locked => "LOCKED",
-            ReplyKind::Stolen => "STOLEN",
-            ReplyKind::Shown => "SHOWN",
-            ReplyKind::Refused => "REFUSED",
-        }
+        REPLIES[self as usize].0
     }
 
     /// The kind that has this word.
     pub fn named(word: &str) -> Option<ReplyKind>
         ensures { result ≡ reply_named word.now }
     {
-        match word {
-            "UPLOADED" => Some(ReplyKind::Uploaded),
-            "AUTHENTIC" => Some(ReplyKind::Authentic),
-            "ALERT" => Some(ReplyKind::Alert),
-            "STATUS" => Some(ReplyKind::Status),
-            "NOPACK" => Some(ReplyKind::NoPack),
-            "DECOMMISSIONED" => Some(ReplyKind::Decommissioned),
-            "HANDED_OVER" => Some(ReplyKind::HandedOver),
-            "REVERTED" => Some(ReplyKind::Reverted),
-            "LOCKED" => Some(ReplyKind::Locked),
-            "STOLEN" => Some(ReplyKind::Stolen),
-            "SHOWN" => Some(ReplyKind::Shown),
-            "REFUSED" => Some(ReplyKind::Refused),
-            _ => None,
-        }
+        named(&REPLIES, word.as_bytes())
     }
 }
