@@ -1,5 +1,5 @@
 -- Words and the values that they name.
-use Rattle.std.proofs.Common.{◌≡◌, ℕ, Bool, true, false, cond, List, [], ◌∷◌, find, Some, refl, sym, ap, subst, ◌∙◌}
+use Rattle.std.proofs.Common.{◌≡◌, ◌==◌, ℕ, Bool, true, false, cond, List, [], ◌∷◌, find, Some, refl, sym, ap, subst, ◌∙◌}
 use Rattle.std.specs.List.{list_all}
 use Rattle.std.specs.Str.{bytes_eq}
 use Rattle.std.proofs.lemmas.Bool.{and_parts}
@@ -24,8 +24,11 @@ use Rattle.nmvs_rules.specs.declared.pack_question.PackQuestion.TheVariants.{Ver
 use Rattle.nmvs_rules.specs.declared.batch_question.BatchQuestion.TheVariants.{Recall, Withdraw}
 use Rattle.nmvs_words.specs.declared.question_kind.QuestionKind.{QuestionKind}
 use Rattle.nmvs_words.specs.declared.question_kind.QuestionKind.TheVariants.{Upload, OfPack, OfBatch}
+use Rattle.nmvs_words.specs.declared.reply_kind.ReplyKind.{ReplyKind}
+use Rattle.nmvs_words.specs.declared.reply_kind.ReplyKind.TheVariants as reply
 use Rattle.nmvs_words.specs.Kinds.{kind_word, kind_named, kinds}
-use Rattle.nmvs_words.specs.Words.{role_word, role_named, roles, own_word, own_named, lock_word, lock_named, onward_word, onward_named, cause_word, cause_named, validity_word, validity_named, flag_word, flag_named, refusal_numbered}
+use Rattle.nmvs_words.specs.ReplyKinds.{reply_word, reply_named}
+use Rattle.nmvs_words.specs.Words.{role_word, role_named, roles, own_word, own_named, lock_word, lock_named, onward_word, onward_named, cause_word, cause_named, validity_word, validity_named, flag_word, flag_named, refusals, refusal_numbered}
 
 -- a kind is found by its word alone
 pub kind_named-word : (w : List ℕ) (kind : QuestionKind) → kind_named w ≡ Some kind → w ≡ kind_word kind
@@ -58,9 +61,14 @@ found-passes p test (y ∷ ys) x all found =
       | false ↦ λ is. found-passes p test ys x parts.1 is
     ] found
 
+-- each value passes a test that all of a list pass, if its word finds it there
+pub every : {X : Type 0} (word : X → List ℕ) (xs : List X) → ((x : X) → find (λ k. bytes_eq (word x) (word k)) xs ≡ Some x)
+    → (test : X → Bool) → list_all test xs ≡ true → (x : X) → test x ≡ true
+every word xs finds test all x = found-passes (λ k. bytes_eq (word x) (word k)) test xs x all (finds x)
+
 -- each kind passes a test that the list of all kinds passes
 pub every_kind : (test : QuestionKind → Bool) → list_all test kinds ≡ true → (kind : QuestionKind) → test kind ≡ true
-every_kind test all kind = found-passes (λ k. bytes_eq (kind_word kind) (kind_word k)) test kinds kind all (kind_named-of_word kind)
+every_kind = every kind_word kinds kind_named-of_word
 
 -- different kinds have different words
 pub kind_word-one : (k k' : QuestionKind) → kind_word k ≡ kind_word k' → k ≡ k'
@@ -146,3 +154,22 @@ refusal_numbered-of_word refusal.Other = refl
 refusal_numbered-of_word refusal.Late = refl
 refusal_numbered-of_word refusal.Expired = refl
 refusal_numbered-of_word refusal.NotHeld = refl
+
+-- each refusal passes a test that the list of all refusals passes
+pub every_refusal : (test : Refusal → Bool) → list_all test refusals ≡ true → (r : Refusal) → test r ≡ true
+every_refusal test all r = found-passes (λ k. refusal_number r == refusal_number k) test refusals r all (refusal_numbered-of_word r)
+
+-- the word of a kind of reply finds it
+pub reply_named-of_word : (kind : ReplyKind) → reply_named (reply_word kind) ≡ Some kind
+reply_named-of_word reply.Uploaded = refl
+reply_named-of_word reply.Authentic = refl
+reply_named-of_word reply.Alert = refl
+reply_named-of_word reply.Status = refl
+reply_named-of_word reply.NoPack = refl
+reply_named-of_word reply.Decommissioned = refl
+reply_named-of_word reply.HandedOver = refl
+reply_named-of_word reply.Reverted = refl
+reply_named-of_word reply.Locked = refl
+reply_named-of_word reply.Stolen = refl
+reply_named-of_word reply.Shown = refl
+reply_named-of_word reply.Refused = refl
