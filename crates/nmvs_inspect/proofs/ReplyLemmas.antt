@@ -8,12 +8,12 @@ use Rattle.std.proofs.lemmas.List.{append-nil}
 use Rattle.nmvs_rules.specs.Entries.{is_reply, is_count}
 use Rattle.nmvs_rules.specs.Replies.{refusal_number}
 use Rattle.nmvs_rules.specs.declared.cause.Cause.{Cause}
-use Rattle.nmvs_rules.specs.declared.cause.Cause.TheVariants as cause
 use Rattle.nmvs_rules.specs.declared.refusal.Refusal.{Refusal}
-use Rattle.nmvs_rules.specs.declared.refusal.Refusal.TheVariants as refusal
 use Rattle.nmvs_rules.specs.declared.reply.Reply.{Reply}
 use Rattle.nmvs_rules.specs.declared.reply.Reply.TheVariants as reply
-use Rattle.nmvs_words.specs.Words.{cause_word, flag_word, lock_word, onward_word, own_word, refusal_word, spaced, validity_word}
+use Rattle.nmvs_words.specs.Words.{cause_word, causes, flag_word, lock_word, onward_word, own_word, refusal_word, spaced, validity_word}
+use Rattle.nmvs_words.proofs.WordLemmas.{every, every_refusal, cause_named-of_word}
+use Rattle.nmvs_line.proofs.LineLengths.{refusal_small}
 use Rattle.nmvs_protocol.specs.Texts.{reply_text}
 use Rattle.nmvs_inspect.specs.Replies.{value_cells, detail_text, is_filled}
 
@@ -38,53 +38,14 @@ count_small : (n : ℕ) → IsTrue (is_count n) → n < 2 ^ 64
 count_small n h = grind (arith, nat_tests)
 
 cause_filled : (c : Cause) → is_filled (cause_word c) ≡ true
-cause_filled cause.Unknown = refl
-cause_filled cause.Recalled = refl
-cause_filled cause.Withdrawn = refl
-cause_filled cause.Held = refl
-cause_filled cause.Supplied = refl
-cause_filled cause.Exported = refl
-cause_filled cause.Sampled = refl
-cause_filled cause.Destroyed = refl
-cause_filled cause.Stolen = refl
+cause_filled c = every cause_word causes cause_named-of_word (λ k. is_filled (cause_word k)) refl c
 
 flag_filled : (b : Bool) → is_filled (flag_word b) ≡ true
 flag_filled true = refl
 flag_filled false = refl
 
 refusal_filled : (r : Refusal) → is_filled (refusal_word r) ≡ true
-refusal_filled refusal.Role = refl
-refusal_filled refusal.Unknown = refl
-refusal_filled refusal.UnknownBatch = refl
-refusal_filled refusal.NotHolder = refl
-refusal_filled refusal.Duplicate = refl
-refusal_filled refusal.Already = refl
-refusal_filled refusal.Locked = refl
-refusal_filled refusal.StillActive = refl
-refusal_filled refusal.IsStolen = refl
-refusal_filled refusal.IsDestroyed = refl
-refusal_filled refusal.WasSupplied = refl
-refusal_filled refusal.Other = refl
-refusal_filled refusal.Late = refl
-refusal_filled refusal.Expired = refl
-refusal_filled refusal.NotHeld = refl
-
-refusal_small : (r : Refusal) → refusal_number r < 2 ^ 64
-refusal_small refusal.Role = omega arith
-refusal_small refusal.Unknown = omega arith
-refusal_small refusal.UnknownBatch = omega arith
-refusal_small refusal.NotHolder = omega arith
-refusal_small refusal.Duplicate = omega arith
-refusal_small refusal.Already = omega arith
-refusal_small refusal.Locked = omega arith
-refusal_small refusal.StillActive = omega arith
-refusal_small refusal.IsStolen = omega arith
-refusal_small refusal.IsDestroyed = omega arith
-refusal_small refusal.WasSupplied = omega arith
-refusal_small refusal.Other = omega arith
-refusal_small refusal.Late = omega arith
-refusal_small refusal.Expired = omega arith
-refusal_small refusal.NotHeld = omega arith
+refusal_filled r = every_refusal (λ k. is_filled (refusal_word k)) refl r
 
 three : (b x v : List ℕ) → (b ++ (codes " " ++ (x ++ (codes " " ++ v)))) ++ codes "\n" ≡ b ++ (codes " " ++ (x ++ (codes " " ++ (v ++ codes "\n"))))
 three b x v = simp append_assoc
@@ -134,5 +95,5 @@ whole (reply.Refused r) h =
     let reason = refusal_word r in
     joined (value_cells (reply.Refused r)) (codes "REFUSED" ∷ number ∷ reason ∷ [])
     (kept (codes "REFUSED") ([] ∷ [] ∷ number ∷ reason ∷ [] ∷ []) (number ∷ reason ∷ []) refl
-    (kept number (reason ∷ [] ∷ []) (reason ∷ []) (number_filled (refusal_number r) (refusal_small r))
+    (kept number (reason ∷ [] ∷ []) (reason ∷ []) (number_filled (refusal_number r) (count_small (refusal_number r) (refusal_small r)))
     (kept reason ([] ∷ []) [] (refusal_filled r) refl)))
