@@ -5,15 +5,14 @@ ghost use Rattle.nmvs_metrics.specs.Families as specs;
 
 use crate::counters::Counters;
 use crate::kinds::{
-    CAUSES, FAULTS, Fault, QUESTIONS, REFUSALS, REPLIES, place_of_cause, place_of_fault,
-    place_of_question, place_of_refusal, place_of_reply,
+    FAULTS, Fault, Rows, place_of_cause, place_of_fault, place_of_refusal, place_of_reply,
 };
 use crate::readiness::{Readiness, readiness_of};
 use crate::times::Times;
 use crate::uptime;
 use nmvs_messages::{Content, Released};
 use nmvs_rules::{Question, Reply};
-use nmvs_words::{QuestionKind, ReplyKind};
+use nmvs_words::{CAUSES, QUESTIONS, QuestionKind, REFUSALS, REPLIES, ReplyKind};
 use std::alloc::{AllocError, Global};
 use std::sync::atomic::{AtomicU64, Ordering};
 use std::time::Duration;
@@ -112,10 +111,10 @@ pub(crate) enum Source {
     States(&'static [(Count, &'static str)]),
     /// The workers' counters at this place together.
     Total(usize),
-    /// Those from this place on, each with its word.
-    Words(usize, &'static [&'static str]),
-    /// The same with two words, without those at 0.
-    Pairs(usize, &'static [&'static str], &'static [&'static str]),
+    /// Those from this place on, each with the word of its row.
+    Words(usize, Rows),
+    /// The same with the words of two rows, without those at 0.
+    Pairs(usize, Rows, Rows),
     /// Each worker's counter at this place.
     Workers(usize),
     Shards(PerShard),
@@ -197,21 +196,21 @@ const FAMILIES: &[Family] = &[
         kind: "counter",
         help: "Questions that the repository answered, by kind and reply.",
         labels: ("question", "reply"),
-        source: Source::Pairs(ANSWERED, &QUESTIONS, &REPLIES),
+        source: Source::Pairs(ANSWERED, Rows::Questions, Rows::Replies),
     },
     Family {
         name: "nmvs_refusals_total",
         kind: "counter",
         help: "Questions that the repository refused, by the word of the refusal.",
         labels: ("refusal", ""),
-        source: Source::Words(REFUSED, &REFUSALS),
+        source: Source::Words(REFUSED, Rows::Refusals),
     },
     Family {
         name: "nmvs_alerts_flagged_total",
         kind: "counter",
         help: "Alerts that were flagged as potential falsifications, by their cause.",
         labels: ("cause", ""),
-        source: Source::Words(FLAGGED, &CAUSES),
+        source: Source::Words(FLAGGED, Rows::Causes),
     },
     Family {
         name: "nmvs_reports_total",
@@ -232,7 +231,7 @@ const FAMILIES: &[Family] = &[
         kind: "counter",
         help: "Lines and connections that were answered with a fault, by its word.",
         labels: ("fault", ""),
-        source: Source::Words(FAULTED, &FAULTS),
+        source: Source::Words(FAULTED, Rows::Faults),
     },
     Family {
         name: "nmvs_connections_open",
@@ -713,7 +712,7 @@ impl<'p> WorkerMetrics<'p> {
 
     /// Counts a question that had this reply.
     fn note_reply(&self, question: &Question, reply: &Reply) {
-        let asked = place_of_question(QuestionKind::of(question));
+        let asked = QuestionKind::of(question).place();
         let replied = place_of_reply(ReplyKind::of(reply));
         self.add(ANSWERED + asked * REPLIES.len() + replied);
         match reply {

@@ -1,5 +1,6 @@
 //! The counts of a server at one moment.
 use crate::Metrics;
+use crate::kinds::Rows;
 use crate::registry::{CONFIRMED, Count, PerShard, Source, families};
 use crate::times::empty;
 use std::alloc::{AllocError, Global};
@@ -127,8 +128,8 @@ impl Metrics {
             Source::Syncs => return self.sync_times(alloc),
             Source::Build(version, toolchain) => build(alloc, version, toolchain),
             Source::States(counts) => self.states(alloc, counts),
-            Source::Words(place, words) => self.words(alloc, place, words),
-            Source::Pairs(place, words, others) => self.pairs(alloc, place, words, others),
+            Source::Words(place, rows) => self.words(alloc, place, rows),
+            Source::Pairs(place, rows, others) => self.pairs(alloc, place, rows, others),
             Source::Workers(place) => self.by_worker(alloc, place),
             Source::Shards(count) => self.by_shard(alloc, count),
         };
@@ -184,15 +185,13 @@ impl Metrics {
         &self,
         alloc: Global,
         first: usize,
-        words: &[&'static str],
+        rows: Rows,
     ) -> Result<Vec<Sample>, AllocError> {
         let mut samples = Vec::new(alloc);
-        let mut place = first;
-        for word in words {
-            let label = Label::Word(*word);
-            let value = self.total(place);
+        for place in 0..rows.len() {
+            let label = Label::Word(rows.word(place));
+            let value = self.total(first.saturating_add(place));
             samples.push(Sample { label, value })?;
-            place = place.saturating_add(1);
         }
         Ok(samples)
     }
@@ -202,14 +201,14 @@ impl Metrics {
         &self,
         alloc: Global,
         first: usize,
-        words: &[&'static str],
-        others: &[&'static str],
+        rows: Rows,
+        others: Rows,
     ) -> Result<Vec<Sample>, AllocError> {
         let mut samples = Vec::new(alloc);
         let mut place = first;
-        for word in words {
-            for other in others {
-                let label = Label::Words(*word, *other);
+        for row in 0..rows.len() {
+            for other in 0..others.len() {
+                let label = Label::Words(rows.word(row), others.word(other));
                 let value = self.total(place);
                 if value > 0 {
                     samples.push(Sample { label, value })?;
