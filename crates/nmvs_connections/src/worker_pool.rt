@@ -4,8 +4,8 @@ ghost use Rattle.nmvs_connections.specs.Pools.{share_of};
 
 use crate::socket::Socket;
 use mio::{Events, Poll, Token, Waker};
-use nmvs_messages::NameOf;
-use nmvs_metrics::{Fault, Metrics, WorkerMetrics};
+use nmvs_messages::{Fault, NameOf};
+use nmvs_metrics::{Metrics, WorkerMetrics};
 use std::alloc::{AllocError, Global};
 use std::hash::RandomState;
 use std::io;

@@ -2,8 +2,8 @@
 use Rattle.std.specs.Prelude.{ℕ, Bool, true, false, List, [], ◌++◌, length, codes, Option, Some, None, if◌then◌else◌}
 use Rattle.std.specs.Fmt.{decimal}
 use Rattle.nmvs_stream.specs.InputLines.{input_lines}
-use Rattle.nmvs_json.specs.declared.reply.Problem.{Problem}
-use Rattle.nmvs_json.specs.declared.reply.Problem.TheVariants as problems
+use Rattle.nmvs_messages.specs.declared.fault.Problem.{Problem}
+use Rattle.nmvs_messages.specs.declared.fault.Problem.TheVariants as problems
 use Rattle.nmvs_json.specs.Refusals.{refusal_text}
 use Rattle.nmvs_json.specs.Replies.{problem_of}
 use Rattle.nmvs_json.specs.Replies as json

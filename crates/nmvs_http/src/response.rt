@@ -6,7 +6,7 @@ ghost use Rattle.nmvs_http.specs.Responses as specs;
 use crate::asked::Asks;
 use crate::fault::Fault;
 use itoa::Buffer;
-use nmvs_json::Problem;
+use nmvs_messages::Problem;
 use nmvs_stream::{Failed, Sink, write_all};
 
 /// The response that invites a waiting peer to send the body of its request (RFC 9110, section 15.2.1).

@@ -8,8 +8,8 @@ use Rattle.nmvs_identifier.specs.ProductCode.{ProductCode}
 use Rattle.nmvs_rules.specs.declared.printed.Printed.{Printed}
 use Rattle.nmvs_elements.specs.declared.fault.ScanFault.{ScanFault}
 use Rattle.nmvs_elements.specs.declared.fault.ScanFault.TheVariants as faults
-use Rattle.nmvs_json.specs.declared.reply.Problem.{Problem}
-use Rattle.nmvs_json.specs.declared.reply.Problem.TheVariants.{Unprocessable, Forbidden, Conflict, PreconditionFailed, TooManyRequests, Unavailable, Unknown}
+use Rattle.nmvs_messages.specs.declared.fault.Problem.{Problem}
+use Rattle.nmvs_messages.specs.declared.fault.Problem.TheVariants.{Unprocessable, Forbidden, Conflict, PreconditionFailed, TooManyRequests, Unavailable, Unknown}
 use Rattle.nmvs_json.specs.declared.subject.Subject.{Subject}
 use Rattle.nmvs_json.specs.Scans.{Scanned}
 
@@ -158,20 +158,19 @@ reply_object places subject line lines =
     ++ (members places words
     ++ (alert_member subject.code word words ++ (scanned_member subject.scanned (pack_words word words) ++ (later_members word lines ++ codes "}\n")))))
 
--- the faults of lines, and the problem of each
+-- the faults of lines and connections, and the problem of each
 abbrev pub problems : List (List ℕ × Problem)
 problems =
     (codes "LONG", Unprocessable) ∷ (codes "RETURN", Unprocessable) ∷ (codes "BYTES", Unprocessable) ∷ (codes "FIELDS", Unprocessable)
-    ∷ (codes "WORD", Unprocessable) ∷ (codes "USER", Unprocessable) ∷ (codes "CODE", Unprocessable) ∷ (codes "SERIAL", Unprocessable)
-    ∷ (codes "BATCH", Unprocessable) ∷ (codes "EXPIRY", Unprocessable) ∷ (codes "TAG", Unprocessable)
-    ∷ (codes "NOBODY", Forbidden) ∷ (codes "SUSPENDED", Forbidden) ∷ (codes "ROLE", Forbidden) ∷ (codes "PRODUCT", Forbidden)
-    ∷ (codes "CHANGED", Conflict)
-    ∷ (codes "DIFFERS", PreconditionFailed)
-    ∷ (codes "RATE", TooManyRequests)
-    ∷ (codes "CLOCK", Unavailable) ∷ (codes "CLOSED", Unavailable) ∷ (codes "MEMORY", Unavailable)
+    ∷ (codes "WORD", Unprocessable) ∷ (codes "CODE", Unprocessable) ∷ (codes "SERIAL", Unprocessable) ∷ (codes "BATCH", Unprocessable)
+    ∷ (codes "EXPIRY", Unprocessable) ∷ (codes "USER", Unprocessable)
+    ∷ (codes "CLOCK", Unavailable) ∷ (codes "NOBODY", Forbidden) ∷ (codes "SUSPENDED", Forbidden) ∷ (codes "CLOSED", Unavailable)
+    ∷ (codes "ROLE", Forbidden) ∷ (codes "MEMORY", Unavailable) ∷ (codes "RATE", TooManyRequests) ∷ (codes "JOURNAL", Unknown)
+    ∷ (codes "TAG", Unprocessable) ∷ (codes "DIFFERS", PreconditionFailed) ∷ (codes "CHANGED", Conflict) ∷ (codes "PRODUCT", Forbidden)
+    ∷ (codes "BUSY", Unknown) ∷ (codes "IDLE", Unknown)
     ∷ []
 
--- the problem of a fault: a question with a fault that is not in the table, as JOURNAL, may be recorded
+-- the problem of a fault: a question with a fault that is not in the table may be recorded
 unfoldable pub problem_named : List ℕ → Problem
 problem_named fault = unwrap_or (named problems fault) Unknown
 

@@ -3,9 +3,8 @@ ghost use Rattle.std.specs.Prelude.{◌≡◌};
 ghost use Rattle.nmvs_json.specs.Questions as specs;
 
 use crate::refusal::Member;
-use crate::table::named;
 use nmvs_rules::{BatchQuestion, PackQuestion, Reason};
-use nmvs_words::QuestionKind;
+use nmvs_words::{QuestionKind, named};
 
 /// The kind of a question or report, without its user and its fields.
 #[derive(Clone, Copy)]

@@ -9,7 +9,6 @@ mod question_fault;
 mod refusal;
 mod reply;
 mod subject;
-mod table;
 
 pub use asked_kind::AskedKind;
 pub use bulk::{BulkLines, bulk_lines};
@@ -17,5 +16,5 @@ pub use laws::{no_word_is_left_out, scans_are_computed};
 pub use question::{QuestionLine, question_line};
 pub use question_fault::QuestionFault;
 pub use refusal::{Member, Refusal, refusal_body};
-pub use reply::{Problem, bulk_body, response_of};
+pub use reply::{bulk_body, response_of};
 pub use subject::{BulkSubjects, Scanned, Subject};

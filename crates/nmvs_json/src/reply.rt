@@ -6,33 +6,15 @@ ghost use Rattle.nmvs_stream.specs.InputLines.{input_lines};
 ghost use Rattle.nmvs_json.specs.Places.{place_of};
 ghost use Rattle.nmvs_json.specs.Replies as specs;
 
-use crate::table::named;
 use crate::{Scanned, Subject};
 use memchr::memchr;
 use nmvs_elements::ScanFault;
 use nmvs_identifier::ProductCode;
+use nmvs_messages::{FAULTS, Problem};
 use nmvs_rules::Printed;
 use nmvs_stream::cut_line;
+use nmvs_words::named;
 use std::alloc::{AllocError, Allocator};
-
-/// The problem of a question without a reply: its faults, grouped by status of HTTP.
-#[derive(Clone, Copy)]
-pub enum Problem {
-    /// The line cannot be read, or its tag is that of another question.
-    Unprocessable,
-    /// The user may not ask this.
-    Forbidden,
-    /// The question may be a late copy of one that gave the state of the pack, and that state has changed.
-    Conflict,
-    /// The values printed on the pack are not those of its upload.
-    PreconditionFailed,
-    /// The user asks more than the rate allows.
-    TooManyRequests,
-    /// The server cannot answer now. Nothing is recorded.
-    Unavailable,
-    /// The server cannot answer now. The question may be recorded.
-    Unknown,
-}
 
 /// The place of a word of a line in its object.
 #[derive(Clone, Copy)]
@@ -116,31 +98,6 @@ const ROWS: &[(&str, &[Place])] = &[
             Place::Number(b"flagged"),
         ],
     ),
-];
-
-/// The faults of lines, and the problem of each.
-const PROBLEMS: &[(&str, Problem)] = &[
-    ("LONG", Problem::Unprocessable),
-    ("RETURN", Problem::Unprocessable),
-    ("BYTES", Problem::Unprocessable),
-    ("FIELDS", Problem::Unprocessable),
-    ("WORD", Problem::Unprocessable),
-    ("USER", Problem::Unprocessable),
-    ("CODE", Problem::Unprocessable),
-    ("SERIAL", Problem::Unprocessable),
-    ("BATCH", Problem::Unprocessable),
-    ("EXPIRY", Problem::Unprocessable),
-    ("TAG", Problem::Unprocessable),
-    ("NOBODY", Problem::Forbidden),
-    ("SUSPENDED", Problem::Forbidden),
-    ("ROLE", Problem::Forbidden),
-    ("PRODUCT", Problem::Forbidden),
-    ("CHANGED", Problem::Conflict),
-    ("DIFFERS", Problem::PreconditionFailed),
-    ("RATE", Problem::TooManyRequests),
-    ("CLOCK", Problem::Unavailable),
-    ("CLOSED", Problem::Unavailable),
-    ("MEMORY", Problem::Unavailable),
 ];
 
 /// The texts of faults, for a person (own).
@@ -371,7 +328,7 @@ fn places_of(word: &[u8]) -> Option<&'static [Place]>
 fn problem_named(fault: &[u8]) -> Problem
     ensures { result ≡ specs.problem_named fault.now }
 {
-    named(PROBLEMS, fault).unwrap_or(Problem::Unknown)
+    named(&FAULTS, fault).unwrap_or(Problem::Unknown)
 }
 
 /// The text of a fault in the table.

@@ -9,6 +9,8 @@ use Rattle.nmvs_words.specs.declared.reply_kind.ReplyKind.TheVariants as kinds
 use Rattle.nmvs_words.specs.ReplyKinds.{reply_word}
 use Rattle.nmvs_messages.specs.declared.ask.LineFault.{LineFault}
 use Rattle.nmvs_messages.specs.declared.ask.LineFault.TheVariants as faults
+use Rattle.nmvs_messages.specs.declared.fault.Fault.{Fault}
+use Rattle.nmvs_messages.specs.declared.fault.Fault.TheVariants.{Unread, Turned, Busy, Idle}
 use Rattle.nmvs_messages.specs.declared.answer.Turn.{Turn}
 use Rattle.nmvs_messages.specs.declared.answer.Turn.TheVariants as turns
 
@@ -39,6 +41,13 @@ fault_word faults.Serial = codes "SERIAL"
 fault_word faults.Batch = codes "BATCH"
 fault_word faults.Expiry = codes "EXPIRY"
 fault_word faults.User = codes "USER"
+
+-- the word after FAULT
+abbrev pub word_of : Fault → List ℕ
+word_of (Unread fault) = fault_word fault
+word_of (Turned turn) = turn_word turn
+word_of Busy = codes "BUSY"
+word_of Idle = codes "IDLE"
 
 -- the words of a reply
 abbrev pub reply_words : Reply → List (List ℕ)

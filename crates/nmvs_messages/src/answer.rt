@@ -54,6 +54,8 @@ pub enum Turn {
     Memory,
     /// The user has asked more lines than its rate lets through.
     Rate,
+    /// The journal failed, and the entries under the answer are not kept. The operation may stand in the record or not.
+    Journal,
     /// The user has asked something else about the pack with the tag.
     Tag,
     /// The pack was uploaded with another batch or another expiry date than those printed on it.
@@ -62,8 +64,6 @@ pub enum Turn {
     Changed,
     /// The product is none of those that the user may upload.
     Product,
-    /// The journal failed, and the entries under the answer are not kept. The operation may stand in the record or not.
-    Journal,
 }
 
 /// The text of the lines that follow an answer's own: the entries that an audit shows, oldest first (Article 35), or the batches

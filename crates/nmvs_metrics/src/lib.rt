@@ -14,7 +14,6 @@ mod snapshot;
 mod times;
 
 pub use clock::{ClockReading, uptime};
-pub use kinds::Fault;
 pub use readiness::Readiness;
 pub use registry::{Family, Metrics, UserState, WorkerMetrics, families};
 pub use snapshot::{Bucket, Histogram, Label, Sample, SystemReading, Values};

@@ -4,13 +4,11 @@ ghost use Rattle.nmvs_metrics.specs.Families.{row_of};
 ghost use Rattle.nmvs_metrics.specs.Families as specs;
 
 use crate::counters::Counters;
-use crate::kinds::{
-    FAULTS, Fault, Rows, place_of_cause, place_of_fault, place_of_refusal, place_of_reply,
-};
+use crate::kinds::{Rows, place_of_cause, place_of_refusal, place_of_reply};
 use crate::readiness::{Readiness, readiness_of};
 use crate::times::Times;
 use crate::uptime;
-use nmvs_messages::{Content, Released};
+use nmvs_messages::{Content, FAULTS, Fault, Released};
 use nmvs_rules::{Question, Reply};
 use nmvs_words::{CAUSES, QUESTIONS, QuestionKind, REFUSALS, REPLIES, ReplyKind};
 use std::alloc::{AllocError, Global};
@@ -668,7 +666,7 @@ impl<'p> WorkerMetrics<'p> {
 
     /// Counts a fault.
     pub fn note_fault(&self, fault: Fault) {
-        self.add(FAULTED + place_of_fault(fault));
+        self.add(FAULTED + fault.place());
     }
 
     /// Notes that the log has confirmed this number of entries of a shard, as the worker learns: no fewer than before.

@@ -181,12 +181,7 @@ impl Metrics {
     }
 
     /// The workers' counters from this place on together, each with its word.
-    fn words(
-        &self,
-        alloc: Global,
-        first: usize,
-        rows: Rows,
-    ) -> Result<Vec<Sample>, AllocError> {
+    fn words(&self, alloc: Global, first: usize, rows: Rows) -> Result<Vec<Sample>, AllocError> {
         let mut samples = Vec::new(alloc);
         for place in 0..rows.len() {
             let label = Label::Word(rows.word(place));

@@ -1,8 +1,8 @@
 //! The texts of answers.
-ghost use Rattle.std.specs.Prelude.{◌≡◌, ◌≤◌, [], ◌∷◌, length, map, IfOk, string_bytes};
+ghost use Rattle.std.specs.Prelude.{◌≡◌, ◌≤◌, [], ◌∷◌, length, map, codes, IfOk, string_bytes};
 ghost use Rattle.std.specs.Fmt.{decimal};
 ghost use Rattle.nmvs_words.specs.Words.{spaced};
-ghost use Rattle.nmvs_messages.specs.Words.{reply_words};
+ghost use Rattle.nmvs_messages.specs.Words.{reply_words, word_of};
 ghost use Rattle.nmvs_protocol.specs.Texts.{content_text, reply_text as text_of_reply, showing};
 ghost use Rattle.nmvs_protocol.specs.Wordings.{wording_text};
 
@@ -12,7 +12,7 @@ use arrayvec::ArrayString;
 use itoa::Buffer;
 use nmvs_identifier::{Batch, Expiry};
 use nmvs_line::entry_line;
-use nmvs_messages::{Content, word_of_fault, word_of_turn};
+use nmvs_messages::{Content, Fault};
 use nmvs_rules::{BatchLock, Cause, Entry, Onward, OwnStatus, Refusal, Reply};
 use nmvs_words::{
     cause_word, flag_word, lock_word, onward_word, own_word, refusal_word, validity_word,
@@ -53,13 +53,19 @@ pub(crate) fn wording(content: &Content) -> Wording<'_>
     match content {
         Content::Replied(reply, _) => Wording::Composed(reply_line(reply)),
         Content::Reported(first, _) => Wording::Lent(first.text()),
-        Content::Turned(turn) => Wording::Composed(in_words("FAULT", &[word_of_turn(*turn)])),
-        Content::Unread(fault) => Wording::Composed(in_words("FAULT", &[word_of_fault(*fault)])),
+        Content::Turned(turn) => Wording::Composed(fault_line(Fault::Turned(*turn))),
+        Content::Unread(fault) => Wording::Composed(fault_line(Fault::Unread(*fault))),
         Content::Pong => Wording::Composed(in_words("PONG", &[])),
         Content::Version => Wording::Composed(in_words("VERSION", &[VERSION])),
         Content::Help => Wording::Lent(help()),
         Content::Bye => Wording::Composed(in_words("BYE", &[])),
     }
+}
+
+fn fault_line(fault: Fault) -> ShortLine
+    ensures { result.bytes ≡ spaced (codes "FAULT" ∷ word_of fault ∷ []) }
+{
+    in_words("FAULT", &[fault.word()])
 }
 
 fn reply_line(reply: &Reply) -> ShortLine

@@ -6,8 +6,8 @@ use Rattle.nmvs_elements.specs.declared.identifiers.ApplicationIdentifier.TheVar
 use Rattle.nmvs_elements.specs.declared.fault.ScanFault.{ScanFault}
 use Rattle.nmvs_elements.specs.declared.fault.ScanFault.TheVariants as scan_fault
 use Rattle.nmvs_stream.specs.InputLines.{input_lines, lines_after}
-use Rattle.nmvs_json.specs.declared.reply.Problem.{Problem}
-use Rattle.nmvs_json.specs.declared.reply.Problem.TheVariants.{Unprocessable, Forbidden, Conflict, PreconditionFailed, TooManyRequests, Unavailable, Unknown}
+use Rattle.nmvs_messages.specs.declared.fault.Problem.{Problem}
+use Rattle.nmvs_messages.specs.declared.fault.Problem.TheVariants.{Unprocessable, Forbidden, Conflict, PreconditionFailed, TooManyRequests, Unavailable, Unknown}
 use Rattle.nmvs_json.specs.Replies.{body_text, places_of, separated, batch_places, batch_objects, later_members, alert_member, name_member, pack_words, comparison_member, detail_named, detail_of, problem_named, problem_front, type_text, said_text, fault_text, bulk_text, bodies, has_passing, problem_of}
 use Rattle.nmvs_json.specs.declared.question_fault.QuestionFault.TheVariants as fault
 use Rattle.nmvs_json.specs.declared.refusal.Member.TheVariants as member
