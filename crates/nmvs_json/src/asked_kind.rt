@@ -1,10 +1,11 @@
 //! The kinds of questions, their names and their paths.
-ghost use Rattle.std.specs.Prelude.{◌≡◌};
+ghost use Rattle.std.specs.Prelude.{◌≡◌, ◌+◌, find, map, option_map};
+ghost use Rattle.std.specs.Str.{bytes_eq};
 ghost use Rattle.nmvs_json.specs.Questions as specs;
 
 use crate::refusal::Member;
-use nmvs_rules::{BatchQuestion, PackQuestion, Reason};
-use nmvs_words::{QuestionKind, named};
+use nmvs_rules::PackQuestion;
+use nmvs_words::{QUESTIONS, QuestionKind};
 
 /// The kind of a question or report, without its user and its fields.
 #[derive(Clone, Copy)]
@@ -12,64 +13,6 @@ pub enum AskedKind {
     Question(QuestionKind),
     Report,
 }
-
-/// The names of the kinds.
-const NAMES: &[(&str, AskedKind)] = &[
-    ("upload", AskedKind::Question(QuestionKind::Upload)),
-    (
-        "recall",
-        AskedKind::Question(QuestionKind::OfBatch(BatchQuestion::Recall)),
-    ),
-    (
-        "withdraw",
-        AskedKind::Question(QuestionKind::OfBatch(BatchQuestion::Withdraw)),
-    ),
-    (
-        "verify",
-        AskedKind::Question(QuestionKind::OfPack(PackQuestion::Verify)),
-    ),
-    (
-        "status",
-        AskedKind::Question(QuestionKind::OfPack(PackQuestion::Status)),
-    ),
-    (
-        "supply",
-        AskedKind::Question(QuestionKind::OfPack(PackQuestion::Decommission(Reason::Supply))),
-    ),
-    (
-        "hold",
-        AskedKind::Question(QuestionKind::OfPack(PackQuestion::Decommission(Reason::Hold))),
-    ),
-    (
-        "export",
-        AskedKind::Question(QuestionKind::OfPack(PackQuestion::Decommission(Reason::Export))),
-    ),
-    (
-        "sample",
-        AskedKind::Question(QuestionKind::OfPack(PackQuestion::Decommission(Reason::Sample))),
-    ),
-    (
-        "destroy",
-        AskedKind::Question(QuestionKind::OfPack(PackQuestion::Decommission(Reason::Destroy))),
-    ),
-    (
-        "handover",
-        AskedKind::Question(QuestionKind::OfPack(PackQuestion::Handover)),
-    ),
-    (
-        "revert",
-        AskedKind::Question(QuestionKind::OfPack(PackQuestion::Revert)),
-    ),
-    (
-        "theft",
-        AskedKind::Question(QuestionKind::OfPack(PackQuestion::Theft)),
-    ),
-    (
-        "audit",
-        AskedKind::Question(QuestionKind::OfPack(PackQuestion::Audit)),
-    ),
-    ("report", AskedKind::Report),
-];
 
 impl AskedKind {
     /// The kind at this path, if there is one.
@@ -82,12 +25,16 @@ impl AskedKind {
         }
     }
 
-    /// The kind of this name, if there is one.
+    /// The kind of this name, if there is one: the word of a question in small letters, or `report`.
     #[tactic(auto, unfolding(crate::specs::Questions::kind_named))]
     pub(crate) fn named(name: &[u8]) -> Option<AskedKind>
         ensures { result ≡ specs.kind_named name.now }
     {
-        named(NAMES, name)
+        match in_small_letters(&QUESTIONS, name) {
+            Some(kind) => Some(AskedKind::Question(kind)),
+            None if name == b"report".as_slice() => Some(AskedKind::Report),
+            None => None,
+        }
     }
 
     /// Whether the answer is a list.
@@ -130,4 +77,32 @@ impl AskedKind {
             AskedKind::Report => &[Member::Code],
         }
     }
+}
+
+/// The value of the row whose word in small letters is this name.
+fn in_small_letters<T: Copy>(rows: &[(&str, T)], name: &[u8]) -> Option<T>
+    ensures { result ≡ option_map (λ row. row.1) (find (λ row. bytes_eq name.now (map (λ b. b + 32) row.0.now)) rows.now) }
+{
+    for (word, value) in rows {
+        if is_small(name, word.as_bytes()) {
+            return Some(*value);
+        }
+    }
+    None
+}
+
+/// Whether a name is a word in small letters.
+fn is_small(name: &[u8], word: &[u8]) -> bool
+    ensures { result ≡ bytes_eq name.now (map (λ b. b + 32) word.now) }
+{
+    let mut name = name;
+    let mut word = word;
+    while let ([small, name_rest @ ..], [letter, word_rest @ ..]) = (name, word) {
+        if small.checked_sub(32) != Some(*letter) {
+            return false;
+        }
+        name = name_rest;
+        word = word_rest;
+    }
+    name.is_empty() && word.is_empty()
 }
