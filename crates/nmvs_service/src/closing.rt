@@ -81,13 +81,23 @@ pub(crate) fn close<'r, 'o, J: Naming, H: Histories, R: Host, W: Sink>(
     clerks: Vec<Clerk<'r, J, H>, &'r Global>,
     out: &mut W,
 ) -> Result<(), Fault<'o>> {
-    prepare_settlement(config, &repository, clerks.len())?;
+    match prepare_settlement(config, &repository, clerks.len()) {
+        Ok(()) => {}
+        Err(fault) => {
+            drop((repository, clerks));
+            return Err(fault);
+        }
+    }
     match settle(config.run.alloc, repository, clerks) {
         Ok(settled) => {
             tell_settled(&config.run, &settled.shards, out);
+            drop(settled);
             Ok(())
         }
-        Err(_) => Err(Fault::Memory),
+        Err(unsettled) => {
+            drop(unsettled);
+            Err(Fault::Memory)
+        }
     }
 }
 

@@ -216,7 +216,7 @@ fn serve_by_pool<
     listener: &'f Listener,
     latest: &'f Mutex<Notice<J>>,
     repository: &'f Repository<'r, H>,
-    (log, users, watch): (
+    logs: (
         Option<CommitLog<'f, 'r, LogStore<'r>, H, H>>,
         Option<UsersLog<'r>>,
         Watch,
@@ -228,10 +228,11 @@ fn serve_by_pool<
     let (pool, pollers, acceptor) = match open_pool(config, clerks.len()) {
         Ok(opened) => opened,
         Err(fault) => {
-            drop((log, users, clerks));
+            drop((logs, clerks));
             return Err(fault);
         }
     };
+    let (log, users, watch) = logs;
     let server = Server {
         config,
         listener,

@@ -39,8 +39,11 @@ pub(crate) fn serve_alone<'r, 'o, J: Naming, H: Histories, R: Host, T: Sides>(
         mut clerks,
     } = opened;
     let mut clerk = clerks.remove(0);
+    drop(clerks);
     clerk.keep_no_receipts();
-    serve_one(config, latest, &repository, clerk, console)
+    let outcome = serve_one(config, latest, &repository, clerk, console);
+    drop(repository);
+    outcome
 }
 
 /// Serves one session over the console by the clerk, whose desk begins with the notice that lies under the lock, and writes the
@@ -88,12 +91,14 @@ fn serve_session<'s, 'r, J: Naming, H: Histories, R: Host, T: Sides>(
     let mut desk = ClerkDesk::new(
         run.rt, clerk, repository, latest, None, clock, metrics, alerts,
     );
-    serve(
+    let end = serve(
         *run.alloc,
         &mut console.source,
         &mut console.sink,
         &Peer::Anyone,
         &mut desk,
         SESSION_LIMITS,
-    )
+    );
+    drop(desk);
+    end
 }
