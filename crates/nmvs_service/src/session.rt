@@ -39,10 +39,9 @@ pub(crate) fn serve_alone<'r, 'o, J: Naming, H: Histories, R: Host, T: Sides>(
         mut clerks,
     } = opened;
     let mut clerk = clerks.remove(0);
-    drop(clerks);
     clerk.keep_no_receipts();
     let outcome = serve_one(config, latest, &repository, clerk, console);
-    drop(repository);
+    drop((repository, clerks));
     outcome
 }
 
