@@ -251,7 +251,8 @@ fn start_threads<
     workers: usize,
     working: &mut Working<'r, J, H>,
 ) -> bool {
-    let mut ready = server.ready.lock(server.config.run.rt);
+    let run = &server.config.run;
+    let mut ready = server.ready.lock(run.rt);
     let begun = start_workers(scope, server, clerks, workers, working)
         && scope.spawn(move || accept(server, acceptor)).is_ok()
         && scope.spawn(move || write_log(server)).is_ok();
