@@ -4,7 +4,8 @@ ghost use Rattle.nmvs_stream.specs.InputLines.{HasNoLf};
 use memchr::memrchr;
 use std::fmt;
 
-/// Bytes of a line as the log shows them: in quotes, with the number of each byte that is no printable ASCII character.
+/// Bytes of a line as the log shows them: in quotes. Quotes, backslashes and bytes that are no printable ASCII
+/// character are escaped.
 #[derive(Clone, Copy)]
 pub(crate) struct Escaped<'l>(pub(crate) &'l [u8]);
 

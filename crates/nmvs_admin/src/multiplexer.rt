@@ -43,7 +43,7 @@ pub(crate) struct Multiplexer<I, W> {
     is_over: bool,
     connections: Option<Connections>,
     signals: Signals,
-    /// Whether a wait for a line is to end without one, if anybody may say so.
+    /// Whether a wait for a line is to end without one; `None` if nothing sets it.
     interrupt: Option<Arc<AtomicBool>>,
     /// The side that is looked at first for the next line.
     first: usize,

@@ -21,8 +21,8 @@ abbrev pub unboxed : Option (Box Http) → Option Http
 unboxed None = None
 unboxed (Some boxed) = Some boxed.value
 
--- the bytes of lines and replies that are carried over HTTP: the bytes before the first request, and then those that the codec
--- gave; and the replies that it took
+-- the bytes of lines and replies that are carried over HTTP. The lines are the bytes before the first request, and then
+-- those that the codec gave. The replies are those that it took.
 abbrev pub carried_over : Http → Traffic
 carried_over h = record { received = h.before.numbers ++ h.codec.given; sent = h.codec.replies }
 
@@ -50,7 +50,7 @@ pending_of None = []
 pending_of (Some h) = h.codec.stream.held
 
 -- the bytes read from the socket are those before the first request, those that the codec was fed, and a discarded
--- rest; the bytes written to it are the sent bytes of the codec
+-- rest. The bytes written to it are the sent bytes of the codec.
 pub record IsFed (raw : Traffic) (h : Http) : Type 0 where
   pub rest : List ℕ
   pub received_is : raw.received ≡ h.before.numbers ++ (h.codec.stream.fed ++ rest)
@@ -82,8 +82,8 @@ Behind None peer received fed unread stage = Unit {0}
 Behind (Some before) None received fed unread stage = ⊥
 Behind (Some before) (Some peer) received fed unread stage = IsBehind before received fed unread stage
 
--- the carried replies are the text of answers to the carried lines, one a line, in order; if the session has ended, to the
--- lines up to its end
+-- the carried replies are the text of answers to the carried lines, one a line, in order. If the session has ended,
+-- they answer the lines up to its end.
 pub record AnswersCarried (before : List ℕ) (carried : Traffic) (ended : Bool) : Type 0 where
   pub given : List ℕ
   pub received_is : carried.received ≡ before ++ given
@@ -98,8 +98,8 @@ abbrev pub moved_of : Option Moved → Moved
 moved_of None = moves.Blocked
 moved_of (Some moved) = moved
 
--- the request in hand may be responded to at this stage and this end of the session; all read bytes were taken, or QUIT ended
--- the session
+-- the request in hand may be responded to at this stage and this end of the session. All read bytes were taken, or QUIT
+-- ended the session.
 pub record EndsIn (stage : Stage) (end : Option End) (all ended : Bool) : Type 0 where
   pub stays : stage ≢ stages.Lingering
   pub goes_on : ended ≡ false → (stage ≡ stages.Serving) × (end ≡ None) × (all ≡ true)

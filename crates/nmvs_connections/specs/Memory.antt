@@ -19,11 +19,11 @@ abbrev pub memory_in : {L : Type 0} → List (Option (Connection L)) → ℕ
 memory_in [] = 0
 memory_in (slot ∷ more) = memory_of slot + memory_in more
 
--- what a worker counts is the sum of what its connections take
+-- the memory that a worker counts is the sum of that of its connections
 abbrev pub IsCounted : {L : Type 0} → EventLoop L → Type 0
 IsCounted worker = worker.memory ≡ memory_in worker.connections.slots
 
--- what one connection keeps is counted whole, beside what was counted of the others; or no more can be counted
+-- the memory of one connection is counted whole, in addition to that of the others; or no more can be counted
 abbrev pub CountsMemory : (kept others memory all : ℕ) → Type 0
 CountsMemory kept others memory all = (all ≡ others + memory) × ((kept ≤ memory) ⊎ (all ≡ 2 ^ 64 - 1))
 
@@ -50,12 +50,12 @@ abbrev pub name_or : Option Name → Name → Name
 name_or None origin = origin
 name_or (Some name) origin = name
 
--- the name under which the memory of a connection is counted: that of the peer's certificate, or else that of the address that
--- it comes from
+-- the name under which the memory of a connection is counted: that of the peer's certificate, or else that of its
+-- address
 abbrev pub account_of : {L : Type 0} → Connection L → Name
 account_of connection = name_or (name_of connection.session.peer) connection.origin
 
--- what is counted under a name
+-- the bytes that are counted under a name
 abbrev pub value_of : Option ℕ → ℕ
 value_of None = 0
 value_of (Some count) = count
@@ -77,7 +77,7 @@ abbrev pub IsHeaviest : {L : Type 0} → Slab (Connection L) → Option Name →
 IsHeaviest connections None = NoneTakesMore connections 0
 IsHeaviest connections (Some name) = KeepsMost connections name
 
--- whether a connection is one of the peer of this name; of those alone on which a line or a request has not come whole, if so
+-- whether a connection is one of the peer of this name. If `unfinished`, a line or a request of it has not come whole.
 abbrev pub is_counted : {L : Type 0} → Name → Bool → Connection L → Bool
 is_counted name unfinished connection = (connection.unfinished || not unfinished) && same_text (account_of connection) name
 
@@ -93,9 +93,9 @@ IsLargestOf {L} connections name unfinished (Some key) =
     (connection : Connection L) × (get connections key ≡ Some connection) × (is_counted name unfinished connection ≡ true)
     × NoneOfThemTakesMore connections name unfinished connection.memory
 
--- the connection that is closed first for want of memory is one of the peer that keeps most. It is the largest of those on which
--- a line or a request has not come whole; if none of these takes any memory, the largest of all of that peer's. If there is no
--- key, no connection takes any memory
+-- the connection that is closed first for want of memory is one of the peer that keeps most. It is the largest of those
+-- on which a line or a request has not come whole. If none of these takes any memory, it is the largest of all of that
+-- peer's. If there is no key, no connection takes any memory.
 abbrev pub IsEvictedFirst : {L : Type 0} → Slab (Connection L) → Option ℕ → Type 0
 IsEvictedFirst connections None = NoneTakesMore connections 0
 IsEvictedFirst connections (Some key) =

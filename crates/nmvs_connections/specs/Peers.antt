@@ -10,8 +10,9 @@ use Rattle.nmvs_connections.specs.ProxyHeader.{ReadsProxyHeader}
 use Rattle.nmvs_connections.specs.Replies.{SessionState}
 use Rattle.nmvs_connections.specs.Traffic.{Traffic}
 
--- a connection: whether a gateway's header names a user or an authorisation, if it begins with one; its peer, once it is known;
--- its stage; its bytes; its session; the bytes that were read and not taken, and over HTTP those of a request that has not come whole
+-- a connection: its peer, once it is known, its stage, its bytes, and its session. `proxy` is whether a gateway's
+-- header names a user or an authorisation, if it begins with one. `unread` are the bytes that were read and not taken,
+-- and `pending` over HTTP those of a request that has not come whole.
 pub record PeerState : Type 0 where
   pub proxy : Option NameOf
   pub peer : Option Peer
@@ -21,7 +22,7 @@ pub record PeerState : Type 0 where
   pub unread : List ℕ
   pub pending : List ℕ
 
--- the number of bytes that a connection keeps: those that were read and not taken, those of a request that has not come whole,
+-- the number of bytes that a connection keeps: those that were not taken, those of a request that has not come whole,
 -- and the unsent replies
 abbrev pub kept_bytes : PeerState → ℕ
 kept_bytes c = length c.unread + (length c.pending + length c.session.unsent)
@@ -43,8 +44,9 @@ EndsWith stages.Serving notice = notice ≡ []
 EndsWith stages.Ending notice = notice ≡ []
 EndsWith stages.Lingering notice = IsNotice notice
 
--- the bytes that a connection received are those of its header, those that its session was fed, and the rest; the bytes that it
--- was sent are the replies of its session, and at most a notice after them. While its lines are answered, the rest is unread
+-- the bytes that a connection received are those of its header, those that its session was fed, and the rest. The bytes
+-- that it was sent are the replies of its session, and at most a notice after them. While its lines are answered, the
+-- rest is unread.
 pub record Holds (proxy : Option NameOf) (peer : Option Peer) (stage : Stage) (received sent fed replies unread : List ℕ) : Type 0 where
   pub header : List ℕ
   pub rest : List ℕ
@@ -63,16 +65,17 @@ IsConnection c = (unread : List ℕ) × Holds c.proxy c.peer c.stage c.stream.re
 abbrev pub StaysPeer : Option Peer → Option Peer → Type 0
 StaysPeer old new = (peer : Peer) → old ≡ Some peer → new ≡ Some peer
 
--- behind a gateway nobody is anyone
+-- with a gateway no peer is `Anyone`
 abbrev pub IsNamed : Option NameOf → Option Peer → Type 0
 IsNamed None peer = Unit {0}
 IsNamed (Some name_of) peer = peer ≢ Some peers.Anyone
 
--- the same peer behind the same gateway, or none, and no byte more was received
+-- the peer and the gateway are the same, and no byte more was received
 abbrev pub Rests : PeerState → PeerState → Type 0
 Rests old new = (new.proxy ≡ old.proxy) × (new.peer ≡ old.peer) × (new.stream.received ≡ old.stream.received)
 
--- a connection later: behind the same gateway, or none; its peer stays, once it is known; and what it received is followed by more
+-- a connection later: the gateway is the same, its peer stays once it is known, and more bytes follow those that it
+-- received
 pub record IsLater (old new : PeerState) : Type 0 where
   pub proxy : new.proxy ≡ old.proxy
   pub peer : StaysPeer old.peer new.peer

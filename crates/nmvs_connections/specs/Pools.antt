@@ -1,9 +1,9 @@
--- What the workers of a server share (own).
+-- The state that the workers of a server share (own).
 use Rattle.std.specs.Prelude.{◌/◌, ℕ, zero, suc, Option}
 use Rattle.nmvs_messages.specs.declared.peer.NameOf.{NameOf}
 
--- whether a gateway's header names a user or an authorisation, if each connection begins with one; and the most bytes that the
--- buffers of one worker's connections take
+-- `proxy` is whether a gateway's header names a user or an authorisation, if each connection begins with one. `memory`
+-- is the most bytes that the buffers of one worker's connections take.
 pub record PoolState : Type 0 where
   pub proxy : Option NameOf
   pub memory : ℕ

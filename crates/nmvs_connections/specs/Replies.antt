@@ -13,9 +13,10 @@ use Rattle.nmvs_protocol.specs.Progress.{LastShows}
 use Rattle.nmvs_protocol.specs.Session.{TakesLines, session_text}
 use Rattle.nmvs_protocol.specs.Texts.{bare, ends_with_reply, last_showing}
 
--- a connection: the bytes that it was fed; its sent and unsent replies; the text of the entries that follow them, still to be
--- fetched; how its session ended; the place of the first answer that it waits for, among those that are withheld, and how many
--- it waits for; the text of the entries that the last of them shows
+-- a connection: the bytes that it was fed, its sent and unsent replies, and how its session ended. `listed` is the text
+-- of the entries that follow the replies, still to be fetched. `first` is the place of the first answer that it waits
+-- for, among those that are withheld, and `waiting` their number. `awaited` is the text of the entries that the last of
+-- them shows.
 pub record SessionState : Type 0 where
   pub fed : List ℕ
   pub sent : List ℕ
@@ -37,8 +38,8 @@ once_told waiting text = if waiting == 0 then text else []
 abbrev pub while_waiting : ℕ → List ℕ → List ℕ
 while_waiting waiting text = if waiting == 0 then [] else text
 
--- the lines that are left unanswered, and the text that is left out; up to QUIT and the limit each left line waits for its
--- answer, and no text is left out; if memory ran out, some text is missing, and nothing waits
+-- the lines that are left unanswered, and the text that is left out. Up to QUIT and the limit each left line waits for
+-- its answer, and no text is left out. If memory ran out, some text is missing, and nothing waits.
 abbrev pub Leaves : Option End → ℕ → List (List ℕ) → List ℕ → Type 0
 Leaves (None) waiting left untold = (length left ≡ waiting) × (untold ≡ [])
 Leaves (Some ends.Quit) waiting left untold = (length left ≡ waiting) × (untold ≡ [])
@@ -59,8 +60,9 @@ pub record Replies (fed text : List ℕ) (waiting : ℕ) (ended : Option End) : 
   pub text_is : session_text said ≡ text ++ untold
   pub leaves : Leaves ended waiting left untold
 
--- the lines that these bytes complete after the fed ones were taken, the desk going from old to new by exactly their takes;
--- their answers, one a line, were put after those that were withheld, and are waited for; the last shows the awaited entries
+-- the lines that these bytes complete after the fed ones were taken. The desk goes from old to new by exactly their
+-- takes. Their answers, one a line, follow those that were withheld, and are waited for. The last shows the awaited
+-- entries.
 pub record Asked {D : Type 0} (takes : D → Ask → Withheld → D → Type 0) (fed bytes : List ℕ) (old new : D) (withheld withheld' : List Withheld) (waiting : ℕ) (awaited : List ℕ) : Type 0 where
   pub held : List Withheld
   pub behind : withheld' ≡ withheld ++ held
@@ -78,8 +80,8 @@ abbrev pub is_replied : Option Bool → Bool
 is_replied None = false
 is_replied (Some replied) = replied
 
--- the text of this number of released answers, from this place on, without the entries that they show, was put after these
--- bytes, but for the text that is left out; if there are fewer, none
+-- the text of this number of released answers, from this place on, follows these bytes. It is without the entries that
+-- they show, and without the text that is left out. If there are fewer answers, there is none.
 pub record WordsPart (first count : ℕ) (released : List Answer) (old new : List ℕ) (worded : Option Bool) : Type 0 where
   pub part : List Answer
   pub its_own : first + count ≤ length released → part ≡ take count (drop first released)
@@ -100,9 +102,9 @@ ended_by (Some replied) ended = ended
 abbrev pub StaysOrLacks : Option End → Option End → List ℕ → Type 0
 StaysOrLacks ended ended' untold = ((ended' ≡ ended) × (untold ≡ [])) ⊎ LacksMemory ended'
 
--- this is the text of this number of released answers, from this place on, the last of which shows the awaited entries if it is
--- a reply, but for the text that is left out. If there are fewer answers, there is none, and the session ends as for want of
--- memory
+-- this is the text of this number of released answers, from this place on, but for the text that is left out. The last
+-- one shows the awaited entries, if it is a reply. If there are fewer answers, there is none, and the session ends as
+-- for want of memory.
 pub record TellsPart (first count : ℕ) (released : List Answer) (awaited text : List ℕ) (ended ended' : Option End) : Type 0 where
   pub untold : List ℕ
   pub part : List Answer

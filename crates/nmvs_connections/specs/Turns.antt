@@ -81,8 +81,9 @@ abbrev pub answers_in : ℕ → List Round → List Answer
 answers_in key [] = []
 answers_in key (r ∷ more) = answers_to key r.takings r.said ++ answers_in key more
 
--- a connection that was fed bytes, and has replies for them: the lines that were completed are its lines of these rounds;
--- the replies are the texts of the answers to them, in order, as far as there was memory. It waits for no answer
+-- a connection that was fed bytes, and has replies for them. The lines that were completed are its lines of these
+-- rounds. The replies are the texts of the answers to them, in order, as far as there was memory. It waits for no
+-- answer.
 pub record Answered (key : ℕ) (rounds : List Round) (old new : SessionState) : Type 0 where
   pub lines : input_lines new.fed ≡ input_lines old.fed ++ lines_in key rounds
   pub text : List ℕ
@@ -106,29 +107,31 @@ pub record Took {L : Type 0} (key : ℕ) (takings : List Taking) (first : PeerSt
   pub own : All (λ (t : Taking). t.key ≡ key → StaysPeer t.peer last.peer) takings
   pub still : (connection : Connection L) → now ≡ Some connection → connection.session ≡ last
 
--- what was taken under a key is of the connection that was there at first; if there was none, no line was taken, and none came
+-- the lines that were taken under a key are of the connection that was there at first. If there was none, no line was
+-- taken, and none came.
 abbrev pub TookUnder : {L : Type 0} → ℕ → List Taking → Option (Connection L) → Option (Connection L) → Type 0
 TookUnder key takings None now = (lines_to key takings ≡ []) × (now ≡ None)
 TookUnder key takings (Some connection) now = Took key takings connection.session now
 
--- each connection is behind this gateway, or none, and its bytes are so
+-- each connection has this gateway, or none, and its bytes are so
 abbrev pub AllBehind : {L : Type 0} → Option NameOf → Slab (Connection L) → Type 0
 AllBehind {L} proxy connections = (key : ℕ) (connection : Connection L) → get connections key ≡ Some connection → IsConnection connection.session × (connection.session.proxy ≡ proxy)
 
 abbrev pub StayBehind : {L : Type 0} → Slab (Connection L) → Slab (Connection L) → Type 0
 StayBehind old new = (proxy : Option NameOf) → AllBehind proxy old → AllBehind proxy new
 
--- what holds between two turns: each connection is behind the gateway, and what is counted is the sum of what they take
+-- between two turns each connection keeps its gateway, and the counted memory is the sum of that of the connections
 abbrev pub Stays : {L : Type 0} → EventLoop L → EventLoop L → Type 0
 Stays old new = StayBehind old.connections new.connections × (IsCounted old → IsCounted new)
 
--- connections may have been closed, and no other has changed; what is counted is still the sum of what they take
+-- connections may have been closed, and no other has changed; the counted memory is still the sum of that of the
+-- connections
 abbrev pub OnlyCloses : {L : Type 0} → EventLoop L → EventLoop L → Type 0
 OnlyCloses old new = (new.awaiting ≡ old.awaiting) × EachGoes (λ key state state'. state' ≡ state) old.connections new.connections × (IsCounted old → IsCounted new)
 
--- a turn of a worker: rounds take the desk from old to new, each line as one of its own connection's peer, whether that is there
--- still or not; behind a gateway nobody is anyone; and each connection that is there, and waited for no answer, is answered in
--- them, whatever others are served between its lines
+-- a turn of a worker. Rounds take the desk from old to new, each line as one of its own connection's peer, whether that
+-- is there still or not. With a gateway no peer is `Anyone`. Each connection that is there, and waited for no answer,
+-- is answered in the rounds, whatever others are served between its lines.
 pub record WorkerTurn {D L : Type 0} (proxy : Option NameOf) (takes : D → Peer → Ask → Withheld → D → Type 0) (releases : D → D → Withheld → Answer → Type 0) (moves : D → D → Type 0) (old new : D) (connections connections' : Slab (Connection L)) : Type 0 where
   pub rounds : List Round
   pub desk : GoesRounds takes releases moves old rounds new
@@ -145,7 +148,7 @@ pub record Kept (old new : SessionState) : Type 0 where
   pub waiting : new.waiting ≡ old.waiting
   pub awaited : new.awaited ≡ old.awaited
 
--- lines were taken, whose answers stand from this place on among those that are withheld; the last shows the awaited entries
+-- lines were taken, whose answers stand from this place on among the withheld ones. The last shows the awaited entries.
 pub record LinesTaken (lines : List (List ℕ)) (held : List Withheld) (first : ℕ) (old new : SessionState) : Type 0 where
   pub lines_are : input_lines new.fed ≡ input_lines old.fed ++ lines
   pub text : replied new ≡ replied old
@@ -162,8 +165,8 @@ WaitsForRelease nexts.WaitRelease = Unit {0}
 WaitsForRelease nexts.ReleaseNow = Unit {0}
 WaitsForRelease _ = ⊥
 
--- a session's step: lines were taken as those of the peer, and their answers put after those that are withheld; or none, and no
--- more was done than to send
+-- a session's step: lines were taken as those of the peer, and their answers follow the withheld ones. Or none was
+-- taken, and no more was done than to send.
 pub record LinesStep {D : Type 0} (takes : D → Peer → Ask → Withheld → D → Type 0) (peer : Option Peer) (old new : D) (withheld withheld' : List Withheld) (state state' : SessionState) : Type 0 where
   pub lines : List (List ℕ)
   pub held : List Withheld
@@ -210,8 +213,8 @@ HasTurn None before after lines = before.peer ≡ None
 HasTurn (Some connection) before after lines =
     (before ≡ connection.session) × IsConnection after × IsLater before after × (input_lines after.session.fed ≡ input_lines before.session.fed ++ lines)
 
--- the turn of the connection under this key: the desk takes its lines, as those of its peer, and appends their answers to the
--- withheld ones; if there are any, the connection waits for their release; no other connection has changed
+-- the turn of the connection under this key. The desk takes its lines, as those of its peer, and appends their answers
+-- to the withheld ones. If there are any, the connection waits for their release. No other connection has changed.
 pub record TurnOfOne {D L : Type 0} (takes : D → Peer → Ask → Withheld → D → Type 0) (key : ℕ) (old new : D) (withheld withheld' : List Withheld) (awaiting awaiting' : List ℕ) (connections connections' : Slab (Connection L)) : Type 0 where
   pub before : PeerState
   pub after : PeerState

@@ -40,7 +40,7 @@ pub(crate) fn heaviest<L: LineList>(
     Ok(heaviest)
 }
 
-/// Counts more memory under a name. Returns what is counted there then.
+/// Counts more memory under a name. Returns the bytes that are then counted there.
 fn count_more(counts: &mut Counts, name: &Name, memory: usize) -> Result<usize, AllocError>
     ensures count { IfOk result (λ count. count ≡ min (count_in counts.old name.now + memory) (2 ^ 64 - 1)) }
     ensures own { IfOk result (λ count. count_in counts.new name.now ≡ count) }
@@ -53,7 +53,7 @@ fn count_more(counts: &mut Counts, name: &Name, memory: usize) -> Result<usize, 
     }
 }
 
-/// What is counted under a name.
+/// The bytes that are counted under a name.
 fn count_of(counts: &Counts, name: &Name) -> usize
     ensures { result ≡ count_in counts.now name.now }
 {

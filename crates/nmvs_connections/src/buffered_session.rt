@@ -20,8 +20,8 @@ use std::mem;
 ///
 /// A list of lines may follow the last of its answers. They are fetched a piece at a time, after the text of that answer.
 ///
-/// Contracts see the bytes that it was fed, its sent and unsent replies, the text of the lines that follow them, how it ended,
-/// and which of the withheld answers it waits for.
+/// Contracts see the bytes that it was fed, its sent and unsent replies, and the text of the lines that follow them.
+/// They see how it ended, and which of the withheld answers it waits for.
 #[derive(Drop)]
 pub struct BufferedSession<L: LineList> {
     session: Session,
@@ -87,8 +87,8 @@ impl<L: LineList> BufferedSession<L> {
         self.end
     }
 
-    /// The replies that are unsent. With those that were sent, and the lines that follow them, they are the texts of the
-    /// answers to the lines that it was fed, one answer a line, in order. The lines whose answers it waits for have no reply yet.
+    /// The replies that are unsent. The sent replies, these, and the lines that follow them are the texts of answers to
+    /// the lines that it was fed, one answer a line, in order. The lines whose answers it waits for have no reply yet.
     pub fn unsent(&self) -> &[u8]
         ensures bytes { result.now ≡ self.now.unsent }
         ensures replies { Replies self.now.fed (replied self.now) self.now.waiting self.now.ended }

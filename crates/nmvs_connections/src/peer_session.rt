@@ -44,8 +44,8 @@ pub(crate) enum Stage {
     Lingering,
 }
 
-/// The session of the peer of a connection: its lines are read from the stream, and its replies are written there. Behind a
-/// gateway the stream begins with a header, which names the peer. No line is taken before the peer is known.
+/// The session of the peer of a connection: its lines are read from the stream, and its replies are written there. With
+/// a gateway the stream begins with a header, which names the peer. No line is taken before the peer is known.
 #[derive(Drop)]
 pub(crate) struct PeerSession<L: LineList> {
     stream: LineStream,

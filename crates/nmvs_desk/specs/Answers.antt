@@ -16,8 +16,8 @@ use Rattle.nmvs_desk.specs.Placing.{IsPartOf}
 use Rattle.nmvs_desk.specs.Settlement.{row}
 use Rattle.nmvs_desk.specs.Views.{ClerkView}
 
--- the trail that was seen begins the trail that is seen now: a lawful trail, whose entries belong to the shard, of `count`, and
--- are in their grammars and ranges, and whose questions were new where they were put
+-- the trail that was seen begins the trail that is seen now. That is lawful, and its entries are in their grammars and
+-- ranges. They belong to the shard, of `count`, and their questions were new where they were put.
 pub record IsShown (count index : ℕ) (before after : List Entry) : Type 0 where
   pub begins : IsPrefix before after
   pub lawful : IsLawful after
@@ -49,9 +49,9 @@ abbrev pub shown_by : List Entry → Put → Outcome → List Entry
 shown_by trail put (outcome.New a) = shown_of trail put
 shown_by trail put _ = []
 
--- the change of a token by a question that is asked by it in the shard of this number: the question is answered on a trail of
--- the shard that begins with all that the token had seen; now the token has seen the trail after the answer, and owns the place
--- of the entry if the question was put
+-- the change of a token by a question that it asks in the shard of this number. The question is answered on a trail of
+-- the shard that begins with all that the token had seen. Now the token has seen the trail after the answer, and owns
+-- the place of the entry if the question was put.
 pub record Becomes (count index : ℕ) (put : Put) (printed : Option Printed) (was now : TokenView) (o : Outcome) : Type 0 where
   pub trail : List Entry
   pub shown : IsShown count index was.seen trail
@@ -59,10 +59,10 @@ pub record Becomes (count index : ℕ) (put : Put) (printed : Option Printed) (w
   pub later : IsShown count index trail now.seen
   pub token : now ≡ record was { seen = now.seen; places = was.places ++ new_places o }
 
--- the change of a clerk by a question in the shard of this number: it is answered on a trail of the shard that begins with all
--- that the clerk had seen of it; now the clerk has seen the trail after the answer, and no more of another shard; if the
--- question was put, its entry's place is the clerk's own, and its receipt is in hand if the clerk keeps receipts; nothing else
--- changes. With it come the entries that the rules show
+-- the change of a clerk by a question in the shard of this number. It is answered on a trail of the shard that begins
+-- with all that the clerk had seen of it. Now the clerk has seen the trail after the answer, and no more of another
+-- shard. If the question was put, its entry's place is the clerk's own, and its receipt is in hand if the clerk keeps
+-- receipts. Nothing else changes. With it come the entries that the rules show.
 pub record Answers (count index : ℕ) (put : Put) (printed : Option Printed) (old new : ClerkView) (o : Outcome) (entries : List Entry) : Type 0 where
   pub trail : List Entry
   pub shown : IsShown count index (row old.sights index) trail

@@ -8,8 +8,9 @@ use Rattle.nmvs_desk.specs.declared.ask.Receipt.{Receipt}
 use Rattle.nmvs_desk.specs.Placing.{IsPartOf}
 use Rattle.nmvs_desk.specs.Settlement.{AreOwn, Rises}
 
--- the token of a shard, of `count`, is of the shard's history; it owns the places of the receipts that name the shard, and of
--- those that were let go; it has seen a lawful trail whose entries belong to the shard and are in their grammars and ranges
+-- the token of a shard, of `count`, is of the shard's history. It owns the places of the receipts that name the shard,
+-- and of those that were let go. It has seen a lawful trail whose entries belong to the shard and are in their grammars
+-- and ranges.
 pub record IsTokenOf (tables : ℕ → HistoryId) (count : ℕ) (receipts : List Receipt) (shard : ℕ) (k : TokenView) : Type 0 where
   pub table : k.table ≡ tables shard
   pub places : AreOwn shard receipts k.places

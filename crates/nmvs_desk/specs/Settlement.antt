@@ -54,8 +54,8 @@ Rises receipts =
     (k m : ℕ) (earlier later : Receipt) → k < m → slice_get receipts k ≡ Some earlier → slice_get receipts m ≡ Some later
     → earlier.shard ≡ later.shard → earlier.place < later.place
 
--- the trails begin with what the clerk has seen; the receipts that it has in hand stand in them, at the clerk's own places,
--- which rise
+-- the trails begin with all that the clerk has seen. The receipts that it has in hand stand in them, at the clerk's own
+-- places, which rise.
 pub record IsSettled (trails : List (List Entry)) (c : ClerkView) : Type 0 where
   pub seen : (i : ℕ) → IsPrefix (row c.sights i) (row trails i)
   pub stand : (n : ℕ) (r : Receipt) → slice_get c.receipts n ≡ Some r → at trails r.shard r.place ≡ Some r.entry

@@ -9,15 +9,16 @@ use Rattle.nmvs_desk.specs.Views.{LockedView}
 use Rattle.nmvs_desk.specs.Placing.{IsPartOf}
 use Rattle.nmvs_desk.specs.Settlement.{row}
 
--- the trail of a shard, of `count`, is lawful, and its entries are in their grammars and ranges; each entry's product code
--- belongs to the shard, and each question was new where it was put
+-- the trail of a shard, of `count`, is lawful, and its entries are in their grammars and ranges. Each entry's product
+-- code belongs to the shard, and each question was new where it was put.
 pub record IsKept (count : ℕ) (h : LockedView) : Type 0 where
   pub lawful : IsLawful h.trail
   pub in_range : AreEntries h.trail
   pub placed : IsPartOf count h.index h.trail
 
--- the trails of `count` shards, in order: each is lawful, and its entries are in their grammars and ranges; each entry's
--- product code belongs to its shard; each question was new where it was put; every merging of them is such a trail
+-- the trails of `count` shards, in order. Each is lawful, and its entries are in their grammars and ranges. Each
+-- entry's product code belongs to its shard, and each question was new where it was put. Every merging of them is
+-- lawful, and its questions were new.
 pub record AreTrails (count : ℕ) (trails : List (List Entry)) : Type 0 where
   pub shards : length trails ≡ count
   pub lawful : (i : ℕ) → IsLawful (row trails i)

@@ -11,8 +11,8 @@ pub record LockedView : Type 0 where
   pub index : ℕ
   pub parts : ℕ
 
--- a clerk: the changes of the directory that it saw or learned; for each shard the trail that it has seen, and the places of
--- the trail that are the clerk's own; the receipts that it has in hand, and whether it keeps receipts
+-- a clerk: the changes of the directory that it saw or learned, the receipts that it has in hand, and whether it keeps
+-- receipts. For each shard it has the trail that it has seen, and its own places of that trail.
 pub record ClerkView : Type 0 where
   pub seen : List Change
   pub sights : List (List Entry)

@@ -143,9 +143,10 @@ impl<'a, J: Naming, H: Histories, B: Allocator> Clerk<'a, J, H, B> {
         self.window.look(user)
     }
 
-    /// Asks a question in the shard of its product code, which is held meanwhile, as `Shard::ask`: its tag, or the values printed
-    /// on its pack if they are given, may hold it back. The receipt of a question that was put is kept, if the clerk keeps
-    /// receipts. An audit's answer comes with a list of the entries that it shows. The call waits for the shard.
+    /// Asks a question in the shard of its product code, which is held meanwhile, as `Shard::ask`. Its tag may hold it
+    /// back, and so may the values printed on its pack, if they are given. The receipt of a question that was put is
+    /// kept, if the clerk keeps receipts. An audit's answer comes with a list of the entries that it shows. The call
+    /// waits for the shard.
     ///
     /// The answer is given on a trail that begins with all that the clerk has seen of the shard. Then the clerk has seen the
     /// entry that answers, too. The place of an entry that was put is the clerk's own: no other answer has it. Of the clerks

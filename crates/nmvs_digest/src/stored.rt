@@ -13,8 +13,8 @@ const MOST_BYTES: u64 = 4096;
 ///
 /// # Errors
 ///
-/// There is no memory; `PATH.sha256` cannot be read; or it is not the one line for a file of this name, which stands in it
-/// without its folders.
+/// There is no memory, `PATH.sha256` cannot be read, or it is not the one line for a file of this name. The line names
+/// the file without its folders.
 pub fn stored_digest<R: Files>(
     rt: &R,
     alloc: Global,

@@ -1,7 +1,7 @@
 //! The threads of a server among several machines.
 use crate::{CopyNotes, Dialer};
 
-/// What the threads beside a server among several machines run, so that no answer waits for it.
+/// The work of the threads next to a server among several machines. No answer waits for it.
 #[derive(Clone, Copy)]
 pub struct EngineThreads<'t> {
     /// Opens the connections to the engine.

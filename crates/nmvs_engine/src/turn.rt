@@ -8,10 +8,10 @@ use nmvs_cluster::{Trimming, give_up, trim_log};
 use nmvs_etcd::{Log, OwnerName};
 use std::alloc::Global;
 
-/// The number of tries of a step. A follower takes over in the end, also if all tries to give the turn up are in vain (own).
+/// The number of tries of a step. A follower takes over in the end, also if all tries to give the turn up fail (own).
 const TRIES: u32 = 3;
 
-/// The turn of a server as the owner of the logs, and a connection for the steps that it takes besides appending.
+/// The turn of a server as the owner of the logs, and a connection for its steps other than appending.
 #[derive(Drop)]
 pub struct Turn<'r> {
     connection: Wire<'r>,

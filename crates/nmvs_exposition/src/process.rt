@@ -31,7 +31,7 @@ impl ProcessFiles {
         ProcessFiles { memory, open_files }
     }
 
-    /// What the system reports now.
+    /// The values that the system reports now.
     pub(crate) fn read(&self) -> SystemReading {
         SystemReading {
             uptime: uptime().unwrap_or(Duration::ZERO),

@@ -109,7 +109,7 @@ impl<'p> Service for MetricsService<'p> {
 }
 
 impl<'p> MetricsService<'p> {
-    /// Answers with these metrics, and with what the system reports.
+    /// A service that answers with these metrics and these values of the system.
     pub fn new(alloc: Global, metrics: &'p Metrics, system: SystemReading) -> MetricsService<'p> {
         MetricsService {
             alloc,

@@ -30,8 +30,8 @@ is_code_or_prefix t = is_product_code t || is_company_prefix t
 abbrev pub is_codes : List ℕ → Bool
 is_codes t = nat_le (length t) longest_codes && list_all is_code_or_prefix (codes_in t)
 
--- whether a product code is this code, or has this company prefix: the prefix stands after the first digit, the indicator
--- (GS1 General Specifications, section 3.3.2)
+-- whether a product code is this code, or has this company prefix after its first digit, the indicator (GS1 General
+-- Specifications, section 3.3.2)
 abbrev pub is_named_by : List ℕ → List ℕ → Bool
 is_named_by code t = bytes_eq t code || starts_with nat_eq (drop 1 code) t
 

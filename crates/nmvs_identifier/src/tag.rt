@@ -9,8 +9,8 @@ use std::marker::Model;
 /// The most bytes of a tag (own): a UUID has 36.
 const LONGEST_TAG: usize = 40;
 
-/// The tag of a line, by which a user can send it again: 1 to 40 letters, digits and characters of `._-`, the first a letter or
-/// a digit, so that a UUID is one (own). The `#` in front of it in a line is no part of it.
+/// The tag of a line, by which a user can send it again (own): 1 to 40 letters, digits and characters of `._-`. The
+/// first is a letter or a digit. A UUID is a tag. The `#` in front of it in a line is no part of it.
 ///
 /// Order, equality and hash are those of its text.
 #[derive(Clone, Copy, PartialEq, Eq, PartialOrd, Ord, Hash)]

@@ -3,8 +3,8 @@ use Rattle.std.specs.Prelude.{ℕ, Bool, nat_lt, if◌then◌else◌}
 use Rattle.nmvs_metrics.specs.declared.readiness.Readiness.{Readiness}
 use Rattle.nmvs_metrics.specs.declared.readiness.Readiness.TheVariants.{Starting, Standby, NoEngine, Listening, LogFailed, LogHangs}
 
--- the readiness of a server that listens or not, follows another or not, whose engine is silent or not, whose log failed or not,
--- and whose write or sync has taken this many nanoseconds: after 5 seconds the log hangs
+-- the readiness of a server by four facts: it listens, it follows another, the engine is silent, and the log failed.
+-- The write or sync of the log has taken this many nanoseconds: after 5 seconds the log hangs.
 abbrev pub readiness : Bool → Bool → Bool → Bool → ℕ → Readiness
 readiness listens is_standby is_silent has_failed nanoseconds =
     if has_failed then LogFailed

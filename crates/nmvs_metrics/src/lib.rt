@@ -1,8 +1,8 @@
 //! The counters of a running server.
 //!
-//! The threads of a server count what they do in [`Metrics`], which they share and none waits for. Each worker has counters of
-//! its own ([`WorkerMetrics`]). [`Metrics::snapshot`] reads them all, as values of [`families`], which are what a server counts.
-//! [`Metrics::readiness`] says whether the server is ready. [`ClockReading`] finds steps of the system's clock.
+//! The threads of a server count what they do in [`Metrics`], which they share and none waits for. Each worker has
+//! counters of its own ([`WorkerMetrics`]). [`Metrics::snapshot`] reads them all, as values of the [`families`] of the
+//! page. [`Metrics::readiness`] says whether the server is ready. [`ClockReading`] finds steps of the system's clock.
 #![tactic(auto)]
 
 mod clock;

@@ -21,8 +21,8 @@ pub enum Readiness {
     LogHangs,
 }
 
-/// The readiness of a server that listens or not, follows another or not, with an engine that is silent or not, and whose log
-/// failed or not. The write or sync of the log that is under way has taken this many nanoseconds, or 0 if none is.
+/// The readiness of a server by four facts: it listens, it follows another, the engine is silent, and the log failed.
+/// The write or sync of the log that is under way has taken this many nanoseconds, or 0 if none is.
 pub(crate) fn readiness_of(
     listens: bool,
     is_standby: bool,

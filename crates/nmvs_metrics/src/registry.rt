@@ -1,4 +1,4 @@
-//! What a running server counts: the families of its page, and the counters under them.
+//! The counts of a running server: the families of its page, and their counters.
 ghost use Rattle.std.specs.Prelude.{◌≡◌, map};
 ghost use Rattle.nmvs_metrics.specs.Families.{row_of};
 ghost use Rattle.nmvs_metrics.specs.Families as specs;
@@ -36,7 +36,7 @@ pub(crate) enum Count {
     Shared,
     /// 1 if it follows another.
     Standby,
-    /// 1 if the engine did not answer its last read as one that follows.
+    /// 1 if the server follows and the engine is silent.
     Silent,
     /// How many entries it has read of the log as one that follows.
     Followed,
@@ -84,7 +84,7 @@ pub struct Family {
     pub(crate) source: Source,
 }
 
-/// Where the values of a family come from.
+/// The source of a family's values.
 #[derive(Clone, Copy)]
 pub(crate) enum Source {
     /// 1, with these two words.
@@ -568,7 +568,7 @@ impl Metrics {
             .set(Count::Standby as usize, u64::from(is_standby));
     }
 
-    /// Notes whether the engine answered the last read of a server that follows.
+    /// Notes whether the engine answers a server that follows, or is silent.
     pub fn note_engine(&self, answers: bool) {
         self.server.set(Count::Silent as usize, u64::from(!answers));
     }

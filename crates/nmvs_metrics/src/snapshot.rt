@@ -35,7 +35,7 @@ pub enum Label {
     Words(&'static str, &'static str),
 }
 
-/// The count of times that are no longer than this bound, and longer than that of the bucket before.
+/// The count of times that are no longer than this bound, and longer than that of the previous bucket.
 #[derive(Clone, Copy)]
 pub struct Bucket {
     /// In seconds, as the page has it.
@@ -43,7 +43,7 @@ pub struct Bucket {
     pub count: u64,
 }
 
-/// What the system reports at one moment.
+/// The values that the system reports at one moment.
 #[derive(Clone, Copy)]
 pub struct SystemReading {
     /// How long the machine runs.
@@ -56,7 +56,7 @@ pub struct SystemReading {
     pub most_files: Option<u64>,
 }
 
-/// How often something took how long.
+/// The number of times in each bucket, and their sum.
 #[derive(Drop)]
 pub struct Histogram {
     /// The shortest times first; the last bucket has no bound.

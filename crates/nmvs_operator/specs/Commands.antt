@@ -100,7 +100,7 @@ pub record LacksUsers {S : Type 0} (keeps : Keeps S) (all : Bool) (old new : Off
   pub pending : AddsFirst bytes old.register.pending new.register.pending
   pub latest : new.latest ≡ old.latest
 
--- the answer to an order: the lines that it asked for, and how it ended: as the order that was carried out, or by a fault
+-- the answer to an order: the lines that it asked for, and its end, the order that was carried out or a fault
 pub record Said : Type 0 where
   pub lines : List ℕ
   pub ends : Result Order ObeyFault
@@ -120,7 +120,8 @@ Changes does old command (Err (obey.Undone fault)) new = does old.service (order
 Changes does old command (Err obey.Memory) new = does old.service (orders.Change command) (Ok []) new.service × Lacks old command new
 Changes does old command (Err _) new = ⊥
 
--- a reload ended so, and these are the lines of its answer: the number of users whom it changed, or the faults of the users file
+-- a reload ended so, with these lines of its answer: the number of users whom it changed, or the faults of the users
+-- file
 abbrev pub Renews : {S : Type 0} → Keeps S → Bool → Office S → List ℕ → Result Order ObeyFault → Office S → Type 0
 Renews keeps all old lines (Ok order) new =
     (order ≡ orders.Reload all) × Reloads keeps all old new × (lines ≡ changed_line (changed_users old.register.published new.register.published))
@@ -256,8 +257,8 @@ pub record ReadsEnd (source source' : Told) (kept : List ℕ) : Type 0 where
   pub bytes : source'.bytes ≡ source.bytes ++ line
   pub ends : InputEnds source source'
 
--- all lines of an input that have their LF were answered, and none stopped the server; a line that was begun after them is
--- answered, and not carried out
+-- all lines of an input that have their LF were answered, and none stopped the server. A line that was begun after them
+-- is answered, and not carried out.
 pub record EndsWithInput (input : List ℕ) (source : Told) (sink : Taken) (lines : List (List ℕ)) (said : List Said) (source' : Told) (sink' : Taken) : Type 0 where
   pub all : lines ≡ input_lines input
   pub goes_on : GoesOn said

@@ -14,7 +14,7 @@ use Rattle.nmvs_operator.specs.declared.order.Grammar.TheVariants.{Alone, Over, 
 use Rattle.nmvs_operator.specs.declared.order.Order.{Order}
 use Rattle.nmvs_operator.specs.declared.order.Order.TheVariants as orders
 
--- a row: the word of an order, what HELP shows behind it, and what follows it in a line
+-- a row: the word of an order, the text that HELP shows after it, and the grammar of the texts after it
 abbrev pub Row : Type 0
 Row = List ℕ × List ℕ × Grammar
 
@@ -45,7 +45,7 @@ help_of rows = flat_map (λ row. row.0 ++ (row.1 ++ codes "\n")) rows
 unfoldable pub help_lines : List ℕ
 help_lines = help_of rows
 
--- what follows a word, if it is one of an order
+-- the grammar after a word, if it is one of an order
 unfoldable pub grammar_of : List ℕ → Option Grammar
 grammar_of word = option_map (λ row. row.2) (find (λ row. bytes_eq word row.0) rows)
 
@@ -120,7 +120,7 @@ abbrev pub trim_fault : List (List ℕ) → Option CommandFault
 trim_fault (text ∷ []) = if is_number text then None else Some fault.Fields
 trim_fault _ = Some fault.Fields
 
--- the first fault of a word and of these texts after it, by what follows it
+-- the first fault of a word and of these texts after it, by the grammar after it
 abbrev pub fault_by : Option Grammar → List ℕ → List (List ℕ) → Option CommandFault
 fault_by None word texts = Some fault.Word
 fault_by (Some (Alone order)) word texts = alone_fault texts

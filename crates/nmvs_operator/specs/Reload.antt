@@ -14,16 +14,16 @@ abbrev pub is_suspension : Look → Bool
 is_suspension look.Suspended = true
 is_suspension _ = false
 
--- whether a command of the users file takes effect after these changes: each with ALL, else each but the enrolment of a user who
--- is suspended
+-- whether a command of the users file takes effect after these changes: each with ALL, else each but the enrolment of a
+-- suspended user
 abbrev pub takes_effect : Bool → List Change → Command → Bool
 takes_effect true published command = true
 takes_effect false published (Enrol user enrolment) = not (is_suspension (known published user))
 takes_effect false published (Suspend user) = true
 takes_effect false published (Remove user) = true
 
--- whether a line of a users file takes effect after these changes: the one of a command does where that does, and one that says
--- nothing does
+-- whether a line of a users file takes effect after these changes. A command's line does if the command does, and a
+-- blank line or comment does.
 pub record LineTakesEffect (all : Bool) (published : List Change) (line : List ℕ) (takes : Bool) : Type 0 where
   pub commands : List Command
   pub of_line : AreLinesOf (line ∷ []) commands

@@ -52,8 +52,8 @@ pub record AddsFirst (bytes : List ℕ) (before after : List Change) : Type 0 wh
   pub file : AreLinesOf first commands
   pub changes : Adds commands before after
 
--- the line of this number, counted from 1, says something and has this fault; the changes of the lines before it are
--- added to those that were pending
+-- the line of this number, counted from 1, says something and has this fault. The changes of the lines before it are
+-- added to those that were pending.
 pub record StopsAt (bytes : List ℕ) (number : ℕ) (fault : CommandFault) (before after : List Change) : Type 0 where
   pub first : List (List ℕ)
   pub line : List ℕ
@@ -66,8 +66,8 @@ pub record StopsAt (bytes : List ℕ) (number : ℕ) (fault : CommandFault) (bef
   pub file : AreLinesOf first commands
   pub changes : Adds commands before after
 
--- bytes of which this would be the line, counted from 1, follow the last LF; the changes of the lines before them are
--- added to those that were pending
+-- the bytes after the last LF would be the line of this number, counted from 1. The changes of the lines before them
+-- are added to those that were pending.
 pub record StopsShort (bytes : List ℕ) (number : ℕ) (before after : List Change) : Type 0 where
   pub count : number ≡ length (input_lines bytes) + 1
   pub some : 0 < length (unfinished_line bytes)
@@ -95,7 +95,7 @@ pub record Loads (source source' : Told) (published pending published' : List Ch
 abbrev pub CannotRead : Told → Told → ℕ → Type 0
 CannotRead source source' reads = (source'.failed ≡ true) ⊎ ((source'.reads ≡ source.reads + reads) × (source'.ended ≡ false))
 
--- the reason why the bytes of a users file are not there: no memory for those that were read, or a read that did not reach the
+-- the reason why the bytes of a users file are not there: no memory for the read ones, or reads that did not reach the
 -- end
 abbrev pub ReadFails : Told → Told → ℕ → LoadFault → Type 0
 ReadFails source source' reads load.Memory = (bytes : List ℕ) × (source'.bytes ≡ source.bytes ++ bytes)

@@ -6,8 +6,8 @@ ghost use Rattle.nmvs_operator.specs.Address.{IsOwn, Spells};
 
 use std::net::{IpAddr, Ipv4Addr, SocketAddr};
 
-/// The address that a text spells: a port alone is one of 127.0.0.1, and any other text has to be an address with its port, as
-/// `127.0.0.1:7161` or `[::1]:7161`.
+/// The address that a text spells. A port alone is one of 127.0.0.1. Any other text has to be an address with its port,
+/// as `127.0.0.1:7161` or `[::1]:7161`.
 pub(crate) fn address_in(text: &str) -> Option<SocketAddr>
     ensures spelled { IfSome result (Spells text.now) }
     ensures none { IfNone result ((address : TheAddress) → ¬ Spells text.now address) }

@@ -190,8 +190,8 @@ fn ends(order: &Order<'_>) -> bool
 ///
 /// # Errors
 ///
-/// The server does not keep it, and nothing is published; or memory is wanting for a change that the server keeps, and nothing
-/// is published: the pending changes had no room for it, or it is pending, and the next publication carries it.
+/// The server does not keep it, or there is no memory to publish a change that the server keeps. Nothing is published.
+/// In the second case the pending changes had no room for it, or it is pending and the next publication carries it.
 fn change<'r, J: Naming, R: Wait, A: Allocator, S: Service>(
     alloc: Global,
     command: &Command,

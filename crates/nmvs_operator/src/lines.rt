@@ -8,8 +8,8 @@ use nmvs_stream::{Failed, Source};
 /// The most reads that are made of a line: more than any has bytes.
 const MOST_READS: u64 = u64::MAX;
 
-/// The kept part of the next line of a source. It reads no byte behind the line's LF. (A console hands its lines over from
-/// memory, so that it costs little to read them byte by byte.)
+/// The kept part of the next line of a source. It reads no byte after the line's LF. A console hands its lines over
+/// from memory, so reading them byte by byte costs little.
 ///
 /// # Errors
 ///

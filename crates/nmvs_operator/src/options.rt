@@ -1,4 +1,4 @@
-//! What each option is, and the values that a command line gives them.
+//! The options, and the values that a command line gives them.
 ghost use Rattle.std.specs.Prelude.{◌≤◌, IfOk};
 
 use crate::address::own_address;
@@ -17,7 +17,8 @@ pub const MOST_SHARDS: u64 = 8;
 /// 1 January 2026, 00:00:00 UTC, in seconds: the one moment of a rehearsal that names no other (own).
 const NEW_YEAR: i64 = 1_767_225_600;
 
-/// What an option is. The help leaves out an option without a help of its own.
+/// An option: its name, its value, its default, and its help. The help of the program leaves out an option whose own is
+/// empty.
 #[derive(Clone, Copy)]
 pub struct Row {
     pub name: &'static str,

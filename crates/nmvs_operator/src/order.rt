@@ -21,7 +21,7 @@ pub enum Order<'l> {
     Export(&'l str),
     /// To take from the engine the blocks of the log up to this number.
     Trim(u64),
-    /// What fixed words ask for.
+    /// The order of fixed words.
     Fixed(Fixed),
 }
 
@@ -46,7 +46,7 @@ pub enum Fixed {
     Help,
 }
 
-/// What follows the word of an order in its line.
+/// The grammar of the texts after the word of an order.
 #[derive(Clone, Copy)]
 pub(crate) enum Grammar {
     /// Nothing.
@@ -63,7 +63,7 @@ pub(crate) enum Grammar {
     User,
 }
 
-/// A row: the word of an order, what `HELP` shows behind it, and what follows it in a line.
+/// A row: the word of an order, the text that `HELP` shows after it, and the grammar of the texts after it.
 type Row = (&'static str, &'static str, Grammar);
 
 /// The orders, as `HELP` lists them. The comment on a row is its effect in docs/COMMANDS.md.
@@ -169,14 +169,14 @@ fn read_fields<'l>(fields: &[&'l str]) -> Result<Order<'l>, CommandFault>
     }
 }
 
-/// What follows this word, if it is one of an order.
+/// The grammar after this word, if it is one of an order.
 fn grammar_of(word: &str) -> Option<Grammar>
     ensures { result ≡ grammar_named word.now }
 {
     grammar_in(ROWS, word)
 }
 
-/// What follows this word by these rows.
+/// The grammar after this word by these rows.
 fn grammar_in(rows: &[Row], word: &str) -> Option<Grammar>
     ensures { result ≡ option_map (λ row. row.2) (find (λ row. bytes_eq word.now row.0.now) rows.now) }
 {

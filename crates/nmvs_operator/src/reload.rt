@@ -23,8 +23,8 @@ use nmvs_stream::{Failed, Sink, cut_line, deliver, write_all};
 use std::alloc::{AllocError, Allocator, Global};
 use std::sync::Wait;
 
-/// Takes the users file anew, and answers: with `all` each of its commands takes effect, else each but the enrolment of a user
-/// who is suspended. A failed write changes nothing.
+/// Takes the users file anew, and answers. With `all` each of its commands takes effect, else each but the enrolment of
+/// a suspended user. A failed write changes nothing.
 pub(crate) fn reload<'r, J: Naming, R: Wait, A: Allocator, W: Sink, S: Service>(
     alloc: Global,
     all: bool,

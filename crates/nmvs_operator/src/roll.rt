@@ -107,8 +107,8 @@ pub(crate) fn count_changed<J: Naming, R: Wait + Drop, A: Allocator>(
     changed
 }
 
-/// 1 if the user has another state than the first of these, or than a removed user if there is none, else 0; and the other
-/// states.
+/// 1 if the user's state differs from the first of these, else 0; and the other states. Without a first one, the state
+/// is compared with that of a removed user.
 fn next_changed<'s>(before: &'s [Standing], user: &(Name, Standing)) -> (u64, &'s [Standing])
     ensures count { (users : List (TheName × TheStanding)) → changed_from before.now (user.now ∷ users)
         ≡ result.0 + changed_from result.1.now users }

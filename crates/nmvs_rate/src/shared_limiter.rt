@@ -16,8 +16,8 @@ pub struct SharedLimiter<A: Allocator> {
 }
 
 impl<A: Allocator + Copy> SharedLimiter<A> {
-    /// A limiter without buckets. Moments count from now on, by a clock of the machine that never goes back. If it cannot be
-    /// read, no lines come in.
+    /// A limiter without buckets. Moments count from now on, by a clock of the machine that never goes back. If it
+    /// cannot be read, buckets gain no lines.
     pub fn new(rt: &impl Clock, alloc: A, rate: Rate) -> SharedLimiter<A> {
         SharedLimiter {
             limiter: Mutex::new(RateLimiter::new(alloc, rate)),

@@ -12,8 +12,8 @@ abbrev pub count_of : Option Raised → ℕ
 count_of None = 0
 count_of (Some raised) = raised.count
 
--- the users after one more alert, each once: a user with earlier alerts keeps its place, and a new one goes last; a count ends
--- at the most that 64 bits hold
+-- the users after one more alert, each once: a user with earlier alerts keeps its place, and a new one goes last. A
+-- count ends at the most that 64 bits hold.
 abbrev pub with_alert : List (Name × Raised) → Name → Name → List (Name × Raised)
 with_alert users user premises =
     insert_entry same_text users user (record { premises = premises; count = min (count_of (lookup (same_text user) users) + 1) 18446744073709551615 })

@@ -44,8 +44,9 @@ use Rattle.nmvs_messages.specs.declared.withheld.Withheld.{Withheld}
 use Rattle.nmvs_messages.specs.Tags.{tag_text}
 use Rattle.nmvs_reports.specs.Report.{product_line, report_lines}
 
--- a desk: its clerk, the number of its repository's shards, and whether its users have a rate; how often its clock was asked,
--- and the seconds that it gave last; how often the latest notice of the directory was read, and the notice that was read last
+-- a desk: its clerk, the number of its repository's shards, and whether its users have a rate. `asked` and `gave` are
+-- the number of calls of its clock, and the seconds of the last one. `reads` and `notice` are the number of reads of
+-- the directory's latest notice, and the last one.
 pub record DeskView : Type 0 where
   pub clerk : ClerkView
   pub shards : ℕ
@@ -68,8 +69,9 @@ pub record StopsAtClock (old new : DeskView) : Type 0 where
   pub same : new ≡ record old { asked = old.asked + 1; gave = new.gave }
   pub none : IsMoment new.gave → ⊥
 
--- the clock was asked once, and gives a moment; then the latest notice was read once, and the clerk learns it; nothing else
--- changes. So no line is judged by an older list of changes than an earlier line of this desk, nor than this notice
+-- the clock was asked once, and gives a moment. Then the latest notice was read once, and the clerk learns it; nothing
+-- else changes. So no line is judged by an older list of changes than an earlier line of this desk, nor than this
+-- notice.
 pub record IsTold (old new : DeskView) : Type 0 where
   pub same : new ≡ record (with_seen new.clerk.seen old) { asked = old.asked + 1; gave = new.gave; reads = old.reads + 1; notice = new.notice }
   pub moment : IsMoment new.gave
@@ -97,8 +99,9 @@ pub record Knows (old : DeskView) (from : Peer) (ask : Ask) (may : Bool) (enrolm
   pub looks : LooksUp old (user_of ask) (looks.Known enrolment) new
   pub speaks : speaks_for from (user_of ask) enrolment.actor.authorisation ≡ may
 
--- the reason to turn away a line of a peer that names a suspended user: the suspension, unless the peer is a certificate that
--- may be another's; one that names an authorisation may be, since the directory tells none of a suspended user
+-- the reason to turn away a line of a peer that names a suspended user: the suspension, unless the peer is a
+-- certificate that may be another's. One that names an authorisation may be, since the directory gives none of a
+-- suspended user.
 abbrev pub suspended_turn : Peer → Name → Turn
 suspended_turn peers.Anyone user = turns.Suspended
 suspended_turn (peers.User own) user = if same_text user own then turns.Suspended else turns.Nobody
@@ -133,9 +136,10 @@ pub record Admits (old : DeskView) (from : Peer) (ask : Ask) (moment : ℕ) (act
   pub may : may_ask_this ask.asked enrolment.actor.role ≡ true
   pub product : may_upload_this ask.asked enrolment ≡ true
 
--- the reason to turn a line away, the first that holds: the clock gives no moment; the directory does not know the user, or
--- cannot be entered; the peer may not speak for the user; the user is suspended, or its last day is over; the user's lines are
--- over the rate, or there is no memory to count them; the role gets no report; the product is none that the user may upload
+-- the reason to turn a line away, the first that holds. The clock gives no moment. The directory does not know the
+-- user, or is closed. The peer may not speak for the user. The user is suspended, or its last day is over. The user's
+-- lines are over the rate, or there is no memory to count them. The role gets no report. The product is none that the
+-- user may upload.
 abbrev pub Refuses : DeskView → Peer → Ask → Turn → DeskView → Type 0
 Refuses old from ask turns.Clock new = StopsAtClock old new
 Refuses old from ask turns.Nobody new =
@@ -163,22 +167,23 @@ abbrev pub RestsOn : ℕ → ℕ → Option Basis → Type 0
 RestsOn shard entries None = entries ≡ 0
 RestsOn shard entries (Some basis) = (basis.shard ≡ shard) × (basis.place + 1 ≡ entries)
 
--- the reason to turn away a question that was not put: the tag is another question's, the pack was uploaded with other values than
--- those printed on it, or a late copy would raise an alert
+-- the reason to turn away a question that was not put. The tag is another question's, the pack was uploaded with other
+-- values than those printed on it, or a late copy would raise an alert.
 abbrev pub not_put_turn : NotPut → Turn
 not_put_turn not_put.Other = turns.Tag
 not_put_turn not_put.Differs = turns.Differs
 not_put_turn not_put.Changed = turns.Changed
 
--- the answer to an outcome in the shard of this number, and its basis: the reply of the entry that answers the question, with
--- the text of the entries that are shown, on the entries up to that one; or a turn, on all entries that were there
+-- the answer to an outcome in the shard of this number, and its basis. It is the reply of the entry that answers the
+-- question, with the text of the shown entries, on the entries up to that one; or a turn, on all entries that were
+-- there.
 abbrev pub Says : ℕ → Outcome → List Entry → Content → Option Basis → Type 0
 Says shard (outcomes.New a) shown said basis = (said ≡ contents.Replied a.reply (export_text shown)) × (basis ≡ Some (record { shard = shard; place = a.place }))
 Says shard (outcomes.Again a) shown said basis = (said ≡ contents.Replied a.reply (export_text shown)) × (basis ≡ Some (record { shard = shard; place = a.place }))
 Says shard (outcomes.NotPut why entries) shown said basis = (said ≡ contents.Turned (not_put_turn why)) × RestsOn shard entries basis
 
--- the clerk asks the question in the shard of this number, once, and the desk gives the outcome, with the entries that the
--- rules show; nothing else changes
+-- the clerk asks the question in the shard of this number, once. The desk gives the outcome, with the entries that the
+-- rules show; nothing else changes.
 pub record Replies (old : DeskView) (shard : ℕ) (put : Put) (printed : Option Printed) (said : Content) (basis : Option Basis) (new : DeskView) : Type 0 where
   pub outcome : Outcome
   pub shown : List Entry
@@ -196,8 +201,8 @@ pub record SeesShard (old : DeskView) (shard : ℕ) (new : DeskView) : Type 0 wh
   pub others : (i : ℕ) → i ≢ shard → row new.clerk.sights i ≡ row old.clerk.sights i
   pub same : new ≡ record old { clerk = record old.clerk { sights = new.clerk.sights } }
 
--- the report of the product code on the clerk's sight of its shard, each line after the tag of the line that asked, and all of
--- that sight as its basis
+-- the report of the product code on the clerk's sight of its shard, and all of that sight as its basis. Each line
+-- follows the tag of the line that asked.
 pub record Reports (new : DeskView) (shard : ℕ) (tag : Option Tag) (code : ProductCode) (said : Content) (basis : Option Basis) : Type 0 where
   pub is : let t = row new.clerk.sights shard in said ≡ contents.Reported (product_line t code) (report_lines (tag_text tag) t code)
   pub rests : RestsOn shard (length (row new.clerk.sights shard)) basis

@@ -1,5 +1,5 @@
--- Who may ask, and the reasons to refuse a question, in the order in which they are told (the order is own). The words are those
--- of the laws: questions and replies of a trail alone.
+-- Who may ask, and the reasons to refuse a question, in the order in which they count (the order is own). The words are
+-- those of the laws: questions and replies of a trail alone.
 use Rattle.std.specs.Prelude.{ℕ, ◌+◌, pos, int_lt, nat_le, Bool, false, not, ◌&&◌, List, [], ◌∷◌, find, Option, Some, None, if◌then◌else◌}
 use Rattle.std.specs.List.{list_any}
 use Rattle.std.specs.Option.{option_map_or}

@@ -135,11 +135,12 @@ impl<'r, 'a, R: Wait + rt::Clock + Log, J: Naming, H: Histories, K: Clock> Clerk
         }
     }
 
-    /// Admits a line, or gives the reason to turn it away. The reasons come in this order. The clock gives no moment. The
-    /// directory does not know the user, who is looked up once, after the clerk has learnt the latest notice, or cannot be read; this
-    /// waits for the notice's lock. The peer may not speak for the user. The user is suspended, or its last day is over. The line is
-    /// over the user's rate, or there is no memory to count it; this waits for the limiter's lock. The user's role gets no report.
-    /// The product of an upload is none of those that the user may upload.
+    /// Admits a line, or gives the reason to turn it away. The reasons come in this order. The clock gives no moment.
+    /// The directory does not know the user, or cannot be read. The user is looked up once, after the clerk has learnt
+    /// the latest notice; this waits for the notice's lock. The peer may not speak for the user. The user is suspended,
+    /// or its last day is over. The line is over the user's rate, or there is no memory to count it; this waits for the
+    /// limiter's lock. The user's role gets no report. The product of an upload is none of those that the user may
+    /// upload.
     fn admit(&mut self, from: &Peer, ask: &Ask) -> Result<(Moment, Actor), Turn>
         ensures admits { IfOk result (λ r. Admits self.old from.now ask.now r.0 r.1 self.new) }
         ensures refuses { IfErr result (λ turn. Refuses self.old from.now ask.now turn self.new) }
@@ -311,8 +312,9 @@ fn at_moment(moment: Moment, said: Look) -> Look
     }
 }
 
-/// The turn for a line of this peer that names a user who is suspended: to a certificate of another name the user is nobody. So
-/// it is to each certificate that names an authorisation, since the directory tells none of a suspended user.
+/// The turn for a line of this peer that names a user who is suspended: to a certificate of another name the user is
+/// nobody. So it is to each certificate that names an authorisation, since the directory gives none of a suspended
+/// user.
 fn suspended_turn(from: &Peer, user: &Name) -> Turn
     ensures { result ≡ turn_of_suspended from.now user.now }
 {
@@ -381,7 +383,8 @@ fn put_at(moment: Moment, user: &Name, actor: Actor, question: Question, tag: Op
 /// The batches of a product code with their records.
 type Batches = Vec<(Batch, BatchRecord)>;
 
-/// The report with this first line and these batches, to a line with this tag, if it has one, and the list of its other lines.
+/// The report with this first line and these batches, and the list of its other lines. The line that asked has this
+/// tag, if it has one.
 fn reported<H: Histories>(
     first: String,
     batches: Batches,
@@ -477,8 +480,8 @@ fn basis_of(shard: usize, count: usize) -> Option<Basis>
     })
 }
 
-/// Makes the first line of the report of a product code from a shard that is held, copies its batches, and counts the entries of
-/// the trail.
+/// Reads the report of a product code from a shard that is held: its first line, its batches, and the number of entries
+/// of the trail.
 #[derive(Clone, Copy)]
 struct ReportOf<'c> {
     alloc: Global,

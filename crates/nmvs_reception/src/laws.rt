@@ -15,21 +15,21 @@ ghost use Rattle.nmvs_rules.specs.Rules.{reply_of};
 ghost use Rattle.nmvs_reception.specs.Desk.{is_report, with_seen, with_sights, Admits, DeskView, Refuses};
 ghost use Rattle.nmvs_reception.specs.Refusals.{askers, first_reason, reasons, refusal_in};
 
-/// A question is refused for its role exactly if its role is not among those that may ask it, whatever the trail has: nothing of the
-/// pack is looked at before (own, after the Articles that `askers` names). On every trail.
+/// On every trail, a question is refused for its role exactly if its role is not among those that may ask it (own,
+/// after the Articles that `askers` names). So nothing of the pack is looked at first.
 pub fn who_may_ask()
     ensures { (t : List Entry) (q : Put) →
         (reply_of t q ≡ reply.Refused refusal.Role) ↔ IsFalse (list_any (same_role q.actor.role) (askers q.question)) }
 {}
 
-/// Of the reasons that apply to a question the reply gives the one that stands first in the list, and no question is refused for
-/// another (own). On every trail.
+/// On every trail, the reply to a question gives the first reason of the list that applies. No question is refused for
+/// another (own).
 pub fn first_reasons()
     ensures { (t : List Entry) (q : Put) → refusal_in (reply_of t q) ≡ first_reason (reasons t q) }
 {}
 
-/// A line that is turned away before it is asked is turned away for the same reason whatever the trails have, and nothing of them
-/// is looked at. A report is admitted for an authority alone (own).
+/// The reason to turn a line away unasked is the same whatever the trails have, and nothing of them is looked at. A
+/// report is admitted for an authority alone (own).
 pub fn admission()
     ensures unlooked { (old new : DeskView) (from : Peer) (ask : Ask) (turn : Turn) → Refuses old from ask turn new →
         new.clerk ≡ (with_seen new.clerk.seen old).clerk }

@@ -9,7 +9,7 @@
 //!   keeps. [`whole_lines`] is the part of it that a start reads.
 //! - A [`LogStore`] is a log in a file, or elsewhere. [`Progress`] reports how far a long work is.
 //!
-//! It names neither the desk nor the engine of several machines: exports and the engine's logs stand above it.
+//! This crate names neither the desk nor the engine of several machines: exports and the engine's logs stand above it.
 #![tactic(auto)]
 
 mod fault;

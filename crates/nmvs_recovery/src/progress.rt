@@ -55,8 +55,8 @@ pub struct Progress<'p, R> {
 }
 
 impl<'p, R: Log + Clock + Eprint> Progress<'p, R> {
-    /// A work that begins now. Its reports go to the terminal of standard error, if there is one and the log has this format of a
-    /// text, and else to the log.
+    /// A work that begins now. Its reports go to the terminal of standard error, if there is one and this format of the
+    /// log is text. Otherwise they go to the log.
     pub fn begin(
         rt: &'p R,
         work: &'static str,

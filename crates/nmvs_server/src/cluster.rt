@@ -42,8 +42,8 @@ pub(crate) fn serve_in_cluster<'r, 'o, R: Host + Sync, T: Sides>(
     }
 }
 
-/// Follows the server that answers until this one owns the log. `None` if the operator ends this one. First it tries what an owner
-/// needs, so that a wrong option shows at the start and not at a takeover.
+/// Follows the server that answers until this one owns the log. `None` if the operator ends this one. It tries the
+/// sockets and ports of an owner first: a wrong option shows at the start, not at a takeover.
 fn follow<'r, 'o, R: Host + Sync, T: Sides>(
     run: &Run<'r, 'o, R>,
     cluster: &'o Cluster,

@@ -17,7 +17,7 @@ use std::sync::atomic::AtomicBool;
 use std::thread;
 use std::thread::Threads;
 
-/// What runs beside a server.
+/// The interrupt of a server's console, and the threads next to the server.
 #[derive(Clone, Copy)]
 pub struct Beside<'b> {
     /// Whether the console is to give no further command.

@@ -43,7 +43,7 @@ impl Directions {
     }
 }
 
-/// The operator's side of the orders. (No contract tells what an atomic value holds.)
+/// The operator's side of the orders. (No contract says what an atomic value holds.)
 #[derive(Clone, Copy)]
 pub(crate) struct Director<'d>(pub(crate) &'d Directions);
 

@@ -4,7 +4,8 @@
 //! - [`stand_by`] follows the log of a server of another machine, until this one owns it ([`Followed`]).
 //!   [`prepare_followed`] goes on from that log.
 //!
-//! While it follows, it answers the operator alone. It names no desk: a server is opened with what it returns.
+//! While a server follows, it answers the operator alone. This crate names no desk: its caller opens a server with the
+//! values that it returns.
 #![tactic(auto)]
 
 mod directions;
