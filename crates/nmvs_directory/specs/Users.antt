@@ -30,7 +30,7 @@ abbrev pub with_change : List (Name × Standing) → Change → List (Name × St
 with_change users change =
     insert_entry same_text users change.user (standing_after (lookup (same_text change.user) users) change.effect)
 
--- the users that the changes, oldest first, name: each once, in the order of their first changes, with its standing; a
--- removed user keeps its place
+-- the users that the changes, oldest first, name: each once, in the order of their first changes, with its standing. A
+-- removed user keeps its place.
 abbrev pub users_of : List Change → List (Name × Standing)
 users_of changes = fold with_change [] changes

@@ -8,8 +8,8 @@ use Rattle.nmvs_directory.specs.declared.look.Look.{Look}
 use Rattle.nmvs_directory.specs.declared.window.Looked.{Looked}
 use Rattle.nmvs_directory.specs.declared.look.Look.TheVariants.{Closed}
 
--- a window that had seen one list of changes looked up a user: it then has a list that begins with the former, by which
--- the directory answers; or the answer is Closed, and its list is the same (own)
+-- a window that had seen one list of changes looked up a user. It then has a list that begins with the former, by which
+-- the directory answers. Or the answer is Closed, and its list is the same (own).
 abbrev pub Reads : List Change → List Change → Name → Look → Type 0
 Reads before after user look =
     (IsPrefix before after × (look ≡ known after user)) ⊎ ((look ≡ Closed) × (after ≡ before))

@@ -15,7 +15,7 @@
 //! }
 //! ```
 //!
-//! It judges no question, and keeps nothing beyond the end of the process.
+//! This crate judges no question, and keeps nothing beyond the end of the process.
 #![tactic(auto)]
 
 mod change;

@@ -154,8 +154,8 @@ impl<J: Naming, R: Wait + Drop, A: Allocator> Registrar<J, R, A> {
         self.writer.published().count()
     }
 
-    /// The user at this place, counted from 0, in the order in which the published changes first named them, and its
-    /// standing; `None` after the last.
+    /// The user at this place, counted from 0, and its standing; `None` after the last. The order is that in which the
+    /// published changes first named them.
     pub fn user(&self, place: usize) -> Option<(Name, Standing)>
         ensures { result ≡ slice_get (users_of (published self.now)) place }
     {

@@ -88,13 +88,13 @@ ReadsOver start addresses bytes (headers.Begun missing) = IsBegun start bytes mi
 ReadsOver start addresses bytes (headers.Whole name size) = IsRead start addresses bytes name.bytes size
 ReadsOver start addresses bytes headers.Broken = IsBroken start addresses bytes
 
--- the beginning of a header: the signature, version 2 with the command PROXY, the family and protocol of the addresses, and
--- the high byte of the length
+-- the beginning of a header: signature, version 2 and command PROXY, family and protocol of the addresses, and the high
+-- byte of the length
 abbrev pub start_of : ℕ → List ℕ
 start_of family = 13 ∷ 10 ∷ 13 ∷ 10 ∷ 0 ∷ 13 ∷ 10 ∷ 81 ∷ 85 ∷ 73 ∷ 84 ∷ 10 ∷ 33 ∷ family ∷ 0 ∷ []
 
--- the reading of bytes, over TCP and IPv4 (17): two addresses and two ports have 12 bytes; and over TCP and IPv6 (33): they
--- have 36
+-- the reading of bytes over TCP and IPv4 (17), and over TCP and IPv6 (33). Two addresses and two ports have 12 bytes
+-- over IPv4, and 36 over IPv6.
 abbrev pub ReadsIpv4 : List ℕ → Header → Type 0
 ReadsIpv4 bytes header = ReadsOver (start_of 17) 12 bytes header
 

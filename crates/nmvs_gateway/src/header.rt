@@ -16,8 +16,8 @@ pub enum Header {
     Broken,
 }
 
-/// The beginning of a header over TCP and IPv4: the signature, version 2 and the command PROXY, the family and protocol,
-/// and the high byte of the length.
+/// The beginning of a header over TCP and IPv4: signature, version 2 and command PROXY, family and protocol, and the
+/// high byte of the length.
 const OVER_IPV4: [u8; 15] = *b"\r\n\r\n\0\r\nQUIT\n\x21\x11\0";
 
 /// The same over IPv6.

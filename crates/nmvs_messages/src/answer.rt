@@ -66,9 +66,9 @@ pub enum Turn {
     Product,
 }
 
-/// The text of the lines that follow an answer's own: the entries that an audit shows, oldest first (Article 35), or the batches
-/// of a report. It has no bytes, and contracts alone see it. The lines are fetched from the list that the desk gives with the
-/// answer.
+/// The text of the lines after an answer's own: the entries that an audit shows, oldest first (Article 35), or the
+/// batches of a report. It has no bytes, and contracts alone see it. The lines are fetched from the list that the desk
+/// gives with the answer.
 #[derive(Drop)]
 pub struct ShownText {
     text: tag::Tag,

@@ -1,6 +1,6 @@
 ghost use Rattle.std.specs.Prelude.{◌≡◌, ◌==◌, length};
 
-/// Lines that follow the text of an answer, and are still to be fetched: the entries that an audit shows, or the batches of a
+/// Lines that follow the text of an answer and are still to be fetched: the entries of an audit, or the batches of a
 /// report.
 pub trait LineList: Drop {
     ghost use Rattle.std.specs.Prelude.{ℕ, List};

@@ -7,7 +7,7 @@ use nmvs_identifier::Name;
 /// The peer at the other end of a connection.
 #[derive(Clone, Copy, PartialEq, Eq)]
 pub enum Peer {
-    /// An unknown peer. Its lines are believed.
+    /// An unknown peer. Its lines may name any user.
     Anyone,
     /// This user.
     User(Name),

@@ -36,7 +36,7 @@ impl Piece {
         Ok(Piece { entries, text })
     }
 
-    /// Words the entries: their lines, each with LF, take the place of the text.
+    /// Composes the lines of the entries, each with LF, in place of the text.
     pub fn word_entries(&mut self)
         ensures text { self.new.text.items ≡ export_text self.old.entries.items }
         ensures entries { self.new.entries.items ≡ self.old.entries.items }

@@ -89,14 +89,14 @@ texts_fault gs user texts =
     else if not (is_name user) then Some fault.User
     else first_misread gs texts
 
--- the first fault of a user and of five texts after the word of a question about a pack, of which the third has to be IF
+-- the first fault of a user and of five texts after the word of a question about a pack. The third has to be IF.
 abbrev pub printed_fault : List ℕ → List (List ℕ) → Option LineFault
 printed_fault user (code ∷ serial ∷ word ∷ batch ∷ expiry ∷ []) =
     if bytes_eq word if_word then texts_fault (grammars Upload) user (code ∷ serial ∷ batch ∷ expiry ∷ []) else Some fault.Fields
 printed_fault user _ = Some fault.Fields
 
--- the first fault of a user and of the texts after the word of a question about a pack: two name the pack, five also the values
--- printed on it
+-- the first fault of a user and of the texts after the word of a question about a pack. Two texts name the pack, five
+-- also the values printed on it.
 abbrev pub pack_fault : List ℕ → List (List ℕ) → Option LineFault
 pack_fault user texts = if length texts == 5 then printed_fault user texts else texts_fault pack_grammars user texts
 

@@ -36,8 +36,8 @@ Tells (Some ends.Limit) sink sink' said = ⊥
 Tells (Some ends.Ended) sink sink' said = ⊥
 Tells (Some ends.ReadFault) sink sink' said = ⊥
 
--- the result of releasing and writing the withheld answers, the last of which shows this text, and the desk after it; without
--- such answers the desk is not asked
+-- the result of releasing and writing the withheld answers, the last of which shows this text, and the desk after it.
+-- Without such answers the desk is not asked.
 abbrev pub TellsWithheld : {D : Type 0} → (D → D → Withheld → Answer → Type 0) → (D → D → Type 0) → List ℕ → List Withheld → D → D → Option End → Taken → Taken → Type 0
 TellsWithheld releases moves shown [] old new end sink sink' = (new ≡ old) × (end ≡ None) × (sink' ≡ sink)
 TellsWithheld releases moves shown (w ∷ withheld) old new end sink sink' =
@@ -59,8 +59,8 @@ Halts (Some ends.Memory) limit count taken begun left = ⊥
 Halts (Some ends.Ended) limit count taken begun left = ⊥
 Halts (Some ends.ReadFault) limit count taken begun left = ⊥
 
--- a session took the lines that these bytes complete, after the line that was begun, and added their answers to those that were
--- withheld; these bytes are left. The last of those answers shows this text
+-- a session took the lines that these bytes complete, after the line that was begun, and added their answers to the
+-- withheld ones. `left` are the bytes that it did not take. The last of those answers shows this text.
 pub record Took {D : Type 0} (takes : D → Ask → Withheld → D → Type 0) (session : Session) (desk : D) (withheld : List Withheld) (begun bytes left : List ℕ) (session' : Session) (desk' : D) (withheld' : List Withheld) (end : Option End) (shown : List ℕ) : Type 0 where
   pub held : List Withheld
   pub behind : withheld' ≡ withheld ++ held

@@ -18,8 +18,8 @@ use Rattle.nmvs_protocol.specs.Lines.{line_text, ReadsLine}
 use Rattle.nmvs_protocol.specs.Texts.{text}
 use Rattle.nmvs_stream.specs.InputLines.{input_lines}
 
--- the answer that is withheld for a line with this reading, as the desk goes from old to new; PING, VERSION, HELP and QUIT are
--- answered without the desk, and its answer to any other line gets the line's tag
+-- the answer that is withheld for a line with this reading, as the desk goes from old to new. PING, VERSION, HELP, QUIT
+-- and a fault are answered without the desk. Its answer to any other line gets the line's tag.
 abbrev pub Answers : {D : Type 0} → (D → Ask → Withheld → D → Type 0) → D → Result Line Unread → Withheld → D → Type 0
 Answers takes old (Ok (lines.Ask ask)) withheld new = (w : Withheld) × takes old ask w new × (withheld ≡ tagged ask.tag w)
 Answers takes old (Ok lines.Ping) withheld new = (withheld ≡ plain contents.Pong) × (new ≡ old)
@@ -101,8 +101,8 @@ pub record DeliversAll (old new : Taken) (said : List Answer) : Type 0 where
   pub bytes : new.bytes ≡ old.bytes ++ session_text said
   pub flushed : 0 < length said → new.flushed ≡ true
 
--- the sink took the text of these answers up to some point in the answers to the lines of one read; the answers to earlier
--- reads were written and flushed
+-- the sink took the text of these answers up to some point in the answers to the lines of one read. The answers to
+-- earlier reads were written and flushed.
 pub record BreaksOff (old new : Taken) (input : List ℕ) (said : List Answer) : Type 0 where
   pub earlier : List ℕ
   pub last : List ℕ

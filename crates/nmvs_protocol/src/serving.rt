@@ -15,8 +15,8 @@ use std::alloc::Global;
 /// Serves a session of a peer: answers the lines of the source in order. The answers to the whole lines of one read are written
 /// together. They are flushed before the next read and before the session ends (own).
 ///
-/// Bytes after the last LF get no answer. QUIT ends the session. [`Session::feed`] has the limit of lines. Without memory for one
-/// piece of a list nothing is read.
+/// Bytes after the last LF get no answer. QUIT ends the session. [`Session::feed`] applies the limit of lines. Without
+/// memory for one piece of a list nothing is read.
 pub fn serve<R: Source, W: Sink, D: Desk>(
     alloc: Global,
     source: &mut R,

@@ -62,8 +62,8 @@ impl Session {
     /// to the sink, and leaves the flush to the caller. It takes lines until no more answers can be withheld, and then releases
     /// those together.
     ///
-    /// A line of more than 200 bytes is answered once, at its LF. No text takes memory: the help is written as it is, the lines
-    /// of a list a piece at a time, and all other texts are composed in place.
+    /// A line of more than 200 bytes is answered once, at its LF. No text takes memory. The help is written as it is,
+    /// the lines of a list a piece at a time, and all other texts are composed in place.
     ///
     /// `None` means that the session goes on. Else it has this end, and takes no more bytes.
     pub fn feed<W: Sink, D: Desk>(
@@ -200,8 +200,8 @@ fn take_line<D: Desk>(line: &[u8], from: &Peer, desk: &mut D) -> (Withheld, Opti
     (withheld, list, is_quit(&reading))
 }
 
-/// The answer to a reading, and the list of the lines that follow it. PING, VERSION, HELP and QUIT are answered without the
-/// desk.
+/// The answer to a reading, and the list of the lines that follow it. PING, VERSION, HELP, QUIT and a fault are
+/// answered without the desk.
 fn answer<D: Desk>(
     reading: &Result<Line, Unread>,
     from: &Peer,

@@ -14,8 +14,8 @@ use Rattle.nmvs_tables.specs.declared.packs.Places.{Places}
 abbrev pub pack_record : List Entry → Pack → Option PackRecord
 pack_record t p = if about_of t p == 0 then None else Some (record { about = about_of t p; known = known t p })
 
--- the number of entries up to the last one about the pack, which counts too: all but the run of other entries at the end,
--- and 0 if none is about it (own)
+-- the number of entries up to the last one about the pack, which counts too (own). It is that of all but the run of
+-- other entries at the end, and 0 if none is about it.
 abbrev pub last_of : List Entry → Pack → ℕ
 last_of t p = length t - suffix_len (λ e. not (is_about p e)) t
 

@@ -14,8 +14,8 @@ pub struct Cursor {
     pub left: usize,
 }
 
-/// Proves that a cursor over a trail has as many entries left as it says, and that on each longer trail it has the same
-/// ones left. It does nothing else.
+/// Proves that a cursor over a trail has as many entries left as it says. On each longer trail it has the same ones
+/// left. It does nothing else.
 pub fn cursors_stay()
     ensures count { CursorsCount }
     ensures stay { CursorsStay }

@@ -1,8 +1,8 @@
 //! The current records of packs, batches and product codes, kept in step with an audit trail.
 //!
-//! The rules of the repository look back over the whole trail. [`Tables`] keeps the results of this, so that no answer has
-//! to look back: the trail in rows, the places of each pack's entries, maps of batches and product codes in the order of
-//! insertion, the list of each code's batches, and a link for each entry.
+//! The rules of the repository look back over the whole trail. [`Tables`] keeps the results of this, so that no answer
+//! has to look back. It has the trail in rows, the places of each pack's entries, and a link for each entry. It has
+//! maps of batches and product codes in the order of insertion, and the list of each code's batches.
 #![tactic(auto)]
 
 mod batches;

@@ -178,7 +178,7 @@ fn places_after(count: u32, entry: &Entry, is_known: bool, old: &Places) -> Plac
     }
 }
 
-/// The change that the next entry of the rows makes to the table: the number of its pack, and the places of the pack after it.
+/// The change of the table by the next entry of the rows: the number of its pack, and the places of the pack after it.
 /// None if it is about no pack. The pack's number was found, and whether the pack is known.
 pub(crate) fn change_by<A: Allocator>(
     rows: &Rows<A>,

@@ -5,7 +5,7 @@
 //! `QuestionKind::named("VERIFY")` finds it by its word, and `word` gives the word back. The other words are functions, as
 //! [`role_word`] and [`role_named`].
 //!
-//! It composes no lines: `nmvs_line` and `nmvs_protocol` do.
+//! This crate composes no lines: `nmvs_line` and `nmvs_protocol` do.
 #![tactic(auto)]
 
 mod question_kind;
