@@ -6,8 +6,8 @@ use crate::ApplicationIdentifier;
 use std::error::Error;
 use std::fmt;
 
-/// The reason why a scan is refused: the first fault from the left, then the first element that is missing, then the first
-/// value that is not in its grammar. Each has a text for the person who scans.
+/// The reason why a scan is refused. The first fault from the left comes first, then the first element that is missing,
+/// then the first value that is not in its grammar. Each has a text for the person who scans.
 #[derive(Clone, Copy, Debug, PartialEq, Eq)]
 pub enum ScanFault {
     /// It has more bytes than a pack's code can have.

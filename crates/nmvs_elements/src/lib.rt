@@ -4,7 +4,7 @@
 //! and the national number if a [`National`] asks for it. It refuses everything else, and never guesses: a scan that lost
 //! a separator is read as no other pack.
 //!
-//! It knows no other symbologies, and no other application identifiers.
+//! This crate knows no other symbologies, and no other application identifiers.
 #![tactic(auto)]
 
 mod elements;

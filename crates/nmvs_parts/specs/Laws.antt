@@ -17,7 +17,7 @@ pub record Accepts (part : PartView) (input begun : List ℕ) : Type 0 where
   pub text : IsText input lines begun
   pub lawful : AreLawful part lines it
 
--- each part accepts an input exactly if the whole is accepted; what is begun behind the last line is the same
+-- each part accepts an input exactly if the whole is accepted; what is begun after the last line is the same
 abbrev pub PartsAreWhole : Type 0
 PartsAreWhole =
     (count : ℕ) → 0 < count → (input begun : List ℕ)

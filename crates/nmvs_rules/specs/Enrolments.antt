@@ -14,8 +14,8 @@ abbrev pub has_ended : Option Expiry → ℕ → Bool
 has_ended None moment = false
 has_ended (Some last) moment = is_past last moment
 
--- whether a holder whose enrolment names these products, if it names any, may upload this one: its identity and legitimacy were
--- verified for those alone (Article 37(b); the list is own)
+-- whether a holder whose enrolment names these products, if it names any, may upload this one. Its identity and
+-- legitimacy were verified for those alone (Article 37(b); the list is own).
 abbrev pub may_upload : Option Codes → ProductCode → Bool
 may_upload None code = true
 may_upload (Some codes) code = covers codes code

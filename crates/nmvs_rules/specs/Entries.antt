@@ -1,5 +1,5 @@
--- The form of every entry of a trail: its texts are in their grammars, and its numbers in their ranges (Article 4; the
--- grammars of names and the ranges are own).
+-- The form of every entry of a trail (Article 4; the grammars of names and the ranges are own). Its texts are in their
+-- grammars, and its numbers in their ranges.
 use Rattle.std.specs.Prelude.{ℕ, ◌^◌, Bool, true, ◌&&◌, nat_lt, List, Option, Some, None, IsTrue}
 use Rattle.std.specs.List.{All}
 use Rattle.nmvs_identifier.specs.Batch.{Batch, is_batch}

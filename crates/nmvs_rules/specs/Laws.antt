@@ -49,8 +49,8 @@ abbrev pub owned : List ℕ → List Entry → ℕ → List Entry
 owned (o ∷ owners) (e ∷ t) i = if o == i then e ∷ owned owners t i else owned owners t i
 owned owners t i = []
 
--- whether the trail is a merging of the lists: each entry belongs to exactly one list, each entry of each list is used,
--- and each list keeps its order (own)
+-- whether the trail is a merging of the lists (own). Each entry belongs to exactly one list, each entry of each list is
+-- used, and each list keeps its order.
 abbrev pub IsMerging : (ℕ → List Entry) → List Entry → Type 0
 IsMerging lists t = (owners : List ℕ) × (length owners ≡ length t) × ((i : ℕ) → owned owners t i ≡ lists i)
 
@@ -72,8 +72,8 @@ circulates t p = option_map_or (λ m. uploads p m || reverts p m) (last_operatio
 abbrev pub IsUnlocked : List Entry → ProductCode → Batch → Type 0
 IsUnlocked t c b = IsFalse (list_any (binds c b) t)
 
--- the conditions of Article 11 on an authentic pack with this batch and this expiry date: it was uploaded, its identifier
--- is active, and its batch was neither recalled nor withdrawn (Article 40)
+-- the conditions of Article 11 on an authentic pack with this batch and this expiry date. It was uploaded, its
+-- identifier is active, and its batch was neither recalled nor withdrawn (Article 40).
 pub record IsGenuine (t : List Entry) (p : Pack) (b : Batch) (x : Expiry) : Type 0 where
   pub uploaded : IsUploadedWith t p b x
   pub moving : IsTrue (circulates t p)
@@ -92,9 +92,9 @@ circulating t c b = count_by (λ e. uploads_in c b e && uploads_circulating t e.
 abbrev pub IsHeldBy : List Entry → ProductCode → Name → Type 0
 IsHeldBy t c n = IsSomeAnd (find (uploads_code c) t) (λ u. u.put.actor.authorisation.bytes ≡ n.bytes)
 
--- whether one own status may follow another: an active pack goes any way, a held one is supplied, a held, exported or
--- sampled one comes back or is stolen, a supplied or destroyed one is stolen at most, and a stolen one stays so
--- (Articles 12, 13, 22, 25 and 40)
+-- whether one own status may follow another (Articles 12, 13, 22, 25 and 40). An active pack goes any way. A held one
+-- is supplied. A held, exported or sampled one comes back or is stolen. A supplied or destroyed one is stolen at most,
+-- and a stolen one stays so.
 abbrev pub may_become : OwnStatus → OwnStatus → Bool
 may_become own.Active own.Active = false
 may_become own.Active _ = true

@@ -143,8 +143,8 @@ own_left (OfPack Handover _) = Some own.Supplied
 own_left (OfPack Theft _) = Some own.Stolen
 own_left _ = None
 
--- the content of an alert after such an operation on the pack, or such a lock of its batch: its cause, and whether it is
--- flagged as a potential falsification. An upload or a reversion gives no cause (after Article 36)
+-- the content of an alert after such an operation on the pack, or such a lock of its batch. It is its cause, and
+-- whether it is flagged as a potential falsification. An upload or a reversion gives no cause (after Article 36)
 abbrev pub alarm : Question → Option (Cause × Bool)
 alarm (OfPack (Decommission reason.Supply) _) = Some (cause.Supplied, true)
 alarm (OfPack (Decommission reason.Hold) _) = Some (cause.Held, true)

@@ -13,8 +13,8 @@ use Rattle.nmvs_rules.specs.Facts.{pack_fact}
 use Rattle.nmvs_rules.specs.Questions.{pack_of}
 use Rattle.nmvs_rules.specs.Rules.{reply_of}
 
--- whether the pack is known with another batch or another expiry date than those printed on it, as they are written; an unknown
--- pack has none, and nothing differs if no printed values are given
+-- whether the pack is known with another batch or another expiry date than those printed on it, as they are written. An
+-- unknown pack has none, and nothing differs if no printed values are given.
 abbrev pub differs : Option Printed → Option Known → Bool
 differs None k = false
 differs (Some printed) None = false
@@ -24,8 +24,9 @@ differs (Some printed) (Some k) = not (same_text k.batch printed.batch) || not (
 abbrev pub differs_on : List Entry → Question → Option Printed → Bool
 differs_on t q printed = differs printed (pack_fact t (pack_of q))
 
--- whether a reply is given only if nothing printed on the pack differs: it carries an operation out, calls the pack authentic, or
--- gives its status. An alert and a refusal are given whatever is printed (Articles 35(1)(g) and 36(b))
+-- whether a reply is given only if nothing printed on the pack differs. Such a reply carries an operation out, calls
+-- the pack authentic, or gives its status. An alert and a refusal are given whatever is printed (Articles 35(1)(g) and
+-- 36(b))
 abbrev pub is_conditional : Reply → Bool
 is_conditional reply.Uploaded = true
 is_conditional (reply.Authentic b x past) = true

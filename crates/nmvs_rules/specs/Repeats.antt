@@ -92,8 +92,8 @@ is_by user g q = has_tag g q.tag && same_text user q.user
 abbrev pub is_tagged : Pack → Name → Tag → Entry → Bool
 is_tagged p user g e = is_about p e && is_by user g e.put
 
--- the number of entries up to the last one about the pack, of this user, with this tag, which counts too; 0 if there is
--- none
+-- the number of entries up to the last one about the pack, of this user, with this tag, which counts too. It is 0 if
+-- there is none.
 abbrev pub last_tagged : List Entry → Pack → Name → Tag → ℕ
 last_tagged t p user g = length t - suffix_len (λ e. not (is_tagged p user g e)) t
 
@@ -155,8 +155,8 @@ abbrev pub was_asked_by : List Entry → Put → Option Pack → Option Tag → 
 was_asked_by t q (Some p) (Some g) = in_day_at t q (place_tagged t p q.user g)
 was_asked_by t q _ _ = false
 
--- whether the user of a question asked about its pack with its tag at most a day away: one of the last 16 entries about the pack
--- has user and tag
+-- whether the user of a question asked about its pack with its tag at most a day away. One of the last 16 entries about
+-- the pack has user and tag.
 abbrev pub was_asked : List Entry → Put → Bool
 was_asked t q = was_asked_by t q (pack_of q.question) q.tag
 
@@ -164,8 +164,8 @@ was_asked t q = was_asked_by t q (pack_of q.question) q.tag
 abbrev pub is_changed : List Entry → Put → Bool
 is_changed t q = is_alert (reply_of t q) && was_asked t q
 
--- the reply that the asker gets: that of the rules if the question is new and no late copy that would raise an alert, that of the
--- entry that it repeats, or none
+-- the reply that the asker gets. It is that of the rules if the question is new and no late copy that would raise an
+-- alert. Else it is that of the entry that the question repeats, or none.
 abbrev pub reply_by : List Entry → Put → Repeat → Option Reply
 reply_by t q repeat.New = if is_changed t q then None else Some (reply_of t q)
 reply_by t q (repeat.Same place r) = Some r
@@ -184,8 +184,8 @@ AreNewAfter u (e ∷ es) = (repeat_of u e.put ≡ repeat.New) × AreNewAfter (u 
 abbrev pub AreNew : List Entry → Type 0
 AreNew t = AreNewAfter [] t
 
--- the entry at a place asked the question, by the same user, with the same tag and in the same capacity, and at most a day
--- lies between them; its reply is this one, and does not give the state of a pack
+-- the entry at a place asked the question, by the same user, with the same tag and in the same capacity. At most a day
+-- lies between them. Its reply is this one, and does not give the state of a pack.
 pub record IsRepeated (t : List Entry) (q : Put) (place : ℕ) (reply : Reply) : Type 0 where
   pub entry : Entry
   pub stands : slice_get t place ≡ Some entry

@@ -65,8 +65,8 @@ abbrev pub is_supplied : OwnStatus → Bool
 is_supplied own.Supplied = true
 is_supplied _ = false
 
--- the cause why a pack of a free batch is not authentic, by its own status; an active one is authentic and has no alert
--- (after Article 36)
+-- the cause why a pack of a free batch is not authentic, by its own status (after Article 36). An active one is
+-- authentic and has no alert.
 abbrev pub cause_by_own : OwnStatus → Cause
 cause_by_own own.Active = cause.Unknown
 cause_by_own own.Held = cause.Held
@@ -82,12 +82,13 @@ cause_of o lock.Free = cause_by_own o
 cause_of o lock.Recalled = cause.Recalled
 cause_of o lock.Withdrawn = cause.Withdrawn
 
--- whether an alert on a known pack is flagged as a potential falsification: not if the pack is recalled, withdrawn or
--- decommissioned for destruction (after Article 36)
+-- whether an alert on a known pack is flagged as a potential falsification (after Article 36). It is not if the pack is
+-- recalled, withdrawn or decommissioned for destruction.
 abbrev pub is_flagged : OwnStatus → BatchLock → Bool
 is_flagged o l = is_free l && not (is_destroyed o)
 
--- where a pack of a free batch may go (Article 12; the words are own, and so are those for a held and a supplied pack)
+-- the places where a pack of a free batch may go (Article 12). The words are own, and so are those for a held and a
+-- supplied pack.
 abbrev pub onward_by_own : OwnStatus → Onward
 onward_by_own own.Active = onward.Stock
 onward_by_own own.Held = onward.Supply
@@ -130,8 +131,8 @@ abbrev pub is_held_by : Option Name → Name → Bool
 is_held_by None n = false
 is_held_by (Some h) n = same_text h n
 
--- the alert on a known pack k whose batch has the lock l, after n alerts on its product code (Article 36; the number is
--- own)
+-- the alert on a known pack k whose batch has the lock l (Article 36). Its product code had n alerts until then, and
+-- their number is own.
 abbrev pub alert_on : Known → BatchLock → ℕ → Reply
 alert_on k l n = reply.Alert (cause_of k.own l) (is_flagged k.own l) (n + 1)
 
@@ -152,8 +153,8 @@ status_reply k l = reply.StatusIs k.own l (onward_by k.own l) k.batch k.expiry
 abbrev pub decommission_reply : Known → BatchLock → ℕ → Reply
 decommission_reply k l n = if is_authentic k.own l then reply.Decommissioned else alert_on k l n
 
--- the reply to the handover of a known pack, an expired one too: it has to be held, by the same authorisation and in
--- the same premises, and its batch neither recalled nor withdrawn (own, after Articles 25 and 40)
+-- the reply to the handover of a known pack, an expired one too (own, after Articles 25 and 40). The pack has to be
+-- held, by the same authorisation and in the same premises. Its batch is neither recalled nor withdrawn.
 abbrev pub handover_reply : Actor → Known → BatchLock → Reply
 handover_reply a k l =
     if not (is_free l) then reply.Refused refusal.Locked
@@ -233,8 +234,8 @@ abbrev pub shown_to : List Entry → Role → Question → List Entry
 shown_to t r (OfPack Audit p) = if may_ask r (OfPack Audit p) then filter (is_about p) t else []
 shown_to t r _ = []
 
--- the entries that are shown with the reply: those about the pack of an audit that its role may ask, oldest first, and
--- none with the reply to any other question (Articles 35(1)(g), 36(i) and 37(f))
+-- the entries that are shown with the reply (Articles 35(1)(g), 36(i) and 37(f)). To an audit that its role may ask,
+-- they are those about its pack, oldest first. The reply to any other question has none.
 abbrev pub shown_of : List Entry → Put → List Entry
 shown_of t q = shown_to t q.actor.role q.question
 

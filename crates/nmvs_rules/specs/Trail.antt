@@ -98,8 +98,8 @@ own_by_reason reason.Export = own.Exported
 own_by_reason reason.Sample = own.Sampled
 own_by_reason reason.Destroy = own.Destroyed
 
--- the own status that a question about a pack gives it once it is accepted: supplied by a handover, active by a reversion
--- (Articles 11, 13, 25 and 40)
+-- the own status that a question about a pack gives it once it is accepted (Articles 11, 13, 25 and 40). A handover
+-- makes it supplied, and a reversion active.
 abbrev pub own_by_question : PackQuestion → OwnStatus
 own_by_question (Decommission r) = own_by_reason r
 own_by_question Handover = own.Supplied
@@ -155,8 +155,8 @@ known_at t p m (Upload _ b x) =
     })
 known_at t p m _ = None
 
--- the values known by the accepted upload u and the mark; because u is accepted there is a mark, and `unwrap_or` never
--- falls back on u
+-- the values known by the accepted upload u and the mark. Because u is accepted there is a mark, and `unwrap_or` never
+-- falls back on u.
 abbrev pub known_from : List Entry → Pack → Option Entry → Option Known
 known_from t p None = None
 known_from t p (Some u) = known_at t p (unwrap_or (mark t p) u) u.put.question

@@ -22,8 +22,8 @@ pub fn may(role: Role, question: &Question) -> bool
     }
 }
 
-/// Whether a user in this role gets the report of a product code, which is no question of a trail (own, after Articles 36
-/// and 39).
+/// Whether a user in this role gets the report of a product code (own, after Articles 36 and 39). A report is no
+/// question of a trail.
 pub fn may_report(role: Role) -> bool
     ensures { result ≡ may_report role }
 {

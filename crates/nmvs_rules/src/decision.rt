@@ -12,8 +12,8 @@ use crate::holding::{lock_reply, theft_reply, upload_reply};
 use crate::reversion::revert_reply;
 use crate::{BatchLock, BatchRecord, Facts, PackQuestion, Put, Question, Refusal, Reply, may};
 
-/// The reply of the rules to a question as it is put, by the facts that it rests on (Articles 11 to 13, 22, 25, 35, 36
-/// and 40).
+/// The reply of the rules to a question as it is put (Articles 11 to 13, 22, 25, 35, 36 and 40). It rests on these
+/// facts alone.
 ///
 /// The first condition on the question that fails decides. A refusal is a reply, and so is an alert. The user's name
 /// plays no part in it.

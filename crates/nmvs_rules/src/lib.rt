@@ -8,8 +8,8 @@
 //! An [`Enrolment`] says until when a user may ask, and what a holder may upload. No reply rests on it: the desk judges it before
 //! a question is put.
 //!
-//! It keeps no trail and finds no facts in one: `nmvs_tables` and `nmvs_shard` do. It knows no texts of lines or
-//! replies.
+//! This crate keeps no trail and finds no facts in one: `nmvs_tables` and `nmvs_shard` do. It knows no texts of lines
+//! or replies.
 //!
 //! "Own" after a rule says that the Regulation leaves the point open and this project chose. The own status of a pack,
 //! [`OwnStatus`], is another thing: the status that the pack has by itself, whatever its batch.

@@ -63,8 +63,9 @@ impl Reply {
         matches!(self, Reply::Alert { .. })
     }
 
-    /// Whether it is given only if nothing printed on the pack differs (own): it carries an operation out, calls the pack
-    /// authentic, or gives its status. An alert is given whatever is printed (Articles 35(1)(g) and 36(b)), and so is a refusal.
+    /// Whether it is given only if nothing printed on the pack differs (own). Such a reply carries an operation out,
+    /// calls the pack authentic, or gives its status. An alert is given whatever is printed (Articles 35(1)(g) and
+    /// 36(b)), and so is a refusal.
     pub fn is_conditional(&self) -> bool
         ensures { result ≡ is_conditional self.now }
     {

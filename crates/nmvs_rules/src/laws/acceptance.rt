@@ -15,8 +15,9 @@ ghost use Rattle.nmvs_rules.specs.Questions.{may_ask};
 ghost use Rattle.nmvs_rules.specs.Rules.{reply_of};
 ghost use Rattle.nmvs_rules.specs.Laws.{IsGenuine, IsRevertible, IsUploadable, IsSuppliable, IsLockable, IsReportable, AsksLock, circulating};
 
-/// An upload is accepted exactly if a holder asks for it, the pack was not uploaded before, and its product code was
-/// uploaded by nobody or first by the same authorisation (Articles 4, 33 and 35(3); who may upload it is own). On every trail.
+/// An upload is accepted exactly if three conditions hold (Articles 4, 33 and 35(3); who may upload it is own). A
+/// holder asks for it. The pack was not uploaded before. Nobody uploaded its product code, or the same authorisation
+/// did so first. On every trail.
 pub fn uploading()
     ensures { (t : List Entry) (q : Put) (p : Pack) (b : Batch) (x : Expiry) → q.question ≡ Upload p b x →
         (reply_of t q ≡ reply.Uploaded) ↔
@@ -32,9 +33,9 @@ pub fn decommissioning()
         × ((b : Batch) × (x : Expiry) × IsGenuine t p b x)) }
 {}
 
-/// A handover is accepted exactly if a pharmacy asks for it, the last operation on the pack decommissioned it to be held,
-/// and its batch was neither recalled nor withdrawn. The pharmacy has the authorisation and the premises of that operation
-/// (own, after Articles 25 and 40). On every trail.
+/// A handover is accepted exactly if these conditions hold (own, after Articles 25 and 40). A pharmacy asks for it. The
+/// last operation on the pack decommissioned it to be held, under the same authorisation and in the same premises. Its
+/// batch was neither recalled nor withdrawn. On every trail.
 pub fn handover()
     ensures { (t : List Entry) (q : Put) (p : Pack) → q.question ≡ OfPack Handover p →
         (reply_of t q ≡ reply.HandedOver) ↔
@@ -49,9 +50,9 @@ pub fn reversion()
         (IsTrue (may_ask q.actor.role q.question) × IsRevertible t p q) }
 {}
 
-/// A recall or withdrawal is accepted exactly if the product code's holder asks for it, in the role of a holder, a pack of
-/// the batch was uploaded, and the batch was neither recalled nor withdrawn. The reply has the number of packs of the
-/// batch that circulate (Article 40). On every trail.
+/// A recall or withdrawal is accepted exactly if three conditions hold. The product code's holder asks for it, in the
+/// role of a holder. A pack of the batch was uploaded. The batch was neither recalled nor withdrawn. The reply has the
+/// number of packs of the batch that circulate (Article 40). On every trail.
 pub fn locking()
     ensures { (t : List Entry) (q : Put) (c : ProductCode) (b : Batch) (active : ℕ) → AsksLock c b q.question →
         (reply_of t q ≡ reply.LockedNow active) ↔
@@ -59,8 +60,8 @@ pub fn locking()
         × (active ≡ circulating t c b)) }
 {}
 
-/// A theft report is accepted exactly if the product code's holder asks for it, in the role of a holder, the pack was
-/// uploaded, and the last operation on it was no theft report (Article 40). On every trail.
+/// A theft report is accepted exactly if three conditions hold (Article 40). The product code's holder asks for it, in
+/// the role of a holder. The pack was uploaded. The last operation on it was no theft report. On every trail.
 pub fn theft()
     ensures { (t : List Entry) (q : Put) (p : Pack) → q.question ≡ OfPack Theft p →
         (reply_of t q ≡ reply.MarkedStolen) ↔

@@ -20,9 +20,9 @@ ghost use Rattle.nmvs_rules.specs.Rules.{reply_of, shown_of, IsLawful};
 ghost use Rattle.nmvs_rules.specs.Operations.{uploads, uploads_code, binds, last_operation, alarm, alert_number};
 ghost use Rattle.nmvs_rules.specs.Laws.{IsUploadedWith, IsUnlocked, IsGenuine, IsHeldBy, IsRevertible, AsksAuthenticity, AsksLock, alert_numbers};
 
-/// A verification is answered Authentic exactly if the role may verify and the pack is genuine: it was uploaded with the
-/// batch and expiry of the answer, was last uploaded or reverted, and its batch was neither recalled nor withdrawn
-/// (Articles 11 and 40). On every trail.
+/// A verification is answered Authentic exactly if the role may verify and the pack is genuine (Articles 11 and 40). A
+/// genuine pack was uploaded with the batch and expiry of the answer, and was last uploaded or reverted. Its batch was
+/// neither recalled nor withdrawn. On every trail.
 pub fn verification()
     ensures { (t : List Entry) (q : Put) (p : Pack) (b : Batch) (x : Expiry) (expired : Bool) →
         q.question ≡ OfPack Verify p →
@@ -31,10 +31,9 @@ pub fn verification()
         × (expired ≡ int_lt (expiry_day x.bytes) (pos (day_of q.moment)))) }
 {}
 
-/// A verification or decommissioning by a user who may ask it is answered Authentic or Decommissioned, or else with the
-/// next alert on the product code (Article 36). On every trail. The alert says that the pack is unknown, or how its batch
-/// was first locked, or else the last operation on the pack. The same decides whether it is flagged as a potential
-/// falsification.
+/// A user who may ask a verification or decommissioning gets Authentic or Decommissioned, or else the next alert on the
+/// product code (Article 36). On every trail. The alert says that the pack is unknown, or how its batch was first
+/// locked, or else the last operation on the pack. The same decides whether it is flagged as a potential falsification.
 pub fn alerting()
     ensures verification { (t : List Entry) (q : Put) (p : Pack) →
         q.question ≡ OfPack Verify p → IsTrue (may_ask q.actor.role q.question) →
@@ -67,8 +66,9 @@ pub fn alerts()
         alert_numbers t c ≡ range_with_len 1 (alerts_of t c) }
 {}
 
-/// Once a product code was uploaded, an upload, a recall, a withdrawal or a theft report of it is accepted only from its
-/// holder: the authorisation that uploaded it first (Articles 33 and 40; the choice of the holder is own). On every trail.
+/// The holder of a product code is the authorisation that uploaded it first (Articles 33 and 40; the choice is own).
+/// After that upload, an upload, a recall, a withdrawal or a theft report is accepted from the holder alone. On every
+/// trail.
 pub fn holders()
     ensures uploads { (t : List Entry) (q : Put) (p : Pack) (b : Batch) (x : Expiry) →
         q.question ≡ Upload p b x → IsTrue (list_any (uploads_code p.code) t) →
@@ -81,8 +81,8 @@ pub fn holders()
         IsHeldBy t p.code q.actor.authorisation }
 {}
 
-/// An audit by a user who may ask it shows the entries about its pack, in their order, and its reply has their number
-/// (Articles 35, 36(i) and 37(f)). An audit by any other user shows none, and no other question shows any. On every trail.
+/// An audit by a user who may ask it shows the entries about its pack, in their order (Articles 35, 36(i) and 37(f)).
+/// Its reply has their number. An audit by any other user shows none, and no other question shows any. On every trail.
 pub fn auditing()
     ensures shown { (t : List Entry) (q : Put) (p : Pack) →
         q.question ≡ OfPack Audit p → IsTrue (may_ask q.actor.role q.question) →

@@ -22,9 +22,10 @@ pub fn one_birth()
         count_by (uploads p) t ≡ (if is_some (known t p) then 1 else 0) }
 {}
 
-/// An entry that is no operation on a pack leaves the values known of it, and only its upload makes an unknown pack known.
-/// This holds on every trail. In a lawful trail an operation on a known pack gives it the mark of the entry and the own
-/// status that the operation leaves, which may follow the one before (Articles 12, 13, 22, 25, 33 and 40).
+/// An entry that is no operation on a pack leaves the values known of it, and only its upload makes an unknown pack
+/// known. This holds on every trail. In a lawful trail an operation on a known pack gives it the mark of the entry and
+/// the own status that the operation leaves. This status may follow the former one (Articles 12, 13, 22, 25, 33 and
+/// 40).
 pub fn course()
     ensures kept { (t : List Entry) (e : Entry) (p : Pack) → IsFalse (operates p e) →
         known (t ++ e ∷ []) p ≡ known t p }
@@ -64,8 +65,8 @@ pub fn supplied_once()
         IsFalse (goes_on p later) }
 {}
 
-/// A recall or withdrawal binds for ever. After it in a lawful trail no pack of its batch, uploaded before it or later, is
-/// decommissioned, handed over, reverted or answered Authentic (Articles 13, 25 and 40).
+/// A recall or withdrawal binds for ever (Articles 13, 25 and 40). After it in a lawful trail no pack of its batch is
+/// decommissioned, handed over, reverted or answered Authentic. This holds for packs uploaded earlier and later.
 pub fn recall_binds()
     ensures { (before between after : List Entry) (recall later : Entry)
         (p : Pack) (b : Batch) (x : Expiry) →

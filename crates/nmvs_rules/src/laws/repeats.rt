@@ -19,9 +19,9 @@ ghost use Rattle.nmvs_rules.specs.Trail.{about_of};
 ghost use Rattle.nmvs_rules.specs.Rules.{reply_of, IsLawful};
 ghost use Rattle.nmvs_rules.specs.Repeats.{answer_of, is_tagged, repeat_of, tells_state, AreInDay, AreNew, IsRepeated, without_tag, without_tags};
 
-/// A question with a tag counts once for a day: it was carried out, refused or answered with an alert, and each question was
-/// looked for before it was put. The next entry about the pack, of that user and with that tag, is more than a day apart, or
-/// comes after at least 16 others about the pack.
+/// A question with a tag counts once for a day, if it is carried out, refused or answered with an alert. In this trail
+/// each question was looked for before it was put. The next entry about the pack with that user and tag is more than a
+/// day apart, or follows at least 16 others about it.
 pub fn once()
     ensures { (u v w : List Entry) (e f : Entry) (p : Pack) (user : Name) (g : Tag) →
         AreNew (u ++ (e ∷ v) ++ (f ∷ w)) → IsTrue (is_tagged p user g e) → IsTrue (is_tagged p user g f) →
@@ -29,8 +29,8 @@ pub fn once()
         AreInDay e.put.moment f.put.moment → 16 ≤ about_of v p }
 {}
 
-/// Such a question is answered from its entry if it is asked again with its tag, at most a day apart and before 16 others
-/// about the pack. The clock may have been set back meanwhile.
+/// Such a question is answered from its entry if it is asked again with its tag. It has to be at most a day apart, and
+/// before 16 others about the pack. The clock may have been set back meanwhile.
 pub fn asked_again()
     ensures { (u v : List Entry) (e : Entry) (p : Pack) (g : Tag) (moment : ℕ) →
         pack_of e.put.question ≡ Some p → e.put.tag ≡ Some g →
@@ -39,9 +39,9 @@ pub fn asked_again()
         repeat_of (u ++ e ∷ v) (record e.put { moment = moment }) ≡ repeat.Same (length u) e.reply }
 {}
 
-/// A reply that gives the state of a pack is the reply of the rules on the trail of that moment, even if the question was
-/// asked before. So the reply is Authentic only for a pack that was uploaded with that batch and expiry, was last uploaded or
-/// reverted, and whose batch was neither recalled nor withdrawn (Articles 11 and 40). On every trail.
+/// A reply that gives the state of a pack is the rules' reply on the trail of that moment, even to a question asked
+/// again. So the reply is Authentic only for a genuine pack (Articles 11 and 40). Such a pack was uploaded with that
+/// batch and expiry, and was last uploaded or reverted. Its batch was neither recalled nor withdrawn. On every trail.
 pub fn states_are_current()
     ensures state { (t : List Entry) (q : Put) (said : Reply) → IsTrue (tells_state said) →
         answer_of t q ≡ Some said → reply_of t q ≡ said }
@@ -49,9 +49,8 @@ pub fn states_are_current()
         q.question ≡ OfPack Verify p → answer_of t q ≡ Some (reply.Authentic b x expired) → IsGenuine t p b x }
 {}
 
-/// A repeated reply is that of an earlier entry: the same question of the same user, with the same tag and in the same
-/// capacity, at most a day apart. It does not give the state of a pack. In a lawful trail it is the reply of the rules
-/// there.
+/// A repeated reply is that of an earlier entry, at most a day apart. The entry has the same question, user, tag and
+/// capacity. It does not give the state of a pack. In a lawful trail it is the reply of the rules there.
 pub fn repetition()
     ensures entry { (t : List Entry) (q : Put) (place : ℕ) (reply : Reply) →
         repeat_of t q ≡ repeat.Same place reply → IsRepeated t q place reply }

@@ -38,8 +38,8 @@ pub fn parts()
     ensures { (keep : List ℕ → Bool) (t : List Entry) → IsLawful t → IsLawful (kept keep t) }
 {}
 
-/// A trail in which no question is a handover is lawful exactly if it was lawful before packs could be handed over, by
-/// the rules of that time (`specs/before_handover`). So the exports of that time stay what they were.
+/// The rules of the time before handovers stand in `specs/before_handover`. A trail in which no question is a handover
+/// is lawful exactly if it is lawful by those rules. So the exports of that time stay what they were.
 pub fn old_trails()
     ensures { (t : List Entry) → IsFalse (list_any asks_handover t) →
         IsLawful t ↔ before_handover.IsLawful t }
