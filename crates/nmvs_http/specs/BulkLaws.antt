@@ -40,8 +40,8 @@ pub record IsLineText (t : List ℕ) : Type 0 where
   pub no_lf : HasNoLf line
   pub whole : t ≡ line ++ 10 ∷ []
 
--- the response to a bulk has the body of each answer, in order, as the response to one question with this subject has it,
--- and that of no answer for each question that has none
+-- the response to a bulk has the body of each answer, in order, as the response to one question with this subject has
+-- it. A question without an answer has the body of no answer.
 abbrev pub IsAnsweredByBodies : Type 0
 IsAnsweredByBodies =
     (said : List (Subject × Answer)) (missing : List Subject) → AllByRecursion (λ (a : Subject × Answer). IsLineText (text a.1)) said

@@ -17,8 +17,8 @@ use Rattle.nmvs_http.specs.Responses.{invitation_text, response_text}
 use Rattle.nmvs_http.specs.StreamState.{StreamState, request_limits}
 use Rattle.nmvs_http.specs.Streams.{ReadsRequests}
 
--- a request and its response: the bytes of lines that were given of it, and those that were left; the replies; whether the
--- session of lines ended in it; and whether the connection stays open after it
+-- a request and its response. It has the bytes of lines that were given of it, those that were left, and the replies.
+-- It says whether the session of lines ended in it, and whether the connection stays open after it.
 pub record Exchange : Type 0 where
   pub request : Request (List ℕ)
   pub lines : List ℕ
@@ -60,8 +60,8 @@ replies_in [] = []
 replies_in (response e ∷ earlier) = replies_in earlier ++ e.replies
 replies_in (_ ∷ earlier) = replies_in earlier
 
--- the replies are the text of one answer to each given line, in order; if the session of lines has ended, to each line up to
--- its end
+-- the replies are the text of one answer to each given line, in order. If the session of lines has ended, they answer
+-- each line up to its end.
 pub record AnswersLines (given replies : List ℕ) (ended : Bool) : Type 0 where
   pub fed : List ℕ
   pub rest : List ℕ
@@ -84,17 +84,17 @@ StaysOpen (invitation ∷ earlier) = Unit {0}
 StaysOpen (response e ∷ earlier) = e.stays ≡ true
 StaysOpen (refusal fault ∷ earlier) = ⊥
 
--- each message was written while the connection was open; at each response, the replies so far are the text of the answers to
--- the lines given so far
+-- each message was written while the connection was open. At each response, the replies so far are the text of the
+-- answers to the lines given so far.
 abbrev pub AreTold : Bool → List Message → Type 0
 AreTold direct [] = Unit {0}
 AreTold direct (response e ∷ earlier) =
     StaysOpen earlier × IsCarried direct e × AnswersLines (lines_in earlier ++ e.lines) (replies_in earlier ++ e.replies) e.ended × AreTold direct earlier
 AreTold direct (_ ∷ earlier) = StaysOpen earlier × AreTold direct earlier
 
--- a codec: its stage; the bytes of HTTP that it was fed, and the requests read from them; the request in hand; the bytes of
--- lines that it gave; the replies that it took, and those of them to the request in hand; the bytes that it sent, and the
--- unsent ones
+-- a codec. It has its stage, the bytes of HTTP that it was fed, the requests read from them, and the request in hand.
+-- It has the bytes of lines that it gave, the replies that it took, and those of them to the request in hand. It has
+-- the bytes that it sent, and the unsent ones.
 pub record CodecState : Type 0 where
   pub stage : CodecStage
   pub stream : StreamState
@@ -117,8 +117,8 @@ abbrev pub InHand : Bool → Option Hand → List ℕ → List (Request (List �
 InHand direct None given earlier requests = (given ≡ []) × (requests ≡ earlier)
 InHand direct (Some h) given earlier requests = HasRequest direct h given earlier requests
 
--- the sent and unsent bytes are messages, in which each response is to the next request; the given bytes are the lines of these
--- requests in order, and the taken replies are those of their responses; the rest is of the request in hand
+-- the sent and unsent bytes are messages, in which each response is to the next request. The given bytes are the lines
+-- of these requests in order, and the taken replies are those of their responses. The rest is of the request in hand.
 pub record Carries (direct : Bool) (c : CodecState) : Type 0 where
   pub messages : List Message
   pub told : AreTold direct messages

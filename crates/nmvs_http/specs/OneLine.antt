@@ -25,8 +25,8 @@ pub record IsOneLine (bytes : List ℕ) (tag : Option Tag) (fields : List (List 
   pub tagged : tag_of line ≡ tag
   pub behind : fields_behind tag line ≡ fields
 
--- a question of JSON is one line, with the key as its tag; its fields are the user, the word and the texts of the body's
--- members
+-- a question of JSON is one line, with the key as its tag. Its fields are the user, the word and the texts of the
+-- body's members.
 abbrev pub IsAskedByOneLine : Type 0
 IsAskedByOneLine =
     (kind : AskedKind) (key : Option (List ℕ)) (body : List ℕ) (question : Subject × List ℕ) → question_line kind key body ≡ Ok question

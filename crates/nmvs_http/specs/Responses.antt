@@ -29,8 +29,8 @@ status faults.Head = codes "431 Request Header Fields Too Large"
 status faults.Coding = codes "501 Not Implemented"
 status faults.Busy = codes "503 Service Unavailable\r\nretry-after: 1"
 
--- the problem of a fault, of which nothing is recorded (RFC 9457); its type is the section of the page that says what to do, relative to the
--- server, and fault and recorded are own
+-- the problem of a fault, of which nothing is recorded (RFC 9457). Its type is the section of the page that says what
+-- to do, relative to the server. The members fault and recorded are own.
 unfoldable pub problem : Fault → List ℕ
 problem faults.Request = codes "{\"type\":\"/problems#REQUEST\",\"title\":\"Bad Request\",\"status\":400,\"detail\":\"The bytes are no request of HTTP/1.1.\",\"fault\":\"REQUEST\",\"recorded\":\"no\"}\n"
 problem faults.Site = codes "{\"type\":\"/problems#SITE\",\"title\":\"Forbidden\",\"status\":403,\"detail\":\"A page of another site sent the request.\",\"fault\":\"SITE\",\"recorded\":\"no\"}\n"
@@ -63,8 +63,8 @@ abbrev pub type_where : Option Problem → List ℕ
 type_where None = codes "application/json"
 type_where (Some problem) = codes "application/problem+json"
 
--- the status of the response to a bulk: it has the time after which to ask again (RFC 9110, section 10.2.3) if the response to one of its
--- questions would have it
+-- the status of the response to a bulk. It has the time after which to ask again if the response to one of its
+-- questions would have it (RFC 9110, section 10.2.3).
 abbrev pub bulk_status : Bool → List ℕ
 bulk_status true = codes "200 OK\r\nretry-after: 1"
 bulk_status false = codes "200 OK"

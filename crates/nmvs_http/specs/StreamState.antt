@@ -6,8 +6,8 @@ use Rattle.http_server.specs.declared.state.Config.{Config}
 use Rattle.http_server.specs.declared.state.State.{State}
 use Rattle.http_server.specs.Connection.{history}
 
--- whether a stream comes directly, and through no gateway; its bytes, the requests read from it, the state of its connection, and
--- those last bytes of it that follow its requests and are held back
+-- whether a stream comes directly, and through no gateway. Its bytes, the requests read from it, and the state of its
+-- connection. Its last bytes, which follow its requests and are held back.
 pub record StreamState : Type 0 where
   pub direct : Bool
   pub fed : List ℕ

@@ -34,8 +34,8 @@ pub(crate) const LINES_TYPE: &[u8] = b"application/vnd.nmvs.lines";
 /// The type of a question (RFC 8259, section 11), which a page of another site cannot send either.
 pub(crate) const JSON_TYPE: &[u8] = b"application/json";
 
-/// The values of a browser for a page of the same origin, and for a request that no page made (W3C Fetch Metadata, section
-/// 2.3).
+/// The values of `Sec-Fetch-Site` for a page of the same origin, and for a request that no page made (W3C Fetch
+/// Metadata, section 2.3).
 const SAME_ORIGIN: &[u8] = b"same-origin";
 
 const NO_SITE: &[u8] = b"none";

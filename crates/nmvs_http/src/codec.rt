@@ -221,8 +221,8 @@ impl HttpCodec {
         }
     }
 
-    /// Responds to the request in hand, if all its lines were given or the session of lines has ended in it. The caller answers
-    /// each given line before.
+    /// Responds to the request in hand, if all its lines were given or the session of lines has ended in it. The caller
+    /// has answered each given line.
     pub fn respond(&mut self, ended: bool)
         requires { AnswersLines self.old.given self.old.replies ended }
         ensures goes_on { GoesOn self.old self.new }

@@ -38,7 +38,7 @@ as_key (Some member) = option_map Some (as_str member)
 abbrev pub item_key : Json → Option (Option (List ℕ))
 item_key j = as_key (get (codes "key") j)
 
--- the number of members of an item beyond those that name a pack, a batch or a product: ask, user, and a key if it has one
+-- the number of members of an item that name no pack, batch or product: ask, user, and a key if it has one
 abbrev pub others_of : Option (List ℕ) → ℕ
 others_of None = 2
 others_of (Some key) = 3
@@ -111,7 +111,7 @@ abbrev pub lines_of_object : Option Json → Result (List Subject × List ℕ) R
 lines_of_object None = Err (whole fault.Json)
 lines_of_object (Some j) = lines_of_items (items_in j)
 
--- the subject of each question in the body of a bulk, and their lines in order, each with its LF; or the refusal
--- for the first fault, for which none of them is asked
+-- the subject of each question in the body of a bulk, and their lines in order, each with its LF. Or the refusal for
+-- the first fault, and then none of them is asked.
 unfoldable pub bulk_lines : List ℕ → Result (List Subject × List ℕ) Refusal
 bulk_lines body = lines_of_object (object_in body)

@@ -202,7 +202,8 @@ scan_printed (Ok pack) = Ok (printed_of pack.batch.bytes pack.expiry.bytes)
 abbrev pub scan_values : AskedKind → Json → Option Scanned
 scan_values kind j = if has_scan kind j then option_map (λ scan. scan_printed (scan_in scan)) (string_of (codes "scan") j) else None
 
--- the scanned values of a question, if it has some: those of the member scanned, which has to have texts, or those of its scan, or its fault
+-- the scanned values of a question, if it has some. They are those of the member scanned, which has to have texts, or
+-- those of its scan, or its fault.
 unfoldable pub scanned_of : AskedKind → Json → Option (Option Scanned)
 scanned_of kind j = if has_scanned kind j then option_and_then values_in (get (codes "scanned") j) else Some (scan_values kind j)
 
@@ -233,7 +234,8 @@ abbrev pub is_matching : Option (List ℕ) → Bool
 is_matching None = false
 is_matching (Some t) = bytes_eq t (codes "matches")
 
--- the texts after IF: those of the member scanned as they are, so that the line has the fault of a misread one, or those of a scan
+-- the texts after IF. They are those of the member scanned as they are, so that the line has the fault of a misread
+-- one. Or they are those of a scan.
 abbrev pub shown_texts : AskedKind → Json → Option Scanned → Option (List (List ℕ))
 shown_texts kind j scanned = if has_scanned kind j then said_of j else Some (printed_texts scanned)
 
@@ -318,8 +320,8 @@ subject_in kind j = record { code = named_code kind j; scanned = unwrap_or (scan
 abbrev pub unnamed : Subject
 unnamed = record { code = None; scanned = None }
 
--- the subject and the line of a question with this key and this object as its body, or its refusal; the one other member is the
--- user
+-- the subject and the line of a question with this key and this object as its body, or its refusal. The one other
+-- member is the user.
 abbrev pub line_of_object : AskedKind → Option (List ℕ) → Option Json → Result (Subject × List ℕ) Refusal
 line_of_object kind key None = Err (whole fault.Json)
 line_of_object kind key (Some j) = with_subject (subject_in kind j) (placed (wrong_member kind j) (line_of key (fields_of 1 kind j)))

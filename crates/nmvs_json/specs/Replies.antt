@@ -25,7 +25,8 @@ quoted text = 34 ∷ (flat_map escaped text ++ 34 ∷ [])
 abbrev pub named : {T : Type 0} → List (List ℕ × T) → List ℕ → Option T
 named table word = option_map (λ row. row.1) (find (λ row. bytes_eq word row.0) table)
 
--- the place of a word of a line in its object: a string or a number under a name; or none, if the next name says the same
+-- the place of a word of a line in its object: a string or a number under a name. It has none if the next name says the
+-- same.
 pub data Place : Type 0 where
   string : List ℕ → Place
   number : List ℕ → Place
@@ -147,8 +148,8 @@ scanned_member (Some (Err fault)) said = []
 scanned_member (Some (Ok scanned)) None = []
 scanned_member (Some (Ok scanned)) (Some words) = comparison_member scanned words
 
--- the object of a reply, by its first line without the tag, the places of the words in it, the subject of its question, and its later
--- lines
+-- the object of a reply. It rests on its first line without the tag, the places of the words in it, the subject of its
+-- question, and its later lines.
 abbrev pub reply_object : List Place → Subject → List ℕ → List (List ℕ) → List ℕ
 reply_object places subject line lines =
     let word = first_word line in

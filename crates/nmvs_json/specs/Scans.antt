@@ -11,7 +11,7 @@ use Rattle.nmvs_elements.specs.Elements.{Element, identifier_text, predefined_le
 use Rattle.nmvs_elements.specs.Scan.{ReadsScan, behind_symbology, has_wrong, is_missing, longest_scan, unknown_fault}
 use Rattle.nmvs_rules.specs.declared.printed.Printed.{Printed}
 
--- what a question says of the print on its pack: the values, or the fault of its scan
+-- the scanned values of a question, or the fault of its scan
 abbrev pub Scanned : Type 0
 Scanned = Result Printed ScanFault
 
@@ -57,7 +57,7 @@ pack_of values = pack_by (find (is_missing values) (required None)) (find (has_w
 abbrev pub Reader : Type 0
 Reader = List Element → List ℕ → Result Elements ScanFault
 
--- the reading of an element after these: of its value and the bytes behind it, by the reader of more
+-- the reading of an element after these: of its value and the bytes after it, by the reader of more
 abbrev pub read_value : Reader → List Element → ApplicationIdentifier → Option (List ℕ × List ℕ) → Result Elements ScanFault
 read_value more es identifier None = Err (faults.Short identifier)
 read_value more es identifier (Some first) =
@@ -76,7 +76,7 @@ abbrev pub read_rest : ℕ → ℕ → List Element → List ℕ → Result Elem
 read_rest zero size es rest = Err faults.Long
 read_rest (suc n) size es rest = read_step (read_rest n size) size es rest
 
--- the reading of a scan of this size behind its symbology identifier
+-- the reading of a scan of this size after its symbology identifier
 abbrev pub read_behind : ℕ → Result (List ℕ) ScanFault → Result Elements ScanFault
 read_behind size (Err fault) = Err fault
 read_behind size (Ok string) = read_rest (suc (length string)) size [] (skip_separator string)

@@ -149,8 +149,8 @@ fn others_of(key: Option<&[u8]>) -> usize
     }
 }
 
-/// Appends the fields of the line of an item, which has this number of members beyond those that name a pack, a batch or a
-/// product, or say the scanned values and the condition. Returns the subject.
+/// Appends the fields of the line of an item, and returns its subject. The item has this number of other members. They
+/// are neither those that name a pack, a batch or a product, nor those of the scanned values and the condition.
 #[tactic(auto, unfolding(crate::specs::Bulks::item_subject))]
 fn push_question(
     lines: &mut String,

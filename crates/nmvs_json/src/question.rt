@@ -125,8 +125,9 @@ fn value_in<'t>(
     }
 }
 
-/// Appends the fields of the line that an object means, and LF. The object has this number of members beyond those that name a
-/// pack, a batch or a product, or say the scanned values and the condition. Returns the subject.
+/// Appends the fields of the line that an object means, and LF. Returns the subject. The object has this number of
+/// other members. They are neither those that name a pack, a batch or a product, nor those of the scanned values and
+/// the condition.
 #[tactic(auto, unfolding(crate::specs::Questions::fields_of))]
 pub(crate) fn push_fields(
     line: &mut String,

@@ -198,8 +198,8 @@ pub fn response_of<A: Allocator>(
     Ok((problem, body))
 }
 
-/// Whether one of the answers to a bulk is a problem that passes, and the body of the response, by the subject of each question:
-/// the bodies of their answers, each a line of a session's text.
+/// Whether one of the answers to a bulk is a problem that passes, and the body of the response. Each answer is a line
+/// of a session's text, and has a body by the subject of its question.
 ///
 /// # Errors
 ///
@@ -224,7 +224,8 @@ pub fn bulk_body<A: Allocator>(
     Ok((passing, body))
 }
 
-/// Puts the bodies of answers at the end of a body, by the subject of each question, with a comma between each two. Returns whether one of them is a problem that passes.
+/// Puts the bodies of answers at the end of a body, by the subject of each question, with a comma between each two.
+/// Returns whether one of them is a problem that passes.
 fn push_answers<A: Allocator>(
     body: &mut Vec<u8, A>,
     subjects: &[Subject],
@@ -259,8 +260,8 @@ fn passes(problem: Option<Problem>) -> bool
     )
 }
 
-/// Puts the body of an answer to one question at the end of a body, by the question's subject, the first line without the tag
-/// and the bytes of the later lines. Returns its problem, if it is no reply.
+/// Puts the body of an answer to one question at the end of a body, and returns its problem, if it is no reply. The
+/// body rests on the question's subject, the first line without the tag and the bytes of the later lines.
 fn push_answer<A: Allocator>(
     body: &mut Vec<u8, A>,
     subject: &Subject,
@@ -377,7 +378,8 @@ fn push_reply<A: Allocator>(
     body.extend_from_slice(b"}\n")
 }
 
-/// Puts the name of an alert on this product code at the end of a body, by the first word of its reply and its later words.
+/// Puts the name of an alert on this product code at the end of a body. The words of a reply are its first one and the
+/// later ones.
 #[tactic(auto, unfolding(crate::specs::Replies::alert_member))]
 fn push_alert<A: Allocator>(
     body: &mut Vec<u8, A>,

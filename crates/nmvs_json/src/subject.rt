@@ -7,7 +7,7 @@ use nmvs_rules::Printed;
 use std::alloc::{AllocError, Global};
 use std::marker::Model;
 
-/// What a question says of the print on its pack: the values, or the fault of its scan.
+/// The scanned values of a question, or the fault of its scan.
 pub type Scanned = Result<Printed, ScanFault>;
 
 /// The subject of a question.
