@@ -14,18 +14,17 @@ use Rattle.nmvs_inspect.specs.declared.comparison.Walk.{Walk}
 abbrev pub about : ProductCode → List Entry → List Entry
 about c t = filter (has_code c) t
 
--- a new trail goes on from an old one: its entries about each product code begin with those of the old one about the code, in
--- order
+-- a new trail goes on from an old one: its entries about each product code begin with the old one's, in order
 abbrev pub GoesOn : List Entry → List Entry → Type 0
 GoesOn old new = (c : ProductCode) → (more : List Entry) × (about c new ≡ about c old ++ more)
 
--- the entry that a new trail has in the place of an entry that follows these in an old one: as many entries about the product
--- code stand before it
+-- the entry that a new trail has in the place of an entry that follows these in an old one. The same number of entries
+-- about the product code stands before it.
 abbrev pub in_place : List Entry → Entry → List Entry → Option Entry
 in_place before e new = let c = code_of e.put.question in slice_get (about c new) (length (about c before))
 
--- the first departure of a new trail from an old one: it goes on from the entries before d, and has another entry in its
--- place, or none
+-- the first departure of a new trail from an old one. The new trail goes on from the entries before d, and has another
+-- entry in its place, or none.
 pub record Departs (old new : List Entry) (d : Departure) : Type 0 where
   pub place : ℕ
   pub number : d.number ≡ place + 1
@@ -59,8 +58,8 @@ pub record StandsBefore (w : Walk) (t : List Entry) : Type 0 where
   pub nexts : AreNexts 0 t w.nexts.items
   pub heads : (c : ProductCode) → head_of w c ≡ seek c t 0
 
--- a walk along a new trail that passed the entries of an old one: of each product code it passed these alone, and it stands at
--- the first entry that is left
+-- a walk along a new trail that passed the entries of an old one. Of each product code it passed these alone, and it
+-- stands at the first entry that is left.
 pub record HasPassed (w : Walk) (old new : List Entry) : Type 0 where
   pub nexts : AreNexts 0 new w.nexts.items
   pub left : (c : ProductCode) → about c new ≡ about c old ++ about c (drop (head_of w c) new)

@@ -14,8 +14,8 @@ use Rattle.nmvs_words.specs.Words.{own_word}
 use Rattle.nmvs_inspect.specs.declared.form.Form.{Form}
 use Rattle.nmvs_inspect.specs.Rows.{moment_text, row_in, serial_text}
 
--- a pack's upload, what is known of the pack at the end of the trail, and the date and time (UTC) of the last accepted
--- entry about it
+-- a pack's upload, the values known of it at the end of the trail, and the date and time (UTC) of its last accepted
+-- entry
 pub record Standing (t : List Entry) : Type 0 where
   pub upload : Entry
   pub known : Known

@@ -1,4 +1,5 @@
--- Groups of alerts by week, as a picture (own): a bar a week, as high as its number of alerts, at the week's place in time.
+-- Groups of alerts by week, as a picture (own). Each week has a bar as high as its number of alerts, at the week's
+-- place in time.
 use Rattle.std.specs.Prelude.{ℕ, ◌+◌, ◌-◌, ◌/◌, max, if◌then◌else◌, nat_lt, List, [], ◌∷◌, ◌++◌, fold, codes, decimal, Option, Some, None}
 use Rattle.std.specs.List.{flat_map}
 use Rattle.jiff_fmt.specs.Text.{date_text}

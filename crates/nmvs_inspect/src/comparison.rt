@@ -30,8 +30,8 @@ pub(crate) struct Walk {
     nexts: Vec<usize>,
 }
 
-/// The first departure of a new trail from an old one, if any. The new trail goes on from the old one if its entries about
-/// each product code begin with those of the old one, in order (own).
+/// The first departure of a new trail from an old one, if any. The new trail goes on from the old one if its entries
+/// about each product code begin with the old one's, in order (own).
 ///
 /// The entries about different product codes may stand in any order, as shards are exported one after another. It takes
 /// time and memory in proportion to the trails, and hashes with the key of the new one.

@@ -1,10 +1,9 @@
 //! The answers to inspectors about a lawful trail.
 //!
-//! A [`Filter`] says which entries are wanted, as a definition over entries. [`write_list`] writes them, oldest first, in a
-//! [`Form`]. [`write_groups`] counts them by the parts that they share, [`write_packs`] lists the packs of a batch with
-//! their status, and [`write_story`] writes the story of one pack. No answer copies the trail: each is made from the shard
-//! of an import, a block at a time.
-//! [`first_departure`] says whether a later trail continues an earlier one.
+//! A [`Filter`] says which entries are wanted, as a definition over entries. [`write_list`] writes them, oldest first,
+//! in a [`Form`]. [`write_groups`] counts them by the parts that they share. [`write_packs`] lists the packs of a batch
+//! with their status, and [`write_story`] writes the story of one pack. No answer copies the trail: each is made from
+//! the shard of an import, a block at a time. [`first_departure`] says whether a later trail continues an earlier one.
 #![tactic(auto)]
 
 mod answer_fault;

@@ -30,8 +30,9 @@ const COLUMNS: [&[u8]; 6] = [
 /// The widths of the columns of a table. A longer cell makes its row longer.
 const WIDTHS: [u8; 5] = [20, 6, 9, 19, 13];
 
-/// Writes the packs of a batch, in the order of their accepted uploads: the own status of each at the end of the shard's
-/// trail, and since when, under which authorisation and at which premises (Article 35(1)(g); the form is own).
+/// Writes the packs of a batch, in the order of their accepted uploads (Article 35(1)(g); the form is own). A row has
+/// the own status of its pack at the end of the shard's trail. It says since when the pack has that status, under which
+/// authorisation and at which premises.
 ///
 /// It takes memory for one block of rows, however many packs there are.
 ///

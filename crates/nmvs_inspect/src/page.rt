@@ -98,9 +98,9 @@ const FOOT: &str = "</tbody></table></div>\n<script>\n\
     }\n\
     </script>\n</body></html>\n";
 
-/// Writes a page for a browser. It has a verdict, these product codes with their counts, alerts by week, the 20 premises with
-/// the most flagged alerts, and the flagged alerts (Articles 36 and 40; the form is own). Weeks and alerts come oldest first.
-/// The page needs nothing from elsewhere.
+/// Writes a page for a browser. It has a verdict, these product codes with their counts, and alerts by week (Articles
+/// 36 and 40; the form is own). It ends with the 20 premises with the most flagged alerts, and the flagged alerts.
+/// Weeks and alerts come oldest first. The page needs nothing from elsewhere.
 ///
 /// It takes memory for the rows of product codes, batches and weeks, and for one block of the rows of alerts. It also takes
 /// memory for references to the alerts, and for groups of them.

@@ -23,8 +23,8 @@ use std::alloc::{AllocError, Allocator, Global};
 const HEADS: &str =
     "code,batch,holder,alerts,flagged,lock,active,held,supplied,exported,sampled,destroyed,stolen\n";
 
-/// Writes the reports of product codes as rows of CSV (Articles 36 and 40; the form is own): a row for each product code,
-/// and a row for each of its batches.
+/// Writes the reports of product codes as rows of CSV (Articles 36 and 40; the form is own). Each product code has a
+/// row, and each of its batches.
 ///
 /// It takes memory for one block of rows and those of a product code.
 ///

@@ -13,9 +13,9 @@ use nmvs_shard::Shard;
 use nmvs_stream::{Sink, deliver};
 use std::alloc::{AllocError, Allocator, Global};
 
-/// Writes the story of a pack, in a form: the entries about it and those that recall or withdraw its batch, oldest first. The
-/// last row has the reply that a question for its status gets at the end of the trail (Articles 35(1)(g), 36 and 40; the form
-/// is own).
+/// Writes the story of a pack, in a form: the entries about it and those that recall or withdraw its batch, oldest
+/// first. The last row has the reply that a question for its status gets at the end of the trail. The source is
+/// Articles 35(1)(g), 36 and 40, and the form is own.
 ///
 /// It takes memory as a list does.
 ///

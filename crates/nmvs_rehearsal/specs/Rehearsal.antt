@@ -27,8 +27,8 @@ use Rattle.nmvs_messages.specs.declared.answer.Turn.TheVariants as turns
 use Rattle.nmvs_messages.specs.declared.withheld.Withheld.{Withheld}
 use Rattle.nmvs_rehearsal.specs.Roster.{post_of, IsRostered}
 
--- the state of a rehearsal: its trail, and the moments of the lines that reach the desk from now on; the last moment serves all
--- later lines too
+-- the state of a rehearsal: its trail, and the moments of the lines that reach the desk from now on. The last moment
+-- serves all later lines too.
 pub record Rehearsal : Type 0 where
   pub trail : List Entry
   pub moments : List ℕ
@@ -54,8 +54,8 @@ pub record TakesMoment (old : Rehearsal) (moment : ℕ) (new : Rehearsal) : Type
 abbrev pub put_at : ℕ → Name → Actor → Option Tag → Question → Put
 put_at moment user actor tag question = record { moment = moment; user = user; actor = actor; question = question; tag = tag }
 
--- a question is new on the trail, no late copy that would raise an alert, and not held back by the values printed on its pack; it is
--- answered by the rules, with the entries that they show, and the trail grows by that entry
+-- a question is new on the trail, no late copy that would raise an alert, and not held back by the printed values. The
+-- rules answer it, with the entries that they show, and the trail grows by that entry.
 pub record Steps (old : List Entry) (put : Put) (printed : Option Printed) (said : Reply) (shown new : List Entry) : Type 0 where
   pub first : repeat_of old put ≡ repeat.New
   pub current : is_changed old put ≡ false
@@ -107,9 +107,9 @@ pub record Stays (old new : Rehearsal) : Type 0 where
 abbrev pub GetsReports : Name → Bool → Type 0
 GetsReports user answer = (actor : Actor) × IsRostered user actor × (may_report actor.role ≡ answer)
 
--- the answers that the desk of the rehearsal may give to a question at this moment: the rules' reply, or that of the entry that
--- it repeats; or a turn without an entry: nobody has the user's name, there was no memory, its tag is that of something else, the
--- values printed on its pack differ, or a late copy would raise an alert
+-- the answers that the desk of the rehearsal may give to a question at this moment. One is the rules' reply, or that of
+-- the entry that it repeats. Others are turns without an entry. Nobody has the user's name, there was no memory, or its
+-- tag is that of something else. Or the values printed on its pack differ, or a late copy would raise an alert.
 abbrev pub JudgesQuestion : ℕ → Rehearsal → Name → Option Tag → Question → Option Printed → Content → Rehearsal → Type 0
 JudgesQuestion moment old user g q printed (contents.Replied r text) new = (shown : List Entry) × (text ≡ export_text shown) × Replies moment old new user g q printed r shown
 JudgesQuestion moment old user g q printed (contents.Turned turns.Nobody) new = (post_of user.bytes ≡ None) × Stays old new
@@ -119,8 +119,9 @@ JudgesQuestion moment old user g q printed (contents.Turned turns.Differs) new =
 JudgesQuestion moment old user g q printed (contents.Turned turns.Changed) new = Changed moment old user g q × Stays old new
 JudgesQuestion _ _ _ _ _ _ _ _ = ⊥
 
--- the answers that it may give to a user who asks for a report, on a line with this tag: that of the trail, each line after the
--- tag; or a turn: nobody has the user's name, the role gets no report, or there was no memory
+-- the answers that it may give to a user who asks for a report, on a line with this tag. One is the report of the
+-- trail, each line after the tag. The others are turns: nobody has the user's name, the role gets no report, or there
+-- was no memory.
 abbrev pub JudgesReport : List Entry → Name → Option Tag → ProductCode → Content → Type 0
 JudgesReport trail user g c (contents.Reported first others) = GetsReports user true × (first ≡ product_line trail c) × (others ≡ report_lines (tag_text g) trail c)
 JudgesReport trail user g c (contents.Turned turns.Nobody) = post_of user.bytes ≡ None

@@ -221,7 +221,7 @@ impl<'a> Desk for RehearsalDesk<'a> {
 
     ghost moves = { Stays };
 
-    /// Every peer is believed.
+    /// Each peer may name any user.
     fn take(
         &mut self,
         _from: &Peer,

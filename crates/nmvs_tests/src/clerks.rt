@@ -1,4 +1,5 @@
-//! The rows of several clerks: each asks a thousand questions in a thread of its own, and the repository is settled.
+//! The rows of several clerks. Each asks a thousand questions about each of its product codes, in a thread of its own.
+//! Then the repository is settled.
 ghost use Rattle.std.specs.Prelude.{◌≡◌, ◌≤◌, ℕ, length, vec_len};
 ghost use Rattle.nmvs_directory.specs.Directory.{directory_book};
 ghost use Rattle.nmvs_desk.specs.Opening.{table_of};
@@ -67,7 +68,7 @@ fn questions(rt: &impl Abort, digits: &str) -> (Put, Put) {
     (first, put(rt, "ph1", Role::Pharmacy, verify))
 }
 
-/// What a clerk asks: the upload of a pack of each of these product codes, and 999 verifications of it.
+/// The questions of a clerk: the upload of a pack of each of these product codes, and 999 verifications of it.
 type Errand<'s> = &'s [(Put, Put)];
 
 /// Asks a thousand questions of each product code.

@@ -5,15 +5,15 @@ pub const NEW_YEAR: i64 = 1_767_225_600;
 
 const DAY: i64 = 86_400;
 
-/// A session: its subject, the moments of its lines (the last one serves all later lines), and each line with its reply,
-/// here without its last LF.
+/// A session: its subject, the moments of its lines, and each line with its reply, here without its last LF. The last
+/// moment serves all later lines.
 pub struct Example {
     pub shows: &'static str,
     pub moments: &'static [i64],
     pub lines: &'static [(&'static str, &'static str)],
 }
 
-/// What a verification says.
+/// The replies to verifications.
 pub const VERIFICATIONS: &[Example] = &[
     Example {
         shows: "a pack is uploaded and verified",
