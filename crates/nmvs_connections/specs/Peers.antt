@@ -22,8 +22,8 @@ pub record PeerState : Type 0 where
   pub unread : List ℕ
   pub pending : List ℕ
 
--- the number of bytes that a connection keeps: those that were not taken, those of a request that has not come whole,
--- and the unsent replies
+-- the number of bytes that a connection keeps: the untaken bytes, those of a request that has not come whole, and the
+-- unsent replies
 abbrev pub kept_bytes : PeerState → ℕ
 kept_bytes c = length c.unread + (length c.pending + length c.session.unsent)
 

@@ -87,8 +87,8 @@ impl<L: LineList> BufferedSession<L> {
         self.end
     }
 
-    /// The replies that are unsent. The sent replies, these, and the lines that follow them are the texts of answers to
-    /// the lines that it was fed, one answer a line, in order. The lines whose answers it waits for have no reply yet.
+    /// The replies that are unsent. The sent replies, these, and the lines that follow them are the texts of answers.
+    /// Each fed line has one answer, in order. The lines whose answers it waits for have no reply yet.
     pub fn unsent(&self) -> &[u8]
         ensures bytes { result.now ≡ self.now.unsent }
         ensures replies { Replies self.now.fed (replied self.now) self.now.waiting self.now.ended }

@@ -479,8 +479,8 @@ impl<L: LineList> EventLoop<L> {
     }
 
     /// The key of the connection that is closed first for want of memory, if any takes some. It is of the peer that
-    /// keeps most. It is the largest of its connections on which a line or a request has not come whole, or else the
-    /// largest of all of them.
+    /// keeps most. It is the largest of its connections on which a line or a request has not come whole. Without such a
+    /// connection it is the largest of all.
     ///
     /// # Errors
     ///

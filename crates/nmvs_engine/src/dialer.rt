@@ -12,7 +12,7 @@ const LONGEST_OPENING: u64 = 1_000;
 /// The milliseconds between two looks whether a connection is wanted (own).
 const PAUSE: u64 = 5;
 
-/// Opens connections to the engine at an address for those who want one. The store of a log opens none itself: in this
+/// Opens connections to the engine at an address for those who want one. The store of a log opens none itself. In this
 /// toolchain a store that holds the runtime gets no proof as a part of a desk. A thread gets a proof of `run` in `main`
 /// alone.
 #[derive(Drop)]

@@ -11,8 +11,9 @@ use std::marker::Model;
 /// The most bytes of a list (own): four product codes with three commas.
 const LONGEST_CODES: usize = 59;
 
-/// The products that a holder may upload, as written: product codes and GS1 company prefixes of 4 to 12 digits, with
-/// commas between them (GS1 General Specifications, section 1.4.5). The list has at most 59 characters (own).
+/// The products that a holder may upload, as written. They are product codes and GS1 company prefixes of 4 to 12
+/// digits, with commas between them (GS1 General Specifications, section 1.4.5). The list has at most 59 characters
+/// (own).
 ///
 /// Equality is that of its text.
 #[derive(Clone, Copy, PartialEq, Eq)]

@@ -95,7 +95,7 @@ pub record Loads (source source' : Told) (published pending published' : List Ch
 abbrev pub CannotRead : Told → Told → ℕ → Type 0
 CannotRead source source' reads = (source'.failed ≡ true) ⊎ ((source'.reads ≡ source.reads + reads) × (source'.ended ≡ false))
 
--- the reason why the bytes of a users file are not there: no memory for the read ones, or reads that did not reach the
+-- the reason why the bytes of a users file are not there: no memory for the read ones, or reads that stopped before the
 -- end
 abbrev pub ReadFails : Told → Told → ℕ → LoadFault → Type 0
 ReadFails source source' reads load.Memory = (bytes : List ℕ) × (source'.bytes ≡ source.bytes ++ bytes)

@@ -64,8 +64,8 @@ pub trait Perform {
 
 /// A server that answers.
 pub trait Service: Perform {
-    // Whether a server in this state may keep the changes of these lines of a users file, or fail so, and then be in
-    // that state.
+    // Whether a server in this state may keep the changes of these lines of a users file, or fail so. It is in that
+    // state then.
     ghost keeps: { Self → List ℕ → Option TheFault → Self → Type 0 };
 
     /// Keeps the changes of these lines of a users file as those of orders.

@@ -20,8 +20,8 @@ abbrev pub Ascends : ℕ → List ℕ → Type 0
 Ascends from [] = Unit {0}
 Ascends from (m ∷ ms) = (from ≤ m) × Ascends m ms
 
--- if a user began with a full bucket and asked lines in order, a refused line would be one more than the rate has since
--- some moment
+-- the user began with a full bucket and asked lines in order. Then a refused line would be one more than the rate has
+-- since some moment.
 abbrev pub NeverFewer : Type 0
 NeverFewer =
     (rate : Rate) (begun : ℕ) (moments : List ℕ) (now : ℕ) →

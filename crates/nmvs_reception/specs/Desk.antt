@@ -99,7 +99,7 @@ pub record Knows (old : DeskView) (from : Peer) (ask : Ask) (may : Bool) (enrolm
   pub looks : LooksUp old (user_of ask) (looks.Known enrolment) new
   pub speaks : speaks_for from (user_of ask) enrolment.actor.authorisation ≡ may
 
--- the reason to turn away a line of a peer that names a suspended user: the suspension, unless the peer is a
+-- the reason to turn away a line of a peer that names a suspended user. It is the suspension, unless the peer is a
 -- certificate that may be another's. One that names an authorisation may be, since the directory gives none of a
 -- suspended user.
 abbrev pub suspended_turn : Peer → Name → Turn
@@ -175,8 +175,8 @@ not_put_turn not_put.Differs = turns.Differs
 not_put_turn not_put.Changed = turns.Changed
 
 -- the answer to an outcome in the shard of this number, and its basis. It is the reply of the entry that answers the
--- question, with the text of the shown entries, on the entries up to that one; or a turn, on all entries that were
--- there.
+-- question, with the text of the shown entries, on the entries up to that one. Or it is a turn, on all entries that
+-- were there.
 abbrev pub Says : ℕ → Outcome → List Entry → Content → Option Basis → Type 0
 Says shard (outcomes.New a) shown said basis = (said ≡ contents.Replied a.reply (export_text shown)) × (basis ≡ Some (record { shard = shard; place = a.place }))
 Says shard (outcomes.Again a) shown said basis = (said ≡ contents.Replied a.reply (export_text shown)) × (basis ≡ Some (record { shard = shard; place = a.place }))

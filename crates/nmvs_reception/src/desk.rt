@@ -480,8 +480,8 @@ fn basis_of(shard: usize, count: usize) -> Option<Basis>
     })
 }
 
-/// Reads the report of a product code from a shard that is held: its first line, its batches, and the number of entries
-/// of the trail.
+/// Reads the report of a product code from a shard that is held. It has its first line, its batches, and the number of
+/// entries of the trail.
 #[derive(Clone, Copy)]
 struct ReportOf<'c> {
     alloc: Global,

@@ -15,8 +15,8 @@ ghost use Rattle.nmvs_rules.specs.Rules.{reply_of};
 ghost use Rattle.nmvs_reception.specs.Desk.{is_report, with_seen, with_sights, Admits, DeskView, Refuses};
 ghost use Rattle.nmvs_reception.specs.Refusals.{askers, first_reason, reasons, refusal_in};
 
-/// On every trail, a question is refused for its role exactly if its role is not among those that may ask it (own,
-/// after the Articles that `askers` names). So nothing of the pack is looked at first.
+/// On every trail, a question is refused for its role exactly if its role is not among those that may ask it. The rule
+/// is own, after the Articles that `askers` names. So nothing of the pack is looked at first.
 pub fn who_may_ask()
     ensures { (t : List Entry) (q : Put) →
         (reply_of t q ≡ reply.Refused refusal.Role) ↔ IsFalse (list_any (same_role q.actor.role) (askers q.question)) }

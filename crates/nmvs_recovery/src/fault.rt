@@ -88,8 +88,8 @@ impl<'a> FileFault<'a> {
         }
     }
 
-    /// The fault of the import of this path, by this finding in it. (In this toolchain a fault that holds the finding, and so a
-    /// reply, gets no generated proof.)
+    /// The fault of the import of this path, by this finding in it. In this toolchain a fault that holds the finding,
+    /// and so a reply, gets no generated proof.
     pub(crate) fn of_import(path: &'a str, finding: Finding) -> FileFault<'a>
         ensures { file_fault_text result ≡ import_text path.now finding }
     {
