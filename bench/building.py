@@ -9,7 +9,7 @@ ROOT = HERE.parent
 
 
 def build(folder, name, libraries, arguments):
-    """Builds bench/NAME.rattle in a folder of its own, runs it once with these arguments, and tells where the program is.
+    """Builds bench/NAME.rattle in a folder of its own, runs it once with these arguments, and returns the program's path.
     What its functions pick for proofs alone is in bench/NAME_proofs, a file a function. (The gate takes no file of code
     outside crates/, so these have names of their own.)"""
     shutil.copytree(ROOT / "crates", folder / "crates", ignore=shutil.ignore_patterns("wrong-bodies"))

@@ -1,5 +1,5 @@
-"""What the measurements of a running server have in common: packs and lines about them, the program, and the load that is put
-to it (load.c)."""
+"""The parts that the measurements of a running server share: packs and lines about them, the program, and the load that is
+put to it (load.c)."""
 import os
 import pathlib
 import socket
@@ -28,8 +28,8 @@ def build_load(folder):
 
 
 class Told(typing.NamedTuple):
-    """What became of the lines that were put: how many a second, how many in all, and the microseconds from a line to its reply:
-    the median, what one in 100 exceeds, and the most."""
+    """The lines that were answered: their number a second and in all, and the microseconds from a line to its reply. Of these it
+    has the median, the value that one in 100 exceeds, and the greatest."""
     rate: float
     lines: int
     median: int
@@ -38,8 +38,8 @@ class Told(typing.NamedTuple):
 
 
 def begin_load(load, port, window, files, pause=0, seconds=0):
-    """Begins to put lines, a connection a file: each once, or over and over for so many seconds; with a pause of so many
-    milliseconds between two lines of a connection."""
+    """Begins to put lines, a connection a file: each once, or over and over for this number of seconds. The pause
+    between two lines of a connection is in milliseconds."""
     options = [*(("-p", str(pause)) if pause else ()), *(("-s", str(seconds)) if seconds else ())]
     return subprocess.Popen([load, *options, str(port), str(window), *files], stdout=subprocess.PIPE, text=True)
 

@@ -98,7 +98,7 @@ class Browser:
         return self.call("Runtime.evaluate", expression=expression, returnByValue=True, awaitPromise=True)["result"].get("value")
 
     def key(self, key, modifiers=0, pause=0.005):
-        """Presses a key, so many seconds after the last one: that is a scanner's speed."""
+        """Presses a key, this number of seconds after the last one, at a scanner's speed."""
         self.moment += pause
         timestamp = {"timestamp": self.moment} if self.scans else {}
         text = {"text": key} if len(key) == 1 and not modifiers else {"text": "\r"} if key == "Enter" else {}
@@ -122,7 +122,7 @@ class Browser:
             self.call("Input.dispatchMouseEvent", type=kind, button="left", clickCount=1, **place)
 
     def until(self, expression, wanted, seconds=BOUND):
-        """What an expression gives, once it is this, or after so many seconds."""
+        """The value of an expression, once it is this one, or after this number of seconds."""
         end = time.monotonic() + seconds
         while (got := self.value(expression)) != wanted and time.monotonic() < end:
             time.sleep(0.02)

@@ -1,5 +1,5 @@
-"""A stand-in for etcd, for tests of servers that share a log: one store in memory, whose requests of /v3/kv/txn and /v3/kv/range are
-carried out whole, one after the other, as etcd's JSON gateway has them. Nothing of it is replicated or kept."""
+"""A stand-in for etcd, for tests of servers that share a log: one store in memory. It carries out requests of /v3/kv/txn and
+/v3/kv/range whole, one after the other, in the form of etcd's JSON gateway. Nothing of it is replicated or kept."""
 import base64
 import http.server
 import json
@@ -7,7 +7,7 @@ import threading
 
 CLUSTER = "trial"
 
-# The keys of a log that begins, behind the name of the cluster, with their values.
+# The keys of a log that begins, after the name of the cluster, with their values.
 BEGUN = {"owner": "-", "entries/end": "0", "entries/trimmed": "0", "users/end": "0", "users/trimmed": "0"}
 
 
@@ -20,8 +20,8 @@ def text_of(value):
 
 
 class Engine:
-    """The store, and a server of it at a port of 127.0.0.1. It has the keys of a cluster that has no owner yet, whose log of entries
-    has these blocks, each some lines; or no key, if it is empty."""
+    """The store, and a server of it at a port of 127.0.0.1. It has no key, if it is empty. Else it has the keys of a cluster without
+    an owner, whose log of entries has these blocks, each some lines."""
 
     def __init__(self, *blocks, cluster=CLUSTER, empty=False, port=0):
         self.cluster, self.values = cluster, {}
@@ -79,7 +79,7 @@ class Engine:
         return {"header": {}, **({"kvs": found} if found else {})}
 
     def holds(self, compare):
-        """Whether a comparison holds: the key has the value; or a revision of creation above 0, or one of 0, as a key has that is not there."""
+        """Whether a comparison holds. It compares the key's value, or its revision of creation, which is 0 for a key that is not there."""
         if compare["target"] == "CREATE":
             return bool(self.keys(compare)) == (compare["result"] == "GREATER")
         return self.values.get(bytes_of(compare["key"])) == bytes_of(compare["value"])

@@ -1,5 +1,5 @@
-"""What the sources of the repository have as evidence: definitions, functions with their contracts, laws, wrong bodies, examples and
-tests, each with its file and line, and the articles of Regulation (EU) 2016/161 that its comment names."""
+"""The evidence in the sources of the repository: definitions, functions with their contracts, laws, wrong bodies, examples and
+tests. Each has its file and line, and the articles of Regulation (EU) 2016/161 that its comment names."""
 import collections
 import functools
 import importlib.machinery
@@ -11,7 +11,7 @@ import sys
 TOP = pathlib.Path(__file__).resolve().parent.parent
 CRATES = TOP / "crates"
 
-# A thing of the sources: its crate (or tool), the module or type that it stands in, its name, its place, its comment, and its text.
+# A thing of the sources: its crate (or tool), the module or type that has it, its name, its place, its comment, and its text.
 Thing = collections.namedtuple("Thing", "crate owner name file line comment text")
 Function = collections.namedtuple("Function", (*Thing._fields, "kind"))
 # The articles that a text names, as 'Article 13(1)(b)' and 'Articles 22, 25 and 40'.

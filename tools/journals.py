@@ -1,5 +1,5 @@
-"""What the tools about the log have in common: the built program over a log, the disk under it (tools/disk.c), and what stands
-in the files of its folder."""
+"""The parts that the tools about the log share: the built program over a log, the disk under it (tools/disk.c), and the
+content of the files of its folder."""
 import json
 import os
 import pathlib
@@ -38,7 +38,8 @@ class Disk:
         compile_library(TOP / "tools/disk.c", self.library)
 
     def environment(self, call=None, number=0, fault="", delay=0):
-        """For a program whose call of this kind and number fails so, and whose syncs take so many microseconds longer."""
+        """For a program whose call of this kind and number fails so, and whose syncs take this number of microseconds
+        longer."""
         self.notes.write_bytes(bytes(8 * len(self.CALLS) + (self.NAME + 8) * self.FILES))
         told = {"LD_PRELOAD": self.library, "DISK_FOLDER": self.folder, "DISK_NOTES": self.notes, "DISK_DELAY": delay}
         if call:
@@ -88,7 +89,7 @@ class Server:
         self.process.kill()
 
     def refusal(self):
-        """How a start ended that does not listen: what it told on standard error, its status, and whether it took too long."""
+        """The end of a start that does not listen: its standard error, its status, and whether it took too long."""
         faults = self.ended()[1]
         return faults, self.process.returncode, "took too long" if self.is_late else "ended by itself"
 
@@ -107,7 +108,7 @@ class Server:
         return int(status.split("VmRSS:")[1].split()[0]) << 10
 
     def kill(self):
-        """Ends it as kill -9 does: what was not read of its answers, and what it told on standard error."""
+        """Ends it as kill -9 does, and returns its unread answers and its standard error."""
         self.process.send_signal(signal.SIGKILL)
         return self.ended()
 
@@ -117,7 +118,7 @@ class Server:
 
 
 class Asker(threading.Thread):
-    """A terminal that puts questions, so many in flight, until its session ends or there are none."""
+    """A terminal that puts questions, this number in flight, until its session ends or there are none."""
 
     def __init__(self, port, questions, window):
         super().__init__()
@@ -146,7 +147,7 @@ def log_text(folder):
 
 
 def commands_in(text):
-    """The commands of a users file; the line above each tells when it was given."""
+    """The commands of a users file; the line above each has its moment."""
     return [line for line in text.splitlines() if not line.startswith("#")]
 
 
@@ -164,8 +165,8 @@ def entries_by_code(folder):
 
 
 def faults_of(product, asker, lines):
-    """Lets the model follow what a log has of these questions behind what it had, and tells what is wrong: each reply that
-    was read has its entry there, in order, and whatever else is there is that of the next questions."""
+    """Lets the model follow the entries of these questions that the log has gained, and returns the faults. Each reply
+    that was read has its entry there, in order, and all other entries are those of the next questions."""
     had = len(product.entries)
     for number, question in enumerate(asker.asked):
         if number >= len(asker.told) and len(product.entries) - had >= len(lines):
@@ -187,6 +188,6 @@ def lawful(folder):
 
 
 def closing():
-    """Tells how many checks held, and gives the status of that."""
+    """Prints how many checks held, and returns the status."""
     print(f"{len(passed)} passed, {len(failed)} failed")
     return 1 if failed else 0

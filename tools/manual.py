@@ -3,8 +3,8 @@
 
   tools/manual.py FILE   writes it
 
-Of Markdown it knows what the pages have: headings, paragraphs, lists, tables, blocks of code, pictures, and within a line code, bold
-and slanted text, and links. A link to a page leads to its part of the file, one to another file of the repository becomes its path.
+Of Markdown it knows headings, paragraphs, lists, tables, blocks of code and pictures. Within a line it knows code, bold and slanted
+text, and links. A link to a page leads to its part of the file, one to another file of the repository becomes its path.
 """
 import base64
 import html

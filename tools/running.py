@@ -1,5 +1,5 @@
-"""A running server as its operator sees it from the same machine: its process, options, files, commands, metrics, and sessions with
-it; and the gateway in front."""
+"""A running server as its operator sees it from the same machine, and the gateway in front. It has its process, options, files,
+commands, metrics, and sessions with it."""
 import contextlib
 import http.client
 import json
@@ -32,7 +32,7 @@ def given_words(words):
 
 
 class Running:
-    """The server behind an administrator's socket."""
+    """The server of an administrator's socket."""
 
     def __init__(self, admin, control):
         self.admin, self.control = pathlib.Path(admin), control

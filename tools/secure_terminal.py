@@ -1,4 +1,4 @@
-"""Terminals behind a gateway: TLS 1.3, with a certificate of its own, and a new connection where one has ended. One sends lines, the
+"""Terminals of a gateway: TLS 1.3, with a certificate of its own, and a new connection where one has ended. One sends lines, the
 other asks over HTTP."""
 import http.client
 import json
@@ -45,8 +45,8 @@ class HttpTerminal:
 
     def ask(self, word, members, patience=60):
         """The reply to this question, or its problem. Where no response comes, or one of status 429 or 503, the same is sent again with
-        the same key after a pause that grows. After CHANGED it is sent with a new key. ConnectionError: nothing else came for so many
-        seconds."""
+        the same key after a pause that grows. After CHANGED it is sent with a new key. ConnectionError: nothing else came for this
+        number of seconds."""
         key, until, pause = secrets.token_hex(8), time.monotonic() + patience, 1
         while True:
             try:

@@ -20,7 +20,7 @@ def option_rows():
 
 
 def with_options(page):
-    """The page with the row of each option in its place, and of a new one behind the row of the option before it."""
+    """The page with the row of each option in its place, and of a new one after the row of the option before it."""
     rows, lines = dict(option_rows()), []
     order = list(rows)
     for line in page.split("\n"):

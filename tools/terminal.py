@@ -29,8 +29,8 @@ class Terminal:
         return self.reply()
 
     def ask_many(self, lines, ahead=64):
-        """The lines of the reply to each of these, in their order. So many are sent before the first reply is read, which saves
-        the way there and back of each."""
+        """The lines of the reply to each of these, in their order. This number of lines is sent before the first reply is read,
+        which saves a round trip for each."""
         waiting = 0
         for line in lines:
             self.send(line)
@@ -42,9 +42,9 @@ class Terminal:
             yield self.reply()
 
     def send(self, line):
-        """Puts a line, whose reply is read behind those of the lines before.
-        ValueError: the line has a character that no line may have. An LF within it would be answered by one reply more, and
-        every later reply would be that of the question before."""
+        """Puts a line, whose reply is read after those of the earlier lines. ValueError: the line has a character that no
+        line may have. An LF within it would be answered by one reply more, and every later reply would be that of the
+        question before."""
         if not all(" " <= character <= "~" for character in line):
             raise ValueError("a line has no control character, and ASCII alone")
         self.connection.sendall(line.encode("ascii") + b"\n")
@@ -90,8 +90,8 @@ class TaggedTerminal:
 
     def ask(self, line, patience=60):
         """The lines of the reply to this one, without its tag. Where none comes, or a fault of AGAIN, the line is sent again with
-        the same tag after a pause that grows. After CHANGED it is sent with a new tag. ConnectionError: nothing else came for so
-        many seconds."""
+        the same tag after a pause that grows. After CHANGED it is sent with a new tag. ConnectionError: nothing else came for
+        this number of seconds."""
         tag, until, pause = new_tag(), time.monotonic() + patience, 1
         while True:
             try:

@@ -1,15 +1,15 @@
-"""What a server tells on standard error, without what only says how it goes: for tools that compare it."""
+"""The faults and warnings of a server on standard error, without its other log lines: for tools that compare them."""
 import re
 
-# A clock that gives no moment is told as a dash.
+# A clock that gives no moment is logged as a dash.
 EVENT = re.compile(r"(?:\d{4}-\d\d-\d\dT\d\d:\d\d:\d\d\.\d{3}Z|-) (ERROR|WARN |INFO |DEBUG) (.*)")
 # For tools that read standard error at the end alone: a load of alerts would fill the pipe.
 QUIET = ("--log-level", "warn")
 
 
 def told_of(errors):
-    """The faults and warnings, each as the program's own last line is written; a fault with the system's reason in front of
-    the same without it is told once."""
+    """The faults and warnings, each in the form of the program's last line. A fault with the system's reason, followed by
+    the same without it, is given once."""
     told = []
     for line in errors.splitlines():
         event = EVENT.fullmatch(line)
