@@ -89,7 +89,7 @@ class Server:
         self.process.kill()
 
     def refusal(self):
-        """The end of a start that does not listen: its standard error, its status, and whether it took too long."""
+        """The end of a start that does not listen: its faults, its status, and whether it took too long."""
         faults = self.ended()[1]
         return faults, self.process.returncode, "took too long" if self.is_late else "ended by itself"
 
@@ -108,7 +108,7 @@ class Server:
         return int(status.split("VmRSS:")[1].split()[0]) << 10
 
     def kill(self):
-        """Ends it as kill -9 does, and returns its unread answers and its standard error."""
+        """Ends it as kill -9 does, and returns its unread answers and its faults."""
         self.process.send_signal(signal.SIGKILL)
         return self.ended()
 

@@ -42,9 +42,9 @@ class Terminal:
             yield self.reply()
 
     def send(self, line):
-        """Puts a line, whose reply is read after those of the earlier lines. ValueError: the line has a character that no
-        line may have. An LF within it would be answered by one reply more, and every later reply would be that of the
-        question before."""
+        """Puts a line, whose reply is read after those of the earlier lines.
+        ValueError: the line has a character that no line may have. An LF within it would be answered by one reply more, and
+        every later reply would be that of the question before."""
         if not all(" " <= character <= "~" for character in line):
             raise ValueError("a line has no control character, and ASCII alone")
         self.connection.sendall(line.encode("ascii") + b"\n")
