@@ -1,4 +1,5 @@
-"""What the text of a program's --help says, and what the package makes from it: man pages, completions, a file of options."""
+"""The content of the text of a program's --help, and the parts that the package makes from it: man pages, completions, a file
+of options."""
 import dataclasses
 import re
 import textwrap
@@ -117,7 +118,7 @@ def words_of(read):
 
 
 def value_words(option):
-    """What compgen is given to complete the value of an option."""
+    """The arguments of compgen that complete the value of an option."""
     return f'-W "{" ".join(option.choices)}"' if option.choices else FILES.get(option.values[0], '-W ""')
 
 
@@ -156,7 +157,7 @@ def toml_line(option, value):
 
 
 def toml_entry(option, given):
-    """What the file says of an option: its text, and its default, both as comments."""
+    """The lines of the file about an option: its text, and its default, both as comments."""
     text = option.text
     if option.choices:
         text += f"; one of {', '.join(option.choices)}"

@@ -68,7 +68,7 @@ def each_of(body, text):
 
 
 class Verdict:
-    """What the lines of a terminal and their replies say of it."""
+    """The judgement of a terminal by its lines and their replies."""
 
     def __init__(self, silent=0):
         self.met, self.asked, self.wrong, self.lock = set(), 0, 0, threading.Lock()

@@ -131,7 +131,7 @@ def led_nowhere():
 
 
 def faults(pages):
-    """What is not as it has to be, with the texts of the pages that name its servers."""
+    """The faults of the description, given the texts of the pages that name its servers."""
     if missing := list(led_nowhere()):
         return missing
     found = [f"no page names {one['url']}" for one in DESCRIPTION["servers"] if one["url"].rpartition("/")[2] not in pages]
@@ -151,7 +151,7 @@ def faults(pages):
 
 
 def refused():
-    """What the validator of the field refuses, where it is installed."""
+    """The faults that openapi-spec-validator finds, where it is installed."""
     try:
         import openapi_spec_validator as validator
     except ImportError:

@@ -94,7 +94,7 @@ class Server:
         return faults, self.process.returncode, "took too long" if self.is_late else "ended by itself"
 
     def command(self, text):
-        """What a command is answered, or nothing where the server ended."""
+        """The answer to a command, or nothing where the server ended."""
         try:
             self.process.stdin.write(text + "\n")
             self.process.stdin.flush()
@@ -182,7 +182,7 @@ def faults_of(product, asker, lines):
 
 
 def lawful(folder):
-    """What the checker says of a log: its first line, or a fault."""
+    """The checker's verdict on a log: its first line, or a fault."""
     ended = subprocess.run([CHECKER, folder / "trail.txt"], capture_output=True, text=True, timeout=600)
     return ended.stdout.partition("\n")[0] or ended.stderr.strip()
 

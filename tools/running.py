@@ -81,7 +81,7 @@ class Running:
         return {name: float(value) for name, _, value in (line.rpartition(" ") for line in lines if line and not line.startswith("#"))}
 
     def header(self, user, authorisation):
-        """What a gateway would send in front for this user."""
+        """The header that a gateway would send for this user."""
         whose = {"user": user, "authorisation": authorisation}.get(self.options.get("proxy"))
         return proxy_header(whose).encode("latin-1") if whose else b""
 
@@ -111,8 +111,8 @@ def request(client, path, members, tag=None):
 
 
 def certificate(host, port, authority):
-    """What the gateway at this address presents: the version of TLS, and how many days its certificate is still valid.
-    It is asked without a certificate of a client, so it may end the connection after the handshake."""
+    """The version of TLS of the gateway at this address, and how many days its certificate is still valid. It is asked
+    without a certificate of a client, so it may end the connection after the handshake."""
     context = ssl.create_default_context(cafile=authority)
     with socket.create_connection((host, port), BOUND) as plain, context.wrap_socket(plain, server_hostname=host) as secure:
         ends = ssl.cert_time_to_seconds(secure.getpeercert()["notAfter"])

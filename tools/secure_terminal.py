@@ -11,7 +11,7 @@ from terminal import TaggedTerminal, Terminal
 
 
 def tls(certificate, key, authority):
-    """What a connection by TLS 1.3 begins with, for the certificate of a client and the authority of a gateway."""
+    """The context of connections by TLS 1.3, for the certificate of a client and the authority of a gateway."""
     context = ssl.create_default_context(cafile=authority)
     context.minimum_version = ssl.TLSVersion.TLSv1_3
     context.load_cert_chain(certificate, key)

@@ -131,7 +131,8 @@ def typed(kind, value):
 
 
 def proxy_header(name, verified=0):
-    """What a gateway sends before the first line of a client whose certificate has this common name (GATEWAY.md)."""
+    """The header that a gateway sends before the first line of a client whose certificate has this common name
+    (GATEWAY.md)."""
     tls = struct.pack(">BI", 7, verified) + typed(0x21, b"TLSv1.3") + typed(0x22, name.encode())
     content = socket.inet_aton("127.0.0.1") * 2 + struct.pack(">HH", 40_000, 7_443) + typed(0x20, tls)
     return (b"\r\n\r\n\0\r\nQUIT\n\x21\x11" + struct.pack(">H", len(content)) + content).decode("latin-1")
