@@ -175,12 +175,10 @@ function ask(title, yes, ...inside) {
 
 // ---- The words of the interface
 const HINTS = ['LATE', 'CAPS', 'LAYOUT', 'NOCODE', 'OWN', 'HOUSE'], VERDICTS = ['TECHNICAL', 'PROCEDURAL', 'MARKET'];
-const CAUSES = ['UNKNOWN', 'HELD', 'SUPPLIED', 'EXPORTED', 'SAMPLED', 'STOLEN'], STATES = ['OPEN', 'TAKEN', 'CLOSED', 'CONFIRMED'];
+const STATES = ['OPEN', 'TAKEN', 'CLOSED', 'CONFIRMED'];
 const ARTICLE = ['AUTHORITY', 'EMA', 'COMMISSION'], WHOM = [...ARTICLE, 'HOLDER'];
-const ROLES = ['HOLDER', 'MANUFACTURER', 'WHOLESALER', 'PHARMACY', 'AUTHORITY'];
-const QUESTIONS = ['UPLOAD', 'VERIFY', 'STATUS', 'SUPPLY', 'HOLD', 'HANDOVER', 'EXPORT', 'SAMPLE', 'DESTROY', 'REVERT', 'RECALL', 'WITHDRAW', 'THEFT', 'AUDIT'];
-const REPLIES = ['UPLOADED', 'AUTHENTIC', 'ALERT', 'STATUS', 'NOPACK', 'DECOMMISSIONED', 'HANDED_OVER', 'REVERTED', 'LOCKED', 'STOLEN', 'SHOWN', 'REFUSED'];
-const REASONS = ['ROLE', 'UNKNOWN', 'UNKNOWN_BATCH', 'NOT_HOLDER', 'DUPLICATE', 'ALREADY', 'LOCKED', 'STILL_ACTIVE', 'IS_STOLEN', 'IS_DESTROYED', 'WAS_SUPPLIED', 'OTHER', 'LATE', 'EXPIRED', 'NOT_HELD'];
+// Of words that have a text in each language the text names them; the reasons stand in the order of their numbers.
+const [CAUSES, ROLES, QUESTIONS, REPLIES, REASONS] = ['saw', 'role', 'question', 'reply', 'reason'].map(name => Object.keys(WORDS.en[name]));
 const hintName = hint => say(`hint.${hint || 'none'}`);
 // A reply in words: its own, and what it says more.
 function replied([word, ...rest]) {

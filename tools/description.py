@@ -1,17 +1,22 @@
 #!/usr/bin/env python3
 """The description of HTTP, gateway/openapi.json: where its references lead, and whether a value is in a schema of it.
 
-  tools/description.py   writes gateway/openapi-3.0.json, the same for generators that read OpenAPI 3.0 alone, and gateway/problems.html,
-                         the page to which the type of a problem leads: a section a fault
+  tools/description.py   puts the words and problems of the program's rows into gateway/openapi.json, and writes gateway/openapi-3.0.json,
+                         the same for generators that read OpenAPI 3.0 alone, and gateway/problems.html, the page to which the type of
+                         a problem leads: a section a fault
 """
 import html
 import json
 import pathlib
 import re
 
+import rows
+
 GATEWAY = pathlib.Path(__file__).resolve().parent.parent / "gateway"
-OLDER, PROBLEMS = GATEWAY / "openapi-3.0.json", GATEWAY / "problems.html"
-DESCRIPTION = json.loads((GATEWAY / "openapi.json").read_text())
+NEWER, OLDER, PROBLEMS = (GATEWAY / name for name in ("openapi.json", "openapi-3.0.json", "problems.html"))
+DESCRIPTION = json.loads(NEWER.read_text())
+# Paths that ask no question of their own, members of a reply that are no field of its row, and questions that are asked singly.
+OTHER_PATHS, OTHER_MEMBERS, LISTS = {"/v1/questions", "/v1/lines", "/healthz"}, {"scanned", "alert", "entries", "batches"}, {"AUDIT"}
 
 
 def at(reference):
@@ -122,6 +127,53 @@ def problems_text():
     return f'<!doctype html>\n<html lang="en">\n<meta charset="utf-8">\n<title>Problems</title>\n<h1>Problems</h1>\n{rows}</html>\n'
 
 
+def enumerations():
+    """The words that each enumeration of a row's words has, by its name."""
+    small = {form: [word.lower() for word, kind, _ in rows.QUESTIONS if kind.startswith(form) and word not in LISTS] for form in ("OfPack", "OfBatch")}
+    return {name: rows.words(table) for name, table in rows.FIELDS.items()} | {
+        "Lock": rows.words(rows.FIELDS["lock"]), "Ask": small["OfPack"], "ask": small["OfBatch"], "member": rows.MEMBERS, "scan": rows.SCAN_FAULTS,
+    }
+
+
+def made_of_rows(text):
+    """The text of the description with the words and problems of the rows in their places."""
+    def put(form, made):
+        nonlocal text
+        text, count = re.subn(form, made, text)
+        if not count:
+            raise ValueError(f"gateway/openapi.json has no place {form}")
+
+    problems, indent = rows.problems(), " " * 10
+    for name, words in enumerations().items():
+        if name != "lock":  # which refers to Lock
+            put(rf'("{name}": \{{(?:"type": "string", )?"enum": )\[[^]]*\]', lambda it, words=words: it[1] + json.dumps(words))
+    put(r'("number": \{"type": "integer", "minimum": 1, "maximum": )\d+', rf"\g<1>{len(rows.REFUSALS)}")
+    put(r'("value": )\{"type": "/problems#(\w+)"[^{}]*\}(?=\},?\n)', lambda it: it[1] + json.dumps(problems[it[2]]))
+    kinds = [
+        {"properties": {"status": {"const": status}, "title": {"const": title}, "fault": {"enum": faults}, "recorded": {"const": recorded}}}
+        for (status, title, recorded), faults in rows.by_status(problems.values()).items()
+    ]
+    put(rf'(?:{indent}\{{"properties": \{{"status": .*\n)+', lambda _: ",\n".join(indent + json.dumps(one) for one in kinds) + "\n")
+    return text
+
+
+def unlike_rows():
+    """Where the paths, their members and the replies are not those of the rows."""
+    asked = {f"/v1/{word.lower()}": ["user", *fields] for word, fields in rows.lines().items()}
+    paths = [path for path in DESCRIPTION["paths"] if path not in OTHER_PATHS]
+    if paths != list(asked):
+        return [f"the paths of questions are {paths} in place of {list(asked)}"]
+    found = []
+    for path, members in asked.items():
+        schema = whole(whole(DESCRIPTION["paths"][path]["post"]["requestBody"])["content"]["application/json"]["schema"])
+        typed = whole(schema.get("oneOf", [schema])[0])["required"]
+        found += [f"{path} has the members {typed} in place of {members}"] * (typed != members)
+    schemas = [one["properties"] for one in DESCRIPTION["components"]["schemas"].values() if "reply" in one.get("properties", {})]
+    replies = {one["reply"]["const"]: [name for name in one if name not in {"reply", *OTHER_MEMBERS}] for one in schemas}
+    fields = rows.reply_fields()
+    return found + [f"{word} has the members {replies.get(word)} in place of {fields.get(word)}" for word in sorted({*replies, *fields}) if replies.get(word) != fields.get(word)]
+
+
 def led_nowhere():
     for reference in references(DESCRIPTION):
         try:
@@ -143,6 +195,9 @@ def faults(pages):
         shown.update((path, one) for one in examples)
         wanted.update((path, word) for word in words_of(content["schema"]))
     found += [f"{path}: {word} has no example" for path, word in sorted(wanted - shown)]
+    found += unlike_rows()
+    if NEWER.read_text() != made_of_rows(NEWER.read_text()):
+        found.append("gateway/openapi.json has other words or problems than the rows: tools/description.py writes them")
     if not OLDER.exists() or OLDER.read_text() != older_text():
         found.append("gateway/openapi-3.0.json is not what tools/description.py writes")
     if not PROBLEMS.exists() or PROBLEMS.read_text() != problems_text():
@@ -161,5 +216,7 @@ def refused():
 
 
 if __name__ == "__main__":
+    NEWER.write_text(made_of_rows(NEWER.read_text()))
+    DESCRIPTION.update(json.loads(NEWER.read_text()))
     OLDER.write_text(older_text())
     PROBLEMS.write_text(problems_text())
