@@ -78,7 +78,10 @@ def lines():
 def reply_fields():
     """The word of each reply with the names of the fields after it, and that of a report."""
     form = r'\(\s*"([A-Z_]+)",\s*&\[((?:\s*Place::(?:Label|\w+\(b"\w+"\)),?)*)\s*\],?\s*\)'
-    return {word: re.findall(r'b"(\w+)"', places) for word, places in read("nmvs_json/src/reply.rt", "ROWS", form)}
+    found = {word: re.findall(r'b"(\w+)"', places) for word, places in read("nmvs_json/src/reply.rt", "ROWS", form)}
+    if list(found) != [*words(REPLIES), "PRODUCT"]:
+        raise ValueError("nmvs_json/src/reply.rt: ROWS has other words than the replies")
+    return found
 
 
 def request_problems():
