@@ -38,11 +38,11 @@ def table(path, name):
     return [(word, value.removeprefix("Problem::"), own or of_all[0]) for word, value, own in found]
 
 
-def found_in(path, form):
-    """What this form finds in a file."""
+def found_in(path, form, sign):
+    """What this form finds in a file. Outside of what it finds there is no such sign of more."""
     found = re.findall(form, source(path))
-    if not found:
-        raise ValueError(f"{path} has nothing of the form {form}")
+    if not found or sign in re.sub(form, "", source(path)):
+        raise ValueError(f"{path} has nothing of the form {form}, or {sign} in another form")
     return found
 
 
@@ -53,15 +53,16 @@ FAULTS = table("nmvs_messages/src/fault.rt", "FAULTS")
 ROLES, REFUSALS, CAUSES = table(WORDS, "ROLES"), table(WORDS, "REFUSALS"), table(WORDS, "CAUSES")
 # A report is no question of the trail, and so it has no row.
 REPORT = ("REPORT", "Report", "own, after Articles 36 and 39")
-# The fields of a reply that are words, with their rows. Two have no rows but a function, as they have two words each.
-TWO = {name: [(word, "", "own") for word in re.findall(r'"(\w+)" =>', body)] for name, body in found_in(WORDS, r"(?s)pub fn (flag|validity)_named(.*?)\n}")}
+# The fields of a reply that are words, with their rows. Those of two words have a function in place of rows.
+PAIRS = found_in(WORDS, r"(?s)pub fn (\w+)_named\(word: &str\) -> Option<bool>(.*?)\n}", "Option<bool>")
+PAIR_OF = {name: [(word, "", "own") for word in re.findall(r'"(\w+)" =>', body)] for name, body in PAIRS}
 FIELDS = {
     "own": table(WORDS, "OWN_STATUSES"), "lock": table(WORDS, "LOCKS"), "onward": table(WORDS, "ONWARDS"),
-    "validity": TWO["validity"], "cause": CAUSES, "flag": TWO["flag"], "refusal": REFUSALS,
+    "validity": PAIR_OF["validity"], "cause": CAUSES, "flag": PAIR_OF["flag"], "refusal": REFUSALS,
 }
 # The members of a question over HTTP, and the faults of a scan.
-MEMBERS = found_in("nmvs_json/src/refusal.rt", r'Member::\w+ => "(\w+)"')
-SCAN_FAULTS = found_in("nmvs_json/src/reply.rt", r'ScanFault::\w+(?:\(_\))? => b"(\w+)"')
+MEMBERS = found_in("nmvs_json/src/refusal.rt", r'Member::\w+ => "(\w+)"', '=> "')
+SCAN_FAULTS = found_in("nmvs_json/src/reply.rt", r'ScanFault::\w+(?:\(_\))? => b"(\w+)"', "ScanFault::")
 
 
 def words(rows):
@@ -70,7 +71,7 @@ def words(rows):
 
 def lines():
     """The word of each question with the fields after it, and that of a report."""
-    found = found_in("nmvs_json/src/asked_kind.rt", r"Kind::(\w+)(?:\(_\))?\)? => (?:\{\s+)?&\[(.*?)\]")
+    found = found_in("nmvs_json/src/asked_kind.rt", r"Kind::(\w+)(?:\(_\))?\)? => (?:\{\s+)?&\[(.*?)\]", "&[Member::")
     members = {kind: [it.lower() for it in re.findall(r"Member::(\w+)", text)] for kind, text in found}
     return {word: members[value.partition("(")[0]] for word, value, _ in (*QUESTIONS, REPORT)}
 
@@ -87,7 +88,7 @@ def reply_fields():
 def request_problems():
     """The problem of each fault of a request, by its word."""
     form = r'(?s)b"(\{\\"type\\".*?)(?:\}\\n)?",?\n'
-    found = found_in("nmvs_http/src/response.rt", form) + found_in("nmvs_json/src/refusal.rt", form)
+    found = [text for path in ("nmvs_http/src/response.rt", "nmvs_json/src/refusal.rt") for text in found_in(path, form, '\\"fault\\":')]
     problems = [json.loads(re.sub(r"\\\n *", "", text).replace('\\"', '"') + "}") for text in found]
     return {one["fault"]: one for one in problems}
 
@@ -95,8 +96,8 @@ def request_problems():
 def question_problems():
     """The problem of each fault of a question, with whether its response has the field Retry-After."""
     form = r'Some\(Problem::(\w+)\) =>\s+b"HTTP/1\.1 (\d+) ([\w ]+)\\r\\n(retry-after: 1)?'
-    of_problem = {name: it for name, *it in found_in("nmvs_http/src/response.rt", form)}
-    recorded = dict(found_in("nmvs_json/src/reply.rt", r'(?:Problem::)?(\w+) => b",\\"recorded\\":\\"(\w+)\\""'))
+    of_problem = {name: it for name, *it in found_in("nmvs_http/src/response.rt", form, "Some(Problem::")}
+    recorded = dict(found_in("nmvs_json/src/reply.rt", r'(?:Problem::)?(\w+) => b",\\"recorded\\":\\"(\w+)\\""', '\\"recorded\\":'))
     details = dict(read("nmvs_json/src/reply.rt", "DETAILS", r'\(\s*"([A-Z]+)",\s*"([^"\\]+)",?\s*\)'))
     of_fault = {word: problem for word, problem, _ in FAULTS}
     for word in [word for word in of_fault if word in details] + [word for word in details if word not in of_fault]:
