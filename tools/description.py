@@ -119,24 +119,24 @@ def problems_text():
     examples = DESCRIPTION["components"]["examples"].values()
     faults = sorted((one["value"]["fault"], one["value"], one["summary"]) for one in examples if "fault" in one["value"])
     more = {"CODE": f"<p><code>scan</code>: {html.escape(at('#/components/schemas/Problem/properties/scan')['description'])}</p>\n"}
-    rows = "".join(
+    sections = "".join(
         f'<h2 id="{word}">{word}</h2>\n<p>Status {it["status"]}, {html.escape(it["title"])}. {html.escape(it["detail"])}</p>\n'
         f'<p>{html.escape(summary[0].upper() + summary[1:])}. The question is {"recorded or not" if it["recorded"] == "unknown" else "not recorded"}.</p>\n{more.get(word, "")}'
         for word, it, summary in faults
     )
-    return f'<!doctype html>\n<html lang="en">\n<meta charset="utf-8">\n<title>Problems</title>\n<h1>Problems</h1>\n{rows}</html>\n'
+    return f'<!doctype html>\n<html lang="en">\n<meta charset="utf-8">\n<title>Problems</title>\n<h1>Problems</h1>\n{sections}</html>\n'
 
 
 def enumerations():
-    """The words that each enumeration of a row's words has, by its name."""
-    small = {form: [word.lower() for word, kind, _ in rows.QUESTIONS if kind.startswith(form) and word not in LISTS] for form in ("OfPack", "OfBatch")}
-    return {name: rows.words(table) for name, table in rows.FIELDS.items()} | {
-        "Lock": rows.words(rows.FIELDS["lock"]), "Ask": small["OfPack"], "ask": small["OfBatch"], "member": rows.MEMBERS, "scan": rows.SCAN_FAULTS,
-    }
+    """The words that each enumeration of the description has, by its name."""
+    asked = {form: [word.lower() for word, kind, _ in rows.QUESTIONS if kind.startswith(form) and word not in LISTS] for form in ("OfPack", "OfBatch")}
+    fields = {"Lock" if name == "lock" else name: rows.words(table) for name, table in rows.FIELDS.items()}
+    return fields | {"Ask": asked["OfPack"], "ask": asked["OfBatch"], "member": rows.MEMBERS, "scan": rows.SCAN_FAULTS}
 
 
 def made_of_rows(text):
     """The text of the description with the words and problems of the rows in their places."""
+
     def put(form, made):
         nonlocal text
         text, count = re.subn(form, made, text)
@@ -145,8 +145,7 @@ def made_of_rows(text):
 
     problems, indent = rows.problems(), " " * 10
     for name, words in enumerations().items():
-        if name != "lock":  # which refers to Lock
-            put(rf'("{name}": \{{(?:"type": "string", )?"enum": )\[[^]]*\]', lambda it, words=words: it[1] + json.dumps(words))
+        put(rf'("{name}": \{{"enum": )\[[^]]*\]', lambda it, words=words: it[1] + json.dumps(words))
     put(r'("number": \{"type": "integer", "minimum": 1, "maximum": )\d+', rf"\g<1>{len(rows.REFUSALS)}")
     put(r'("value": )\{"type": "/problems#(\w+)"[^{}]*\}(?=\},?\n)', lambda it: it[1] + json.dumps(problems[it[2]]))
     kinds = [
@@ -171,7 +170,8 @@ def unlike_rows():
     schemas = [one["properties"] for one in DESCRIPTION["components"]["schemas"].values() if "reply" in one.get("properties", {})]
     replies = {one["reply"]["const"]: [name for name in one if name not in {"reply", *OTHER_MEMBERS}] for one in schemas}
     fields = rows.reply_fields()
-    return found + [f"{word} has the members {replies.get(word)} in place of {fields.get(word)}" for word in sorted({*replies, *fields}) if replies.get(word) != fields.get(word)]
+    unlike = [word for word in sorted({*replies, *fields}) if replies.get(word) != fields.get(word)]
+    return found + [f"{word} has the members {replies.get(word)} in place of {fields.get(word)}" for word in unlike]
 
 
 def led_nowhere():
