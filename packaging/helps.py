@@ -5,10 +5,10 @@ import re
 import textwrap
 
 # What a value's name in the help stands for when bash completes it.
-FILES = {"FILE": "-f", "PATH": "-f", "PAGE": "-f", "DIR": "-d"}
+FILES = {"FILE": "-f", "PATH": "-f", "PAGE": "-f", "DIR": "-d", "FOLDER": "-d"}
 # The options that a file of options can't have.
 COMMAND_LINE = {"check", "config", "help", "version"}
-PROGRAMS = ("nmvs-check", "nmvs-ctl", "nmvs-qualify", "nmvs-serve", "nmvs-workbook")
+PROGRAMS = ("nmvs-check", "nmvs-ctl", "nmvs-qualify", "nmvs-replica", "nmvs-serve", "nmvs-workbook")
 
 
 @dataclasses.dataclass
