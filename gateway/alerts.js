@@ -319,16 +319,12 @@ async function closeAll(product, hint) {
     noted(closed ? 'good' : 'warn', () => say('note.closed', { count: count(closed) }));
   });
 }
-// Closes a range in one act, and says how many alerts that were. An alert in it that was closed or confirmed before forbids the act:
-// then each half is closed, without that alert.
+// Closes what is open or taken of a range in one act, and says how many alerts that were: none if others were faster.
 async function closeRange({ alerts, ...order }) {
   try { return (await send(order)).alerts } catch (fault) {
-    if (fault.message === 'NO_ALERT') return 0;
     if (fault.message !== 'STATE') throw fault;
+    return 0;
   }
-  if (order.first === order.last) return 0;
-  const middle = Math.floor((order.first + order.last) / 2);
-  return await closeRange({ ...order, last: middle }) + await closeRange({ ...order, first: middle + 1 });
 }
 
 // ---- One alert

@@ -1,5 +1,5 @@
 -- The flagged alerts of a trail (Article 36(b)), and the case of each by the lines of a list of cases (own, for Article 37(d)).
-use Rattle.std.specs.Prelude.{ℕ, ◌≤◌, true, List, [], ◌∷◌, ◌++◌, length, map, take, Option, Some, None, unwrap_or}
+use Rattle.std.specs.Prelude.{ℕ, ◌≤◌, true, List, [], ◌∷◌, ◌++◌, length, map, take, Option, Some, None}
 use Rattle.std.specs.List.{AllByRecursion, slice_get}
 use Rattle.std.specs.Option.{option_map_or, option_and_then}
 use Rattle.nmvs_identifier.specs.declared.pack.Pack.{Pack}
@@ -66,9 +66,9 @@ stands_as t f e _ = None
 abbrev pub alert_of : List Entry → Flagged → Option FlaggedAlert
 alert_of t f = option_and_then (λ e. stands_as t f e e.reply) (slice_get t f.place)
 
--- the case of an alert after a line; one that its author may not write, or not of this case, leaves it
+-- the case of an alert after a line
 abbrev pub acted : CaseLine → FlaggedAlert → Case
-acted l a = unwrap_or (on l a.case a.name.code a.name.number a.hint) a.case
+acted l a = on l a.case a.name.code a.name.number a.hint
 
 -- the same over the trail that the line was written over: its first entries. A line is about no later alert.
 abbrev pub after_line : List Entry → Flagged → CaseLine → Case

@@ -1,5 +1,5 @@
 -- Whether an act may be done (own, for Article 37(d)).
-use Rattle.std.specs.Prelude.{ℕ, ◌==◌, Bool, true, false, not, ◌&&◌, List, count_by, Result, Ok, Err, if◌then◌else◌}
+use Rattle.std.specs.Prelude.{ℕ, ◌==◌, Bool, true, false, ◌&&◌, List, count_by, Result, Ok, Err, if◌then◌else◌}
 use Rattle.std.specs.Option.{is_some, option_map_or}
 use Rattle.nmvs_rules.specs.declared.entry.Entry.{Entry}
 use Rattle.nmvs_cases.specs.declared.act.Act.{Act}
@@ -42,16 +42,16 @@ on_alert t l a = if is_about t l a then (if may l a then May else MayNot) else O
 abbrev pub on_in : List Entry → CaseLine → Flagged → On
 on_in t l f = option_map_or (on_alert t l) (alert_of t f) Other
 
--- whether the line is about the alert, or its author may not act on it
+-- whether the author may do the act on the alert, or the line is about it at all
 abbrev pub is_counted : Bool → On → Bool
-is_counted barred Other = false
-is_counted barred May = not barred
-is_counted barred MayNot = true
+is_counted at_all Other = false
+is_counted at_all May = true
+is_counted at_all MayNot = at_all
 
 abbrev pub counted : Bool → List Entry → List Flagged → CaseLine → ℕ
-counted barred t fs l = count_by (λ f. is_counted barred (on_in t l f)) fs
+counted at_all t fs l = count_by (λ f. is_counted at_all (on_in t l f)) fs
 
--- the first refusal that applies, or the number of alerts that the line is about
+-- the first refusal that applies, or the number of alerts on which the act is done: those of the range in a state for it
 abbrev pub judged : List Entry → List Flagged → CaseLine → Result ℕ CaseRefusal
 judged t fs l =
-    if counted false t fs l == 0 then Err NoAlert else (if is_act_of l.act (author_reader l.author) then (if counted true t fs l == 0 then Ok (counted false t fs l) else Err State) else Err NotYours)
+    if counted true t fs l == 0 then Err NoAlert else (if is_act_of l.act (author_reader l.author) then (if counted false t fs l == 0 then Err State else Ok (counted false t fs l)) else Err NotYours)

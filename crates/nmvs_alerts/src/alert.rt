@@ -23,12 +23,11 @@ pub struct FlaggedAlert {
 }
 
 impl FlaggedAlert {
-    /// What a line makes of the case of the alert. One that its author may not write, or not of this case, leaves it.
+    /// The case of the alert after a line.
     pub(crate) fn after(&self, line: &CaseLine) -> Case
         ensures { result ≡ alerts.acted line.now self.now }
     {
         line.on(&self.case, &self.name.code, self.name.number, self.hint)
-            .unwrap_or(self.case)
     }
 }
 

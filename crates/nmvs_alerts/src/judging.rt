@@ -1,7 +1,5 @@
 //! Whether an act may be done.
 ghost use Rattle.std.specs.Prelude.{◌≡◌, count_by, false};
-ghost use Rattle.std.specs.Option.{option_map_or};
-ghost use Rattle.nmvs_alerts.specs.Alerts.{alert_of};
 ghost use Rattle.nmvs_alerts.specs.Judging as judging;
 
 use crate::FlaggedAlert;
@@ -19,11 +17,12 @@ pub enum CaseRefusal {
     NoAlert,
     /// An author of this kind never does the act.
     NotYours,
-    /// It is no act on the case of one of these alerts.
+    /// It is an act on the case of none of these alerts.
     State,
 }
 
-/// The number of alerts that an act is about, if it may be done. The line is written over the trail as it is.
+/// The number of alerts on which an act is done: those that its line is about in a state for it. The line is written over the trail as
+/// it is.
 ///
 /// # Errors
 ///
@@ -35,39 +34,46 @@ pub(crate) fn judge<A: Allocator>(
 ) -> Result<u64, CaseRefusal>
     ensures { result ≡ judging.judged shard.now flagged.now line.now }
 {
-    let meant = count(shard, flagged, line, false);
-    if meant == 0 {
-        Err(CaseRefusal::NoAlert)
-    } else if !is_act_of(line.act, line.author.reader()) {
-        Err(CaseRefusal::NotYours)
-    } else if count(shard, flagged, line, true) == 0 {
-        Ok(meant)
-    } else {
-        Err(CaseRefusal::State)
+    if count(shard, flagged, line, true) == 0 {
+        return Err(CaseRefusal::NoAlert);
+    }
+    if !is_act_of(line.act, line.author.reader()) {
+        return Err(CaseRefusal::NotYours);
+    }
+    match count(shard, flagged, line, false) {
+        0 => Err(CaseRefusal::State),
+        number => Ok(number),
     }
 }
 
-/// How many alerts a line is about, or how many of them its author may not act on.
-fn count<A: Allocator>(shard: &Shard<A>, flagged: &[Flagged], line: &CaseLine, barred: bool) -> u64
-    ensures { result ≡ count_by (λ f. judging.is_counted barred (judging.on_in shard.now line.now f)) flagged.now }
+/// On how many alerts the author of a line may do its act, or how many it is about at all.
+fn count<A: Allocator>(shard: &Shard<A>, flagged: &[Flagged], line: &CaseLine, at_all: bool) -> u64
+    ensures { result ≡ count_by (λ f. judging.is_counted at_all (judging.on_in shard.now line.now f)) flagged.now }
 {
     let mut number = 0;
     for alert in flagged {
-        if is_counted(barred, standing(shard, alert, line)) {
+        if is_counted(at_all, standing(shard, alert, line)) {
             number += 1;
         }
     }
     number
 }
 
-fn is_counted(barred: bool, on: On) -> bool
-    ensures { result ≡ judging.is_counted barred on }
+fn is_counted(at_all: bool, on: On) -> bool
+    ensures { result ≡ judging.is_counted at_all on }
 {
     match on {
         On::Other => false,
-        On::May => !barred,
-        On::MayNot => true,
+        On::May => true,
+        On::MayNot => at_all,
     }
+}
+
+/// Whether the act of a line is done on a flagged alert. The line is written over the trail as it is.
+pub(crate) fn is_done<A: Allocator>(shard: &Shard<A>, flagged: &Flagged, line: &CaseLine) -> bool
+    ensures { result ≡ judging.is_counted false (judging.on_in shard.now line.now flagged.now) }
+{
+    is_counted(false, standing(shard, flagged, line))
 }
 
 /// What a line is for an alert.
@@ -94,16 +100,6 @@ fn standing<A: Allocator>(shard: &Shard<A>, flagged: &Flagged, line: &CaseLine) 
     {
         Some(_) => On::May,
         None => On::MayNot,
-    }
-}
-
-/// Whether a line is about a flagged alert.
-pub(crate) fn is_about<A: Allocator>(shard: &Shard<A>, flagged: &Flagged, line: &CaseLine) -> bool
-    ensures { result ≡ option_map_or (judging.has_alert line.now) (alert_of shard.now flagged.now) false }
-{
-    match alert_of(shard, flagged) {
-        Some(alert) => has(line, &alert),
-        None => false,
     }
 }
 

@@ -1,5 +1,6 @@
 -- A line is about its own alerts.
 use Rattle.std.proofs.Common.{◌≡◌, ◌<◌, ◌&&◌, ℕ, Bool, true, false, cond, Option, Some, None, refl, ap, ◌∙◌, arith}
+use Rattle.std.specs.Prelude.{unwrap_or}
 use Rattle.std.specs.Prelude.{nat_le}
 use Rattle.std.proofs.lemmas.Bool.Decides.{nat_tests}
 use Rattle.nmvs_identifier.specs.ProductCode.{ProductCode}
@@ -37,8 +38,8 @@ fourth-fails true true true false h = refl
 fourth-fails true true true true h = absurd cc
 
 -- a line says nothing about an alert that is not of its range
-untouched : (line : CaseLine) (s : Case) (c : ProductCode) (n : ℕ) (h : Option Hint) → has line.range c n h ≡ false → on line s c n h ≡ Some s
-untouched line s c n h not = ap (λ (b : Bool). cond b (after s line.act (author_reader line.author) (author_user line.author)) (Some s)) not
+untouched : (line : CaseLine) (s : Case) (c : ProductCode) (n : ℕ) (h : Option Hint) → has line.range c n h ≡ false → on line s c n h ≡ s
+untouched line s c n h not = ap (λ (b : Bool). cond b (unwrap_or (after s line.act (author_reader line.author) (author_user line.author)) s) s) not
 
 above : (m n : ℕ) → n < m → nat_le m n ≡ false
 above m n less = grind (arith, nat_tests, less)

@@ -1,5 +1,5 @@
 -- Cases: what becomes of a flagged alert (own, for Article 37(d)).
-use Rattle.std.specs.Prelude.{ℕ, Bool, true, false, not, ◌&&◌, nat_le, Option, Some, None, if◌then◌else◌}
+use Rattle.std.specs.Prelude.{ℕ, Bool, true, false, not, ◌&&◌, nat_le, Option, Some, None, unwrap_or, if◌then◌else◌}
 use Rattle.std.specs.Str.{bytes_eq}
 use Rattle.nmvs_identifier.specs.Name.{Name}
 use Rattle.nmvs_identifier.specs.ProductCode.{ProductCode}
@@ -112,6 +112,6 @@ is_hinted (Only (Some wanted)) (Some h) = bytes_eq (hint_word wanted) (hint_word
 abbrev pub has : Range → ProductCode → ℕ → Option Hint → Bool
 has range c n h = same_text range.code c && nat_le range.first n && nat_le n range.last && is_hinted range.hinted h
 
--- what a line makes of the case of such an alert: nothing if the alert is not of the range
-abbrev pub on : CaseLine → Case → ProductCode → ℕ → Option Hint → Option Case
-on line s c n h = if has line.range c n h then after s line.act (author_reader line.author) (author_user line.author) else Some s
+-- the case of such an alert after a line: as it was if the alert is not of the range, or the author may not do the act in this state
+abbrev pub on : CaseLine → Case → ProductCode → ℕ → Option Hint → Case
+on line s c n h = if has line.range c n h then unwrap_or (after s line.act (author_reader line.author) (author_user line.author)) s else s

@@ -77,26 +77,26 @@ NoneIsForgotten =
 
 -- a line changes the case of no alert on another product code, with another number, or with another hint
 pub record RangesHaveTheirOwn : Type 0 where
-  pub code : (line : CaseLine) (s : Case) (c : ProductCode) (n : ℕ) (h : Option Hint) → same_text line.range.code c ≡ false → on line s c n h ≡ Some s
-  pub earlier : (line : CaseLine) (s : Case) (c : ProductCode) (n : ℕ) (h : Option Hint) → n < line.range.first → on line s c n h ≡ Some s
-  pub later : (line : CaseLine) (s : Case) (c : ProductCode) (n : ℕ) (h : Option Hint) → line.range.last < n → on line s c n h ≡ Some s
-  pub hint : (line : CaseLine) (s : Case) (c : ProductCode) (n : ℕ) (wanted h : Hint) → line.range.hinted ≡ Only (Some wanted) → bytes_eq (hint_word wanted) (hint_word h) ≡ false → on line s c n (Some h) ≡ Some s
-  pub unhinted : (line : CaseLine) (s : Case) (c : ProductCode) (n : ℕ) (wanted : Hint) → line.range.hinted ≡ Only (Some wanted) → on line s c n None ≡ Some s
+  pub code : (line : CaseLine) (s : Case) (c : ProductCode) (n : ℕ) (h : Option Hint) → same_text line.range.code c ≡ false → on line s c n h ≡ s
+  pub earlier : (line : CaseLine) (s : Case) (c : ProductCode) (n : ℕ) (h : Option Hint) → n < line.range.first → on line s c n h ≡ s
+  pub later : (line : CaseLine) (s : Case) (c : ProductCode) (n : ℕ) (h : Option Hint) → line.range.last < n → on line s c n h ≡ s
+  pub hint : (line : CaseLine) (s : Case) (c : ProductCode) (n : ℕ) (wanted h : Hint) → line.range.hinted ≡ Only (Some wanted) → bytes_eq (hint_word wanted) (hint_word h) ≡ false → on line s c n (Some h) ≡ s
+  pub unhinted : (line : CaseLine) (s : Case) (c : ProductCode) (n : ℕ) (wanted : Hint) → line.range.hinted ≡ Only (Some wanted) → on line s c n None ≡ s
 
 -- a line over an alert, and the hint of the alert at the line
 pub record Over : Type 0 where
   pub line : CaseLine
   pub hint : Option Hint
 
--- what these lines, the earliest of which is the first, make of the case of an alert; none if an author could not do one of the acts
-abbrev pub case_over : ProductCode → ℕ → List Over → Case → Option Case
-case_over c n [] s = Some s
-case_over c n (l ∷ ls) s = option_and_then (case_over c n ls) (on l.line s c n l.hint)
+-- the case of an alert after these lines, the earliest of which is the first
+abbrev pub case_over : ProductCode → ℕ → List Over → Case → Case
+case_over c n [] s = s
+case_over c n (l ∷ ls) s = case_over c n ls (on l.line s c n l.hint)
 
 -- what lines made of a case stays: later lines change that case, and none of the earlier ones
 abbrev pub CasesStay : Type 0
 CasesStay =
-    (c : ProductCode) (n : ℕ) (earlier later : List Over) (s : Case) → case_over c n (earlier ++ later) s ≡ option_and_then (case_over c n later) (case_over c n earlier s)
+    (c : ProductCode) (n : ℕ) (earlier later : List Over) (s : Case) → case_over c n (earlier ++ later) s ≡ case_over c n later (case_over c n earlier s)
 
 -- no line of an act has an LF, so an LF ends it
 abbrev pub LinesHaveNoLf : Type 0

@@ -17,21 +17,16 @@ pub struct CaseLine {
 }
 
 impl CaseLine {
-    /// What the line makes of the case of the flagged alert on this product code with this number, which has this hint at the
-    /// line: nothing if the alert is not of the range. There is none if the author may not do the act, or not on this case.
-    pub fn on(
-        &self,
-        case: &Case,
-        code: &ProductCode,
-        number: u64,
-        hint: Option<Hint>,
-    ) -> Option<Case>
+    /// The case after the line, of the flagged alert on this product code with this number, which has this hint at the line. It
+    /// stays if the alert is not of the range, or the author may not do the act on this case.
+    pub fn on(&self, case: &Case, code: &ProductCode, number: u64, hint: Option<Hint>) -> Case
         ensures { result ≡ cases.on self.now case.now code.now number hint }
     {
         if self.range.has(code, number, hint) {
             case.after(self.act, self.author.reader(), self.author.user())
+                .unwrap_or(*case)
         } else {
-            Some(*case)
+            *case
         }
     }
 }
