@@ -4,12 +4,13 @@ use crate::entries::append_entries;
 use crate::flagged::Flagged;
 use crate::houses::append_silent;
 use crate::json::{append, append_name, append_number, append_text};
+use crate::names::named;
 use crate::numbers::append_numbers;
 use crate::one::append_alert;
 use crate::pages::append_alerts;
 use crate::selection::ranged;
 use crate::story::append_story;
-use crate::viewing::{may_see, sees_houses};
+use crate::viewing::sees_houses;
 use crate::{AlertFilter, FlaggedAlert, Investigation};
 use nmvs_cases::{Author, Hinted, Reader};
 use nmvs_identifier::{Name, ProductCode};
@@ -175,23 +176,6 @@ fn append_one(
     append_pack_story(alloc, block, investigation, author, &alert)?;
     append(block, "}")?;
     Ok(Status::Found)
-}
-
-/// The flagged alert of a name, if the reader sees it.
-fn named(
-    investigation: &Investigation,
-    author: &Author,
-    name: &AlertName,
-) -> Option<(Flagged, FlaggedAlert)> {
-    let shard = investigation.shard();
-    for flagged in investigation.flagged() {
-        if let Some(entry) = shard.entry_at(flagged.place) {
-            if name.names(&entry) && may_see(shard.tables(), author, &entry.put) {
-                return Some((*flagged, alert_of(shard, flagged)?));
-            }
-        }
-    }
-    None
 }
 
 /// Puts the lines of the acts on an alert at the end of a block. Owners see their own alone.

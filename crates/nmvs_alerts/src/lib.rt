@@ -13,6 +13,7 @@ mod houses;
 mod investigation;
 mod json;
 mod judging;
+mod names;
 mod numbers;
 mod one;
 mod pages;
