@@ -9,3 +9,4 @@ pub mod Rows
 pub mod Selection
 pub mod Story
 pub mod Viewing
+pub mod Inspected

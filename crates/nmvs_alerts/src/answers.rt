@@ -3,15 +3,17 @@ use crate::alert::alert_of;
 use crate::entries::append_entries;
 use crate::flagged::Flagged;
 use crate::houses::append_silent;
+use crate::inspected::may_inspect;
 use crate::json::{append, append_name, append_number, append_text};
 use crate::names::named;
 use crate::numbers::append_numbers;
 use crate::one::append_alert;
 use crate::pages::append_alerts;
+use crate::rows_answer::{append_alert_rows, append_rows};
 use crate::selection::ranged;
 use crate::story::append_story;
 use crate::viewing::sees_houses;
-use crate::{AlertFilter, FlaggedAlert, Investigation};
+use crate::{AlertFilter, FlaggedAlert, Inspected, Investigation};
 use nmvs_cases::{Author, Hinted, Reader};
 use nmvs_identifier::{Name, ProductCode};
 use nmvs_inspect::Filter;
@@ -25,12 +27,16 @@ pub enum Request<'t> {
     /// Who reads, and how far the trail was judged, with the text of why it does not go on, if it does not.
     Reader(&'t str),
     Alerts(AlertFilter),
+    /// All of them, as CSV.
+    AlertRows(AlertFilter),
     Alert(AlertName),
     /// The listed alerts on a product code with these hints.
     Range(ProductCode, Hinted),
     Numbers,
     /// Entries from a place on.
     Entries(Filter, usize),
+    /// Rows of what is inspected, as CSV.
+    Rows(Inspected<'t>),
     /// Of these users those without an entry since this day, from a place in the list on.
     Houses(&'t [(Name, Actor)], i32, usize),
 }
@@ -43,9 +49,11 @@ pub enum Status {
     NoAlert,
     /// It is nothing for a reader of this kind (Article 38).
     NotYours,
+    /// The rows have more bytes than an answer may have.
+    TooLong,
 }
 
-/// Puts the answer to a reader's request, as JSON, at the end of a block. If it is not found, the block stays as it is.
+/// Puts the answer to a reader's request, as JSON unless it says otherwise, at the end of a block. If it is not found, the block stays as it is.
 ///
 /// # Errors
 ///
@@ -60,8 +68,14 @@ pub fn answer(
     let (shard, flagged) = (investigation.shard(), investigation.flagged());
     match request {
         Request::Reader(fault) => append_reader(block, investigation, author, fault)?,
-        Request::Alerts(filter) if !may_ask(author, &filter.entries) => return Ok(Status::NotYours),
+        Request::Alerts(filter) | Request::AlertRows(filter) if !may_ask(author, &filter.entries) =>
+            {
+                return Ok(Status::NotYours);
+            }
         Request::Alerts(filter) => append_alerts(alloc, block, shard, flagged, author, filter)?,
+        Request::AlertRows(filter) => {
+            return append_alert_rows(alloc, block, shard, flagged, author, filter);
+        }
         Request::Alert(name) => return append_one(alloc, block, investigation, author, name),
         Request::Range(code, hinted) => {
             append_range(alloc, block, investigation, author, code, *hinted)?
@@ -71,6 +85,12 @@ pub fn answer(
             Some(own) => append_entries(block, shard, &own, *from)?,
             None => return Ok(Status::NotYours),
         },
+        Request::Rows(Inspected::Entries(filter)) => match entries_of(author, filter) {
+            Some(own) => return append_rows(alloc, block, shard, &Inspected::Entries(own)),
+            None => return Ok(Status::NotYours),
+        },
+        Request::Rows(_) if !may_inspect(author) => return Ok(Status::NotYours),
+        Request::Rows(inspected) => return append_rows(alloc, block, shard, inspected),
         Request::Houses(users, since, from) => match author.reader() {
             Reader::Owner => return Ok(Status::NotYours),
             Reader::Officer | Reader::Authority => {

@@ -6,10 +6,12 @@
 #![tactic(auto)]
 
 mod alert;
+mod alert_rows;
 mod answers;
 mod entries;
 mod flagged;
 mod houses;
+mod inspected;
 mod investigation;
 mod json;
 mod judging;
@@ -18,12 +20,14 @@ mod numbers;
 mod one;
 mod pages;
 mod row;
+mod rows_answer;
 mod selection;
 mod story;
 mod viewing;
 
 pub use alert::FlaggedAlert;
 pub use answers::{Request, Status, answer};
+pub use inspected::Inspected;
 pub use investigation::Investigation;
 pub use judging::CaseRefusal;
 pub use selection::{AlertFilter, Behind, Wanted};

@@ -19,9 +19,13 @@ served_at path =
     else (if bytes_eq path (codes "/v1/range") then Some served.Range
     else (if bytes_eq path (codes "/v1/numbers") then Some served.Numbers
     else (if bytes_eq path (codes "/v1/entries") then Some served.Entries
+    else (if bytes_eq path (codes "/v1/counts") then Some served.Counts
+    else (if bytes_eq path (codes "/v1/pack") then Some served.Pack
+    else (if bytes_eq path (codes "/v1/packs") then Some served.Packs
+    else (if bytes_eq path (codes "/v1/report") then Some served.Report
     else (if bytes_eq path (codes "/v1/houses") then Some served.Houses
     else (if bytes_eq path (codes "/v1/cases") then Some served.Cases
-    else None))))))))))
+    else None))))))))))))))
 
 -- what becomes of a request of this method for what is read
 abbrev pub reads : Served → List ℕ → Route

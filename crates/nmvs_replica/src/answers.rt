@@ -1,11 +1,12 @@
 //! The library's side: what readers ask, and how an act is carried out.
-use crate::query::{Asked, Parameters, asked_of};
+use crate::query::{Parameters, asked_of};
 use crate::refusal::Refusal;
 use crate::routes::Served;
-use nmvs_alerts::{Behind, Investigation, Request, Status, answer};
-pub(crate) use nmvs_alerts::{AlertFilter, Wanted};
+use crate::rows_json::rows_json;
+use nmvs_alerts::{Investigation, Request, Status, answer};
 use nmvs_cases::{Act, Author, CaseLine};
 use nmvs_identifier::Name;
+use nmvs_inspect::Form;
 use nmvs_rules::Actor;
 use std::alloc::{AllocError, Global};
 
@@ -28,25 +29,19 @@ pub(crate) fn answer_of(
     parameters: &Parameters,
     alert: &str,
 ) -> Result<Vec<u8>, Refusal> {
-    let Some(asked) = asked_of(served, parameters, alert) else {
+    let Some(request) = asked_of(basis, served, parameters, alert) else {
         return Err(Refusal::Query);
     };
-    let request = match asked {
-        Asked::Reader => Request::Reader(basis.fault),
-        Asked::Alerts(filter) => Request::Alerts(filter),
-        Asked::Alert(name) => Request::Alert(name),
-        Asked::Range(code, hinted) => Request::Range(code, hinted),
-        Asked::Numbers => Request::Numbers,
-        Asked::Entries(filter, after) => Request::Entries(filter, after),
-        Asked::Houses(since, after) => {
-            Request::Houses(basis.enrolled, since.to_plain().to_unix_epoch_day(), after)
-        }
-    };
+    let is_json = !matches!(parameters.form, Some(Form::Csv));
     let mut bytes = Vec::new(alloc);
     match answer(alloc, basis.investigation, author, &request, &mut bytes)? {
+        Status::Found if is_json && matches!(&request, Request::Rows(_)) => {
+            Ok(rows_json(alloc, &bytes)?)
+        }
         Status::Found => Ok(bytes),
         Status::NoAlert => Err(Refusal::NoAlert),
         Status::NotYours => Err(Refusal::NotYours),
+        Status::TooLong => Err(Refusal::Rows),
     }
 }
 
@@ -78,16 +73,4 @@ fn state_after(act: Act) -> &'static str {
         Act::Close(_) => "CLOSED",
         Act::Confirm | Act::Inform(_) => "CONFIRMED",
     }
-}
-
-/// The place in the list of alerts that a text names.
-pub(crate) fn behind_named(text: &str) -> Option<Behind> {
-    let (letter, place) = text.split_at_checked(1)?;
-    let hinted = match letter {
-        "h" => true,
-        "u" => false,
-        _ => return None,
-    };
-    let place = place.parse().ok()?;
-    Some(Behind { hinted, place })
 }

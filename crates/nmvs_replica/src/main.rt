@@ -17,6 +17,7 @@ mod query;
 mod refusal;
 mod replica;
 mod routes;
+mod rows_json;
 mod service;
 mod trail;
 mod users;

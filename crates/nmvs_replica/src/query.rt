@@ -1,12 +1,13 @@
 //! What a reader asks for, by the parameters of a request.
-use crate::answers::{AlertFilter, Wanted, behind_named};
+use crate::answers::Basis;
 use crate::refusal::Refusal;
 use crate::routes::Served;
 use form_urlencoded::parse;
 use jiff::civil::Date;
+use nmvs_alerts::{AlertFilter, Behind, Inspected, Request, Wanted};
 use nmvs_cases::Hinted;
-use nmvs_identifier::{Batch, Name, ProductCode, Serial};
-use nmvs_inspect::{Filter, read_date};
+use nmvs_identifier::{Batch, Name, Pack, ProductCode, Serial};
+use nmvs_inspect::{By, Filter, Form, read_date};
 use nmvs_reports::AlertName;
 use nmvs_rules::Cause;
 use nmvs_words::{QuestionKind, ReplyKind, cause_named, role_named};
@@ -20,51 +21,47 @@ pub(crate) struct Parameters {
     pub hinted: Option<Hinted>,
     pub wanted: Option<Wanted>,
     pub silent_since: Option<Date>,
+    pub by: Vec<By>,
+    pub form: Option<Form>,
     pub after: Option<String>,
 }
 
-/// What a reader asks for.
-#[derive(Clone, Copy)]
-pub(crate) enum Asked {
-    Reader,
-    Alerts(AlertFilter),
-    Alert(AlertName),
-    Range(ProductCode, Hinted),
-    Numbers,
-    /// The entries that pass the filter, behind the one at this place.
-    Entries(Filter, usize),
-    /// The enrolled users without an entry since this day, behind this number of them.
-    Houses(Date, usize),
+/// Whether a request may have a parameter of this name.
+fn is_parameter(served: Served, name: &str) -> bool {
+    match served {
+        Served::Alerts => matches!(
+            name,
+            "state" | "code" | "cause" | "hint" | "premises" | "from" | "to" | "after" | "form"
+        ),
+        Served::Range => matches!(name, "code" | "hint" | "form"),
+        Served::Entries => is_filter(name) || matches!(name, "after" | "form"),
+        Served::Counts => is_filter(name) || matches!(name, "by" | "form"),
+        Served::Pack => matches!(name, "code" | "serial" | "form"),
+        Served::Packs => matches!(name, "code" | "batch" | "form"),
+        Served::Report => matches!(name, "code" | "form"),
+        Served::Houses => matches!(name, "silent_since" | "after" | "form"),
+        _ => name == "form",
+    }
 }
 
-/// The names of the parameters that a request may have.
-fn names_of(served: Served) -> &'static [&'static str] {
-    match served {
-        Served::Alerts => &[
-            "state", "code", "cause", "hint", "premises", "from", "to", "after", "form",
-        ],
-        Served::Range => &["code", "hint", "form"],
-        Served::Entries => &[
-            "user",
-            "role",
-            "authorisation",
-            "premises",
-            "code",
-            "serial",
-            "batch",
-            "question",
-            "reply",
-            "from",
-            "to",
-            "flagged",
-            "refused",
-            "after",
-            "form",
-        ],
-        Served::Houses => &["silent_since", "after", "form"],
-        Served::Reader | Served::Alert | Served::Numbers => &["form"],
-        Served::Health | Served::Page | Served::Script | Served::Words | Served::Cases => &[],
-    }
+/// Whether this is the name of a parameter of a filter of entries.
+fn is_filter(name: &str) -> bool {
+    matches!(
+        name,
+        "user"
+            | "role"
+            | "authorisation"
+            | "premises"
+            | "code"
+            | "serial"
+            | "batch"
+            | "question"
+            | "reply"
+            | "from"
+            | "to"
+            | "flagged"
+            | "refused"
+    )
 }
 
 /// The parameters of a query, whose escapes are decoded once. It is refused if a name is unknown or stands twice, or a value is bad.
@@ -79,13 +76,14 @@ pub(crate) fn read_parameters(
         hinted: None,
         wanted: None,
         silent_since: None,
+        by: Vec::new(alloc),
+        form: None,
         after: None,
     };
-    let names = names_of(served);
     for pair in parse(alloc, query.as_bytes()) {
         let (name, value) = pair?;
         let (name, value) = (name.as_str(), value.as_str());
-        if !names.contains(&name) || !takes(alloc, &mut parameters, name, value)? {
+        if !is_parameter(served, name) || !takes(alloc, &mut parameters, name, value)? {
             return Err(Refusal::Query);
         }
     }
@@ -107,7 +105,8 @@ fn takes(
         "cause" => put(&mut parameters.cause, cause_named(value)),
         "hint" => put(&mut parameters.hinted, Hinted::named(value)),
         "silent_since" => put(&mut parameters.silent_since, read_date(alloc, value)?),
-        "form" => value == "json",
+        "by" => reads_parts(&mut parameters.by, value)?,
+        "form" => put(&mut parameters.form, form_named(value)),
         "after" => {
             let is_first = parameters.after.is_none();
             parameters.after = Some(String::from_str(alloc, value)?);
@@ -115,6 +114,18 @@ fn takes(
         }
         _ => filters(alloc, &mut parameters.entries, name, value)?,
     })
+}
+
+/// Reads the parts by which entries are counted, with commas between them.
+fn reads_parts(parts: &mut Vec<By>, value: &str) -> Result<bool, AllocError> {
+    let is_first = parts.is_empty();
+    for word in value.split(',') {
+        match By::named(word) {
+            Some(by) => parts.push(by).map_err(|_| AllocError)?,
+            None => return Ok(false),
+        }
+    }
+    Ok(is_first)
 }
 
 /// Reads the value of a parameter into a filter of entries.
@@ -169,18 +180,60 @@ fn wanted_named(word: &str) -> Option<Wanted> {
     }
 }
 
+fn form_named(word: &str) -> Option<Form> {
+    match word {
+        "csv" => Some(Form::Csv),
+        "json" => Some(Form::Json),
+        _ => None,
+    }
+}
+
 /// What a request asks for, by its parameters and the text of the alert's name in its path; none if one is missing or bad.
-pub(crate) fn asked_of(served: Served, parameters: &Parameters, alert: &str) -> Option<Asked> {
+pub(crate) fn asked_of<'t>(
+    basis: &Basis<'t>,
+    served: Served,
+    parameters: &'t Parameters,
+    alert: &str,
+) -> Option<Request<'t>> {
     let hinted = parameters.hinted.unwrap_or(Hinted::Any);
+    if let Some(Form::Csv) = parameters.form {
+        return match served {
+            Served::Alerts => Some(Request::AlertRows(filter_of(parameters, hinted)?)),
+            _ => rows_of(served, parameters),
+        };
+    }
     match served {
-        Served::Reader => Some(Asked::Reader),
-        Served::Numbers => Some(Asked::Numbers),
-        Served::Alert => Some(Asked::Alert(AlertName::read(alert)?)),
-        Served::Range => Some(Asked::Range(parameters.entries.code?, hinted)),
-        Served::Alerts => Some(Asked::Alerts(filter_of(parameters, hinted)?)),
-        Served::Entries => Some(Asked::Entries(parameters.entries, place_of(parameters)?)),
-        Served::Houses => Some(Asked::Houses(parameters.silent_since?, place_of(parameters)?)),
-        Served::Health | Served::Page | Served::Script | Served::Words | Served::Cases => None,
+        Served::Reader => Some(Request::Reader(basis.fault)),
+        Served::Numbers => Some(Request::Numbers),
+        Served::Alert => Some(Request::Alert(AlertName::read(alert)?)),
+        Served::Range => Some(Request::Range(parameters.entries.code?, hinted)),
+        Served::Alerts => Some(Request::Alerts(filter_of(parameters, hinted)?)),
+        Served::Entries => Some(Request::Entries(parameters.entries, place_of(parameters)?)),
+        Served::Houses => {
+            let since = parameters.silent_since?.to_plain().to_unix_epoch_day();
+            Some(Request::Houses(basis.enrolled, since, place_of(parameters)?))
+        }
+        _ => rows_of(served, parameters),
+    }
+}
+
+/// The request for rows of what is inspected; none if a parameter is missing, or nothing is inspected.
+fn rows_of(served: Served, parameters: &Parameters) -> Option<Request<'_>> {
+    let entries = &parameters.entries;
+    match served {
+        Served::Entries if parameters.after.is_none() => {
+            Some(Request::Rows(Inspected::Entries(*entries)))
+        }
+        Served::Counts if !parameters.by.is_empty() => {
+            Some(Request::Rows(Inspected::Counts(*entries, &parameters.by)))
+        }
+        Served::Pack => Some(Request::Rows(Inspected::Pack(Pack {
+            code: entries.code?,
+            serial: entries.serial?,
+        }))),
+        Served::Packs => Some(Request::Rows(Inspected::Packs(entries.code?, entries.batch?))),
+        Served::Report => Some(Request::Rows(Inspected::Report(entries.code?))),
+        _ => None,
     }
 }
 
@@ -196,6 +249,18 @@ fn filter_of(parameters: &Parameters, hinted: Hinted) -> Option<AlertFilter> {
         wanted: parameters.wanted.unwrap_or(Wanted::Listed),
         behind,
     })
+}
+
+/// The place in the list of alerts that a text names.
+fn behind_named(text: &str) -> Option<Behind> {
+    let (letter, place) = text.split_at_checked(1)?;
+    let hinted = match letter {
+        "h" => true,
+        "u" => false,
+        _ => return None,
+    };
+    let place = place.parse().ok()?;
+    Some(Behind { hinted, place })
 }
 
 /// The place that the next rows come behind.

@@ -20,6 +20,8 @@ pub(crate) enum Refusal {
     State,
     /// A text that the act does not take.
     Text,
+    /// More rows than an answer has room for.
+    Rows,
     /// A file could not be written.
     File,
     /// Acts of an earlier run wait for the trail, or the replica does not go on.
@@ -34,7 +36,7 @@ impl Refusal {
             Refusal::Nobody | Refusal::Site | Refusal::NotYours => StatusCode::FORBIDDEN,
             Refusal::NoAlert => StatusCode::NOT_FOUND,
             Refusal::State => StatusCode::CONFLICT,
-            Refusal::Text => StatusCode::UNPROCESSABLE_ENTITY,
+            Refusal::Text | Refusal::Rows => StatusCode::UNPROCESSABLE_ENTITY,
             Refusal::File | Refusal::NotReady | Refusal::Memory => StatusCode::SERVICE_UNAVAILABLE,
         }
     }
@@ -48,6 +50,7 @@ impl Refusal {
             Refusal::NotYours => "NOT_YOURS",
             Refusal::State => "STATE",
             Refusal::Text => "TEXT",
+            Refusal::Rows => "ROWS",
             Refusal::File => "FILE",
             Refusal::NotReady => "NOT_READY",
             Refusal::Memory => "MEMORY",

@@ -9,10 +9,13 @@ use http::{HeaderValue, Request, StatusCode, header};
 use http_server::{Response, Service};
 use nmvs_cases::Author;
 use nmvs_identifier::Tag;
+use nmvs_inspect::Form;
 use std::alloc::AllocError;
 use std::str;
 
 const JSON_TYPE: &str = "application/json";
+
+const CSV_TYPE: &str = "text/csv; charset=utf-8; header=present";
 
 const PAGE_TYPE: &str = "text/html; charset=utf-8";
 
@@ -91,23 +94,23 @@ impl Replica {
         response: &mut Response,
     ) -> Result<(), AllocError> {
         match self.answer_author(served, request) {
-            Ok(bytes) => put(response, HeaderValue::from_static(JSON_TYPE), &bytes),
+            Ok((kind, bytes)) => put(response, HeaderValue::from_static(kind), &bytes),
             Err(refusal) => refuse(response, refusal),
         }
     }
 
-    /// The answer to an author's request.
+    /// The answer to an author's request, with its type.
     fn answer_author(
         &mut self,
         served: Served,
         request: &Request<Bytes>,
-    ) -> Result<Vec<u8>, Refusal> {
+    ) -> Result<(&'static str, Vec<u8>), Refusal> {
         let author = self.author().ok_or(Refusal::Nobody)?;
         if is_foreign(request) {
             return Err(Refusal::Site);
         }
         match served {
-            Served::Cases => self.answer_act(&author, request),
+            Served::Cases => Ok((JSON_TYPE, self.answer_act(&author, request)?)),
             _ => self.look(served, &author, request),
         }
     }
@@ -118,15 +121,15 @@ impl Replica {
         served: Served,
         author: &Author,
         request: &Request<Bytes>,
-    ) -> Result<Vec<u8>, Refusal> {
+    ) -> Result<(&'static str, Vec<u8>), Refusal> {
         let query = request.uri().query().unwrap_or("");
         let parameters = read_parameters(self.alloc, served, query)?;
         let alert = alert_text(request.uri().path());
         let bytes = self.answer(author, served, &parameters, alert)?;
-        if let Served::Alert | Served::Entries = served {
+        if let Served::Alert | Served::Entries | Served::Pack | Served::Packs = served {
             self.note_look(author, path_of(request))?;
         }
-        Ok(bytes)
+        Ok((type_in(parameters.form), bytes))
     }
 
     /// The answer to an act.
@@ -172,6 +175,14 @@ fn is_foreign(request: &Request<Bytes>) -> bool {
     match request.headers().get("sec-fetch-site") {
         Some(site) => !matches!(site.as_bytes(), b"same-origin" | b"none"),
         None => false,
+    }
+}
+
+/// The type of an answer in a form.
+fn type_in(form: Option<Form>) -> &'static str {
+    match form {
+        Some(Form::Csv) => CSV_TYPE,
+        _ => JSON_TYPE,
     }
 }
 
