@@ -43,7 +43,7 @@ const WORDS = {
     note: { done: 'Done. Alerts: {count}. State now: {state}.', again: 'No answer yet. The act is sent again with its key.', lost: 'No answer came. The act may be done or not.', send: 'Send it again', closed: 'Closed: {count}.', taken: 'Taken: {count}.', untaken: 'Not taken, since somebody was first: {alerts}.', noneTicked: 'Choose alerts first.', noneLeft: 'No alert to do has this code and hint now.' },
     refusal: {
       NOBODY: 'You are no reader here: your name is unknown, suspended, or past its last day. Ask the operator.', NO_ALERT: 'There is no such alert for you.', NOT_YOURS: 'This is not for you to see or do.', STATE: 'Nothing was done: none of these alerts is in a state for this act. Load the page again, and look.',
-      TEXT: 'The text is missing, is longer than 400 bytes, or has a character that nobody can read.', QUERY: 'The replica does not take these filters. Check the product code and the days.', AWAY: 'No answer of the replica came. Try again.', other: 'Page and replica do not fit together. Load the page again; if that does not help, call the operator.',
+      TEXT: 'The text is missing, is longer than 400 bytes, or has a character that nobody can read.', QUERY: 'The replica does not take these filters. Check the product code and the days.', NOT_READY: 'The replica has not judged all again yet, or has stopped. The line at the bottom says how far it is.', AWAY: 'No answer of the replica came. Try again.', other: 'Page and replica do not fit together. Load the page again; if that does not help, call the operator.',
     },
   },
   de: {
@@ -87,7 +87,7 @@ const WORDS = {
     note: { done: 'Getan. Alarme: {count}. Stand jetzt: {state}.', again: 'Noch keine Antwort. Die Handlung wird mit ihrem Schlüssel noch einmal gesendet.', lost: 'Es kam keine Antwort. Die Handlung ist vielleicht getan, vielleicht nicht.', send: 'Noch einmal senden', closed: 'Geschlossen: {count}.', taken: 'Übernommen: {count}.', untaken: 'Nicht übernommen, weil jemand schneller war: {alerts}.', noneTicked: 'Erst Alarme wählen.', noneLeft: 'Kein Alarm mit diesem Code und Hinweis ist mehr zu bearbeiten.' },
     refusal: {
       NOBODY: 'Sie dürfen hier nicht lesen: Ihr Name ist unbekannt, gesperrt oder abgelaufen. Den Betreiber fragen.', NO_ALERT: 'Solch einen Alarm gibt es für Sie nicht.', NOT_YOURS: 'Das dürfen Sie nicht sehen oder tun.', STATE: 'Nichts wurde getan: der Stand keines dieser Alarme lässt das zu. Die Seite neu laden und nachsehen.',
-      TEXT: 'Der Text fehlt, ist länger als 400 Bytes, oder hat ein unlesbares Zeichen.', QUERY: 'Diese Filter nimmt das Abbild nicht an. Produktcode und Tage prüfen.', AWAY: 'Es kam keine Antwort. Noch einmal versuchen.', other: 'Seite und Abbild passen nicht zusammen. Seite neu laden; hilft das nicht, den Betreiber anrufen.',
+      TEXT: 'Der Text fehlt, ist länger als 400 Bytes, oder hat ein unlesbares Zeichen.', QUERY: 'Diese Filter nimmt das Abbild nicht an. Produktcode und Tage prüfen.', NOT_READY: 'Das Abbild hat noch nicht alles wieder geprüft, oder es geht nicht weiter. Die Zeile unten sagt, wie weit es ist.', AWAY: 'Es kam keine Antwort. Noch einmal versuchen.', other: 'Seite und Abbild passen nicht zusammen. Seite neu laden; hilft das nicht, den Betreiber anrufen.',
     },
   },
   fr: {
@@ -131,7 +131,7 @@ const WORDS = {
     note: { done: 'Fait. Alertes : {count}. État maintenant : {state}.', again: 'Pas encore de réponse. L’acte est renvoyé avec sa clé.', lost: 'Aucune réponse n’est venue. L’acte est peut-être fait, peut-être pas.', send: 'Renvoyer', closed: 'Fermées : {count}.', taken: 'Prises : {count}.', untaken: 'Non prises, car quelqu’un était plus rapide : {alerts}.', noneTicked: 'Choisir d’abord des alertes.', noneLeft: 'Il ne reste aucune alerte à traiter avec ce code et cet indice.' },
     refusal: {
       NOBODY: 'Vous n’êtes pas lecteur ici : votre nom est inconnu, suspendu ou expiré. Demander à l’opérateur.', NO_ALERT: 'Il n’y a pas de telle alerte pour vous.', NOT_YOURS: 'Ce n’est pas à vous de le voir ou de le faire.', STATE: 'Rien n’a été fait : l’état d’aucune de ces alertes ne le permet. Recharger la page, et regarder.',
-      TEXT: 'Le texte manque, dépasse 400 octets, ou a un caractère illisible.', QUERY: 'La copie n’accepte pas ces filtres. Contrôler le code produit et les jours.', AWAY: 'Aucune réponse n’est venue. Réessayer.', other: 'La page et la copie ne vont pas ensemble. Recharger la page ; si cela n’aide pas, appeler l’opérateur.',
+      TEXT: 'Le texte manque, dépasse 400 octets, ou a un caractère illisible.', QUERY: 'La copie n’accepte pas ces filtres. Contrôler le code produit et les jours.', NOT_READY: 'La copie n’a pas encore tout jugé de nouveau, ou ne continue pas. La ligne du bas dit où elle en est.', AWAY: 'Aucune réponse n’est venue. Réessayer.', other: 'La page et la copie ne vont pas ensemble. Recharger la page ; si cela n’aide pas, appeler l’opérateur.',
     },
   },
   fi: {
@@ -175,7 +175,7 @@ const WORDS = {
     note: { done: 'Tehty. Hälytyksiä: {count}. Vaihe nyt: {state}.', again: 'Ei vielä vastausta. Toimi lähetetään uudelleen avaimellaan.', lost: 'Vastausta ei tullut. Toimi on ehkä tehty, ehkä ei.', send: 'Lähetä uudelleen', closed: 'Suljettu: {count}.', taken: 'Otettu: {count}.', untaken: 'Ei otettu, koska joku ehti ensin: {alerts}.', noneTicked: 'Valitse ensin hälytyksiä.', noneLeft: 'Yhtään hälytystä, jolla on tämä koodi ja vihje, ei ole enää käsiteltävänä.' },
     refusal: {
       NOBODY: 'Et ole lukija täällä: nimesi on tuntematon, estetty tai vanhentunut. Kysy ylläpitäjältä.', NO_ALERT: 'Sinulle ei ole tällaista hälytystä.', NOT_YOURS: 'Tätä et saa nähdä tai tehdä.', STATE: 'Mitään ei tehty: minkään näistä hälytyksistä vaihe ei salli sitä. Lataa sivu uudelleen ja katso.',
-      TEXT: 'Teksti puuttuu, on yli 400 tavua pitkä, tai siinä on merkki, jota ei voi lukea.', QUERY: 'Kopio ei hyväksy näitä suodattimia. Tarkista tuotekoodi ja päivät.', AWAY: 'Vastausta ei tullut. Yritä uudelleen.', other: 'Sivu ja kopio eivät sovi yhteen. Lataa sivu uudelleen; jos se ei auta, soita ylläpitäjälle.',
+      TEXT: 'Teksti puuttuu, on yli 400 tavua pitkä, tai siinä on merkki, jota ei voi lukea.', QUERY: 'Kopio ei hyväksy näitä suodattimia. Tarkista tuotekoodi ja päivät.', NOT_READY: 'Kopio ei ole vielä arvioinut kaikkea uudelleen, tai se ei jatka. Alin rivi kertoo, kuinka pitkällä se on.', AWAY: 'Vastausta ei tullut. Yritä uudelleen.', other: 'Sivu ja kopio eivät sovi yhteen. Lataa sivu uudelleen; jos se ei auta, soita ylläpitäjälle.',
     },
   },
   pl: {
@@ -219,7 +219,7 @@ const WORDS = {
     note: { done: 'Zrobione. Alarmy: {count}. Stan teraz: {state}.', again: 'Jeszcze bez odpowiedzi. Czynność jest wysyłana ponownie z jej kluczem.', lost: 'Odpowiedź nie przyszła. Czynność może jest wykonana, może nie.', send: 'Wyślij ponownie', closed: 'Zamknięte: {count}.', taken: 'Przejęte: {count}.', untaken: 'Nie przejęto, bo ktoś był pierwszy: {alerts}.', noneTicked: 'Najpierw wybierz alarmy.', noneLeft: 'Nie ma już alarmu do zrobienia z tym kodem i wskazówką.' },
     refusal: {
       NOBODY: 'Nie możesz tu czytać: Twoja nazwa jest nieznana, zawieszona lub wygasła. Zapytaj operatora.', NO_ALERT: 'Nie ma dla Ciebie takiego alarmu.', NOT_YOURS: 'Tego nie możesz zobaczyć ani zrobić.', STATE: 'Nic nie zrobiono: stan żadnego z tych alarmów na to nie pozwala. Wczytaj stronę ponownie i sprawdź.',
-      TEXT: 'Brakuje tekstu, ma ponad 400 bajtów albo znak, którego nie da się odczytać.', QUERY: 'Kopia nie przyjmuje tych filtrów. Sprawdź kod produktu i dni.', AWAY: 'Odpowiedź nie przyszła. Spróbuj ponownie.', other: 'Strona i kopia do siebie nie pasują. Wczytaj stronę ponownie; jeśli to nie pomoże, zadzwoń do operatora.',
+      TEXT: 'Brakuje tekstu, ma ponad 400 bajtów albo znak, którego nie da się odczytać.', QUERY: 'Kopia nie przyjmuje tych filtrów. Sprawdź kod produktu i dni.', NOT_READY: 'Kopia nie oceniła jeszcze wszystkiego ponownie albo nie idzie dalej. Wiersz na dole mówi, jak daleko jest.', AWAY: 'Odpowiedź nie przyszła. Spróbuj ponownie.', other: 'Strona i kopia do siebie nie pasują. Wczytaj stronę ponownie; jeśli to nie pomoże, zadzwoń do operatora.',
     },
   },
 };

@@ -9,4 +9,5 @@ pub mod Rows
 pub mod Selection
 pub mod Story
 pub mod Viewing
+pub mod Witness
 pub mod Inspected

@@ -24,6 +24,7 @@ mod rows_answer;
 mod selection;
 mod story;
 mod viewing;
+mod witness;
 
 pub use alert::FlaggedAlert;
 pub use answers::{Request, Status, answer};
@@ -31,3 +32,4 @@ pub use inspected::Inspected;
 pub use investigation::Investigation;
 pub use judging::CaseRefusal;
 pub use selection::{AlertFilter, Behind, Wanted};
+pub use witness::Witness;

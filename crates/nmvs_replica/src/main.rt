@@ -21,6 +21,7 @@ mod rows_json;
 mod service;
 mod trail;
 mod users;
+mod witness_file;
 
 use crate::appended_file::StartFault;
 use crate::command_line::OptionFault;
